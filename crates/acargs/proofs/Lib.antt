@@ -1,0 +1,5 @@
+pub mod Lists
+pub mod Binds
+pub mod IdleLemmas
+pub mod OutputLemmas
+pub mod FaultLemmas

@@ -1,0 +1,4 @@
+-- Lists of slices, seen as lists of texts.
+use Rattle.std.proofs.lemmas.List.Folds.{list_all-map}
+
+pub ruleset mapped = (list_all-map)

@@ -1,0 +1,33 @@
+-- Lists of outputs: fields between blanks, of which there is at least one.
+use Rattle.std.specs.Prelude.{ℕ, ◌+◌, not, List, [], ◌∷◌, ◌++◌, length, Result, Ok, Err, nat_lt}
+use Rattle.m4quote.specs.Entry.{Span}
+use Rattle.textcut.specs.Cuts.{fields}
+use Rattle.acargs.specs.declared.fault.ParseFault.{ParseFault}
+use Rattle.acargs.specs.declared.fault.ParseFault.TheVariants.{BadName, TooMany}
+use Rattle.acargs.specs.declared.output.Output.{Output}
+use Rattle.acargs.specs.Arguments.{text}
+use Rattle.acargs.specs.Output.{is_path, output_in, has_output}
+use Rattle.acargs.specs.Reading.{◌>>=◌, wants}
+
+-- The outputs of an argument, and the one of a field more, behind those of the source before it: its name and its
+-- template are paths, and no output has the name yet. A source has at most 1,024.
+unfoldable pub one_more : ℕ → List Output → List Output → List ℕ → Result (List Output) ParseFault
+one_more at before outputs field = do
+  _ ← wants (is_path (output_in field).name) (BadName at)
+  _ ← wants (is_path (output_in field).template) (BadName at)
+  _ ← wants (not (has_output before (output_in field).name)) (BadName at)
+  _ ← wants (not (has_output outputs (output_in field).name)) (BadName at)
+  _ ← wants (nat_lt (length before + length outputs) 1024) (TooMany at)
+  Ok (outputs ++ output_in field ∷ [])
+
+-- The outputs, and those of fields more.
+unfoldable pub with_fields : ℕ → List Output → List Output → List (List ℕ) → Result (List Output) ParseFault
+with_fields at before outputs [] = Ok outputs
+with_fields at before outputs (field ∷ more) = one_more at before outputs field >>= λ first. with_fields at before first more
+
+-- The outputs of an argument, behind those of the source before it.
+unfoldable pub outputs : List Output → Span → Result (List Output) ParseFault
+outputs before arg = do
+  t ← text arg
+  _ ← wants (nat_lt 0 (length (fields t))) (BadName arg.at)
+  with_fields arg.at before [] (fields t)

@@ -1,0 +1,89 @@
+//! Why a source could not be read.
+
+ghost use Rattle.std.specs.Prelude.{◌≡◌, ◌+◌, ◌≤◌, Err};
+ghost use Rattle.acargs.specs.declared.fault.ParseFault.TheVariants.{OutOfMemory};
+ghost use Rattle.acargs.specs.Reading.{quote_fault, moved};
+ghost use Rattle.acargs.specs.Fault.{IsWithin};
+
+use m4quote::QuoteFault;
+use std::alloc::{AllocError, AllocFailed};
+use thiserror::Error;
+
+/// What is wrong with a source: the first fault, in the order of reading, and its place as a count of bytes from the
+/// start of the file. It prints as its number and place.
+#[derive(Clone, Copy, Debug, PartialEq, Eq, Error)]
+pub enum ParseFault {
+    /// Quotes, parentheses, NULs or the size.
+    #[error("1.{0}")]
+    Quote(QuoteFault),
+    /// A macro that is none of the profile's.
+    #[error("2 at {0}")]
+    UnknownMacro(usize),
+    /// Other text than statements.
+    #[error("3 at {0}")]
+    UnknownStatement(usize),
+    /// A macro with too few or too many arguments.
+    #[error("4 at {0}")]
+    ArgCount(usize),
+    /// A name or another text that has not the form wanted.
+    #[error("5 at {0}")]
+    BadName(usize),
+    /// A macro that stands in the file's own list alone, or there once.
+    #[error("7 at {0}")]
+    NotAtTop(usize),
+    /// Something other than blanks and comments before AC_INIT.
+    #[error("8")]
+    NoInit,
+    /// The source ends without AC_OUTPUT.
+    #[error("9")]
+    NoOutput,
+    /// Something other than blanks and comments behind AC_OUTPUT.
+    #[error("10 at {0}")]
+    AfterOutput(usize),
+    /// More entries than a list may have.
+    #[error("13 at {0}")]
+    TooMany(usize),
+    /// A growth of memory was refused.
+    #[error("memory")]
+    OutOfMemory,
+}
+
+impl From<AllocError> for ParseFault {
+    ghost from_gives = { λ _ e. e ≡ OutOfMemory };
+
+    fn from(_e: AllocError) -> ParseFault {
+        ParseFault::OutOfMemory
+    }
+}
+
+impl<T: Drop> From<AllocFailed<T>> for ParseFault {
+    ghost from_gives = { λ _ e. e ≡ OutOfMemory };
+
+    fn from(_e: AllocFailed<T>) -> ParseFault {
+        ParseFault::OutOfMemory
+    }
+}
+
+/// A fault of quoting in the source.
+pub fn quote_fault(fault: QuoteFault) -> ParseFault
+    ensures { result ≡ quote_fault fault }
+{
+    match fault {
+        QuoteFault::OutOfMemory => ParseFault::OutOfMemory,
+        other => ParseFault::Quote(other),
+    }
+}
+
+/// The fault of a text that stands at `base`, in the source. `len` is the length of the text.
+pub(crate) fn moved_by(base: usize, fault: QuoteFault) -> QuoteFault
+    requires { IsWithin base fault }
+    ensures { result ≡ moved base fault }
+{
+    match fault {
+        QuoteFault::UnclosedQuote(at) => QuoteFault::UnclosedQuote(base + at),
+        QuoteFault::UnclosedParen(at) => QuoteFault::UnclosedParen(base + at),
+        QuoteFault::StrayClose(at) => QuoteFault::StrayClose(base + at),
+        QuoteFault::Nul(at) => QuoteFault::Nul(base + at),
+        other => other,
+    }
+}

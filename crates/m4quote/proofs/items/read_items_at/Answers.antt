@@ -1,0 +1,31 @@
+use Rattle.m4quote.specs.Entry.{views}
+use Rattle.m4quote.specs.Spelling.{IsSpelling}
+use Rattle.m4quote.specs.Parts.{ArePartsOf}
+use Rattle.m4quote.specs.Faults.{IsFirstFault}
+use Rattle.m4quote.specs.Scan.{outcome}
+use Rattle.m4quote.proofs.Laws.{outcome_is_spelling, outcome_is_fault, spelling_parts}
+use Rattle.m4quote.proofs.Clauses as clause
+use Rattle.m4quote.proofs.items.read_items_at.Goals as goal
+
+pub returns-clause-found : goal.returns-clause-found
+returns-clause-found c =
+    clause.found (λ v. views v.items) c.read_all.result (outcome c.args.at c.args.text.now) c.read_all.ensures
+    (IsSpelling c.args.at c.args.text.now) (λ items e. (outcome_is_spelling c.args.at c.args.text.now items).0 e)
+
+pub returns-clause-only : goal.returns-clause-only
+returns-clause-only c = λ items h.
+    clause.only (λ v. views v.items) c.read_all.result (outcome c.args.at c.args.text.now) c.read_all.ensures items ((outcome_is_spelling c.args.at c.args.text.now items).1 h)
+
+pub returns-clause-fault : goal.returns-clause-fault
+returns-clause-fault c =
+    clause.fault (λ v. views v.items) c.read_all.result (outcome c.args.at c.args.text.now) c.read_all.ensures
+    (IsFirstFault c.args.at c.args.text.now) (λ f e. (outcome_is_fault c.args.at c.args.text.now f).0 e)
+
+pub returns-clause-named : goal.returns-clause-named
+returns-clause-named c = λ f h.
+    clause.named (λ v. views v.items) c.read_all.result (outcome c.args.at c.args.text.now) c.read_all.ensures f ((outcome_is_fault c.args.at c.args.text.now f).1 h)
+
+pub returns-clause-parts : goal.returns-clause-parts
+returns-clause-parts c =
+    clause.found (λ v. views v.items) c.read_all.result (outcome c.args.at c.args.text.now) c.read_all.ensures
+    (ArePartsOf c.args.at c.args.text.now) (λ items e. spelling_parts c.args.at c.args.text.now items ((outcome_is_spelling c.args.at c.args.text.now items).0 e))

@@ -1,0 +1,47 @@
+//! What holds of the definitions themselves. The functions do nothing; their contracts are the laws.
+
+ghost use Rattle.std.specs.Prelude.{◌≡◌, ◌≢◌, ◌⊎◌, ◌↔◌, ℕ, List, Ok, Err};
+ghost use Rattle.m4quote.specs.declared.fault.QuoteFault.{QuoteFault};
+ghost use Rattle.m4quote.specs.declared.fault.QuoteFault.TheVariants.{OutOfMemory};
+ghost use Rattle.m4quote.specs.Entry.{Entry};
+ghost use Rattle.m4quote.specs.Spelling.{IsSpelling};
+ghost use Rattle.m4quote.specs.Parts.{ArePartsOf};
+ghost use Rattle.m4quote.specs.Faults.{IsFirstFault, IsBracketFault};
+ghost use Rattle.m4quote.specs.Used.{IsUsed, UseBreaks, IsBareValue, UnquoteBreaks};
+ghost use Rattle.m4quote.specs.Scan.{outcome, used, bare_value_of};
+
+/// A text spells at most one list of items, has at most one first fault, and never both.
+pub fn one_reading()
+    ensures one_list { (at : ℕ) (text : List ℕ) (a b : List Entry) → IsSpelling at text a → IsSpelling at text b → a ≡ b }
+    ensures one_fault { (at : ℕ) (text : List ℕ) (f g : QuoteFault) → IsFirstFault at text f → IsFirstFault at text g → f ≡ g }
+    ensures never_both { (at : ℕ) (text : List ℕ) (items : List Entry) (f : QuoteFault) → IsSpelling at text items → IsFirstFault at text f → ⊥ }
+{}
+
+/// Each text spells a list or has a first fault.
+pub fn some_reading()
+    ensures { (at : ℕ) (text : List ℕ) → ((items : List Entry) × IsSpelling at text items) ⊎ ((f : QuoteFault) × IsFirstFault at text f) }
+{}
+
+/// The items and faults of a text, as a function and as the relations that say what they are.
+pub fn reading_laws()
+    ensures items { (at : ℕ) (text : List ℕ) (items : List Entry) → (outcome at text ≡ Ok items) ↔ IsSpelling at text items }
+    ensures fault { (at : ℕ) (text : List ℕ) (f : QuoteFault) → (outcome at text ≡ Err f) ↔ IsFirstFault at text f }
+    ensures parts { (at : ℕ) (text : List ℕ) (items : List Entry) → IsSpelling at text items → ArePartsOf at text items }
+    ensures no_memory { (at : ℕ) (text : List ℕ) (f : QuoteFault) → IsFirstFault at text f → f ≢ OutOfMemory }
+{}
+
+/// The used text of an argument, as a function and as the relations that say what it is.
+pub fn used_laws()
+    ensures text { (arg out : List ℕ) → (used arg ≡ Ok out) ↔ IsUsed arg out }
+    ensures fault { (arg : List ℕ) (f : QuoteFault) → (used arg ≡ Err f) ↔ UseBreaks arg f }
+    ensures kinds { (arg : List ℕ) (f : QuoteFault) → UseBreaks arg f → IsBracketFault arg f }
+    ensures no_memory { (arg : List ℕ) (f : QuoteFault) → UseBreaks arg f → f ≢ OutOfMemory }
+{}
+
+/// The value of bare text, as a function and as the relations that say what it is.
+pub fn bare_value_laws()
+    ensures value { (text out : List ℕ) → (bare_value_of text ≡ Ok out) ↔ IsBareValue text out }
+    ensures fault { (text : List ℕ) (f : QuoteFault) → (bare_value_of text ≡ Err f) ↔ UnquoteBreaks 0 text f }
+    ensures kinds { (text : List ℕ) (f : QuoteFault) → UnquoteBreaks 0 text f → IsBracketFault text f }
+    ensures no_memory { (text : List ℕ) (f : QuoteFault) → UnquoteBreaks 0 text f → f ≢ OutOfMemory }
+{}

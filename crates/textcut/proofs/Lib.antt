@@ -1,0 +1,6 @@
+mod FieldRuns
+mod FieldSpans
+mod FirstPiece
+mod PartsLists
+mod Splits
+mod Trims
