@@ -1,0 +1,4 @@
+pub mod Table
+pub mod PackageName
+pub mod Rows
+pub mod Scene
