@@ -1,0 +1,6 @@
+pub mod ScriptLemmas
+pub mod Steps
+pub mod Found
+pub mod Only
+pub mod Broken
+pub mod Whole

@@ -1,13 +1,20 @@
-// A library with one function.
+//! From the text of a configure.ac to its tree of statements, or to its first fault.
+//!
+//! `parse` reads a whole source: its items (`m4quote`), and from them one statement after another by the table of
+//! macros (`acmacros`). The tree is in `tree`, the reading in `read`, and `source` has the theorem: a tree is answered
+//! exactly where the profile has one, which is `specs/Source.antt` and, item by item, `specs/Statements.antt`.
+//!
+//! `parse(alloc, b"AC_INIT([demo],[1.0])\nAC_OUTPUT\n")` gives a source of two statements.
 #![tactic(auto)]
 
-ghost use Rattle.std.specs.Prelude.{◌≡◌};
-ghost use Rattle.acparse.specs.Echo.{echo_of};
+pub mod read;
+pub mod source;
+pub mod tree;
 
-// The `ensures` clause is the contract: what `echo` returns is `echo_of` of its argument, a definition
-// in `specs/Echo.antt`, which a caller's clause can cite too.
-pub fn echo(x: usize) -> usize
-    ensures { result ≡ echo_of x }
-{
-    x
-}
+pub use acargs::{Output, Outputs, ParseFault};
+pub use acmacros::Plain;
+pub use source::{Source, parse};
+pub use tree::Stmt;
+
+#[cfg(test)]
+mod tests;

@@ -1,0 +1,67 @@
+//! A whole source.
+
+ghost use Rattle.std.specs.Prelude.{◌≡◌, ◌≢◌, IfOk, IfErr, Ok};
+ghost use Rattle.acargs.specs.declared.fault.ParseFault.TheVariants.{OutOfMemory};
+ghost use Rattle.acargs.specs.Reading.{Gives};
+ghost use Rattle.acparse.specs.Known.{start, after_all};
+ghost use Rattle.acparse.specs.Profile.{source_of};
+ghost use Rattle.acparse.specs.Script.{Script, script_of};
+ghost use Rattle.acparse.specs.Source.{IsSource, IsSourceFault};
+
+use crate::read::read_statements;
+use crate::tree::Stmt;
+use acargs::fault::quote_fault;
+use acargs::{Outputs, ParseFault};
+use acmacros::{Scene, Stage};
+use m4quote::read_items;
+use std::alloc::Global;
+
+/// What a configure.ac says.
+#[derive(Debug, Drop)]
+pub struct Source {
+    /// The statements of the file's own list, in order.
+    pub statements: Vec<Stmt>,
+    /// The files that AC_CONFIG_FILES names, in order, each name once.
+    pub files: Outputs,
+}
+
+#[tactic(auto, unfolding(crate::specs::Profile::source_of))]
+fn read_source(alloc: Global, text: &[u8]) -> Result<Source, ParseFault>
+    ensures exact { Gives (λ s. script_of s.statements.items) result (source_of text.now) }
+    ensures files { IfOk result (λ s. s.files ≡ (after_all start (script_of s.statements.items)).files) }
+{
+    let items = match read_items(alloc, text) {
+        Ok(items) => items,
+        Err(fault) => return Err(quote_fault(fault)),
+    };
+    let mut scene = Scene {
+        stage: Stage::Before,
+        files: Outputs::new(alloc),
+    };
+    let statements = read_statements(alloc, true, &mut scene, &items)?;
+    match scene.stage {
+        Stage::Before => Err(ParseFault::NoInit),
+        Stage::Open => Err(ParseFault::NoOutput),
+        Stage::Ended => Ok(Source {
+            statements,
+            files: scene.files,
+        }),
+    }
+}
+
+/// The source that a configure.ac is. Besides want of memory a refusal is the first fault, with its place in bytes from
+/// the start of the file.
+pub fn parse(alloc: Global, text: &[u8]) -> Result<Source, ParseFault>
+    // What is read is a source of the profile.
+    ensures found { IfOk result (λ s. IsSource text.now (script_of s.statements.items)) }
+    // Its files are those that its statements name.
+    ensures files { IfOk result (λ s. s.files ≡ (after_all start (script_of s.statements.items)).files) }
+    // A source of the profile is read, unless memory runs out.
+    ensures only { (s : Script) → IsSource text.now s → Gives (λ v. script_of v.statements.items) result (Ok s) }
+    // A fault names what is wrong at its place, and all before it is right.
+    ensures fault { IfErr result (λ f. f ≢ OutOfMemory → IsSourceFault text.now f) }
+    // The same as a function of the text, which says too which of two faults of one item is named.
+    ensures exact { Gives (λ s. script_of s.statements.items) result (source_of text.now) }
+{
+    read_source(alloc, text)
+}
