@@ -7,7 +7,8 @@ ghost use Rattle.acargs.specs.Reading.{Gives};
 ghost use Rattle.acargs.specs.Texts as texts;
 
 use crate::fault::{ParseFault, moved_by, quote_fault};
-use deftable::{Bytes, is_shell_name};
+use crate::name::Name;
+use deftable::Bytes;
 use m4quote::{Arg, used_text};
 use std::alloc::Global;
 use textcut::{is_blank, trim};
@@ -44,14 +45,14 @@ fn bare_text(alloc: Global, arg: Arg<'_>) -> Result<Bytes, ParseFault>
 
 /// A shell name or a C identifier, which have one form; `BadName` at the argument otherwise.
 #[tactic(auto, unfolding(crate::specs::Arguments::name))]
-pub fn name(alloc: Global, arg: Arg<'_>) -> Result<Bytes, ParseFault>
-    ensures { Gives (λ t. t) result (forms.name (span arg.entry)) }
+pub fn name(alloc: Global, arg: Arg<'_>) -> Result<Name, ParseFault>
+    ensures { Gives (λ n. n) result (forms.name (span arg.entry)) }
 {
     let text = bare_text(alloc, arg)?;
-    if !is_shell_name(text.as_slice()) {
-        return Err(ParseFault::BadName(arg.at));
+    match Name::new(text) {
+        Some(name) => Ok(name),
+        None => Err(ParseFault::BadName(arg.at)),
     }
-    Ok(text)
 }
 
 /// A text on one line, without the blanks at its ends; `BadName` at the argument where it holds a newline.

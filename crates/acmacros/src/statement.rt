@@ -1,6 +1,6 @@
 //! Statements.
 
-use acargs::Outputs;
+use acargs::{Name, Outputs};
 use deftable::Bytes;
 
 /// A statement without statements in it. Texts are used texts: unquoted, with quadrigraphs replaced.
@@ -20,7 +20,7 @@ pub enum Plain {
     },
     /// AC_DEFINE: a C identifier and what it stands for.
     Define {
-        name: Bytes,
+        name: Name,
         value: Bytes,
     },
     /// AC_OUTPUT: the end of the run.

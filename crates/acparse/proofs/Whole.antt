@@ -52,11 +52,11 @@ source_fault text f e =
     elim (bind_err _ _ _ e) [
       | inl h ↦ let q = quoted_err (outcome 0 text) f h in subst (IsSourceFault text) (sym q.2) (no_items ((outcome_is_fault 0 text q.0).0 q.1))
       | inr i ↦
-        let spelled = (outcome_is_spelling 0 text i.0).0 (quoted_ok (outcome 0 text) i.0 i.1) in
-        elim (bind_err _ _ _ i.2) [
-          | inl h ↦ in_items spelled (items_break true i.0 start no_edge f h)
-          | inr s ↦ ended_err text (after_all start s.0).stage s.0 f refl (record { items = i.0; spelled = spelled; statements = items_found true i.0 start no_edge s.0 s.1 }) s.2
-        ]
+          let spelled = (outcome_is_spelling 0 text i.0).0 (quoted_ok (outcome 0 text) i.0 i.1) in
+          elim (bind_err _ _ _ i.2) [
+            | inl h ↦ in_items spelled (items_break true i.0 start no_edge f h)
+            | inr s ↦ ended_err text (after_all start s.0).stage s.0 f refl (record { items = i.0; spelled = spelled; statements = items_found true i.0 start no_edge s.0 s.1 }) s.2
+          ]
     ]
 
 pub is_found : (text : List ℕ) (r : Result Source ParseFault) → Gives (λ s. script_of s.statements.items) r (source_of text) → IfOk r (λ s. IsSource text (script_of s.statements.items))

@@ -1,0 +1,5 @@
+pub mod Markers
+pub mod Escapes
+pub mod Runs
+pub mod Files
+pub mod Refusals

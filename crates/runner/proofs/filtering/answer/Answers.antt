@@ -1,0 +1,20 @@
+use Rattle.std.proofs.Common.{take, drop, ◌+◌}
+use Rattle.acparse.specs.Script.{script_of}
+use Rattle.runner.specs.Filtered.{usage}
+use Rattle.runner.proofs.Refusals.{parse_refused, template_refused}
+use Rattle.runner.proofs.filtering.answer.Goals as goal
+
+pub returns-in_default-clause-refused : goal.returns-in_default-clause-refused
+returns-in_default-clause-refused c = usage c.in_default.ensures.none
+
+pub returns-in_err-source-clause-refused : goal.returns-in_err-source-clause-refused
+returns-in_err-source-clause-refused c =
+    let input = c.args.input.now in
+    let at = c.in-Some.at in
+    parse_refused input (take at input) (drop (at + 3) input) c.in_err-source.field-0.0 c.from_residual.result c.in-Some.ensures.some c.in_err-source.ensures.fault c.from_residual.ensures.1
+
+pub returns-clause-refused : goal.returns-clause-refused
+returns-clause-refused c =
+    let input = c.args.input.now in
+    let at = c.in-Some.at in
+    template_refused input (take at input) (drop (at + 3) input) (script_of c.in_ok-source.source.statements.items) c.first_file.result c.in-Some.ensures.some c.in_ok-source.ensures.found c.first_file.ensures.refused

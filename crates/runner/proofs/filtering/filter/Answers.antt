@@ -1,0 +1,11 @@
+use Rattle.std.proofs.lemmas.Result.{err_from_is_err_and}
+use Rattle.runner.proofs.Refusals.{read_fault, write_refused}
+use Rattle.runner.proofs.filtering.filter.Goals as goal
+
+pub returns-in_err-input-clause-refused : goal.returns-in_err-input-clause-refused
+returns-in_err-input-clause-refused g c =
+    let p = err_from_is_err_and c.from_residual.result c.from_residual.ensures.1 in
+    rw (p.1, p.2) (read_fault _ _ c.in_err-input.ensures.err)
+
+pub returns-then-is_err-clause-refused : goal.returns-then-is_err-clause-refused
+returns-then-is_err-clause-refused g c = write_refused _

@@ -1,0 +1,4 @@
+pub mod Parted
+pub mod Outputs
+pub mod Filtered
+pub mod Store

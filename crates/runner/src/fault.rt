@@ -1,0 +1,70 @@
+//! Why a run gives no output.
+
+ghost use Rattle.std.specs.Prelude.{◌≡◌, ◌≢◌};
+ghost use Rattle.acargs.specs.declared.fault.ParseFault.TheVariants.{OutOfMemory as NoMemory};
+ghost use Rattle.runner.specs.declared.fault.Fault.TheVariants.{Parse};
+ghost use Rattle.runner.specs.declared.fault.FilterFault.TheVariants.{OutOfMemory, Run};
+
+use acargs::ParseFault;
+use deftable::Bytes;
+use std::alloc::{AllocError, AllocFailed};
+use thiserror::Error;
+
+/// What is wrong with what a run was given. It prints as a fault line has it, but that the name of a template, which may
+/// be any bytes, is left out.
+#[derive(Debug, Drop, Error)]
+pub enum Fault {
+    /// The configure.ac.
+    #[error("parse {0}")]
+    Parse(ParseFault),
+    /// A template is not there; of several the first, in the order of the outputs.
+    #[error("template")]
+    NoTemplate(Bytes),
+}
+
+/// Why the filter gives no text.
+#[derive(Debug, Drop, Error)]
+pub enum FilterFault {
+    /// The input can't be read, or has no end after 65,536 reads.
+    #[error("file standard input")]
+    Read,
+    /// No line of the input is exactly `%%`.
+    #[error("usage")]
+    Usage,
+    /// What the input says.
+    #[error("{0}")]
+    Run(Fault),
+    /// The text can't be written.
+    #[error("file standard output")]
+    Write,
+    /// A growth of memory was refused.
+    #[error("memory")]
+    OutOfMemory,
+}
+
+impl From<AllocError> for FilterFault {
+    ghost from_gives = { λ _ e. e ≡ OutOfMemory };
+
+    fn from(_e: AllocError) -> FilterFault {
+        FilterFault::OutOfMemory
+    }
+}
+
+impl<T: Drop> From<AllocFailed<T>> for FilterFault {
+    ghost from_gives = { λ _ e. e ≡ OutOfMemory };
+
+    fn from(_e: AllocFailed<T>) -> FilterFault {
+        FilterFault::OutOfMemory
+    }
+}
+
+impl From<ParseFault> for FilterFault {
+    ghost from_gives = { λ f e. (f ≡ NoMemory → e ≡ OutOfMemory) × (f ≢ NoMemory → e ≡ Run (Parse f)) };
+
+    fn from(fault: ParseFault) -> FilterFault {
+        match fault {
+            ParseFault::OutOfMemory => FilterFault::OutOfMemory,
+            other => FilterFault::Run(Fault::Parse(other)),
+        }
+    }
+}

@@ -1,0 +1,70 @@
+//! The filter's input.
+
+ghost use Rattle.std.specs.Prelude.{◌≡◌, ◌≢◌, ◌+◌, ◌≤◌, length, take, drop, IfOk, IfErr, IfSome, IfNone};
+ghost use Rattle.runner.specs.declared.fault.FilterFault.TheVariants.{Read, OutOfMemory};
+ghost use Rattle.runner.specs.Parted as words;
+ghost use Rattle.runner.specs.Parted.{IsParted, HasNoMarker};
+ghost use Rattle.std.specs.Prelude.{◌⊎◌};
+
+use crate::fault::FilterFault;
+use std::alloc::Global;
+use std::io;
+
+/// The most reads of an input.
+const MAX_READS: u32 = 65_536;
+
+/// The most bytes of one read.
+const READ_SIZE: usize = 4096;
+
+/// All that a reader gives, by at most 65,536 reads of at most 4,096 bytes. `Read` where a read fails, and where there is
+/// no end by then.
+pub fn read_input<R: io::Read>(alloc: Global, reader: &mut R) -> Result<Vec<u8>, FilterFault>
+    ensures ok { IfOk result (λ v. IfSome (R.remaining reader.old) (λ text. v.items ≡ text)) }
+    ensures err { IfErr result (λ e. (e ≡ FilterFault.Read) ⊎ (e ≡ FilterFault.OutOfMemory)) }
+{
+    let mut text = Vec::new(alloc);
+    let mut piece = [0u8; READ_SIZE];
+    for _ in 0..MAX_READS {
+        let Ok(n) = reader.read(&mut piece) else {
+            return Err(FilterFault::Read);
+        };
+        if n == 0 {
+            return Ok(text);
+        }
+        text.extend_from_slice(&piece[..n])?;
+    }
+    Err(FilterFault::Read)
+}
+
+/// The length of the first line, without its newline.
+fn line_len(text: &[u8]) -> usize
+    ensures value { result ≡ words.line_len text.now }
+    ensures within { result ≤ length text.now }
+{
+    text.iter().take_while(|byte| **byte != b'\n').count()
+}
+
+fn is_marker(line: &[u8]) -> bool
+    ensures { result ≡ words.is_marker line.now }
+{
+    line == b"%%".as_slice()
+}
+
+/// Where the first line begins that is exactly `%%`.
+pub fn marker_place(input: &[u8]) -> Option<usize>
+    ensures some { IfSome result (λ n. IsParted input.now (take n input.now) (drop (n + 3) input.now)) }
+    ensures within { IfSome result (λ n. n ≤ length input.now) }
+    ensures none { IfNone result (HasNoMarker input.now) }
+{
+    let mut start = 0;
+    'lines: loop {
+        let len = line_len(&input[start..]);
+        if is_marker(&input[start..start + len]) {
+            return Some(start);
+        }
+        if start + len == input.len() {
+            return None;
+        }
+        start += len + 1;
+    }
+}
