@@ -48,13 +48,18 @@ fn variables(rt: HostRuntime) -> Result<(), Fail> {
     vars.set(b"LIBS", b"")?;
     vars.set(b"CC", b"gcc")?;
     assert_eq!(rt; vars.len(), 2);
-    assert_eq!(rt; vars.at(0), (b"CC".as_slice(), b"gcc".as_slice()));
+    let (name, value) = vars.at(0);
+    assert_eq!(rt; name, b"CC".as_slice());
+    assert_eq!(rt; value, b"gcc".as_slice());
     let libs = vars.get(b"LIBS").ok_or("set to nothing is set")?;
     assert!(rt; libs.is_empty());
     vars.unset(b"CC");
     vars.unset(b"CC");
     assert!(rt; vars.get(b"CC").is_none());
-    assert_eq!(rt; vars.at(0), (b"LIBS".as_slice(), b"".as_slice()));
+    assert_eq!(rt; vars.len(), 1);
+    let (name, value) = vars.at(0);
+    assert_eq!(rt; name, b"LIBS".as_slice());
+    assert_eq!(rt; value, b"".as_slice());
     Ok(())
 }
 
@@ -65,8 +70,12 @@ fn definitions_keep_their_places(rt: HostRuntime) -> Result<(), Fail> {
     defs.define(b"B", b"")?;
     defs.define(b"A", b"2")?;
     assert_eq!(rt; defs.len(), 2);
-    assert_eq!(rt; defs.at(0), (b"A".as_slice(), b"2".as_slice()));
-    assert_eq!(rt; defs.at(1), (b"B".as_slice(), b"".as_slice()));
+    let (name, value) = defs.at(0);
+    assert_eq!(rt; name, b"A".as_slice());
+    assert_eq!(rt; value, b"2".as_slice());
+    let (name, value) = defs.at(1);
+    assert_eq!(rt; name, b"B".as_slice());
+    assert_eq!(rt; value, b"".as_slice());
     let value = defs.get(b"A").ok_or("A is defined")?;
     assert_eq!(rt; value.as_slice(), b"2".as_slice());
     assert!(rt; defs.get(b"C").is_none());

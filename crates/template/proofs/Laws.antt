@@ -1,12 +1,12 @@
 -- Which text a filled template is: stretch by stretch, and by the relation.
-use Rattle.std.proofs.Common.{◌≡◌, ◌≢◌, ℕ, zero, suc, List, [], ◌∷◌, ◌++◌, Bool, true, false, cond, ◌&&◌, length, drop, take, get_or, ◌<◌, ◌≤◌, append_assoc, arith, length-take, refl, sym, ◌∙◌, ap, subst, Option, Some, None, eqb-true, append-nil}
-use Rattle.std.specs.Prelude.{◌==◌, IsTrue, bytes_eq, option_map, option_and_then}
+use Rattle.std.proofs.Common.{◌≡◌, ℕ, zero, suc, List, [], ◌∷◌, ◌++◌, Bool, true, false, cond, ◌&&◌, length, drop, take, get_or, ◌<◌, ◌≤◌, append_assoc, arith, length-take, refl, sym, ◌∙◌, ap, subst, Option, Some, None, eqb-true, append-nil}
+use Rattle.std.specs.Prelude.{◌==◌, bytes_eq, option_map, option_and_then}
 use Rattle.std.specs.Option.{option_map_or}
-use Rattle.std.specs.List.{AllByRecursion, list_all}
+use Rattle.std.specs.List.{list_all}
 use Rattle.std.proofs.lemmas.Slice.Eq.{bytes_eq-Decides}
 use Rattle.std.proofs.lemmas.List.{get_or-take}
 use Rattle.memchr.specs.Find.{Nowhere, Passes, is_byte}
-use Rattle.deftable.specs.ShellName.{IsShellName, is_shell_name_of, starts_name, continues_name}
+use Rattle.deftable.specs.ShellName.{IsShellName, starts_name, continues_name}
 use Rattle.deftable.specs.Table.{value_of, HasShellNames}
 use Rattle.template.specs.Fill.{at_sign, BeginsWithKey, Fills, before_at, key_at_front, filled_behind, filled, entry_of}
 use Rattle.template.specs.Hops.{HasNoAt, opened_before, GoesOn}
