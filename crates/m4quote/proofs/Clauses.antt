@@ -1,5 +1,5 @@
 -- What an answer that is given by a function says in the words of a relation: for the clauses of the public calls.
-use Rattle.std.proofs.Common.{◌≡◌, ◌↔◌, List, Result, Ok, Err, refl, subst}
+use Rattle.std.proofs.Common.{◌≡◌, Result, Ok, Err, refl, subst}
 use Rattle.std.specs.Prelude.{IfOk, IfErr}
 use Rattle.m4quote.specs.declared.fault.QuoteFault.{QuoteFault}
 use Rattle.m4quote.specs.declared.fault.QuoteFault.TheVariants.{OutOfMemory}

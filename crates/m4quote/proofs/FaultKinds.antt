@@ -1,8 +1,7 @@
 -- Which faults come.
-use Rattle.std.proofs.Common.{◌≡◌, ℕ, ◌+◌, ◌<◌, ◌≤◌, Bool, List, length, take, drop, ◌⊎◌, inl, inr, refl, subst, sym, arith}
-use Rattle.std.proofs.lemmas.List.{length-drop}
+use Rattle.std.proofs.Common.{◌≡◌, ℕ, ◌<◌, Bool, List, length, inl, inr, subst, sym, arith}
 use Rattle.m4quote.specs.declared.fault.QuoteFault.{QuoteFault}
-use Rattle.m4quote.specs.declared.fault.QuoteFault.TheVariants.{UnclosedQuote, StrayClose, OutOfMemory}
+use Rattle.m4quote.specs.declared.fault.QuoteFault.TheVariants.{OutOfMemory}
 use Rattle.m4quote.specs.Faults.{QuoteBreaks, stays_open, one_too_many, in_quotes, FrontBreaks, stray, no_room, quote_breaks, InsideBreaks, no_close, piece_breaks, paren_too_many, in_parens, ArgumentsBreak, argument_breaks, later_argument, Breaks, front_breaks, arguments_break, behind_front, behind_call, IsFirstFault, too_large, breaks, breaks_before_nul, nul, nul_in_open, IsBracketFault}
 use Rattle.m4quote.specs.Used.{Unquotes, nothing, front, UnquoteBreaks, here, behind, UseBreaks, outer, inner_quote, inner_close}
 use Rattle.m4quote.proofs.Insides.{front_fits}
