@@ -1,7 +1,7 @@
 -- Arguments of calls: what each form of argument stands for, or its fault (Autoconf's manual, "The Autoconf
 -- Language"; the forms themselves are the profile's own). Faults have the place of the argument, those of quoting
 -- their own place.
-use Rattle.std.specs.Prelude.{ℕ, List, [], Result, Ok, Err, slice_index_or}
+use Rattle.std.specs.Prelude.{ℕ, List, [], Result, Ok, slice_index_or}
 use Rattle.m4quote.specs.Entry.{Span}
 use Rattle.m4quote.specs.Scan.{used}
 use Rattle.deftable.specs.ShellName.{is_shell_name_of}

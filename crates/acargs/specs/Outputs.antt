@@ -1,5 +1,5 @@
 -- Lists of outputs: fields between blanks, of which there is at least one.
-use Rattle.std.specs.Prelude.{ℕ, ◌+◌, not, List, [], ◌∷◌, ◌++◌, length, Result, Ok, Err, nat_lt}
+use Rattle.std.specs.Prelude.{ℕ, ◌+◌, not, List, [], ◌∷◌, ◌++◌, length, Result, Ok, nat_lt}
 use Rattle.m4quote.specs.Entry.{Span}
 use Rattle.textcut.specs.Cuts.{fields}
 use Rattle.acargs.specs.declared.fault.ParseFault.{ParseFault}

@@ -1,6 +1,6 @@
 -- Where a call stands as a statement: on a line of its own, or parted by `;` from what stands before it, and by `;`
 -- or a comment from what stands behind it (own; a shell parts commands so).
-use Rattle.std.specs.Prelude.{ℕ, ◌+◌, ◌-◌, Bool, true, false, not, ◌&&◌, ◌||◌, ◌==◌, List, [], ◌∷◌, length, reverse, slice_index, if◌then◌else◌}
+use Rattle.std.specs.Prelude.{ℕ, ◌+◌, ◌-◌, Bool, true, not, ◌&&◌, ◌||◌, ◌==◌, List, [], ◌∷◌, length, reverse, slice_index, if◌then◌else◌}
 use Rattle.std.specs.List.{prefix_len}
 use Rattle.m4quote.specs.Entry.{Span, Entry, call, bare}
 use Rattle.acargs.specs.declared.stand.Edge.{Edge}

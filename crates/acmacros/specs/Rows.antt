@@ -1,6 +1,6 @@
 -- The rows of the profile: for each macro what its arguments are, from the left, and which statement it makes. The
 -- fault of the first argument at fault is the macro's.
-use Rattle.std.specs.Prelude.{ℕ, List, [], ◌∷◌, length, Result, Ok, Err, nat_lt, codes, if◌then◌else◌}
+use Rattle.std.specs.Prelude.{ℕ, List, length, Result, Ok, nat_lt, codes, if◌then◌else◌}
 use Rattle.m4quote.specs.Entry.{Span}
 use Rattle.acargs.specs.declared.fault.ParseFault.{ParseFault}
 use Rattle.acargs.specs.declared.fault.ParseFault.TheVariants.{ArgCount}

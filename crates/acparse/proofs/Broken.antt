@@ -1,5 +1,5 @@
 -- A fault that is read is one, and all before it is right.
-use Rattle.std.proofs.Common.{◌≡◌, ℕ, ◌<◌, Bool, true, false, cond, List, [], ◌∷◌, length, Option, Some, None, Result, Ok, Err, ◌&&◌, ◌⊎◌, refl, sym, ap, subst, ◌∙◌, inl, inr}
+use Rattle.std.proofs.Common.{◌≡◌, ℕ, Bool, true, false, List, [], ◌∷◌, Option, Some, None, Result, Ok, Err, ◌&&◌, ◌⊎◌, refl, sym, subst, inl, inr}
 use Rattle.m4quote.specs.Entry.{Span, Entry, call, bare}
 use Rattle.m4quote.specs.declared.fault.QuoteFault.{QuoteFault}
 use Rattle.acargs.specs.declared.fault.ParseFault.{ParseFault}
@@ -13,7 +13,6 @@ use Rattle.acmacros.specs.declared.macros.Macro.{Macro}
 use Rattle.acmacros.specs.declared.macros.Macro.TheVariants.{Plain}
 use Rattle.acmacros.specs.declared.scene.Scene as scene
 use Rattle.acmacros.specs.declared.scene.Stage.{Stage}
-use Rattle.acmacros.specs.Scene.{bare_fault}
 use Rattle.acmacros.specs.Table.{macro_named}
 use Rattle.std.proofs.lemmas.Bool.{leb-false}
 use Rattle.acparse.specs.Breaks.{MayNotStand, unknown, too_few, too_many, not_here, in_text, ItemBreaks, other_text, may_not_stand, argument, Breaks, here, behind}

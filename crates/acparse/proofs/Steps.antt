@@ -1,11 +1,10 @@
 -- What the loop over items keeps.
-use Rattle.std.proofs.Common.{◌≡◌, ◌+◌, ◌-◌, ◌<◌, ℕ, Bool, true, false, cond, List, [], ◌∷◌, ◌++◌, length, take, drop, get_or, map, Result, Ok, Err, refl, ap, sym, ◌∙◌, subst, arith}
+use Rattle.std.proofs.Common.{◌≡◌, ◌+◌, ◌-◌, ◌<◌, ℕ, Bool, List, [], ◌∷◌, ◌++◌, length, take, drop, get_or, Result, Ok, Err, refl, ap, sym, ◌∙◌, subst, arith}
 use Rattle.std.specs.Result.{MatchResult}
 use Rattle.std.proofs.lemmas.List.{drop_more, take_all, length-drop}
 use Rattle.m4quote.specs.declared.item.Item.{Item}
 use Rattle.m4quote.specs.Entry.{Span, Entry, view, views, call, bare}
 use Rattle.acargs.specs.declared.fault.ParseFault.{ParseFault}
-use Rattle.acargs.specs.declared.fault.ParseFault.TheVariants.{OutOfMemory}
 use Rattle.acargs.specs.declared.stand.Edge.{Edge}
 use Rattle.acargs.specs.Idle.{is_idle}
 use Rattle.acargs.specs.Reading.{◌>>=◌, Fails, Gives}
@@ -16,7 +15,7 @@ use Rattle.acmacros.specs.declared.scene.Scene as scene
 use Rattle.acparse.specs.declared.tree.Stmt.{Stmt}
 use Rattle.acparse.specs.Known.{after_all}
 use Rattle.acparse.specs.Profile.{Adds, bare_of, items_of, item_of, call_of, checked}
-use Rattle.acparse.specs.Script.{Script, Done, Then, joined, script_of}
+use Rattle.acparse.specs.Script.{Script, Done, joined, script_of}
 use Rattle.acparse.proofs.ScriptLemmas.{script_push, joined_done, joined_assoc, after_joined}
 
 -- statements, and those that are read behind them

@@ -12,7 +12,7 @@ use Rattle.acmacros.specs.declared.scene.Stage.{Stage}
 use Rattle.acmacros.specs.declared.scene.Stage.TheVariants.{Before, Open, Ended}
 use Rattle.acparse.specs.declared.source.Source.{Source}
 use Rattle.acparse.specs.Known.{start, after_all}
-use Rattle.acparse.specs.Profile.{items_of, source_of, ended}
+use Rattle.acparse.specs.Profile.{source_of, ended}
 use Rattle.acparse.specs.Script.{Script, script_of}
 use Rattle.acparse.specs.Source.{IsList, IsSource, IsSourceFault, no_items, in_items, no_init, no_output}
 use Rattle.acparse.proofs.Broken.{quoted_err, items_break}

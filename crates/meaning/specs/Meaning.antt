@@ -1,5 +1,4 @@
 -- What statements do.
-use Rattle.std.specs.Prelude.{ℕ, List}
 use Rattle.deftable.specs.Table.{with_entry}
 use Rattle.acmacros.specs.declared.statement.Plain as plain
 use Rattle.acmacros.specs.declared.statement.Plain.TheVariants.{Init, ConfigFiles, Define, Output}
