@@ -1,0 +1,381 @@
+//! Worked examples, each answer found by hand from the rules.
+
+use super::*;
+use acargs::ParseFault;
+use acparse::parse;
+use std::alloc::{AllocError, Global};
+use std::env::{Env, FillError};
+use std::io::{self, Read, Write};
+use std::process::Abort;
+use std::test::Fail;
+
+const DEMO: &[u8] =
+    b"AC_INIT([demo],[1.0])\nAC_CONFIG_FILES([out])\nAC_OUTPUT\n%%\n@PACKAGE_STRING@ @nope@\n";
+
+#[test]
+fn the_first_file(rt: HostRuntime) -> Result<(), Fail> {
+    let cases = [
+        (DEMO, b"demo 1.0 @nope@\n".as_slice()),
+        // no file
+        (b"AC_INIT([x],[1])\nAC_OUTPUT\n%%\n@PACKAGE_NAME@\n", b""),
+        // the marker as the last line
+        (b"AC_INIT([x],[1])AC_CONFIG_FILES([f])AC_OUTPUT\n%%", b""),
+        // The first marker parts, and lines that hold more don't.
+        (
+            b"# %%\nAC_INIT([x],[1])AC_DEFINE([A],[],[\n%%%\n %%\n%% \n%\n])AC_CONFIG_FILES([f])AC_OUTPUT\n%%\n\n%%\na@",
+            b"\n%%\na@",
+        ),
+        // The values are not filled again.
+        (
+            b"AC_INIT([@PACKAGE_URL@],[@])AC_CONFIG_FILES([f])AC_OUTPUT\n%%\n@PACKAGE_NAME@@PACKAGE_VERSION@x@",
+            b"@PACKAGE_URL@@x@",
+        ),
+        // all output variables
+        (
+            b"AC_INIT([GNU Demo],[1.0],[bugs],[],[u\"])AC_CONFIG_FILES([f])AC_OUTPUT\n%%\n@PACKAGE_NAME@ @PACKAGE_TARNAME@ @PACKAGE_VERSION@ @PACKAGE_STRING@ @PACKAGE_BUGREPORT@ @PACKAGE_URL@",
+            b"GNU Demo demo 1.0 GNU Demo 1.0 bugs u\"",
+        ),
+        // two files of one template
+        (
+            b"AC_INIT([x],[1])AC_CONFIG_FILES([a:t b:t])AC_OUTPUT\n%%\n@PACKAGE_NAME@\0",
+            b"x\0",
+        ),
+    ];
+    for (input, wanted) in cases {
+        let mut reader = input;
+        let mut written = Vec::from_slice(rt.alloc(), b"> ")?;
+        let answer = filter(rt.alloc(), &mut reader, &mut written)?;
+        assert_eq!(rt; answer.status, 0);
+        assert!(rt; answer.errors.is_empty());
+        let whole = written.as_slice();
+        assert!(rt;
+            whole.strip_prefix(b"> ") == Some(wanted),
+            "{input:?}: {whole:?}"
+        );
+    }
+    Ok(())
+}
+
+/// The fault of an input, and how much was written.
+fn fault_of<R: Read>(alloc: Global, reader: &mut R) -> (Option<FilterFault>, usize) {
+    let mut written = Vec::new(alloc);
+    let fault = filter(alloc, reader, &mut written).err();
+    (fault, written.len())
+}
+
+#[test]
+fn inputs_without_a_marker(rt: HostRuntime) {
+    for input in [
+        b"".as_slice(),
+        b"%",
+        b"%%%\n",
+        b" %%\n%% \n%%\r\n",
+        b"AC_INIT([x],[1])\nAC_OUTPUT\n",
+    ] {
+        let mut reader = input;
+        let (fault, written) = fault_of(rt.alloc(), &mut reader);
+        assert!(rt; matches!(fault, Some(FilterFault::Usage)), "{input:?}");
+        assert_eq!(rt; written, 0);
+    }
+}
+
+#[test]
+fn sources_at_fault(rt: HostRuntime) {
+    let cases = [
+        (b"%%\n".as_slice(), ParseFault::NoInit),
+        (b"AC_INIT([x],[1])\n%%\nAC_OUTPUT\n", ParseFault::NoOutput),
+        (b"AC_INIT([x],[1])\nx\n%%", ParseFault::UnknownStatement(16)),
+        // The source is told before the templates.
+        (
+            b"AC_INIT([x],[1])\nAC_CONFIG_FILES([a b])\n%%\n",
+            ParseFault::NoOutput,
+        ),
+    ];
+    for (input, wanted) in cases {
+        let mut reader = input;
+        let (fault, written) = fault_of(rt.alloc(), &mut reader);
+        assert_eq!(rt; written, 0);
+        let found = match fault {
+            Some(FilterFault::Run(Fault::Parse(found))) => Some(found),
+            _ => None,
+        };
+        assert!(rt; found == Some(wanted), "{input:?}: {found:?}");
+    }
+}
+
+#[test]
+fn a_template_that_is_not_there(rt: HostRuntime) -> Result<(), Fail> {
+    let mut reader = b"AC_INIT([x],[1])AC_CONFIG_FILES([a:t b:t c:u d])AC_OUTPUT\n%%\n".as_slice();
+    let (fault, written) = fault_of(rt.alloc(), &mut reader);
+    assert_eq!(rt; written, 0);
+    let Some(FilterFault::Run(Fault::NoTemplate(name))) = fault else {
+        return Err(Fail::from("no template is missing"));
+    };
+    assert_eq!(rt; name.as_slice(), b"u".as_slice());
+    Ok(())
+}
+
+/// Gives so many newlines, one in a read, and then its end.
+#[derive(Drop)]
+struct Newlines {
+    left: usize,
+}
+
+impl Read for Newlines {
+    fn read(&mut self, buf: &mut [u8]) -> io::Result<usize> {
+        match buf.first_mut() {
+            Some(place) if self.left > 0 => {
+                *place = b'\n';
+                self.left -= 1;
+                Ok(1)
+            }
+            _ => Ok(0),
+        }
+    }
+}
+
+/// A stream that always fails.
+#[derive(Drop)]
+struct Broken;
+
+impl Read for Broken {
+    fn read(&mut self, _buf: &mut [u8]) -> io::Result<usize> {
+        Err(io::Error::from(io::ErrorKind::BrokenPipe))
+    }
+}
+
+impl Write for Broken {
+    fn write(&mut self, _buf: &[u8]) -> io::Result<usize> {
+        Err(io::Error::from(io::ErrorKind::BrokenPipe))
+    }
+
+    fn flush(&mut self) -> io::Result<()> {
+        Ok(())
+    }
+}
+
+#[test]
+fn reads(rt: HostRuntime) {
+    let (fault, _) = fault_of(rt.alloc(), &mut Broken);
+    assert!(rt; matches!(fault, Some(FilterFault::Read)));
+    // The last of 65,536 reads may be the end.
+    let (fault, _) = fault_of(rt.alloc(), &mut Newlines { left: 65_535 });
+    assert!(rt; matches!(fault, Some(FilterFault::Usage)));
+    let (fault, _) = fault_of(rt.alloc(), &mut Newlines { left: 65_536 });
+    assert!(rt; matches!(fault, Some(FilterFault::Read)));
+}
+
+#[test]
+fn a_writer_that_fails(rt: HostRuntime) {
+    let mut reader = DEMO;
+    let answer = filter(rt.alloc(), &mut reader, &mut Broken);
+    assert!(rt; matches!(answer, Err(FilterFault::Write)));
+    // What isn't right is told first.
+    let mut reader = b"%%".as_slice();
+    let answer = filter(rt.alloc(), &mut reader, &mut Broken);
+    assert!(rt;
+        matches!(
+            answer,
+            Err(FilterFault::Run(Fault::Parse(ParseFault::NoInit)))
+        )
+    );
+}
+
+/// A name and its value on a line.
+fn put_line(text: &mut Vec<u8>, name: &[u8], value: &[u8]) -> Result<(), AllocError> {
+    text.extend_from_slice(name)?;
+    text.push(b'=')?;
+    text.extend_from_slice(value)?;
+    text.push(b'\n')?;
+    Ok(())
+}
+
+#[test]
+fn what_a_source_leaves(rt: HostRuntime) -> Result<(), Fail> {
+    let text =
+        b"AC_INIT([a\"b\\],[1],[bugs])AC_DEFINE([X],[1])AC_DEFINE([PACKAGE_URL],[0])AC_DEFINE([Y],[2])AC_DEFINE([X],[\"3\"])AC_OUTPUT";
+    let source = parse(rt.alloc(), text)?;
+    let (vars, defs) = straight(rt.alloc(), &source)?;
+    let mut found = Vec::new(rt.alloc());
+    for i in 0..vars.len() {
+        let (name, value) = vars.at(i);
+        put_line(&mut found, name, value)?;
+    }
+    found.push(b'\n')?;
+    for i in 0..defs.len() {
+        let (name, value) = defs.at(i);
+        put_line(&mut found, name, value)?;
+    }
+    let wanted = b"PACKAGE_NAME=a\"b\\
+PACKAGE_TARNAME=a-b-
+PACKAGE_VERSION=1
+PACKAGE_STRING=a\"b\\ 1
+PACKAGE_BUGREPORT=bugs
+PACKAGE_URL=
+
+PACKAGE_NAME=\"a\\\"b\\\\\"
+PACKAGE_TARNAME=\"a-b-\"
+PACKAGE_VERSION=\"1\"
+PACKAGE_STRING=\"a\\\"b\\\\ 1\"
+PACKAGE_BUGREPORT=\"bugs\"
+PACKAGE_URL=0
+X=\"3\"
+Y=2
+";
+    assert_eq!(rt; found.as_slice(), wanted.as_slice());
+    Ok(())
+}
+
+/// A process with at most one argument.
+#[derive(Drop)]
+struct Process {
+    argument: Option<&'static [u8]>,
+}
+
+fn put(text: &[u8], buf: &mut [u8]) -> Result<usize, FillError> {
+    if text.len() > buf.len() {
+        return Err(FillError::TooLong);
+    }
+    buf[..text.len()].copy_from_slice(text);
+    Ok(text.len())
+}
+
+impl Env for Process {
+    fn arg(&self, i: usize, buf: &mut [u8]) -> Result<usize, FillError> {
+        match (i, self.argument) {
+            (0, _) => put(b"acrun", buf),
+            (1, Some(argument)) => put(argument, buf),
+            _ => Err(FillError::NotPresent),
+        }
+    }
+
+    fn var(&self, _name: &str, _buf: &mut [u8]) -> Result<usize, FillError> {
+        Err(FillError::NotPresent)
+    }
+
+    fn var_at(&self, _i: usize, _buf: &mut [u8]) -> Result<usize, FillError> {
+        Err(FillError::NotPresent)
+    }
+}
+
+/// Runs the program without arguments on an input that is at fault, and asserts that it says so.
+fn assert_line<R: Read>(rt: &impl Abort, alloc: Global, input: &mut R, wanted: &[u8]) {
+    let alone = Process { argument: None };
+    let mut output = Vec::new(alloc);
+    let mut errors = Vec::new(alloc);
+    let status = command::run(&alone, alloc, input, &mut output, &mut errors);
+    assert_eq!(rt; status, 2);
+    assert!(rt; output.is_empty());
+    assert_eq!(rt; errors.as_slice(), wanted);
+}
+
+#[test]
+fn the_program(rt: HostRuntime) {
+    let alone = Process { argument: None };
+    let mut input = DEMO;
+    let mut output = Vec::new(rt.alloc());
+    let mut errors = Vec::new(rt.alloc());
+    let status = command::run(&alone, rt.alloc(), &mut input, &mut output, &mut errors);
+    assert_eq!(rt; status, 0);
+    assert_eq!(rt; output.as_slice(), b"demo 1.0 @nope@\n".as_slice());
+    assert!(rt; errors.is_empty());
+    let mut input = DEMO;
+    let status = command::run(&alone, rt.alloc(), &mut input, &mut Broken, &mut errors);
+    assert_eq!(rt; status, 2);
+    assert_eq!(rt;
+        errors.as_slice(),
+        b"acrun: file standard output\n".as_slice()
+    );
+}
+
+#[test]
+fn arguments_are_not_known(rt: HostRuntime) {
+    for argument in [b"".as_slice(), b"x", b"configure"] {
+        let process = Process {
+            argument: Some(argument),
+        };
+        let mut input = DEMO;
+        let mut output = Vec::new(rt.alloc());
+        let mut errors = Vec::new(rt.alloc());
+        let status = command::run(&process, rt.alloc(), &mut input, &mut output, &mut errors);
+        assert_eq!(rt; status, 2);
+        assert!(rt; output.is_empty());
+        assert_eq!(rt; errors.as_slice(), b"acrun: usage\n".as_slice());
+    }
+}
+
+#[test]
+fn lines_of_faults(rt: HostRuntime) {
+    let cases = [
+        (b"".as_slice(), b"acrun: usage\n".as_slice()),
+        (b"%%\n", b"acrun: parse 8\n"),
+        (b"AC_INIT([x],[1])\n%%\n", b"acrun: parse 9\n"),
+        (b"AC_INIT([x\n%%\n", b"acrun: parse 1.1 at 8\n"),
+        (b"AC_INIT([x],[1]\n%%\n", b"acrun: parse 1.2 at 7\n"),
+        (b"]\n%%\n", b"acrun: parse 1.3 at 0\n"),
+        (b"#\0\n%%\n", b"acrun: parse 1.4 at 1\n"),
+        (
+            b"AC_INIT([x],[1])\nAC_NOPE\nAC_OUTPUT\n%%\n",
+            b"acrun: parse 2 at 17\n",
+        ),
+        (b"AC_INIT([x],[1])\nx\n%%\n", b"acrun: parse 3 at 16\n"),
+        (b"AC_INIT([x])\n%%\n", b"acrun: parse 4 at 0\n"),
+        (
+            b"AC_INIT([x],[1])\nAC_CONFIG_FILES([a a])\nAC_OUTPUT\n%%\n",
+            b"acrun: parse 5 at 33\n",
+        ),
+        (
+            b"AC_INIT([x],[1])\nAC_CONFIG_FILES([/a])\nAC_OUTPUT\n%%\n",
+            b"acrun: parse 5 at 33\n",
+        ),
+        (
+            b"AC_INIT([x],[1])\nAC_INIT([x],[1])\n%%\n",
+            b"acrun: parse 7 at 17\n",
+        ),
+        (
+            b"AC_INIT([x],[1])\nAC_OUTPUT\nAC_OUTPUT\n%%\n",
+            b"acrun: parse 10 at 27\n",
+        ),
+        (
+            b"AC_INIT([x],[1])\nAC_CONFIG_FILES([a b])\nAC_OUTPUT\n%%\n",
+            b"acrun: template b.in\n",
+        ),
+    ];
+    for (input, line) in cases {
+        let mut reader = input;
+        assert_line(&rt, rt.alloc(), &mut reader, line);
+    }
+    assert_line(
+        &rt,
+        rt.alloc(),
+        &mut Broken,
+        b"acrun: file standard input\n",
+    );
+}
+
+/// So many bytes, and then a line that is the marker.
+fn input_of(alloc: Global, count: usize, byte: u8) -> Result<Vec<u8>, AllocError> {
+    let mut input = Vec::new(alloc);
+    for _ in 0..count {
+        input.push(byte)?;
+    }
+    input.extend_from_slice(b"\n%%\n")?;
+    Ok(input)
+}
+
+#[test]
+fn inputs_past_a_limit(rt: HostRuntime) -> Result<(), Fail> {
+    let cases = [
+        (64, b'[', b"acrun: parse 1.1 at 0\n".as_slice()),
+        (65, b'[', b"acrun: parse 1.6\n"),
+        // The newline before the marker is a byte of the source.
+        (1_048_575, b' ', b"acrun: parse 8\n"),
+        (1_048_576, b' ', b"acrun: parse 1.5\n"),
+    ];
+    for (count, byte, line) in cases {
+        let input = input_of(rt.alloc(), count, byte)?;
+        let mut reader = input.as_slice();
+        assert_line(&rt, rt.alloc(), &mut reader, line);
+    }
+    Ok(())
+}

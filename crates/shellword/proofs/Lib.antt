@@ -1,0 +1,17 @@
+pub mod Elements
+pub mod Fronts
+pub mod Joining
+pub mod Laws
+pub mod Matcher
+pub mod Outcome
+pub mod PatternReading
+pub mod Patterns
+pub mod Runs
+pub mod TestFaults
+pub mod TestReading
+pub mod TokenReading
+pub mod Tokens
+pub mod Truths
+pub mod Values
+pub mod WordFaults
+pub mod Words

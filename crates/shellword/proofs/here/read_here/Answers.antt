@@ -1,0 +1,13 @@
+use Rattle.std.proofs.Common.{subst}
+use Rattle.shellword.specs.Gives.{Gives}
+use Rattle.shellword.specs.Scan.{here_of}
+use Rattle.shellword.specs.Word.{IsHere}
+use Rattle.shellword.proofs.Outcome.{told}
+use Rattle.shellword.proofs.Words.{here-read, read-here}
+use Rattle.shellword.proofs.here.read_here.Goals as goal
+
+pub returns-clause-found : goal.returns-clause-found
+returns-clause-found c = told (λ h. h) (IsHere c.args.text.now) c.read_parts.result (here_of c.args.text.now) c.read_parts.ensures.exact (read-here c.args.text.now)
+
+pub returns-clause-only : goal.returns-clause-only
+returns-clause-only c = λ parts h. subst (λ r. Gives (λ h. h) c.read_parts.result r) (here-read c.args.text.now parts h) c.read_parts.ensures.exact

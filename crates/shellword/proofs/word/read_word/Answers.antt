@@ -1,0 +1,13 @@
+use Rattle.std.proofs.Common.{subst}
+use Rattle.shellword.specs.Gives.{Gives}
+use Rattle.shellword.specs.Scan.{word_of}
+use Rattle.shellword.specs.Word.{IsWord}
+use Rattle.shellword.proofs.Outcome.{told}
+use Rattle.shellword.proofs.Words.{word-read, read-word}
+use Rattle.shellword.proofs.word.read_word.Goals as goal
+
+pub returns-clause-found : goal.returns-clause-found
+returns-clause-found c = told (λ w. w) (IsWord c.args.text.now) c.read_whole.result (word_of c.args.text.now) c.read_whole.ensures.exact (read-word c.args.text.now)
+
+pub returns-clause-only : goal.returns-clause-only
+returns-clause-only c = λ parts h. subst (λ r. Gives (λ w. w) c.read_whole.result r) (word-read c.args.text.now parts h) c.read_whole.ensures.exact

@@ -1,0 +1,14 @@
+use Rattle.std.proofs.Common.{subst}
+use Rattle.shellword.specs.Gives.{Gives}
+use Rattle.shellword.specs.Scan.{word_front_of}
+use Rattle.shellword.specs.Word.{IsWordFront}
+use Rattle.shellword.proofs.Outcome.{told}
+use Rattle.shellword.proofs.Words.{word_front-read, read-word_front}
+use Rattle.shellword.proofs.word.read_word_front.Goals as goal
+
+pub returns-clause-found : goal.returns-clause-found
+returns-clause-found c =
+    told (λ r. (r.0, r.1)) (λ r. IsWordFront c.args.text.now r.0 r.1) c.read_front_word.result (word_front_of c.args.text.now) c.read_front_word.ensures.exact (read-word_front c.args.text.now)
+
+pub returns-clause-only : goal.returns-clause-only
+returns-clause-only c = λ parts n h. subst (λ r. Gives (λ r. (r.0, r.1)) c.read_front_word.result r) (word_front-read c.args.text.now parts n h) c.read_front_word.ensures.exact

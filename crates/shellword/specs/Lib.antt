@@ -1,0 +1,13 @@
+pub mod Cut
+pub mod Element
+pub mod Faults
+pub mod Gives
+pub mod Matching
+pub mod Pattern
+pub mod Scan
+pub mod Test
+pub mod Text
+pub mod Tokens
+pub mod Truth
+pub mod Value
+pub mod Word

@@ -1,0 +1,40 @@
+-- Which texts a pattern matches.
+use Rattle.std.specs.Prelude.{ℕ, Bool, true, false, ◌&&◌, ◌||◌, List, [], ◌∷◌, ◌++◌, ◌==◌, if◌then◌else◌}
+use Rattle.shellword.specs.declared.pattern.Piece.{Piece}
+use Rattle.shellword.specs.declared.pattern.Piece.TheVariants.{AnyBytes, OneByte, Byte}
+use Rattle.shellword.specs.declared.matching.Step.{Step}
+use Rattle.shellword.specs.declared.matching.Step.TheVariants.{Star, Taken, End, Stuck}
+
+-- The text splits into parts, one for each piece of the pattern: any bytes for `*`, one byte for `?`, the byte itself
+-- for any other.
+pub data Matches : List Piece → List ℕ → Type 0 where
+  nothing : Matches [] []
+  any_bytes : {pieces : List Piece} {rest : List ℕ} (front : List ℕ) → Matches pieces rest → Matches (AnyBytes ∷ pieces) (front ++ rest)
+  one_byte : {pieces : List Piece} {rest : List ℕ} (b : ℕ) → Matches pieces rest → Matches (OneByte ∷ pieces) (b ∷ rest)
+  byte : {pieces : List Piece} {rest : List ℕ} (b : ℕ) → Matches pieces rest → Matches (Byte b ∷ pieces) (b ∷ rest)
+
+-- ---- the same as a function
+
+-- what is left of the text behind some front of it passes the test
+abbrev pub some_rest : (List ℕ → Bool) → List ℕ → Bool
+some_rest test [] = test []
+some_rest test (b ∷ bs) = test (b ∷ bs) || some_rest test bs
+
+unfoldable pub matching : List Piece → List ℕ → Bool
+matching [] [] = true
+matching [] (b ∷ bs) = false
+matching (AnyBytes ∷ pieces) text = some_rest (matching pieces) text
+matching (OneByte ∷ pieces) [] = false
+matching (OneByte ∷ pieces) (b ∷ bs) = matching pieces bs
+matching (Byte c ∷ pieces) [] = false
+matching (Byte c ∷ pieces) (b ∷ bs) = (b == c) && matching pieces bs
+
+-- what the matcher does before these pieces and this text
+abbrev pub step_of : List Piece → List ℕ → Step
+step_of [] [] = End
+step_of [] (b ∷ bs) = Stuck
+step_of (AnyBytes ∷ pieces) text = Star
+step_of (OneByte ∷ pieces) [] = Stuck
+step_of (OneByte ∷ pieces) (b ∷ bs) = Taken
+step_of (Byte c ∷ pieces) [] = Stuck
+step_of (Byte c ∷ pieces) (b ∷ bs) = if b == c then Taken else Stuck

@@ -1,0 +1,56 @@
+-- When a test holds.
+use Rattle.std.specs.Prelude.{◌≡◌, ℕ, Bool, true, false, ◌&&◌, ◌||◌, not, List, [], ◌∷◌, ◌++◌, length, bytes_eq, ◌==◌, if◌then◌else◌, refl}
+use Rattle.std.proofs.Common.{ap, ◌∙◌}
+use Rattle.shellword.specs.declared.element.Condition.{Condition}
+use Rattle.shellword.specs.declared.element.Condition.TheVariants.{True, False, Nonempty, Empty, Equal, Different}
+use Rattle.shellword.specs.declared.element.Element.{Element}
+use Rattle.shellword.specs.declared.token.Joint.{Joint}
+use Rattle.shellword.specs.declared.token.Joint.TheVariants.{And, Or}
+use Rattle.shellword.specs.Value.{word_value}
+
+-- A test is an element, or a test, a joint and one element more. So the last joint parts it.
+pub data Joined : Type 0 where
+  single : Element → Joined
+  joined : Joined → Joint → Element → Joined
+
+-- a test with these elements behind it, each with the joint before it
+abbrev pub nested : Joined → List (Joint × Element) → Joined
+nested test [] = test
+nested test (next ∷ rest) = nested (joined test next.0 next.1) rest
+
+pub nested_push : (test : Joined) (rest : List (Joint × Element)) (next : Joint × Element) → nested test (rest ++ next ∷ []) ≡ joined (nested test rest) next.0 next.1
+nested_push test [] next = refl
+nested_push test (one ∷ rest) next = nested_push (joined test one.0 one.1) rest next
+
+-- the first element of a test, and those behind it
+abbrev pub flat : Joined → Element × List (Joint × Element)
+flat (single e) = (e, [])
+flat (joined test joint e) = ((flat test).0, (flat test).1 ++ (joint, e) ∷ [])
+
+abbrev pub nested_pair : Element × List (Joint × Element) → Joined
+nested_pair p = nested (single p.0) p.1
+
+pub nested_pair-flat : (test : Joined) → nested_pair (flat test) ≡ test
+nested_pair-flat (single e) = refl
+nested_pair-flat (joined test joint e) = nested_push (single (flat test).0) (flat test).1 (joint, e) ∙ ap (λ (t : Joined). joined t joint e) (nested_pair-flat test)
+
+abbrev pub condition_truth : Condition → List (List ℕ × List ℕ) → Bool
+condition_truth True vars = true
+condition_truth False vars = false
+condition_truth (Nonempty w) vars = not (length (word_value w vars) == 0)
+condition_truth (Empty w) vars = length (word_value w vars) == 0
+condition_truth (Equal v w) vars = bytes_eq (word_value v vars) (word_value w vars)
+condition_truth (Different v w) vars = not (bytes_eq (word_value v vars) (word_value w vars))
+
+abbrev pub element_truth : Element → List (List ℕ × List ℕ) → Bool
+element_truth e vars = if e.negated then not (condition_truth e.condition vars) else condition_truth e.condition vars
+
+-- what a joint makes of what stands on either side
+abbrev pub joint_truth : Bool → Joint → Bool → Bool
+joint_truth left And right = left && right
+joint_truth left Or right = left || right
+
+-- `&&` and `||` have equal rank, from the left
+unfoldable pub truth : Joined → List (List ℕ × List ℕ) → Bool
+truth (single e) vars = element_truth e vars
+truth (joined left joint e) vars = joint_truth (truth left vars) joint (element_truth e vars)

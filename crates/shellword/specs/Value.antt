@@ -1,0 +1,20 @@
+-- The value of words and here texts.
+use Rattle.std.specs.Prelude.{ℕ, List, [], ◌∷◌, ◌++◌, Option, Some, None}
+use Rattle.deftable.specs.Table.{value_of}
+use Rattle.shellword.specs.declared.part.Part.{Part}
+use Rattle.shellword.specs.declared.part.Part.TheVariants.{Plain, Quoted, Variable}
+
+abbrev pub or_empty : Option (List ℕ) → List ℕ
+or_empty None = []
+or_empty (Some value) = value
+
+-- A byte stands for itself, a variable for its value, which is empty if it is unset and is not read again.
+abbrev pub part_value : List (List ℕ × List ℕ) → Part → List ℕ
+part_value vars (Plain b) = b ∷ []
+part_value vars (Quoted b) = b ∷ []
+part_value vars (Variable name) = or_empty (value_of vars name)
+
+-- the values of the parts, joined
+unfoldable pub word_value : List Part → List (List ℕ × List ℕ) → List ℕ
+word_value [] vars = []
+word_value (part ∷ parts) vars = part_value vars part ++ word_value parts vars

@@ -1,0 +1,211 @@
+//! The elements of a test.
+
+ghost use Rattle.std.specs.Prelude.{◌≡◌, ◌∷◌, [], List, false, option_map, bytes_eq, IfOk};
+ghost use Rattle.shellword.specs.Element.{part_is, word_is, negated, negated_if, one_word, two_words, three_words, four_words, condition_of, constant_of, command_of, element_of};
+ghost use Rattle.shellword.specs.Value.{word_value};
+ghost use Rattle.shellword.specs.Truth.{condition_truth, element_truth};
+
+use crate::word::Word;
+use deftable::Vars;
+use std::alloc::{AllocError, Global};
+use std::collections::VecDeque;
+
+/// What an element of a test asks.
+#[derive(Debug, Drop)]
+pub enum Condition {
+    /// `:` or `true`.
+    True,
+    /// `false`.
+    False,
+    /// `test W` or `test -n W`.
+    Nonempty(Word),
+    /// `test -z W`.
+    Empty(Word),
+    /// `test V = W`.
+    Equal(Word, Word),
+    /// `test V != W`.
+    Different(Word, Word),
+}
+
+/// An element of a test: a condition, or a condition that must not hold.
+#[derive(Debug, Drop)]
+pub struct Element {
+    /// Whether an odd number of `!` stands before the condition.
+    pub negated: bool,
+    pub condition: Condition,
+}
+
+impl Element {
+    fn plainly(condition: Condition) -> Element
+        ensures { result ≡ record { negated = false; condition = condition } }
+    {
+        Element {
+            negated: false,
+            condition,
+        }
+    }
+
+    fn negate(self) -> Element
+        ensures { result ≡ negated self }
+    {
+        Element {
+            negated: !self.negated,
+            condition: self.condition,
+        }
+    }
+
+    /// Whether the element holds of the variables.
+    pub fn holds(&self, alloc: Global, vars: &Vars) -> Result<bool, AllocError>
+        ensures { IfOk result (λ b. b ≡ element_truth self.now vars.now) }
+    {
+        let holds = self.condition.holds(alloc, vars)?;
+        Ok(holds != self.negated)
+    }
+}
+
+impl Condition {
+    /// Whether the condition holds of the variables.
+    pub fn holds(&self, alloc: Global, vars: &Vars) -> Result<bool, AllocError>
+        ensures { IfOk result (λ b. b ≡ condition_truth self.now vars.now) }
+    {
+        match self {
+            Condition::True => Ok(true),
+            Condition::False => Ok(false),
+            Condition::Nonempty(word) => Ok(!word.value(alloc, vars)?.is_empty()),
+            Condition::Empty(word) => Ok(word.value(alloc, vars)?.is_empty()),
+            Condition::Equal(left, right) => are_equal(alloc, left, right, vars),
+            Condition::Different(left, right) => Ok(!are_equal(alloc, left, right, vars)?),
+        }
+    }
+}
+
+/// Whether two words have one value.
+fn are_equal(alloc: Global, left: &Word, right: &Word, vars: &Vars) -> Result<bool, AllocError>
+    ensures { IfOk result (λ b. b ≡ bytes_eq (word_value left.now vars.now) (word_value right.now vars.now)) }
+{
+    let left = left.value(alloc, vars)?;
+    let right = right.value(alloc, vars)?;
+    Ok(left.as_slice() == right.as_slice())
+}
+
+/// `test` with one word: it is not empty.
+fn one_word(a: Word) -> Element
+    ensures { result ≡ one_word a }
+{
+    Element::plainly(Condition::Nonempty(a))
+}
+
+fn two_words(a: Word, b: Word) -> Option<Element>
+    ensures { result ≡ two_words a b }
+{
+    if a.is(b"-n") {
+        Some(Element::plainly(Condition::Nonempty(b)))
+    } else if a.is(b"-z") {
+        Some(Element::plainly(Condition::Empty(b)))
+    } else if a.is(b"!") {
+        Some(one_word(b).negate())
+    } else {
+        None
+    }
+}
+
+fn three_words(a: Word, b: Word, c: Word) -> Option<Element>
+    ensures { result ≡ three_words a b c }
+{
+    if b.is(b"=") {
+        Some(Element::plainly(Condition::Equal(a, c)))
+    } else if b.is(b"!=") {
+        Some(Element::plainly(Condition::Different(a, c)))
+    } else if a.is(b"!") {
+        negated(two_words(b, c))
+    } else {
+        None
+    }
+}
+
+fn four_words(a: Word, b: Word, c: Word, d: Word) -> Option<Element>
+    ensures { result ≡ four_words a b c d }
+{
+    if a.is(b"!") {
+        negated(three_words(b, c, d))
+    } else {
+        None
+    }
+}
+
+fn negated_if(negate: bool, element: Option<Element>) -> Option<Element>
+    ensures { result ≡ option_map (negated_if negate) element }
+{
+    if negate { negated(element) } else { element }
+}
+
+fn negated(element: Option<Element>) -> Option<Element>
+    ensures { result ≡ option_map negated element }
+{
+    match element {
+        Some(element) => Some(element.negate()),
+        None => None,
+    }
+}
+
+/// The words behind `test`.
+fn condition_of(mut words: VecDeque<Word>) -> Option<Element>
+    ensures { result ≡ condition_of words.items }
+{
+    let a = words.pop_front()?;
+    let Some(b) = words.pop_front() else {
+        return Some(one_word(a));
+    };
+    let Some(c) = words.pop_front() else {
+        return two_words(a, b);
+    };
+    let Some(d) = words.pop_front() else {
+        return three_words(a, b, c);
+    };
+    if words.is_empty() {
+        four_words(a, b, c, d)
+    } else {
+        None
+    }
+}
+
+/// A command that stands alone.
+fn constant_of(word: Word) -> Option<Element>
+    ensures { result ≡ constant_of word }
+{
+    if word.is(b":") || word.is(b"true") {
+        Some(Element::plainly(Condition::True))
+    } else if word.is(b"false") {
+        Some(Element::plainly(Condition::False))
+    } else {
+        None
+    }
+}
+
+/// A command and the words behind it.
+fn command_of(word: Word, words: VecDeque<Word>) -> Option<Element>
+    ensures { result ≡ command_of word words.items }
+{
+    if words.is_empty() {
+        constant_of(word)
+    } else if word.is(b"test") {
+        condition_of(words)
+    } else {
+        None
+    }
+}
+
+/// The element that these words make, if any.
+pub(crate) fn element_of(mut words: VecDeque<Word>) -> Option<Element>
+    ensures { result ≡ element_of words.items }
+{
+    let mut negated = false;
+    while let Some(word) = words.pop_front() {
+        if word.is(b"!") {
+            negated = !negated;
+        } else {
+            return negated_if(negated, command_of(word, words));
+        }
+    }
+    None
+}

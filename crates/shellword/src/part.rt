@@ -1,0 +1,14 @@
+//! What words and here texts are made of.
+
+use deftable::Bytes;
+
+/// A part of a word or of a here text.
+#[derive(Debug, Drop)]
+pub enum Part {
+    /// A byte as it stands, outside quotes.
+    Plain(u8),
+    /// A byte that quotes or a backslash make ordinary.
+    Quoted(u8),
+    /// The value of the variable of this name.
+    Variable(Bytes),
+}

@@ -1,0 +1,41 @@
+//! Laws of the readings, which the crates above may rest on.
+
+ghost use Rattle.std.specs.Prelude.{◌≡◌, ◌≤◌, ◌↔◌, ℕ, List, Result, Ok, Err, length};
+ghost use Rattle.shellword.specs.Pattern.{ArePatterns, patterns_of};
+ghost use Rattle.shellword.specs.Scan.{word_of, word_front_of, here_of};
+ghost use Rattle.shellword.specs.Test.{IsTest, IsFaultOfTest, test_of};
+ghost use Rattle.shellword.specs.Truth.{Joined};
+ghost use Rattle.shellword.specs.Word.{IsWord, IsWordFront, IsHere};
+ghost use Rattle.shellword.specs.declared.fault.ShellFault.{ShellFault};
+ghost use Rattle.shellword.specs.declared.fault.ShellFault.TheVariants.{BadWord, BadPattern};
+ghost use Rattle.shellword.specs.declared.part.Part.{Part};
+ghost use Rattle.shellword.specs.declared.pattern.Piece.{Piece};
+
+/// The reading of a text, as a function, gives what the text is, and nothing else.
+pub fn readings_are_exact()
+    ensures word { (text : List ℕ) (parts : List Part) → (word_of text ≡ Ok parts) ↔ IsWord text parts }
+    ensures front { (text : List ℕ) (parts : List Part) (n : ℕ) → (word_front_of text ≡ Ok (parts, n)) ↔ IsWordFront text parts n }
+    ensures here { (text : List ℕ) (parts : List Part) → (here_of text ≡ Ok parts) ↔ IsHere text parts }
+    ensures test { (text : List ℕ) (test : Joined) → (test_of text ≡ Ok test) ↔ IsTest text test }
+    ensures patterns { (text : List ℕ) (patterns : List (List Piece)) → (patterns_of text ≡ Ok patterns) ↔ ArePatterns text patterns }
+{}
+
+/// A text is at most one word, has at most one word at its front, and is at most one here text, test and list of
+/// patterns.
+pub fn one_reading()
+    ensures word { (text : List ℕ) (a b : List Part) → IsWord text a → IsWord text b → a ≡ b }
+    ensures front { (text : List ℕ) (a b : List Part) (m n : ℕ) → IsWordFront text a m → IsWordFront text b n → (a ≡ b) × (m ≡ n) }
+    ensures here { (text : List ℕ) (a b : List Part) → IsHere text a → IsHere text b → a ≡ b }
+    ensures test { (text : List ℕ) (a b : Joined) → IsTest text a → IsTest text b → a ≡ b }
+    ensures patterns { (text : List ℕ) (a b : List (List Piece)) → ArePatterns text a → ArePatterns text b → a ≡ b }
+{}
+
+/// The fault of a reading is the one of its kind, at a place of the text or its end. A test has that of a word exactly
+/// where a word is refused.
+pub fn faults_are_placed()
+    ensures word { (text : List ℕ) (f : ShellFault) → word_of text ≡ Err f → (at : ℕ) × (f ≡ BadWord at) × (at ≤ length text) }
+    ensures front { (text : List ℕ) (f : ShellFault) → word_front_of text ≡ Err f → (at : ℕ) × (f ≡ BadWord at) × (at ≤ length text) }
+    ensures here { (text : List ℕ) (f : ShellFault) → here_of text ≡ Err f → (at : ℕ) × (f ≡ BadWord at) × (at ≤ length text) }
+    ensures test { (text : List ℕ) (f : ShellFault) → test_of text ≡ Err f → IsFaultOfTest text f }
+    ensures patterns { (text : List ℕ) (f : ShellFault) → patterns_of text ≡ Err f → (at : ℕ) × (f ≡ BadPattern at) × (at ≤ length text) }
+{}

@@ -1,0 +1,192 @@
+//! Tests: elements joined by `&&` and `||`.
+
+ghost use Rattle.std.specs.Prelude.{◌≡◌, ◌≢◌, ◌≤◌, ◌∷◌, [], ◌++◌, ℕ, List, None, Ok, take, length, IfOk, IfErr};
+ghost use Rattle.std.specs.List.{list_all};
+ghost use Rattle.shellword.specs.Faults.{IsTestFault};
+ghost use Rattle.shellword.specs.Gives.{Gives};
+ghost use Rattle.shellword.specs.Test.{is_newline, ended, joining, test_of, IsTest, IsFaultOfTest};
+ghost use Rattle.shellword.specs.Truth.{Joined, single, joined, nested, joint_truth, truth};
+ghost use Rattle.shellword.specs.declared.fault.ShellFault.TheVariants.{OutOfMemory};
+
+use crate::element::{Element, element_of};
+use crate::fault::ShellFault;
+use crate::token::{Joint, Token, read_tokens};
+use crate::word::Word;
+use deftable::Vars;
+use std::alloc::{AllocError, Global};
+use std::collections::VecDeque;
+use std::marker::Model;
+
+/// A test that was read: contracts see an element, or a test joined with one element more.
+#[derive(Debug, Drop)]
+pub struct Test {
+    first: Element,
+    /// Each further element, with the joint before it.
+    rest: Vec<(Joint, Element)>,
+}
+
+impl Model for Test {
+    ghost use Rattle.std.specs.Prelude.{List};
+    ghost use Rattle.std.specs.Coded.{code_by, coded×, coded_list};
+    ghost use Rattle.shellword.specs.declared.element.Element.{Element};
+    ghost use Rattle.shellword.specs.declared.token.Joint.{Joint};
+    ghost use Rattle.shellword.specs.contracts.element.Element as element;
+    ghost use Rattle.shellword.specs.contracts.token.Joint as joint;
+    ghost use Rattle.shellword.specs.Truth.{Joined, single, nested, flat, nested_pair, nested_pair-flat};
+
+    ghost Value = { Joined };
+
+    ghost coded = { code_by (Element × List (Joint × Element)) (coded× element.the_row.coded (coded_list (coded× joint.the_row.coded element.the_row.coded))) flat nested_pair nested_pair-flat };
+
+    ghost view = { λ t. nested (single t.first) t.rest.items };
+}
+
+fn joint_holds(left: bool, joint: Joint, right: bool) -> bool
+    ensures { result ≡ joint_truth left joint right }
+{
+    match joint {
+        Joint::And => left && right,
+        Joint::Or => left || right,
+    }
+}
+
+/// Whether the first element, joined with each of the rest from the left, holds.
+fn holds_all(
+    alloc: Global,
+    first: &Element,
+    rest: &[(Joint, Element)],
+    vars: &Vars,
+) -> Result<bool, AllocError>
+    ensures { IfOk result (λ b. b ≡ truth (nested (single first.now) rest.now) vars.now) }
+{
+    let mut holds = first.holds(alloc, vars)?;
+    for next in rest {
+        let right = next.1.holds(alloc, vars)?;
+        holds = joint_holds(holds, next.0, right);
+    }
+    Ok(holds)
+}
+
+impl Test {
+    fn single(alloc: Global, first: Element) -> Test
+        ensures { result ≡ single first }
+    {
+        Test {
+            first,
+            rest: Vec::new(alloc),
+        }
+    }
+
+    fn joined(mut self, joint: Joint, element: Element) -> Result<Test, ShellFault>
+        ensures ok { IfOk result (λ t. t ≡ joined self joint element) }
+        ensures err { IfErr result (λ e. e ≡ OutOfMemory) }
+    {
+        self.rest.push((joint, element))?;
+        Ok(self)
+    }
+
+    /// The first element, and each further one with the joint before it.
+    pub fn elements(&self) -> (&Element, &[(Joint, Element)])
+        ensures { self.now ≡ nested (single result.0.now) result.1.now }
+    {
+        (&self.first, self.rest.as_slice())
+    }
+
+    /// Whether the test holds of the variables: its joints are of equal rank, from the left.
+    pub fn holds(&self, alloc: Global, vars: &Vars) -> Result<bool, AllocError>
+        ensures { IfOk result (λ b. b ≡ truth self.now vars.now) }
+    {
+        holds_all(alloc, &self.first, &self.rest, vars)
+    }
+}
+
+/// The test up to the end of an element of these words, which begins at `at`.
+fn end_element(
+    alloc: Global,
+    before: Option<(Test, Joint)>,
+    words: VecDeque<Word>,
+    at: usize,
+) -> Result<Test, ShellFault>
+    ensures value { Gives (λ t. t) result (ended before words.items at) }
+    ensures fault { IfErr result (IsTestFault at) }
+{
+    let Some(element) = element_of(words) else {
+        return Err(ShellFault::BadTest(at));
+    };
+    match before {
+        None => Ok(Test::single(alloc, element)),
+        Some((test, joint)) => test.joined(joint, element),
+    }
+}
+
+fn are_newlines(mut tokens: VecDeque<Token>) -> bool
+    ensures { result ≡ list_all is_newline tokens.items }
+{
+    while let Some(token) = tokens.pop_front() {
+        match token {
+            Token::Newline => {}
+            _ => return false,
+        }
+    }
+    true
+}
+
+/// The test that the tokens of a text are.
+fn join_tokens(alloc: Global, mut tokens: VecDeque<Token>) -> Result<Test, ShellFault>
+    ensures value { Gives (λ t. t) result (joining None [] 0 tokens.items) }
+{
+    let mut before: Option<(Test, Joint)> = None;
+    let mut words = VecDeque::new(alloc);
+    let mut at = 0;
+    while let Some(token) = tokens.pop_front() {
+        match token {
+            Token::Word(word) => {
+                words.push_back(word)?;
+            }
+            Token::Join(joint, behind) => {
+                let test = end_element(alloc, before, words, at)?;
+                before = Some((test, joint));
+                words = VecDeque::new(alloc);
+                at = behind;
+            }
+            Token::Bar(_) => return Err(ShellFault::BadTest(at)),
+            Token::Newline if words.is_empty() => {}
+            Token::Newline => {
+                if are_newlines(tokens) {
+                    return end_element(alloc, before, words, at);
+                }
+                return Err(ShellFault::BadTest(at));
+            }
+        }
+    }
+    end_element(alloc, before, words, at)
+}
+
+#[tactic(auto, unfolding(crate::specs::Test::test_of))]
+fn read_whole(alloc: Global, text: &[u8]) -> Result<Test, ShellFault>
+    ensures exact { Gives (λ t. t) result (test_of text.now) }
+    ensures fault { IfErr result (IsFaultOfTest text.now) }
+{
+    let tokens = read_tokens(alloc, text, false)?;
+    join_tokens(alloc, tokens)
+}
+
+/// Reads a test: elements joined by `&&` and `||`, of equal rank from the left, with newlines at both ends and
+/// behind a joint. An element is `:`, `true`, `false`, `test` with one to four words, or `!` before an element
+/// (POSIX shell, 2.9.3, and `test` by the number of its words).
+///
+/// A text with a word that `read_word` would refuse is `BadWord` at the byte at fault, also where `;`, or one `&`
+/// or `|` alone, stands outside quotes; any other text that is no test is `BadTest`, at the start of the element
+/// at fault, behind the joint before it.
+pub fn read_test(alloc: Global, text: &[u8]) -> Result<Test, ShellFault>
+    // The reading, as a function of the text.
+    ensures exact { Gives (λ t. t) result (test_of text.now) }
+    // What is read is there.
+    ensures found { IfOk result (IsTest text.now) }
+    // A test is read, unless memory runs out.
+    ensures only { (test : Joined) → IsTest text.now test → Gives (λ t. t) result (Ok test) }
+    // Which of the two faults is answered, and where.
+    ensures fault { IfErr result (IsFaultOfTest text.now) }
+{
+    read_whole(alloc, text)
+}

@@ -1,0 +1,161 @@
+//! Shell words.
+
+ghost use Rattle.std.specs.Prelude.{◌≡◌, ◌+◌, ◌++◌, ◌≤◌, ◌≢◌, ℕ, List, Ok, drop, length, IfOk, IfErr, IsTrue};
+ghost use Rattle.std.specs.List.{list_all};
+ghost use Rattle.shellword.specs.Element.{part_is, word_is};
+ghost use Rattle.shellword.specs.Faults.{IsWordFault};
+ghost use Rattle.shellword.specs.Gives.{Gives};
+ghost use Rattle.shellword.specs.Text.{is_blank, is_parted};
+ghost use Rattle.shellword.specs.Scan.{scan, word_of, word_front_of};
+ghost use Rattle.shellword.specs.Value.{word_value};
+ghost use Rattle.shellword.specs.Word.{IsWord, IsWordFront};
+ghost use Rattle.shellword.specs.declared.part.Part.{Part};
+ghost use Rattle.shellword.specs.declared.fault.ShellFault.TheVariants.{OutOfMemory};
+
+use crate::fault::ShellFault;
+use crate::front::Context;
+use crate::part::Part;
+use crate::run::{is_blank, read_run};
+use crate::value::value_of_parts;
+use deftable::{Bytes, Vars};
+use std::alloc::{AllocError, Global};
+use std::marker::Model;
+
+/// A shell word that was read: contracts see the list of its parts.
+#[derive(Debug, Drop)]
+pub struct Word {
+    parts: Vec<Part>,
+}
+
+impl Model for Word {
+    ghost use Rattle.std.specs.Prelude.{List};
+    ghost use Rattle.shellword.specs.declared.part.Part.{Part};
+
+    ghost Value = { List Part };
+
+    ghost view = { λ w. w.parts.items };
+}
+
+fn are_blanks(text: &[u8]) -> bool
+    ensures { result ≡ list_all is_blank text.now }
+{
+    text.iter().all(|b| is_blank(*b))
+}
+
+/// Whether bare text is parted before `rest`.
+fn is_parted(rest: &[u8]) -> bool
+    ensures { result ≡ is_parted rest.now }
+{
+    match rest.split_first() {
+        Some((byte, _)) => is_blank(*byte) || *byte == b';',
+        None => true,
+    }
+}
+
+fn is_byte(part: &Part, byte: u8) -> bool
+    ensures { result ≡ part_is part.now byte }
+{
+    match part {
+        Part::Plain(b) | Part::Quoted(b) => *b == byte,
+        Part::Variable(_) => false,
+    }
+}
+
+fn are_bytes(parts: &[Part], text: &[u8]) -> bool
+    ensures { result ≡ word_is parts.now text.now }
+{
+    if parts.len() != text.len() {
+        return false;
+    }
+    for (i, part) in parts.iter().enumerate() {
+        if !is_byte(part, text[i]) {
+            return false;
+        }
+    }
+    true
+}
+
+#[tactic(auto, unfolding(crate::specs::Scan::word_of))]
+fn read_whole(alloc: Global, text: &[u8]) -> Result<Word, ShellFault>
+    ensures exact { Gives (λ w. w) result (word_of text.now) }
+    ensures fault { IfErr result (IsWordFault (length text.now)) }
+{
+    let (parts, end) = read_run(alloc, text, 0, Context::Bare)?;
+    if are_blanks(&text[end..]) {
+        Ok(Word { parts })
+    } else {
+        Err(ShellFault::BadWord(end))
+    }
+}
+
+#[tactic(auto, unfolding(crate::specs::Scan::word_front_of))]
+fn read_front_word(alloc: Global, text: &[u8]) -> Result<(Word, usize), ShellFault>
+    ensures exact { Gives (λ r. (r.0, r.1)) result (word_front_of text.now) }
+    ensures fault { IfErr result (IsWordFault (length text.now)) }
+    ensures within { IfOk result (λ r. r.1 ≤ length text.now) }
+{
+    let (parts, end) = read_run(alloc, text, 0, Context::Bare)?;
+    if is_parted(&text[end..]) {
+        Ok((Word { parts }, end))
+    } else {
+        Err(ShellFault::BadWord(end))
+    }
+}
+
+/// Reads a text that is one word (POSIX shell, 2.2 and 2.3), with any blanks behind it.
+///
+/// The text is refused, at the byte at fault, where it holds outside quotes a blank before its end or one of
+/// `;`, `&`, `|`, `<`, `>`, `(` and `)`; a backquote; a `$` that begins anything but `$name` or `${name}` where a
+/// shell would expand it; or a quote that isn't closed, which is at fault at the text's end.
+pub fn read_word(alloc: Global, text: &[u8]) -> Result<Word, ShellFault>
+    // The reading, as a function of the text.
+    ensures exact { Gives (λ w. w) result (word_of text.now) }
+    // What is read is there.
+    ensures found { IfOk result (IsWord text.now) }
+    // A word is read, unless memory runs out.
+    ensures only { (parts : List Part) → IsWord text.now parts → Gives (λ w. w) result (Ok parts) }
+    ensures fault { IfErr result (IsWordFault (length text.now)) }
+{
+    read_whole(alloc, text)
+}
+
+/// Reads the word at the front of bare text, and answers its length too. The word ends at the text's end or before
+/// the first blank or `;` outside quotes; it may be empty. The texts that are refused are those of `read_word`.
+pub fn read_word_front(alloc: Global, text: &[u8]) -> Result<(Word, usize), ShellFault>
+    ensures exact { Gives (λ r. (r.0, r.1)) result (word_front_of text.now) }
+    ensures found { IfOk result (λ r. IsWordFront text.now r.0 r.1) }
+    ensures only { (parts : List Part) (n : ℕ) → IsWordFront text.now parts n → Gives {Y = List Part × ℕ} (λ r. (r.0, r.1)) result (Ok (parts, n)) }
+    ensures within { IfOk result (λ r. r.1 ≤ length text.now) }
+    ensures fault { IfErr result (IsWordFault (length text.now)) }
+{
+    read_front_word(alloc, text)
+}
+
+impl Word {
+    pub(crate) fn from_parts(parts: Vec<Part>) -> Word
+        ensures { result ≡ parts.items }
+    {
+        Word { parts }
+    }
+
+    /// The parts of the word, in order.
+    pub fn parts(&self) -> &[Part]
+        ensures { result.now ≡ self.now }
+    {
+        self.parts.as_slice()
+    }
+
+    /// Whether the word is constant, and is this text.
+    pub(crate) fn is(&self, text: &[u8]) -> bool
+        ensures { result ≡ word_is self.now text.now }
+    {
+        are_bytes(&self.parts, text)
+    }
+
+    /// The word with the values of its variables. An unset variable is empty, and a value is never read again or split.
+    pub fn value(&self, alloc: Global, vars: &Vars) -> Result<Bytes, AllocError>
+        ensures { IfOk result (λ v. v ≡ word_value self.now vars.now) }
+    {
+        value_of_parts(alloc, &self.parts, vars)
+    }
+}
