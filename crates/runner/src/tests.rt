@@ -1,5 +1,7 @@
 //! Worked examples, each answer found by hand from the rules.
 
+ghost use Rattle.std.specs.Io.{WritesAtMost};
+
 use super::*;
 use acargs::ParseFault;
 use acparse::parse;
@@ -232,7 +234,9 @@ struct Process {
     argument: Option<&'static [u8]>,
 }
 
-fn put(text: &[u8], buf: &mut [u8]) -> Result<usize, FillError> {
+fn put(text: &[u8], buf: &mut [u8]) -> Result<usize, FillError>
+    ensures { WritesAtMost result buf.new }
+{
     if text.len() > buf.len() {
         return Err(FillError::TooLong);
     }
