@@ -3,6 +3,8 @@ use Rattle.std.proofs.Common.{◌≡◌, ◌≢◌, ℕ, List, Option, Some, Non
 use Rattle.std.specs.Prelude.{IfErr, IfSome, IsErrAnd}
 use Rattle.acargs.specs.declared.fault.ParseFault.{ParseFault}
 use Rattle.acargs.specs.declared.fault.ParseFault.TheVariants as parse_faults
+use Rattle.acargs.specs.Reading.{Fails}
+use Rattle.acparse.specs.Profile.{source_of}
 use Rattle.acparse.specs.Script.{Script}
 use Rattle.acparse.specs.Source.{IsSource, IsSourceFault}
 use Rattle.runner.specs.declared.fault.Fault.TheVariants.{Parse}
@@ -19,13 +21,17 @@ is_memory : (f : ParseFault) → (f ≡ parse_faults.OutOfMemory) ⊎ (f ≢ par
 is_memory parse_faults.OutOfMemory = inl refl
 is_memory f = inr (λ e. cc)
 
-pub parse_refused : {A : Type 0} (input source template : List ℕ) (f : ParseFault) (r : Result A FilterFault) → IsParted input source template → (f ≢ parse_faults.OutOfMemory → IsSourceFault source f)
+named : {A : Type 0} (f : ParseFault) (r : Result A ParseFault) → f ≢ parse_faults.OutOfMemory → Fails f r → r ≡ Err f
+named parse_faults.OutOfMemory r other h = absurd (other refl)
+named f r other h = h
+
+pub parse_refused : {A : Type 0} (input source template : List ℕ) (f : ParseFault) (r : Result A FilterFault) → IsParted input source template → Fails f (source_of source) → (f ≢ parse_faults.OutOfMemory → IsSourceFault source f)
     → IsErrAnd r (λ e. (f ≡ parse_faults.OutOfMemory → e ≡ OutOfMemory) × (f ≢ parse_faults.OutOfMemory → e ≡ Run (Parse f))) → IfErr r (IsRefused input)
-parse_refused input source template f (Ok x) parted bad h = absurd h
-parse_refused input source template f (Err e) parted bad h =
+parse_refused input source template f (Ok x) parted exact bad h = absurd h
+parse_refused input source template f (Err e) parted exact bad h =
     elim (is_memory f) [
       | inl is ↦ subst (IsRefused input) (sym (h.0 is)) memory
-      | inr other ↦ subst (IsRefused input) (sym (h.1 other)) (parse parted other (bad other))
+      | inr other ↦ subst (IsRefused input) (sym (h.1 other)) (parse parted other (named f (source_of source) other exact) (bad other))
     ]
 
 template_fault : (input source template : List ℕ) (s : Script) (e : FilterFault) → IsParted input source template → IsSource source s → IsTemplateFault s e → IsRefused input e

@@ -1,7 +1,8 @@
 -- What the filter answers to its input.
-use Rattle.std.specs.Prelude.{◌≡◌, ◌≢◌, ℕ, List}
+use Rattle.std.specs.Prelude.{◌≡◌, ◌≢◌, ℕ, List, Err}
 use Rattle.acargs.specs.declared.fault.ParseFault as parse_fault
 use Rattle.acargs.specs.declared.fault.ParseFault.TheVariants as parse_faults
+use Rattle.acparse.specs.Profile.{source_of}
 use Rattle.acparse.specs.Script.{Script}
 use Rattle.acparse.specs.Source.{IsSource, IsSourceFault}
 use Rattle.runner.specs.declared.fault.Fault.{Fault}
@@ -20,10 +21,10 @@ pub record IsFiltered (input out : List ℕ) : Type 0 where
   pub is_source : IsSource source statements
   pub written : IsFirstFile statements template out
 
--- The input has no marker; or its source is at fault; or the source is right, and a template is not there.
+-- The input has no marker; or its source is at fault, and this is the fault that is named; or the source is right, and a template is not there.
 pub data IsRefused (input : List ℕ) : FilterFault → Type 0 where
   usage : HasNoMarker input → IsRefused input Usage
-  parse : {source template : List ℕ} {f : parse_fault.ParseFault} → IsParted input source template → f ≢ parse_faults.OutOfMemory → IsSourceFault source f → IsRefused input (Run (Parse f))
+  parse : {source template : List ℕ} {f : parse_fault.ParseFault} → IsParted input source template → f ≢ parse_faults.OutOfMemory → source_of source ≡ Err f → IsSourceFault source f → IsRefused input (Run (Parse f))
   no_template : {source template name : List ℕ} {s : Script} → IsParted input source template → IsSource source s → IsMissing s name → IsRefused input (Run (NoTemplate name))
   -- what has nothing to do with the input
   read : IsRefused input Read

@@ -1,5 +1,9 @@
 //! What the program does with its arguments and its standard streams.
 
+ghost use Rattle.std.specs.Prelude.{◌≡◌, ◌⊎◌, ℕ, List, IfSome};
+ghost use Rattle.std.specs.Io.KnownBytes.{Appends};
+ghost use Rattle.runner.specs.Filtered.{IsFiltered};
+
 use crate::fault::{Fault, FilterFault};
 use crate::filtering::{Filtered, filter};
 use std::alloc::Global;
@@ -19,7 +23,16 @@ fn fault_line<W: Write>(errors: &mut W, fault: &FilterFault) -> io::Result<()> {
     errors.write_all(b"\n")
 }
 
-/// Answers the exit status. Without arguments it filters its input; there is no other command.
+/// Tells a fault on standard error, and answers the exit status.
+fn tell<W: Write>(errors: &mut W, fault: &FilterFault) -> u8
+    ensures { result ≡ 2 }
+{
+    let _ = fault_line(errors, fault);
+    FAULT
+}
+
+/// Answers the exit status: 0, or 2 where something is at fault. Without arguments it filters its input; there is no
+/// other command.
 ///
 /// Faults are told on standard error, one line each. Where that can't be written the status alone tells them.
 pub fn run<V: Env, R: Read, W: Write, E: Write>(
@@ -28,25 +41,27 @@ pub fn run<V: Env, R: Read, W: Write, E: Write>(
     input: &mut R,
     output: &mut W,
     errors: &mut E,
-) -> u8 {
-    let fault = if is_alone(env) {
-        match filter(alloc, input, output) {
-            Ok(
-                Filtered {
-                    status,
-                    errors: said,
-                },
-            ) => {
-                let _ = errors.write_all(said.as_slice());
-                return status;
-            }
-            Err(fault) => fault,
+) -> u8
+    ensures status { (result ≡ 0) ⊎ (result ≡ 2) }
+    // With status 0 the first file's text is written, made by the source's meaning.
+    ensures written { result ≡ 0 → IfSome (R.remaining input.old)
+        (λ text. (out : List ℕ) × IsFiltered text out × Appends (W.contents output.old) (W.contents output.new) out) }
+{
+    if !is_alone(env) {
+        return tell(errors, &FilterFault::Usage);
+    }
+    match filter(alloc, input, output) {
+        Ok(
+            Filtered {
+                status,
+                errors: said,
+            },
+        ) => {
+            let _ = errors.write_all(said.as_slice());
+            status
         }
-    } else {
-        FilterFault::Usage
-    };
-    let _ = fault_line(errors, &fault);
-    FAULT
+        Err(fault) => tell(errors, &fault),
+    }
 }
 
 /// Whether the program was given no argument.

@@ -100,6 +100,8 @@ pub fn filter<R: Read, W: Write>(
     ensures written { IfOk result (λ _. IfSome (R.remaining reader.old)
         (λ input. (out : List ℕ) × IsFiltered input out × Appends (W.contents writer.old) (W.contents writer.new) out)) }
     ensures status { IfOk result (λ f. (f.status ≡ 0) × (f.errors.items ≡ [])) }
+    // A refusal but that of the writer leaves it as it was.
+    ensures untouched { IfErr result (λ e. e ≢ FilterFault.Write → writer.new ≡ writer.old) }
     // A refusal that is no matter of reading, writing and memory is the input's.
     ensures refused { IfErr result (λ e. IfSome (R.remaining reader.old) (λ input. IsRefused input e)) }
 {

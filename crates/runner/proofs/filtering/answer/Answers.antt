@@ -11,7 +11,7 @@ pub returns-in_err-source-clause-refused : goal.returns-in_err-source-clause-ref
 returns-in_err-source-clause-refused c =
     let input = c.args.input.now in
     let at = c.in-Some.at in
-    parse_refused input (take at input) (drop (at + 3) input) c.in_err-source.field-0.0 c.from_residual.result c.in-Some.ensures.some c.in_err-source.ensures.fault c.from_residual.ensures.1
+    parse_refused input (take at input) (drop (at + 3) input) c.in_err-source.field-0.0 c.from_residual.result c.in-Some.ensures.some c.in_err-source.ensures.exact c.in_err-source.ensures.fault c.from_residual.ensures.1
 
 pub returns-clause-refused : goal.returns-clause-refused
 returns-clause-refused c =
