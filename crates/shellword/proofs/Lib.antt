@@ -1,11 +1,12 @@
+pub mod AnyPattern
 pub mod Elements
 pub mod Fronts
 pub mod Joining
 pub mod Laws
 pub mod Matcher
 pub mod Outcome
+pub mod PatternLists
 pub mod PatternReading
-pub mod Patterns
 pub mod Runs
 pub mod TestFaults
 pub mod TestReading

@@ -1,5 +1,6 @@
 -- Which texts a pattern matches.
 use Rattle.std.specs.Prelude.{ℕ, Bool, true, false, ◌&&◌, ◌||◌, List, [], ◌∷◌, ◌++◌, ◌==◌, if◌then◌else◌}
+use Rattle.std.specs.List.{list_any}
 use Rattle.shellword.specs.declared.pattern.Piece.{Piece}
 use Rattle.shellword.specs.declared.pattern.Piece.TheVariants.{AnyBytes, OneByte, Byte}
 use Rattle.shellword.specs.declared.matching.Step.{Step}
@@ -12,6 +13,11 @@ pub data Matches : List Piece → List ℕ → Type 0 where
   any_bytes : {pieces : List Piece} {rest : List ℕ} (front : List ℕ) → Matches pieces rest → Matches (AnyBytes ∷ pieces) (front ++ rest)
   one_byte : {pieces : List Piece} {rest : List ℕ} (b : ℕ) → Matches pieces rest → Matches (OneByte ∷ pieces) (b ∷ rest)
   byte : {pieces : List Piece} {rest : List ℕ} (b : ℕ) → Matches pieces rest → Matches (Byte b ∷ pieces) (b ∷ rest)
+
+-- The text matches one of the patterns.
+pub data MatchesAny : List (List Piece) → List ℕ → Type 0 where
+  this : {pattern : List Piece} {others : List (List Piece)} {text : List ℕ} → Matches pattern text → MatchesAny (pattern ∷ others) text
+  another : {pattern : List Piece} {others : List (List Piece)} {text : List ℕ} → MatchesAny others text → MatchesAny (pattern ∷ others) text
 
 -- ---- the same as a function
 
@@ -28,6 +34,10 @@ matching (OneByte ∷ pieces) [] = false
 matching (OneByte ∷ pieces) (b ∷ bs) = matching pieces bs
 matching (Byte c ∷ pieces) [] = false
 matching (Byte c ∷ pieces) (b ∷ bs) = (b == c) && matching pieces bs
+
+-- whether one of the patterns matches the text
+abbrev pub matches_any : List (List Piece) → List ℕ → Bool
+matches_any patterns text = list_any (λ pattern. matching pattern text) patterns
 
 -- what the matcher does before these pieces and this text
 abbrev pub step_of : List Piece → List ℕ → Step

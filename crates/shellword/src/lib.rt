@@ -13,7 +13,7 @@
 //!
 //! Read `part`, then `front` (what one byte or a few of them mean, by where they stand), `run` (one word or here text),
 //! `word` and `here`; then `token` (a text cut into words, joints, bars and newlines), `element` and `test`; then
-//! `pattern` and `matching`. Beside them stand the definitions: `specs/Word` (the grammar of words and here texts),
+//! `pattern`, `matching` and `alternatives`. Beside them stand the definitions: `specs/Word` (the grammar of words and here texts),
 //! `specs/Tokens`, `specs/Element`, `specs/Test` and `specs/Pattern`; `specs/Value`, `specs/Truth` and
 //! `specs/Matching` say what is meant by what was read. `readings` has the laws that tie the grammars to the readings
 //! as functions (`word_of`, `word_front_of`, `here_of`, `test_of`, `patterns_of`).
@@ -23,6 +23,7 @@
 //! A value is never split into fields, read again or expanded to file names.
 #![tactic(auto)]
 
+mod alternatives;
 mod element;
 mod fault;
 mod front;
@@ -37,6 +38,7 @@ mod token;
 mod value;
 mod word;
 
+pub use alternatives::Patterns;
 pub use element::{Condition, Element};
 pub use fault::ShellFault;
 pub use here::{HereText, read_here};

@@ -50,6 +50,13 @@ impl Pattern {
     {
         match_pieces(&self.pieces, text)
     }
+
+    /// What the parts of a matched text may be, in order.
+    pub fn pieces(&self) -> &[Piece]
+        ensures { result.now ≡ self.now }
+    {
+        self.pieces.as_slice()
+    }
 }
 
 fn piece_of(part: &Part) -> Option<Piece>

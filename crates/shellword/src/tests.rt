@@ -296,3 +296,27 @@ fn patterns(rt: HostRuntime) -> Result<(), Fail> {
     }
     Ok(())
 }
+
+#[test]
+fn word_without_parts(rt: HostRuntime) -> Result<(), Fail> {
+    let word = Word::empty(rt.alloc());
+    assert_eq!(rt; word.parts().len(), 0);
+    let value = word.value(rt.alloc(), &Vars::new(rt.alloc()))?;
+    assert!(rt; value.is_empty());
+    Ok(())
+}
+
+#[test]
+fn lists_of_patterns(rt: HostRuntime) -> Result<(), Fail> {
+    let patterns = Patterns::from_vec(read_patterns(rt.alloc(), b"a* | ?c")?);
+    assert_eq!(rt; patterns.len(), 2);
+    assert_eq!(rt; patterns.as_slice().len(), 2);
+    assert!(rt; !patterns.is_empty());
+    assert!(rt; patterns.matches(b"ab"));
+    assert!(rt; patterns.matches(b"bc"));
+    assert!(rt; !patterns.matches(b"bd"));
+    let none = Patterns::from_vec(Vec::new(rt.alloc()));
+    assert!(rt; none.is_empty());
+    assert!(rt; !none.matches(b""));
+    Ok(())
+}

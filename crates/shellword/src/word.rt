@@ -1,6 +1,6 @@
 //! Shell words.
 
-ghost use Rattle.std.specs.Prelude.{◌≡◌, ◌+◌, ◌++◌, ◌≤◌, ◌≢◌, ℕ, List, Ok, drop, length, IfOk, IfErr, IsTrue};
+ghost use Rattle.std.specs.Prelude.{◌≡◌, ◌+◌, ◌++◌, ◌≤◌, ◌≢◌, ℕ, List, [], Ok, drop, length, IfOk, IfErr, IsTrue};
 ghost use Rattle.std.specs.List.{list_all};
 ghost use Rattle.shellword.specs.Element.{part_is, word_is};
 ghost use Rattle.shellword.specs.Faults.{IsWordFault};
@@ -132,6 +132,15 @@ pub fn read_word_front(alloc: Global, text: &[u8]) -> Result<(Word, usize), Shel
 }
 
 impl Word {
+    /// The word without any part, whose value is empty. It takes no memory.
+    pub fn empty(alloc: Global) -> Word
+        ensures { result ≡ [] }
+    {
+        Word {
+            parts: Vec::new(alloc),
+        }
+    }
+
     pub(crate) fn from_parts(parts: Vec<Part>) -> Word
         ensures { result ≡ parts.items }
     {

@@ -3,7 +3,7 @@ use Rattle.std.proofs.lemmas.Result.{err_from_is_err_and}
 use Rattle.shellword.specs.Pattern.{pieces_or, pieces_of}
 use Rattle.shellword.proofs.Elements.{none_left}
 use Rattle.shellword.proofs.Outcome.{fails_along}
-use Rattle.shellword.proofs.Patterns.{on_nothing, on_no_word, on_failed, on_last, on_no_bar, on_bar}
+use Rattle.shellword.proofs.PatternLists.{on_nothing, on_no_word, on_failed, on_last, on_no_bar, on_bar}
 use Rattle.shellword.proofs.pattern.alternatives_of.Goals as goal
 
 pub returns-in_default : goal.returns-in_default

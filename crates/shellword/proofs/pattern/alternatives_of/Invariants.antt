@@ -1,6 +1,6 @@
 use Rattle.std.proofs.Common.{◌≡◌, length}
 use Rattle.shellword.specs.Pattern.{alternatives}
-use Rattle.shellword.proofs.Patterns.{with_patterns}
+use Rattle.shellword.proofs.PatternLists.{with_patterns}
 use Rattle.shellword.proofs.pattern.alternatives_of.Given as goal
 
 abbrev pub invariant-alternatives : goal.invariant-alternatives

@@ -1,6 +1,6 @@
 use Rattle.std.proofs.Common.{◌≡◌, drop}
 use Rattle.shellword.specs.Pattern.{pieces_of}
-use Rattle.shellword.proofs.Patterns.{with_front}
+use Rattle.shellword.proofs.PatternLists.{with_front}
 use Rattle.shellword.proofs.pattern.pattern_of.Given as goal
 
 abbrev pub invariant-loop-part : goal.invariant-loop-part

@@ -1,0 +1,7 @@
+pub mod FaultPlaces
+pub mod Fronts
+pub mod Joining
+pub mod Laws
+pub mod Outcome
+pub mod Refusals
+pub mod Scans

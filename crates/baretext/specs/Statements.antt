@@ -1,0 +1,65 @@
+-- Which assignments bare text makes.
+use Rattle.std.specs.Prelude.{◌≡◌, ℕ, ◌+◌, Bool, true, false, not, List, [], ◌∷◌, ◌++◌, ◌==◌, length, drop, Option, Some, None, option_to_list}
+use Rattle.std.specs.List.{prefix_len}
+use Rattle.deftable.specs.ShellName.{IsShellName}
+use Rattle.shellword.specs.declared.part.Part.{Part}
+use Rattle.shellword.specs.Text.{newline, semicolon, is_space, is_parted}
+use Rattle.shellword.specs.Word.{IsWordFront}
+use Rattle.baretext.specs.declared.assignments.Assignment.{Assignment}
+use Rattle.baretext.specs.declared.continuation.Place.TheVariants.{Start}
+use Rattle.baretext.specs.declared.item.Item.{Item}
+use Rattle.baretext.specs.declared.item.Stage.{Stage}
+use Rattle.baretext.specs.declared.item.Stage.TheVariants.{Opening, Assigned, Closed}
+use Rattle.baretext.specs.Continuation.{hash, IsJoined}
+
+abbrev pub colon : ℕ
+colon = 58
+
+abbrev pub equals : ℕ
+equals = 61
+
+-- how many bytes stand before the end of the line
+abbrev pub comment_len : List ℕ → ℕ
+comment_len text = prefix_len (λ b. not (b == newline)) text
+
+-- Behind a lone colon no assignment begins.
+abbrev pub takes_assignments : Stage → Bool
+takes_assignments Closed = false
+takes_assignments stage = true
+
+abbrev pub assigns : List ℕ → List Part → Assignment
+assigns name value = record { name = name; value = value }
+
+abbrev pub item : Option Assignment → ℕ → Stage → Item
+item assignment len stage = record { assignment = assignment; len = len; stage = stage }
+
+abbrev pub nothing : ℕ → Stage → Item
+nothing len stage = item None len stage
+
+-- A text without line continuations, of which a statement is read so far, begins with this: an assignment or none, of
+-- this length, and how far the statement is read behind it.
+pub data IsItem : Stage → List ℕ → Item → Type 0 where
+  -- a space or tab
+  space : {stage : Stage} {b : ℕ} {rest : List ℕ} → is_space b ≡ true → IsItem stage (b ∷ rest) (nothing 1 stage)
+  -- the end of a statement
+  line_end : {stage : Stage} {rest : List ℕ} → IsItem stage (newline ∷ rest) (nothing 1 Opening)
+  parted : {stage : Stage} {rest : List ℕ} → IsItem stage (semicolon ∷ rest) (nothing 1 Opening)
+  -- a comment, up to the end of its line
+  comment : {stage : Stage} {rest : List ℕ} → IsItem stage (hash ∷ rest) (nothing (comment_len rest + 1) stage)
+  -- a colon alone
+  lone_colon : {rest : List ℕ} → is_parted rest ≡ true → IsItem Opening (colon ∷ rest) (nothing 1 Closed)
+  -- `NAME=WORD`
+  assignment : {stage : Stage} {name rest : List ℕ} {parts : List Part} {n : ℕ} → takes_assignments stage ≡ true → IsShellName name → IsWordFront rest parts n
+      → IsItem stage (name ++ equals ∷ rest) (item (Some (assigns name parts)) (length name + 1 + n) Assigned)
+
+-- A text without line continuations, of which a statement is read so far, makes these assignments.
+pub data AreStatements : Stage → List ℕ → List Assignment → Type 0 where
+  no_more : {stage : Stage} → AreStatements stage [] []
+  more : {stage : Stage} {text : List ℕ} {i : Item} {list : List Assignment} → IsItem stage text i → AreStatements i.stage (drop i.len text) list
+      → AreStatements stage text (option_to_list i.assignment ++ list)
+
+-- Bare text makes these assignments.
+pub record IsBareText (text : List ℕ) (list : List Assignment) : Type 0 where
+  pub lines : List ℕ
+  pub joined : IsJoined Start text lines
+  pub statements : AreStatements Opening lines list

@@ -1,0 +1,155 @@
+//! Line continuations, which vanish before statements are read.
+
+ghost use Rattle.std.specs.Prelude.{◌≡◌, ◌++◌, ◌≤◌, length, IfOk, OnOk};
+ghost use Rattle.baretext.specs.Continuation as specs;
+
+use std::alloc::{AllocError, Global};
+
+/// Where a byte of bare text stands.
+#[derive(Clone, Copy)]
+pub(crate) enum Place {
+    /// At the start of a shell word, outside quotes.
+    Start,
+    /// Within a shell word, outside quotes.
+    Word,
+    /// In single quotes.
+    Single,
+    /// In double quotes.
+    Double,
+    /// In a comment.
+    Comment,
+}
+
+/// Where a byte stands, and whether a backslash is before it that quotes it and was not written yet.
+#[derive(Clone, Copy)]
+pub(crate) struct State {
+    pub(crate) place: Place,
+    pub(crate) escaped: bool,
+}
+
+/// Whether a blank or `;` parts bare text here, outside quotes.
+fn is_part_end(byte: u8) -> bool
+    ensures { result ≡ specs.is_part_end byte }
+{
+    byte == b' ' || byte == b'\t' || byte == b'\n' || byte == b';'
+}
+
+/// Whether a backslash at this place quotes the byte behind it.
+fn escapes(place: Place) -> bool
+    ensures { result ≡ specs.escapes place }
+{
+    match place {
+        Place::Start | Place::Word | Place::Double => true,
+        Place::Single | Place::Comment => false,
+    }
+}
+
+/// Where the next byte stands behind one outside quotes.
+fn behind_bare(byte: u8) -> Place
+    ensures { result ≡ specs.behind_bare byte }
+{
+    if is_part_end(byte) {
+        Place::Start
+    } else if byte == b'\'' {
+        Place::Single
+    } else if byte == b'"' {
+        Place::Double
+    } else {
+        Place::Word
+    }
+}
+
+/// Where the next byte stands behind one that is not quoted by a backslash.
+fn behind(place: Place, byte: u8) -> Place
+    ensures { result ≡ specs.behind place byte }
+{
+    match place {
+        Place::Start if byte == b'#' => Place::Comment,
+        Place::Start | Place::Word => behind_bare(byte),
+        Place::Single if byte == b'\'' => Place::Word,
+        Place::Double if byte == b'"' => Place::Word,
+        Place::Comment if byte == b'\n' => Place::Start,
+        place => place,
+    }
+}
+
+/// Where the next byte stands behind one that a backslash quotes.
+fn behind_quoted(place: Place) -> Place
+    ensures { result ≡ specs.behind_quoted place }
+{
+    match place {
+        Place::Start => Place::Word,
+        place => place,
+    }
+}
+
+/// The state behind a byte.
+fn next(state: State, byte: u8) -> State
+    ensures { result ≡ specs.next state byte }
+{
+    let place = state.place;
+    if state.escaped {
+        let place = if byte == b'\n' {
+            place
+        } else {
+            behind_quoted(place)
+        };
+        State {
+            place,
+            escaped: false,
+        }
+    } else if byte == b'\\' && escapes(place) {
+        State {
+            place,
+            escaped: true,
+        }
+    } else {
+        State {
+            place: behind(place, byte),
+            escaped: false,
+        }
+    }
+}
+
+/// Writes what a byte leaves.
+fn push_byte(out: &mut Vec<u8>, state: State, byte: u8) -> Result<(), AllocError>
+    ensures { OnOk result (out.new.items ≡ out.old.items ++ specs.written state byte) }
+{
+    if state.escaped {
+        if byte != b'\n' {
+            out.push(b'\\')?;
+            out.push(byte)?;
+        }
+    } else if !(byte == b'\\' && escapes(state.place)) {
+        out.push(byte)?;
+    }
+    Ok(())
+}
+
+/// Writes what the end of the text leaves: a last backslash that quotes nothing.
+fn push_end(out: &mut Vec<u8>, state: State) -> Result<(), AllocError>
+    ensures { OnOk result (out.new.items ≡ out.old.items ++ specs.left state) }
+{
+    if state.escaped {
+        out.push(b'\\')?;
+    }
+    Ok(())
+}
+
+/// The text without its line continuations.
+pub(crate) fn join_lines(alloc: Global, text: &[u8]) -> Result<Vec<u8>, AllocError>
+    ensures value { IfOk result (λ v. v.items ≡ specs.joined text.now) }
+    ensures within { IfOk result (λ v. length v.items ≤ length text.now) }
+{
+    let mut out = Vec::new(alloc);
+    let mut state = State {
+        place: Place::Start,
+        escaped: false,
+    };
+    for byte in text {
+        push_byte(&mut out, state, *byte)?;
+        state = next(state, *byte);
+    }
+    push_end(&mut out, state)?;
+    Ok(out)
+}

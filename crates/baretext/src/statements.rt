@@ -1,0 +1,79 @@
+//! Statements.
+
+ghost use Rattle.std.specs.Prelude.{◌≡◌, ◌++◌, ◌≤◌, List, Ok, length, IfOk, IfErr, OnOk, option_to_list};
+ghost use Rattle.baretext.specs.Faults.{IsBareFault};
+ghost use Rattle.baretext.specs.Gives.{Gives};
+ghost use Rattle.baretext.specs.Reading.{statements_from, statements_of};
+ghost use Rattle.baretext.specs.Refused.{IsRefused};
+ghost use Rattle.baretext.specs.Statements.{IsBareText};
+ghost use Rattle.baretext.specs.declared.assignments.Assignment.{Assignment};
+ghost use Rattle.baretext.specs.declared.fault.BareFault.TheVariants.{OutOfMemory};
+ghost use Rattle.baretext.specs.declared.item.Stage.TheVariants.{Opening};
+
+use crate::assignments::{Assignment, Assignments};
+use crate::continuation::join_lines;
+use crate::fault::BareFault;
+use crate::item::{Stage, read_item};
+use std::alloc::Global;
+
+fn push_assignment(
+    list: &mut Vec<Assignment>,
+    assignment: Option<Assignment>,
+) -> Result<(), BareFault>
+    ensures ok { OnOk result (list.new.items ≡ list.old.items ++ option_to_list assignment) }
+    ensures err { IfErr result (λ e. e ≡ OutOfMemory) }
+{
+    if let Some(assignment) = assignment {
+        list.push(assignment)?;
+    }
+    Ok(())
+}
+
+/// The assignments of a text without line continuations.
+fn read_joined(alloc: Global, text: &[u8]) -> Result<Assignments, BareFault>
+    ensures value { Gives (λ a. a) result (statements_from 0 Opening 0 text.now) }
+    ensures fault { IfErr result (IsBareFault (length text.now)) }
+{
+    let mut list = Vec::new(alloc);
+    let mut stage = Stage::Opening;
+    let mut at = 0;
+    while at < text.len() {
+        let item = read_item(alloc, stage, at, &text[at..])?;
+        push_assignment(&mut list, item.assignment)?;
+        at += item.len;
+        stage = item.stage;
+    }
+    Ok(Assignments::from_vec(list))
+}
+
+#[tactic(auto, unfolding(crate::specs::Reading::statements_of))]
+fn read_whole(alloc: Global, text: &[u8]) -> Result<Assignments, BareFault>
+    ensures exact { Gives (λ a. a) result (statements_of text.now) }
+    ensures fault { IfErr result (IsBareFault (length text.now)) }
+{
+    let joined = join_lines(alloc, text)?;
+    read_joined(alloc, &joined)
+}
+
+/// Reads the statements of bare text (POSIX shell, 2.2, 2.3 and 2.9.1, as far as it assigns). It takes time and memory in
+/// proportion to the text.
+///
+/// A backslash before a newline vanishes with it, but for single quotes and comments. Statements end at newlines and at
+/// `;`, outside quotes and comments. Each is empty, a lone `:`, or assignments `NAME=WORD` with spaces or tabs between
+/// them. A `#` at the start of a shell word begins a comment, up to the end of its line.
+///
+/// The first fault from the left is answered: `UnknownStatement` where an assignment should begin and neither one nor a
+/// lone `:` does, `Shell` where the word that is assigned is refused.
+pub fn read_statements(alloc: Global, text: &[u8]) -> Result<Assignments, BareFault>
+    // The reading, as a function of the text.
+    ensures exact { Gives (λ a. a) result (statements_of text.now) }
+    // What is read is there.
+    ensures found { IfOk result (IsBareText text.now) }
+    // What is there is read, unless memory runs out.
+    ensures only { (list : List Assignment) → IsBareText text.now list → Gives (λ a. a) result (Ok list) }
+    // What is refused has this fault, and none before it.
+    ensures refused { IfErr result (IsRefused text.now) }
+    ensures fault { IfErr result (IsBareFault (length text.now)) }
+{
+    read_whole(alloc, text)
+}
