@@ -1,0 +1,127 @@
+//! The jobs.
+
+ghost use Rattle.std.specs.Prelude.{◌≡◌, ◌≢◌, Some, None, IfOk, IsErrOf};
+ghost use Rattle.conftest.specs.Probe.{job_of, Compile, Link, Preprocess, Run, Find, run_of, path_of, file_name, conftest_text};
+ghost use Rattle.conftest.specs.declared.fault.JobFault.TheVariants.{NoCompiler};
+
+use crate::command::{compile_words, compiler, link_words, preprocess_words, preprocessor};
+use crate::fault::JobFault;
+use crate::job::Job;
+use crate::text::{self, conftest_text, file_name};
+use crate::words::Words;
+use deftable::{Bytes, Defs, Vars};
+use std::alloc::{AllocError, Global};
+
+/// Compiles `source` to an object file (manual, "Running the Compiler"): `$CC -c $CFLAGS $CPPFLAGS FILE`.
+///
+/// The file is `conftest.c`, or `conftestN.c` for a number `N` above 0. A value is parted at blanks alone; quotes in it
+/// have no meaning (own).
+#[tactic(auto, unfolding(crate::specs::Probe::job_of))]
+pub fn compile_job(
+    alloc: Global,
+    vars: &Vars,
+    defs: &Defs,
+    source: &[u8],
+    number: u64,
+) -> Result<Job, JobFault>
+    ensures job { IfOk result (λ job. job_of (Compile source.now) number vars.now defs.now ≡ Some job) }
+    ensures fault { IsErrOf result NoCompiler → job_of (Compile source.now) number vars.now defs.now ≡ None }
+{
+    let compiler = compiler(alloc, vars)?;
+    if compiler.as_slice().is_empty() {
+        return Err(JobFault::NoCompiler);
+    }
+    let words = compile_words(alloc, compiler, vars, number)?;
+    let job = with_conftest(alloc, words, defs, source, number)?;
+    Ok(job)
+}
+
+/// Compiles and links `source` to a program (manual, "Running the Linker"):
+/// `$CC -o OUT $CFLAGS $CPPFLAGS $LDFLAGS FILE $LIBS`.
+///
+/// The program is `conftest`, or `conftestN`.
+#[tactic(auto, unfolding(crate::specs::Probe::job_of))]
+pub fn link_job(
+    alloc: Global,
+    vars: &Vars,
+    defs: &Defs,
+    source: &[u8],
+    number: u64,
+) -> Result<Job, JobFault>
+    ensures job { IfOk result (λ job. job_of (Link source.now) number vars.now defs.now ≡ Some job) }
+    ensures fault { IsErrOf result NoCompiler → job_of (Link source.now) number vars.now defs.now ≡ None }
+{
+    let compiler = compiler(alloc, vars)?;
+    if compiler.as_slice().is_empty() {
+        return Err(JobFault::NoCompiler);
+    }
+    let words = link_words(alloc, compiler, vars, number)?;
+    let job = with_conftest(alloc, words, defs, source, number)?;
+    Ok(job)
+}
+
+/// Preprocesses `source` (manual, "Running the Preprocessor"): `$CPP $CPPFLAGS FILE`, or `$CC -E $CPPFLAGS FILE` where
+/// CPP has no word.
+#[tactic(auto, unfolding(crate::specs::Probe::job_of))]
+pub fn preproc_job(
+    alloc: Global,
+    vars: &Vars,
+    defs: &Defs,
+    source: &[u8],
+    number: u64,
+) -> Result<Job, JobFault>
+    ensures job { IfOk result (λ job. job_of (Preprocess source.now) number vars.now defs.now ≡ Some job) }
+    ensures fault { IsErrOf result NoCompiler → job_of (Preprocess source.now) number vars.now defs.now ≡ None }
+{
+    let preprocessor = preprocessor(alloc, vars)?;
+    if preprocessor.as_slice().is_empty() {
+        return Err(JobFault::NoCompiler);
+    }
+    let words = preprocess_words(alloc, preprocessor, vars, number)?;
+    let job = with_conftest(alloc, words, defs, source, number)?;
+    Ok(job)
+}
+
+/// Runs the program that a link job of this number makes (manual, "Runtime"): `./conftest`, or `./conftestN`.
+#[tactic(auto, unfolding(crate::specs::Probe::run_of))]
+pub fn run_job(alloc: Global, number: u64) -> Result<Job, AllocError>
+    ensures { IfOk result (λ job. job ≡ run_of number) }
+{
+    let out = text::out_name(alloc, number)?;
+    let mut program = Vec::from_slice(alloc, b"./")?;
+    program.extend_from_slice(out.as_slice())?;
+    let mut words = Words::new(alloc);
+    words.push(program.as_slice())?;
+    Ok(Job { words, file: None })
+}
+
+/// Succeeds where `file` is a file that may be run: a shell tests it, as POSIX's `test` does (own).
+#[tactic(auto, unfolding(crate::specs::Probe::path_of, crate::specs::Probe::path_words))]
+pub fn path_job(alloc: Global, file: &[u8]) -> Result<Job, AllocError>
+    ensures { IfOk result (λ job. job ≡ path_of file.now) }
+{
+    let mut words = Words::new(alloc);
+    words.push(b"sh")?;
+    words.push(b"-c")?;
+    words.push(b"test -f \"$1\" && test -x \"$1\"")?;
+    words.push(b"sh")?;
+    words.push(file)?;
+    Ok(Job { words, file: None })
+}
+
+fn with_conftest(
+    alloc: Global,
+    words: Words,
+    defs: &Defs,
+    source: &[u8],
+    number: u64,
+) -> Result<Job, AllocError>
+    ensures { IfOk result (λ job. job ≡ record { words = words; file = Some (file_name number, conftest_text defs.now source.now) }) }
+{
+    let name = Bytes::from_vec(file_name(alloc, number)?);
+    let text = conftest_text(alloc, defs, source)?;
+    Ok(Job {
+        words,
+        file: Some((name, text)),
+    })
+}

@@ -1,0 +1,87 @@
+-- How many children are in flight, for callers that start and end them in loops.
+use Rattle.std.proofs.Common.{◌≡◌, ◌≢◌, ℕ, zero, suc, ◌+◌, ◌<◌, ◌≤◌, true, false, cond, eqb, List, [], ◌∷◌, ◌++◌, length, get_or, refl, sym, ap, ◌∙◌, ⊎_elim, arith, length-append}
+use Rattle.std.specs.Prelude.{remove}
+use Rattle.std.proofs.lemmas.Bool.{cases_eq}
+use Rattle.std.proofs.lemmas.Bool.Decides.{nat_tests}
+use Rattle.std.proofs.lemmas.List.Sums.{fold-append}
+use Rattle.conftest.specs.declared.job.Job.{Job}
+use Rattle.crew.specs.declared.reply.Reply.{Reply}
+use Rattle.crew.specs.declared.reply.Reply.TheVariants.{Answer, StartRefused, EndRefused}
+use Rattle.crew.specs.declared.event.CrewEvent.{CrewEvent}
+use Rattle.crew.specs.declared.event.CrewEvent.TheVariants.{Started, Ended}
+use Rattle.crew.specs.Events.{busy, busy_after, IsSomeBusy, failure_of}
+use Rattle.crew.specs.Sound.{times, ListsBusy}
+use Rattle.crew.proofs.SlotLemmas.{lists_none, lists_start, lists_end, first_busy}
+
+-- so many slots are busy
+pub record Flies (n : ℕ) (es : List CrewEvent) : Type 0 where
+  pub slots : List ℕ
+  pub busy_slots : ListsBusy slots es
+  pub count : length slots ≡ n
+
+pub flies_none : (es : List CrewEvent) → es ≡ [] → Flies 0 es
+flies_none es is = record { slots = []; busy_slots = lists_none [] es refl is; count = refl }
+
+pub flies_start : (n : ℕ) (es es' : List CrewEvent) (slot : ℕ) (job : Job) (number : ℕ) → Flies n es → busy slot es ≡ false → es' ≡ es ++ Started slot job number ∷ [] → Flies (n + 1) es'
+flies_start n es es' slot job number h free is =
+    record {
+      slots = h.slots ++ slot ∷ [];
+      busy_slots = lists_start h.slots (h.slots ++ slot ∷ []) es es' slot job number h.busy_slots free refl is;
+      count = length-append h.slots (slot ∷ []) ∙ ap (λ k. k + 1) h.count;
+    }
+
+-- where a slot that the list has stands
+record Stands (s : ℕ) (xs : List ℕ) : Type 0 where
+  place : ℕ
+  inside : place < length xs
+  is : s ≡ get_or xs place s
+
+stands : (s : ℕ) (xs : List ℕ) → 0 < times s xs → Stands s xs
+stands s [] some = absurd (omega arith)
+stands s (x ∷ xs) some =
+    ⊎_elim
+    (λ here. record { place = 0; inside = omega arith; is = sym here })
+    (λ other.
+    let miss : eqb x s ≡ false = grind (arith, nat_tests) in
+    let n : times s (x ∷ xs) ≡ 0 + times s xs = ap (λ b. cond b 1 0 + times s xs) miss in
+    let later = stands s xs (omega arith) in
+    record { place = suc later.place; inside = omega (arith, later.inside); is = later.is })
+    (cases_eq x s)
+
+length-remove : (xs : List ℕ) (i : ℕ) → i < length xs → length (remove xs i) + 1 ≡ length xs
+length-remove [] i lt = absurd (omega arith)
+length-remove (x ∷ xs) zero lt = omega arith
+length-remove (x ∷ xs) (suc i) lt = let e = length-remove xs i (omega arith) in omega arith
+
+pub flies_end : (n m : ℕ) (es es' : List CrewEvent) (slot : ℕ) (reply : Reply) (number : ℕ) → Flies n es → n ≡ m + 1 → busy slot es ≡ true → es' ≡ es ++ Ended slot reply number ∷ [] → Flies m es'
+flies_end n m es es' slot reply number h more was is =
+    let one : times slot h.slots ≡ 1 = h.busy_slots.each slot ∙ ap (λ b. cond b 1 0) was in
+    let at = stands slot h.slots (omega (arith, one)) in
+    record {
+      slots = remove h.slots at.place;
+      busy_slots = lists_end h.slots (remove h.slots at.place) es es' at.place slot reply number h.busy_slots at.inside at.is refl is;
+      count = omega (arith, length-remove h.slots at.place at.inside, h.count);
+    }
+
+some_first : (xs : List ℕ) (es : List CrewEvent) → ListsBusy xs es → 0 < length xs → IsSomeBusy es
+some_first [] es h some = absurd (omega arith)
+some_first (x ∷ xs) es h some = record { slot = x; is_busy = first_busy (x ∷ xs) xs es x h refl }
+
+pub flies_some : (n : ℕ) (es : List CrewEvent) → Flies n es → 0 < n → IsSomeBusy es
+flies_some n es h some = some_first h.slots es h.busy_slots (omega (arith, h.count))
+
+-- a start leaves the other slots as they are
+pub others_stay : (es es' : List CrewEvent) (slot s : ℕ) (job : Job) (number : ℕ) → slot ≢ s → es' ≡ es ++ Started slot job number ∷ [] → busy s es' ≡ busy s es
+others_stay es es' slot s job number other is =
+    let miss : eqb slot s ≡ false = grind (arith, nat_tests) in
+    ap (busy s) is ∙ fold-append (busy_after s) false es (Started slot job number ∷ []) ∙ ap (λ b. cond b true (busy s es)) miss
+
+pub free_after : (es es' : List CrewEvent) (slot : ℕ) (job : Job) (number : ℕ) → ((s : ℕ) → slot ≤ s → busy s es ≡ false) → es' ≡ es ++ Started slot job number ∷ [] → (s : ℕ) → slot + 1 ≤ s → busy s es' ≡ false
+free_after es es' slot job number free is s above =
+    let other : slot ≢ s = omega arith in
+    others_stay es es' slot s job number other is ∙ free s (omega arith)
+
+pub failure_most : (reply : Reply) → failure_of reply ≤ 1
+failure_most (Answer status text) = omega arith
+failure_most StartRefused = omega arith
+failure_most EndRefused = omega arith

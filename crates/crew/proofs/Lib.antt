@@ -1,0 +1,4 @@
+pub mod FlightLemmas
+pub mod ReadyLemmas
+pub mod ScriptLemmas
+pub mod SlotLemmas

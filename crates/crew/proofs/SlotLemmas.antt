@@ -1,0 +1,116 @@
+-- The slots in flight after one more event.
+use Rattle.std.proofs.Common.{◌≡◌, ℕ, zero, suc, ◌+◌, ◌<◌, ◌≤◌, Bool, true, false, cond, eqb, List, [], ◌∷◌, ◌++◌, length, get_or, refl, sym, ap, ◌∙◌, subst, ⊎_elim, arith}
+use Rattle.std.specs.Prelude.{remove, All}
+use Rattle.std.proofs.lemmas.Bool.{cases_eq}
+use Rattle.std.proofs.lemmas.Bool.Decides.{nat_tests}
+use Rattle.std.proofs.lemmas.List.Sums.{fold-append}
+use Rattle.std.proofs.lemmas.List.Elements.{All-push}
+use Rattle.conftest.specs.declared.job.Job.{Job}
+use Rattle.crew.specs.declared.reply.Reply.{Reply}
+use Rattle.crew.specs.declared.event.CrewEvent.{CrewEvent}
+use Rattle.crew.specs.declared.event.CrewEvent.TheVariants.{Started, Ended}
+use Rattle.crew.specs.Events.{busy, busy_after, IsSomeBusy, slots_in_flight, slots_after, without_slot}
+use Rattle.crew.specs.Sound.{times, ListsBusy}
+
+abbrev one_if : Bool → ℕ
+one_if b = cond b 1 0
+
+times-push : (s : ℕ) (xs : List ℕ) (x : ℕ) → times s (xs ++ x ∷ []) ≡ times s xs + cond (eqb x s) 1 0
+times-push s [] x = omega arith
+times-push s (y ∷ xs) x = omega (arith, times-push s xs x)
+
+times-remove : (s : ℕ) (xs : List ℕ) (i x : ℕ) → i < length xs → x ≡ get_or xs i x → times s (remove xs i) + cond (eqb x s) 1 0 ≡ times s xs
+times-remove s [] i x lt is = absurd (omega arith)
+times-remove s (y ∷ xs) zero x lt is = let e : one_if (eqb x s) ≡ one_if (eqb y s) = ap (λ k. one_if (eqb k s)) is in omega (arith, e)
+times-remove s (y ∷ xs) (suc i) x lt is = let e = times-remove s xs i x (omega arith) is in omega arith
+
+true_if : (b : Bool) → 1 ≤ cond b 1 0 → b ≡ true
+true_if true le = refl
+true_if false le = absurd (omega arith)
+
+pub lists_none : (xs : List ℕ) (es : List CrewEvent) → xs ≡ [] → es ≡ [] → ListsBusy xs es
+lists_none xs es a b = record { each = λ s. ap (times s) a ∙ sym (ap (λ e. one_if (busy s e)) b) }
+
+-- a slot of the list is busy
+pub lists_busy : (xs : List ℕ) (es : List CrewEvent) (i x : ℕ) → ListsBusy xs es → i < length xs → x ≡ get_or xs i x → busy x es ≡ true
+lists_busy xs es i x h lt is =
+    let e = times-remove x xs i x lt is in
+    let y : eqb x x ≡ true = grind (arith, nat_tests) in
+    let one : one_if (eqb x x) ≡ 1 = ap one_if y in
+    true_if (busy x es) (omega (arith, h.each x, one, e))
+
+times-none : (xs : List ℕ) (s : ℕ) → length xs ≡ 0 → times s xs ≡ 0
+times-none [] s e = refl
+times-none (x ∷ xs) s e = absurd (omega arith)
+
+-- where a child is in flight the list has a slot
+pub lists_some : (xs : List ℕ) (es : List CrewEvent) → ListsBusy xs es → IsSomeBusy es → 0 < length xs
+lists_some xs es h some =
+    let e = h.each some.slot ∙ ap one_if some.is_busy in
+    ⊎_elim (λ none. let z = times-none xs some.slot none in absurd (omega arith)) (λ other. omega arith) (cases_eq (length xs) 0)
+
+pub lists_start : (xs xs' : List ℕ) (es es' : List CrewEvent) (slot : ℕ) (job : Job) (number : ℕ) → ListsBusy xs es → busy slot es ≡ false → xs' ≡ xs ++ slot ∷ [] → es' ≡ es ++ Started slot job number ∷ [] → ListsBusy xs' es'
+lists_start xs xs' es es' slot job number h free xs_is es_is =
+    record {
+      each = λ s.
+          let now : busy s es' ≡ cond (eqb slot s) true (busy s es) = ap (busy s) es_is ∙ fold-append (busy_after s) false es (Started slot job number ∷ []) in
+          ap (times s) xs_is ∙ times-push s xs slot ∙ ap (λ n. n + cond (eqb slot s) 1 0) (h.each s) ∙ ⊎_elim
+          (λ same.
+          let f : busy s es ≡ false = ap (λ x. busy x es) (sym same) ∙ free in
+          let y : eqb slot s ≡ true = grind (arith, nat_tests) in
+          rw (f, y) (sym (ap one_if (now ∙ ap (λ b. cond b true (busy s es)) y))))
+          (λ other.
+          let y : eqb slot s ≡ false = grind (arith, nat_tests) in
+          let z = now ∙ ap (λ b. cond b true (busy s es)) y in
+          omega (arith, ap one_if y, ap one_if z))
+          (cases_eq slot s);
+    }
+
+pub lists_end : (xs xs' : List ℕ) (es es' : List CrewEvent) (i slot : ℕ) (reply : Reply) (number : ℕ) → ListsBusy xs es → i < length xs → slot ≡ get_or xs i slot → xs' ≡ remove xs i → es' ≡ es ++ Ended slot reply number ∷ [] → ListsBusy xs' es'
+lists_end xs xs' es es' i slot reply number h lt is xs_is es_is =
+    record {
+      each = λ s.
+          let now : busy s es' ≡ cond (eqb slot s) false (busy s es) = ap (busy s) es_is ∙ fold-append (busy_after s) false es (Ended slot reply number ∷ []) in
+          let gone = times-remove s xs i slot lt is in
+          let old = h.each s in
+          ap (times s) xs_is ∙ ⊎_elim
+          (λ same.
+          let y : eqb slot s ≡ true = grind (arith, nat_tests) in
+          let z = now ∙ ap (λ b. cond b false (busy s es)) y in
+          let was : busy s es ≡ true = ap (λ x. busy x es) (sym same) ∙ lists_busy xs es i slot h lt is in
+          omega (arith, ap one_if y, ap one_if z, ap one_if was))
+          (λ other.
+          let y : eqb slot s ≡ false = grind (arith, nat_tests) in
+          let z = now ∙ ap (λ b. cond b false (busy s es)) y in
+          omega (arith, ap one_if y, ap one_if z))
+          (cases_eq slot s);
+    }
+
+-- the slots in flight after a start, and after the oldest child's end
+pub slots_start : (xs xs' : List ℕ) (es es' : List CrewEvent) (slot : ℕ) (job : Job) (number : ℕ) → xs ≡ slots_in_flight es → xs' ≡ xs ++ slot ∷ [] → es' ≡ es ++ Started slot job number ∷ [] → xs' ≡ slots_in_flight es'
+slots_start xs xs' es es' slot job number flying more is =
+    more ∙ ap (λ v. v ++ slot ∷ []) flying ∙ sym (ap slots_in_flight is ∙ fold-append slots_after [] es (Started slot job number ∷ []))
+
+without_first : (s : ℕ) (rest : List ℕ) → without_slot s (s ∷ rest) ≡ rest
+without_first s rest = let y : eqb s s ≡ true = grind (arith, nat_tests) in ap (λ b. cond b rest (s ∷ without_slot s rest)) y
+
+pub slots_end : (xs xs' : List ℕ) (es es' : List CrewEvent) (slot : ℕ) (reply : Reply) (number : ℕ) → xs ≡ slots_in_flight es → xs ≡ slot ∷ xs' → es' ≡ es ++ Ended slot reply number ∷ [] → xs' ≡ slots_in_flight es'
+slots_end xs xs' es es' slot reply number flying first is =
+    sym (ap slots_in_flight is ∙ fold-append slots_after [] es (Ended slot reply number ∷ []) ∙ ap (λ v. without_slot slot v) (sym flying ∙ first) ∙ without_first slot xs')
+
+-- the same of the list of busy slots, where the first ends
+pub lists_first : (xs xs' : List ℕ) (es es' : List CrewEvent) (slot : ℕ) (reply : Reply) (number : ℕ) → ListsBusy xs es → xs ≡ slot ∷ xs' → es' ≡ es ++ Ended slot reply number ∷ [] → ListsBusy xs' es'
+lists_first xs xs' es es' slot reply number h first is =
+    lists_end xs xs' es es' 0 slot reply number h (omega (arith, ap length first)) (sym (ap (λ v. get_or v 0 slot) first)) (sym (ap (λ v. remove v 0) first)) is
+
+pub first_busy : (xs xs' : List ℕ) (es : List CrewEvent) (slot : ℕ) → ListsBusy xs es → xs ≡ slot ∷ xs' → busy slot es ≡ true
+first_busy xs xs' es slot h first = lists_busy xs es 0 slot h (omega (arith, ap length first)) (sym (ap (λ v. get_or v 0 slot) first))
+
+pub below_rest : (xs : List ℕ) (s : ℕ) (rest : List ℕ) → xs ≡ s ∷ rest → All (λ x. x < 16) xs → All (λ x. x < 16) rest
+below_rest xs s rest is h = let all : All (λ x. x < 16) (s ∷ rest) = subst (All (λ x. x < 16)) is h in λ k d lt. all (suc k) d (omega arith)
+
+pub below_push : (xs : List ℕ) (s : ℕ) → All (λ x. x < 16) xs → s < 16 → All (λ x. x < 16) (xs ++ s ∷ [])
+below_push xs s h lt = All-push (λ x. x < 16) xs s h lt
+
+pub below_none : (xs : List ℕ) → xs ≡ [] → All (λ x. x < 16) xs
+below_none xs is = subst (All (λ x. x < 16)) (sym is) (λ k d lt. absurd (omega arith))

@@ -1,0 +1,20 @@
+use Rattle.std.proofs.Common.{◌≡◌, ◌+◌, ◌≤◌, ◌<◌, length, vec_capacity, ap, sym, ◌∙◌, subst, arith, length-append}
+use Rattle.std.specs.Prelude.{All}
+use Rattle.crew.specs.Events.{busy, slots_in_flight}
+use Rattle.crew.specs.Sound.{ListsBusy}
+use Rattle.crew.proofs.ScriptLemmas.{moved}
+use Rattle.crew.proofs.SlotLemmas.{lists_start, slots_start, below_push}
+use Rattle.crew.proofs.process.ProcessCrewCrew.start.Goals as goal
+
+pub invariant_of-self-2 : goal.invariant_of-self-2
+invariant_of-self-2 g c =
+    let free = ap (λ m. busy c.args.slot m.events) c.self.view_is ∙ c.requires.free in
+    let events = moved _ _ _ _ c.put.ensures.items c.make_room.ensures.events in
+    let slots = moved _ _ _ _ c.put_slot.ensures c.make_room.ensures.slots in
+    let order : c.put_slot.new.slots.items ≡ slots_in_flight c.put.new.list.items = slots_start c.self.inside.slots.items _ c.self.inside.events.items _ c.args.slot _ _ c.self.invariant.1 slots events in
+    let lists : ListsBusy c.put_slot.new.slots.items c.put.new.list.items = lists_start c.self.inside.slots.items _ c.self.inside.events.items _ c.args.slot _ _ c.self.invariant.2 free slots events in
+    let within : All (λ x. x < 16) c.put_slot.new.slots.items = subst (All (λ x. x < 16)) (sym slots) (below_push _ _ c.self.invariant.3 c.requires.slot) in
+    let n : length c.put_slot.new.slots.items ≡ length c.make_room.new.slots.items + 1 = ap length c.put_slot.ensures ∙ length-append _ _ in
+    let m : length c.put.new.list.items ≡ length c.make_room.new.events.items + 1 = ap length c.put.ensures.items ∙ length-append _ _ in
+    let room : length c.put.new.list.items + length c.put_slot.new.slots.items ≤ vec_capacity c.put.new.list = omega (arith, n, m, c.if-not-make_room.ensures.room, c.put.ensures.room) in
+    (c.self.invariant.0, order, lists, within, room)

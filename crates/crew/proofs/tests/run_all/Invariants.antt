@@ -1,0 +1,22 @@
+use Rattle.std.proofs.Common.{◌≡◌, ℕ, ◌+◌, ◌≤◌, false}
+use Rattle.crew.specs.Events.{busy}
+use Rattle.crew.proofs.FlightLemmas.{Flies}
+use Rattle.crew.proofs.tests.run_all.Given as goal
+
+abbrev pub invariant-starts : goal.invariant-starts
+invariant-starts g l =
+    record {
+      flies : Flies l.slot (g.C.Crew.account l.crew).events;
+      free : (s : ℕ) → l.slot ≤ s → busy s (g.C.Crew.account l.crew).events ≡ false;
+      attempts : (g.C.Crew.account l.crew).attempts ≡ l.slot;
+      failures : (g.C.Crew.account l.crew).failures ≡ 0;
+    }
+
+abbrev pub invariant-ends : goal.invariant-ends
+invariant-ends g l =
+    record {
+      left : ℕ;
+      flies : Flies left (g.C.Crew.account l.crew).events;
+      count : left + l.counter ≡ l.count;
+      failures : (g.C.Crew.account l.crew).failures ≤ l.counter;
+    }

@@ -1,0 +1,8 @@
+-- A child of a crew in memory.
+use Rattle.std.specs.Prelude.{ℕ}
+use Rattle.crew.specs.declared.reply.Reply.{Reply}
+
+-- its slot, and the reply that it will give
+pub record Child : Type 0 where
+  pub slot : ℕ
+  pub reply : Reply

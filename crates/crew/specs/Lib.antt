@@ -1,0 +1,4 @@
+pub mod Child
+pub mod Events
+pub mod Scripted
+pub mod Sound

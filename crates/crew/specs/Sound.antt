@@ -1,0 +1,30 @@
+-- What holds between a list of slots and the events of a crew.
+use Rattle.std.specs.Prelude.{◌≡◌, ◌≢◌, ℕ, ◌+◌, ◌*◌, ◌≤◌, ◌==◌, List, [], ◌∷◌, length, map, if◌then◌else◌}
+use Rattle.crew.specs.declared.reply.Reply.{Reply}
+use Rattle.crew.specs.declared.reply.Reply.TheVariants.{StartRefused}
+use Rattle.crew.specs.declared.event.CrewEvent.{CrewEvent}
+use Rattle.crew.specs.declared.event.Event.{Event}
+use Rattle.crew.specs.Child.{Child}
+use Rattle.crew.specs.Events.{busy}
+
+-- how often the slot is in the list
+abbrev pub times : ℕ → List ℕ → ℕ
+times s [] = 0
+times s (x ∷ xs) = (if x == s then 1 else 0) + times s xs
+
+-- the list has each busy slot once, and no other
+pub record ListsBusy (slots : List ℕ) (events : List CrewEvent) : Type 0 where
+  pub each : (s : ℕ) → times s slots ≡ (if busy s events then 1 else 0)
+
+-- no child answers that its start was refused
+abbrev pub AllStarted : List Child → Type 0
+AllStarted [] = Unit {0}
+AllStarted (c ∷ cs) = (c.reply ≢ StartRefused) × AllStarted cs
+
+-- what holds of a crew in memory: its children are in the busy slots, and there is room for all that its replies bring
+pub record IsReady (replies : List Reply) (children : List Child) (events : List CrewEvent) (listed : List Event) (children_most events_most listed_most : ℕ) : Type 0 where
+  pub busy_slots : ListsBusy (map (λ c. c.slot) children) events
+  pub started : AllStarted children
+  pub children_fit : length children + length replies ≤ children_most
+  pub events_fit : length events + length children + 2 * length replies ≤ events_most
+  pub listed_fit : length listed + length children + 2 * length replies ≤ listed_most

@@ -1,0 +1,38 @@
+//! The calls of a crew.
+
+ghost use Rattle.std.specs.Prelude.{◌≡◌, ◌≢◌, ◌+◌, ◌^◌, ◌<◌, [], ◌∷◌, ◌++◌, false, true, OnOk, OnErr};
+ghost use Rattle.crew.specs.Events.{Account, busy, IsSomeBusy, failure_of};
+ghost use Rattle.crew.specs.declared.event.CrewEvent.TheVariants.{Started, Ended};
+
+use crate::event::Refused;
+use crate::reply::Reply;
+use conftest::Job;
+
+/// Runs jobs as children in slots. Its meaning is the account of what it has done.
+pub trait Crew {
+    ghost account: { Self → Account };
+
+    /// Starts a job in a free slot. Refused, it leaves the slot free; the job is dropped.
+    fn start(&mut self, slot: usize, job: Job) -> Result<(), Refused>
+        requires slot { slot < 16 }
+        requires free { busy slot (account self.old).events ≡ false }
+        requires attempts { (account self.old).attempts < 2 ^ 62 }
+        requires failures { (account self.old).failures < 2 ^ 62 }
+        ensures number { (account self.new).attempts ≡ (account self.old).attempts + 1 }
+        ensures taken { OnOk result ((account self.new).events
+            ≡ (account self.old).events ++ Started slot job ((account self.old).attempts + 1) ∷ []) }
+        ensures taken_count { OnOk result ((account self.new).failures ≡ (account self.old).failures) }
+        ensures refused { OnErr result ((account self.new).events ≡ (account self.old).events) }
+        ensures refused_count { OnErr result ((account self.new).failures ≡ (account self.old).failures + 1) };
+
+    /// Waits for the end of a child and frees its slot. There must be a child in flight.
+    fn next(&mut self) -> (usize, Reply)
+        requires flying { IsSomeBusy (account self.old).events }
+        requires failures { (account self.old).failures < 2 ^ 62 }
+        ensures was_busy { busy result.0 (account self.old).events ≡ true }
+        ensures ended { (account self.new).events
+            ≡ (account self.old).events ++ Ended result.0 result.1 (account self.old).attempts ∷ [] }
+        ensures number { (account self.new).attempts ≡ (account self.old).attempts }
+        ensures reply { result.1 ≢ Reply.StartRefused }
+        ensures count { (account self.new).failures ≡ (account self.old).failures + failure_of result.1 };
+}

@@ -1,0 +1,196 @@
+//! A crew whose replies are a list.
+
+ghost use Rattle.std.specs.Prelude.{◌≡◌, ◌≢◌, ◌+◌, ◌^◌, ◌<◌, ◌≤◌, [], ◌∷◌, ◌++◌, true, false, IfOk, IfSome, IfNone, OnOk, OnErr, is_ok, length, reverse, MatchOption};
+ghost use Rattle.crew.specs.Events.{busy, IsSomeBusy, failure_of};
+ghost use Rattle.crew.specs.declared.event.CrewEvent.TheVariants.{Started, Ended};
+ghost use Rattle.crew.specs.Scripted.{after_start, after_next, ending, is_taken, is_start_refused};
+
+use crate::calls::Crew;
+use crate::event::{CrewEvent, Event, Refused};
+use crate::failures::{failures_after, refusal};
+use crate::flight::Flight;
+use crate::order::{Order, next_place};
+use crate::reply::Reply;
+use crate::room::put;
+use conftest::Job;
+use std::alloc::{AllocError, Global};
+use std::marker::Model;
+
+/// Answers the n-th attempted start by the n-th reply of a list, and ends its children in an order that is given.
+///
+/// It refuses a start whose reply is [`Reply::StartRefused`] or that comes past the list, and nothing else. Its calls take
+/// no memory.
+#[derive(Debug, Drop)]
+pub struct MemoryCrew {
+    // the replies to come, the next one last, and each a second time
+    replies: Vec<Reply>,
+    copies: Vec<Reply>,
+    children: Vec<Flight>,
+    order: Order,
+    events: Vec<CrewEvent>,
+    listed: Vec<Event>,
+    attempts: u64,
+    failures: u64,
+}
+
+impl Model for MemoryCrew {
+    ghost use Rattle.std.specs.Prelude.{◌≡◌, vec_capacity, reverse};
+    ghost use Rattle.crew.specs.Scripted.{Scripted};
+    ghost use Rattle.crew.specs.Sound.{IsReady};
+
+    ghost Value = { Scripted };
+
+    ghost view = { λ m. record {
+      account = record { events = m.events.items; attempts = m.attempts; failures = m.failures };
+      listed = m.listed.items;
+      replies = reverse m.replies.items;
+      children = m.children.items;
+      order = m.order;
+    } };
+
+    ghost invariant = { λ m. (m.copies.items ≡ m.replies.items)
+        × IsReady m.replies.items m.children.items m.events.items m.listed.items (vec_capacity m.children) (vec_capacity m.events) (vec_capacity m.listed) };
+}
+
+impl MemoryCrew {
+    /// A crew that has done nothing. All memory that it will need is taken here.
+    pub fn new(alloc: Global, replies: Vec<Reply>, order: Order) -> Result<MemoryCrew, AllocError>
+        ensures { IfOk result (λ m. m ≡ record {
+          account = record { events = []; attempts = 0; failures = 0 };
+          listed = [];
+          replies = replies.items;
+          children = [];
+          order = order;
+        }) }
+    {
+        let count = replies.len();
+        let Some(twice) = count.checked_mul(2) else {
+            return Err(AllocError);
+        };
+        let (replies, copies) = reversed_twice(alloc, replies)?;
+        let children = Vec::with_capacity(alloc, count)?;
+        let events = Vec::with_capacity(alloc, twice)?;
+        let listed = Vec::with_capacity(alloc, twice)?;
+        Ok(MemoryCrew {
+            replies,
+            copies,
+            children,
+            order,
+            events,
+            listed,
+            attempts: 0,
+            failures: 0,
+        })
+    }
+
+    /// The calls so far, the oldest first. Starts past the list of replies are left out.
+    pub fn events(&self) -> &[Event]
+        ensures { result.now ≡ self.now.listed }
+    {
+        self.listed.as_slice()
+    }
+}
+
+// The replies from the last to the first, and each a second time.
+fn reversed_twice(
+    alloc: Global,
+    mut replies: Vec<Reply>,
+) -> Result<(Vec<Reply>, Vec<Reply>), AllocError>
+    ensures replies { IfOk result (λ r. r.0.items ≡ reverse replies.items) }
+    ensures copies { IfOk result (λ r. r.1.items ≡ r.0.items) }
+{
+    replies.reverse();
+    let copies = copied(alloc, replies.as_slice())?;
+    Ok((replies, copies))
+}
+
+fn copied(alloc: Global, replies: &[Reply]) -> Result<Vec<Reply>, AllocError>
+    ensures { IfOk result (λ v. v.items ≡ replies.now) }
+{
+    let mut all = Vec::new(alloc);
+    for reply in replies {
+        all.push(reply.copy(alloc)?)?;
+    }
+    Ok(all)
+}
+
+// The reply to the next start, twice.
+fn next_pair(replies: &mut Vec<Reply>, copies: &mut Vec<Reply>) -> Option<(Reply, Reply)>
+    requires { copies.old.items ≡ replies.old.items }
+    ensures pair { MatchOption result
+        ((reverse replies.old.items ≡ []) × (reverse replies.new.items ≡ []))
+        (λ p. reverse replies.old.items ≡ p.0 ∷ reverse replies.new.items) }
+    ensures copy { IfSome result (λ p. p.1 ≡ p.0) }
+    ensures len { IfSome result (λ p. length replies.old.items ≡ length replies.new.items + 1) }
+    ensures none { IfNone result (replies.new.items ≡ replies.old.items) }
+    ensures copies { copies.new.items ≡ replies.new.items }
+{
+    let reply = replies.pop()?;
+    let copy = copies.pop()?;
+    Some((reply, copy))
+}
+
+fn is_start_refused(reply: &Reply) -> bool
+    ensures { result ≡ is_start_refused reply.now }
+{
+    matches!(reply, Reply::StartRefused)
+}
+
+impl Crew for MemoryCrew {
+    ghost account = { λ m. m.account };
+
+    fn start(&mut self, slot: usize, job: Job) -> Result<(), Refused>
+        requires slot { slot < 16 }
+        requires free { busy slot self.old.account.events ≡ false }
+        requires attempts { self.old.account.attempts < 2 ^ 62 }
+        requires failures { self.old.account.failures < 2 ^ 62 }
+        ensures number { self.new.account.attempts ≡ self.old.account.attempts + 1 }
+        ensures taken { OnOk result (self.new.account.events
+            ≡ self.old.account.events ++ Started slot job (self.old.account.attempts + 1) ∷ []) }
+        ensures taken_count { OnOk result (self.new.account.failures ≡ self.old.account.failures) }
+        ensures refused { OnErr result (self.new.account.events ≡ self.old.account.events) }
+        ensures refused_count { OnErr result (self.new.account.failures ≡ self.old.account.failures + 1) }
+        ensures after { self.new ≡ after_start slot job self.old }
+        ensures answer { is_ok result ≡ is_taken self.old.replies }
+    {
+        self.attempts += 1;
+        let number = self.attempts;
+        let Some((reply, copy)) = next_pair(&mut self.replies, &mut self.copies) else {
+            return Err(refusal(&mut self.failures));
+        };
+        if is_start_refused(&reply) {
+            put(&mut self.listed, Event::Refused(slot));
+            return Err(refusal(&mut self.failures));
+        }
+        put(&mut self.listed, Event::Started(slot));
+        put(&mut self.children, Flight::new(slot, reply, copy));
+        put(&mut self.events, CrewEvent::Started { slot, job, number });
+        Ok(())
+    }
+
+    fn next(&mut self) -> (usize, Reply)
+        requires flying { IsSomeBusy self.old.account.events }
+        requires failures { self.old.account.failures < 2 ^ 62 }
+        ensures was_busy { busy result.0 self.old.account.events ≡ true }
+        ensures ended { self.new.account.events
+            ≡ self.old.account.events ++ Ended result.0 result.1 self.old.account.attempts ∷ [] }
+        ensures number { self.new.account.attempts ≡ self.old.account.attempts }
+        ensures reply { result.1 ≢ Reply.StartRefused }
+        ensures count { self.new.account.failures ≡ self.old.account.failures + failure_of result.1 }
+        ensures after { self.new ≡ after_next self.old }
+        ensures answer { result ≡ ((ending self.old).slot, (ending self.old).reply) }
+    {
+        let at = next_place(&mut self.order, self.children.as_slice());
+        let child = self.children.remove(at);
+        let (slot, reply, kept) = child.into_parts();
+        self.failures = failures_after(&reply, self.failures);
+        put(&mut self.listed, Event::Ended(slot));
+        let end = CrewEvent::Ended {
+            slot,
+            reply: kept,
+            number: self.attempts,
+        };
+        put(&mut self.events, end);
+        (slot, reply)
+    }
+}

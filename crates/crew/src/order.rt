@@ -1,0 +1,83 @@
+//! The order in which the children of a crew in memory end.
+
+ghost use Rattle.std.specs.Prelude.{◌≡◌, ◌<◌, ◌-◌, ◌==◌, length, position, IfSome};
+ghost use Rattle.crew.specs.Scripted as scripted;
+
+use crate::flight::Flight;
+use std::marker::Model;
+
+/// Which child of a crew in memory ends next.
+#[derive(Debug, Drop)]
+pub enum Order {
+    Oldest,
+    Youngest,
+    /// The one in the slot that the list names next; the oldest where no child is in that slot, or the list has ended.
+    Slots(SlotList),
+}
+
+/// Slots, in order.
+#[derive(Debug, Drop)]
+pub struct SlotList {
+    reversed: Vec<usize>,
+}
+
+impl Model for SlotList {
+    ghost use Rattle.std.specs.Prelude.{ℕ, List, reverse};
+
+    ghost Value = { List ℕ };
+
+    ghost view = { λ s. reverse s.reversed.items };
+}
+
+impl SlotList {
+    /// The slots of a vector, in the vector's own memory.
+    pub fn from_vec(mut slots: Vec<usize>) -> SlotList
+        ensures { result ≡ slots.items }
+    {
+        slots.reverse();
+        SlotList { reversed: slots }
+    }
+
+    // Takes the first slot away, if there is one.
+    pub(crate) fn take_first(&mut self) -> Option<usize>
+        ensures first { result ≡ scripted.first_of self.old }
+        ensures others { self.new ≡ scripted.others_of self.old }
+    {
+        self.reversed.pop()
+    }
+}
+
+// The place of the child that ends next; its slot is taken from a list.
+pub(crate) fn next_place(order: &mut Order, children: &[Flight]) -> usize
+    requires { 0 < length children.now }
+    ensures place { result ≡ scripted.place order.old children.now }
+    ensures order { order.new ≡ scripted.order_after order.old }
+    ensures within { result < length children.now }
+{
+    match order {
+        Order::Oldest => 0,
+        Order::Youngest => children.len() - 1,
+        Order::Slots(slots) => {
+            let slot = slots.take_first();
+            place_of(slot, children)
+        }
+    }
+}
+
+fn place_of(slot: Option<usize>, children: &[Flight]) -> usize
+    requires { 0 < length children.now }
+    ensures place { result ≡ scripted.place_of slot children.now }
+    ensures within { result < length children.now }
+{
+    match slot {
+        Some(slot) => position_of(children, slot).unwrap_or(0),
+        None => 0,
+    }
+}
+
+fn position_of(children: &[Flight], slot: usize) -> Option<usize>
+    ensures place { result ≡ position (λ child. child.slot == slot) children.now }
+    ensures within { IfSome result (λ i. i < length children.now) }
+{
+    children.iter().position(|child| child.slot() == slot)
+}
