@@ -3,3 +3,4 @@ pub mod Binds
 pub mod IdleLemmas
 pub mod OutputLemmas
 pub mod FaultLemmas
+pub mod InsideLemmas

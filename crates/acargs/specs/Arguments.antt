@@ -1,15 +1,16 @@
 -- Arguments of calls: what each form of argument stands for, or its fault (Autoconf's manual, "The Autoconf
 -- Language"; the forms themselves are the profile's own). Faults have the place of the argument, those of quoting
 -- their own place.
-use Rattle.std.specs.Prelude.{ℕ, List, [], Result, Ok, slice_index_or}
+use Rattle.std.specs.Prelude.{ℕ, Bool, true, not, List, [], Result, Ok, Err, slice_index_or}
 use Rattle.m4quote.specs.Entry.{Span}
 use Rattle.m4quote.specs.Scan.{used}
+use Rattle.m4quote.specs.declared.fault.QuoteFault.{QuoteFault}
 use Rattle.deftable.specs.ShellName.{is_shell_name_of}
 use Rattle.textcut.specs.Cuts.{trimmed}
 use Rattle.acargs.specs.declared.fault.ParseFault.{ParseFault}
 use Rattle.acargs.specs.declared.fault.ParseFault.TheVariants.{BadName}
 use Rattle.acargs.specs.Reading.{◌>>=◌, quoted_at, wants}
-use Rattle.acargs.specs.Texts.{is_line}
+use Rattle.acargs.specs.Texts.{is_empty, is_line}
 
 -- the argument at i; an absent one is like an empty one
 abbrev pub arg_at : List Span → ℕ → Span
@@ -43,3 +44,11 @@ line arg = do
   t ← text arg
   _ ← wants (is_line t) (BadName arg.at)
   Ok t
+
+abbrev pub says_something : Result (List ℕ) QuoteFault → Bool
+says_something (Ok t) = not (is_empty t)
+says_something (Err f) = true
+
+-- the argument is given: its used text is not empty, or it has none because its quotes are at fault
+unfoldable pub is_given : Span → Bool
+is_given arg = says_something (used arg.text)

@@ -6,3 +6,6 @@ pub mod Output
 pub mod Outputs
 pub mod Idle
 pub mod Stand
+pub mod Shell
+pub mod Numbers
+pub mod Inside

@@ -3,7 +3,9 @@ use Rattle.std.specs.Prelude.{◌≡◌, ℕ, ◌+◌, Result, Ok, Err, Bool, if
 use Rattle.m4quote.specs.declared.fault.QuoteFault.{QuoteFault}
 use Rattle.m4quote.specs.declared.fault.QuoteFault.TheVariants as quote
 use Rattle.acargs.specs.declared.fault.ParseFault.{ParseFault}
-use Rattle.acargs.specs.declared.fault.ParseFault.TheVariants.{Quote, OutOfMemory}
+use Rattle.shellword.specs.declared.fault.ShellFault.{ShellFault}
+use Rattle.shellword.specs.declared.fault.ShellFault.TheVariants as shell
+use Rattle.acargs.specs.declared.fault.ParseFault.TheVariants.{Quote, Shell, OutOfMemory}
 
 infixl 10 ◌>>=◌
 -- a reading, and what is read with its value
@@ -43,6 +45,16 @@ quoted (Err f) = Err (quote_fault f)
 abbrev pub quoted_at : {A : Type 0} → ℕ → Result A QuoteFault → Result A ParseFault
 quoted_at base (Ok x) = Ok x
 quoted_at base (Err f) = Err (quote_fault (moved base f))
+
+-- a fault of shell text, as a fault of the source: at the place where the text begins
+abbrev pub shell_fault : ℕ → ShellFault → ParseFault
+shell_fault at shell.OutOfMemory = OutOfMemory
+shell_fault at f = Shell f at
+
+-- a reading of shell text that begins at a place
+abbrev pub shell_at : {A : Type 0} → ℕ → Result A ShellFault → Result A ParseFault
+shell_at at (Ok x) = Ok x
+shell_at at (Err f) = Err (shell_fault at f)
 
 -- a condition, and the fault where it fails
 abbrev pub wants : Bool → ParseFault → Result (Unit {0}) ParseFault

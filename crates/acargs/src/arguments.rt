@@ -7,10 +7,9 @@ ghost use Rattle.acargs.specs.Reading.{Gives};
 ghost use Rattle.acargs.specs.Texts as texts;
 
 use crate::fault::{ParseFault, moved_by, quote_fault};
-use crate::name::Name;
-use deftable::Bytes;
-use m4quote::{Arg, used_text};
-use std::alloc::Global;
+use deftable::{Bytes, Name};
+use m4quote::{Arg, QuoteFault, used_text};
+use std::alloc::{AllocError, Global};
 use textcut::{is_blank, trim};
 
 /// The argument at `i`. An absent one is like an empty one, at place 0.
@@ -34,9 +33,22 @@ pub fn text(alloc: Global, arg: Arg<'_>) -> Result<Bytes, ParseFault>
     }
 }
 
+/// Whether an argument says something: an absent one, and one whose used text is empty, says nothing. One whose quotes
+/// are at fault counts as given.
+#[tactic(auto, unfolding(crate::specs::Arguments::is_given))]
+pub fn is_given(alloc: Global, arg: Arg<'_>) -> Result<bool, AllocError>
+    ensures { IfOk result (λ b. b ≡ forms.is_given (span arg.entry)) }
+{
+    match used_text(alloc, arg.text) {
+        Ok(text) => Ok(!text.is_empty()),
+        Err(QuoteFault::OutOfMemory) => Err(AllocError),
+        Err(_) => Ok(true),
+    }
+}
+
 /// The used text of an argument without the blanks at its ends.
 #[tactic(auto, unfolding(crate::specs::Arguments::bare_text))]
-fn bare_text(alloc: Global, arg: Arg<'_>) -> Result<Bytes, ParseFault>
+pub(crate) fn bare_text(alloc: Global, arg: Arg<'_>) -> Result<Bytes, ParseFault>
     ensures { Gives (λ t. t) result (forms.bare_text (span arg.entry)) }
 {
     let text = text(alloc, arg)?;

@@ -2,10 +2,11 @@
 
 ghost use Rattle.std.specs.Prelude.{◌≡◌, ◌+◌, ◌≤◌, Err};
 ghost use Rattle.acargs.specs.declared.fault.ParseFault.TheVariants.{OutOfMemory};
-ghost use Rattle.acargs.specs.Reading.{quote_fault, moved};
+ghost use Rattle.acargs.specs.Reading.{quote_fault, shell_fault, moved};
 ghost use Rattle.acargs.specs.Fault.{IsWithin};
 
 use m4quote::QuoteFault;
+use shellword::ShellFault;
 use std::alloc::{AllocError, AllocFailed};
 use thiserror::Error;
 
@@ -28,6 +29,9 @@ pub enum ParseFault {
     /// A name or another text that has not the form wanted.
     #[error("5 at {0}")]
     BadName(usize),
+    /// Shell text: a word, a test or a list of patterns that is not read.
+    #[error("6.{} at {}", shell_kind(.0), .1)]
+    Shell(ShellFault, usize),
     /// A macro that stands in the file's own list alone, or there once.
     #[error("7 at {0}")]
     NotAtTop(usize),
@@ -40,9 +44,15 @@ pub enum ParseFault {
     /// Something other than blanks and comments behind AC_OUTPUT.
     #[error("10 at {0}")]
     AfterOutput(usize),
+    /// More lists of statements in one another than there may be.
+    #[error("12 at {0}")]
+    TooDeep(usize),
     /// More entries than a list may have.
     #[error("13 at {0}")]
     TooMany(usize),
+    /// A version of Autoconf that is newer than the one that this engine goes by.
+    #[error("14 at {0}")]
+    NewerVersion(usize),
     /// A growth of memory was refused.
     #[error("memory")]
     OutOfMemory,
@@ -61,6 +71,25 @@ impl<T: Drop> From<AllocFailed<T>> for ParseFault {
 
     fn from(_e: AllocFailed<T>) -> ParseFault {
         ParseFault::OutOfMemory
+    }
+}
+
+/// The number of a fault of shell text; its place in the text is not told.
+fn shell_kind(fault: &ShellFault) -> u8 {
+    match fault {
+        ShellFault::BadWord(_) => 1,
+        ShellFault::BadTest(_) => 2,
+        ShellFault::BadPattern(_) | ShellFault::OutOfMemory => 3,
+    }
+}
+
+/// A fault of shell text, in the text that begins at `at` in the source.
+pub fn shell_fault(at: usize, fault: ShellFault) -> ParseFault
+    ensures { result ≡ shell_fault at fault }
+{
+    match fault {
+        ShellFault::OutOfMemory => ParseFault::OutOfMemory,
+        other => ParseFault::Shell(other, at),
     }
 }
 

@@ -16,6 +16,9 @@ pub mod rows;
 pub mod scene;
 pub mod statement;
 
-pub use macros::{Macro, PlainMacro, Row};
+pub use macros::{ChoiceMacro, Macro, PlainMacro, Row};
 pub use scene::{Scene, Stage};
 pub use statement::Plain;
+
+#[cfg(test)]
+mod tests;

@@ -1,19 +1,26 @@
 //! A reader for each macro, of its arguments from the left.
 
-ghost use Rattle.std.specs.Prelude.{◌≡◌, ◌||◌, ◌==◌, length, map, Ok, Err, IfOk, ◌<◌};
+ghost use Rattle.std.specs.Prelude.{◌≡◌, ◌||◌, ◌==◌, length, map, Ok, Err, IfOk, ◌<◌, nat_lt};
+ghost use Rattle.deftable.specs.NameList.{has_name};
 ghost use Rattle.m4quote.specs.Entry.{span};
 ghost use Rattle.acargs.specs.Reading.{Gives};
 ghost use Rattle.acmacros.specs.PackageName as package_names;
 ghost use Rattle.acmacros.specs.Rows as rows;
 
 use crate::macros::PlainMacro;
+use crate::scene::Scene;
 use crate::statement::Plain;
-use acargs::arguments::{arg_at, line, name, text, title};
+use acargs::arguments::{arg_at, is_given, line, name, text, title};
+use acargs::numbers::{language, status, version};
 use acargs::outputs::outputs;
-use acargs::{Outputs, ParseFault};
-use deftable::Bytes;
+use acargs::shell::{here_text, word};
+use acargs::{Name, ParseFault};
+use deftable::{Bytes, SubstList};
 use m4quote::Arg;
 use std::alloc::{AllocError, Global};
+
+/// The most entries of a list of the source.
+const MAX_ENTRIES: usize = 1024;
 
 fn tar_byte(byte: u8) -> u8
     ensures { result ≡ package_names.tar_byte byte }
@@ -76,12 +83,59 @@ fn init(alloc: Global, args: &[Arg<'_>]) -> Result<Plain, ParseFault>
     })
 }
 
-#[tactic(auto, unfolding(crate::specs::Rows::config_files))]
-fn config_files(alloc: Global, before: &Outputs, args: &[Arg<'_>]) -> Result<Plain, ParseFault>
-    ensures { Gives (λ s. s) result (rows.config_files before.now (map span args.now)) }
+#[tactic(auto, unfolding(crate::specs::Rows::prereq))]
+fn prereq(alloc: Global, args: &[Arg<'_>]) -> Result<Plain, ParseFault>
+    ensures { Gives (λ s. s) result (rows.prereq (map span args.now)) }
 {
-    let outputs = outputs(alloc, before, arg_at(args, 0))?;
+    version(alloc, arg_at(args, 0))?;
+    Ok(Plain::Accepted)
+}
+
+#[tactic(auto, unfolding(crate::specs::Rows::lang))]
+fn lang(alloc: Global, args: &[Arg<'_>]) -> Result<Plain, ParseFault>
+    ensures { Gives (λ s. s) result (rows.lang (map span args.now)) }
+{
+    language(alloc, arg_at(args, 0))?;
+    Ok(Plain::Accepted)
+}
+
+#[tactic(auto, unfolding(crate::specs::Rows::config_files))]
+fn config_files(alloc: Global, scene: &Scene, args: &[Arg<'_>]) -> Result<Plain, ParseFault>
+    ensures { Gives (λ s. s) result (rows.config_files scene.now (map span args.now)) }
+{
+    let outputs = outputs(alloc, &scene.files, arg_at(args, 0))?;
     Ok(Plain::ConfigFiles { outputs })
+}
+
+#[tactic(auto, unfolding(crate::specs::Rows::subst_of))]
+fn subst_of(alloc: Global, name: Name, arg: Arg<'_>) -> Result<Plain, ParseFault>
+    ensures { Gives (λ s. s) result (rows.subst_of name (span arg.entry)) }
+{
+    if is_given(alloc, arg)? {
+        let value = word(alloc, arg)?;
+        Ok(Plain::SubstValue { name, value })
+    } else {
+        Ok(Plain::Subst { name })
+    }
+}
+
+/// Whether a list of the source that has these names may take one more.
+fn has_room(names: &SubstList, name: &Name) -> bool
+    ensures { result ≡ (has_name names.now name.now || nat_lt (length names.now) 1024) }
+{
+    names.has(name.as_slice()) || names.names().len() < MAX_ENTRIES
+}
+
+#[tactic(auto, unfolding(crate::specs::Rows::subst))]
+fn subst(alloc: Global, scene: &Scene, args: &[Arg<'_>]) -> Result<Plain, ParseFault>
+    ensures { Gives (λ s. s) result (rows.subst scene.now (map span args.now)) }
+{
+    let arg = arg_at(args, 0);
+    let name = name(alloc, arg)?;
+    if !has_room(&scene.substituted, &name) {
+        return Err(ParseFault::TooMany(arg.at));
+    }
+    subst_of(alloc, name, arg_at(args, 1))
 }
 
 #[tactic(auto, unfolding(crate::specs::Rows::defined))]
@@ -107,6 +161,47 @@ fn define(alloc: Global, args: &[Arg<'_>]) -> Result<Plain, ParseFault>
     Ok(Plain::Define { name, value })
 }
 
+#[tactic(auto, unfolding(crate::specs::Rows::unquoted_of))]
+fn unquoted_of(alloc: Global, name: Name, text: Bytes, arg: Arg<'_>) -> Result<Plain, ParseFault>
+    ensures { Gives (λ s. s) result (rows.unquoted_of name text (span arg.entry)) }
+{
+    if text.is_empty() {
+        let value = Bytes::from_slice(alloc, b"/**/")?;
+        return Ok(Plain::Define { name, value });
+    }
+    let value = here_text(alloc, arg)?;
+    Ok(Plain::DefineUnquoted { name, value })
+}
+
+#[tactic(auto, unfolding(crate::specs::Rows::unquoted))]
+fn unquoted(alloc: Global, name: Name, args: &[Arg<'_>]) -> Result<Plain, ParseFault>
+    ensures { Gives (λ s. s) result (rows.unquoted name (map span args.now)) }
+{
+    if args.len() < 2 {
+        let value = Bytes::from_slice(alloc, b"1")?;
+        return Ok(Plain::Define { name, value });
+    }
+    let text = line(alloc, arg_at(args, 1))?;
+    unquoted_of(alloc, name, text, arg_at(args, 1))
+}
+
+#[tactic(auto, unfolding(crate::specs::Rows::define_unquoted))]
+fn define_unquoted(alloc: Global, args: &[Arg<'_>]) -> Result<Plain, ParseFault>
+    ensures { Gives (λ s. s) result (rows.define_unquoted (map span args.now)) }
+{
+    let name = name(alloc, arg_at(args, 0))?;
+    unquoted(alloc, name, args)
+}
+
+#[tactic(auto, unfolding(crate::specs::Rows::msg_error))]
+fn msg_error(alloc: Global, args: &[Arg<'_>]) -> Result<Plain, ParseFault>
+    ensures { Gives (λ s. s) result (rows.msg_error (map span args.now)) }
+{
+    let message = here_text(alloc, arg_at(args, 0))?;
+    let status = status(alloc, arg_at(args, 1))?;
+    Ok(Plain::Error { message, status })
+}
+
 #[tactic(auto, unfolding(crate::specs::Rows::output))]
 fn output(alloc: Global, args: &[Arg<'_>]) -> Result<Plain, ParseFault>
     ensures { Gives (λ s. s) result (rows.output (map span args.now)) }
@@ -119,20 +214,26 @@ fn output(alloc: Global, args: &[Arg<'_>]) -> Result<Plain, ParseFault>
     Ok(Plain::Output)
 }
 
-/// The statement of a macro with these arguments, behind the files of the source before it.
+/// The statement of a macro with these arguments, behind what is known.
 #[tactic(auto, unfolding(crate::specs::Rows::plain_of))]
 pub fn plain(
     alloc: Global,
-    before: &Outputs,
+    scene: &Scene,
     m: PlainMacro,
     args: &[Arg<'_>],
 ) -> Result<Plain, ParseFault>
-    ensures { Gives (λ s. s) result (rows.plain_of before.now m (map span args.now)) }
+    ensures { Gives (λ s. s) result (rows.plain_of scene.now m (map span args.now)) }
 {
     match m {
         PlainMacro::Init => init(alloc, args),
-        PlainMacro::ConfigFiles => config_files(alloc, before, args),
+        PlainMacro::Prereq => prereq(alloc, args),
+        PlainMacro::Ignored => Ok(Plain::Accepted),
+        PlainMacro::Lang => lang(alloc, args),
+        PlainMacro::ConfigFiles => config_files(alloc, scene, args),
+        PlainMacro::Subst => subst(alloc, scene, args),
         PlainMacro::Define => define(alloc, args),
+        PlainMacro::DefineUnquoted => define_unquoted(alloc, args),
+        PlainMacro::MsgError => msg_error(alloc, args),
         PlainMacro::Output => output(alloc, args),
     }
 }

@@ -7,6 +7,7 @@ ghost use Rattle.acmacros.specs.Scene as scenes;
 use crate::macros::{Macro, PlainMacro, look_up};
 use crate::statement::Plain;
 use acargs::{Outputs, ParseFault};
+use deftable::SubstList;
 use std::alloc::{AllocError, Global};
 
 /// How far a source is.
@@ -24,6 +25,8 @@ pub enum Stage {
 #[derive(Debug, Drop)]
 pub struct Scene {
     pub stage: Stage,
+    /// The output variables of AC_SUBST, each once, in the order of their first mention.
+    pub substituted: SubstList,
     /// The files to be made, in the order in which they are named.
     pub files: Outputs,
 }
@@ -36,7 +39,14 @@ pub fn note(alloc: Global, scene: &mut Scene, statement: &Plain) -> Result<(), A
     match statement {
         Plain::Init { .. } => scene.stage = Stage::Open,
         Plain::ConfigFiles { outputs } => scene.files.push_copies(alloc, outputs.as_slice())?,
-        Plain::Define { .. } => {}
+        Plain::Subst { name } | Plain::SubstValue { name, .. } => {
+            scene.substituted.add(name.as_slice())?
+        }
+        Plain::Accepted
+        | Plain::Assign { .. }
+        | Plain::Define { .. }
+        | Plain::DefineUnquoted { .. }
+        | Plain::Error { .. } => {}
         Plain::Output => scene.stage = Stage::Ended,
     }
     Ok(())
@@ -48,6 +58,13 @@ fn is_init(m: Macro) -> bool
     m == Macro::Plain(PlainMacro::Init)
 }
 
+/// AC_INIT, and AC_PREREQ, which may stand before it.
+fn may_begin(m: Macro) -> bool
+    ensures { result ≡ scenes.may_begin m }
+{
+    is_init(m) || m == Macro::Plain(PlainMacro::Prereq)
+}
+
 /// Whether a macro whose name stands at `at` may stand here, in the file's own list (`top`) or in another.
 #[tactic(auto, unfolding(crate::specs::Scene::placed))]
 pub fn check_place(top: bool, stage: Stage, m: Macro, at: usize) -> Result<(), ParseFault>
@@ -55,7 +72,7 @@ pub fn check_place(top: bool, stage: Stage, m: Macro, at: usize) -> Result<(), P
 {
     match stage {
         Stage::Before => {
-            if !is_init(m) {
+            if !may_begin(m) {
                 return Err(ParseFault::NoInit);
             }
         }

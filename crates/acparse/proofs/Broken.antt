@@ -1,26 +1,34 @@
 -- A fault that is read is one, and all before it is right.
-use Rattle.std.proofs.Common.{◌≡◌, ℕ, Bool, true, false, List, [], ◌∷◌, Option, Some, None, Result, Ok, Err, ◌&&◌, ◌⊎◌, refl, sym, subst, inl, inr}
+use Rattle.std.proofs.Common.{◌≡◌, ℕ, zero, suc, Bool, true, false, List, [], ◌∷◌, Option, Some, None, Result, Ok, Err, ◌&&◌, ◌⊎◌, refl, sym, subst, inl, inr}
 use Rattle.m4quote.specs.Entry.{Span, Entry, call, bare}
 use Rattle.m4quote.specs.declared.fault.QuoteFault.{QuoteFault}
 use Rattle.acargs.specs.declared.fault.ParseFault.{ParseFault}
 use Rattle.acargs.specs.declared.fault.ParseFault.TheVariants.{UnknownMacro}
 use Rattle.acargs.specs.declared.stand.Edge.{Edge}
-use Rattle.acargs.specs.Idle.{is_idle}
 use Rattle.acargs.specs.Reading.{quoted, quote_fault}
-use Rattle.acargs.specs.Stand.{edge_of}
+use Rattle.acargs.specs.Stand.{edge_of, no_edge}
 use Rattle.acargs.proofs.Binds.{bind_err, wants_err, err_is}
+use Rattle.acargs.specs.Arguments.{is_given}
+use Rattle.acargs.specs.Inside.{inside}
+use Rattle.acmacros.specs.declared.macros.ChoiceMacro.{ChoiceMacro}
 use Rattle.acmacros.specs.declared.macros.Macro.{Macro}
-use Rattle.acmacros.specs.declared.macros.Macro.TheVariants.{Plain}
+use Rattle.acmacros.specs.declared.macros.Macro.TheVariants.{Plain, Choice as A_choice}
 use Rattle.acmacros.specs.declared.scene.Scene as scene
 use Rattle.acmacros.specs.declared.scene.Stage.{Stage}
 use Rattle.acmacros.specs.Table.{macro_named}
+use Rattle.m4quote.proofs.Laws.{outcome_is_spelling, outcome_is_fault}
+use Rattle.m4quote.specs.Scan.{outcome}
 use Rattle.std.proofs.lemmas.Bool.{leb-false}
-use Rattle.acparse.specs.Breaks.{MayNotStand, unknown, too_few, too_many, not_here, in_text, ItemBreaks, other_text, may_not_stand, argument, Breaks, here, behind}
-use Rattle.acparse.specs.Known.{after_all}
-use Rattle.acparse.specs.Profile.{items_of, item_of, bare_of, call_of, checked, known}
-use Rattle.acparse.specs.Script.{Script}
-use Rattle.acparse.specs.Statements.{MayStand}
-use Rattle.acparse.proofs.Found.{known_some, may_stand, item_found}
+use Rattle.tree.specs.Known.{after_all}
+use Rattle.tree.specs.Script.{Script, Cases}
+use Rattle.acparse.specs.Breaks.{WithinBreaks, MayNotStand, unknown, too_few, too_many, not_here, in_text, CasesBreak, in_condition, in_body, behind_case, in_default, ItemBreaks, other_text, may_not_stand, argument, in_subject, in_cases, Breaks, here, behind, TextBreaks, no_items, in_items, IsBroken}
+use Rattle.acparse.specs.Profile.{Bodies, body_of, items_of, item_of, call_of, checked, known, case_args, default_of, cases_in, choice_of}
+use Rattle.acparse.specs.Statements.{Within, MayStand, IsBody}
+use Rattle.acparse.proofs.Found.{Reads, known_some, may_stand, item_found, body_found, quoted_ok}
+
+-- each fault of a statement argument that is read is one
+abbrev pub Faults : Bodies → WithinBreaks → Type 0
+Faults bodies Broken = (c : scene.Scene) (arg : Span) (f : ParseFault) → bodies c arg ≡ Err f → Broken c arg f
 
 pub quoted_err : {A : Type 0} (r : Result A QuoteFault) (f : ParseFault) → quoted r ≡ Err f → (q : QuoteFault) × (r ≡ Err q) × (f ≡ quote_fault q)
 quoted_err (Ok y) f e = absurd cc
@@ -62,33 +70,88 @@ may_not_stand_by top stage edge name args at next f e =
 no_end : (s : Script) (f : ParseFault) → (let r : Result Script ParseFault = Ok s in r) ≡ Err f → ⊥
 no_end s f e = cc
 
-bare_breaks : (top : Bool) (c : scene.Scene) (edge : Edge) (text : List ℕ) (at : ℕ) (next : List Entry) (f : ParseFault) (b : Bool) → is_idle text ≡ b → bare_of c.stage at b ≡ Err f → ItemBreaks top c edge (bare text at) next f
-bare_breaks top c edge text at next f true is e = absurd (no_end _ f e)
-bare_breaks top c edge text at next f false is e = subst (ItemBreaks top c edge (bare text at) next) (err_is {A = Script} _ f e) (other_text is)
+no_cases_end : (s : Cases) (f : ParseFault) → (let r : Result Cases ParseFault = Ok s in r) ≡ Err f → ⊥
+no_cases_end s f e = cc
 
-item_breaks : (top : Bool) (c : scene.Scene) (edge : Edge) (item : Entry) (next : List Entry) (f : ParseFault) → item_of top c edge item next ≡ Err f → ItemBreaks top c edge item next f
-item_breaks top c edge (bare text at) next f e = bare_breaks top c edge text at next f (is_idle text) refl e
-item_breaks top c edge (call name args at) next f e =
+cases_break : (bodies : Bodies) (Inside : Within) (Broken : WithinBreaks) (ok : Reads bodies Inside) (bad : Faults bodies Broken) (m : ChoiceMacro) (args : List Span) (c : scene.Scene) (f : ParseFault)
+    → cases_in bodies m c args ≡ Err f → CasesBreak Inside Broken m c args f
+unfolding cases_in
+cases_break bodies Inside Broken ok bad m [] c f e = absurd (no_cases_end _ f e)
+cases_break bodies Inside Broken ok bad m (b ∷ []) c f e =
+    elim (bind_err (bodies c b) (λ body. Ok (default_of (is_given b) body)) _ e) [
+      | inl h ↦ in_default (bad c b f h)
+      | inr x ↦ absurd (no_cases_end _ f x.2)
+    ]
+cases_break bodies Inside Broken ok bad m (w ∷ a ∷ more) c f e =
+    elim (bind_err _ _ _ e) [
+      | inl h ↦ in_condition h
+      | inr x ↦ elim (bind_err _ _ _ x.2) [
+        | inl h ↦ in_body x.1 (bad c a f h)
+        | inr y ↦ elim (bind_err _ _ _ y.2) [
+          | inl h ↦ behind_case x.1 (ok c a y.0 y.1) (cases_break bodies Inside Broken ok bad m more (after_all c y.0) f h)
+          | inr z ↦ absurd (no_cases_end _ f z.2)
+        ]
+      ]
+    ]
+
+item_breaks : (top : Bool) (bodies : Bodies) (Inside : Within) (Broken : WithinBreaks) (ok : Reads bodies Inside) (bad : Faults bodies Broken) (c : scene.Scene) (edge : Edge) (item : Entry) (next : List Entry) (f : ParseFault)
+    → item_of top bodies c edge item next ≡ Err f → ItemBreaks top Inside Broken c edge item next f
+unfolding choice_of
+item_breaks top bodies Inside Broken ok bad c edge (bare text at) next f e = other_text e
+item_breaks top bodies Inside Broken ok bad c edge (call name args at) next f e =
     elim (bind_err _ _ _ e) [
       | inl h ↦ may_not_stand (may_not_stand_by top c.stage edge name args at next f h)
       | inr m ↦ call_breaks m.0 (may_stand top c.stage edge name args at next m.0 m.1) m.2
     ]
   where
-    call_breaks : (m : Macro) → MayStand top c.stage edge name args at next m → call_of c m args ≡ Err f → ItemBreaks top c edge (call name args at) next f
+    choice_breaks : (m : ChoiceMacro) → MayStand top c.stage edge name args at next (A_choice m) → choice_of bodies m c args ≡ Err f → ItemBreaks top Inside Broken c edge (call name args at) next f
+    choice_breaks m stands e =
+        elim (bind_err _ _ _ e) [
+          | inl h ↦ in_subject stands h
+          | inr x ↦ elim (bind_err _ _ _ x.2) [
+            | inl h ↦ in_cases stands x.1 (cases_break bodies Inside Broken ok bad m (case_args m args) c f h)
+            | inr y ↦ absurd (no_end _ f y.2)
+          ]
+        ]
+
+    call_breaks : (m : Macro) → MayStand top c.stage edge name args at next m → call_of bodies c m args ≡ Err f → ItemBreaks top Inside Broken c edge (call name args at) next f
     call_breaks (Plain m) stands e =
         elim (bind_err _ _ _ e) [
           | inl h ↦ argument stands h
           | inr s ↦ absurd (no_end _ f s.2)
         ]
+    call_breaks (A_choice m) stands e = choice_breaks m stands e
 
-pub items_break : (top : Bool) (items : List Entry) (c : scene.Scene) (edge : Edge) (f : ParseFault) → items_of top c edge items ≡ Err f → Breaks top c edge items f
+pub items_break : (top : Bool) (bodies : Bodies) (Inside : Within) (Broken : WithinBreaks) (ok : Reads bodies Inside) (bad : Faults bodies Broken) (items : List Entry) (c : scene.Scene) (edge : Edge) (f : ParseFault)
+    → items_of top bodies c edge items ≡ Err f → Breaks top Inside Broken c edge items f
 unfolding items_of
-items_break top [] c edge f e = absurd (no_end _ f e)
-items_break top (item ∷ items) c edge f e =
+items_break top bodies Inside Broken ok bad [] c edge f e = absurd (no_end _ f e)
+items_break top bodies Inside Broken ok bad (item ∷ items) c edge f e =
     elim (bind_err _ _ _ e) [
-      | inl h ↦ here (item_breaks top c edge item items f h)
+      | inl h ↦ here (item_breaks top bodies Inside Broken ok bad c edge item items f h)
       | inr x ↦ elim (bind_err _ _ _ x.2) [
-        | inl h ↦ behind (item_found top c edge item items x.0 x.1) (items_break top items (after_all c x.0) (edge_of item) f h)
+        | inl h ↦ behind (item_found top bodies Inside ok c edge item items x.0 x.1) (items_break top bodies Inside Broken ok bad items (after_all c x.0) (edge_of item) f h)
         | inr z ↦ absurd (no_end _ f z.2)
       ]
+    ]
+
+-- a fault of a statement argument
+pub body_breaks : (room : ℕ) → Faults (body_of room) (IsBroken room)
+unfolding body_of
+body_breaks zero c arg f e = sym (err_is {A = Script} _ f e)
+body_breaks (suc room) c arg f e =
+    elim (bind_err _ _ _ e) [
+      | inl h ↦ inl h
+      | inr a ↦ inr (
+        a.0,
+        a.1,
+        elim (bind_err _ _ _ a.2) [
+          | inl h ↦
+              let q = quoted_err (outcome a.0.at a.0.text) f h in
+              subst (TextBreaks (IsBody room) (IsBroken room) c a.0) (sym q.2) (no_items ((outcome_is_fault a.0.at a.0.text q.0).0 q.1))
+          | inr i ↦
+              in_items ((outcome_is_spelling a.0.at a.0.text i.0).0 (quoted_ok (outcome a.0.at a.0.text) i.0 i.1))
+              (items_break false (body_of room) (IsBody room) (IsBroken room) (body_found room) (body_breaks room) i.0 c no_edge f i.2)
+        ],
+      )
     ]

@@ -1,21 +1,37 @@
 -- What is read is so.
-use Rattle.std.proofs.Common.{◌≡◌, ℕ, Bool, true, false, List, [], ◌∷◌, Option, Some, None, Result, Ok, Err, ◌&&◌, refl, subst}
+use Rattle.std.proofs.Common.{◌≡◌, ℕ, zero, suc, Bool, true, false, List, [], ◌∷◌, Option, Some, None, Result, Ok, Err, ◌&&◌, refl, subst}
 use Rattle.m4quote.specs.Entry.{Span, Entry, call, bare}
 use Rattle.m4quote.specs.declared.fault.QuoteFault.{QuoteFault}
 use Rattle.acargs.specs.declared.stand.Edge.{Edge}
 use Rattle.acargs.specs.Idle.{is_idle}
 use Rattle.acargs.specs.Reading.{quoted}
-use Rattle.acargs.specs.Stand.{edge_of}
+use Rattle.acargs.specs.Stand.{edge_of, no_edge}
 use Rattle.acargs.proofs.Binds.{bind_ok, ok_is, wants_ok}
 use Rattle.acmacros.specs.declared.macros.Macro.{Macro}
-use Rattle.acmacros.specs.declared.macros.Macro.TheVariants.{Plain}
+use Rattle.acmacros.specs.declared.macros.ChoiceMacro.{ChoiceMacro}
+use Rattle.acmacros.specs.declared.macros.Macro.TheVariants.{Plain, Choice as A_choice}
 use Rattle.acmacros.specs.declared.scene.Scene as scene
 use Rattle.acmacros.specs.declared.scene.Stage.{Stage}
+use Rattle.acmacros.specs.declared.scene.Stage.TheVariants.{Before, Open, Ended}
 use Rattle.std.proofs.lemmas.Bool.{leb-true}
-use Rattle.acparse.specs.Known.{after_all}
-use Rattle.acparse.specs.Profile.{items_of, item_of, bare_of, call_of, checked, known}
-use Rattle.acparse.specs.Script.{Script, Done}
-use Rattle.acparse.specs.Statements.{MayStand, IsItem, idle_text, plain_call, AreStatements, none, one}
+use Rattle.m4quote.specs.Scan.{outcome, bare_value_of}
+use Rattle.m4quote.proofs.Laws.{outcome_is_spelling, bare_value_is_value}
+use Rattle.baretext.proofs.Laws.{read-text}
+use Rattle.baretext.specs.Reading.{statements_of}
+use Rattle.baretext.specs.declared.assignments.Assignment.{Assignment}
+use Rattle.baretext.specs.declared.fault.BareFault.{BareFault}
+use Rattle.acargs.specs.declared.fault.ParseFault.{ParseFault}
+use Rattle.acargs.specs.Arguments.{is_given}
+use Rattle.acargs.specs.Inside.{inside}
+use Rattle.tree.specs.Known.{after_all}
+use Rattle.tree.specs.Script.{Script, Done, Cases, No_case}
+use Rattle.acparse.specs.Bare.{bare_at, assigned, of_value, idle_or, bare_of}
+use Rattle.acparse.specs.Profile.{Bodies, body_of, items_of, item_of, call_of, checked, known, when_of, subject_of, case_args, default_of, cases_in, choice_of}
+use Rattle.acparse.specs.Statements.{Within, MayStand, IsBare, before, ended, assignments, AreCases, no_more, default, pair, IsItem, bare_text, plain_call, choice, AreStatements, none, one, IsBody}
+
+-- each statement argument that is read is so
+abbrev pub Reads : Bodies → Within → Type 0
+Reads bodies Inside = (c : scene.Scene) (arg : Span) (s : Script) → bodies c arg ≡ Ok s → Inside c arg s
 
 pub quoted_ok : {A : Type 0} (r : Result A QuoteFault) (x : A) → quoted r ≡ Ok x → r ≡ Ok x
 quoted_ok (Ok y) x e = cc
@@ -47,25 +63,81 @@ may_stand top stage edge name args at next m e =
       parted = wants_ok _ _ _ q.1;
     })
 
-bare_found : (top : Bool) (c : scene.Scene) (edge : Edge) (text : List ℕ) (at : ℕ) (next : List Entry) (s : Script) (b : Bool) → is_idle text ≡ b → bare_of c.stage at b ≡ Ok s → IsItem top c edge (bare text at) next s
-bare_found top c edge text at next s true is e = subst (IsItem top c edge (bare text at) next) (ok_is Done s e) (idle_text is)
-bare_found top c edge text at next s false is e = absurd cc
+bare_at_ok : {A : Type 0} (at : ℕ) (r : Result A BareFault) (x : A) → bare_at at r ≡ Ok x → r ≡ Ok x
+bare_at_ok at (Ok y) x e = cc
+bare_at_ok at (Err f) x e = absurd cc
 
-pub item_found : (top : Bool) (c : scene.Scene) (edge : Edge) (item : Entry) (next : List Entry) (s : Script) → item_of top c edge item next ≡ Ok s → IsItem top c edge item next s
-item_found top c edge (bare text at) next s e = bare_found top c edge text at next s (is_idle text) refl e
-item_found top c edge (call name args at) next s e =
+value_found : (at : ℕ) (text : List ℕ) (r : Result (List ℕ) QuoteFault) (s : Script) → bare_value_of text ≡ r → of_value at r ≡ Ok s → IsBare Open text s
+value_found at text (Ok value) s is e =
+    let l = bind_ok (bare_at at (statements_of value)) (λ list. Ok (assigned list)) s e in
+    subst (IsBare Open text) (ok_is _ s l.2)
+    (assignments ((bare_value_is_value text value).0 is) (read-text value l.0 (bare_at_ok at (statements_of value) l.0 l.1)))
+value_found at text (Err f) s is e = absurd cc
+
+idle_found : (stage : Stage) (text : List ℕ) (f : ParseFault) (s : Script) (b : Bool) → (is_idle text ≡ true → IsBare stage text Done) → is_idle text ≡ b → idle_or b f ≡ Ok s → IsBare stage text s
+idle_found stage text f s true h is e = subst (IsBare stage text) (ok_is Done s e) (h is)
+idle_found stage text f s false h is e = absurd cc
+
+bare_found : (stage : Stage) (at : ℕ) (text : List ℕ) (s : Script) → bare_of stage at text ≡ Ok s → IsBare stage text s
+unfolding bare_of
+bare_found Before at text s e = idle_found Before text _ s (is_idle text) before refl e
+bare_found Open at text s e = value_found at text (bare_value_of text) s refl e
+bare_found Ended at text s e = idle_found Ended text _ s (is_idle text) ended refl e
+
+pub cases_found : (bodies : Bodies) (Inside : Within) (ok : Reads bodies Inside) (m : ChoiceMacro) (args : List Span) (c : scene.Scene) (cases : Cases) → cases_in bodies m c args ≡ Ok cases → AreCases Inside m c args cases
+unfolding cases_in
+cases_found bodies Inside ok m [] c cases e = subst (AreCases Inside m c []) (ok_is No_case cases e) no_more
+cases_found bodies Inside ok m (b ∷ []) c cases e =
+    let x = bind_ok (bodies c b) (λ body. Ok (default_of (is_given b) body)) cases e in
+    subst (AreCases Inside m c (b ∷ [])) (ok_is _ cases x.2) (default (ok c b x.0 x.1))
+cases_found bodies Inside ok m (w ∷ a ∷ more) c cases e =
+    let x = bind_ok _ _ _ e in
+    let y = bind_ok _ _ _ x.2 in
+    let z = bind_ok _ _ _ y.2 in
+    subst (AreCases Inside m c (w ∷ a ∷ more)) (ok_is _ cases z.2)
+    (pair x.1 (ok c a y.0 y.1) (cases_found bodies Inside ok m more (after_all c y.0) z.0 z.1))
+
+pub item_found : (top : Bool) (bodies : Bodies) (Inside : Within) (ok : Reads bodies Inside) (c : scene.Scene) (edge : Edge) (item : Entry) (next : List Entry) (s : Script)
+    → item_of top bodies c edge item next ≡ Ok s → IsItem top Inside c edge item next s
+unfolding choice_of
+item_found top bodies Inside ok c edge (bare text at) next s e = bare_text (bare_found c.stage at text s e)
+item_found top bodies Inside ok c edge (call name args at) next s e =
     let m = bind_ok _ _ _ e in call_found m.0 (may_stand top c.stage edge name args at next m.0 m.1) m.2
   where
-    call_found : (m : Macro) → MayStand top c.stage edge name args at next m → call_of c m args ≡ Ok s → IsItem top c edge (call name args at) next s
+    choice_found : (m : ChoiceMacro) → MayStand top c.stage edge name args at next (A_choice m) → choice_of bodies m c args ≡ Ok s → IsItem top Inside c edge (call name args at) next s
+    choice_found m stands e =
+        let x = bind_ok _ _ _ e in
+        let y = bind_ok _ _ _ x.2 in
+        subst (IsItem top Inside c edge (call name args at) next) (ok_is _ s y.2) (choice stands x.1 (cases_found bodies Inside ok m (case_args m args) c y.0 y.1))
+
+    call_found : (m : Macro) → MayStand top c.stage edge name args at next m → call_of bodies c m args ≡ Ok s → IsItem top Inside c edge (call name args at) next s
     call_found (Plain m) stands e =
         let p = bind_ok _ _ _ e in
-        subst (IsItem top c edge (call name args at) next) (ok_is _ s p.2) (plain_call stands p.1)
+        subst (IsItem top Inside c edge (call name args at) next) (ok_is _ s p.2) (plain_call stands p.1)
+    call_found (A_choice m) stands e = choice_found m stands e
 
-pub items_found : (top : Bool) (items : List Entry) (c : scene.Scene) (edge : Edge) (s : Script) → items_of top c edge items ≡ Ok s → AreStatements top c edge items s
+pub items_found : (top : Bool) (bodies : Bodies) (Inside : Within) (ok : Reads bodies Inside) (items : List Entry) (c : scene.Scene) (edge : Edge) (s : Script)
+    → items_of top bodies c edge items ≡ Ok s → AreStatements top Inside c edge items s
 unfolding items_of
-items_found top [] c edge s e = subst (AreStatements top c edge []) (ok_is Done s e) none
-items_found top (item ∷ items) c edge s e =
+items_found top bodies Inside ok [] c edge s e = subst (AreStatements top Inside c edge []) (ok_is Done s e) none
+items_found top bodies Inside ok (item ∷ items) c edge s e =
     let f = bind_ok _ _ _ e in
     let r = bind_ok _ _ _ f.2 in
-    subst (AreStatements top c edge (item ∷ items)) (ok_is _ s r.2)
-    (one (item_found top c edge item items f.0 f.1) (items_found top items (after_all c f.0) (edge_of item) r.0 r.1))
+    subst (AreStatements top Inside c edge (item ∷ items)) (ok_is _ s r.2)
+    (one (item_found top bodies Inside ok c edge item items f.0 f.1) (items_found top bodies Inside ok items (after_all c f.0) (edge_of item) r.0 r.1))
+
+-- a statement argument that is read is one
+pub body_found : (room : ℕ) → Reads (body_of room) (IsBody room)
+unfolding body_of
+body_found zero c arg s e = absurd cc
+body_found (suc room) c arg s e =
+    let a = bind_ok _ _ _ e in
+    let i = bind_ok _ _ _ a.2 in (
+      a.0,
+      a.1,
+      (
+        i.0,
+        (outcome_is_spelling a.0.at a.0.text i.0).0 (quoted_ok (outcome a.0.at a.0.text) i.0 i.1),
+        items_found false (body_of room) (IsBody room) (body_found room) i.0 c no_edge s i.2,
+      ),
+    )

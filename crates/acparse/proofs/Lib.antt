@@ -1,4 +1,4 @@
-pub mod ScriptLemmas
+pub mod Texts
 pub mod Steps
 pub mod Found
 pub mod Only

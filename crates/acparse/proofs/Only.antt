@@ -1,15 +1,27 @@
 -- What is so is read.
-use Rattle.std.proofs.Common.{◌≡◌, ℕ, Bool, true, List, Ok, ◌&&◌, refl, ap}
+use Rattle.std.proofs.Common.{◌≡◌, ℕ, zero, suc, Bool, true, false, List, Ok, ◌&&◌, refl, ap, ◌∙◌}
 use Rattle.m4quote.specs.Entry.{Span, Entry}
+use Rattle.m4quote.proofs.Laws.{outcome_is_spelling, bare_value_is_value}
+use Rattle.baretext.proofs.Laws.{text-read}
+use Rattle.acargs.specs.declared.fault.ParseFault.{ParseFault}
 use Rattle.acargs.specs.declared.stand.Edge.{Edge}
+use Rattle.acargs.specs.Reading.{quoted}
 use Rattle.acargs.proofs.Binds.{then_ok, wants_true}
+use Rattle.acmacros.specs.declared.macros.ChoiceMacro.{ChoiceMacro}
 use Rattle.acmacros.specs.declared.macros.Macro.{Macro}
 use Rattle.acmacros.specs.declared.scene.Scene as scene
 use Rattle.acmacros.specs.declared.scene.Stage.{Stage}
+use Rattle.acmacros.specs.declared.scene.Stage.TheVariants.{Before, Ended}
+use Rattle.acmacros.specs.Scene.{bare_fault}
 use Rattle.std.proofs.lemmas.Bool.{le-leb}
-use Rattle.acparse.specs.Profile.{items_of, item_of, bare_of, checked, known}
-use Rattle.acparse.specs.Script.{Script}
-use Rattle.acparse.specs.Statements.{MayStand, IsItem, idle_text, plain_call, AreStatements, none, one}
+use Rattle.tree.specs.Script.{Script, Cases}
+use Rattle.acparse.specs.Bare.{bare_at, of_value, idle_or, bare_of}
+use Rattle.acparse.specs.Profile.{Bodies, body_of, items_of, item_of, checked, known, cases_in, choice_of}
+use Rattle.acparse.specs.Statements.{Within, MayStand, IsBare, before, ended, assignments, AreCases, no_more, default, pair, IsItem, bare_text, plain_call, choice, AreStatements, none, one, IsBody}
+
+-- each statement argument that is so is read
+abbrev pub Gets : Bodies → Within → Type 0
+Gets bodies Inside = (c : scene.Scene) (arg : Span) (s : Script) → Inside c arg s → bodies c arg ≡ Ok s
 
 both : (a b : Bool) → a ≡ true → b ≡ true → (a && b) ≡ true
 both a b p q = rw (p, q) refl
@@ -22,11 +34,37 @@ is_checked top stage edge name args at next m h =
     (then_ok _ _ tt _ (wants_true _ _ (both _ _ (le-leb _ _ h.least) (le-leb _ _ h.most)))
     (then_ok _ _ tt _ h.in_place (then_ok _ _ tt _ (wants_true _ _ h.parted) refl)))
 
-item_only : (top : Bool) (c : scene.Scene) (edge : Edge) {item : Entry} {next : List Entry} {s : Script} → IsItem top c edge item next s → item_of top c edge item next ≡ Ok s
-item_only top c edge (idle_text is) = ap (bare_of c.stage _) is
-item_only top c edge (plain_call stands p) = then_ok _ _ _ _ (is_checked _ _ _ _ _ _ _ _ stands) (then_ok _ _ _ _ p refl)
+bare_only : {stage : Stage} (at : ℕ) {text : List ℕ} {s : Script} → IsBare stage text s → bare_of stage at text ≡ Ok s
+unfolding bare_of
+bare_only at (before is) = ap (λ b. idle_or b (bare_fault Before at)) is
+bare_only at (ended is) = ap (λ b. idle_or b (bare_fault Ended at)) is
+bare_only at (assignments {text = text} {value = value} {list = list} v l) =
+    ap (of_value at) ((bare_value_is_value text value).1 v) ∙ then_ok _ _ list _ (ap (bare_at at) (text-read value list l)) refl
 
-pub items_only : (top : Bool) {c : scene.Scene} {edge : Edge} {items : List Entry} {s : Script} → AreStatements top c edge items s → items_of top c edge items ≡ Ok s
+cases_only : (bodies : Bodies) (Inside : Within) (ok : Gets bodies Inside) (m : ChoiceMacro) {c : scene.Scene} {args : List Span} {cases : Cases} → AreCases Inside m c args cases → cases_in bodies m c args ≡ Ok cases
+unfolding cases_in
+cases_only bodies Inside ok m no_more = refl
+cases_only bodies Inside ok m (default h) = then_ok _ _ _ _ (ok _ _ _ h) refl
+cases_only bodies Inside ok m (pair w h more) = then_ok _ _ _ _ w (then_ok _ _ _ _ (ok _ _ _ h) (then_ok _ _ _ _ (cases_only bodies Inside ok m more) refl))
+
+item_only : (top : Bool) (bodies : Bodies) (Inside : Within) (ok : Gets bodies Inside) (c : scene.Scene) (edge : Edge) {item : Entry} {next : List Entry} {s : Script}
+    → IsItem top Inside c edge item next s → item_of top bodies c edge item next ≡ Ok s
+unfolding choice_of
+item_only top bodies Inside ok c edge (bare_text h) = bare_only _ h
+item_only top bodies Inside ok c edge (plain_call stands p) = then_ok _ _ _ _ (is_checked _ _ _ _ _ _ _ _ stands) (then_ok _ _ _ _ p refl)
+item_only top bodies Inside ok c edge (choice stands p h) =
+    then_ok _ _ _ _ (is_checked _ _ _ _ _ _ _ _ stands) (then_ok _ _ _ _ p (then_ok _ _ _ _ (cases_only bodies Inside ok _ h) refl))
+
+pub items_only : (top : Bool) (bodies : Bodies) (Inside : Within) (ok : Gets bodies Inside) {c : scene.Scene} {edge : Edge} {items : List Entry} {s : Script}
+    → AreStatements top Inside c edge items s → items_of top bodies c edge items ≡ Ok s
 unfolding items_of
-items_only top none = refl
-items_only top (one i more) = then_ok _ _ _ _ (item_only top _ _ i) (then_ok _ _ _ _ (items_only top more) refl)
+items_only top bodies Inside ok none = refl
+items_only top bodies Inside ok (one i more) = then_ok _ _ _ _ (item_only top bodies Inside ok _ _ i) (then_ok _ _ _ _ (items_only top bodies Inside ok more) refl)
+
+-- what a statement argument is, is read
+pub body_only : (room : ℕ) → Gets (body_of room) (IsBody room)
+unfolding body_of
+body_only zero c arg s h = absurd h
+body_only (suc room) c arg s h =
+    then_ok _ _ h.0 _ h.1 (then_ok _ _ h.2.0 _ (ap quoted ((outcome_is_spelling h.0.at h.0.text h.2.0).1 h.2.1))
+    (items_only false (body_of room) (IsBody room) (body_only room) h.2.2))

@@ -1,97 +1,187 @@
--- What the loop over items keeps.
-use Rattle.std.proofs.Common.{◌≡◌, ◌+◌, ◌-◌, ◌<◌, ℕ, Bool, List, [], ◌∷◌, ◌++◌, length, take, drop, get_or, Result, Ok, Err, refl, ap, sym, ◌∙◌, subst, arith}
+-- What the loops over items and over cases keep.
+use Rattle.std.proofs.Common.{◌≡◌, ◌+◌, ◌-◌, ◌<◌, ◌≤◌, ℕ, Bool, true, false, cond, List, [], ◌∷◌, ◌++◌, length, take, drop, get_or, map, Result, Ok, Err, refl, ap, sym, ◌∙◌, subst, arith}
+use Rattle.std.specs.Prelude.{option_to_list, Option, Some, None}
 use Rattle.std.specs.Result.{MatchResult}
 use Rattle.std.proofs.lemmas.List.{drop_more, take_all, length-drop}
+use Rattle.m4quote.specs.declared.item.Arg.{Arg}
 use Rattle.m4quote.specs.declared.item.Item.{Item}
-use Rattle.m4quote.specs.Entry.{Span, Entry, view, views, call, bare}
+use Rattle.m4quote.specs.Entry.{Span, Entry, span, view, views, call, bare}
 use Rattle.acargs.specs.declared.fault.ParseFault.{ParseFault}
 use Rattle.acargs.specs.declared.stand.Edge.{Edge}
-use Rattle.acargs.specs.Idle.{is_idle}
 use Rattle.acargs.specs.Reading.{◌>>=◌, Fails, Gives}
 use Rattle.acargs.specs.Stand.{edge_of, no_edge}
-use Rattle.acargs.proofs.Binds.{fails_bind, fails_along}
+use Rattle.acargs.proofs.Binds.{bind_ok, ok_is, fails_bind, fails_along}
+use Rattle.acmacros.specs.declared.macros.ChoiceMacro.{ChoiceMacro}
 use Rattle.acmacros.specs.declared.macros.Macro.{Macro}
 use Rattle.acmacros.specs.declared.scene.Scene as scene
-use Rattle.acparse.specs.declared.tree.Stmt.{Stmt}
-use Rattle.acparse.specs.Known.{after_all}
-use Rattle.acparse.specs.Profile.{Adds, bare_of, items_of, item_of, call_of, checked}
-use Rattle.acparse.specs.Script.{Script, Done, joined, script_of}
-use Rattle.acparse.proofs.ScriptLemmas.{script_push, joined_done, joined_assoc, after_joined}
+use Rattle.tree.specs.declared.tree.Case as case
+use Rattle.tree.specs.declared.tree.Stmt.{Stmt}
+use Rattle.tree.specs.declared.tree.When.{When}
+use Rattle.tree.specs.Known.{after_all, after_cases}
+use Rattle.tree.specs.Script.{Script, Done, Then, Choice, Cases, No_case, Case, joined, followed, script_of, cases_of, stmt_then}
+use Rattle.tree.proofs.ScriptLemmas.{script_push, joined_done, joined_assoc, after_joined, cases_push, followed_none, followed_assoc, after_followed}
+use Rattle.acparse.specs.Bare.{bare_of}
+use Rattle.acparse.specs.Profile.{Bodies, Adds, behind, when_of, cases_in, items_of, item_of, call_of, checked}
+use Rattle.acparse.proofs.Texts.{bare_known, fails_inside}
 
--- statements, and those that are read behind them
-abbrev pub behind : Script → Result Script ParseFault → Result Script ParseFault
-behind front read = read >>= λ s. Ok (joined front s)
+-- ---- items
 
 -- the statements so far, with those of the rest of the items, are the list
-pub record Items (top : Bool) (before c : scene.Scene) (edge : Edge) (out : Script) (all rest : List Entry) : Type 0 where
-  pub value : behind out (items_of top c edge rest) ≡ items_of top before no_edge all
+pub record Items (top : Bool) (bodies : Bodies) (before c : scene.Scene) (edge : Edge) (out : Script) (all rest : List Entry) : Type 0 where
+  pub value : behind out (items_of top bodies c edge rest) ≡ items_of top bodies before no_edge all
   pub known : after_all before out ≡ c
 
 regroup : (out first : Script) (read : Result Script ParseFault) → behind out (read >>= λ r. Ok (joined first r)) ≡ behind (joined out first) read
 regroup out first (Ok r) = ap (λ (s : Script). Ok s) (sym (joined_assoc out first r))
 regroup out first (Err f) = refl
 
-items_next : (top : Bool) (before c c' : scene.Scene) (edge : Edge) (out out' : Script) (all : List Entry) (item : Entry) (rest : List Entry)
-    → Items top before c edge out all (item ∷ rest) → Adds c c' out out' (item_of top c edge item rest) → Items top before c' (edge_of item) out' all rest
+items_next : (top : Bool) (bodies : Bodies) (before c c' : scene.Scene) (edge : Edge) (out out' : Script) (all : List Entry) (item : Entry) (rest : List Entry)
+    → Items top bodies before c edge out all (item ∷ rest) → Adds c c' out out' (item_of top bodies c edge item rest) → Items top bodies before c' (edge_of item) out' all rest
 unfolding items_of
-items_next top before c c' edge out out' all item rest i a =
-    let step = λ (s : Script). items_of top (after_all c s) (edge_of item) rest >>= λ r. Ok (joined s r) in
-    let one : behind out (item_of top c edge item rest >>= step) ≡ behind (joined out a.first) (items_of top (after_all c a.first) (edge_of item) rest) =
-    ap (λ x. behind out (x >>= step)) a.value ∙ regroup out a.first (items_of top (after_all c a.first) (edge_of item) rest) in
+items_next top bodies before c c' edge out out' all item rest i a =
+    let step = λ (s : Script). items_of top bodies (after_all c s) (edge_of item) rest >>= λ r. Ok (joined s r) in
+    let one : behind out (item_of top bodies c edge item rest >>= step) ≡ behind (joined out a.first) (items_of top bodies (after_all c a.first) (edge_of item) rest) =
+    ap (λ x. behind out (x >>= step)) a.value ∙ regroup out a.first (items_of top bodies (after_all c a.first) (edge_of item) rest) in
     record {
-      value = ap (λ s. behind s (items_of top c' (edge_of item) rest)) a.list ∙ ap (λ k. behind (joined out a.first) (items_of top k (edge_of item) rest)) a.known ∙ sym one ∙ i.value;
+      value = ap (λ s. behind s (items_of top bodies c' (edge_of item) rest)) a.list ∙ ap (λ k. behind (joined out a.first) (items_of top bodies k (edge_of item) rest)) a.known ∙ sym one ∙ i.value;
       known = ap (after_all before) a.list ∙ after_joined out a.first before ∙ ap (λ k. after_all k a.first) i.known ∙ sym a.known;
     }
 
-items_fail : (e : ParseFault) (top : Bool) (before c : scene.Scene) (edge : Edge) (out : Script) (all : List Entry) (item : Entry) (rest : List Entry)
-    → Items top before c edge out all (item ∷ rest) → Fails e (item_of top c edge item rest) → Fails e (items_of top before no_edge all)
+items_fail : (e : ParseFault) (top : Bool) (bodies : Bodies) (before c : scene.Scene) (edge : Edge) (out : Script) (all : List Entry) (item : Entry) (rest : List Entry)
+    → Items top bodies before c edge out all (item ∷ rest) → Fails e (item_of top bodies c edge item rest) → Fails e (items_of top bodies before no_edge all)
 unfolding items_of
-items_fail e top before c edge out all item rest i h = fails_along e _ _ i.value (fails_bind e _ _ (fails_bind e _ _ h))
+items_fail e top bodies before c edge out all item rest i h = fails_along e _ _ i.value (fails_bind e _ _ (fails_bind e _ _ h))
 
-pub items_done : (top : Bool) (before c : scene.Scene) (edge : Edge) (out : Script) (all rest : List Entry)
-    → rest ≡ [] → Items top before c edge out all rest → items_of top before no_edge all ≡ Ok out
+pub items_done : (top : Bool) (bodies : Bodies) (before c : scene.Scene) (edge : Edge) (out : Script) (all rest : List Entry)
+    → rest ≡ [] → Items top bodies before c edge out all rest → items_of top bodies before no_edge all ≡ Ok out
 unfolding items_of
-items_done top before c edge out all rest eq i =
-    sym i.value ∙ ap (λ l. behind out (items_of top c edge l)) eq ∙ ap (λ (s : Script). Ok s) (joined_done out)
+items_done top bodies before c edge out all rest eq i =
+    sym i.value ∙ ap (λ l. behind out (items_of top bodies c edge l)) eq ∙ ap (λ (s : Script). Ok s) (joined_done out)
 
--- ---- as the loop meets them
+-- ---- as the loop over items meets them
 
 pub views_drop : (items : List Item) (i : ℕ) (item : Item) → i < length items → item ≡ get_or items i item → views (drop i items) ≡ view item ∷ views (drop (i + 1) items)
 views_drop items i item lt is = ap views (drop_more items i item lt) ∙ ap (λ x. view x ∷ views (drop (i + 1) items)) (sym is)
 
 -- what a slice from n on is
-pub slice_from : (items : List Item) (n : ℕ) → take (length items - n) (drop n items) ≡ drop n items
+pub slice_from : {A : Type 0} (items : List A) (n : ℕ) → take (length items - n) (drop n items) ≡ drop n items
 slice_from items n = take_all (length items - n) (drop n items) (omega (arith, length-drop n items))
 
-pub items_step : (top : Bool) (before c c' : scene.Scene) (edge edge' : Edge) (out out' : Script) (all : List Entry) (item : Entry) (here next rest : List Entry)
+pub items_step : (top : Bool) (bodies : Bodies) (before c c' : scene.Scene) (edge edge' : Edge) (out out' : Script) (all : List Entry) (item : Entry) (here next rest : List Entry)
     → here ≡ item ∷ rest → next ≡ rest → edge' ≡ edge_of item
-    → Items top before c edge out all here → Adds c c' out out' (item_of top c edge item next) → Items top before c' edge' out' all rest
-items_step top before c c' edge edge' out out' all item here next rest e n f i a =
-    subst (λ k. Items top before c' k out' all rest) (sym f)
-    (items_next top before c c' edge out out' all item rest (subst (λ l. Items top before c edge out all l) e i) (subst (λ l. Adds c c' out out' (item_of top c edge item l)) n a))
+    → Items top bodies before c edge out all here → Adds c c' out out' (item_of top bodies c edge item next) → Items top bodies before c' edge' out' all rest
+items_step top bodies before c c' edge edge' out out' all item here next rest e n f i a =
+    subst (λ k. Items top bodies before c' k out' all rest) (sym f)
+    (items_next top bodies before c c' edge out out' all item rest (subst (λ l. Items top bodies before c edge out all l) e i) (subst (λ l. Adds c c' out out' (item_of top bodies c edge item l)) n a))
 
-pub items_stop : (x : ParseFault) (top : Bool) (before c : scene.Scene) (edge : Edge) (out : Script) (all : List Entry) (item : Entry) (here next rest : List Entry)
-    → here ≡ item ∷ rest → next ≡ rest → Items top before c edge out all here → Fails x (item_of top c edge item next) → Fails x (items_of top before no_edge all)
-items_stop x top before c edge out all item here next rest e n i h =
-    items_fail x top before c edge out all item rest (subst (λ l. Items top before c edge out all l) e i) (subst (λ l. Fails x (item_of top c edge item l)) n h)
+pub items_stop : (x : ParseFault) (top : Bool) (bodies : Bodies) (before c : scene.Scene) (edge : Edge) (out : Script) (all : List Entry) (item : Entry) (here next rest : List Entry)
+    → here ≡ item ∷ rest → next ≡ rest → Items top bodies before c edge out all here → Fails x (item_of top bodies c edge item next) → Fails x (items_of top bodies before no_edge all)
+items_stop x top bodies before c edge out all item here next rest e n i h =
+    items_fail x top bodies before c edge out all item rest (subst (λ l. Items top bodies before c edge out all l) e i) (subst (λ l. Fails x (item_of top bodies c edge item l)) n h)
 
-pub call_adds : (top : Bool) (c c' : scene.Scene) (at : ℕ) (edge : Edge) (name : List ℕ) (args : List Span) (item : Entry) (next : List Entry) (m : Macro) (out out' : List Stmt) (s : Stmt)
-    → item ≡ call name args at → checked top c.stage edge name args at next ≡ Ok m → call_of c m args ≡ Ok (script_of (s ∷ []))
-    → c' ≡ after_all c (script_of (s ∷ [])) → out' ≡ out ++ s ∷ [] → Adds c c' (script_of out) (script_of out') (item_of top c edge item next)
-call_adds top c c' at edge name args item next m out out' s is check value known list = record {
+pub call_adds : (top : Bool) (bodies : Bodies) (c c' : scene.Scene) (at : ℕ) (edge : Edge) (name : List ℕ) (args : List Span) (item : Entry) (next : List Entry) (m : Macro) (out out' : List Stmt) (s : Stmt)
+    → item ≡ call name args at → checked top c.stage edge name args at next ≡ Ok m → call_of bodies c m args ≡ Ok (script_of (s ∷ []))
+    → c' ≡ after_all c (script_of (s ∷ [])) → out' ≡ out ++ s ∷ [] → Adds c c' (script_of out) (script_of out') (item_of top bodies c edge item next)
+call_adds top bodies c c' at edge name args item next m out out' s is check value known list = record {
   first = script_of (s ∷ []);
-  value = ap (λ i. item_of top c edge i next) is ∙ ap (λ r. r >>= λ m. call_of c m args) check ∙ value;
+  value = ap (λ i. item_of top bodies c edge i next) is ∙ ap (λ r. r >>= λ m. call_of bodies c m args) check ∙ value;
   list = ap script_of list ∙ script_push out s;
   known = known;
 }
 
-pub bare_adds : (r : Result (Unit {0}) ParseFault) (top : Bool) (c : scene.Scene) (at : ℕ) (edge : Edge) (text : List ℕ) (item : Entry) (next : List Entry) (out : Script)
-    → item ≡ bare text at → Gives (λ _. Done) r (bare_of c.stage at (is_idle text))
-    → MatchResult r (λ _. Adds c c out out (item_of top c edge item next)) (λ e. Fails e (item_of top c edge item next))
-bare_adds (Ok x) top c at edge text item next out is h = record {
-  first = Done;
-  value = ap (λ i. item_of top c edge i next) is ∙ h;
-  list = sym (joined_done out);
-  known = refl;
-}
-bare_adds (Err e) top c at edge text item next out is h = fails_along e _ _ (ap (λ i. item_of top c edge i next) (sym is)) h
+pub bare_adds : (r : Result (Unit {0}) ParseFault) (top : Bool) (bodies : Bodies) (c : scene.Scene) (at : ℕ) (edge : Edge) (text : List ℕ) (item : Entry) (next : List Entry) (out out' : Script)
+    → item ≡ bare text at → Gives (λ _. out') r (behind out (bare_of c.stage at text))
+    → MatchResult r (λ _. Adds c c out out' (item_of top bodies c edge item next)) (λ e. Fails e (item_of top bodies c edge item next))
+bare_adds (Ok x) top bodies c at edge text item next out out' is h =
+    let f = bind_ok (bare_of c.stage at text) (λ s. Ok (joined out s)) out' h in
+    record {
+      first = f.0;
+      value = ap (λ i. item_of top bodies c edge i next) is ∙ f.1;
+      list = sym (ok_is _ out' f.2);
+      known = sym (bare_known c c.stage at text f.0 f.1);
+    }
+bare_adds (Err e) top bodies c at edge text item next out out' is h =
+    fails_along e _ _ (ap (λ i. item_of top bodies c edge i next) (sym is)) (fails_inside e out _ h)
+
+-- ---- cases
+
+-- cases, and those that are read behind them
+abbrev pub behind_cases : Cases → Result Cases ParseFault → Result Cases ParseFault
+behind_cases front read = read >>= λ more. Ok (followed front more)
+
+-- the cases so far, with those of the rest of the arguments, are all
+pub record Choices (bodies : Bodies) (m : ChoiceMacro) (before c : scene.Scene) (out : Cases) (all rest : List Span) : Type 0 where
+  pub value : behind_cases out (cases_in bodies m c rest) ≡ cases_in bodies m before all
+  pub known : after_cases before out ≡ c
+
+regroup_cases : (out first : Cases) (read : Result Cases ParseFault) → behind_cases out (read >>= λ r. Ok (followed first r)) ≡ behind_cases (followed out first) read
+regroup_cases out first (Ok r) = ap (λ (s : Cases). Ok s) (sym (followed_assoc out first r))
+regroup_cases out first (Err f) = refl
+
+cases_next : (bodies : Bodies) (m : ChoiceMacro) (before c c' : scene.Scene) (cases cases' : List case.Case) (x : case.Case) (all : List Span) (w a : Span) (more : List Span)
+    → Choices bodies m before c (cases_of cases) all (w ∷ a ∷ more) → when_of m w ≡ Ok x.when → bodies c a ≡ Ok (script_of x.body.items)
+    → c' ≡ after_all c (script_of x.body.items) → cases' ≡ cases ++ x ∷ [] → Choices bodies m before c' (cases_of cases') all more
+unfolding cases_in
+cases_next bodies m before c c' cases cases' x all w a more i when_is body_is known list =
+    let body = script_of x.body.items in
+    let one = Case x.when body No_case in
+    let last = λ (when : When) (b : Script). cases_in bodies m (after_all c b) more >>= λ others. Ok (Case when b others) in
+    let out = cases_of cases in
+    let step : behind_cases out (when_of m w >>= λ when. bodies c a >>= last when) ≡ behind_cases (followed out one) (cases_in bodies m (after_all c body) more) =
+    ap (λ r. behind_cases out (r >>= λ when. bodies c a >>= last when)) when_is ∙ ap (λ r. behind_cases out (r >>= last x.when)) body_is
+    ∙ regroup_cases out one (cases_in bodies m (after_all c body) more) in
+    let new : cases_of cases' ≡ followed out one = ap cases_of list ∙ cases_push cases x in
+    record {
+      value = ap (λ o. behind_cases o (cases_in bodies m c' more)) new ∙ ap (λ k. behind_cases (followed out one) (cases_in bodies m k more)) known ∙ sym step ∙ i.value;
+      known = ap (after_cases before) new ∙ after_followed out one before ∙ ap (λ k. after_all k body) i.known ∙ sym known;
+    }
+
+-- ---- as the loop over cases meets them
+
+-- two arguments, as any default reads them
+spans_at : (args : List Arg) (i : ℕ) (d e : Arg) → i + 1 < length args → map span (drop i args) ≡ span (get_or args i d) ∷ span (get_or args (i + 1) e) ∷ map span (drop (i + 2) args)
+spans_at args i d e lt =
+    let one : i < length args = omega arith in
+    ap (map span) (drop_more args i d one) ∙ ap (λ l. span (get_or args i d) ∷ map span l) (drop_more args (i + 1) e lt)
+    ∙ ap (λ n. span (get_or args i d) ∷ span (get_or args (i + 1) e) ∷ map span (drop n args)) (omega arith)
+
+pub spans_drop : (args : List Arg) (i : ℕ) (x y : Arg) → i + 1 < length args → x ≡ get_or args i x → y ≡ get_or args (i + 1) y → map span (drop i args) ≡ span x ∷ span y ∷ map span (drop (i + 2) args)
+spans_drop args i x y lt is_x is_y =
+    spans_at args i x y lt
+    ∙ ap (λ a. span a ∷ span (get_or args (i + 1) y) ∷ map span (drop (i + 2) args)) (sym is_x)
+    ∙ ap (λ a. span x ∷ span a ∷ map span (drop (i + 2) args)) (sym is_y)
+
+pub spans_front : (args : List Arg) (i : ℕ) (x : Arg) → i + 1 < length args → x ≡ get_or args i x → map span (drop i args) ≡ span x ∷ span (get_or args (i + 1) x) ∷ map span (drop (i + 2) args)
+spans_front args i x lt is_x = spans_at args i x x lt ∙ ap (λ a. span a ∷ span (get_or args (i + 1) x) ∷ map span (drop (i + 2) args)) (sym is_x)
+
+pub cases_step : (bodies : Bodies) (m : ChoiceMacro) (before c c' : scene.Scene) (cases cases' : List case.Case) (x : case.Case) (all here rest : List Span) (w a : Span)
+    → here ≡ w ∷ a ∷ rest → Choices bodies m before c (cases_of cases) all here → when_of m w ≡ Ok x.when → bodies c a ≡ Ok (script_of x.body.items)
+    → c' ≡ after_all c (script_of x.body.items) → cases' ≡ cases ++ x ∷ [] → Choices bodies m before c' (cases_of cases') all rest
+cases_step bodies m before c c' cases cases' x all here rest w a e i p q k l =
+    cases_next bodies m before c c' cases cases' x all w a rest (subst (λ s. Choices bodies m before c (cases_of cases) all s) e i) p q k l
+
+pub cases_fail : (e : ParseFault) (bodies : Bodies) (m : ChoiceMacro) (before c : scene.Scene) (out : Cases) (all here : List Span)
+    → Choices bodies m before c out all here → Fails e (cases_in bodies m c here) → Fails e (cases_in bodies m before all)
+cases_fail e bodies m before c out all here i h = fails_along e _ _ i.value (fails_bind e _ _ h)
+
+pub when_fails : (e : ParseFault) (bodies : Bodies) (m : ChoiceMacro) (c : scene.Scene) (here more : List Span) (w a : Span) → here ≡ w ∷ a ∷ more → Fails e (when_of m w) → Fails e (cases_in bodies m c here)
+unfolding cases_in
+when_fails e bodies m c here more w a is h = fails_along e _ _ (sym (ap (cases_in bodies m c) is)) (fails_bind e _ _ h)
+
+pub body_fails : (e : ParseFault) (bodies : Bodies) (m : ChoiceMacro) (c : scene.Scene) (here more : List Span) (w a : Span) (when : When) → here ≡ w ∷ a ∷ more → when_of m w ≡ Ok when → Fails e (bodies c a)
+    → Fails e (cases_in bodies m c here)
+unfolding cases_in
+body_fails e bodies m c here more w a when is ok h =
+    fails_along e _ _ (sym (ap (cases_in bodies m c) is))
+    (fails_along e _ _ (ap (λ r. r >>= λ when. bodies c a >>= λ body. cases_in bodies m (after_all c body) more >>= λ others. Ok (Case when body others)) (sym ok)) (fails_bind e _ _ h))
+
+-- at the end a default is pushed, or none
+pub cases_done : (bodies : Bodies) (m : ChoiceMacro) (before c : scene.Scene) (cases : List case.Case) (last : Option case.Case) (all here seen : List Span)
+    → Choices bodies m before c (cases_of cases) all here → seen ≡ here → cases_in bodies m c seen ≡ Ok (cases_of (option_to_list last))
+    → cases_in bodies m before all ≡ Ok (followed (cases_of cases) (cases_of (option_to_list last)))
+cases_done bodies m before c cases last all here seen i same h = sym i.value ∙ ap (λ s. behind_cases (cases_of cases) (cases_in bodies m c s)) (sym same) ∙ ap (behind_cases (cases_of cases)) h
+
+pub default_known : (before c c' : scene.Scene) (cases : List case.Case) (last : Option case.Case) → after_cases before (cases_of cases) ≡ c → c' ≡ after_cases c (cases_of (option_to_list last))
+    → c' ≡ after_cases before (followed (cases_of cases) (cases_of (option_to_list last)))
+default_known before c c' cases last k h =
+    h ∙ ap (λ x. after_cases x (cases_of (option_to_list last))) (sym k) ∙ sym (after_followed (cases_of cases) (cases_of (option_to_list last)) before)

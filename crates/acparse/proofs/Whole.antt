@@ -11,13 +11,15 @@ use Rattle.acargs.proofs.Binds.{bind_ok, bind_err, then_ok, ok_is, err_is}
 use Rattle.acmacros.specs.declared.scene.Stage.{Stage}
 use Rattle.acmacros.specs.declared.scene.Stage.TheVariants.{Before, Open, Ended}
 use Rattle.acparse.specs.declared.source.Source.{Source}
-use Rattle.acparse.specs.Known.{start, after_all}
-use Rattle.acparse.specs.Profile.{source_of, ended}
-use Rattle.acparse.specs.Script.{Script, script_of}
+use Rattle.tree.specs.Known.{start, after_all}
+use Rattle.acparse.specs.Profile.{source_of, body_of, ended}
+use Rattle.tree.specs.Script.{Script, script_of}
 use Rattle.acparse.specs.Source.{IsList, IsSource, IsSourceFault, no_items, in_items, no_init, no_output}
-use Rattle.acparse.proofs.Broken.{quoted_err, items_break}
-use Rattle.acparse.proofs.Found.{quoted_ok, items_found}
-use Rattle.acparse.proofs.Only.{items_only}
+use Rattle.acparse.specs.Breaks.{IsBroken}
+use Rattle.acparse.specs.Statements.{IsBody}
+use Rattle.acparse.proofs.Broken.{quoted_err, items_break, body_breaks}
+use Rattle.acparse.proofs.Found.{quoted_ok, items_found, body_found}
+use Rattle.acparse.proofs.Only.{items_only, body_only}
 
 ended_ok : (stage : Stage) (s t : Script) → ended stage s ≡ Ok t → (stage ≡ Ended) × (s ≡ t)
 ended_ok Before s t e = absurd cc
@@ -31,7 +33,7 @@ source_found text s e =
     let l = bind_ok _ _ _ i.2 in
     let z = ended_ok _ l.0 s l.2 in
     subst (IsSource text) z.1 (record {
-      list = record { items = i.0; spelled = (outcome_is_spelling 0 text i.0).0 (quoted_ok (outcome 0 text) i.0 i.1); statements = items_found true i.0 start no_edge l.0 l.1 };
+      list = record { items = i.0; spelled = (outcome_is_spelling 0 text i.0).0 (quoted_ok (outcome 0 text) i.0 i.1); statements = items_found true (body_of 31) (IsBody 31) (body_found 31) i.0 start no_edge l.0 l.1 };
       ended = z.0;
     })
 
@@ -39,7 +41,7 @@ pub source_only : (text : List ℕ) (s : Script) → IsSource text s → source_
 unfolding source_of
 source_only text s h =
     then_ok _ _ h.list.items _ (ap quoted ((outcome_is_spelling 0 text h.list.items).1 h.list.spelled))
-    (then_ok _ _ s _ (items_only true h.list.statements) (ap (λ stage. ended stage s) h.ended))
+    (then_ok _ _ s _ (items_only true (body_of 31) (IsBody 31) (body_only 31) h.list.statements) (ap (λ stage. ended stage s) h.ended))
 
 ended_err : (text : List ℕ) (stage : Stage) (s : Script) (f : ParseFault) → (after_all start s).stage ≡ stage → IsList text s → ended stage s ≡ Err f → IsSourceFault text f
 ended_err text Before s f is h e = subst (IsSourceFault text) (err_is {A = Script} _ f e) (no_init h is)
@@ -54,8 +56,8 @@ source_fault text f e =
       | inr i ↦
           let spelled = (outcome_is_spelling 0 text i.0).0 (quoted_ok (outcome 0 text) i.0 i.1) in
           elim (bind_err _ _ _ i.2) [
-            | inl h ↦ in_items spelled (items_break true i.0 start no_edge f h)
-            | inr s ↦ ended_err text (after_all start s.0).stage s.0 f refl (record { items = i.0; spelled = spelled; statements = items_found true i.0 start no_edge s.0 s.1 }) s.2
+            | inl h ↦ in_items spelled (items_break true (body_of 31) (IsBody 31) (IsBroken 31) (body_found 31) (body_breaks 31) i.0 start no_edge f h)
+            | inr s ↦ ended_err text (after_all start s.0).stage s.0 f refl (record { items = i.0; spelled = spelled; statements = items_found true (body_of 31) (IsBody 31) (body_found 31) i.0 start no_edge s.0 s.1 }) s.2
           ]
     ]
 

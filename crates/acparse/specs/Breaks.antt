@@ -1,22 +1,36 @@
--- The first fault of items: everything before it has statements, and it names what is wrong at its place.
-use Rattle.std.specs.Prelude.{◌≡◌, ℕ, ◌<◌, Bool, false, List, ◌∷◌, length, Some, None, Err}
+-- The first fault of items: everything before it, in its list and in each list round it, has statements, and it names
+-- what is wrong at its place.
+use Rattle.std.specs.Prelude.{◌≡◌, ℕ, zero, suc, ◌<◌, ◌⊎◌, Bool, false, List, [], ◌∷◌, length, Some, None, Ok, Err}
 use Rattle.m4quote.specs.Entry.{Span, Entry, call, bare}
+use Rattle.m4quote.specs.Faults.{IsFirstFault}
+use Rattle.m4quote.specs.Spelling.{IsSpelling}
+use Rattle.m4quote.specs.declared.fault.QuoteFault.{QuoteFault}
 use Rattle.acargs.specs.declared.fault.ParseFault.{ParseFault}
-use Rattle.acargs.specs.declared.fault.ParseFault.TheVariants.{UnknownMacro, UnknownStatement, ArgCount}
+use Rattle.acargs.specs.declared.fault.ParseFault.TheVariants.{UnknownMacro, UnknownStatement, ArgCount, TooDeep}
 use Rattle.acargs.specs.declared.stand.Edge.{Edge}
-use Rattle.acargs.specs.Idle.{is_idle}
-use Rattle.acargs.specs.Stand.{edge_of, is_statement}
+use Rattle.acargs.specs.Inside.{inside}
+use Rattle.acargs.specs.Reading.{quote_fault}
+use Rattle.acargs.specs.Stand.{edge_of, no_edge, is_statement}
+use Rattle.shellword.specs.declared.part.Part.{Part}
+use Rattle.acmacros.specs.declared.macros.ChoiceMacro.{ChoiceMacro}
 use Rattle.acmacros.specs.declared.macros.Macro.{Macro}
-use Rattle.acmacros.specs.declared.macros.Macro.TheVariants.{Plain}
+use Rattle.acmacros.specs.declared.macros.Macro.TheVariants.{Plain, Choice as A_choice}
 use Rattle.acmacros.specs.declared.macros.PlainMacro.{PlainMacro}
 use Rattle.acmacros.specs.declared.scene.Scene as scene
 use Rattle.acmacros.specs.declared.scene.Stage.{Stage}
 use Rattle.acmacros.specs.Rows.{plain_of}
-use Rattle.acmacros.specs.Scene.{placed, bare_fault}
+use Rattle.acmacros.specs.Scene.{placed}
 use Rattle.acmacros.specs.Table.{macro_named, row}
-use Rattle.acparse.specs.Known.{after_all}
-use Rattle.acparse.specs.Script.{Script}
-use Rattle.acparse.specs.Statements.{MayStand, IsItem}
+use Rattle.tree.specs.declared.tree.When.{When}
+use Rattle.tree.specs.Known.{after_all}
+use Rattle.tree.specs.Script.{Script}
+use Rattle.acparse.specs.Bare.{bare_of}
+use Rattle.acparse.specs.Profile.{when_of, subject_of, case_args}
+use Rattle.acparse.specs.Statements.{Within, MayStand, IsItem, IsBody}
+
+-- the first fault of a statement argument, behind what is known
+abbrev pub WithinBreaks : Type 1
+WithinBreaks = scene.Scene → Span → ParseFault → Type 0
 
 -- A call may not stand here.
 pub data MayNotStand (top : Bool) (stage : Stage) (edge : Edge) (name : List ℕ) (args : List Span) (at : ℕ) (behind : List Entry) : ParseFault → Type 0 where
@@ -26,18 +40,45 @@ pub data MayNotStand (top : Bool) (stage : Stage) (edge : Edge) (name : List ℕ
   not_here : {m : Macro} {f : ParseFault} → macro_named name ≡ Some m → placed top stage m at ≡ Err f → MayNotStand top stage edge name args at behind f
   in_text : {m : Macro} → macro_named name ≡ Some m → is_statement edge name args at behind ≡ false → MayNotStand top stage edge name args at behind (UnknownStatement at)
 
--- An item is at fault: bare text says something, a call may not stand, or an argument of it has not its form.
-pub data ItemBreaks (top : Bool) (c : scene.Scene) (edge : Edge) : Entry → List Entry → ParseFault → Type 0 where
-  other_text : {text : List ℕ} {at : ℕ} {behind : List Entry} → is_idle text ≡ false → ItemBreaks top c edge (bare text at) behind (bare_fault c.stage at)
+-- An argument among cases is at fault, and those before it are not.
+pub data CasesBreak (Inside : Within) (Broken : WithinBreaks) (m : ChoiceMacro) : scene.Scene → List Span → ParseFault → Type 0 where
+  in_condition : {c : scene.Scene} {condition arg : Span} {more : List Span} {f : ParseFault}
+      → when_of m condition ≡ Err f → CasesBreak Inside Broken m c (condition ∷ arg ∷ more) f
+  in_body : {c : scene.Scene} {condition arg : Span} {more : List Span} {when : When} {f : ParseFault}
+      → when_of m condition ≡ Ok when → Broken c arg f → CasesBreak Inside Broken m c (condition ∷ arg ∷ more) f
+  behind_case : {c : scene.Scene} {condition arg : Span} {more : List Span} {when : When} {body : Script} {f : ParseFault}
+      → when_of m condition ≡ Ok when → Inside c arg body → CasesBreak Inside Broken m (after_all c body) more f
+      → CasesBreak Inside Broken m c (condition ∷ arg ∷ more) f
+  in_default : {c : scene.Scene} {arg : Span} {f : ParseFault} → Broken c arg f → CasesBreak Inside Broken m c (arg ∷ []) f
+
+-- An item is at fault: bare text says something else than statements, a call may not stand, or an argument of it has not
+-- its form.
+pub data ItemBreaks (top : Bool) (Inside : Within) (Broken : WithinBreaks) (c : scene.Scene) (edge : Edge) : Entry → List Entry → ParseFault → Type 0 where
+  other_text : {text : List ℕ} {at : ℕ} {behind : List Entry} {f : ParseFault} → bare_of c.stage at text ≡ Err f → ItemBreaks top Inside Broken c edge (bare text at) behind f
   may_not_stand : {name : List ℕ} {args : List Span} {at : ℕ} {behind : List Entry} {f : ParseFault}
-      → MayNotStand top c.stage edge name args at behind f → ItemBreaks top c edge (call name args at) behind f
+      → MayNotStand top c.stage edge name args at behind f → ItemBreaks top Inside Broken c edge (call name args at) behind f
   argument : {name : List ℕ} {args : List Span} {at : ℕ} {behind : List Entry} {m : PlainMacro} {f : ParseFault}
-      → MayStand top c.stage edge name args at behind (Plain m) → plain_of c.files m args ≡ Err f → ItemBreaks top c edge (call name args at) behind f
+      → MayStand top c.stage edge name args at behind (Plain m) → plain_of c m args ≡ Err f → ItemBreaks top Inside Broken c edge (call name args at) behind f
+  in_subject : {name : List ℕ} {args : List Span} {at : ℕ} {behind : List Entry} {m : ChoiceMacro} {f : ParseFault}
+      → MayStand top c.stage edge name args at behind (A_choice m) → subject_of m args ≡ Err f → ItemBreaks top Inside Broken c edge (call name args at) behind f
+  in_cases : {name : List ℕ} {args : List Span} {at : ℕ} {behind : List Entry} {m : ChoiceMacro} {subject : List Part} {f : ParseFault}
+      → MayStand top c.stage edge name args at behind (A_choice m) → subject_of m args ≡ Ok subject → CasesBreak Inside Broken m c (case_args m args) f
+      → ItemBreaks top Inside Broken c edge (call name args at) behind f
 
 -- The first item at fault, behind items that have statements.
-pub data Breaks (top : Bool) : scene.Scene → Edge → List Entry → ParseFault → Type 0 where
+pub data Breaks (top : Bool) (Inside : Within) (Broken : WithinBreaks) : scene.Scene → Edge → List Entry → ParseFault → Type 0 where
   here : {c : scene.Scene} {edge : Edge} {item : Entry} {items : List Entry} {f : ParseFault}
-      → ItemBreaks top c edge item items f → Breaks top c edge (item ∷ items) f
+      → ItemBreaks top Inside Broken c edge item items f → Breaks top Inside Broken c edge (item ∷ items) f
   behind : {c : scene.Scene} {edge : Edge} {item : Entry} {items : List Entry} {first : Script} {f : ParseFault}
-      → IsItem top c edge item items first → Breaks top (after_all c first) (edge_of item) items f
-      → Breaks top c edge (item ∷ items) f
+      → IsItem top Inside c edge item items first → Breaks top Inside Broken (after_all c first) (edge_of item) items f
+      → Breaks top Inside Broken c edge (item ∷ items) f
+
+-- The text that an argument stands for is at fault: it can't be read as items, or has an item at fault.
+pub data TextBreaks (Inside : Within) (Broken : WithinBreaks) (c : scene.Scene) (a : Span) : ParseFault → Type 0 where
+  no_items : {q : QuoteFault} → IsFirstFault a.at a.text q → TextBreaks Inside Broken c a (quote_fault q)
+  in_items : {items : List Entry} {f : ParseFault} → IsSpelling a.at a.text items → Breaks false Inside Broken c no_edge items f → TextBreaks Inside Broken c a f
+
+-- A statement argument is at fault: it stands too deep, or for no text, or its text is at fault.
+abbrev pub IsBroken : ℕ → WithinBreaks
+IsBroken zero c arg f = f ≡ TooDeep arg.at
+IsBroken (suc room) c arg f = (inside arg ≡ Err f) ⊎ ((a : Span) × (inside arg ≡ Ok a) × TextBreaks (IsBody room) (IsBroken room) c a f)

@@ -1,5 +1,4 @@
-pub mod Script
-pub mod Known
+pub mod Bare
 pub mod Profile
 pub mod Statements
 pub mod Breaks

@@ -1,24 +1,36 @@
 -- Which statements a source is, and its first fault, as one function of its text. It says which of two faults of one
 -- item is named; what a tree and a fault are, apart from any order, is in Source.
-use Rattle.std.specs.Prelude.{◌≡◌, ℕ, ◌&&◌, Bool, true, List, [], ◌∷◌, length, Option, Some, None, Result, Ok, Err, nat_le, if◌then◌else◌}
+use Rattle.std.specs.Prelude.{◌≡◌, ℕ, zero, suc, ◌&&◌, Bool, true, false, List, [], ◌∷◌, length, drop, Option, Some, None, Result, Ok, Err, nat_le, if◌then◌else◌}
 use Rattle.m4quote.specs.Entry.{Span, Entry, call, bare}
 use Rattle.m4quote.specs.Scan.{outcome}
+use Rattle.shellword.specs.declared.part.Part.{Part}
 use Rattle.acargs.specs.declared.fault.ParseFault.{ParseFault}
-use Rattle.acargs.specs.declared.fault.ParseFault.TheVariants.{UnknownMacro, UnknownStatement, ArgCount, NoInit, NoOutput}
+use Rattle.acargs.specs.declared.fault.ParseFault.TheVariants.{UnknownMacro, UnknownStatement, ArgCount, NoInit, NoOutput, TooDeep}
 use Rattle.acargs.specs.declared.stand.Edge.{Edge}
-use Rattle.acargs.specs.Idle.{is_idle}
+use Rattle.acargs.specs.Arguments.{arg_at, is_given}
+use Rattle.acargs.specs.Inside.{inside}
 use Rattle.acargs.specs.Reading.{◌>>=◌, wants, quoted}
+use Rattle.acargs.specs.Shell.{word, test, patterns}
 use Rattle.acargs.specs.Stand.{edge_of, no_edge, is_statement}
+use Rattle.acmacros.specs.declared.macros.ChoiceMacro.{ChoiceMacro}
+use Rattle.acmacros.specs.declared.macros.ChoiceMacro.TheVariants.{If, Case as As_case}
 use Rattle.acmacros.specs.declared.macros.Macro.{Macro}
-use Rattle.acmacros.specs.declared.macros.Macro.TheVariants.{Plain}
+use Rattle.acmacros.specs.declared.macros.Macro.TheVariants.{Plain, Choice as A_choice}
 use Rattle.acmacros.specs.declared.scene.Stage.{Stage}
 use Rattle.acmacros.specs.declared.scene.Stage.TheVariants.{Before, Open, Ended}
 use Rattle.acmacros.specs.declared.scene.Scene as scene
 use Rattle.acmacros.specs.Rows.{plain_of}
-use Rattle.acmacros.specs.Scene.{placed, bare_fault}
+use Rattle.acmacros.specs.Scene.{placed}
 use Rattle.acmacros.specs.Table.{macro_named, row}
-use Rattle.acparse.specs.Known.{start, after_all}
-use Rattle.acparse.specs.Script.{Script, Done, Then, joined}
+use Rattle.tree.specs.declared.tree.When.{When}
+use Rattle.tree.specs.declared.tree.When.TheVariants.{Holds, Matches, Always}
+use Rattle.tree.specs.Known.{start, after_all}
+use Rattle.tree.specs.Script.{Script, Done, Then, Choice, Cases, No_case, Case, joined}
+use Rattle.acparse.specs.Bare.{bare_of}
+
+-- what reads a statement argument: what is known before it, and the argument
+abbrev pub Bodies : Type 0
+Bodies = scene.Scene → Span → Result Script ParseFault
 
 -- Statements were read and added to a list; what is known goes with them.
 pub record Adds (before behind : scene.Scene) (old new : Script) (read : Result Script ParseFault) : Type 0 where
@@ -26,6 +38,56 @@ pub record Adds (before behind : scene.Scene) (old new : Script) (read : Result 
   pub value : read ≡ Ok first
   pub list : new ≡ joined old first
   pub known : behind ≡ after_all before first
+
+-- statements, and those that are read behind them
+abbrev pub behind : Script → Result Script ParseFault → Result Script ParseFault
+behind front read = read >>= λ s. Ok (joined front s)
+
+-- ---- choices
+
+-- what decides for a case: the test of AS_IF, the patterns of AS_CASE
+unfoldable pub when_of : ChoiceMacro → Span → Result When ParseFault
+when_of If arg = test arg >>= λ t. Ok (Holds t)
+when_of As_case arg = patterns arg >>= λ p. Ok (Matches p)
+
+-- the subject: the word of AS_CASE, and nothing for AS_IF
+unfoldable pub subject_of : ChoiceMacro → List Span → Result (List Part) ParseFault
+subject_of If args = Ok []
+subject_of As_case args = word (arg_at args 0)
+
+-- the arguments that are cases
+abbrev pub case_args : ChoiceMacro → List Span → List Span
+case_args If args = args
+case_args As_case args = drop 1 args
+
+-- no statement
+abbrev pub is_done : Script → Bool
+is_done Done = true
+is_done (Then s rest) = false
+is_done (Choice subject cases rest) = false
+
+-- the default, where one is given
+abbrev pub default_of : Bool → Script → Cases
+default_of given body = if given then Case Always body No_case else (if is_done body then No_case else Case Always body No_case)
+
+-- the cases of arguments: what decides and then statements, in pairs, and at the end a default alone
+unfoldable pub cases_in : Bodies → ChoiceMacro → scene.Scene → List Span → Result Cases ParseFault
+cases_in bodies m c [] = Ok No_case
+cases_in bodies m c (b ∷ []) = bodies c b >>= λ body. Ok (default_of (is_given b) body)
+cases_in bodies m c (w ∷ a ∷ more) = do
+  when ← when_of m w
+  body ← bodies c a
+  others ← cases_in bodies m (after_all c body) more
+  Ok (Case when body others)
+
+-- AS_IF(test, statements, [test, statements].., [default]), AS_CASE(word, patterns, statements, .., [default])
+unfoldable pub choice_of : Bodies → ChoiceMacro → scene.Scene → List Span → Result Script ParseFault
+choice_of bodies m c args = do
+  subject ← subject_of m args
+  cases ← cases_in bodies m c (case_args m args)
+  Ok (Choice subject cases Done)
+
+-- ---- items
 
 abbrev pub known : ℕ → Option Macro → Result Macro ParseFault
 known at None = Err (UnknownMacro at)
@@ -42,29 +104,36 @@ checked top stage edge name args at behind = do
   Ok m
 
 -- the statement of a call
-abbrev pub call_of : scene.Scene → Macro → List Span → Result Script ParseFault
-call_of c (Plain m) args = do
-  s ← plain_of c.files m args
+abbrev pub call_of : Bodies → scene.Scene → Macro → List Span → Result Script ParseFault
+call_of bodies c (Plain m) args = do
+  s ← plain_of c m args
   Ok (Then s Done)
-
--- bare text that says nothing
-abbrev pub bare_of : Stage → ℕ → Bool → Result Script ParseFault
-bare_of stage at idle = if idle then Ok Done else Err (bare_fault stage at)
+call_of bodies c (A_choice m) args = choice_of bodies m c args
 
 -- the statements of an item between what stands before it and the items behind it
-abbrev pub item_of : Bool → scene.Scene → Edge → Entry → List Entry → Result Script ParseFault
-item_of top c edge (bare text at) behind = bare_of c.stage at (is_idle text)
-item_of top c edge (call name args at) behind = do
+abbrev pub item_of : Bool → Bodies → scene.Scene → Edge → Entry → List Entry → Result Script ParseFault
+item_of top bodies c edge (bare text at) behind = bare_of c.stage at text
+item_of top bodies c edge (call name args at) behind = do
   m ← checked top c.stage edge name args at behind
-  call_of c m args
+  call_of bodies c m args
 
 -- the statements of items, one after another
-unfoldable pub items_of : Bool → scene.Scene → Edge → List Entry → Result Script ParseFault
-items_of top c edge [] = Ok Done
-items_of top c edge (item ∷ items) = do
-  first ← item_of top c edge item items
-  rest ← items_of top (after_all c first) (edge_of item) items
+unfoldable pub items_of : Bool → Bodies → scene.Scene → Edge → List Entry → Result Script ParseFault
+items_of top bodies c edge [] = Ok Done
+items_of top bodies c edge (item ∷ items) = do
+  first ← item_of top bodies c edge item items
+  rest ← items_of top bodies (after_all c first) (edge_of item) items
   Ok (joined first rest)
+
+-- a statement argument, where so many lists may stand in one another
+unfoldable pub body_of : (room : ℕ) → Bodies
+body_of zero c arg = Err (TooDeep arg.at)
+body_of (suc room) c arg = do
+  a ← inside arg
+  items ← quoted (outcome a.at a.text)
+  items_of false (body_of room) c no_edge items
+
+-- ---- a source
 
 -- a source's statements at its end
 abbrev pub ended : Stage → Script → Result Script ParseFault
@@ -72,8 +141,9 @@ ended Before s = Err NoInit
 ended Open s = Err NoOutput
 ended Ended s = Ok s
 
+-- A source: 31 lists may stand in one another within its own.
 unfoldable pub source_of : List ℕ → Result Script ParseFault
 source_of text = do
   items ← quoted (outcome 0 text)
-  s ← items_of true start no_edge items
+  s ← items_of true (body_of 31) start no_edge items
   ended (after_all start s).stage s

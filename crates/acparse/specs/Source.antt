@@ -9,16 +9,16 @@ use Rattle.acargs.specs.declared.fault.ParseFault.TheVariants.{NoInit, NoOutput}
 use Rattle.acargs.specs.Reading.{quote_fault}
 use Rattle.acargs.specs.Stand.{no_edge}
 use Rattle.acmacros.specs.declared.scene.Stage.TheVariants.{Before, Open, Ended}
-use Rattle.acparse.specs.Breaks.{Breaks}
-use Rattle.acparse.specs.Known.{start, after_all}
-use Rattle.acparse.specs.Script.{Script}
-use Rattle.acparse.specs.Statements.{AreStatements}
+use Rattle.acparse.specs.Breaks.{Breaks, IsBroken}
+use Rattle.tree.specs.Known.{start, after_all}
+use Rattle.tree.specs.Script.{Script}
+use Rattle.acparse.specs.Statements.{AreStatements, IsBody}
 
--- The text spells items, and these are statements.
+-- The text spells items, and these are statements, with at most 31 lists in one another within.
 pub record IsList (text : List ℕ) (s : Script) : Type 0 where
   pub items : List Entry
   pub spelled : IsSpelling 0 text items
-  pub statements : AreStatements true start no_edge items s
+  pub statements : AreStatements true (IsBody 31) start no_edge items s
 
 -- The source is these statements, from AC_INIT to AC_OUTPUT.
 pub record IsSource (text : List ℕ) (s : Script) : Type 0 where
@@ -28,6 +28,6 @@ pub record IsSource (text : List ℕ) (s : Script) : Type 0 where
 -- The fault names what is wrong at its place, and all before it is right.
 pub data IsSourceFault (text : List ℕ) : ParseFault → Type 0 where
   no_items : {q : QuoteFault} → IsFirstFault 0 text q → IsSourceFault text (quote_fault q)
-  in_items : {items : List Entry} {f : ParseFault} → IsSpelling 0 text items → Breaks true start no_edge items f → IsSourceFault text f
+  in_items : {items : List Entry} {f : ParseFault} → IsSpelling 0 text items → Breaks true (IsBody 31) (IsBroken 31) start no_edge items f → IsSourceFault text f
   no_init : {s : Script} → IsList text s → (after_all start s).stage ≡ Before → IsSourceFault text NoInit
   no_output : {s : Script} → IsList text s → (after_all start s).stage ≡ Open → IsSourceFault text NoOutput

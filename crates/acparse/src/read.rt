@@ -1,25 +1,29 @@
 //! Lists of statements.
 
-ghost use Rattle.std.specs.Prelude.{◌≡◌, MatchResult, [], ◌∷◌, map, length, IfOk, Ok};
+ghost use Rattle.std.specs.Prelude.{◌≡◌, ◌≤◌, MatchResult, [], ◌∷◌, map, length, option_to_list, IfOk, Ok};
 ghost use Rattle.m4quote.specs.Entry.{span, view, views};
-ghost use Rattle.acargs.specs.Idle.{is_idle};
 ghost use Rattle.acargs.specs.Reading.{Gives, Fails};
 ghost use Rattle.acargs.specs.Stand.{no_edge};
-ghost use Rattle.acparse.specs.Known.{after_all};
 ghost use Rattle.acparse.specs.Profile as profile;
 ghost use Rattle.acparse.specs.Profile.{Adds};
-ghost use Rattle.acparse.specs.Script.{script_of, Done};
+ghost use Rattle.tree.specs.Known.{after_all, after_cases};
+ghost use Rattle.tree.specs.Script.{script_of, cases_of, followed, Done};
 
-use crate::tree::Stmt;
+use crate::bare::read_bare;
 use acargs::ParseFault;
-use acargs::idle::is_idle;
+use acargs::arguments::{arg_at, is_given};
+use acargs::fault::quote_fault;
+use acargs::inside::inside;
+use acargs::shell::{patterns, test, word};
 use acargs::stand::{Edge, NO_EDGE, edge_of, is_statement};
 use acmacros::macros::{look_up, macro_named};
 use acmacros::rows::plain;
-use acmacros::scene::{bare_fault, check_place, note};
-use acmacros::{Macro, Scene, Stage};
-use m4quote::{Arg, Item};
-use std::alloc::Global;
+use acmacros::scene::{check_place, note};
+use acmacros::{ChoiceMacro, Macro, Scene, Stage};
+use m4quote::{Arg, Item, read_items_at};
+use shellword::Word;
+use std::alloc::{AllocError, Global};
+use tree::{Case, Stmt, When, choose};
 
 /// The macro of a call between what stands before it and the items behind it, where it may stand.
 #[tactic(auto, unfolding(crate::specs::Profile::checked))]
@@ -48,75 +52,239 @@ fn check_call(
     Ok(m)
 }
 
-/// The statement of a call.
-fn read_call(
-    alloc: Global,
-    scene: &mut Scene,
-    m: Macro,
-    args: &[Arg<'_>],
-) -> Result<Stmt, ParseFault>
-    ensures value { Gives (λ s. script_of (s ∷ [])) result (profile.call_of scene.old m (map span args.now)) }
-    ensures after { IfOk result (λ s. scene.new ≡ after_all scene.old (script_of (s ∷ []))) }
+/// What decides for a case: the test of AS_IF, the patterns of AS_CASE.
+#[tactic(auto, unfolding(crate::specs::Profile::when_of))]
+fn when(alloc: Global, m: ChoiceMacro, arg: Arg<'_>) -> Result<When, ParseFault>
+    ensures { Gives (λ w. w) result (profile.when_of m (span arg.entry)) }
 {
     match m {
-        Macro::Plain(m) => {
-            let s = plain(alloc, &scene.files, m, args)?;
-            note(alloc, scene, &s)?;
-            Ok(Stmt::Plain(s))
+        ChoiceMacro::If => {
+            let test = test(alloc, arg)?;
+            Ok(When::Holds(test))
+        }
+        ChoiceMacro::Case => {
+            let patterns = patterns(alloc, arg)?;
+            Ok(When::Matches(patterns))
         }
     }
 }
 
-/// Bare text that says nothing, or its fault.
-fn check_bare(alloc: Global, stage: Stage, text: &[u8], at: usize) -> Result<(), ParseFault>
-    ensures { Gives (λ _. Done) result (profile.bare_of stage at (is_idle text.now)) }
+/// The subject: the word of AS_CASE, and nothing for AS_IF.
+#[tactic(auto, unfolding(crate::specs::Profile::subject_of))]
+fn subject(alloc: Global, m: ChoiceMacro, args: &[Arg<'_>]) -> Result<Word, ParseFault>
+    ensures { Gives (λ w. w) result (profile.subject_of m (map span args.now)) }
 {
-    if is_idle(alloc, text)? {
-        Ok(())
-    } else {
-        Err(bare_fault(stage, at))
+    match m {
+        ChoiceMacro::If => Ok(Word::empty(alloc)),
+        ChoiceMacro::Case => word(alloc, arg_at(args, 0)),
+    }
+}
+
+/// The arguments that are cases.
+fn case_args<'a, 'b>(m: ChoiceMacro, args: &'b [Arg<'a>]) -> &'b [Arg<'a>]
+    ensures { map span result.now ≡ profile.case_args m (map span args.now) }
+{
+    match m {
+        ChoiceMacro::If => args,
+        ChoiceMacro::Case => { if args.is_empty() { args } else { &args[1..] } }
+    }
+}
+
+/// The default, where one is given.
+fn default_of(given: bool, body: Vec<Stmt>) -> Option<Case>
+    ensures { cases_of (option_to_list result) ≡ profile.default_of given (script_of body.items) }
+{
+    if given {
+        return Some(Case {
+            when: When::Always,
+            body,
+        });
+    }
+    if body.is_empty() {
+        return None;
+    }
+    Some(Case {
+        when: When::Always,
+        body,
+    })
+}
+
+/// Cases, and one more if it is there.
+fn with_last(mut cases: Vec<Case>, last: Option<Case>) -> Result<Vec<Case>, AllocError>
+    ensures { IfOk result (λ v. cases_of v.items ≡ followed (cases_of cases.items) (cases_of (option_to_list last))) }
+{
+    match last {
+        None => Ok(cases),
+        Some(last) => {
+            cases.push(last)?;
+            Ok(cases)
+        }
+    }
+}
+
+/// The statements of a statement argument, in which `room` lists may stand in one another.
+#[cycle(list)]
+#[tactic(auto, unfolding(crate::specs::Profile::body_of))]
+fn read_body(
+    alloc: Global,
+    room: u8,
+    scene: &mut Scene,
+    arg: Arg<'_>,
+) -> Result<Vec<Stmt>, ParseFault>
+    ensures value { Gives (λ v. script_of v.items) result (profile.body_of room scene.old (span arg.entry)) }
+    ensures after { IfOk result (λ v. scene.new ≡ after_all scene.old (script_of v.items)) }
+{
+    if room == 0 {
+        return Err(ParseFault::TooDeep(arg.at));
+    }
+    let inner = inside(alloc, arg)?;
+    match read_items_at(alloc, inner.text, inner.at) {
+        Err(fault) => Err(quote_fault(fault)),
+        Ok(items) => read_statements(alloc, false, room - 1, scene, &items),
+    }
+}
+
+/// The last argument among cases, if nothing that decides stands before it.
+#[cycle(list)]
+#[tactic(auto, unfolding(crate::specs::Profile::cases_in))]
+fn read_default(
+    alloc: Global,
+    room: u8,
+    scene: &mut Scene,
+    m: ChoiceMacro,
+    args: &[Arg<'_>],
+) -> Result<Option<Case>, ParseFault>
+    requires { length args.now ≤ 1 }
+    ensures value { Gives (λ o. cases_of (option_to_list o)) result (profile.cases_in (profile.body_of room) m scene.old (map span args.now)) }
+    ensures after { IfOk result (λ o. scene.new ≡ after_cases scene.old (cases_of (option_to_list o))) }
+{
+    match args {
+        [] => Ok(None),
+        [only, ..] => {
+            let given = is_given(alloc, *only)?;
+            let body = read_body(alloc, room, scene, *only)?;
+            Ok(default_of(given, body))
+        }
+    }
+}
+
+/// The cases of arguments.
+#[cycle(list)]
+fn read_cases(
+    alloc: Global,
+    room: u8,
+    scene: &mut Scene,
+    m: ChoiceMacro,
+    args: &[Arg<'_>],
+) -> Result<Vec<Case>, ParseFault>
+    ensures value { Gives (λ v. cases_of v.items) result (profile.cases_in (profile.body_of room) m scene.old (map span args.now)) }
+    ensures after { IfOk result (λ v. scene.new ≡ after_cases scene.old (cases_of v.items)) }
+{
+    let mut cases = Vec::new(alloc);
+    let mut i = 0;
+    while i + 1 < args.len() {
+        let when = when(alloc, m, args[i])?;
+        let body = read_body(alloc, room, scene, args[i + 1])?;
+        cases.push(Case { when, body })?;
+        i += 2;
+    }
+    let last = read_default(alloc, room, scene, m, &args[i..])?;
+    Ok(with_last(cases, last)?)
+}
+
+/// AS_IF or AS_CASE.
+#[cycle(list)]
+#[tactic(auto, unfolding(crate::specs::Profile::choice_of))]
+fn read_choice(
+    alloc: Global,
+    room: u8,
+    scene: &mut Scene,
+    m: ChoiceMacro,
+    args: &[Arg<'_>],
+) -> Result<Stmt, ParseFault>
+    ensures value { Gives (λ s. script_of (s ∷ [])) result (profile.choice_of (profile.body_of room) m scene.old (map span args.now)) }
+    ensures after { IfOk result (λ s. scene.new ≡ after_all scene.old (script_of (s ∷ []))) }
+{
+    let subject = subject(alloc, m, args)?;
+    let cases = read_cases(alloc, room, scene, m, case_args(m, args))?;
+    Ok(choose(subject, cases))
+}
+
+/// The statement of a call.
+#[cycle(list)]
+fn read_call(
+    alloc: Global,
+    room: u8,
+    scene: &mut Scene,
+    m: Macro,
+    args: &[Arg<'_>],
+) -> Result<Stmt, ParseFault>
+    ensures value { Gives (λ s. script_of (s ∷ [])) result (profile.call_of (profile.body_of room) scene.old m (map span args.now)) }
+    ensures after { IfOk result (λ s. scene.new ≡ after_all scene.old (script_of (s ∷ []))) }
+{
+    match m {
+        Macro::Plain(m) => {
+            let s = plain(alloc, scene, m, args)?;
+            note(alloc, scene, &s)?;
+            Ok(Stmt::Plain(s))
+        }
+        Macro::Choice(m) => read_choice(alloc, room, scene, m, args),
     }
 }
 
 /// Adds the statements of an item between what stands before it and the items behind it.
+#[cycle(list)]
 fn read_item(
     alloc: Global,
     top: bool,
+    room: u8,
     scene: &mut Scene,
     edge: Edge,
     item: &Item<'_>,
     behind: &[Item<'_>],
     out: &mut Vec<Stmt>,
 ) -> Result<(), ParseFault>
-    ensures { MatchResult result (λ _. Adds scene.old scene.new (script_of out.old.items) (script_of out.new.items) (profile.item_of top scene.old edge (view item.now) (views behind.now)))
-        (λ e. Fails e (profile.item_of top scene.old edge (view item.now) (views behind.now))) }
+    ensures { MatchResult result (λ _. Adds scene.old scene.new (script_of out.old.items) (script_of out.new.items) (profile.item_of top (profile.body_of room) scene.old edge (view item.now) (views behind.now)))
+        (λ e. Fails e (profile.item_of top (profile.body_of room) scene.old edge (view item.now) (views behind.now))) }
 {
     match item {
-        Item::Bare { text, at } => check_bare(alloc, scene.stage, text, *at),
+        Item::Bare { text, at } => read_bare(alloc, scene.stage, *at, text, out),
         Item::Call { name, args, at } => {
             let m = check_call(top, scene.stage, edge, name, args, *at, behind)?;
-            let s = read_call(alloc, scene, m, args)?;
+            let s = read_call(alloc, room, scene, m, args)?;
             out.push(s)?;
             Ok(())
         }
     }
 }
 
-/// The statements of a list's items; `top` says whether the list is the file's own.
+/// The statements of a list's items; `top` says whether the list is the file's own, and `room` lists may stand in one
+/// another within it.
+#[cycle(list)]
 pub(crate) fn read_statements(
     alloc: Global,
     top: bool,
+    room: u8,
     scene: &mut Scene,
     items: &[Item<'_>],
 ) -> Result<Vec<Stmt>, ParseFault>
-    ensures value { Gives (λ v. script_of v.items) result (profile.items_of top scene.old no_edge (views items.now)) }
+    ensures value { Gives (λ v. script_of v.items) result (profile.items_of top (profile.body_of room) scene.old no_edge (views items.now)) }
     ensures after { IfOk result (λ v. scene.new ≡ after_all scene.old (script_of v.items)) }
 {
     let mut out = Vec::new(alloc);
     let mut edge = NO_EDGE;
     for i in 0..items.len() {
         let item = &items[i];
-        read_item(alloc, top, scene, edge, item, &items[i + 1..], &mut out)?;
+        read_item(
+            alloc,
+            top,
+            room,
+            scene,
+            edge,
+            item,
+            &items[i + 1..],
+            &mut out,
+        )?;
         edge = edge_of(item);
     }
     Ok(out)

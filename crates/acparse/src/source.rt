@@ -3,24 +3,28 @@
 ghost use Rattle.std.specs.Prelude.{◌≡◌, ◌≢◌, IfOk, IfErr, Ok};
 ghost use Rattle.acargs.specs.declared.fault.ParseFault.TheVariants.{OutOfMemory};
 ghost use Rattle.acargs.specs.Reading.{Gives};
-ghost use Rattle.acparse.specs.Known.{start, after_all};
+ghost use Rattle.tree.specs.Known.{start, after_all};
 ghost use Rattle.acparse.specs.Profile.{source_of};
-ghost use Rattle.acparse.specs.Script.{Script, script_of};
+ghost use Rattle.tree.specs.Script.{Script, script_of};
 ghost use Rattle.acparse.specs.Source.{IsSource, IsSourceFault};
 
 use crate::read::read_statements;
-use crate::tree::Stmt;
 use acargs::fault::quote_fault;
 use acargs::{Outputs, ParseFault};
 use acmacros::{Scene, Stage};
+use deftable::SubstList;
 use m4quote::read_items;
 use std::alloc::Global;
+use tree::Stmt;
 
 /// What a configure.ac says.
 #[derive(Debug, Drop)]
 pub struct Source {
     /// The statements of the file's own list, in order.
     pub statements: Vec<Stmt>,
+    /// The output variables of AC_SUBST, each once, in the order of their first mention, from cases that are not taken
+    /// too.
+    pub substituted: SubstList,
     /// The files that AC_CONFIG_FILES names, in order, each name once.
     pub files: Outputs,
 }
@@ -29,6 +33,7 @@ pub struct Source {
 fn read_source(alloc: Global, text: &[u8]) -> Result<Source, ParseFault>
     ensures exact { Gives (λ s. script_of s.statements.items) result (source_of text.now) }
     ensures files { IfOk result (λ s. s.files ≡ (after_all start (script_of s.statements.items)).files) }
+    ensures substituted { IfOk result (λ s. s.substituted ≡ (after_all start (script_of s.statements.items)).substituted) }
 {
     let items = match read_items(alloc, text) {
         Ok(items) => items,
@@ -36,14 +41,16 @@ fn read_source(alloc: Global, text: &[u8]) -> Result<Source, ParseFault>
     };
     let mut scene = Scene {
         stage: Stage::Before,
+        substituted: SubstList::new(alloc),
         files: Outputs::new(alloc),
     };
-    let statements = read_statements(alloc, true, &mut scene, &items)?;
+    let statements = read_statements(alloc, true, 31, &mut scene, &items)?;
     match scene.stage {
         Stage::Before => Err(ParseFault::NoInit),
         Stage::Open => Err(ParseFault::NoOutput),
         Stage::Ended => Ok(Source {
             statements,
+            substituted: scene.substituted,
             files: scene.files,
         }),
     }
@@ -54,6 +61,8 @@ fn read_source(alloc: Global, text: &[u8]) -> Result<Source, ParseFault>
 pub fn parse(alloc: Global, text: &[u8]) -> Result<Source, ParseFault>
     // What is read is a source of the profile.
     ensures found { IfOk result (λ s. IsSource text.now (script_of s.statements.items)) }
+    // Its variables are those that AC_SUBST names, in cases that are not taken too.
+    ensures substituted { IfOk result (λ s. s.substituted ≡ (after_all start (script_of s.statements.items)).substituted) }
     // Its files are those that its statements name.
     ensures files { IfOk result (λ s. s.files ≡ (after_all start (script_of s.statements.items)).files) }
     // A source of the profile is read, unless memory runs out.

@@ -7,22 +7,22 @@ use std::process::Abort;
 use std::test::Fail;
 
 /// How many statements a text has, or its fault.
-fn count_of(alloc: Global, text: &[u8]) -> Result<usize, ParseFault> {
+pub(crate) fn count_of(alloc: Global, text: &[u8]) -> Result<usize, ParseFault> {
     parse(alloc, text).map(|source| source.statements.len())
 }
 
-fn assert_count(rt: &impl Abort, alloc: Global, text: &[u8], count: usize) {
+pub(crate) fn assert_count(rt: &impl Abort, alloc: Global, text: &[u8], count: usize) {
     let read = count_of(alloc, text);
     assert!(rt; read == Ok(count), "{text:?}: {read:?}");
 }
 
-fn assert_fault(rt: &impl Abort, alloc: Global, text: &[u8], fault: ParseFault) {
+pub(crate) fn assert_fault(rt: &impl Abort, alloc: Global, text: &[u8], fault: ParseFault) {
     let read = count_of(alloc, text);
     assert!(rt; read == Err(fault), "{text:?}: {read:?}");
 }
 
 /// A source with these lines between AC_INIT and AC_OUTPUT. They begin at byte 17.
-fn source_with(alloc: Global, lines: &[u8]) -> Result<Vec<u8>, AllocError> {
+pub(crate) fn source_with(alloc: Global, lines: &[u8]) -> Result<Vec<u8>, AllocError> {
     let mut text = Vec::from_slice(alloc, b"AC_INIT([x],[1])\n")?;
     text.extend_from_slice(lines)?;
     text.extend_from_slice(b"\nAC_OUTPUT\n")?;
@@ -62,6 +62,11 @@ fn sources(rt: HostRuntime) {
         (b"AC_INIT([x],[1])AC_DEFINE([A])AC_OUTPUT", 3),
         (b"AC_INIT([x],[1]) AC_OUTPUT()", 2),
         (b"\t \nAC_INIT([x],[1])\nAC_OUTPUT([])  \n", 2),
+        // statements that do nothing
+        (b"AC_INIT([x],[1])\n:\nAC_OUTPUT", 2),
+        (b"AC_INIT([x],[1]); AC_OUTPUT", 2),
+        (b"AC_INIT([x],[1])\n: ; :;;\n;AC_OUTPUT", 2),
+        (b"AC_INIT([x],[1])\n: # x\nAC_OUTPUT", 2),
         // comments and dropped lines
         (b"# AC_NOPE ]\nAC_INIT([x],[1]) # AC_NOPE\nAC_OUTPUT # ]", 2),
         (b"dnl ] AC_NOPE\nAC_INIT([x],[1])dnl\nAC_OUTPUT dnl x\n", 2),
@@ -148,13 +153,21 @@ fn faults_of_the_text_between(rt: HostRuntime) {
             ParseFault::UnknownStatement(16),
         ),
         (
-            b"AC_INIT([x],[1])\n:\nAC_OUTPUT",
+            b"AC_INIT([x],[1])\n::\nAC_OUTPUT",
             ParseFault::UnknownStatement(16),
         ),
         (
-            b"AC_INIT([x],[1]); AC_OUTPUT",
-            ParseFault::UnknownStatement(16),
+            b"AC_INIT([x],[1]): AC_OUTPUT",
+            ParseFault::UnknownStatement(0),
         ),
+        // What stands before AC_INIT and behind AC_OUTPUT says nothing at all.
+        (b":\nAC_INIT([x],[1])\nAC_OUTPUT", ParseFault::NoInit),
+        (b"a=1\nAC_INIT([x],[1])\nAC_OUTPUT", ParseFault::NoInit),
+        (
+            b"AC_INIT([x],[1])\nAC_OUTPUT\na=1",
+            ParseFault::AfterOutput(26),
+        ),
+        (b"AC_INIT([x],[1])\nAC_OUTPUT;", ParseFault::AfterOutput(26)),
         // A call in other text is no statement.
         (
             b"AC_INIT([x],[1])\nx AC_OUTPUT",

@@ -1,6 +1,6 @@
 use Rattle.std.proofs.Common.{subst}
 use Rattle.acargs.specs.Reading.{Gives}
-use Rattle.acparse.specs.Script.{script_of}
+use Rattle.tree.specs.Script.{script_of}
 use Rattle.acparse.proofs.Whole.{is_found, is_fault, source_only}
 use Rattle.acparse.proofs.source.parse.Goals as goal
 

@@ -1,0 +1,100 @@
+-- A statement argument, and the text that it stands for: one quoted run with blanks and `dnl` lines round it stands for
+-- its inside, and a text without a bracket outside its calls for itself (own; where quotes are left out, Autoconf
+-- would expand the calls first, to the same statements).
+use Rattle.std.specs.Prelude.{ℕ, ◌+◌, ◌-◌, Bool, true, false, ◌&&◌, ◌||◌, ◌==◌, List, [], ◌∷◌, length, take, drop, filter, fold, Option, Some, None, Result, Ok, Err, nat_lt, if◌then◌else◌}
+use Rattle.std.specs.List.{prefix_len}
+use Rattle.m4quote.specs.Entry.{Span, Entry, call, bare}
+use Rattle.m4quote.specs.Scan.{outcome}
+use Rattle.textcut.specs.Cuts.{is_blank, trimmed}
+use Rattle.acargs.specs.declared.fault.ParseFault.{ParseFault}
+use Rattle.acargs.specs.declared.fault.ParseFault.TheVariants.{UnknownStatement}
+use Rattle.acargs.specs.Reading.{◌>>=◌, quoted}
+use Rattle.acargs.specs.Texts.{is_all_blank}
+
+-- ---- one quoted run
+
+-- how many brackets are open behind a byte
+abbrev pub depth_behind : ℕ → ℕ → ℕ
+depth_behind depth b = if b == 91 then depth + 1 else (if b == 93 then depth - 1 else depth)
+
+-- the brackets that are open are all closed at the end, and not before
+abbrev pub closes_at_end : ℕ → List ℕ → Bool
+closes_at_end depth [] = depth == 0
+closes_at_end depth (b ∷ bs) = nat_lt 0 depth && closes_at_end (depth_behind depth b) bs
+
+-- the text is one quoted run
+abbrev pub is_run : List ℕ → Bool
+is_run [] = false
+is_run (b ∷ bs) = (b == 91) && closes_at_end 1 bs
+
+-- items that say nothing but blanks
+abbrev pub are_blank : List Entry → Bool
+are_blank [] = true
+are_blank (call name args at ∷ items) = false
+are_blank (bare text at ∷ items) = is_all_blank text && are_blank items
+
+-- the one bare text that is not blank, where no call and no other such text stands beside it
+abbrev pub only_text : List Entry → Option Span
+only_text [] = None
+only_text (call name args at ∷ items) = None
+only_text (bare text at ∷ items) =
+    if is_all_blank text then only_text items
+    else (if are_blank items then Some (record { text = text; at = at }) else None)
+
+-- the blanks at the front
+abbrev pub blank_len : List ℕ → ℕ
+blank_len text = prefix_len is_blank text
+
+-- the text behind those, without the blanks at its end
+abbrev pub body : List ℕ → List ℕ
+body text = trimmed (drop (blank_len text) text)
+
+-- what a bare text stands for that is a quoted run with blanks round it
+abbrev pub run_inside : Span → Option Span
+run_inside s =
+    if is_run (body s.text)
+    then Some (record { text = take (length (body s.text) - 2) (drop 1 (body s.text)); at = s.at + blank_len s.text + 1 })
+    else None
+
+abbrev pub inside_of : Option Span → Option Span
+inside_of None = None
+inside_of (Some s) = run_inside s
+
+-- ---- brackets outside calls
+
+abbrev pub is_bracket : ℕ → Bool
+is_bracket b = b == 91 || b == 93
+
+abbrev pub brackets : List ℕ → ℕ
+brackets text = length (filter is_bracket text)
+
+-- so many brackets, less those in arguments
+abbrev pub less_arguments : ℕ → List Span → ℕ
+less_arguments n [] = n
+less_arguments n (a ∷ args) = less_arguments (n - brackets a.text) args
+
+-- so many brackets, less those in the arguments of a call
+abbrev pub less_item : ℕ → Entry → ℕ
+less_item n (call name args at) = less_arguments n args
+less_item n (bare text at) = n
+
+-- the same of all items
+abbrev pub less_calls : ℕ → List Entry → ℕ
+less_calls n [] = n
+less_calls n (item ∷ items) = less_calls (less_item n item) items
+
+-- all brackets of the text stand in its calls
+abbrev pub is_unquoted : List ℕ → List Entry → Bool
+is_unquoted text items = less_calls (brackets text) items == 0
+
+-- ---- the argument
+
+abbrev pub or_itself : Span → List Entry → Option Span → Result Span ParseFault
+or_itself arg items (Some s) = Ok s
+or_itself arg items None = if is_unquoted arg.text items then Ok arg else Err (UnknownStatement arg.at)
+
+-- the text that a statement argument stands for
+unfoldable pub inside : Span → Result Span ParseFault
+inside arg = do
+  items ← quoted (outcome arg.at arg.text)
+  or_itself arg items (inside_of (only_text items))

@@ -1,0 +1,181 @@
+//! Statement arguments.
+
+ghost use Rattle.std.specs.Prelude.{◌≡◌, ◌+◌, ◌<◌, ◌≤◌, ◌^◌, length, map, MatchOption, None, Some};
+ghost use Rattle.std.specs.List.{prefix_len};
+ghost use Rattle.m4quote.specs.Entry.{span, view, views};
+ghost use Rattle.acargs.specs.Inside as words;
+ghost use Rattle.acargs.specs.Reading.{Gives};
+
+use crate::arguments::is_all_blank;
+use crate::fault::{ParseFault, quote_fault};
+use m4quote::{Arg, Item, read_items_at};
+use std::alloc::Global;
+use textcut::{is_blank, trim};
+
+/// How many brackets are open behind a byte.
+fn depth_behind(depth: usize, byte: u8) -> usize
+    requires { depth + 1 < 2 ^ 64 }
+    ensures { result ≡ words.depth_behind depth byte }
+{
+    match byte {
+        b'[' => depth + 1,
+        b']' => depth.saturating_sub(1),
+        _ => depth,
+    }
+}
+
+/// Whether the one bracket that is open before the text is closed at its end, and not before.
+fn closes_at_end(text: &[u8]) -> bool
+    ensures { result ≡ words.closes_at_end 1 text.now }
+{
+    let mut depth = 1;
+    for byte in text {
+        if depth == 0 {
+            return false;
+        }
+        depth = depth_behind(depth, *byte);
+    }
+    depth == 0
+}
+
+fn is_run(text: &[u8]) -> bool
+    ensures { result ≡ words.is_run text.now }
+{
+    match text {
+        [] => false,
+        [first, rest @ ..] => *first == b'[' && closes_at_end(rest),
+    }
+}
+
+/// Whether items say nothing but blanks.
+fn are_blank(items: &[Item<'_>]) -> bool
+    ensures { result ≡ words.are_blank (views items.now) }
+{
+    for item in items {
+        match item {
+            Item::Call { .. } => return false,
+            Item::Bare { text, .. } => {
+                if !is_all_blank(text) {
+                    return false;
+                }
+            }
+        }
+    }
+    true
+}
+
+/// The one bare text that is not blank, where no call and no other such text stands beside it.
+fn only_text<'a>(items: &[Item<'a>]) -> Option<(&'a [u8], usize)>
+    ensures { MatchOption result (words.only_text (views items.now) ≡ None) (λ r. words.only_text (views items.now) ≡ Some (record { text = r.0.now; at = r.1 })) }
+{
+    for i in 0..items.len() {
+        match &items[i] {
+            Item::Call { .. } => return None,
+            Item::Bare { text, at } => {
+                if !is_all_blank(text) {
+                    if are_blank(&items[i + 1..]) {
+                        return Some((text, *at));
+                    }
+                    return None;
+                }
+            }
+        }
+    }
+    None
+}
+
+/// The blanks at the front.
+fn blank_len(text: &[u8]) -> usize
+    ensures value { result ≡ words.blank_len text.now }
+    ensures within { result ≤ length text.now }
+{
+    text.iter().take_while(|byte| is_blank(**byte)).count()
+}
+
+/// What a bare text stands for that is a quoted run with blanks round it.
+fn run_inside<'a>(text: &'a [u8], at: usize) -> Option<Arg<'a>>
+    requires { at + length text.now < 2 ^ 64 }
+    ensures { MatchOption result (words.run_inside (record { text = text.now; at = at }) ≡ None) (λ r. words.run_inside (record { text = text.now; at = at }) ≡ Some (span r)) }
+{
+    let blanks = blank_len(text);
+    let run = trim(&text[blanks..]);
+    if !is_run(run) {
+        return None;
+    }
+    Some(Arg {
+        text: &run[1..run.len() - 1],
+        at: at + blanks + 1,
+    })
+}
+
+fn is_bracket(byte: u8) -> bool
+    ensures { result ≡ words.is_bracket byte }
+{
+    byte == b'[' || byte == b']'
+}
+
+fn brackets(text: &[u8]) -> usize
+    ensures { result ≡ words.brackets text.now }
+{
+    text.iter().filter(|byte| is_bracket(**byte)).count()
+}
+
+/// So many brackets, less those in arguments.
+fn less_arguments(count: usize, args: &[Arg<'_>]) -> usize
+    ensures { result ≡ words.less_arguments count (map span args.now) }
+{
+    let mut left = count;
+    for arg in args {
+        left = left.saturating_sub(brackets(arg.text));
+    }
+    left
+}
+
+/// So many brackets, less those in the arguments of a call.
+fn less_item(count: usize, item: &Item<'_>) -> usize
+    ensures { result ≡ words.less_item count (view item.now) }
+{
+    match item {
+        Item::Call { args, .. } => less_arguments(count, args),
+        Item::Bare { .. } => count,
+    }
+}
+
+/// The same of all items.
+fn less_calls(count: usize, items: &[Item<'_>]) -> usize
+    ensures { result ≡ words.less_calls count (views items.now) }
+{
+    let mut left = count;
+    for item in items {
+        left = less_item(left, item);
+    }
+    left
+}
+
+/// Whether all brackets of the text stand in its calls.
+fn is_unquoted(text: &[u8], items: &[Item<'_>]) -> bool
+    ensures { result ≡ words.is_unquoted text.now (views items.now) }
+{
+    less_calls(brackets(text), items) == 0
+}
+
+/// The text that a statement argument stands for: the inside of one quoted run with blanks and `dnl` lines round it, or
+/// the argument itself where no bracket stands outside its calls. Anything else is `UnknownStatement` at the argument.
+#[tactic(auto, unfolding(crate::specs::Inside::inside))]
+pub fn inside<'a>(alloc: Global, arg: Arg<'a>) -> Result<Arg<'a>, ParseFault>
+    ensures { Gives span result (words.inside (span arg.entry)) }
+{
+    let items = match read_items_at(alloc, arg.text, arg.at) {
+        Ok(items) => items,
+        Err(fault) => return Err(quote_fault(fault)),
+    };
+    if let Some((text, at)) = only_text(&items) {
+        if let Some(inside) = run_inside(text, at) {
+            return Ok(inside);
+        }
+    }
+    if !is_unquoted(arg.text, &items) {
+        return Err(ParseFault::UnknownStatement(arg.at));
+    }
+    Ok(arg)
+}

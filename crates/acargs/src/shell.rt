@@ -1,0 +1,60 @@
+//! Readers of arguments that are shell text. A fault is placed at the argument.
+
+ghost use Rattle.std.specs.Prelude.{◌≡◌};
+ghost use Rattle.m4quote.specs.Entry.{span};
+ghost use Rattle.acargs.specs.Reading.{Gives};
+ghost use Rattle.acargs.specs.Shell as forms;
+
+use crate::arguments::text;
+use crate::fault::{ParseFault, shell_fault};
+use m4quote::Arg;
+use shellword::{HereText, Patterns, Test, Word, read_here, read_patterns, read_test, read_word};
+use std::alloc::Global;
+
+/// The word that a used text is.
+#[tactic(auto, unfolding(crate::specs::Shell::word))]
+pub fn word(alloc: Global, arg: Arg<'_>) -> Result<Word, ParseFault>
+    ensures { Gives (λ w. w) result (forms.word (span arg.entry)) }
+{
+    let text = text(alloc, arg)?;
+    match read_word(alloc, text.as_slice()) {
+        Ok(word) => Ok(word),
+        Err(fault) => Err(shell_fault(arg.at, fault)),
+    }
+}
+
+/// The here text that a used text is.
+#[tactic(auto, unfolding(crate::specs::Shell::here_text))]
+pub fn here_text(alloc: Global, arg: Arg<'_>) -> Result<HereText, ParseFault>
+    ensures { Gives (λ h. h) result (forms.here_text (span arg.entry)) }
+{
+    let text = text(alloc, arg)?;
+    match read_here(alloc, text.as_slice()) {
+        Ok(here) => Ok(here),
+        Err(fault) => Err(shell_fault(arg.at, fault)),
+    }
+}
+
+/// The test that a used text is.
+#[tactic(auto, unfolding(crate::specs::Shell::test))]
+pub fn test(alloc: Global, arg: Arg<'_>) -> Result<Test, ParseFault>
+    ensures { Gives (λ t. t) result (forms.test (span arg.entry)) }
+{
+    let text = text(alloc, arg)?;
+    match read_test(alloc, text.as_slice()) {
+        Ok(test) => Ok(test),
+        Err(fault) => Err(shell_fault(arg.at, fault)),
+    }
+}
+
+/// The list of patterns that a used text is.
+#[tactic(auto, unfolding(crate::specs::Shell::patterns))]
+pub fn patterns(alloc: Global, arg: Arg<'_>) -> Result<Patterns, ParseFault>
+    ensures { Gives (λ p. p) result (forms.patterns (span arg.entry)) }
+{
+    let text = text(alloc, arg)?;
+    match read_patterns(alloc, text.as_slice()) {
+        Ok(patterns) => Ok(Patterns::from_vec(patterns)),
+        Err(fault) => Err(shell_fault(arg.at, fault)),
+    }
+}
