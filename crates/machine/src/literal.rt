@@ -1,0 +1,39 @@
+//! String literals of C.
+
+ghost use Rattle.std.specs.Prelude.{◌≡◌, ◌++◌, OnOk, IfOk};
+ghost use Rattle.meaning.specs.Package as packages;
+
+use std::alloc::{AllocError, Global};
+
+/// Adds a byte within a string literal of C.
+fn put_escaped(out: &mut Vec<u8>, byte: u8) -> Result<(), AllocError>
+    ensures { OnOk result (out.new.items ≡ out.old.items ++ packages.escaped_byte byte) }
+{
+    if byte == b'"' || byte == b'\\' {
+        out.push(b'\\')?;
+    }
+    out.push(byte)?;
+    Ok(())
+}
+
+/// A text within a string literal of C.
+fn escaped(alloc: Global, text: &[u8]) -> Result<Vec<u8>, AllocError>
+    ensures { IfOk result (λ v. v.items ≡ packages.escaped text.now) }
+{
+    let mut out = Vec::new(alloc);
+    for byte in text {
+        put_escaped(&mut out, *byte)?;
+    }
+    Ok(out)
+}
+
+/// A string literal of C: a backslash stands before each quote and each backslash.
+pub(crate) fn literal(alloc: Global, text: &[u8]) -> Result<Vec<u8>, AllocError>
+    ensures { IfOk result (λ v. v.items ≡ packages.literal text.now) }
+{
+    let mut out = Vec::new(alloc);
+    out.push(b'"')?;
+    out.extend_from_slice(escaped(alloc, text)?.as_slice())?;
+    out.push(b'"')?;
+    Ok(out)
+}

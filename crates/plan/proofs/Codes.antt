@@ -1,0 +1,48 @@
+-- Code that is written from the last step to the first.
+use Rattle.std.proofs.Common.{◌≡◌, ℕ, ◌+◌, ◌-◌, ◌<◌, ◌≤◌, arith, List, ◌∷◌, ◌++◌, Vec, Global, length, drop, get_or, refl, sym, ap, ◌∙◌, append_assoc}
+use Rattle.std.proofs.lemmas.List.{drop_more, append-nil}
+use Rattle.shellword.specs.declared.part.Part.{Part}
+use Rattle.tree.specs.declared.tree.Case as case
+use Rattle.tree.specs.declared.tree.Stmt.{Stmt, Choose}
+use Rattle.tree.specs.declared.tree.Stmt.TheVariants.{Plain, Choose'}
+use Rattle.tree.specs.Script.{Script, Done, stmt_then, row_cases, script_of, cases_of}
+use Rattle.tree.proofs.ScriptLemmas.{choice_is}
+use Rattle.plan.specs.Walk.{Instruction, Begins}
+use Rattle.plan.specs.Code.{case_code, code_of, code_of_cases}
+
+code_more : (s : Stmt) (rest : Script) → code_of (stmt_then s rest) ≡ code_of (stmt_then s Done) ++ code_of rest
+code_more (Plain s) rest = refl
+code_more (Choose' subject m cases) rest = ap (λ l. Begins subject ∷ (l ++ code_of rest)) (sym (append-nil (code_of_cases (row_cases cases))))
+
+-- one statement more in front
+pub code_at : (old new base : List Instruction) (list : List Stmt) (i j : ℕ) (s : Stmt) → 0 < i → i ≤ length list → j ≡ i - 1 → s ≡ get_or list j s
+    → new ≡ code_of (stmt_then s Done) ++ old → old ≡ code_of (script_of (drop i list)) ++ base
+    → new ≡ code_of (script_of (drop j list)) ++ base
+code_at old new base list i j s some within next at is h =
+    let lt : j < length list = omega arith in
+    let up : i ≡ j + 1 = omega arith in
+    let rest = script_of (drop (j + 1) list) in
+    is ∙ ap (λ l. code_of (stmt_then s Done) ++ l) (h ∙ ap (λ k. code_of (script_of (drop k list)) ++ base) up)
+    ∙ sym (append_assoc (code_of (stmt_then s Done)) (code_of rest) base)
+    ∙ ap (λ l. l ++ base) (sym (code_more s rest) ∙ ap (λ x. code_of (stmt_then x rest)) at ∙ ap (λ l. code_of (script_of l)) (sym (drop_more list j s lt)))
+
+-- one case more in front
+pub code_at_case : (old new base : List Instruction) (list : List case.Case) (i : ℕ) (d : case.Case) (behind : ℕ) → i < length list
+    → behind ≡ length (code_of_cases (cases_of (drop (i + 1) list)))
+    → new ≡ case_code (get_or list i d).when (code_of (script_of (get_or list i d).body.items)) behind ++ old
+    → old ≡ code_of_cases (cases_of (drop (i + 1) list)) ++ base
+    → new ≡ code_of_cases (cases_of (drop i list)) ++ base
+code_at_case old new base list i d behind lt far is h =
+    let c = get_or list i d in
+    let rest = code_of_cases (cases_of (drop (i + 1) list)) in
+    let body = code_of (script_of c.body.items) in
+    is ∙ ap (λ n. case_code c.when body n ++ old) far ∙ ap (λ l. case_code c.when body (length rest) ++ l) h
+    ∙ sym (append_assoc (case_code c.when body (length rest)) rest base)
+    ∙ ap (λ l. code_of_cases (cases_of l) ++ base) (sym (drop_more list i d lt))
+
+-- a choice
+pub code_choice : (s : Stmt) (subject : List Part) (cases : Vec case.Case Global) → s ≡ Choose subject cases
+    → code_of (stmt_then s Done) ≡ Begins subject ∷ code_of_cases (cases_of cases.items)
+code_choice s subject cases is =
+    ap (λ x. code_of (stmt_then x Done)) is ∙ ap code_of (choice_is subject cases Done)
+    ∙ ap (λ l. Begins subject ∷ l) (append-nil (code_of_cases (cases_of cases.items)))

@@ -1,0 +1,84 @@
+-- The weight of a list, statement after statement and case after case, and how long its code is.
+use Rattle.std.proofs.Common.{◌≡◌, ℕ, ◌+◌, ◌*◌, ◌<◌, ◌≤◌, Option, Some, None, IfSome, IfNone, is_some, true, List, [], ◌∷◌, Vec, Global, length, drop, get_or, ap, ◌∙◌, arith, length-append}
+use Rattle.std.proofs.lemmas.List.{drop_more}
+use Rattle.std.proofs.lemmas.Bool.{true≢false}
+use Rattle.shellword.specs.declared.part.Part.{Part}
+use Rattle.tree.specs.declared.tree.Case as case
+use Rattle.tree.specs.declared.tree.Stmt.{Stmt, Choose}
+use Rattle.tree.specs.declared.tree.Stmt.TheVariants.{Plain, Choose'}
+use Rattle.tree.specs.Script.{Script, Done, Then, Choice, Cases, No_case, Case, stmt_then, script_of, cases_of}
+use Rattle.tree.proofs.ScriptLemmas.{choice_is}
+use Rattle.plan.specs.Walk.{Skips}
+use Rattle.plan.specs.Weight.{weight, weight_of_cases}
+use Rattle.plan.specs.Code.{case_code, code_of, code_of_cases}
+
+weight_more : (s : Stmt) (rest : Script) → weight (stmt_then s rest) ≡ weight (stmt_then s Done) + weight rest
+weight_more (Plain s) rest = omega arith
+weight_more (Choose' subject m cases) rest = omega arith
+
+-- one statement of a list, and those behind it
+pub weight_at : (list : List Stmt) (i : ℕ) (d : Stmt) → i < length list
+    → weight (script_of (drop i list)) ≡ weight (stmt_then (get_or list i d) Done) + weight (script_of (drop (i + 1) list))
+weight_at list i d lt = ap (λ l. weight (script_of l)) (drop_more list i d lt) ∙ weight_more (get_or list i d) (script_of (drop (i + 1) list))
+
+-- one case of a choice, and those behind it
+pub weight_at_case : (list : List case.Case) (i : ℕ) (d : case.Case) → i < length list
+    → weight_of_cases (cases_of (drop i list)) ≡ weight_of_cases (cases_of (get_or list i d ∷ [])) + weight_of_cases (cases_of (drop (i + 1) list))
+weight_at_case list i d lt = ap (λ l. weight_of_cases (cases_of l)) (drop_more list i d lt) ∙ omega arith
+
+-- a choice
+pub weight_choice : (s : Stmt) (subject : List Part) (cases : Vec case.Case Global) → s ≡ Choose subject cases
+    → weight (stmt_then s Done) ≡ 1 + weight_of_cases (cases_of cases.items)
+weight_choice s subject cases is = ap (λ x. weight (stmt_then x Done)) is ∙ ap weight (choice_is subject cases Done) ∙ omega arith
+
+pub weighs_something : (s : Stmt) → 1 ≤ weight (stmt_then s Done)
+weighs_something (Plain s) = omega arith
+weighs_something (Choose' subject m cases) = omega arith
+
+-- one statement more
+pub weigh_on : (list : List Stmt) (i : ℕ) (s : Stmt) (left less room : ℕ) → i < length list → s ≡ get_or list i s
+    → less + weight (stmt_then s Done) ≡ left
+    → left + weight (script_of list) ≡ room + weight (script_of (drop i list))
+    → less + weight (script_of list) ≡ room + weight (script_of (drop (i + 1) list))
+weigh_on list i s left less room lt is e h =
+    omega (arith, weight_at list i s lt, ap (λ x. weight (stmt_then x Done)) is)
+
+pub weigh_over : (list : List Stmt) (i : ℕ) (s : Stmt) (left room : ℕ) → i < length list → s ≡ get_or list i s
+    → left < weight (stmt_then s Done)
+    → left + weight (script_of list) ≡ room + weight (script_of (drop i list))
+    → room < weight (script_of list)
+weigh_over list i s left room lt is e h =
+    omega (arith, weight_at list i s lt, ap (λ x. weight (stmt_then x Done)) is)
+
+pub choose_some : (r : Option ℕ) (s : Stmt) (subject : List Part) (cases : Vec case.Case Global) (seen : List case.Case) (left room : ℕ) → s ≡ Choose subject cases
+    → seen ≡ cases.items → left + 1 ≡ room → IfSome r (λ l. l + weight_of_cases (cases_of seen) ≡ left)
+    → IfSome r (λ l. l + weight (stmt_then s Done) ≡ room)
+choose_some None s subject cases seen left room is same one h = h
+choose_some (Some l) s subject cases seen left room is same one h =
+    omega (arith, weight_choice s subject cases is, ap (λ x. weight_of_cases (cases_of x)) same)
+
+pub choose_none : (r : Option ℕ) (s : Stmt) (subject : List Part) (cases : Vec case.Case Global) (seen : List case.Case) (left room : ℕ) → s ≡ Choose subject cases
+    → seen ≡ cases.items → left + 1 ≡ room → IfNone r (left < weight_of_cases (cases_of seen))
+    → IfNone r (room < weight (stmt_then s Done))
+choose_none None s subject cases seen left room is same one h =
+    omega (arith, weight_choice s subject cases is, ap (λ x. weight_of_cases (cases_of x)) same)
+choose_none (Some l) s subject cases seen left room is same one h = h
+
+mutual
+  -- code has two steps at most for each unit of weight
+  pub code_bound : (script : Script) → length (code_of script) ≤ 2 * weight script
+  code_bound Done = omega arith
+  code_bound (Then s rest) = omega (arith, code_bound rest)
+  code_bound (Choice subject cases rest) =
+      omega (arith, length-append (code_of_cases cases) (code_of rest), cases_bound cases, code_bound rest)
+
+  cases_bound : (cases : Cases) → length (code_of_cases cases) ≤ 2 * weight_of_cases cases
+  cases_bound No_case = omega arith
+  cases_bound (Case when body more) =
+      let b = code_of body in let m = code_of_cases more in
+      omega (arith, length-append (case_code when b (length m)) m, length-append b (Skips (length m) ∷ []), code_bound body, cases_bound more)
+
+-- where there is room for all, the weight is no more than the room
+pub within : (r : Option ℕ) (w room : ℕ) → true ≡ is_some r → IfSome r (λ left. left + w ≡ room) → w ≤ room
+within None w room e h = absurd (true≢false e)
+within (Some left) w room e h = omega (arith, h)

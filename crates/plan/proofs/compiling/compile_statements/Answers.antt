@@ -1,0 +1,18 @@
+use Rattle.std.proofs.Common.{ap, ◌∙◌, sym, subst, arith, length}
+use Rattle.tree.specs.Script.{script_of}
+use Rattle.plan.specs.Inside.{StaysInside}
+use Rattle.plan.specs.Walk.{walk, no_choice}
+use Rattle.plan.proofs.Follows.{does_what, code_stays}
+use Rattle.plan.proofs.Weights.{code_bound, within}
+use Rattle.plan.proofs.compiling.compile_statements.Goals as goal
+
+pub new-requires : goal.new-requires
+new-requires c = subst StaysInside (sym c.in_ok-code.ensures) (code_stays (script_of c.args.statements.now))
+
+pub returns-clause-meaning : goal.returns-clause-meaning
+returns-clause-meaning c = λ st.
+    ap (λ l. walk l 0 no_choice st) (c.new.ensures ∙ c.in_ok-code.ensures) ∙ does_what (script_of c.args.statements.now) st
+
+pub returns-clause-steps : goal.returns-clause-steps
+returns-clause-steps c =
+    omega (arith, ap length (c.new.ensures ∙ c.in_ok-code.ensures), code_bound (script_of c.args.statements.now), within _ _ _ (sym c.if-is_none.ensures) c.weigh.ensures.some)

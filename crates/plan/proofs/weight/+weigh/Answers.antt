@@ -1,0 +1,23 @@
+use Rattle.std.proofs.Common.{arith}
+use Rattle.plan.proofs.Weights.{weigh_on, weigh_over, weighs_something, choose_some, choose_none}
+use Rattle.plan.proofs.weight.+weigh.Goals as goal
+
+pub weigh-returns-in_default-clause-none : goal.weigh-returns-in_default-clause-none
+weigh-returns-in_default-clause-none t c =
+    weigh_over _ _ _ _ _ c.loop-statement-test.true c.statement-item.is c.in_default.ensures.none c.loop-statement.invariant
+
+pub weigh-loop-statement-preserved : goal.weigh-loop-statement-preserved
+weigh-loop-statement-preserved t c =
+    weigh_on _ _ _ _ _ _ c.loop-statement-test.true c.statement-item.is c.in-Some.ensures.some c.loop-statement.invariant
+
+pub weigh_statement-returns-in_default-clause-none : goal.weigh_statement-returns-in_default-clause-none
+weigh_statement-returns-in_default-clause-none t c =
+    omega (arith, weighs_something c.args.statement.now, c.in_default.ensures)
+
+pub weigh_statement-returns-in-Choose-clause-some : goal.weigh_statement-returns-in-Choose-clause-some
+weigh_statement-returns-in-Choose-clause-some t c =
+    choose_some _ _ _ _ _ _ _ c.in-Choose.is c.as_slice.ensures.value (omega (arith, c.in-Some.ensures)) c.weigh_cases.ensures.some
+
+pub weigh_statement-returns-in-Choose-clause-none : goal.weigh_statement-returns-in-Choose-clause-none
+weigh_statement-returns-in-Choose-clause-none t c =
+    choose_none _ _ _ _ _ _ _ c.in-Choose.is c.as_slice.ensures.value (omega (arith, c.in-Some.ensures)) c.weigh_cases.ensures.none

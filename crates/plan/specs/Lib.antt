@@ -1,0 +1,5 @@
+pub mod Walk
+pub mod Inside
+pub mod Weight
+pub mod Code
+pub mod Names

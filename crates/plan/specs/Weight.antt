@@ -1,0 +1,19 @@
+-- How much a list of statements weighs.
+use Rattle.std.specs.Prelude.{ℕ, ◌+◌}
+use Rattle.tree.specs.Script.{Script, Done, Then, Choice, Cases, No_case, Case}
+
+abbrev mutual
+  -- Each statement weighs 1, one inside a case too.
+  pub weight : Script → ℕ
+  weight Done = 0
+  weight (Then s rest) = 1 + weight rest
+  weight (Choice subject cases rest) = 1 + (weight_of_cases cases + weight rest)
+
+  -- Each case of a choice weighs 1 more than its statements, a default too.
+  pub weight_of_cases : Cases → ℕ
+  weight_of_cases No_case = 0
+  weight_of_cases (Case when body more) = 1 + (weight body + weight_of_cases more)
+
+-- the greatest weight that has a plan
+abbrev pub heaviest : ℕ
+heaviest = 65535

@@ -1,0 +1,47 @@
+//! From statements to a plan.
+
+ghost use Rattle.std.specs.Prelude.{◌≡◌, ◌<◌, ◌≤◌, ◌^◌, ◌↔◌, Err, IfOk, length};
+ghost use Rattle.tree.specs.Script.{script_of};
+ghost use Rattle.plan.specs.Names.{DefinesNames};
+ghost use Rattle.plan.specs.Walk.{DoesWhat};
+ghost use Rattle.plan.specs.Weight.{heaviest, weight};
+ghost use Rattle.plan.specs.declared.fault.PlanFault.TheVariants.{TooLong};
+
+use crate::emit::emit_all;
+use crate::fault::PlanFault;
+use crate::step::Plan;
+use crate::weight::weigh;
+use acparse::Source;
+use std::alloc::Global;
+use tree::Stmt;
+
+const HEAVIEST: usize = 65_535;
+
+/// The plan of a list of statements, which does what they do. It is refused exactly where they weigh more than 65,535,
+/// whatever memory there is.
+pub fn compile_statements<'a>(alloc: Global, statements: &'a [Stmt]) -> Result<Plan<'a>, PlanFault>
+    ensures meaning { IfOk result (λ plan. DoesWhat plan (script_of statements.now)) }
+    ensures long { (result ≡ Err TooLong) ↔ (heaviest < weight (script_of statements.now)) }
+    ensures fits { IfOk result (λ _. weight (script_of statements.now) ≤ heaviest) }
+    ensures steps { IfOk result (λ plan. length plan ≤ 2 ^ 20) }
+    ensures names { IfOk result (λ plan. DefinesNames plan) }
+{
+    if weigh(HEAVIEST, statements).is_none() {
+        return Err(PlanFault::TooLong);
+    }
+    let code = emit_all(alloc, statements)?;
+    Ok(Plan::new(code))
+}
+
+/// The plan of a source, which does what its statements do, and borrows from them. `TooLong` exactly where they weigh more
+/// than 65,535 (own), whatever memory there is.
+pub fn compile<'a>(alloc: Global, source: &'a Source) -> Result<Plan<'a>, PlanFault>
+    // Walked from its first step, the plan does what the source means, whatever the variables and definitions.
+    ensures meaning { IfOk result (λ plan. DoesWhat plan (script_of source.now.statements.items)) }
+    ensures long { (result ≡ Err TooLong) ↔ (heaviest < weight (script_of source.now.statements.items)) }
+    ensures fits { IfOk result (λ _. weight (script_of source.now.statements.items) ≤ heaviest) }
+    ensures steps { IfOk result (λ plan. length plan ≤ 2 ^ 20) }
+    ensures names { IfOk result (λ plan. DefinesNames plan) }
+{
+    compile_statements(alloc, source.statements.as_slice())
+}

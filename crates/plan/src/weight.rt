@@ -1,0 +1,63 @@
+//! The weight of statements.
+
+ghost use Rattle.std.specs.Prelude.{◌≡◌, ◌+◌, ◌<◌, ◌∷◌, [], IfSome, IfNone};
+ghost use Rattle.tree.specs.Script.{Done, script_of, cases_of, stmt_then};
+ghost use Rattle.plan.specs.Weight.{weight, weight_of_cases};
+
+use tree::{Case, Stmt};
+
+/// The room that is left once the statements are weighed, if there is room for all.
+#[cycle(weigh)]
+pub(crate) fn weigh(room: usize, statements: &[Stmt]) -> Option<usize>
+    ensures some { IfSome result (λ left. left + weight (script_of statements.now) ≡ room) }
+    ensures none { IfNone result (room < weight (script_of statements.now)) }
+{
+    let mut left = room;
+    for statement in statements {
+        let Some(less) = weigh_statement(left, statement) else {
+            return None;
+        };
+        left = less;
+    }
+    Some(left)
+}
+
+#[cycle(weigh)]
+fn weigh_statement(room: usize, statement: &Stmt) -> Option<usize>
+    ensures some { IfSome result (λ left. left + weight (stmt_then statement.now Done) ≡ room) }
+    ensures none { IfNone result (room < weight (stmt_then statement.now Done)) }
+{
+    let Some(left) = room.checked_sub(1) else {
+        return None;
+    };
+    match statement {
+        Stmt::Plain(_) => Some(left),
+        Stmt::Choose { cases, .. } => weigh_cases(left, cases.as_slice()),
+    }
+}
+
+#[cycle(weigh)]
+fn weigh_cases(room: usize, cases: &[Case]) -> Option<usize>
+    ensures some { IfSome result (λ left. left + weight_of_cases (cases_of cases.now) ≡ room) }
+    ensures none { IfNone result (room < weight_of_cases (cases_of cases.now)) }
+{
+    let mut left = room;
+    for case in cases {
+        let Some(less) = weigh_case(left, case) else {
+            return None;
+        };
+        left = less;
+    }
+    Some(left)
+}
+
+#[cycle(weigh)]
+fn weigh_case(room: usize, case: &Case) -> Option<usize>
+    ensures some { IfSome result (λ left. left + weight_of_cases (cases_of (case.now ∷ [])) ≡ room) }
+    ensures none { IfNone result (room < weight_of_cases (cases_of (case.now ∷ []))) }
+{
+    let Some(left) = room.checked_sub(1) else {
+        return None;
+    };
+    weigh(left, case.body.as_slice())
+}
