@@ -1,4 +1,4 @@
-# make demo     builds the program and runs it on examples/first
+# make demo     builds the program and runs it on the examples
 # make check    every proof, every test and every must-fail edit (rt ci)
 # make install  puts the built program at $(prefix)/bin/acrun
 
@@ -16,7 +16,8 @@ $(acrun): $(sources)
 	@touch $(acrun)
 
 demo: $(acrun)
-	@sh examples/first/run.sh $(acrun)
+	@sh examples/run.sh $(acrun) examples/first
+	@sh examples/run.sh $(acrun) examples/branches
 
 check:
 	rt ci

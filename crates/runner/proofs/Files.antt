@@ -1,19 +1,16 @@
 -- Which of the source's files are made from the template of the first one.
-use Rattle.std.proofs.Common.{◌≡◌, ◌≢◌, ℕ, zero, suc, Bool, true, false, cond, List, [], ◌∷◌, ◌++◌, inl, inr, Option, Some, None, refl, sym, ap, subst, ◌∙◌, All, length, ◌<◌, ◌-◌, take, drop, slice_index_or, arith}
-use Rattle.std.specs.Prelude.{bytes_eq, not, find, ◌==◌}
+use Rattle.std.proofs.Common.{◌≡◌, ◌≢◌, ℕ, zero, suc, Bool, true, false, cond, List, [], ◌∷◌, ◌++◌, inl, inr, Option, Some, None, Result, Ok, Err, Vec, Global, refl, sym, ap, subst, ◌∙◌, All, length, ◌<◌, ◌-◌, take, drop, slice_index_or, arith}
+use Rattle.std.specs.Prelude.{bytes_eq, not, find, ◌==◌, IfOk}
 use Rattle.std.proofs.lemmas.Slice.Eq.{bytes_eq-Decides}
 use Rattle.std.proofs.lemmas.List.Elements.{All-cons}
 use Rattle.acargs.specs.declared.output.Output.{Output}
-use Rattle.acparse.specs.Script.{Script}
+use Rattle.tree.specs.Script.{Script}
 use Rattle.std.proofs.lemmas.List.{take_all}
 use Rattle.std.proofs.lemmas.Bool.Decides.{eqb_tells}
-use Rattle.template.specs.Fill.{Fills}
-use Rattle.meaning.specs.Meaning.{meaning}
-use Rattle.meaning.specs.State.{nothing}
 use Rattle.runner.specs.declared.fault.Fault.TheVariants.{NoTemplate}
 use Rattle.runner.specs.declared.fault.FilterFault.TheVariants.{Run}
-use Rattle.runner.specs.Filtered.{IsTemplateFault, missing}
-use Rattle.runner.specs.Outputs.{files_of, is_other, IsMissing, IsFirstFile, no_file, first_file, output_variables, end_of}
+use Rattle.template.specs.Fill.{Fills}
+use Rattle.runner.specs.Outputs.{files_of, names_of, is_other, IsMissing, ArePresent, no_file, all_there, IsFileText, nothing_named, filled, IsTemplateFault, is_missing, output_variables}
 
 -- the first file of another template, behind files of this one
 pub record HasOther (template : List ℕ) (files : List Output) (other : Output) : Type 0 where
@@ -90,9 +87,27 @@ is_positive n e = elim (eqb_tells n 0) [ inl h ↦ absurd (apart (sym e ∙ h.0)
     apart : false ≡ true → ⊥
     apart h = cc
 
-pub no_files : (s : Script) (files : List Output) (template out : List ℕ) → files ≡ files_of s → (length files == 0) ≡ true → out ≡ [] → IsFirstFile s template out
-no_files s [] template out is none empty = subst (IsFirstFile s template) (sym empty) (no_file (sym is))
-no_files s (file ∷ files) template out is none empty = let n : suc (length files) ≡ 0 = is_zero _ none in absurd (omega arith)
+is_none : (files : List Output) → (length files == 0) ≡ true → files ≡ []
+is_none [] none = refl
+is_none (file ∷ files) none = let n : suc (length files) ≡ 0 = is_zero _ none in absurd (omega arith)
+
+is_some : (files : List Output) → (length files == 0) ≡ false → files ≢ []
+is_some files some e = let lt = is_positive _ some in let n = ap length e in absurd (omega arith)
+
+pub no_files : (s : Script) (files : List Output) → files ≡ files_of s → (length files == 0) ≡ true → ArePresent s
+no_files s files is none = no_file (sym is ∙ is_none files none)
+
+pub no_text : (s : Script) (files : List Output) (template : List ℕ) (vars : List (List ℕ × List ℕ)) (out : List ℕ) → files ≡ files_of s → (length files == 0) ≡ true → out ≡ [] → IsFileText s template vars out
+no_text s files template vars out is none empty = subst (IsFileText s template vars) (sym empty) (nothing_named (sym is ∙ is_none files none))
+
+pub some_text : (s : Script) (files : List Output) (template : List ℕ) (vars : List (List ℕ × List ℕ)) (names : List (List ℕ)) (out : List ℕ) → files ≡ files_of s → (length files == 0) ≡ false → names ≡ names_of s
+    → Fills (output_variables vars names) template out → IsFileText s template vars out
+some_text s files template vars names out is some named fills = filled (λ e. is_some files some (is ∙ e)) (subst (λ n. Fills (output_variables vars n) template out) named fills)
+
+pub some_text_of : {E : Type 0} (s : Script) (files : List Output) (template : List ℕ) (vars : List (List ℕ × List ℕ)) (names : List (List ℕ)) {table : List (List ℕ × List ℕ)} (r : Result (Vec ℕ Global) E) → files ≡ files_of s
+    → (length files == 0) ≡ false → names ≡ names_of s → table ≡ output_variables vars names → IfOk r (λ v. Fills table template v.items) → IfOk r (λ v. IsFileText s template vars v.items)
+some_text_of s files template vars names (Ok v) is some named same fills = some_text s files template vars names v.items is some named (subst (λ t. Fills t template v.items) same fills)
+some_text_of s files template vars names (Err e) is some named same fills = tt
 
 -- the first file and the others, as a slice has them
 split : (files : List Output) (first : Output) → (length files == 0) ≡ false → first ≡ slice_index_or files 0 first → files ≡ first ∷ take (length files - 1) (drop 1 files)
@@ -101,18 +116,17 @@ split (file ∷ files) first some is =
     let n : length (file ∷ files) - 1 ≡ length files = omega arith in
     ap (λ f. f ∷ files) (sym is) ∙ ap (λ l. first ∷ l) (sym (ap (λ n. take n files) n ∙ take_all (length files) files (omega arith)))
 
-pub first_of_all : (s : Script) (files : List Output) (first : Output) (named template out : List ℕ) → files ≡ files_of s → (length files == 0) ≡ false → first ≡ slice_index_or files 0 first
-    → named ≡ (slice_index_or files 0 first).template → find (is_other named) (take (length files - 1) (drop 1 files)) ≡ None
-    → Fills (output_variables (end_of (meaning s nothing)).vars) template out → IsFirstFile s template out
-first_of_all s files first named template out is some at name_at none fills =
+pub first_of_all : (s : Script) (files : List Output) (first : Output) (named : List ℕ) → files ≡ files_of s → (length files == 0) ≡ false → first ≡ slice_index_or files 0 first
+    → named ≡ (slice_index_or files 0 first).template → find (is_other named) (take (length files - 1) (drop 1 files)) ≡ None → ArePresent s
+first_of_all s files first named is some at name_at none =
     let same : named ≡ first.template = name_at ∙ ap (λ (f : Output). f.template) (sym at) in
     let others : List Output = take (length files - 1) (drop 1 files) in
-    first_file (sym is ∙ split files first some at) (none_found first.template others (ap (λ t. find (is_other t) others) (sym same) ∙ none)) fills
+    all_there (sym is ∙ split files first some at) (none_found first.template others (ap (λ t. find (is_other t) others) (sym same) ∙ none))
 
 pub missing_among : (s : Script) (files : List Output) (first other : Output) (named name : List ℕ) → files ≡ files_of s → (length files == 0) ≡ false → first ≡ slice_index_or files 0 first
     → named ≡ (slice_index_or files 0 first).template → find (is_other named) (take (length files - 1) (drop 1 files)) ≡ Some other → name ≡ other.template → IsTemplateFault s (Run (NoTemplate name))
 missing_among s files first other named name is some at name_at found name_is =
     let same : named ≡ first.template = name_at ∙ ap (λ (f : Output). f.template) (sym at) in
     let others : List Output = take (length files - 1) (drop 1 files) in
-    missing (missing_from s first other others name (sym is ∙ split files first some at)
+    is_missing (missing_from s first other others name (sym is ∙ split files first some at)
     (other_found first.template others other (ap (λ t. find (is_other t) others) (sym same) ∙ found)) name_is)

@@ -1,5 +1,5 @@
 pub mod Markers
-pub mod Escapes
-pub mod Runs
 pub mod Files
 pub mod Refusals
+pub mod VariableLemmas
+pub mod Endings

@@ -1,21 +1,26 @@
 -- Refusals of the filter and of its parts.
-use Rattle.std.proofs.Common.{◌≡◌, ◌≢◌, ℕ, List, Option, Some, None, Result, Ok, Err, ◌⊎◌, inl, inr, refl, sym, subst}
-use Rattle.std.specs.Prelude.{IfErr, IfSome, IsErrAnd}
+use Rattle.std.proofs.Common.{◌≡◌, ◌≢◌, ◌≤◌, ◌<◌, ◌↔◌, ℕ, List, Option, Some, None, Result, Ok, Err, ◌⊎◌, inl, inr, refl, sym, subst}
+use Rattle.std.specs.Prelude.{IfOk, IfErr, IfSome, IsErrAnd}
 use Rattle.acargs.specs.declared.fault.ParseFault.{ParseFault}
 use Rattle.acargs.specs.declared.fault.ParseFault.TheVariants as parse_faults
 use Rattle.acargs.specs.Reading.{Fails}
 use Rattle.acparse.specs.Profile.{source_of}
-use Rattle.acparse.specs.Script.{Script}
+use Rattle.tree.specs.Script.{Script}
 use Rattle.acparse.specs.Source.{IsSource, IsSourceFault}
-use Rattle.runner.specs.declared.fault.Fault.TheVariants.{Parse}
+use Rattle.plan.specs.Weight.{heaviest, weight}
+use Rattle.plan.specs.declared.fault.PlanFault.{PlanFault}
+use Rattle.plan.specs.declared.fault.PlanFault.TheVariants.{TooLong}
+use Rattle.plan.specs.declared.fault.PlanFault.TheVariants as plan_faults
+use Rattle.runner.specs.declared.fault.Fault.TheVariants.{Parse, Plan}
 use Rattle.runner.specs.declared.fault.FilterFault.{FilterFault}
 use Rattle.runner.specs.declared.fault.FilterFault.TheVariants.{Read, Write, Run, OutOfMemory}
-use Rattle.runner.specs.Filtered.{IsRefused, parse, no_template, read, write, memory, IsTemplateFault, missing, no_memory}
+use Rattle.runner.specs.Filtered.{IsRun, IsFiltered, IsRefused, parse, not_run, read, write, memory, IsNotRun, too_long, missing, no_memory}
+use Rattle.runner.specs.Outputs.{IsTemplateFault, is_missing, out_of_memory}
 use Rattle.runner.specs.Parted.{IsParted}
 
 pub memory_fault : {A : Type 0} (s : Script) (r : Result A FilterFault) → IsErrAnd r (λ e. e ≡ OutOfMemory) → IfErr r (IsTemplateFault s)
 memory_fault s (Ok x) h = absurd h
-memory_fault s (Err e) h = subst (IsTemplateFault s) (sym h) no_memory
+memory_fault s (Err e) h = subst (IsTemplateFault s) (sym h) out_of_memory
 
 is_memory : (f : ParseFault) → (f ≡ parse_faults.OutOfMemory) ⊎ (f ≢ parse_faults.OutOfMemory)
 is_memory parse_faults.OutOfMemory = inl refl
@@ -34,14 +39,29 @@ parse_refused input source template f (Err e) parted exact bad h =
       | inr other ↦ subst (IsRefused input) (sym (h.1 other)) (parse parted other (named f (source_of source) other exact) (bad other))
     ]
 
-template_fault : (input source template : List ℕ) (s : Script) (e : FilterFault) → IsParted input source template → IsSource source s → IsTemplateFault s e → IsRefused input e
-template_fault input source template s e parted is (missing h) = no_template parted is h
-template_fault input source template s e parted is no_memory = memory
+-- statements without a plan
+pub plan_refused : {A B : Type 0} (s : Script) (f : PlanFault) (r : Result A FilterFault) → ((let c : Result B PlanFault = Err f in c) ≡ Err TooLong) ↔ (heaviest < weight s)
+    → IsErrAnd r (λ e. (f ≡ plan_faults.OutOfMemory → e ≡ OutOfMemory) × (f ≡ TooLong → e ≡ Run (Plan TooLong))) → IfErr r (IsNotRun s)
+plan_refused s f (Ok x) long h = absurd h
+plan_refused s TooLong (Err e) long h = subst (IsNotRun s) (sym (h.1 refl)) (too_long (long.0 refl))
+plan_refused s plan_faults.OutOfMemory (Err e) long h = subst (IsNotRun s) (sym (h.0 refl)) no_memory
 
-pub template_refused : {A : Type 0} (input source template : List ℕ) (s : Script) (r : Result A FilterFault) → IsParted input source template → IsSource source s
-    → IfErr r (IsTemplateFault s) → IfErr r (IsRefused input)
-template_refused input source template s (Ok x) parted is h = tt
-template_refused input source template s (Err e) parted is h = template_fault input source template s e parted is h
+pub template_not_run : (s : Script) (e : FilterFault) → weight s ≤ heaviest → IsTemplateFault s e → IsNotRun s e
+template_not_run s e fits (is_missing h) = missing fits h
+template_not_run s e fits out_of_memory = no_memory
+
+pub memory_not_run : {A : Type 0} (s : Script) (r : Result A FilterFault) → IsErrAnd r (λ e. e ≡ OutOfMemory) → IfErr r (IsNotRun s)
+memory_not_run s (Ok x) h = absurd h
+memory_not_run s (Err e) h = subst (IsNotRun s) (sym h) no_memory
+
+pub run_found : {A : Type 0} (input source template : List ℕ) (s : Script) (r : Result A FilterFault) (text : A → List ℕ) (status : A → ℕ) → IsParted input source template → IsSource source s
+    → IfOk r (λ a. IsRun s template (text a) (status a)) → IfOk r (λ a. IsFiltered input (text a) (status a))
+run_found input source template s (Ok a) text status parted is h = record { source = source; template = template; parted = parted; statements = s; is_source = is; run = h }
+run_found input source template s (Err e) text status parted is h = tt
+
+pub not_run_refused : {A : Type 0} (input source template : List ℕ) (s : Script) (r : Result A FilterFault) → IsParted input source template → IsSource source s → IfErr r (IsNotRun s) → IfErr r (IsRefused input)
+not_run_refused input source template s (Ok x) parted is h = tt
+not_run_refused input source template s (Err e) parted is h = not_run parted is h
 
 pub write_refused : (o : Option (List ℕ)) → IfSome o (λ input. IsRefused input Write)
 write_refused None = tt

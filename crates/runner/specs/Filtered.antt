@@ -1,37 +1,50 @@
 -- What the filter answers to its input.
-use Rattle.std.specs.Prelude.{◌≡◌, ◌≢◌, ℕ, List, Err}
+use Rattle.std.specs.Prelude.{◌≡◌, ◌≢◌, ◌≤◌, ◌<◌, ℕ, List, Err}
 use Rattle.acargs.specs.declared.fault.ParseFault as parse_fault
 use Rattle.acargs.specs.declared.fault.ParseFault.TheVariants as parse_faults
 use Rattle.acparse.specs.Profile.{source_of}
-use Rattle.acparse.specs.Script.{Script}
 use Rattle.acparse.specs.Source.{IsSource, IsSourceFault}
+use Rattle.meaning.specs.Meaning.{meaning}
+use Rattle.meaning.specs.State.{nothing}
+use Rattle.plan.specs.Weight.{heaviest, weight}
+use Rattle.plan.specs.declared.fault.PlanFault.TheVariants.{TooLong}
 use Rattle.runner.specs.declared.fault.Fault.{Fault}
-use Rattle.runner.specs.declared.fault.Fault.TheVariants.{Parse, NoTemplate}
+use Rattle.runner.specs.declared.fault.Fault.TheVariants.{Parse, Plan, NoTemplate}
 use Rattle.runner.specs.declared.fault.FilterFault.{FilterFault}
 use Rattle.runner.specs.declared.fault.FilterFault.TheVariants.{Read, Usage, Run, Write, OutOfMemory}
-use Rattle.runner.specs.Outputs.{IsFirstFile, IsMissing}
+use Rattle.runner.specs.Outputs.{ArePresent, IsWritten, IsMissing}
 use Rattle.runner.specs.Parted.{IsParted, HasNoMarker}
+use Rattle.tree.specs.Script.{Script}
 
--- The input is a source and a template, and out is the text of the source's first file.
-pub record IsFiltered (input out : List ℕ) : Type 0 where
+-- The statements are run, with nothing set at the beginning: they are not too heavy, the templates are there, and this
+-- is what is written, and the exit status.
+pub record IsRun (s : Script) (template out : List ℕ) (status : ℕ) : Type 0 where
+  pub fits : weight s ≤ heaviest
+  pub present : ArePresent s
+  pub written : IsWritten s template (meaning s nothing) out status
+
+-- The input is a source and a template, and this is what its run writes, and the exit status.
+pub record IsFiltered (input out : List ℕ) (status : ℕ) : Type 0 where
   pub source : List ℕ
   pub template : List ℕ
   pub parted : IsParted input source template
   pub statements : Script
   pub is_source : IsSource source statements
-  pub written : IsFirstFile statements template out
+  pub run : IsRun statements template out status
 
--- The input has no marker; or its source is at fault, and this is the fault that is named; or the source is right, and a template is not there.
+-- Why statements are not run: they are too heavy; or else a template is not there; or memory runs out.
+pub data IsNotRun (s : Script) : FilterFault → Type 0 where
+  too_long : heaviest < weight s → IsNotRun s (Run (Plan TooLong))
+  missing : {name : List ℕ} → weight s ≤ heaviest → IsMissing s name → IsNotRun s (Run (NoTemplate name))
+  no_memory : IsNotRun s OutOfMemory
+
+-- The input has no marker; or its source is at fault, and this is the fault that is named; or the source is right, and is
+-- not run.
 pub data IsRefused (input : List ℕ) : FilterFault → Type 0 where
   usage : HasNoMarker input → IsRefused input Usage
   parse : {source template : List ℕ} {f : parse_fault.ParseFault} → IsParted input source template → f ≢ parse_faults.OutOfMemory → source_of source ≡ Err f → IsSourceFault source f → IsRefused input (Run (Parse f))
-  no_template : {source template name : List ℕ} {s : Script} → IsParted input source template → IsSource source s → IsMissing s name → IsRefused input (Run (NoTemplate name))
+  not_run : {source template : List ℕ} {s : Script} {e : FilterFault} → IsParted input source template → IsSource source s → IsNotRun s e → IsRefused input e
   -- what has nothing to do with the input
   read : IsRefused input Read
   write : IsRefused input Write
   memory : IsRefused input OutOfMemory
-
--- what is wrong with the templates of a source, or with memory
-pub data IsTemplateFault (s : Script) : FilterFault → Type 0 where
-  missing : {name : List ℕ} → IsMissing s name → IsTemplateFault s (Run (NoTemplate name))
-  no_memory : IsTemplateFault s OutOfMemory

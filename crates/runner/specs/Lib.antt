@@ -1,4 +1,4 @@
 pub mod Parted
 pub mod Outputs
+pub mod Ran
 pub mod Filtered
-pub mod Store

@@ -2,23 +2,23 @@
 use Rattle.std.specs.Prelude.{Bool, not, bytes_eq, ◌≡◌, ◌≢◌, ℕ, List, [], ◌∷◌, ◌++◌, All, codes, unwrap_or}
 use Rattle.deftable.specs.Table.{value_of, with_entry}
 use Rattle.acargs.specs.declared.output.Output.{Output}
-use Rattle.acparse.specs.Known.{start, after_all}
-use Rattle.acparse.specs.Script.{Script}
-use Rattle.meaning.specs.Meaning.{meaning}
-use Rattle.meaning.specs.State.{State, Run, Ends, nothing}
+use Rattle.machine.specs.Standing.{outcome_of}
+use Rattle.machine.specs.declared.machine.Outcome.TheVariants as outcome
+use Rattle.meaning.specs.State.{State, How, Stopped, Run, Ends}
 use Rattle.template.specs.Fill.{Fills}
-
--- the state in which a run ends
-abbrev pub end_of : Run → State
-end_of (Ends how state) = state
+use Rattle.runner.specs.declared.fault.Fault.TheVariants.{NoTemplate}
+use Rattle.runner.specs.declared.fault.FilterFault.{FilterFault}
+use Rattle.runner.specs.declared.fault.FilterFault.TheVariants as fault
+use Rattle.tree.specs.Known.{start, after_all}
+use Rattle.tree.specs.Script.{Script}
 
 -- a table with an output variable more, by its value, which is empty where it is unset
 abbrev pub with_variable : List (List ℕ × List ℕ) → List (List ℕ × List ℕ) → List ℕ → List (List ℕ × List ℕ)
 with_variable vars table name = with_entry table name (unwrap_or (value_of vars name) [])
 
 -- the six output variables of AC_INIT (Autoconf's manual, "Initializing configure")
-unfoldable pub output_variables : List (List ℕ × List ℕ) → List (List ℕ × List ℕ)
-output_variables vars =
+unfoldable pub package_variables : List (List ℕ × List ℕ) → List (List ℕ × List ℕ)
+package_variables vars =
     let a = with_variable vars [] (codes "PACKAGE_NAME") in
     let b = with_variable vars a (codes "PACKAGE_TARNAME") in
     let c = with_variable vars b (codes "PACKAGE_VERSION") in
@@ -26,16 +26,37 @@ output_variables vars =
     let e = with_variable vars d (codes "PACKAGE_BUGREPORT") in
     with_variable vars e (codes "PACKAGE_URL")
 
+-- A table, and the source's own output variables (Autoconf's manual, "Setting Output Variables").
+unfoldable pub with_variables : List (List ℕ × List ℕ) → List (List ℕ × List ℕ) → List (List ℕ) → List (List ℕ × List ℕ)
+with_variables vars table [] = table
+with_variables vars table (name ∷ names) = with_variables vars (with_variable vars table name) names
+
+-- the output variables: those of AC_INIT, and those of these names
+unfoldable pub output_variables : List (List ℕ × List ℕ) → List (List ℕ) → List (List ℕ × List ℕ)
+output_variables vars names = with_variables vars (package_variables vars) names
+
 -- the files that the statements name
 abbrev pub files_of : Script → List Output
 files_of s = (after_all start s).files
 
--- The text of the first file, made from the one template that is there, which is the first file's; nothing where no
--- file is named. Every other file has the same template.
-pub data IsFirstFile (s : Script) (template : List ℕ) : List ℕ → Type 0 where
-  no_file : files_of s ≡ [] → IsFirstFile s template []
-  first_file : {file : Output} {more : List Output} {out : List ℕ} → files_of s ≡ file ∷ more → All (λ other. other.template ≡ file.template) more
-      → Fills (output_variables (end_of (meaning s nothing)).vars) template out → IsFirstFile s template out
+-- the output variables that the statements name, those of cases that are not taken too
+abbrev pub names_of : Script → List (List ℕ)
+names_of s = (after_all start s).substituted
+
+-- Every file has the template of the first one, which alone is there.
+pub data ArePresent (s : Script) : Type 0 where
+  no_file : files_of s ≡ [] → ArePresent s
+  all_there : {file : Output} {more : List Output} → files_of s ≡ file ∷ more → All (λ other. other.template ≡ file.template) more → ArePresent s
+
+-- The text of the first file under these variables: its template filled; nothing where no file is named.
+pub data IsFileText (s : Script) (template : List ℕ) (vars : List (List ℕ × List ℕ)) : List ℕ → Type 0 where
+  nothing_named : files_of s ≡ [] → IsFileText s template vars []
+  filled : {out : List ℕ} → files_of s ≢ [] → Fills (output_variables vars (names_of s)) template out → IsFileText s template vars out
+
+-- What a run writes, and its exit status: nothing where an error stops it; and else the first file's text.
+pub data IsWritten (s : Script) (template : List ℕ) : Run → List ℕ → ℕ → Type 0 where
+  stopped : {status : ℕ} {st : State} → IsWritten s template (Ends (Stopped status) st) [] status
+  completed : {how : How} {st : State} {out : List ℕ} → outcome_of how ≡ outcome.Completed → IsFileText s template st.vars out → IsWritten s template (Ends how st) out 0
 
 -- the file has another template than this one
 abbrev pub is_other : List ℕ → Output → Bool
@@ -51,3 +72,8 @@ pub record IsMissing (s : Script) (name : List ℕ) : Type 0 where
   pub are_there : All (λ other. other.template ≡ first.template) present
   pub is_other : missing.template ≢ first.template
   pub named : name ≡ missing.template
+
+-- what is wrong with the templates of a source, or with memory
+pub data IsTemplateFault (s : Script) : FilterFault → Type 0 where
+  is_missing : {name : List ℕ} → IsMissing s name → IsTemplateFault s (fault.Run (NoTemplate name))
+  out_of_memory : IsTemplateFault s fault.OutOfMemory

@@ -31,8 +31,8 @@ fn tell<W: Write>(errors: &mut W, fault: &FilterFault) -> u8
     FAULT
 }
 
-/// Answers the exit status: 0, or 2 where something is at fault. Without arguments it filters its input; there is no
-/// other command.
+/// Answers the exit status: that of the source's run, or 2 where something is at fault. Without arguments it filters its
+/// input; there is no other command.
 ///
 /// Faults are told on standard error, one line each. Where that can't be written the status alone tells them.
 pub fn run<V: Env, R: Read, W: Write, E: Write>(
@@ -42,10 +42,9 @@ pub fn run<V: Env, R: Read, W: Write, E: Write>(
     output: &mut W,
     errors: &mut E,
 ) -> u8
-    ensures status { (result ≡ 0) ⊎ (result ≡ 2) }
-    // With status 0 the first file's text is written, made by the source's meaning.
-    ensures written { result ≡ 0 → IfSome (R.remaining input.old)
-        (λ text. (out : List ℕ) × IsFiltered text out × Appends (W.contents output.old) (W.contents output.new) out) }
+    // Where the status is not that of a fault, it and what is written are those of the source's meaning.
+    ensures written { (result ≡ 2) ⊎ IfSome (R.remaining input.old)
+        (λ text. (out : List ℕ) × IsFiltered text out result × Appends (W.contents output.old) (W.contents output.new) out) }
 {
     if !is_alone(env) {
         return tell(errors, &FilterFault::Usage);

@@ -2,11 +2,13 @@
 
 ghost use Rattle.std.specs.Prelude.{◌≡◌, ◌≢◌};
 ghost use Rattle.acargs.specs.declared.fault.ParseFault.TheVariants.{OutOfMemory as NoMemory};
-ghost use Rattle.runner.specs.declared.fault.Fault.TheVariants.{Parse};
+ghost use Rattle.plan.specs.declared.fault.PlanFault.TheVariants.{TooLong, OutOfMemory as NoPlanMemory};
+ghost use Rattle.runner.specs.declared.fault.Fault.TheVariants.{Parse, Plan};
 ghost use Rattle.runner.specs.declared.fault.FilterFault.TheVariants.{OutOfMemory, Run};
 
 use acargs::ParseFault;
 use deftable::Bytes;
+use plan::PlanFault;
 use std::alloc::{AllocError, AllocFailed};
 use thiserror::Error;
 
@@ -17,6 +19,9 @@ pub enum Fault {
     /// The configure.ac.
     #[error("parse {0}")]
     Parse(ParseFault),
+    /// The configure.ac is too long to be run.
+    #[error("plan {0}")]
+    Plan(PlanFault),
     /// A template is not there; of several the first, in the order of the outputs.
     #[error("template")]
     NoTemplate(Bytes),
@@ -65,6 +70,17 @@ impl From<ParseFault> for FilterFault {
         match fault {
             ParseFault::OutOfMemory => FilterFault::OutOfMemory,
             other => FilterFault::Run(Fault::Parse(other)),
+        }
+    }
+}
+
+impl From<PlanFault> for FilterFault {
+    ghost from_gives = { λ f e. (f ≡ NoPlanMemory → e ≡ OutOfMemory) × (f ≡ TooLong → e ≡ Run (Plan TooLong)) };
+
+    fn from(fault: PlanFault) -> FilterFault {
+        match fault {
+            PlanFault::OutOfMemory => FilterFault::OutOfMemory,
+            PlanFault::TooLong => FilterFault::Run(Fault::Plan(PlanFault::TooLong)),
         }
     }
 }

@@ -1,23 +1,23 @@
 //! The filter: a source and a template in, the filled text out.
 
-ghost use Rattle.std.specs.Prelude.{◌≡◌, ◌≢◌, ℕ, List, [], ◌+◌, ◌≤◌, ◌∷◌, All, length, drop, IfOk, IfErr, IfSome, IfNone, find};
+ghost use Rattle.std.specs.Prelude.{◌≡◌, ◌≢◌, ℕ, List, [], ◌+◌, ◌≤◌, length, drop, IfOk, IfErr, IfSome, find};
 ghost use Rattle.std.specs.Option.{option_copied};
-ghost use Rattle.std.specs.Io.KnownBytes.{Appends, Consumes};
-ghost use Rattle.acparse.specs.Script.{script_of};
-ghost use Rattle.acparse.specs.Known.{start, after_all};
-ghost use Rattle.meaning.specs.Meaning.{meaning};
-ghost use Rattle.meaning.specs.State.{nothing};
-ghost use Rattle.template.specs.Fill.{Fills};
+ghost use Rattle.std.specs.Io.KnownBytes.{Appends};
+ghost use Rattle.meaning.specs.State as meant;
+ghost use Rattle.tree.specs.Script.{script_of};
 ghost use Rattle.runner.specs.declared.fault.FilterFault.{FilterFault};
-ghost use Rattle.runner.specs.Filtered.{IsFiltered, IsRefused, IsTemplateFault};
-ghost use Rattle.runner.specs.Outputs.{IsFirstFile, IsMissing, files_of, is_other, end_of, output_variables};
+ghost use Rattle.runner.specs.Filtered.{IsRun, IsNotRun, IsFiltered, IsRefused};
+ghost use Rattle.runner.specs.Outputs.{ArePresent, IsFileText, IsWritten, IsTemplateFault, files_of, names_of, is_other};
+ghost use Rattle.runner.specs.Ran.{Ran, status_of};
 
 use crate::fault::{Fault, FilterFault};
 use crate::input::{marker_place, read_input};
 use crate::outputs::output_variables;
-use crate::statements::straight;
+use crate::running::{run_plan, status_of as exit_status};
 use acparse::{Output, Source, parse};
-use deftable::Bytes;
+use deftable::Vars;
+use plan::compile;
+use proberun::{Outcome, RunEnd};
 use std::alloc::{AllocError, Global};
 use std::io::{Read, Write};
 use template::fill;
@@ -25,7 +25,7 @@ use template::fill;
 /// What the filter answers, besides the text that it writes.
 #[derive(Debug, Drop)]
 pub struct Filtered {
-    /// The exit status of the program: 0 for a run that completes.
+    /// The exit status of the program: 0 for a run that completes, and else the source's own.
     pub status: u8,
     /// What belongs on standard error.
     pub errors: Vec<u8>,
@@ -48,47 +48,99 @@ fn behind_marker(input: &[u8], at: usize) -> &[u8]
     &input[input.len().min(at.saturating_add(3))..]
 }
 
-/// A template filled from what the source's statements leave.
-fn filled(alloc: Global, source: &Source, template: &[u8]) -> Result<Vec<u8>, AllocError>
-    ensures { IfOk result (λ v. Fills (output_variables (end_of (meaning (script_of source.now.statements.items) nothing)).vars) template.now v.items) }
-{
-    let (vars, _defs) = straight(alloc, source)?;
-    let table = output_variables(alloc, &vars)?;
-    fill(alloc, template, &table)
-}
-
-/// The text of the source's first file, made from the template that is there.
-fn first_file(alloc: Global, source: &Source, template: &[u8]) -> Result<Vec<u8>, FilterFault>
+/// Refuses a source of which a template is not there: all but the first file's.
+fn check_templates(alloc: Global, source: &Source) -> Result<(), FilterFault>
     requires { source.now.files ≡ files_of (script_of source.now.statements.items) }
-    ensures found { IfOk result (λ v. IsFirstFile (script_of source.now.statements.items) template.now v.items) }
+    ensures present { IfOk result (λ _. ArePresent (script_of source.now.statements.items)) }
     ensures refused { IfErr result (IsTemplateFault (script_of source.now.statements.items)) }
 {
     let files = source.files.as_slice();
     if files.is_empty() {
-        return Ok(Vec::new(alloc));
+        return Ok(());
     }
     if let Some(file) = find_other(&files[1..], files[0].template.as_slice()) {
         let name = file.template.copy(alloc)?;
         return Err(FilterFault::Run(Fault::NoTemplate(name)));
     }
-    Ok(filled(alloc, source, template)?)
+    Ok(())
 }
 
-/// The text that the input's first file is, or why there is none.
-fn answer(alloc: Global, input: &[u8]) -> Result<Vec<u8>, FilterFault>
-    ensures found { IfOk result (λ v. IsFiltered input.now v.items) }
+/// The text of the first file under these variables; nothing where no file is named.
+fn file_text(
+    alloc: Global,
+    source: &Source,
+    template: &[u8],
+    vars: &Vars,
+) -> Result<Vec<u8>, AllocError>
+    requires files { source.now.files ≡ files_of (script_of source.now.statements.items) }
+    requires names { source.now.substituted ≡ names_of (script_of source.now.statements.items) }
+    ensures { IfOk result (λ v. IsFileText (script_of source.now.statements.items) template.now vars.now v.items) }
+{
+    if source.files.is_empty() {
+        return Ok(Vec::new(alloc));
+    }
+    let table = output_variables(alloc, vars, &source.substituted)?;
+    fill(alloc, template, &table)
+}
+
+/// What a run writes, from what it leaves.
+fn text_of(
+    alloc: Global,
+    source: &Source,
+    template: &[u8],
+    end: &RunEnd,
+) -> Result<Vec<u8>, AllocError>
+    requires files { source.now.files ≡ files_of (script_of source.now.statements.items) }
+    requires names { source.now.substituted ≡ names_of (script_of source.now.statements.items) }
+    ensures { IfOk result (λ v. (run : meant.Run) → Ran run end.now → IsWritten (script_of source.now.statements.items) template.now run v.items (status_of end.now.outcome)) }
+{
+    match end.outcome {
+        Outcome::Stopped(_) => Ok(Vec::new(alloc)),
+        Outcome::Completed => file_text(alloc, source, template, &end.vars),
+    }
+}
+
+/// What is written, and the exit status.
+#[derive(Debug, Drop)]
+struct Written {
+    text: Vec<u8>,
+    status: u8,
+}
+
+/// Runs a source, with nothing set at the beginning.
+fn run_source(alloc: Global, source: &Source, template: &[u8]) -> Result<Written, FilterFault>
+    requires files { source.now.files ≡ files_of (script_of source.now.statements.items) }
+    requires names { source.now.substituted ≡ names_of (script_of source.now.statements.items) }
+    ensures run { IfOk result (λ a. IsRun (script_of source.now.statements.items) template.now a.text.items a.status) }
+    ensures refused { IfErr result (IsNotRun (script_of source.now.statements.items)) }
+{
+    let plan = compile(alloc, source)?;
+    check_templates(alloc, source)?;
+    let end = run_plan(alloc, &plan, Vars::new(alloc))?;
+    let text = text_of(alloc, source, template, &end)?;
+    Ok(Written {
+        text,
+        status: exit_status(end.outcome),
+    })
+}
+
+/// What the input's run writes, or why it isn't run.
+fn answer(alloc: Global, input: &[u8]) -> Result<Written, FilterFault>
+    ensures found { IfOk result (λ a. IsFiltered input.now a.text.items a.status) }
     ensures refused { IfErr result (IsRefused input.now) }
 {
     let Some(at) = marker_place(input) else {
         return Err(FilterFault::Usage);
     };
     let source = parse(alloc, &input[..at])?;
-    first_file(alloc, &source, behind_marker(input, at))
+    run_source(alloc, &source, behind_marker(input, at))
 }
 
-/// Reads a configure.ac, a line that is exactly `%%` and the template of its first file, and writes that file; nothing
-/// where the source names no file. No other template is there. In this order `Read`, `Usage`, `Run` with the first fault
-/// of the source and then the first template that is not there, `Write`; and `OutOfMemory` at any moment.
+/// Reads a configure.ac, a line that is exactly `%%` and the template of its first file, runs the source with nothing set
+/// at the beginning, and writes that file; nothing where the source names no file, or where an error stops the run. The
+/// status is 0 for a run that completes, and else the source's own. No other template is there. In this order `Read`,
+/// `Usage`, `Run` with the first fault of the source, then that it is too long, and then the first template that is not
+/// there, `Write`; and `OutOfMemory` at any moment.
 ///
 /// After `Write` a part of the text may have been written; after every other refusal nothing was.
 pub fn filter<R: Read, W: Write>(
@@ -96,22 +148,22 @@ pub fn filter<R: Read, W: Write>(
     reader: &mut R,
     writer: &mut W,
 ) -> Result<Filtered, FilterFault>
-    // Where it answers, the first file's text is written, made by the source's meaning.
-    ensures written { IfOk result (λ _. IfSome (R.remaining reader.old)
-        (λ input. (out : List ℕ) × IsFiltered input out × Appends (W.contents writer.old) (W.contents writer.new) out)) }
-    ensures status { IfOk result (λ f. (f.status ≡ 0) × (f.errors.items ≡ [])) }
+    // Where it answers, what is written and the status are those of the source's meaning.
+    ensures written { IfOk result (λ f. IfSome (R.remaining reader.old)
+        (λ input. (out : List ℕ) × IsFiltered input out f.status × Appends (W.contents writer.old) (W.contents writer.new) out)) }
+    ensures errors { IfOk result (λ f. f.errors.items ≡ []) }
     // A refusal but that of the writer leaves it as it was.
     ensures untouched { IfErr result (λ e. e ≢ FilterFault.Write → writer.new ≡ writer.old) }
     // A refusal that is no matter of reading, writing and memory is the input's.
     ensures refused { IfErr result (λ e. IfSome (R.remaining reader.old) (λ input. IsRefused input e)) }
 {
     let input = read_input(alloc, reader)?;
-    let text = answer(alloc, input.as_slice())?;
-    if writer.write_all(text.as_slice()).is_err() {
+    let answer = answer(alloc, input.as_slice())?;
+    if writer.write_all(answer.text.as_slice()).is_err() {
         return Err(FilterFault::Write);
     }
     Ok(Filtered {
-        status: 0,
+        status: answer.status,
         errors: Vec::new(alloc),
     })
 }

@@ -1,8 +1,8 @@
 //! The program's commands, apart from where its bytes come from and go to.
 //!
 //! `filter` is the whole way of a text through the engine: it reads a configure.ac, a line `%%` and a template, and
-//! writes the template filled (`filtering`). Its parts are `input` (reading, and the cut at `%%`), `statements` (what the
-//! source's statements leave), `outputs` (the table that templates are filled from). `command` is what the program does.
+//! writes the template filled (`filtering`). Its parts are `input` (reading, and the cut at `%%`), `running` (what a plan's
+//! run leaves), `outputs` (the table that templates are filled from). `command` is what the program does.
 //!
 //! Given `AC_INIT([demo],[1.0])`, `AC_CONFIG_FILES([out])`, `AC_OUTPUT`, `%%` and `@PACKAGE_NAME@`, a line each, it
 //! writes `demo` and a newline.
@@ -13,11 +13,10 @@ pub mod fault;
 pub mod filtering;
 pub mod input;
 pub mod outputs;
-pub mod statements;
+pub mod running;
 
 pub use fault::{Fault, FilterFault};
 pub use filtering::{Filtered, filter};
-pub use statements::straight;
 
 #[cfg(test)]
 mod tests;

@@ -3,8 +3,12 @@
 ghost use Rattle.std.specs.Io.{WritesAtMost};
 
 use super::*;
+use crate::running::run_plan;
 use acargs::ParseFault;
 use acparse::parse;
+use deftable::Vars;
+use plan::compile;
+use proberun::RunEnd;
 use std::alloc::{AllocError, Global};
 use std::env::{Env, FillError};
 use std::io::{self, Read, Write};
@@ -55,6 +59,103 @@ fn the_first_file(rt: HostRuntime) -> Result<(), Fail> {
             "{input:?}: {whole:?}"
         );
     }
+    Ok(())
+}
+
+/// Runs these lines between AC_INIT and AC_OUTPUT, with this template, and asserts the status and what is written.
+fn assert_run(
+    rt: &impl Abort,
+    alloc: Global,
+    lines: &[u8],
+    template: &[u8],
+    status: u8,
+    wanted: &[u8],
+) -> Result<(), Fail> {
+    let mut input = Vec::from_slice(alloc, b"AC_INIT([demo],[1.0])\nAC_CONFIG_FILES([f])\n")?;
+    input.extend_from_slice(lines)?;
+    input.extend_from_slice(b"\nAC_OUTPUT\n%%\n")?;
+    input.extend_from_slice(template)?;
+    let mut reader = input.as_slice();
+    let mut written = Vec::new(alloc);
+    let answer = filter(alloc, &mut reader, &mut written)?;
+    assert!(rt; answer.status == status, "{lines:?}: {answer:?}");
+    assert!(rt; written.as_slice() == wanted, "{lines:?}: {written:?}");
+    Ok(())
+}
+
+#[test]
+fn runs(rt: HostRuntime) -> Result<(), Fail> {
+    let cases = [
+        (
+            b"a=yes\nAS_IF([test \"x$a\" = xyes && test -n \"$b\"],[r=1],[r=2])\nAC_SUBST([r])".as_slice(),
+            b"@r@".as_slice(),
+            0,
+            b"2".as_slice(),
+        ),
+        (
+            b"AS_CASE([ab],[a*],[r=1],[ab],[r=2])\nAC_SUBST([r])",
+            b"@r@",
+            0,
+            b"1",
+        ),
+        // a variable of a case that is not taken
+        (
+            b"AS_IF([test x = y],[AC_SUBST([Q],[1])])",
+            b"<@Q@@R@>",
+            0,
+            b"<@R@>",
+        ),
+        // Assignments of one statement are made from the left.
+        (b"a=x b=$a\nAC_SUBST([b])", b"@b@", 0, b"x"),
+        (b"a='$b'; AC_SUBST([a])", b"@a@", 0, b"$b"),
+        (b"AC_SUBST([a], [\"x y\"])\na=${a}z", b"@a@", 0, b"x yz"),
+        // Errors stop a run with their status.
+        (b"AC_MSG_ERROR([no])", b"x", 1, b""),
+        (b"AS_IF([:],[AC_MSG_ERROR([no],[7])])", b"x", 7, b""),
+        (b"AS_IF([false],[AC_MSG_ERROR([no],[7])])", b"x", 0, b"x"),
+    ];
+    for (lines, template, status, wanted) in cases {
+        assert_run(&rt, rt.alloc(), lines, template, status, wanted)?;
+    }
+    Ok(())
+}
+
+/// The example of docs/language.md, which has every macro that is read.
+const LANGUAGE: &[u8] =
+    b"AC_PREREQ([2.69])\nAC_INIT([GNU Hello], [2.12], [bug-hello@gnu.org])\nAC_CONFIG_SRCDIR([src/hello.c])\nAC_CONFIG_AUX_DIR([build-aux])\nAC_CONFIG_MACRO_DIR([m4])\nAC_CONFIG_MACRO_DIRS([m4 lib/m4])\nAC_LANG([C])\nAC_CONFIG_FILES([version])\n\nfeatures=none level=2   # two assignments, from the left\nAC_SUBST([features])\nAC_SUBST([CFLAGS], [\"-O$level -Wall\"])\nAS_IF([test \"x$features\" = xnone], [kind=plain],\n      [test -n \"$features\" && test \"$level\" != 0], [kind=rich],\n      [AC_MSG_ERROR([no features at all], [77])])\nAC_SUBST([kind])\nAS_CASE([$CFLAGS],\n  [*-O0* | *-Og*], [optimised=no],\n  [*-O?*],         [optimised=yes],\n  [optimised=unknown])\nAC_SUBST([optimised])\nAC_DEFINE([HAVE_HELLO])\nAC_DEFINE([GREETING], [\"hello, world\"], [What is said.])\nAC_DEFINE_UNQUOTED([KIND], [\"$kind\"], [What kind of hello.])\nAC_OUTPUT\n%%\n@PACKAGE_TARNAME@ @PACKAGE_VERSION@: @kind@, optimised: @optimised@ (@CFLAGS@)\n";
+
+#[test]
+fn the_example_of_the_language(rt: HostRuntime) -> Result<(), Fail> {
+    let mut reader = LANGUAGE;
+    let mut written = Vec::new(rt.alloc());
+    let answer = filter(rt.alloc(), &mut reader, &mut written)?;
+    assert_eq!(rt; answer.status, 0);
+    assert_eq!(rt;
+        written.as_slice(),
+        b"hello 2.12: plain, optimised: yes (-O2 -Wall)\n".as_slice()
+    );
+    Ok(())
+}
+
+/// So many assignments between AC_INIT and AC_OUTPUT.
+fn assignments(alloc: Global, count: usize) -> Result<Vec<u8>, AllocError> {
+    let mut input = Vec::from_slice(alloc, b"AC_INIT([x],[1])\n")?;
+    for _ in 0..count {
+        input.extend_from_slice(b"a=1\n")?;
+    }
+    input.extend_from_slice(b"AC_OUTPUT\n%%\n")?;
+    Ok(input)
+}
+
+#[test]
+fn the_longest_source(rt: HostRuntime) -> Result<(), Fail> {
+    let input = assignments(rt.alloc(), 65_533)?;
+    let mut reader = input.as_slice();
+    let (fault, _) = fault_of(rt.alloc(), &mut reader);
+    assert!(rt; fault.is_none());
+    let input = assignments(rt.alloc(), 65_534)?;
+    let mut reader = input.as_slice();
+    assert_line(&rt, rt.alloc(), &mut reader, b"acrun: plan 1\n");
     Ok(())
 }
 
@@ -197,7 +298,8 @@ fn what_a_source_leaves(rt: HostRuntime) -> Result<(), Fail> {
     let text =
         b"AC_INIT([a\"b\\],[1],[bugs])AC_DEFINE([X],[1])AC_DEFINE([PACKAGE_URL],[0])AC_DEFINE([Y],[2])AC_DEFINE([X],[\"3\"])AC_OUTPUT";
     let source = parse(rt.alloc(), text)?;
-    let (vars, defs) = straight(rt.alloc(), &source)?;
+    let plan = compile(rt.alloc(), &source)?;
+    let RunEnd { vars, defs, .. } = run_plan(rt.alloc(), &plan, Vars::new(rt.alloc()))?;
     let mut found = Vec::new(rt.alloc());
     for i in 0..vars.len() {
         let (name, value) = vars.at(i);
@@ -336,6 +438,23 @@ fn lines_of_faults(rt: HostRuntime) {
             b"AC_INIT([x],[1])\nAC_INIT([x],[1])\n%%\n",
             b"acrun: parse 7 at 17\n",
         ),
+        (
+            b"AC_INIT([x],[1])\na=`b`\n%%\n",
+            b"acrun: parse 6.1 at 16\n",
+        ),
+        (
+            b"AC_INIT([x],[1])\nAS_IF([test a -eq b],[])\n%%\n",
+            b"acrun: parse 6.2 at 23\n",
+        ),
+        (
+            b"AC_INIT([x],[1])\nAS_CASE([a],[(],[])\n%%\n",
+            b"acrun: parse 6.3 at 29\n",
+        ),
+        (
+            b"AC_INIT([x],[1])\nAS_IF([:],[AC_CONFIG_FILES([f])])\n%%\n",
+            b"acrun: parse 7 at 28\n",
+        ),
+        (b"AC_PREREQ([2.72])\n%%\n", b"acrun: parse 14 at 10\n"),
         (
             b"AC_INIT([x],[1])\nAC_OUTPUT\nAC_OUTPUT\n%%\n",
             b"acrun: parse 10 at 27\n",

@@ -1,7 +1,7 @@
 use Rattle.std.proofs.Common.{take, drop, ◌+◌}
-use Rattle.acparse.specs.Script.{script_of}
+use Rattle.tree.specs.Script.{script_of}
 use Rattle.runner.specs.Filtered.{usage}
-use Rattle.runner.proofs.Refusals.{parse_refused, template_refused}
+use Rattle.runner.proofs.Refusals.{parse_refused, not_run_refused, run_found}
 use Rattle.runner.proofs.filtering.answer.Goals as goal
 
 pub returns-in_default-clause-refused : goal.returns-in_default-clause-refused
@@ -17,4 +17,11 @@ pub returns-clause-refused : goal.returns-clause-refused
 returns-clause-refused c =
     let input = c.args.input.now in
     let at = c.in-Some.at in
-    template_refused input (take at input) (drop (at + 3) input) (script_of c.in_ok-source.source.statements.items) c.first_file.result c.in-Some.ensures.some c.in_ok-source.ensures.found c.first_file.ensures.refused
+    not_run_refused input (take at input) (drop (at + 3) input) (script_of c.in_ok-source.source.statements.items) c.run_source.result c.in-Some.ensures.some c.in_ok-source.ensures.found c.run_source.ensures.refused
+
+pub returns-clause-found : goal.returns-clause-found
+returns-clause-found c =
+    let input = c.args.input.now in
+    let at = c.in-Some.at in
+    run_found input (take at input) (drop (at + 3) input) (script_of c.in_ok-source.source.statements.items) c.run_source.result (λ a. a.text.items) (λ a. a.status) c.in-Some.ensures.some c.in_ok-source.ensures.found
+    (rw c.behind_marker.ensures at c.run_source.ensures.run)

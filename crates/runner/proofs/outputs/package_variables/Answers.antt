@@ -1,10 +1,10 @@
 use Rattle.std.proofs.Common.{ap, ◌∙◌}
 use Rattle.std.specs.Prelude.{codes}
-use Rattle.runner.specs.Outputs.{output_variables, with_variable}
-use Rattle.runner.proofs.outputs.output_variables.Goals as goal
+use Rattle.runner.specs.Outputs.{package_variables, with_variable}
+use Rattle.runner.proofs.outputs.package_variables.Goals as goal
 
 pub returns : goal.returns
-unfolding output_variables
+unfolding package_variables
 returns c =
     let v = c.args.vars.now in
     c.in_ok-add-6.ensures ∙ ap (λ t. with_variable v t (codes "PACKAGE_URL")) (

@@ -1,0 +1,10 @@
+use Rattle.std.proofs.Common.{sym, ◌∙◌}
+use Rattle.runner.proofs.Files.{no_text, some_text_of}
+use Rattle.runner.proofs.filtering.file_text.Goals as goal
+
+pub returns-then-is_empty : goal.returns-then-is_empty
+returns-then-is_empty c = no_text _ c.args.source.now.files _ _ _ c.requires.files (sym c.is_empty.ensures ∙ c.if-is_empty.true) c.new.ensures.items
+
+pub returns : goal.returns
+returns c =
+    some_text_of _ c.args.source.now.files _ _ c.args.source.now.substituted c.fill.result c.requires.files (sym c.is_empty.ensures ∙ c.if-is_empty.false) c.requires.names c.in_ok-table.ensures c.fill.ensures.found
