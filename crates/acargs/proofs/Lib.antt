@@ -4,3 +4,4 @@ pub mod IdleLemmas
 pub mod OutputLemmas
 pub mod FaultLemmas
 pub mod InsideLemmas
+pub mod FeatureLemmas

@@ -9,3 +9,6 @@ pub mod Stand
 pub mod Shell
 pub mod Numbers
 pub mod Inside
+pub mod Feature
+pub mod Help
+pub mod Programs

@@ -48,7 +48,7 @@ fn is_run(text: &[u8]) -> bool
 }
 
 /// Whether items say nothing but blanks.
-fn are_blank(items: &[Item<'_>]) -> bool
+pub(crate) fn are_blank(items: &[Item<'_>]) -> bool
     ensures { result ≡ words.are_blank (views items.now) }
 {
     for item in items {

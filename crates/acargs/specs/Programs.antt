@@ -1,0 +1,67 @@
+-- Arguments of tests: names of programs, and the texts of programs that are compiled (Autoconf's manual, "Generic
+-- Programs" and "Generating Sources"; which bytes a program's name may have is own).
+use Rattle.std.specs.Prelude.{ℕ, Bool, not, ◌&&◌, ◌||◌, ◌==◌, List, [], ◌∷◌, ◌++◌, length, Result, Ok, nat_lt, codes, if◌then◌else◌}
+use Rattle.std.specs.List.{list_all}
+use Rattle.std.specs.Str.{bytes_eq}
+use Rattle.conftest.specs.Sources.{default_includes}
+use Rattle.m4quote.specs.Entry.{Span}
+use Rattle.shellword.specs.Scan.{here_of}
+use Rattle.shellword.specs.declared.part.Part.{Part}
+use Rattle.textcut.specs.Cuts.{is_blank, trimmed, fields, parts}
+use Rattle.acargs.specs.declared.fault.ParseFault.{ParseFault}
+use Rattle.acargs.specs.declared.fault.ParseFault.TheVariants.{BadName}
+use Rattle.acargs.specs.Arguments.{text, bare_text}
+use Rattle.acargs.specs.Reading.{◌>>=◌, shell_at, wants}
+use Rattle.acargs.specs.Texts.{is_empty}
+
+-- ---- names of programs
+
+-- no blank, `$`, backslash or backquote
+abbrev pub is_program_byte : ℕ → Bool
+is_program_byte b = not (is_blank b || b == 36 || b == 92 || b == 96)
+
+-- a text that can name a program
+unfoldable pub is_program : List ℕ → Bool
+is_program name = not (is_empty name) && list_all is_program_byte name
+
+-- a program
+unfoldable pub program : Span → Result (List ℕ) ParseFault
+program arg = do
+  t ← bare_text arg
+  _ ← wants (is_program t) (BadName arg.at)
+  Ok t
+
+-- the programs that an argument lists between blanks, of which there is at least one
+unfoldable pub programs : Span → Result (List (List ℕ)) ParseFault
+programs arg = do
+  t ← text arg
+  _ ← wants (nat_lt 0 (length (fields t))) (BadName arg.at)
+  _ ← wants (list_all is_program (fields t)) (BadName arg.at)
+  Ok (fields t)
+
+-- ---- texts that are compiled
+
+-- a line that holds AC_INCLUDES_DEFAULT alone, blanks aside
+abbrev pub is_default_line : List ℕ → Bool
+is_default_line line = bytes_eq (trimmed line) (codes "AC_INCLUDES_DEFAULT")
+
+-- the newline of a line, which the last one has not
+abbrev pub newline_if : Bool → List ℕ
+newline_if is_last = if is_last then [] else 10 ∷ []
+
+-- a line with its newline, or the default includes in its place
+abbrev pub line_or_includes : Bool → List ℕ → List ℕ
+line_or_includes is_last line = if is_default_line line then default_includes else line ++ newline_if is_last
+
+-- the lines, one after another
+abbrev pub lines_with_includes : List (List ℕ) → List ℕ
+lines_with_includes [] = []
+lines_with_includes (line ∷ more) = line_or_includes (length more == 0) line ++ lines_with_includes more
+
+-- the text with the default includes where they are called for
+unfoldable pub with_includes : List ℕ → List ℕ
+with_includes t = lines_with_includes (parts 10 t)
+
+-- a used text as here text, with the default includes where they are called for
+unfoldable pub source_text : Span → Result (List Part) ParseFault
+source_text arg = text arg >>= λ t. shell_at arg.at (here_of (with_includes t))

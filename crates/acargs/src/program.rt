@@ -1,0 +1,143 @@
+//! Arguments of tests: names of programs, and the texts of programs that are compiled.
+
+ghost use Rattle.std.specs.Prelude.{◌≡◌, ◌++◌, map, IfOk, OnOk};
+ghost use Rattle.std.specs.List.{list_all};
+ghost use Rattle.m4quote.specs.Entry.{span};
+ghost use Rattle.textcut.specs.Cuts.{fields};
+ghost use Rattle.acargs.specs.Programs as words;
+ghost use Rattle.acargs.specs.Reading.{Gives};
+
+use crate::arguments::{bare_text, text};
+use crate::fault::{ParseFault, shell_fault};
+use conftest::default_includes;
+use deftable::Bytes;
+use m4quote::Arg;
+use shellword::{HereText, read_here};
+use std::alloc::{AllocError, Global};
+use textcut::{fields, is_blank, parts, trim};
+
+/// Copies of names.
+fn copies(alloc: Global, names: &[&[u8]]) -> Result<Vec<Bytes>, AllocError>
+    ensures { IfOk result (λ v. v.items ≡ map (λ n. n.now) names.now) }
+{
+    let mut copies = Vec::new(alloc);
+    for name in names {
+        copies.push(Bytes::from_slice(alloc, name)?)?;
+    }
+    Ok(copies)
+}
+
+fn is_program_byte(byte: u8) -> bool
+    ensures { result ≡ words.is_program_byte byte }
+{
+    !(is_blank(byte) || byte == b'$' || byte == b'\\' || byte == b'`')
+}
+
+fn are_program_bytes(name: &[u8]) -> bool
+    ensures { result ≡ list_all words.is_program_byte name.now }
+{
+    name.iter().all(|byte| is_program_byte(*byte))
+}
+
+#[tactic(auto, unfolding(crate::specs::Programs::is_program))]
+fn is_program(name: &[u8]) -> bool
+    ensures { result ≡ words.is_program name.now }
+{
+    match name {
+        [] => false,
+        _ => are_program_bytes(name),
+    }
+}
+
+fn are_programs(names: &[&[u8]]) -> bool
+    ensures { result ≡ list_all (λ n. words.is_program n.now) names.now }
+{
+    names.iter().all(|name| is_program(name))
+}
+
+/// Whether a text lists programs alone between blanks.
+#[tactic(auto, using(crate::proofs::Lists::mapped))]
+fn lists_programs(alloc: Global, text: &[u8]) -> Result<bool, AllocError>
+    ensures { IfOk result (λ b. b ≡ list_all words.is_program (fields text.now)) }
+{
+    let names = fields(alloc, text)?;
+    Ok(are_programs(names.as_slice()))
+}
+
+/// The name of a program: a text that is not empty and has no blank, `$`, backslash and backquote (own); `BadName` at the
+/// argument otherwise.
+#[tactic(auto, unfolding(crate::specs::Programs::program))]
+pub fn program(alloc: Global, arg: Arg<'_>) -> Result<Bytes, ParseFault>
+    ensures { Gives (λ t. t) result (words.program (span arg.entry)) }
+{
+    let text = bare_text(alloc, arg)?;
+    if !is_program(text.as_slice()) {
+        return Err(ParseFault::BadName(arg.at));
+    }
+    Ok(text)
+}
+
+/// The programs that an argument lists between blanks; `BadName` at the argument where there is none, or one that is no
+/// name.
+#[tactic(auto, unfolding(crate::specs::Programs::programs), using(crate::proofs::Lists::mapped_and_counted))]
+pub fn programs(alloc: Global, arg: Arg<'_>) -> Result<Vec<Bytes>, ParseFault>
+    ensures { Gives (λ v. v.items) result (words.programs (span arg.entry)) }
+{
+    let text = text(alloc, arg)?;
+    let names = fields(alloc, text.as_slice())?;
+    if names.is_empty() {
+        return Err(ParseFault::BadName(arg.at));
+    }
+    if !lists_programs(alloc, text.as_slice())? {
+        return Err(ParseFault::BadName(arg.at));
+    }
+    Ok(copies(alloc, names.as_slice())?)
+}
+
+/// Whether a line holds AC_INCLUDES_DEFAULT alone, blanks aside.
+fn is_default_line(line: &[u8]) -> bool
+    ensures { result ≡ words.is_default_line line.now }
+{
+    trim(line) == b"AC_INCLUDES_DEFAULT".as_slice()
+}
+
+/// Puts a line, with a newline unless it is the last, or the default includes in its place.
+fn put_line(out: &mut Vec<u8>, line: &[u8], is_last: bool) -> Result<(), AllocError>
+    ensures { OnOk result (out.new.items ≡ out.old.items ++ words.line_or_includes is_last line.now) }
+{
+    if is_default_line(line) {
+        return out.extend_from_slice(default_includes());
+    }
+    out.extend_from_slice(line)?;
+    if !is_last {
+        out.push(b'\n')?;
+    }
+    Ok(())
+}
+
+/// The text with the default includes where they are called for.
+#[tactic(auto, unfolding(crate::specs::Programs::with_includes))]
+fn with_includes(alloc: Global, text: &[u8]) -> Result<Vec<u8>, AllocError>
+    ensures { IfOk result (λ v. v.items ≡ words.with_includes text.now) }
+{
+    let lines = parts(alloc, text, b'\n')?;
+    let mut out = Vec::new(alloc);
+    for i in 0..lines.len() {
+        put_line(&mut out, lines[i], i + 1 == lines.len())?;
+    }
+    Ok(out)
+}
+
+/// The text of a program that is compiled, or a part of one, as here text (Autoconf's manual, "Generating Sources"): a
+/// line that holds AC_INCLUDES_DEFAULT alone stands for the default includes.
+#[tactic(auto, unfolding(crate::specs::Programs::source_text))]
+pub fn source_text(alloc: Global, arg: Arg<'_>) -> Result<HereText, ParseFault>
+    ensures { Gives (λ h. h) result (words.source_text (span arg.entry)) }
+{
+    let text = text(alloc, arg)?;
+    let text = with_includes(alloc, text.as_slice())?;
+    match read_here(alloc, text.as_slice()) {
+        Ok(here) => Ok(here),
+        Err(fault) => Err(shell_fault(arg.at, fault)),
+    }
+}
