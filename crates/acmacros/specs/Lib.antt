@@ -1,4 +1,7 @@
 pub mod Table
 pub mod PackageName
+pub mod Room
+pub mod Searches
+pub mod Tries
 pub mod Rows
 pub mod Scene

@@ -1,11 +1,14 @@
 -- The rows of the profile: for each macro what its arguments are, from the left, and which statement it makes. The
 -- fault of the first argument at fault is the macro's.
-use Rattle.std.specs.Prelude.{ℕ, ◌||◌, List, length, Result, Ok, nat_lt, codes, if◌then◌else◌}
-use Rattle.deftable.specs.NameList.{has_name}
+use Rattle.std.specs.Prelude.{ℕ, Bool, ◌||◌, List, length, Result, Ok, Err, nat_lt, codes, if◌then◌else◌}
 use Rattle.m4quote.specs.Entry.{Span}
 use Rattle.acargs.specs.declared.fault.ParseFault.{ParseFault}
-use Rattle.acargs.specs.declared.fault.ParseFault.TheVariants.{ArgCount, TooMany}
+use Rattle.acargs.specs.declared.fault.ParseFault.TheVariants.{ArgCount, TooMany, UnknownStatement}
 use Rattle.acargs.specs.Arguments.{arg_at, text, name, title, line, is_given}
+use Rattle.acargs.specs.declared.feature.OptionKind.{OptionKind}
+use Rattle.acargs.specs.declared.feature.OptionKind.TheVariants.{Feature, Package}
+use Rattle.acargs.specs.Feature.{feature_variable}
+use Rattle.acargs.specs.Help.{help}
 use Rattle.acargs.specs.Numbers.{version, status, language}
 use Rattle.acargs.specs.Outputs.{outputs}
 use Rattle.acargs.specs.Reading.{◌>>=◌, wants}
@@ -13,10 +16,17 @@ use Rattle.acargs.specs.Shell.{word, here_text}
 use Rattle.acargs.specs.Texts.{is_empty, or_else}
 use Rattle.acmacros.specs.declared.macros.PlainMacro.{PlainMacro}
 use Rattle.acmacros.specs.declared.macros.PlainMacro.TheVariants as macro
+use Rattle.acmacros.specs.declared.macros.QuestionMacro.{QuestionMacro}
+use Rattle.acmacros.specs.declared.macros.QuestionMacro.TheVariants as questions
 use Rattle.acmacros.specs.declared.scene.Scene as scene
 use Rattle.acmacros.specs.declared.statement.Plain.{Plain}
-use Rattle.acmacros.specs.declared.statement.Plain.TheVariants.{Init, Accepted, ConfigFiles, Subst, SubstValue, Define, DefineUnquoted, Error, Output}
+use Rattle.acmacros.specs.declared.statement.Plain.TheVariants.{Init, Accepted, ConfigFiles, Subst, SubstValue, Define, DefineUnquoted, Error, ArgVar, Output}
+use Rattle.acmacros.specs.declared.statement.Question.{Question}
+use Rattle.acmacros.specs.declared.statement.Question.TheVariants.{Given}
 use Rattle.acmacros.specs.PackageName.{tar_name}
+use Rattle.acmacros.specs.Room.{has_room}
+use Rattle.acmacros.specs.Searches.{check_prog, check_progs, path_prog, prog_cc}
+use Rattle.acmacros.specs.Tries.{tries}
 
 -- the archive's name, or the one made of the package's name
 unfoldable pub tarname : Span → List ℕ → Result (List ℕ) ParseFault
@@ -56,11 +66,11 @@ config_files c args = do
 unfoldable pub subst_of : List ℕ → Span → Result Plain ParseFault
 subst_of n arg = if is_given arg then (word arg >>= λ w. Ok (SubstValue n w)) else Ok (Subst n)
 
--- AC_SUBST(variable, [value]), behind the variables of the source before it; a source has at most 1,024
+-- AC_SUBST(variable, [value]), behind the variables of the source before it
 unfoldable pub subst : scene.Scene → List Span → Result Plain ParseFault
 subst c args = do
   n ← name (arg_at args 0)
-  _ ← wants (has_name c.substituted n || nat_lt (length c.substituted) 1024) (TooMany (arg_at args 0).at)
+  _ ← wants (has_room c.substituted n) (TooMany (arg_at args 0).at)
   subst_of n (arg_at args 1)
 
 -- what AC_DEFINE defines a name as: `1` where it says nothing, an empty comment where it says an empty text
@@ -99,6 +109,15 @@ msg_error args = do
   exit ← status (arg_at args 1)
   Ok (Error message exit)
 
+-- AC_ARG_VAR(variable, help), behind the variables of the source before it
+unfoldable pub arg_var : scene.Scene → List Span → Result Plain ParseFault
+arg_var c args = do
+  n ← name (arg_at args 0)
+  _ ← wants (has_room c.substituted n) (TooMany (arg_at args 0).at)
+  _ ← wants (has_room c.precious n) (TooMany (arg_at args 0).at)
+  help ← text (arg_at args 1)
+  Ok (ArgVar n help)
+
 -- AC_OUTPUT, or AC_OUTPUT with an empty argument
 unfoldable pub output : List Span → Result Plain ParseFault
 output args = do
@@ -106,15 +125,43 @@ output args = do
   _ ← wants (is_empty t) (ArgCount (arg_at args 0).at)
   Ok Output
 
--- the statement of a macro, behind what is known
-unfoldable pub plain_of : scene.Scene → PlainMacro → List Span → Result Plain ParseFault
-plain_of c macro.Init args = init args
-plain_of c macro.Prereq args = prereq args
-plain_of c macro.Ignored args = Ok Accepted
-plain_of c macro.Lang args = lang args
-plain_of c macro.ConfigFiles args = config_files c args
-plain_of c macro.Subst args = subst c args
-plain_of c macro.Define args = define args
-plain_of c macro.DefineUnquoted args = define_unquoted args
-plain_of c macro.MsgError args = msg_error args
-plain_of c macro.Output args = output args
+-- the statement of a macro whose name stands at this place, behind what is known
+unfoldable pub plain_of : scene.Scene → PlainMacro → ℕ → List Span → Result Plain ParseFault
+plain_of c macro.Init at args = init args
+plain_of c macro.Prereq at args = prereq args
+plain_of c macro.Ignored at args = Ok Accepted
+plain_of c macro.Lang at args = lang args
+plain_of c macro.ConfigFiles at args = config_files c args
+plain_of c macro.Subst at args = subst c args
+plain_of c macro.Define at args = define args
+plain_of c macro.DefineUnquoted at args = define_unquoted args
+plain_of c macro.MsgError at args = msg_error args
+plain_of c macro.ArgVar at args = arg_var c args
+plain_of c macro.ProgCc at args = prog_cc c at args
+plain_of c macro.CheckProg at args = check_prog c args
+plain_of c macro.CheckProgs at args = check_progs c args
+plain_of c macro.PathProg at args = path_prog c args
+plain_of c macro.HelpString at args = Err (UnknownStatement at)
+plain_of c macro.LangProgram at args = Err (UnknownStatement at)
+plain_of c macro.LangSource at args = Err (UnknownStatement at)
+plain_of c macro.Output at args = output args
+
+-- ---- questions
+
+-- the variables of the options of a kind
+abbrev pub declared : scene.Scene → OptionKind → List (List ℕ)
+declared c Feature = c.features
+declared c Package = c.packages
+
+-- AC_ARG_ENABLE(feature, help, ..) and AC_ARG_WITH(package, help, ..), behind the options of the source before it
+unfoldable pub given : scene.Scene → OptionKind → List Span → Result Question ParseFault
+given c kind args = do
+  variable ← feature_variable kind (arg_at args 0)
+  _ ← wants (has_room (declared c kind) variable) (TooMany (arg_at args 0).at)
+  h ← help (arg_at args 1)
+  Ok (Given kind variable h)
+
+-- what a macro asks, behind what is known
+abbrev pub question_of : scene.Scene → QuestionMacro → List Span → Result Question ParseFault
+question_of c (questions.Given kind) args = given c kind args
+question_of c (questions.Tries kind) args = tries kind args

@@ -2,11 +2,14 @@
 -- which of them stand in the file's own list of statements alone.
 use Rattle.std.specs.Prelude.{ℕ, Bool, true, false, List, Option, Some, None, codes, if◌then◌else◌}
 use Rattle.std.specs.Str.{bytes_eq}
+use Rattle.acargs.specs.declared.feature.OptionKind.TheVariants.{Feature, Package}
 use Rattle.acmacros.specs.declared.macros.ChoiceMacro.TheVariants.{If, Case}
 use Rattle.acmacros.specs.declared.macros.Macro.{Macro}
-use Rattle.acmacros.specs.declared.macros.Macro.TheVariants.{Plain, Choice}
-use Rattle.acmacros.specs.declared.macros.PlainMacro.TheVariants.{Init, Prereq, Ignored, Lang, ConfigFiles, Subst, Define, DefineUnquoted, MsgError, Output}
+use Rattle.acmacros.specs.declared.macros.Macro.TheVariants.{Plain, Choice, Question}
+use Rattle.acmacros.specs.declared.macros.PlainMacro.TheVariants.{Init, Prereq, Ignored, Lang, ConfigFiles, Subst, Define, DefineUnquoted, MsgError, ArgVar, ProgCc, CheckProg, CheckProgs, PathProg, HelpString, LangProgram, LangSource, Output}
+use Rattle.acmacros.specs.declared.macros.QuestionMacro.TheVariants as questions
 use Rattle.acmacros.specs.declared.macros.Row.{Row}
+use Rattle.acmacros.specs.declared.program.Try.TheVariants.{Compile, Link, Preproc, Run}
 
 -- macros that say what a source is and what it makes
 unfoldable pub setting_named : List ℕ → Option Macro
@@ -29,8 +32,37 @@ action_named name =
     else (if bytes_eq name (codes "AC_DEFINE") then Some (Plain Define)
     else (if bytes_eq name (codes "AC_DEFINE_UNQUOTED") then Some (Plain DefineUnquoted)
     else (if bytes_eq name (codes "AC_MSG_ERROR") then Some (Plain MsgError)
+    else (if bytes_eq name (codes "AS_HELP_STRING") then Some (Plain HelpString)
     else (if bytes_eq name (codes "AS_IF") then Some (Choice If)
     else (if bytes_eq name (codes "AS_CASE") then Some (Choice Case)
+    else None))))))
+
+-- macros of the options that users give
+unfoldable pub option_named : List ℕ → Option Macro
+option_named name =
+    if bytes_eq name (codes "AC_ARG_ENABLE") then Some (Question (questions.Given Feature))
+    else (if bytes_eq name (codes "AC_ARG_WITH") then Some (Question (questions.Given Package))
+    else (if bytes_eq name (codes "AC_ARG_VAR") then Some (Plain ArgVar)
+    else None))
+
+-- macros that look for programs
+unfoldable pub search_named : List ℕ → Option Macro
+search_named name =
+    if bytes_eq name (codes "AC_PROG_CC") then Some (Plain ProgCc)
+    else (if bytes_eq name (codes "AC_CHECK_PROG") then Some (Plain CheckProg)
+    else (if bytes_eq name (codes "AC_CHECK_PROGS") then Some (Plain CheckProgs)
+    else (if bytes_eq name (codes "AC_PATH_PROG") then Some (Plain PathProg)
+    else None)))
+
+-- macros that try programs, and those that say which
+unfoldable pub try_named : List ℕ → Option Macro
+try_named name =
+    if bytes_eq name (codes "AC_COMPILE_IFELSE") then Some (Question (questions.Tries Compile))
+    else (if bytes_eq name (codes "AC_LINK_IFELSE") then Some (Question (questions.Tries Link))
+    else (if bytes_eq name (codes "AC_PREPROC_IFELSE") then Some (Question (questions.Tries Preproc))
+    else (if bytes_eq name (codes "AC_RUN_IFELSE") then Some (Question (questions.Tries Run))
+    else (if bytes_eq name (codes "AC_LANG_PROGRAM") then Some (Plain LangProgram)
+    else (if bytes_eq name (codes "AC_LANG_SOURCE") then Some (Plain LangSource)
     else None)))))
 
 -- the first that is there
@@ -40,7 +72,8 @@ or_other None other = other
 
 -- the macro of a name
 unfoldable pub macro_named : List ℕ → Option Macro
-macro_named name = or_other (setting_named name) (action_named name)
+macro_named name =
+    or_other (setting_named name) (or_other (option_named name) (or_other (search_named name) (or_other (try_named name) (action_named name))))
 
 -- any number of arguments: more than a source can have
 abbrev pub any : ℕ
@@ -60,6 +93,19 @@ row (Plain Subst) = counts 1 2 false
 row (Plain Define) = counts 1 3 false
 row (Plain DefineUnquoted) = counts 1 3 false
 row (Plain MsgError) = counts 1 2 false
+row (Plain ArgVar) = counts 2 2 false
+row (Plain ProgCc) = counts 0 1 false
+row (Plain CheckProg) = counts 3 4 false
+row (Plain CheckProgs) = counts 2 3 false
+row (Plain PathProg) = counts 2 3 false
+row (Plain HelpString) = counts 2 2 false
+row (Plain LangProgram) = counts 0 2 false
+row (Plain LangSource) = counts 1 1 false
 row (Plain Output) = counts 0 1 true
 row (Choice If) = counts 2 any false
 row (Choice Case) = counts 2 any false
+row (Question (questions.Given kind)) = counts 1 4 false
+row (Question (questions.Tries Compile)) = counts 1 3 false
+row (Question (questions.Tries Link)) = counts 1 3 false
+row (Question (questions.Tries Preproc)) = counts 1 3 false
+row (Question (questions.Tries Run)) = counts 1 4 false

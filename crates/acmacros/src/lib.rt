@@ -1,8 +1,9 @@
 //! The macros of the profile: a row in a table and a reader for each.
 //!
 //! `macros` has the table: a macro's name, how many arguments it takes, and whether it stands in the file's own list
-//! alone. `rows` has the readers: each takes the arguments of a call from the left, every one by its form, and gives a
-//! statement (`statement`). `scene` says what the statements read so far leave to be known: how far the source is, and
+//! alone. `rows` has the readers, with `searches` for macros that look for programs and `tries` for those that try them: each
+//! takes the arguments of a call from the left, every one by its form, and gives a statement or a question (`statement`,
+//! with `program` for programs). `scene` says what the statements read so far leave to be known: how far the source is, and
 //! its lists.
 //!
 //! To add a macro: its name and its row in `macros`, its statement, a reader in `rows`, and what it adds to the scene.
@@ -12,13 +13,17 @@
 #![tactic(auto)]
 
 pub mod macros;
+pub mod program;
 pub mod rows;
 pub mod scene;
+mod searches;
 pub mod statement;
+mod tries;
 
-pub use macros::{ChoiceMacro, Macro, PlainMacro, Row};
+pub use macros::{ChoiceMacro, Macro, PlainMacro, QuestionMacro, Row};
+pub use program::{Program, ProgramNames, Try};
 pub use scene::{Scene, Stage};
-pub use statement::Plain;
+pub use statement::{Plain, Question};
 
 #[cfg(test)]
 mod tests;

@@ -3,6 +3,9 @@
 ghost use Rattle.std.specs.Prelude.{◌≡◌};
 ghost use Rattle.acmacros.specs.Table as table;
 
+use crate::program::Try;
+use acargs::OptionKind;
+
 /// A macro without statements in its arguments.
 #[derive(Clone, Copy, Debug, PartialEq, Eq)]
 pub enum PlainMacro {
@@ -16,6 +19,17 @@ pub enum PlainMacro {
     Define,
     DefineUnquoted,
     MsgError,
+    ArgVar,
+    ProgCc,
+    CheckProg,
+    CheckProgs,
+    PathProg,
+    /// AS_HELP_STRING, which stands in help arguments alone and is no statement.
+    HelpString,
+    /// AC_LANG_PROGRAM, which stands in arguments of tests alone and is no statement.
+    LangProgram,
+    /// AC_LANG_SOURCE, likewise.
+    LangSource,
     Output,
 }
 
@@ -26,6 +40,15 @@ pub enum ChoiceMacro {
     Case,
 }
 
+/// A macro that asks something, and has statements for each answer.
+#[derive(Clone, Copy, Debug, PartialEq, Eq)]
+pub enum QuestionMacro {
+    /// AC_ARG_ENABLE and AC_ARG_WITH: whether an option is given.
+    Given(OptionKind),
+    /// AC_COMPILE_IFELSE, AC_LINK_IFELSE, AC_PREPROC_IFELSE and AC_RUN_IFELSE: whether a program passes.
+    Tries(Try),
+}
+
 /// A macro. Macros are grouped by where statements stand in their arguments.
 #[derive(Clone, Copy, Debug, PartialEq, Eq)]
 pub enum Macro {
@@ -33,6 +56,8 @@ pub enum Macro {
     Plain(PlainMacro),
     /// In every second argument behind the first, and in the last.
     Choice(ChoiceMacro),
+    /// In two arguments behind those of the question: for yes, and for no.
+    Question(QuestionMacro),
 }
 
 /// Macros that say what a source is and what it makes.
@@ -76,10 +101,68 @@ fn action_named(name: &[u8]) -> Option<Macro>
         Some(Macro::Plain(PlainMacro::DefineUnquoted))
     } else if name == b"AC_MSG_ERROR".as_slice() {
         Some(Macro::Plain(PlainMacro::MsgError))
+    } else if name == b"AS_HELP_STRING".as_slice() {
+        Some(Macro::Plain(PlainMacro::HelpString))
     } else if name == b"AS_IF".as_slice() {
         Some(Macro::Choice(ChoiceMacro::If))
     } else if name == b"AS_CASE".as_slice() {
         Some(Macro::Choice(ChoiceMacro::Case))
+    } else {
+        None
+    }
+}
+
+/// Macros of the options that users give.
+#[tactic(auto, unfolding(crate::specs::Table::option_named))]
+fn option_named(name: &[u8]) -> Option<Macro>
+    ensures { result ≡ table.option_named name.now }
+{
+    if name == b"AC_ARG_ENABLE".as_slice() {
+        Some(Macro::Question(QuestionMacro::Given(OptionKind::Feature)))
+    } else if name == b"AC_ARG_WITH".as_slice() {
+        Some(Macro::Question(QuestionMacro::Given(OptionKind::Package)))
+    } else if name == b"AC_ARG_VAR".as_slice() {
+        Some(Macro::Plain(PlainMacro::ArgVar))
+    } else {
+        None
+    }
+}
+
+/// Macros that look for programs.
+#[tactic(auto, unfolding(crate::specs::Table::search_named))]
+fn search_named(name: &[u8]) -> Option<Macro>
+    ensures { result ≡ table.search_named name.now }
+{
+    if name == b"AC_PROG_CC".as_slice() {
+        Some(Macro::Plain(PlainMacro::ProgCc))
+    } else if name == b"AC_CHECK_PROG".as_slice() {
+        Some(Macro::Plain(PlainMacro::CheckProg))
+    } else if name == b"AC_CHECK_PROGS".as_slice() {
+        Some(Macro::Plain(PlainMacro::CheckProgs))
+    } else if name == b"AC_PATH_PROG".as_slice() {
+        Some(Macro::Plain(PlainMacro::PathProg))
+    } else {
+        None
+    }
+}
+
+/// Macros that try programs, and those that say which.
+#[tactic(auto, unfolding(crate::specs::Table::try_named))]
+fn try_named(name: &[u8]) -> Option<Macro>
+    ensures { result ≡ table.try_named name.now }
+{
+    if name == b"AC_COMPILE_IFELSE".as_slice() {
+        Some(Macro::Question(QuestionMacro::Tries(Try::Compile)))
+    } else if name == b"AC_LINK_IFELSE".as_slice() {
+        Some(Macro::Question(QuestionMacro::Tries(Try::Link)))
+    } else if name == b"AC_PREPROC_IFELSE".as_slice() {
+        Some(Macro::Question(QuestionMacro::Tries(Try::Preproc)))
+    } else if name == b"AC_RUN_IFELSE".as_slice() {
+        Some(Macro::Question(QuestionMacro::Tries(Try::Run)))
+    } else if name == b"AC_LANG_PROGRAM".as_slice() {
+        Some(Macro::Plain(PlainMacro::LangProgram))
+    } else if name == b"AC_LANG_SOURCE".as_slice() {
+        Some(Macro::Plain(PlainMacro::LangSource))
     } else {
         None
     }
@@ -91,6 +174,15 @@ pub fn macro_named(name: &[u8]) -> Option<Macro>
     ensures { result ≡ table.macro_named name.now }
 {
     if let Some(m) = setting_named(name) {
+        return Some(m);
+    }
+    if let Some(m) = option_named(name) {
+        return Some(m);
+    }
+    if let Some(m) = search_named(name) {
+        return Some(m);
+    }
+    if let Some(m) = try_named(name) {
         return Some(m);
     }
     action_named(name)
@@ -127,8 +219,19 @@ pub fn look_up(m: Macro) -> Row
         Macro::Plain(PlainMacro::Define) => counts(1, 3, false),
         Macro::Plain(PlainMacro::DefineUnquoted) => counts(1, 3, false),
         Macro::Plain(PlainMacro::MsgError) => counts(1, 2, false),
+        Macro::Plain(PlainMacro::ArgVar) => counts(2, 2, false),
+        Macro::Plain(PlainMacro::ProgCc) => counts(0, 1, false),
+        Macro::Plain(PlainMacro::CheckProg) => counts(3, 4, false),
+        Macro::Plain(PlainMacro::CheckProgs) => counts(2, 3, false),
+        Macro::Plain(PlainMacro::PathProg) => counts(2, 3, false),
+        Macro::Plain(PlainMacro::HelpString) => counts(2, 2, false),
+        Macro::Plain(PlainMacro::LangProgram) => counts(0, 2, false),
+        Macro::Plain(PlainMacro::LangSource) => counts(1, 1, false),
         Macro::Plain(PlainMacro::Output) => counts(0, 1, true),
         Macro::Choice(ChoiceMacro::If) => counts(2, ANY, false),
         Macro::Choice(ChoiceMacro::Case) => counts(2, ANY, false),
+        Macro::Question(QuestionMacro::Given(_)) => counts(1, 4, false),
+        Macro::Question(QuestionMacro::Tries(Try::Run)) => counts(1, 4, false),
+        Macro::Question(QuestionMacro::Tries(_)) => counts(1, 3, false),
     }
 }

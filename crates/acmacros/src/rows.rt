@@ -1,26 +1,26 @@
 //! A reader for each macro, of its arguments from the left.
 
 ghost use Rattle.std.specs.Prelude.{◌≡◌, ◌||◌, ◌==◌, length, map, Ok, Err, IfOk, ◌<◌, nat_lt};
-ghost use Rattle.deftable.specs.NameList.{has_name};
 ghost use Rattle.m4quote.specs.Entry.{span};
 ghost use Rattle.acargs.specs.Reading.{Gives};
 ghost use Rattle.acmacros.specs.PackageName as package_names;
 ghost use Rattle.acmacros.specs.Rows as rows;
 
-use crate::macros::PlainMacro;
+use crate::macros::{PlainMacro, QuestionMacro};
 use crate::scene::Scene;
-use crate::statement::Plain;
+use crate::searches::{check_prog, check_progs, has_room, path_prog, prog_cc};
+use crate::statement::{Plain, Question};
+use crate::tries::tries;
 use acargs::arguments::{arg_at, is_given, line, name, text, title};
+use acargs::feature::feature_variable;
+use acargs::helping::help;
 use acargs::numbers::{language, status, version};
 use acargs::outputs::outputs;
 use acargs::shell::{here_text, word};
-use acargs::{Name, ParseFault};
+use acargs::{Name, OptionKind, ParseFault};
 use deftable::{Bytes, SubstList};
 use m4quote::Arg;
 use std::alloc::{AllocError, Global};
-
-/// The most entries of a list of the source.
-const MAX_ENTRIES: usize = 1024;
 
 fn tar_byte(byte: u8) -> u8
     ensures { result ≡ package_names.tar_byte byte }
@@ -119,13 +119,6 @@ fn subst_of(alloc: Global, name: Name, arg: Arg<'_>) -> Result<Plain, ParseFault
     }
 }
 
-/// Whether a list of the source that has these names may take one more.
-fn has_room(names: &SubstList, name: &Name) -> bool
-    ensures { result ≡ (has_name names.now name.now || nat_lt (length names.now) 1024) }
-{
-    names.has(name.as_slice()) || names.names().len() < MAX_ENTRIES
-}
-
 #[tactic(auto, unfolding(crate::specs::Rows::subst))]
 fn subst(alloc: Global, scene: &Scene, args: &[Arg<'_>]) -> Result<Plain, ParseFault>
     ensures { Gives (λ s. s) result (rows.subst scene.now (map span args.now)) }
@@ -202,6 +195,22 @@ fn msg_error(alloc: Global, args: &[Arg<'_>]) -> Result<Plain, ParseFault>
     Ok(Plain::Error { message, status })
 }
 
+#[tactic(auto, unfolding(crate::specs::Rows::arg_var))]
+fn arg_var(alloc: Global, scene: &Scene, args: &[Arg<'_>]) -> Result<Plain, ParseFault>
+    ensures { Gives (λ s. s) result (rows.arg_var scene.now (map span args.now)) }
+{
+    let arg = arg_at(args, 0);
+    let name = name(alloc, arg)?;
+    if !has_room(&scene.substituted, &name) {
+        return Err(ParseFault::TooMany(arg.at));
+    }
+    if !has_room(&scene.precious, &name) {
+        return Err(ParseFault::TooMany(arg.at));
+    }
+    let help = text(alloc, arg_at(args, 1))?;
+    Ok(Plain::ArgVar { name, help })
+}
+
 #[tactic(auto, unfolding(crate::specs::Rows::output))]
 fn output(alloc: Global, args: &[Arg<'_>]) -> Result<Plain, ParseFault>
     ensures { Gives (λ s. s) result (rows.output (map span args.now)) }
@@ -214,15 +223,16 @@ fn output(alloc: Global, args: &[Arg<'_>]) -> Result<Plain, ParseFault>
     Ok(Plain::Output)
 }
 
-/// The statement of a macro with these arguments, behind what is known.
+/// The statement of a macro with these arguments, whose name stands at `at`, behind what is known.
 #[tactic(auto, unfolding(crate::specs::Rows::plain_of))]
 pub fn plain(
     alloc: Global,
     scene: &Scene,
     m: PlainMacro,
+    at: usize,
     args: &[Arg<'_>],
 ) -> Result<Plain, ParseFault>
-    ensures { Gives (λ s. s) result (rows.plain_of scene.now m (map span args.now)) }
+    ensures { Gives (λ s. s) result (rows.plain_of scene.now m at (map span args.now)) }
 {
     match m {
         PlainMacro::Init => init(alloc, args),
@@ -234,6 +244,61 @@ pub fn plain(
         PlainMacro::Define => define(alloc, args),
         PlainMacro::DefineUnquoted => define_unquoted(alloc, args),
         PlainMacro::MsgError => msg_error(alloc, args),
+        PlainMacro::ArgVar => arg_var(alloc, scene, args),
+        PlainMacro::ProgCc => prog_cc(alloc, scene, at, args),
+        PlainMacro::CheckProg => check_prog(alloc, scene, args),
+        PlainMacro::CheckProgs => check_progs(alloc, scene, args),
+        PlainMacro::PathProg => path_prog(alloc, scene, args),
+        PlainMacro::HelpString => Err(ParseFault::UnknownStatement(at)),
+        PlainMacro::LangProgram => Err(ParseFault::UnknownStatement(at)),
+        PlainMacro::LangSource => Err(ParseFault::UnknownStatement(at)),
         PlainMacro::Output => output(alloc, args),
+    }
+}
+
+/// The variables of the options of a kind.
+fn declared(scene: &Scene, kind: OptionKind) -> &SubstList
+    ensures { result.now ≡ rows.declared scene.now kind }
+{
+    match kind {
+        OptionKind::Feature => &scene.features,
+        OptionKind::Package => &scene.packages,
+    }
+}
+
+#[tactic(auto, unfolding(crate::specs::Rows::given))]
+fn given(
+    alloc: Global,
+    scene: &Scene,
+    kind: OptionKind,
+    args: &[Arg<'_>],
+) -> Result<Question, ParseFault>
+    ensures { Gives (λ q. q) result (rows.given scene.now kind (map span args.now)) }
+{
+    let arg = arg_at(args, 0);
+    let variable = feature_variable(alloc, kind, arg)?;
+    if !has_room(declared(scene, kind), &variable) {
+        return Err(ParseFault::TooMany(arg.at));
+    }
+    let help = help(alloc, arg_at(args, 1))?;
+    Ok(Question::Given {
+        kind,
+        variable,
+        help,
+    })
+}
+
+/// What a macro with these arguments asks, behind what is known.
+pub fn question(
+    alloc: Global,
+    scene: &Scene,
+    m: QuestionMacro,
+    args: &[Arg<'_>],
+) -> Result<Question, ParseFault>
+    ensures { Gives (λ q. q) result (rows.question_of scene.now m (map span args.now)) }
+{
+    match m {
+        QuestionMacro::Given(kind) => given(alloc, scene, kind, args),
+        QuestionMacro::Tries(kind) => tries(alloc, kind, args),
     }
 }

@@ -1,13 +1,14 @@
 //! What the statements read so far leave to be known.
 
 ghost use Rattle.std.specs.Prelude.{◌≡◌, OnOk};
+ghost use Rattle.deftable.specs.ShellName.{IsShellName};
 ghost use Rattle.acargs.specs.Reading.{Gives};
 ghost use Rattle.acmacros.specs.Scene as scenes;
 
 use crate::macros::{Macro, PlainMacro, look_up};
-use crate::statement::Plain;
-use acargs::{Outputs, ParseFault};
-use deftable::SubstList;
+use crate::statement::{Plain, Question};
+use acargs::{Help, HelpList, Name, OptionKind, Outputs, ParseFault};
+use deftable::{Bytes, SubstList};
 use std::alloc::{AllocError, Global};
 
 /// How far a source is.
@@ -27,8 +28,33 @@ pub struct Scene {
     pub stage: Stage,
     /// The output variables of AC_SUBST, each once, in the order of their first mention.
     pub substituted: SubstList,
+    /// The precious variables of AC_ARG_VAR, likewise.
+    pub precious: SubstList,
+    /// The variables of the features of AC_ARG_ENABLE, likewise.
+    pub features: SubstList,
+    /// The variables of the packages of AC_ARG_WITH, likewise.
+    pub packages: SubstList,
+    /// What is said of options and variables, in order.
+    pub help: HelpList,
     /// The files to be made, in the order in which they are named.
     pub files: Outputs,
+}
+
+impl Scene {
+    /// What is known before the first statement.
+    pub fn new(alloc: Global) -> Scene
+        ensures { result ≡ scenes.start }
+    {
+        Scene {
+            stage: Stage::Before,
+            substituted: SubstList::new(alloc),
+            precious: SubstList::new(alloc),
+            features: SubstList::new(alloc),
+            packages: SubstList::new(alloc),
+            help: HelpList::new(alloc),
+            files: Outputs::new(alloc),
+        }
+    }
 }
 
 /// Notes a statement.
@@ -42,14 +68,87 @@ pub fn note(alloc: Global, scene: &mut Scene, statement: &Plain) -> Result<(), A
         Plain::Subst { name } | Plain::SubstValue { name, .. } => {
             scene.substituted.add(name.as_slice())?
         }
+        Plain::CheckProg { variable, .. }
+        | Plain::CheckProgs { variable, .. }
+        | Plain::PathProg { variable, .. } => scene.substituted.add(variable.as_slice())?,
+        Plain::ProgCc { .. } => note_tools(scene)?,
         Plain::Accepted
         | Plain::Assign { .. }
         | Plain::Define { .. }
         | Plain::DefineUnquoted { .. }
         | Plain::Error { .. } => {}
+        Plain::ArgVar { name, help } => note_variable(alloc, scene, name, help)?,
         Plain::Output => scene.stage = Stage::Ended,
     }
     Ok(())
+}
+
+/// Notes a precious variable.
+fn note_variable(
+    alloc: Global,
+    scene: &mut Scene,
+    name: &Name,
+    help: &Bytes,
+) -> Result<(), AllocError>
+    ensures { OnOk result (scene.new ≡ scenes.with_precious scene.old name.now help.now) }
+{
+    let left = Bytes::from_slice(alloc, name.as_slice())?;
+    let right = help.copy(alloc)?;
+    scene.substituted.add(name.as_slice())?;
+    scene.precious.add(name.as_slice())?;
+    scene.help.push(Help::Entry { left, right })
+}
+
+/// Notes a variable of the compiler.
+fn note_tool(scene: &mut Scene, name: &[u8]) -> Result<(), AllocError>
+    requires { IsShellName name.now }
+    ensures { OnOk result (scene.new ≡ scenes.with_tool scene.old name.now) }
+{
+    scene.substituted.add(name)?;
+    scene.precious.add(name)?;
+    Ok(())
+}
+
+/// Notes the variables of the compiler.
+fn note_tools(scene: &mut Scene) -> Result<(), AllocError>
+    ensures { OnOk result (scene.new ≡ scenes.with_tools scene.old) }
+{
+    note_tool(scene, b"CC")?;
+    note_tool(scene, b"CFLAGS")?;
+    note_tool(scene, b"LDFLAGS")?;
+    note_tool(scene, b"LIBS")?;
+    note_tool(scene, b"CPPFLAGS")?;
+    Ok(())
+}
+
+/// Notes what a statement asks.
+#[tactic(auto, unfolding(crate::specs::Scene::after_question))]
+pub fn note_question(
+    alloc: Global,
+    scene: &mut Scene,
+    question: &Question,
+) -> Result<(), AllocError>
+    ensures { OnOk result (scene.new ≡ scenes.after_question scene.old question.now) }
+{
+    match question {
+        Question::Given {
+            kind: OptionKind::Feature,
+            variable,
+            help,
+        } => {
+            scene.features.add(variable.as_slice())?;
+            scene.help.push(help.copy(alloc)?)
+        }
+        Question::Given {
+            kind: OptionKind::Package,
+            variable,
+            help,
+        } => {
+            scene.packages.add(variable.as_slice())?;
+            scene.help.push(help.copy(alloc)?)
+        }
+        Question::Tries { .. } => Ok(()),
+    }
 }
 
 fn is_init(m: Macro) -> bool
@@ -63,6 +162,15 @@ fn may_begin(m: Macro) -> bool
     ensures { result ≡ scenes.may_begin m }
 {
     is_init(m) || m == Macro::Plain(PlainMacro::Prereq)
+}
+
+/// Whether a macro is a statement; the others stand in arguments.
+fn is_statement(m: Macro) -> bool
+    ensures { result ≡ scenes.is_statement_macro m }
+{
+    m != Macro::Plain(PlainMacro::HelpString)
+        && m != Macro::Plain(PlainMacro::LangProgram)
+        && m != Macro::Plain(PlainMacro::LangSource)
 }
 
 /// Whether a macro whose name stands at `at` may stand here, in the file's own list (`top`) or in another.
@@ -79,6 +187,9 @@ pub fn check_place(top: bool, stage: Stage, m: Macro, at: usize) -> Result<(), P
         Stage::Open => {
             if is_init(m) || (look_up(m).top && !top) {
                 return Err(ParseFault::NotAtTop(at));
+            }
+            if !is_statement(m) {
+                return Err(ParseFault::UnknownStatement(at));
             }
         }
         Stage::Ended => return Err(ParseFault::AfterOutput(at)),

@@ -1,6 +1,7 @@
 //! Statements.
 
-use acargs::{Name, Outputs};
+use crate::program::{Program, ProgramNames, Try};
+use acargs::{Help, Name, OptionKind, Outputs};
 use deftable::Bytes;
 use shellword::{HereText, Word};
 
@@ -51,6 +52,52 @@ pub enum Plain {
         message: HereText,
         status: u8,
     },
+    /// AC_ARG_VAR: a precious variable, which is an output variable too, and what it is for.
+    ArgVar {
+        name: Name,
+        help: Bytes,
+    },
+    /// AC_CHECK_PROG: an output variable, the program that is looked for, and the values that the variable gets where it is
+    /// found and where it isn't.
+    CheckProg {
+        variable: Name,
+        program: Bytes,
+        found: HereText,
+        otherwise: Option<HereText>,
+    },
+    /// AC_CHECK_PROGS: an output variable, which gets the name of the first program that is found.
+    CheckProgs {
+        variable: Name,
+        programs: ProgramNames,
+        otherwise: Option<HereText>,
+    },
+    /// AC_PATH_PROG: an output variable, which gets the full name of the program where it is found.
+    PathProg {
+        variable: Name,
+        program: Bytes,
+        otherwise: Option<HereText>,
+    },
+    /// AC_PROG_CC: the variable CC, which gets the name of the first compiler that is found.
+    ProgCc {
+        programs: ProgramNames,
+    },
     /// AC_OUTPUT: the end of the run.
     Output,
+}
+
+/// What a statement asks, which has other statements for each answer.
+#[derive(Debug, Drop)]
+pub enum Question {
+    /// AC_ARG_ENABLE and AC_ARG_WITH: whether the option's variable is set. If it is, its value is `enableval` or
+    /// `withval` from here on.
+    Given {
+        kind: OptionKind,
+        variable: Name,
+        help: Help,
+    },
+    /// AC_COMPILE_IFELSE, AC_LINK_IFELSE, AC_PREPROC_IFELSE, AC_RUN_IFELSE: whether a program passes.
+    Tries {
+        kind: Try,
+        program: Program,
+    },
 }

@@ -4,8 +4,7 @@ use crate::macros::{ChoiceMacro, Macro, PlainMacro, look_up, macro_named};
 use crate::rows::plain;
 use crate::scene::{Scene, Stage, bare_fault, check_place, note};
 use crate::statement::Plain;
-use acargs::{Outputs, ParseFault};
-use deftable::SubstList;
+use acargs::ParseFault;
 use m4quote::Arg;
 use std::test::Fail;
 
@@ -49,13 +48,10 @@ fn places(rt: HostRuntime) {
 #[test]
 fn a_variable(rt: HostRuntime) -> Result<(), Fail> {
     let alloc = rt.alloc();
-    let mut scene = Scene {
-        stage: Stage::Open,
-        substituted: SubstList::new(alloc),
-        files: Outputs::new(alloc),
-    };
+    let mut scene = Scene::new(alloc);
+    scene.stage = Stage::Open;
     let args = [arg(b"[a]"), arg(b"[b]")];
-    let statement = plain(alloc, &scene, PlainMacro::Subst, &args)?;
+    let statement = plain(alloc, &scene, PlainMacro::Subst, 0, &args)?;
     assert!(rt;
         matches!(&statement, Plain::SubstValue { .. }),
         "{statement:?}"

@@ -1,5 +1,5 @@
 -- A fault that is read is one, and all before it is right.
-use Rattle.std.proofs.Common.{◌≡◌, ℕ, zero, suc, Bool, true, false, List, [], ◌∷◌, Option, Some, None, Result, Ok, Err, ◌&&◌, ◌⊎◌, refl, sym, subst, inl, inr}
+use Rattle.std.proofs.Common.{◌≡◌, ℕ, zero, suc, Bool, true, false, List, [], ◌∷◌, drop, Option, Some, None, Result, Ok, Err, ◌&&◌, ◌⊎◌, refl, sym, subst, inl, inr}
 use Rattle.m4quote.specs.Entry.{Span, Entry, call, bare}
 use Rattle.m4quote.specs.declared.fault.QuoteFault.{QuoteFault}
 use Rattle.acargs.specs.declared.fault.ParseFault.{ParseFault}
@@ -12,19 +12,23 @@ use Rattle.acargs.specs.Arguments.{is_given}
 use Rattle.acargs.specs.Inside.{inside}
 use Rattle.acmacros.specs.declared.macros.ChoiceMacro.{ChoiceMacro}
 use Rattle.acmacros.specs.declared.macros.Macro.{Macro}
-use Rattle.acmacros.specs.declared.macros.Macro.TheVariants.{Plain, Choice as A_choice}
+use Rattle.acmacros.specs.declared.macros.Macro.TheVariants.{Plain, Choice as A_choice, Question as A_question}
+use Rattle.acmacros.specs.declared.macros.QuestionMacro.{QuestionMacro}
+use Rattle.acmacros.specs.Scene.{after_question}
+use Rattle.tree.specs.declared.tree.When.{When}
+use Rattle.tree.specs.declared.tree.When.TheVariants.{Yes, No, Always}
 use Rattle.acmacros.specs.declared.scene.Scene as scene
 use Rattle.acmacros.specs.declared.scene.Stage.{Stage}
 use Rattle.acmacros.specs.Table.{macro_named}
 use Rattle.m4quote.proofs.Laws.{outcome_is_spelling, outcome_is_fault}
 use Rattle.m4quote.specs.Scan.{outcome}
 use Rattle.std.proofs.lemmas.Bool.{leb-false}
-use Rattle.tree.specs.Known.{after_all}
+use Rattle.tree.specs.Known.{after_all, after_cases}
 use Rattle.tree.specs.Script.{Script, Cases}
-use Rattle.acparse.specs.Breaks.{WithinBreaks, MayNotStand, unknown, too_few, too_many, not_here, in_text, CasesBreak, in_condition, in_body, behind_case, in_default, ItemBreaks, other_text, may_not_stand, argument, in_subject, in_cases, Breaks, here, behind, TextBreaks, no_items, in_items, IsBroken}
-use Rattle.acparse.specs.Profile.{Bodies, body_of, items_of, item_of, call_of, checked, known, case_args, default_of, cases_in, choice_of}
+use Rattle.acparse.specs.Breaks.{WithinBreaks, MayNotStand, unknown, too_few, too_many, not_here, in_text, CasesBreak, in_condition, in_body, behind_case, in_default, ActionBreaks, in_action, ItemBreaks, other_text, may_not_stand, argument, in_subject, in_cases, in_question, in_yes, in_no, Breaks, here, behind, TextBreaks, no_items, in_items, IsBroken}
+use Rattle.acparse.specs.Profile.{Bodies, body_of, items_of, item_of, call_of, checked, known, case_args, case_if, cases_in, choice_of, action_in, action_args, asked_of}
 use Rattle.acparse.specs.Statements.{Within, MayStand, IsBody}
-use Rattle.acparse.proofs.Found.{Reads, known_some, may_stand, item_found, body_found, quoted_ok}
+use Rattle.acparse.proofs.Found.{Reads, known_some, may_stand, action_found, item_found, body_found, quoted_ok}
 
 -- each fault of a statement argument that is read is one
 abbrev pub Faults : Bodies → WithinBreaks → Type 0
@@ -78,7 +82,7 @@ cases_break : (bodies : Bodies) (Inside : Within) (Broken : WithinBreaks) (ok : 
 unfolding cases_in
 cases_break bodies Inside Broken ok bad m [] c f e = absurd (no_cases_end _ f e)
 cases_break bodies Inside Broken ok bad m (b ∷ []) c f e =
-    elim (bind_err (bodies c b) (λ body. Ok (default_of (is_given b) body)) _ e) [
+    elim (bind_err (bodies c b) (λ body. Ok (case_if Always (is_given b) body)) _ e) [
       | inl h ↦ in_default (bad c b f h)
       | inr x ↦ absurd (no_cases_end _ f x.2)
     ]
@@ -94,9 +98,18 @@ cases_break bodies Inside Broken ok bad m (w ∷ a ∷ more) c f e =
       ]
     ]
 
+action_breaks : (bodies : Bodies) (Broken : WithinBreaks) (bad : Faults bodies Broken) (when : When) (args : List Span) (c : scene.Scene) (f : ParseFault) → action_in bodies when c args ≡ Err f → ActionBreaks Broken c args f
+unfolding action_in
+action_breaks bodies Broken bad when [] c f e = absurd (no_cases_end _ f e)
+action_breaks bodies Broken bad when (a ∷ more) c f e =
+    elim (bind_err (bodies c a) (λ body. Ok (case_if when (is_given a) body)) _ e) [
+      | inl h ↦ in_action (bad c a f h)
+      | inr x ↦ absurd (no_cases_end _ f x.2)
+    ]
+
 item_breaks : (top : Bool) (bodies : Bodies) (Inside : Within) (Broken : WithinBreaks) (ok : Reads bodies Inside) (bad : Faults bodies Broken) (c : scene.Scene) (edge : Edge) (item : Entry) (next : List Entry) (f : ParseFault)
     → item_of top bodies c edge item next ≡ Err f → ItemBreaks top Inside Broken c edge item next f
-unfolding choice_of
+unfolding choice_of asked_of
 item_breaks top bodies Inside Broken ok bad c edge (bare text at) next f e = other_text e
 item_breaks top bodies Inside Broken ok bad c edge (call name args at) next f e =
     elim (bind_err _ _ _ e) [
@@ -114,13 +127,29 @@ item_breaks top bodies Inside Broken ok bad c edge (call name args at) next f e 
           ]
         ]
 
-    call_breaks : (m : Macro) → MayStand top c.stage edge name args at next m → call_of bodies c m args ≡ Err f → ItemBreaks top Inside Broken c edge (call name args at) next f
+    question_breaks : (m : QuestionMacro) → MayStand top c.stage edge name args at next (A_question m) → asked_of bodies m c args ≡ Err f → ItemBreaks top Inside Broken c edge (call name args at) next f
+    question_breaks m stands e =
+        elim (bind_err _ _ _ e) [
+          | inl h ↦ in_question stands h
+          | inr x ↦ elim (bind_err _ _ _ x.2) [
+            | inl h ↦ in_yes stands x.1 (action_breaks bodies Broken bad Yes (action_args m args) (after_question c x.0) f h)
+            | inr y ↦ elim (bind_err _ _ _ y.2) [
+              | inl h ↦
+                  in_no stands x.1 (action_found bodies Inside ok Yes (action_args m args) (after_question c x.0) y.0 y.1)
+                  (action_breaks bodies Broken bad No (drop 1 (action_args m args)) (after_cases (after_question c x.0) y.0) f h)
+              | inr z ↦ absurd (no_end _ f z.2)
+            ]
+          ]
+        ]
+
+    call_breaks : (m : Macro) → MayStand top c.stage edge name args at next m → call_of bodies c m at args ≡ Err f → ItemBreaks top Inside Broken c edge (call name args at) next f
     call_breaks (Plain m) stands e =
         elim (bind_err _ _ _ e) [
           | inl h ↦ argument stands h
           | inr s ↦ absurd (no_end _ f s.2)
         ]
     call_breaks (A_choice m) stands e = choice_breaks m stands e
+    call_breaks (A_question m) stands e = question_breaks m stands e
 
 pub items_break : (top : Bool) (bodies : Bodies) (Inside : Within) (Broken : WithinBreaks) (ok : Reads bodies Inside) (bad : Faults bodies Broken) (items : List Entry) (c : scene.Scene) (edge : Edge) (f : ParseFault)
     → items_of top bodies c edge items ≡ Err f → Breaks top Inside Broken c edge items f

@@ -1,5 +1,5 @@
 -- What is read is so.
-use Rattle.std.proofs.Common.{◌≡◌, ℕ, zero, suc, Bool, true, false, List, [], ◌∷◌, Option, Some, None, Result, Ok, Err, ◌&&◌, refl, subst}
+use Rattle.std.proofs.Common.{◌≡◌, ℕ, zero, suc, Bool, true, false, List, [], ◌∷◌, drop, Option, Some, None, Result, Ok, Err, ◌&&◌, refl, subst}
 use Rattle.m4quote.specs.Entry.{Span, Entry, call, bare}
 use Rattle.m4quote.specs.declared.fault.QuoteFault.{QuoteFault}
 use Rattle.acargs.specs.declared.stand.Edge.{Edge}
@@ -9,7 +9,11 @@ use Rattle.acargs.specs.Stand.{edge_of, no_edge}
 use Rattle.acargs.proofs.Binds.{bind_ok, ok_is, wants_ok}
 use Rattle.acmacros.specs.declared.macros.Macro.{Macro}
 use Rattle.acmacros.specs.declared.macros.ChoiceMacro.{ChoiceMacro}
-use Rattle.acmacros.specs.declared.macros.Macro.TheVariants.{Plain, Choice as A_choice}
+use Rattle.acmacros.specs.declared.macros.Macro.TheVariants.{Plain, Choice as A_choice, Question as A_question}
+use Rattle.acmacros.specs.declared.macros.QuestionMacro.{QuestionMacro}
+use Rattle.acmacros.specs.Scene.{after_question}
+use Rattle.tree.specs.declared.tree.When.{When}
+use Rattle.tree.specs.declared.tree.When.TheVariants.{Yes, No, Always}
 use Rattle.acmacros.specs.declared.scene.Scene as scene
 use Rattle.acmacros.specs.declared.scene.Stage.{Stage}
 use Rattle.acmacros.specs.declared.scene.Stage.TheVariants.{Before, Open, Ended}
@@ -23,11 +27,11 @@ use Rattle.baretext.specs.declared.fault.BareFault.{BareFault}
 use Rattle.acargs.specs.declared.fault.ParseFault.{ParseFault}
 use Rattle.acargs.specs.Arguments.{is_given}
 use Rattle.acargs.specs.Inside.{inside}
-use Rattle.tree.specs.Known.{after_all}
+use Rattle.tree.specs.Known.{after_all, after_cases}
 use Rattle.tree.specs.Script.{Script, Done, Cases, No_case}
 use Rattle.acparse.specs.Bare.{bare_at, assigned, of_value, idle_or, bare_of}
-use Rattle.acparse.specs.Profile.{Bodies, body_of, items_of, item_of, call_of, checked, known, when_of, subject_of, case_args, default_of, cases_in, choice_of}
-use Rattle.acparse.specs.Statements.{Within, MayStand, IsBare, before, ended, assignments, AreCases, no_more, default, pair, IsItem, bare_text, plain_call, choice, AreStatements, none, one, IsBody}
+use Rattle.acparse.specs.Profile.{action_in, asked_of, action_args, Bodies, body_of, items_of, item_of, call_of, checked, known, when_of, subject_of, case_args, case_if, cases_in, choice_of}
+use Rattle.acparse.specs.Statements.{Within, MayStand, IsBare, before, ended, assignments, AreCases, no_more, default, pair, IsAction, absent, there, IsItem, bare_text, plain_call, choice, question, AreStatements, none, one, IsBody}
 
 -- each statement argument that is read is so
 abbrev pub Reads : Bodies → Within → Type 0
@@ -88,7 +92,7 @@ pub cases_found : (bodies : Bodies) (Inside : Within) (ok : Reads bodies Inside)
 unfolding cases_in
 cases_found bodies Inside ok m [] c cases e = subst (AreCases Inside m c []) (ok_is No_case cases e) no_more
 cases_found bodies Inside ok m (b ∷ []) c cases e =
-    let x = bind_ok (bodies c b) (λ body. Ok (default_of (is_given b) body)) cases e in
+    let x = bind_ok (bodies c b) (λ body. Ok (case_if Always (is_given b) body)) cases e in
     subst (AreCases Inside m c (b ∷ [])) (ok_is _ cases x.2) (default (ok c b x.0 x.1))
 cases_found bodies Inside ok m (w ∷ a ∷ more) c cases e =
     let x = bind_ok _ _ _ e in
@@ -97,9 +101,16 @@ cases_found bodies Inside ok m (w ∷ a ∷ more) c cases e =
     subst (AreCases Inside m c (w ∷ a ∷ more)) (ok_is _ cases z.2)
     (pair x.1 (ok c a y.0 y.1) (cases_found bodies Inside ok m more (after_all c y.0) z.0 z.1))
 
+pub action_found : (bodies : Bodies) (Inside : Within) (ok : Reads bodies Inside) (when : When) (args : List Span) (c : scene.Scene) (cases : Cases) → action_in bodies when c args ≡ Ok cases → IsAction Inside when c args cases
+unfolding action_in
+action_found bodies Inside ok when [] c cases e = subst (IsAction Inside when c []) (ok_is No_case cases e) absent
+action_found bodies Inside ok when (a ∷ more) c cases e =
+    let x = bind_ok (bodies c a) (λ body. Ok (case_if when (is_given a) body)) cases e in
+    subst (IsAction Inside when c (a ∷ more)) (ok_is _ cases x.2) (there (ok c a x.0 x.1))
+
 pub item_found : (top : Bool) (bodies : Bodies) (Inside : Within) (ok : Reads bodies Inside) (c : scene.Scene) (edge : Edge) (item : Entry) (next : List Entry) (s : Script)
     → item_of top bodies c edge item next ≡ Ok s → IsItem top Inside c edge item next s
-unfolding choice_of
+unfolding choice_of asked_of
 item_found top bodies Inside ok c edge (bare text at) next s e = bare_text (bare_found c.stage at text s e)
 item_found top bodies Inside ok c edge (call name args at) next s e =
     let m = bind_ok _ _ _ e in call_found m.0 (may_stand top c.stage edge name args at next m.0 m.1) m.2
@@ -110,11 +121,21 @@ item_found top bodies Inside ok c edge (call name args at) next s e =
         let y = bind_ok _ _ _ x.2 in
         subst (IsItem top Inside c edge (call name args at) next) (ok_is _ s y.2) (choice stands x.1 (cases_found bodies Inside ok m (case_args m args) c y.0 y.1))
 
-    call_found : (m : Macro) → MayStand top c.stage edge name args at next m → call_of bodies c m args ≡ Ok s → IsItem top Inside c edge (call name args at) next s
+    question_found : (m : QuestionMacro) → MayStand top c.stage edge name args at next (A_question m) → asked_of bodies m c args ≡ Ok s → IsItem top Inside c edge (call name args at) next s
+    question_found m stands e =
+        let x = bind_ok _ _ _ e in
+        let y = bind_ok _ _ _ x.2 in
+        let z = bind_ok _ _ _ y.2 in
+        subst (IsItem top Inside c edge (call name args at) next) (ok_is _ s z.2)
+        (question stands x.1 (action_found bodies Inside ok Yes (action_args m args) (after_question c x.0) y.0 y.1)
+        (action_found bodies Inside ok No (drop 1 (action_args m args)) (after_cases (after_question c x.0) y.0) z.0 z.1))
+
+    call_found : (m : Macro) → MayStand top c.stage edge name args at next m → call_of bodies c m at args ≡ Ok s → IsItem top Inside c edge (call name args at) next s
     call_found (Plain m) stands e =
         let p = bind_ok _ _ _ e in
         subst (IsItem top Inside c edge (call name args at) next) (ok_is _ s p.2) (plain_call stands p.1)
     call_found (A_choice m) stands e = choice_found m stands e
+    call_found (A_question m) stands e = question_found m stands e
 
 pub items_found : (top : Bool) (bodies : Bodies) (Inside : Within) (ok : Reads bodies Inside) (items : List Entry) (c : scene.Scene) (edge : Edge) (s : Script)
     → items_of top bodies c edge items ≡ Ok s → AreStatements top Inside c edge items s

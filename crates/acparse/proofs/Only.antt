@@ -14,10 +14,11 @@ use Rattle.acmacros.specs.declared.scene.Stage.{Stage}
 use Rattle.acmacros.specs.declared.scene.Stage.TheVariants.{Before, Ended}
 use Rattle.acmacros.specs.Scene.{bare_fault}
 use Rattle.std.proofs.lemmas.Bool.{le-leb}
+use Rattle.tree.specs.declared.tree.When.{When}
 use Rattle.tree.specs.Script.{Script, Cases}
 use Rattle.acparse.specs.Bare.{bare_at, of_value, idle_or, bare_of}
-use Rattle.acparse.specs.Profile.{Bodies, body_of, items_of, item_of, checked, known, cases_in, choice_of}
-use Rattle.acparse.specs.Statements.{Within, MayStand, IsBare, before, ended, assignments, AreCases, no_more, default, pair, IsItem, bare_text, plain_call, choice, AreStatements, none, one, IsBody}
+use Rattle.acparse.specs.Profile.{Bodies, body_of, items_of, item_of, checked, known, cases_in, choice_of, action_in, asked_of}
+use Rattle.acparse.specs.Statements.{Within, MayStand, IsBare, before, ended, assignments, AreCases, no_more, default, pair, IsAction, absent, there, IsItem, bare_text, plain_call, choice, question, AreStatements, none, one, IsBody}
 
 -- each statement argument that is so is read
 abbrev pub Gets : Bodies → Within → Type 0
@@ -47,13 +48,21 @@ cases_only bodies Inside ok m no_more = refl
 cases_only bodies Inside ok m (default h) = then_ok _ _ _ _ (ok _ _ _ h) refl
 cases_only bodies Inside ok m (pair w h more) = then_ok _ _ _ _ w (then_ok _ _ _ _ (ok _ _ _ h) (then_ok _ _ _ _ (cases_only bodies Inside ok m more) refl))
 
+action_only : (bodies : Bodies) (Inside : Within) (ok : Gets bodies Inside) (when : When) {c : scene.Scene} {args : List Span} {cases : Cases} → IsAction Inside when c args cases → action_in bodies when c args ≡ Ok cases
+unfolding action_in
+action_only bodies Inside ok when absent = refl
+action_only bodies Inside ok when (there h) = then_ok _ _ _ _ (ok _ _ _ h) refl
+
 item_only : (top : Bool) (bodies : Bodies) (Inside : Within) (ok : Gets bodies Inside) (c : scene.Scene) (edge : Edge) {item : Entry} {next : List Entry} {s : Script}
     → IsItem top Inside c edge item next s → item_of top bodies c edge item next ≡ Ok s
-unfolding choice_of
+unfolding choice_of asked_of
 item_only top bodies Inside ok c edge (bare_text h) = bare_only _ h
 item_only top bodies Inside ok c edge (plain_call stands p) = then_ok _ _ _ _ (is_checked _ _ _ _ _ _ _ _ stands) (then_ok _ _ _ _ p refl)
 item_only top bodies Inside ok c edge (choice stands p h) =
     then_ok _ _ _ _ (is_checked _ _ _ _ _ _ _ _ stands) (then_ok _ _ _ _ p (then_ok _ _ _ _ (cases_only bodies Inside ok _ h) refl))
+item_only top bodies Inside ok c edge (question stands p f o) =
+    then_ok _ _ _ _ (is_checked _ _ _ _ _ _ _ _ stands)
+    (then_ok _ _ _ _ p (then_ok _ _ _ _ (action_only bodies Inside ok _ f) (then_ok _ _ _ _ (action_only bodies Inside ok _ o) refl)))
 
 pub items_only : (top : Bool) (bodies : Bodies) (Inside : Within) (ok : Gets bodies Inside) {c : scene.Scene} {edge : Edge} {items : List Entry} {s : Script}
     → AreStatements top Inside c edge items s → items_of top bodies c edge items ≡ Ok s

@@ -80,11 +80,11 @@ items_stop x top bodies before c edge out all item here next rest e n i h =
     items_fail x top bodies before c edge out all item rest (subst (λ l. Items top bodies before c edge out all l) e i) (subst (λ l. Fails x (item_of top bodies c edge item l)) n h)
 
 pub call_adds : (top : Bool) (bodies : Bodies) (c c' : scene.Scene) (at : ℕ) (edge : Edge) (name : List ℕ) (args : List Span) (item : Entry) (next : List Entry) (m : Macro) (out out' : List Stmt) (s : Stmt)
-    → item ≡ call name args at → checked top c.stage edge name args at next ≡ Ok m → call_of bodies c m args ≡ Ok (script_of (s ∷ []))
+    → item ≡ call name args at → checked top c.stage edge name args at next ≡ Ok m → call_of bodies c m at args ≡ Ok (script_of (s ∷ []))
     → c' ≡ after_all c (script_of (s ∷ [])) → out' ≡ out ++ s ∷ [] → Adds c c' (script_of out) (script_of out') (item_of top bodies c edge item next)
 call_adds top bodies c c' at edge name args item next m out out' s is check value known list = record {
   first = script_of (s ∷ []);
-  value = ap (λ i. item_of top bodies c edge i next) is ∙ ap (λ r. r >>= λ m. call_of bodies c m args) check ∙ value;
+  value = ap (λ i. item_of top bodies c edge i next) is ∙ ap (λ r. r >>= λ m. call_of bodies c m at args) check ∙ value;
   list = ap script_of list ∙ script_push out s;
   known = known;
 }

@@ -17,12 +17,12 @@ use Rattle.m4quote.specs.declared.fault.QuoteFault.{QuoteFault}
 use Rattle.baretext.specs.Reading.{statements_of}
 use Rattle.tree.specs.declared.tree.Stmt.{Stmt}
 use Rattle.tree.specs.declared.tree.Stmt.TheVariants.{Plain, Choose'}
-use Rattle.tree.specs.declared.tree.When.TheVariants.{Always}
+use Rattle.tree.specs.declared.tree.When.{When}
 use Rattle.tree.specs.Known.{after_all}
 use Rattle.tree.specs.Script.{Script, Done, Then, Cases, No_case, Case, joined, stmt_then, script_of}
 use Rattle.tree.proofs.ScriptLemmas.{script_push, joined_assoc, joined_done}
 use Rattle.acparse.specs.Bare.{bare_at, assigned, of_value, idle_or, bare_of}
-use Rattle.acparse.specs.Profile.{behind, is_done, default_of}
+use Rattle.acparse.specs.Profile.{behind, is_done, case_if}
 
 assigned_push : (list : List Assignment) (a : Assignment) → assigned (list ++ a ∷ []) ≡ joined (assigned list) (Then (Assign a.name a.value) Done)
 assigned_push [] a = refl
@@ -92,9 +92,9 @@ not_done : (s : Stmt) (rest : Script) → is_done (stmt_then s rest) ≡ false
 not_done (Plain s) rest = refl
 not_done (Choose' subject m cases) rest = refl
 
-pub some_default : (given : Bool) (body : List Stmt) → (length body == 0) ≡ false → default_of given (script_of body) ≡ Case Always (script_of body) No_case
-some_default given [] e = absurd cc
-some_default true (s ∷ body) e = refl
-some_default false (s ∷ body) e =
-    let kept : Cases = Case Always (script_of (s ∷ body)) No_case in
+pub some_case : (when : When) (given : Bool) (body : List Stmt) → (length body == 0) ≡ false → case_if when given (script_of body) ≡ Case when (script_of body) No_case
+some_case when given [] e = absurd cc
+some_case when true (s ∷ body) e = refl
+some_case when false (s ∷ body) e =
+    let kept : Cases = Case when (script_of (s ∷ body)) No_case in
     ap (λ b. cond b No_case kept) (not_done s (script_of body))

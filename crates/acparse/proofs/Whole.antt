@@ -11,7 +11,8 @@ use Rattle.acargs.proofs.Binds.{bind_ok, bind_err, then_ok, ok_is, err_is}
 use Rattle.acmacros.specs.declared.scene.Stage.{Stage}
 use Rattle.acmacros.specs.declared.scene.Stage.TheVariants.{Before, Open, Ended}
 use Rattle.acparse.specs.declared.source.Source.{Source}
-use Rattle.tree.specs.Known.{start, after_all}
+use Rattle.acmacros.specs.Scene.{start}
+use Rattle.tree.specs.Known.{after_all}
 use Rattle.acparse.specs.Profile.{source_of, body_of, ended}
 use Rattle.tree.specs.Script.{Script, script_of}
 use Rattle.acparse.specs.Source.{IsList, IsSource, IsSourceFault, no_items, in_items, no_init, no_output}

@@ -1,6 +1,6 @@
 -- The first fault of items: everything before it, in its list and in each list round it, has statements, and it names
 -- what is wrong at its place.
-use Rattle.std.specs.Prelude.{◌≡◌, ℕ, zero, suc, ◌<◌, ◌⊎◌, Bool, false, List, [], ◌∷◌, length, Some, None, Ok, Err}
+use Rattle.std.specs.Prelude.{◌≡◌, ℕ, zero, suc, ◌<◌, ◌⊎◌, Bool, false, List, [], ◌∷◌, length, drop, Some, None, Ok, Err}
 use Rattle.m4quote.specs.Entry.{Span, Entry, call, bare}
 use Rattle.m4quote.specs.Faults.{IsFirstFault}
 use Rattle.m4quote.specs.Spelling.{IsSpelling}
@@ -11,22 +11,25 @@ use Rattle.acargs.specs.declared.stand.Edge.{Edge}
 use Rattle.acargs.specs.Inside.{inside}
 use Rattle.acargs.specs.Reading.{quote_fault}
 use Rattle.acargs.specs.Stand.{edge_of, no_edge, is_statement}
-use Rattle.shellword.specs.declared.part.Part.{Part}
 use Rattle.acmacros.specs.declared.macros.ChoiceMacro.{ChoiceMacro}
 use Rattle.acmacros.specs.declared.macros.Macro.{Macro}
-use Rattle.acmacros.specs.declared.macros.Macro.TheVariants.{Plain, Choice as A_choice}
+use Rattle.acmacros.specs.declared.macros.Macro.TheVariants.{Plain, Choice as A_choice, Question as A_question}
+use Rattle.acmacros.specs.declared.macros.QuestionMacro.{QuestionMacro}
 use Rattle.acmacros.specs.declared.macros.PlainMacro.{PlainMacro}
 use Rattle.acmacros.specs.declared.scene.Scene as scene
 use Rattle.acmacros.specs.declared.scene.Stage.{Stage}
-use Rattle.acmacros.specs.Rows.{plain_of}
-use Rattle.acmacros.specs.Scene.{placed}
+use Rattle.acmacros.specs.declared.statement.Question.{Question}
+use Rattle.acmacros.specs.Rows.{plain_of, question_of}
+use Rattle.acmacros.specs.Scene.{after_question, placed}
 use Rattle.acmacros.specs.Table.{macro_named, row}
+use Rattle.tree.specs.declared.tree.Subject.{Subject}
 use Rattle.tree.specs.declared.tree.When.{When}
-use Rattle.tree.specs.Known.{after_all}
-use Rattle.tree.specs.Script.{Script}
+use Rattle.tree.specs.declared.tree.When.TheVariants.{Yes}
+use Rattle.tree.specs.Known.{after_all, after_cases}
+use Rattle.tree.specs.Script.{Script, Cases}
 use Rattle.acparse.specs.Bare.{bare_of}
-use Rattle.acparse.specs.Profile.{when_of, subject_of, case_args}
-use Rattle.acparse.specs.Statements.{Within, MayStand, IsItem, IsBody}
+use Rattle.acparse.specs.Profile.{when_of, subject_of, case_args, action_args}
+use Rattle.acparse.specs.Statements.{Within, MayStand, IsAction, IsItem, IsBody}
 
 -- the first fault of a statement argument, behind what is known
 abbrev pub WithinBreaks : Type 1
@@ -51,6 +54,10 @@ pub data CasesBreak (Inside : Within) (Broken : WithinBreaks) (m : ChoiceMacro) 
       → CasesBreak Inside Broken m c (condition ∷ arg ∷ more) f
   in_default : {c : scene.Scene} {arg : Span} {f : ParseFault} → Broken c arg f → CasesBreak Inside Broken m c (arg ∷ []) f
 
+-- The first of these arguments is at fault.
+pub data ActionBreaks (Broken : WithinBreaks) : scene.Scene → List Span → ParseFault → Type 0 where
+  in_action : {c : scene.Scene} {arg : Span} {more : List Span} {f : ParseFault} → Broken c arg f → ActionBreaks Broken c (arg ∷ more) f
+
 -- An item is at fault: bare text says something else than statements, a call may not stand, or an argument of it has not
 -- its form.
 pub data ItemBreaks (top : Bool) (Inside : Within) (Broken : WithinBreaks) (c : scene.Scene) (edge : Edge) : Entry → List Entry → ParseFault → Type 0 where
@@ -58,11 +65,21 @@ pub data ItemBreaks (top : Bool) (Inside : Within) (Broken : WithinBreaks) (c : 
   may_not_stand : {name : List ℕ} {args : List Span} {at : ℕ} {behind : List Entry} {f : ParseFault}
       → MayNotStand top c.stage edge name args at behind f → ItemBreaks top Inside Broken c edge (call name args at) behind f
   argument : {name : List ℕ} {args : List Span} {at : ℕ} {behind : List Entry} {m : PlainMacro} {f : ParseFault}
-      → MayStand top c.stage edge name args at behind (Plain m) → plain_of c m args ≡ Err f → ItemBreaks top Inside Broken c edge (call name args at) behind f
+      → MayStand top c.stage edge name args at behind (Plain m) → plain_of c m at args ≡ Err f → ItemBreaks top Inside Broken c edge (call name args at) behind f
   in_subject : {name : List ℕ} {args : List Span} {at : ℕ} {behind : List Entry} {m : ChoiceMacro} {f : ParseFault}
       → MayStand top c.stage edge name args at behind (A_choice m) → subject_of m args ≡ Err f → ItemBreaks top Inside Broken c edge (call name args at) behind f
-  in_cases : {name : List ℕ} {args : List Span} {at : ℕ} {behind : List Entry} {m : ChoiceMacro} {subject : List Part} {f : ParseFault}
+  in_cases : {name : List ℕ} {args : List Span} {at : ℕ} {behind : List Entry} {m : ChoiceMacro} {subject : Subject} {f : ParseFault}
       → MayStand top c.stage edge name args at behind (A_choice m) → subject_of m args ≡ Ok subject → CasesBreak Inside Broken m c (case_args m args) f
+      → ItemBreaks top Inside Broken c edge (call name args at) behind f
+  in_question : {name : List ℕ} {args : List Span} {at : ℕ} {behind : List Entry} {m : QuestionMacro} {f : ParseFault}
+      → MayStand top c.stage edge name args at behind (A_question m) → question_of c m args ≡ Err f → ItemBreaks top Inside Broken c edge (call name args at) behind f
+  in_yes : {name : List ℕ} {args : List Span} {at : ℕ} {behind : List Entry} {m : QuestionMacro} {q : Question} {f : ParseFault}
+      → MayStand top c.stage edge name args at behind (A_question m) → question_of c m args ≡ Ok q → ActionBreaks Broken (after_question c q) (action_args m args) f
+      → ItemBreaks top Inside Broken c edge (call name args at) behind f
+  in_no : {name : List ℕ} {args : List Span} {at : ℕ} {behind : List Entry} {m : QuestionMacro} {q : Question} {first : Cases} {f : ParseFault}
+      → MayStand top c.stage edge name args at behind (A_question m) → question_of c m args ≡ Ok q
+      → IsAction Inside Yes (after_question c q) (action_args m args) first
+      → ActionBreaks Broken (after_cases (after_question c q) first) (drop 1 (action_args m args)) f
       → ItemBreaks top Inside Broken c edge (call name args at) behind f
 
 -- The first item at fault, behind items that have statements.

@@ -3,7 +3,6 @@
 use Rattle.std.specs.Prelude.{◌≡◌, ℕ, zero, suc, ◌&&◌, Bool, true, false, List, [], ◌∷◌, length, drop, Option, Some, None, Result, Ok, Err, nat_le, if◌then◌else◌}
 use Rattle.m4quote.specs.Entry.{Span, Entry, call, bare}
 use Rattle.m4quote.specs.Scan.{outcome}
-use Rattle.shellword.specs.declared.part.Part.{Part}
 use Rattle.acargs.specs.declared.fault.ParseFault.{ParseFault}
 use Rattle.acargs.specs.declared.fault.ParseFault.TheVariants.{UnknownMacro, UnknownStatement, ArgCount, NoInit, NoOutput, TooDeep}
 use Rattle.acargs.specs.declared.stand.Edge.{Edge}
@@ -15,17 +14,21 @@ use Rattle.acargs.specs.Stand.{edge_of, no_edge, is_statement}
 use Rattle.acmacros.specs.declared.macros.ChoiceMacro.{ChoiceMacro}
 use Rattle.acmacros.specs.declared.macros.ChoiceMacro.TheVariants.{If, Case as As_case}
 use Rattle.acmacros.specs.declared.macros.Macro.{Macro}
-use Rattle.acmacros.specs.declared.macros.Macro.TheVariants.{Plain, Choice as A_choice}
+use Rattle.acmacros.specs.declared.macros.Macro.TheVariants.{Plain, Choice as A_choice, Question as A_question}
+use Rattle.acmacros.specs.declared.macros.QuestionMacro.{QuestionMacro}
+use Rattle.acmacros.specs.declared.macros.QuestionMacro.TheVariants.{Given, Tries}
 use Rattle.acmacros.specs.declared.scene.Stage.{Stage}
 use Rattle.acmacros.specs.declared.scene.Stage.TheVariants.{Before, Open, Ended}
 use Rattle.acmacros.specs.declared.scene.Scene as scene
-use Rattle.acmacros.specs.Rows.{plain_of}
-use Rattle.acmacros.specs.Scene.{placed}
+use Rattle.acmacros.specs.Rows.{plain_of, question_of}
+use Rattle.acmacros.specs.Scene.{start, after_question, placed}
 use Rattle.acmacros.specs.Table.{macro_named, row}
+use Rattle.tree.specs.declared.tree.Subject.{Subject}
+use Rattle.tree.specs.declared.tree.Subject.TheVariants.{Nothing, Word, Asked}
 use Rattle.tree.specs.declared.tree.When.{When}
-use Rattle.tree.specs.declared.tree.When.TheVariants.{Holds, Matches, Always}
-use Rattle.tree.specs.Known.{start, after_all}
-use Rattle.tree.specs.Script.{Script, Done, Then, Choice, Cases, No_case, Case, joined}
+use Rattle.tree.specs.declared.tree.When.TheVariants.{Holds, Matches, Yes, No, Always}
+use Rattle.tree.specs.Known.{after_all, after_cases}
+use Rattle.tree.specs.Script.{Script, Done, Then, Choice, Cases, No_case, Case, joined, followed}
 use Rattle.acparse.specs.Bare.{bare_of}
 
 -- what reads a statement argument: what is known before it, and the argument
@@ -51,9 +54,9 @@ when_of If arg = test arg >>= λ t. Ok (Holds t)
 when_of As_case arg = patterns arg >>= λ p. Ok (Matches p)
 
 -- the subject: the word of AS_CASE, and nothing for AS_IF
-unfoldable pub subject_of : ChoiceMacro → List Span → Result (List Part) ParseFault
-subject_of If args = Ok []
-subject_of As_case args = word (arg_at args 0)
+unfoldable pub subject_of : ChoiceMacro → List Span → Result Subject ParseFault
+subject_of If args = Ok Nothing
+subject_of As_case args = word (arg_at args 0) >>= λ w. Ok (Word w)
 
 -- the arguments that are cases
 abbrev pub case_args : ChoiceMacro → List Span → List Span
@@ -66,14 +69,14 @@ is_done Done = true
 is_done (Then s rest) = false
 is_done (Choice subject cases rest) = false
 
--- the default, where one is given
-abbrev pub default_of : Bool → Script → Cases
-default_of given body = if given then Case Always body No_case else (if is_done body then No_case else Case Always body No_case)
+-- a case of these statements, where its argument is given
+abbrev pub case_if : When → Bool → Script → Cases
+case_if when given body = if given then Case when body No_case else (if is_done body then No_case else Case when body No_case)
 
 -- the cases of arguments: what decides and then statements, in pairs, and at the end a default alone
 unfoldable pub cases_in : Bodies → ChoiceMacro → scene.Scene → List Span → Result Cases ParseFault
 cases_in bodies m c [] = Ok No_case
-cases_in bodies m c (b ∷ []) = bodies c b >>= λ body. Ok (default_of (is_given b) body)
+cases_in bodies m c (b ∷ []) = bodies c b >>= λ body. Ok (case_if Always (is_given b) body)
 cases_in bodies m c (w ∷ a ∷ more) = do
   when ← when_of m w
   body ← bodies c a
@@ -86,6 +89,27 @@ choice_of bodies m c args = do
   subject ← subject_of m args
   cases ← cases_in bodies m c (case_args m args)
   Ok (Choice subject cases Done)
+
+-- ---- questions
+
+-- the arguments behind those of the question: the statements for yes, and those for no
+abbrev pub action_args : QuestionMacro → List Span → List Span
+action_args (Given kind) args = drop 2 args
+action_args (Tries kind) args = drop 1 args
+
+-- the first of these arguments, if there is one
+unfoldable pub action_in : Bodies → When → scene.Scene → List Span → Result Cases ParseFault
+action_in bodies when c [] = Ok No_case
+action_in bodies when c (a ∷ more) = bodies c a >>= λ body. Ok (case_if when (is_given a) body)
+
+-- AC_ARG_ENABLE(feature, help, [for yes], [for no]), and AC_ARG_WITH alike; AC_COMPILE_IFELSE(program, [for yes], [for no]),
+-- and its like
+unfoldable pub asked_of : Bodies → QuestionMacro → scene.Scene → List Span → Result Script ParseFault
+asked_of bodies m c args = do
+  q ← question_of c m args
+  first ← action_in bodies Yes (after_question c q) (action_args m args)
+  other ← action_in bodies No (after_cases (after_question c q) first) (drop 1 (action_args m args))
+  Ok (Choice (Asked q) (followed first other) Done)
 
 -- ---- items
 
@@ -103,19 +127,20 @@ checked top stage edge name args at behind = do
   _ ← wants (is_statement edge name args at behind) (UnknownStatement at)
   Ok m
 
--- the statement of a call
-abbrev pub call_of : Bodies → scene.Scene → Macro → List Span → Result Script ParseFault
-call_of bodies c (Plain m) args = do
-  s ← plain_of c m args
+-- the statement of a call of a macro whose name stands at this place
+abbrev pub call_of : Bodies → scene.Scene → Macro → ℕ → List Span → Result Script ParseFault
+call_of bodies c (Plain m) at args = do
+  s ← plain_of c m at args
   Ok (Then s Done)
-call_of bodies c (A_choice m) args = choice_of bodies m c args
+call_of bodies c (A_choice m) at args = choice_of bodies m c args
+call_of bodies c (A_question m) at args = asked_of bodies m c args
 
 -- the statements of an item between what stands before it and the items behind it
 abbrev pub item_of : Bool → Bodies → scene.Scene → Edge → Entry → List Entry → Result Script ParseFault
 item_of top bodies c edge (bare text at) behind = bare_of c.stage at text
 item_of top bodies c edge (call name args at) behind = do
   m ← checked top c.stage edge name args at behind
-  call_of bodies c m args
+  call_of bodies c m at args
 
 -- the statements of items, one after another
 unfoldable pub items_of : Bool → Bodies → scene.Scene → Edge → List Entry → Result Script ParseFault

@@ -10,7 +10,8 @@ use Rattle.acargs.specs.Reading.{quote_fault}
 use Rattle.acargs.specs.Stand.{no_edge}
 use Rattle.acmacros.specs.declared.scene.Stage.TheVariants.{Before, Open, Ended}
 use Rattle.acparse.specs.Breaks.{Breaks, IsBroken}
-use Rattle.tree.specs.Known.{start, after_all}
+use Rattle.acmacros.specs.Scene.{start}
+use Rattle.tree.specs.Known.{after_all}
 use Rattle.tree.specs.Script.{Script}
 use Rattle.acparse.specs.Statements.{AreStatements, IsBody}
 

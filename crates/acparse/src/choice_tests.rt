@@ -9,7 +9,7 @@ use std::alloc::{AllocError, Global};
 use std::process::Abort;
 use std::test::Fail;
 
-fn assert_fault_in(
+pub(crate) fn assert_fault_in(
     rt: &impl Abort,
     alloc: Global,
     lines: &[u8],
@@ -20,12 +20,14 @@ fn assert_fault_in(
     Ok(())
 }
 
-/// Each case: `t` for a test, `p` for patterns, `*` for the default, and its statements in short.
+/// Each case: `t` for a test, `p` for patterns, `y` and `n` for answers, `*` for the default, and its statements in short.
 fn push_cases(out: &mut Vec<u8>, cases: &[Case]) -> Result<(), AllocError> {
     for case in cases {
         match &case.when {
             When::Holds(_) => out.push(b't')?,
             When::Matches(_) => out.push(b'p')?,
+            When::Yes => out.push(b'y')?,
+            When::No => out.push(b'n')?,
             When::Always => out.push(b'*')?,
         }
         push_all(out, case.body.as_slice())?;
@@ -35,7 +37,7 @@ fn push_cases(out: &mut Vec<u8>, cases: &[Case]) -> Result<(), AllocError> {
 }
 
 /// The cases of a source's second statement in short.
-fn said(alloc: Global, text: &[u8]) -> Result<Vec<u8>, Fail> {
+pub(crate) fn said(alloc: Global, text: &[u8]) -> Result<Vec<u8>, Fail> {
     let source = parse(alloc, text)?;
     let mut out = Vec::new(alloc);
     if let [_, Stmt::Choose { cases, .. }, ..] = source.statements.as_slice() {

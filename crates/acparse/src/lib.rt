@@ -12,14 +12,18 @@ pub mod bare;
 pub mod read;
 pub mod source;
 
-pub use acargs::{Output, Outputs, ParseFault};
-pub use acmacros::Plain;
+pub use acargs::{Help, HelpList, Output, Outputs, ParseFault};
+pub use acmacros::{Plain, Question};
 pub use source::{Source, parse};
-pub use tree::{Case, Stmt, When};
+pub use tree::{Case, Stmt, Subject, When};
 
 #[cfg(test)]
 mod choice_tests;
 #[cfg(test)]
 mod macro_tests;
+#[cfg(test)]
+mod option_tests;
+#[cfg(test)]
+mod probe_tests;
 #[cfg(test)]
 mod tests;

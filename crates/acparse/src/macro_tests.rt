@@ -32,7 +32,7 @@ fn assert_read(
     Ok(())
 }
 
-fn push_parts(out: &mut Vec<u8>, parts: &[Part]) -> Result<(), AllocError> {
+pub(crate) fn push_parts(out: &mut Vec<u8>, parts: &[Part]) -> Result<(), AllocError> {
     for part in parts {
         match part {
             Part::Plain(byte) | Part::Quoted(byte) => out.push(*byte)?,
@@ -86,7 +86,14 @@ pub(crate) fn push_plain(out: &mut Vec<u8>, statement: &Plain) -> Result<(), All
             out.extend_from_slice(b"ok")?;
             Ok(())
         }
-        Plain::Init { .. } | Plain::ConfigFiles { .. } | Plain::Output => Ok(()),
+        Plain::Init { .. }
+        | Plain::ConfigFiles { .. }
+        | Plain::ArgVar { .. }
+        | Plain::ProgCc { .. }
+        | Plain::CheckProg { .. }
+        | Plain::CheckProgs { .. }
+        | Plain::PathProg { .. }
+        | Plain::Output => Ok(()),
     }
 }
 

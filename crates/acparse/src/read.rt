@@ -1,12 +1,13 @@
 //! Lists of statements.
 
-ghost use Rattle.std.specs.Prelude.{◌≡◌, ◌≤◌, MatchResult, [], ◌∷◌, map, length, option_to_list, IfOk, Ok};
+ghost use Rattle.std.specs.Prelude.{◌≡◌, ◌≤◌, MatchResult, [], ◌∷◌, map, drop, length, option_to_list, IfOk, Ok};
 ghost use Rattle.m4quote.specs.Entry.{span, view, views};
 ghost use Rattle.acargs.specs.Reading.{Gives, Fails};
 ghost use Rattle.acargs.specs.Stand.{no_edge};
 ghost use Rattle.acparse.specs.Profile as profile;
 ghost use Rattle.acparse.specs.Profile.{Adds};
-ghost use Rattle.tree.specs.Known.{after_all, after_cases};
+ghost use Rattle.acmacros.specs.declared.scene.Scene as scenes;
+ghost use Rattle.tree.specs.Known.{after_all, after_cases, after_subject};
 ghost use Rattle.tree.specs.Script.{script_of, cases_of, followed, Done};
 
 use crate::bare::read_bare;
@@ -17,13 +18,12 @@ use acargs::inside::inside;
 use acargs::shell::{patterns, test, word};
 use acargs::stand::{Edge, NO_EDGE, edge_of, is_statement};
 use acmacros::macros::{look_up, macro_named};
-use acmacros::rows::plain;
-use acmacros::scene::{check_place, note};
-use acmacros::{ChoiceMacro, Macro, Scene, Stage};
+use acmacros::rows::{plain, question};
+use acmacros::scene::{check_place, note, note_question};
+use acmacros::{ChoiceMacro, Macro, QuestionMacro, Scene, Stage};
 use m4quote::{Arg, Item, read_items_at};
-use shellword::Word;
 use std::alloc::{AllocError, Global};
-use tree::{Case, Stmt, When, choose};
+use tree::{Case, Stmt, Subject, When, choose};
 
 /// The macro of a call between what stands before it and the items behind it, where it may stand.
 #[tactic(auto, unfolding(crate::specs::Profile::checked))]
@@ -71,12 +71,17 @@ fn when(alloc: Global, m: ChoiceMacro, arg: Arg<'_>) -> Result<When, ParseFault>
 
 /// The subject: the word of AS_CASE, and nothing for AS_IF.
 #[tactic(auto, unfolding(crate::specs::Profile::subject_of))]
-fn subject(alloc: Global, m: ChoiceMacro, args: &[Arg<'_>]) -> Result<Word, ParseFault>
-    ensures { Gives (λ w. w) result (profile.subject_of m (map span args.now)) }
+fn subject(alloc: Global, m: ChoiceMacro, args: &[Arg<'_>]) -> Result<Subject, ParseFault>
+    ensures value { Gives (λ s. s) result (profile.subject_of m (map span args.now)) }
+    // It leaves nothing to be known.
+    ensures known { IfOk result (λ s. (c : scenes.Scene) → after_subject c s ≡ c) }
 {
     match m {
-        ChoiceMacro::If => Ok(Word::empty(alloc)),
-        ChoiceMacro::Case => word(alloc, arg_at(args, 0)),
+        ChoiceMacro::If => Ok(Subject::Nothing),
+        ChoiceMacro::Case => {
+            let word = word(alloc, arg_at(args, 0))?;
+            Ok(Subject::Word(word))
+        }
     }
 }
 
@@ -90,23 +95,34 @@ fn case_args<'a, 'b>(m: ChoiceMacro, args: &'b [Arg<'a>]) -> &'b [Arg<'a>]
     }
 }
 
-/// The default, where one is given.
-fn default_of(given: bool, body: Vec<Stmt>) -> Option<Case>
-    ensures { cases_of (option_to_list result) ≡ profile.default_of given (script_of body.items) }
+/// A case of these statements, where its argument is given.
+fn case_if(when: When, given: bool, body: Vec<Stmt>) -> Option<Case>
+    ensures { cases_of (option_to_list result) ≡ profile.case_if when given (script_of body.items) }
 {
     if given {
-        return Some(Case {
-            when: When::Always,
-            body,
-        });
+        return Some(Case { when, body });
     }
     if body.is_empty() {
         return None;
     }
-    Some(Case {
-        when: When::Always,
-        body,
-    })
+    Some(Case { when, body })
+}
+
+/// The arguments behind those of the question.
+fn action_args<'a, 'b>(m: QuestionMacro, args: &'b [Arg<'a>]) -> &'b [Arg<'a>]
+    ensures { map span result.now ≡ profile.action_args m (map span args.now) }
+{
+    match m {
+        QuestionMacro::Given(_) => &args[args.len().min(2)..],
+        QuestionMacro::Tries(_) => &args[args.len().min(1)..],
+    }
+}
+
+/// The arguments behind the first.
+fn behind_first<'a, 'b>(args: &'b [Arg<'a>]) -> &'b [Arg<'a>]
+    ensures { map span result.now ≡ drop 1 (map span args.now) }
+{
+    &args[args.len().min(1)..]
 }
 
 /// Cases, and one more if it is there.
@@ -120,6 +136,14 @@ fn with_last(mut cases: Vec<Case>, last: Option<Case>) -> Result<Vec<Case>, Allo
             Ok(cases)
         }
     }
+}
+
+/// Two cases, as far as they are there.
+fn both(alloc: Global, first: Option<Case>, other: Option<Case>) -> Result<Vec<Case>, AllocError>
+    ensures { IfOk result (λ v. cases_of v.items ≡ followed (cases_of (option_to_list first)) (cases_of (option_to_list other))) }
+{
+    let one = with_last(Vec::new(alloc), first)?;
+    with_last(one, other)
 }
 
 /// The statements of a statement argument, in which `room` lists may stand in one another.
@@ -163,7 +187,7 @@ fn read_default(
         [only, ..] => {
             let given = is_given(alloc, *only)?;
             let body = read_body(alloc, room, scene, *only)?;
-            Ok(default_of(given, body))
+            Ok(case_if(When::Always, given, body))
         }
     }
 }
@@ -210,25 +234,72 @@ fn read_choice(
     Ok(choose(subject, cases))
 }
 
-/// The statement of a call.
+/// The case that the first of the arguments is, if there is one.
+#[cycle(list)]
+#[tactic(auto, unfolding(crate::specs::Profile::action_in))]
+fn read_action(
+    alloc: Global,
+    room: u8,
+    scene: &mut Scene,
+    when: When,
+    args: &[Arg<'_>],
+) -> Result<Option<Case>, ParseFault>
+    ensures value { Gives (λ o. cases_of (option_to_list o)) result (profile.action_in (profile.body_of room) when scene.old (map span args.now)) }
+    ensures after { IfOk result (λ o. scene.new ≡ after_cases scene.old (cases_of (option_to_list o))) }
+{
+    match args {
+        [] => Ok(None),
+        [first, ..] => {
+            let given = is_given(alloc, *first)?;
+            let body = read_body(alloc, room, scene, *first)?;
+            Ok(case_if(when, given, body))
+        }
+    }
+}
+
+/// AC_ARG_ENABLE, AC_COMPILE_IFELSE, or another macro that asks.
+#[cycle(list)]
+#[tactic(auto, unfolding(crate::specs::Profile::asked_of))]
+fn read_question(
+    alloc: Global,
+    room: u8,
+    scene: &mut Scene,
+    m: QuestionMacro,
+    args: &[Arg<'_>],
+) -> Result<Stmt, ParseFault>
+    ensures value { Gives (λ s. script_of (s ∷ [])) result (profile.asked_of (profile.body_of room) m scene.old (map span args.now)) }
+    ensures after { IfOk result (λ s. scene.new ≡ after_all scene.old (script_of (s ∷ []))) }
+{
+    let question = question(alloc, scene, m, args)?;
+    note_question(alloc, scene, &question)?;
+    let actions = action_args(m, args);
+    let first = read_action(alloc, room, scene, When::Yes, actions)?;
+    let other = read_action(alloc, room, scene, When::No, behind_first(actions))?;
+    let cases = both(alloc, first, other)?;
+    Ok(choose(Subject::Asked(question), cases))
+}
+
+/// The statement of a call of a macro whose name stands at `at`.
 #[cycle(list)]
 fn read_call(
     alloc: Global,
     room: u8,
     scene: &mut Scene,
     m: Macro,
+    at: usize,
     args: &[Arg<'_>],
 ) -> Result<Stmt, ParseFault>
-    ensures value { Gives (λ s. script_of (s ∷ [])) result (profile.call_of (profile.body_of room) scene.old m (map span args.now)) }
+    ensures value { Gives (λ s. script_of (s ∷ [])) result (profile.call_of (profile.body_of room) scene.old m at (map span args.now)) }
     ensures after { IfOk result (λ s. scene.new ≡ after_all scene.old (script_of (s ∷ []))) }
 {
     match m {
         Macro::Plain(m) => {
-            let s = plain(alloc, scene, m, args)?;
+            let s = plain(alloc, scene, m, at, args)?;
             note(alloc, scene, &s)?;
             Ok(Stmt::Plain(s))
         }
         Macro::Choice(m) => read_choice(alloc, room, scene, m, args),
+        Macro::Question(m) => read_question(alloc, room, scene, m, args),
     }
 }
 
@@ -251,7 +322,7 @@ fn read_item(
         Item::Bare { text, at } => read_bare(alloc, scene.stage, *at, text, out),
         Item::Call { name, args, at } => {
             let m = check_call(top, scene.stage, edge, name, args, *at, behind)?;
-            let s = read_call(alloc, room, scene, m, args)?;
+            let s = read_call(alloc, room, scene, m, *at, args)?;
             out.push(s)?;
             Ok(())
         }

@@ -3,14 +3,15 @@
 ghost use Rattle.std.specs.Prelude.{◌≡◌, ◌≢◌, IfOk, IfErr, Ok};
 ghost use Rattle.acargs.specs.declared.fault.ParseFault.TheVariants.{OutOfMemory};
 ghost use Rattle.acargs.specs.Reading.{Gives};
-ghost use Rattle.tree.specs.Known.{start, after_all};
+ghost use Rattle.acmacros.specs.Scene.{start};
+ghost use Rattle.tree.specs.Known.{after_all};
 ghost use Rattle.acparse.specs.Profile.{source_of};
 ghost use Rattle.tree.specs.Script.{Script, script_of};
 ghost use Rattle.acparse.specs.Source.{IsSource, IsSourceFault};
 
 use crate::read::read_statements;
 use acargs::fault::quote_fault;
-use acargs::{Outputs, ParseFault};
+use acargs::{HelpList, Outputs, ParseFault};
 use acmacros::{Scene, Stage};
 use deftable::SubstList;
 use m4quote::read_items;
@@ -22,9 +23,17 @@ use tree::Stmt;
 pub struct Source {
     /// The statements of the file's own list, in order.
     pub statements: Vec<Stmt>,
-    /// The output variables of AC_SUBST, each once, in the order of their first mention, from cases that are not taken
-    /// too.
+    /// The output variables of AC_SUBST and AC_ARG_VAR, each once, in the order of their first mention, from cases that
+    /// are not taken too.
     pub substituted: SubstList,
+    /// The precious variables of AC_ARG_VAR, likewise.
+    pub precious: SubstList,
+    /// The variables of the features that AC_ARG_ENABLE declares, `enable_NAME`, likewise.
+    pub features: SubstList,
+    /// The variables of the packages that AC_ARG_WITH declares, `with_NAME`, likewise.
+    pub packages: SubstList,
+    /// What is said of options and variables, in order, one declared twice said twice.
+    pub help: HelpList,
     /// The files that AC_CONFIG_FILES names, in order, each name once.
     pub files: Outputs,
 }
@@ -34,16 +43,16 @@ fn read_source(alloc: Global, text: &[u8]) -> Result<Source, ParseFault>
     ensures exact { Gives (λ s. script_of s.statements.items) result (source_of text.now) }
     ensures files { IfOk result (λ s. s.files ≡ (after_all start (script_of s.statements.items)).files) }
     ensures substituted { IfOk result (λ s. s.substituted ≡ (after_all start (script_of s.statements.items)).substituted) }
+    ensures precious { IfOk result (λ s. s.precious ≡ (after_all start (script_of s.statements.items)).precious) }
+    ensures features { IfOk result (λ s. s.features ≡ (after_all start (script_of s.statements.items)).features) }
+    ensures packages { IfOk result (λ s. s.packages ≡ (after_all start (script_of s.statements.items)).packages) }
+    ensures help { IfOk result (λ s. s.help ≡ (after_all start (script_of s.statements.items)).help) }
 {
     let items = match read_items(alloc, text) {
         Ok(items) => items,
         Err(fault) => return Err(quote_fault(fault)),
     };
-    let mut scene = Scene {
-        stage: Stage::Before,
-        substituted: SubstList::new(alloc),
-        files: Outputs::new(alloc),
-    };
+    let mut scene = Scene::new(alloc);
     let statements = read_statements(alloc, true, 31, &mut scene, &items)?;
     match scene.stage {
         Stage::Before => Err(ParseFault::NoInit),
@@ -51,6 +60,10 @@ fn read_source(alloc: Global, text: &[u8]) -> Result<Source, ParseFault>
         Stage::Ended => Ok(Source {
             statements,
             substituted: scene.substituted,
+            precious: scene.precious,
+            features: scene.features,
+            packages: scene.packages,
+            help: scene.help,
             files: scene.files,
         }),
     }
@@ -61,8 +74,12 @@ fn read_source(alloc: Global, text: &[u8]) -> Result<Source, ParseFault>
 pub fn parse(alloc: Global, text: &[u8]) -> Result<Source, ParseFault>
     // What is read is a source of the profile.
     ensures found { IfOk result (λ s. IsSource text.now (script_of s.statements.items)) }
-    // Its variables are those that AC_SUBST names, in cases that are not taken too.
+    // Its output variables are those that its statements name, in cases that are not taken too; so are its other lists.
     ensures substituted { IfOk result (λ s. s.substituted ≡ (after_all start (script_of s.statements.items)).substituted) }
+    ensures precious { IfOk result (λ s. s.precious ≡ (after_all start (script_of s.statements.items)).precious) }
+    ensures features { IfOk result (λ s. s.features ≡ (after_all start (script_of s.statements.items)).features) }
+    ensures packages { IfOk result (λ s. s.packages ≡ (after_all start (script_of s.statements.items)).packages) }
+    ensures help { IfOk result (λ s. s.help ≡ (after_all start (script_of s.statements.items)).help) }
     // Its files are those that its statements name.
     ensures files { IfOk result (λ s. s.files ≡ (after_all start (script_of s.statements.items)).files) }
     // A source of the profile is read, unless memory runs out.

@@ -1,12 +1,12 @@
 -- Lists of statements, and the cases inside a statement.
 use Rattle.std.proofs.Common.{◌≡◌, List, [], ◌∷◌, ◌++◌, Vec, Global, refl, ap, ◌∙◌, sym}
 use mathlib.Core.Former.{Count}
-use Rattle.shellword.specs.declared.part.Part.{Part}
 use Rattle.acmacros.specs.declared.scene.Scene as scene
 use Rattle.acmacros.specs.Scene.{after}
 use Rattle.tree.specs.declared.tree.Case as case
 use Rattle.tree.specs.declared.tree.Stmt.{Stmt, Plain, Choose, Choose', Row_of-Stmt, end_of-Stmt, more_of-Stmt, Row_of-Case, end_of-Case, more_of-Case, items-the_row-Stmt, items_shown-the_row-Stmt-0, items-the_row-Case, items_hidden-the_row-Case-1}
-use Rattle.tree.specs.Known.{after_all, after_cases}
+use Rattle.tree.specs.declared.tree.Subject.{Subject}
+use Rattle.tree.specs.Known.{after_all, after_cases, after_subject}
 use Rattle.tree.specs.Script.{Script, Done, Then, Choice, Cases, No_case, Case, joined, followed, stmt_then, row_script, row_cases, script_of, cases_of}
 
 pub joined_done : (s : Script) → joined s Done ≡ s
@@ -34,7 +34,7 @@ cases_row (Choose' subject m cases) = (_, cases)
 cases_row _ = (_, end_of-Case)
 
 -- what a choice of the code is, and what follows
-pub choice_is : (subject : List Part) (cases : Vec case.Case Global) (rest : Script) → stmt_then (Choose subject cases) rest ≡ Choice subject (cases_of cases.items) rest
+pub choice_is : (subject : Subject) (cases : Vec case.Case Global) (rest : Script) → stmt_then (Choose subject cases) rest ≡ Choice subject (cases_of cases.items) rest
 choice_is subject cases rest =
     let a = cases_row (Choose subject cases) in
     ap (λ s. Choice subject s rest) (cases_are a.0 a.1 ∙ ap cases_of (items_hidden-the_row-Case-1 cases))
@@ -52,7 +52,7 @@ script_push (x ∷ xs) s = ap (stmt_then x) (script_push xs s) ∙ stmt_joined x
 pub after_joined : (a b : Script) (c : scene.Scene) → after_all c (joined a b) ≡ after_all (after_all c a) b
 after_joined Done b c = refl
 after_joined (Then s rest) b c = after_joined rest b (after c s)
-after_joined (Choice subject cases rest) b c = after_joined rest b (after_cases c cases)
+after_joined (Choice subject cases rest) b c = after_joined rest b (after_cases (after_subject c subject) cases)
 
 -- one case more
 pub cases_push : (xs : List case.Case) (c : case.Case) → cases_of (xs ++ c ∷ []) ≡ followed (cases_of xs) (cases_of (c ∷ []))

@@ -1,10 +1,10 @@
 -- A list of statements, as contracts speak of it: what comes first, and what follows.
 use Rattle.std.specs.Prelude.{List, [], ◌∷◌}
 use Rattle.acmacros.specs.declared.statement.Plain as plain
-use Rattle.shellword.specs.declared.part.Part.{Part}
 use Rattle.tree.specs.declared.tree.Case as case
 use Rattle.tree.specs.declared.tree.Stmt.{Stmt, Row_of-Stmt, end_of-Stmt, more_of-Stmt, Row_of-Case, end_of-Case, more_of-Case}
 use Rattle.tree.specs.declared.tree.Stmt.TheVariants.{Plain, Choose'}
+use Rattle.tree.specs.declared.tree.Subject.{Subject}
 use Rattle.tree.specs.declared.tree.When.{When}
 
 mutual
@@ -12,7 +12,7 @@ mutual
   pub data Script : Type 0 where
     Done : Script
     Then : (first : plain.Plain) (rest : Script) → Script
-    Choice : (subject : List Part) (cases : Cases) (rest : Script) → Script
+    Choice : (subject : Subject) (cases : Cases) (rest : Script) → Script
 
   -- the cases of a choice, in order
   pub data Cases : Type 0 where

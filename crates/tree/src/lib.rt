@@ -1,6 +1,6 @@
 //! The tree of statements that a source is.
 //!
-//! `tree` has the types: a statement, the cases of AS_IF and AS_CASE, and what decides for a case. Contracts speak of a
+//! `tree` has the types: a statement, what a choice is about, its cases, and what decides for a case. Contracts speak of a
 //! list of statements as of its first statement and what follows: `specs/Script.antt`. `specs/Known.antt` says what
 //! statements leave to be known, those of cases that are not taken too.
 //!
@@ -9,4 +9,4 @@
 
 pub mod tree;
 
-pub use tree::{Case, Stmt, When, choose};
+pub use tree::{Case, Stmt, Subject, When, choose};

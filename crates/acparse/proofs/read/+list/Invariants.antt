@@ -17,6 +17,12 @@ decreases-read_cases l = 8 * l.room + 2
 abbrev pub decreases-read_choice : goal.decreases-read_choice
 decreases-read_choice l = 8 * l.room + 3
 
+abbrev pub decreases-read_action : goal.decreases-read_action
+decreases-read_action l = 8 * l.room + 1
+
+abbrev pub decreases-read_question : goal.decreases-read_question
+decreases-read_question l = 8 * l.room + 3
+
 abbrev pub decreases-read_call : goal.decreases-read_call
 decreases-read_call l = 8 * l.room + 4
 

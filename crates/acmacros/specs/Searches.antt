@@ -1,0 +1,78 @@
+-- Rows of macros that look for programs (Autoconf's manual, "Generic Programs" and "C Compiler").
+use Rattle.std.specs.Prelude.{ℕ, ◌+◌, Bool, ◌&&◌, List, [], ◌∷◌, length, Option, Some, None, Result, Ok, nat_le, codes, if◌then◌else◌}
+use Rattle.deftable.specs.NameList.{has_name}
+use Rattle.m4quote.specs.Entry.{Span}
+use Rattle.shellword.specs.declared.part.Part.{Part}
+use Rattle.acargs.specs.declared.fault.ParseFault.{ParseFault}
+use Rattle.acargs.specs.declared.fault.ParseFault.TheVariants.{TooMany}
+use Rattle.acargs.specs.Arguments.{arg_at, name, is_given}
+use Rattle.acargs.specs.Programs.{program, programs}
+use Rattle.acargs.specs.Reading.{◌>>=◌, wants}
+use Rattle.acargs.specs.Shell.{here_text}
+use Rattle.acmacros.specs.declared.scene.Scene as scene
+use Rattle.acmacros.specs.declared.statement.Plain.{Plain}
+use Rattle.acmacros.specs.declared.statement.Plain.TheVariants.{CheckProg, CheckProgs, PathProg, ProgCc}
+use Rattle.acmacros.specs.Room.{has_room}
+
+-- an output variable, behind those of the source before it
+unfoldable pub output_variable : scene.Scene → Span → Result (List ℕ) ParseFault
+output_variable c arg = do
+  n ← name arg
+  _ ← wants (has_room c.substituted n) (TooMany arg.at)
+  Ok n
+
+-- a value, if it is given
+unfoldable pub optional_text : Span → Result (Option (List Part)) ParseFault
+optional_text arg = if is_given arg then (here_text arg >>= λ h. Ok (Some h)) else Ok None
+
+-- AC_CHECK_PROG(variable, program, value if found, [value if not found])
+unfoldable pub check_prog : scene.Scene → List Span → Result Plain ParseFault
+check_prog c args = do
+  v ← output_variable c (arg_at args 0)
+  p ← program (arg_at args 1)
+  found ← here_text (arg_at args 2)
+  other ← optional_text (arg_at args 3)
+  Ok (CheckProg v p found other)
+
+-- AC_CHECK_PROGS(variable, programs, [value if none is found])
+unfoldable pub check_progs : scene.Scene → List Span → Result Plain ParseFault
+check_progs c args = do
+  v ← output_variable c (arg_at args 0)
+  list ← programs (arg_at args 1)
+  other ← optional_text (arg_at args 2)
+  Ok (CheckProgs v list other)
+
+-- AC_PATH_PROG(variable, program, [value if not found])
+unfoldable pub path_prog : scene.Scene → List Span → Result Plain ParseFault
+path_prog c args = do
+  v ← output_variable c (arg_at args 0)
+  p ← program (arg_at args 1)
+  other ← optional_text (arg_at args 2)
+  Ok (PathProg v p other)
+
+-- ---- compilers
+
+-- how many names a list of names grows by with this one
+abbrev pub growth : List (List ℕ) → List ℕ → ℕ
+growth names n = if has_name names n then 0 else 1
+
+-- the list has room for the variables of the compiler: it has at most 1,024 names
+abbrev pub has_tool_room : List (List ℕ) → Bool
+has_tool_room names =
+    nat_le (length names + growth names (codes "CC") + growth names (codes "CFLAGS") + growth names (codes "LDFLAGS")
+    + growth names (codes "LIBS") + growth names (codes "CPPFLAGS")) 1024
+
+-- the programs that are looked for where none are named (which they are is own)
+abbrev pub usual_compilers : List (List ℕ)
+usual_compilers = codes "gcc" ∷ codes "cc" ∷ []
+
+-- compilers to be looked for
+unfoldable pub compilers : Span → Result (List (List ℕ)) ParseFault
+compilers arg = if is_given arg then programs arg else Ok usual_compilers
+
+-- AC_PROG_CC([compilers]), whose name stands at this place
+unfoldable pub prog_cc : scene.Scene → ℕ → List Span → Result Plain ParseFault
+prog_cc c at args = do
+  _ ← wants (has_tool_room c.substituted && has_tool_room c.precious) (TooMany at)
+  list ← compilers (arg_at args 0)
+  Ok (ProgCc list)

@@ -1,0 +1,52 @@
+-- Rows of macros that try programs, and the programs that they try (Autoconf's manual, "Running the Compiler" and
+-- "Generating Sources").
+use Rattle.std.specs.Prelude.{ℕ, ◌==◌, List, length, Option, Some, None, Result, Ok, Err, nat_le, codes}
+use Rattle.m4quote.specs.Entry.{Span}
+use Rattle.m4quote.specs.Scan.{outcome}
+use Rattle.acargs.specs.declared.fault.ParseFault.{ParseFault}
+use Rattle.acargs.specs.declared.fault.ParseFault.TheVariants.{UnknownStatement, ArgCount}
+use Rattle.acargs.specs.Arguments.{arg_at}
+use Rattle.acargs.specs.Help.{Called, sole_call}
+use Rattle.acargs.specs.Inside.{inside}
+use Rattle.acargs.specs.Programs.{source_text}
+use Rattle.acargs.specs.Reading.{◌>>=◌, quoted, wants}
+use Rattle.acargs.specs.Shell.{here_text}
+use Rattle.acmacros.specs.declared.program.Program.{Program}
+use Rattle.acmacros.specs.declared.program.Program.TheVariants as made
+use Rattle.acmacros.specs.declared.program.Try.{Try}
+use Rattle.acmacros.specs.declared.statement.Question.{Question}
+use Rattle.acmacros.specs.declared.statement.Question.TheVariants.{Tries}
+
+-- AC_LANG_PROGRAM([prologue], [body]), whose name stands at this place
+unfoldable pub lang_program : List Span → ℕ → Result Program ParseFault
+lang_program args at = do
+  _ ← wants (nat_le (length args) 2) (ArgCount at)
+  prologue ← source_text (arg_at args 0)
+  body ← here_text (arg_at args 1)
+  Ok (made.Program prologue body)
+
+-- AC_LANG_SOURCE(text), whose name stands at this place
+unfoldable pub lang_source : List Span → ℕ → Result Program ParseFault
+lang_source args at = do
+  _ ← wants (length args == 1) (ArgCount at)
+  t ← source_text (arg_at args 0)
+  Ok (made.Source t)
+
+-- the program that one of the two calls says, for an argument at this place
+abbrev pub called : ℕ → Option Called → Option Called → Result Program ParseFault
+called at (Some c) other = lang_program c.args c.at
+called at None (Some c) = lang_source c.args c.at
+called at None None = Err (UnknownStatement at)
+
+-- an argument that is a program: one of the two calls alone, quoted or not, with blanks and `dnl` lines round it
+unfoldable pub tried_program : Span → Result Program ParseFault
+tried_program arg = do
+  a ← inside arg
+  items ← quoted (outcome a.at a.text)
+  called arg.at (sole_call (codes "AC_LANG_PROGRAM") items) (sole_call (codes "AC_LANG_SOURCE") items)
+
+-- AC_COMPILE_IFELSE(program, ..) and its like
+unfoldable pub tries : Try → List Span → Result Question ParseFault
+tries kind args = do
+  p ← tried_program (arg_at args 0)
+  Ok (Tries kind p)

@@ -1,0 +1,59 @@
+//! Programs that are looked for, and programs that are tried.
+
+ghost use Rattle.std.specs.Prelude.{◌≡◌};
+
+use deftable::Bytes;
+use shellword::HereText;
+use std::marker::Model;
+
+/// Names of programs, in the order in which they are looked for. Contracts see the list of their texts.
+#[derive(Debug, Drop)]
+pub struct ProgramNames {
+    names: Vec<Bytes>,
+}
+
+impl Model for ProgramNames {
+    ghost use Rattle.std.specs.Prelude.{List, ℕ};
+
+    ghost Value = { List (List ℕ) };
+
+    ghost view = { λ p. p.names.items };
+}
+
+impl ProgramNames {
+    /// The names of a vector, in the vector's own memory.
+    pub fn from_vec(names: Vec<Bytes>) -> ProgramNames
+        ensures { result ≡ names.items }
+    {
+        ProgramNames { names }
+    }
+
+    /// The names, in order.
+    pub fn as_slice(&self) -> &[Bytes]
+        ensures { result.now ≡ self.now }
+    {
+        self.names.as_slice()
+    }
+}
+
+/// What is done with a program that is tried (manual, "Running the Compiler" and the sections behind it).
+#[derive(Clone, Copy, PartialEq, Eq, Debug)]
+pub enum Try {
+    /// It is compiled.
+    Compile,
+    /// It is compiled and linked.
+    Link,
+    /// It is preprocessed.
+    Preproc,
+    /// It is linked, and what that makes is run.
+    Run,
+}
+
+/// The text of a program that is tried. Default includes already stand in it.
+#[derive(Debug, Drop)]
+pub enum Program {
+    /// AC_LANG_PROGRAM: what stands before `main`, and what stands in it.
+    Program { prologue: HereText, body: HereText },
+    /// AC_LANG_SOURCE: the whole text.
+    Source { text: HereText },
+}

@@ -1,0 +1,68 @@
+//! Readers of macros that try programs.
+
+ghost use Rattle.std.specs.Prelude.{◌≡◌, map};
+ghost use Rattle.m4quote.specs.Entry.{span};
+ghost use Rattle.acargs.specs.Reading.{Gives};
+ghost use Rattle.acmacros.specs.Tries as rows;
+
+use crate::program::{Program, Try};
+use crate::statement::Question;
+use acargs::ParseFault;
+use acargs::arguments::arg_at;
+use acargs::fault::quote_fault;
+use acargs::helping::sole_call;
+use acargs::inside::inside;
+use acargs::program::source_text;
+use acargs::shell::here_text;
+use m4quote::{Arg, read_items_at};
+use std::alloc::Global;
+
+#[tactic(auto, unfolding(crate::specs::Tries::lang_program))]
+fn lang_program(alloc: Global, args: &[Arg<'_>], at: usize) -> Result<Program, ParseFault>
+    ensures { Gives (λ p. p) result (rows.lang_program (map span args.now) at) }
+{
+    if args.len() > 2 {
+        return Err(ParseFault::ArgCount(at));
+    }
+    let prologue = source_text(alloc, arg_at(args, 0))?;
+    let body = here_text(alloc, arg_at(args, 1))?;
+    Ok(Program::Program { prologue, body })
+}
+
+#[tactic(auto, unfolding(crate::specs::Tries::lang_source))]
+fn lang_source(alloc: Global, args: &[Arg<'_>], at: usize) -> Result<Program, ParseFault>
+    ensures { Gives (λ p. p) result (rows.lang_source (map span args.now) at) }
+{
+    if args.len() != 1 {
+        return Err(ParseFault::ArgCount(at));
+    }
+    let text = source_text(alloc, arg_at(args, 0))?;
+    Ok(Program::Source { text })
+}
+
+/// The program that an argument is: AC_LANG_PROGRAM or AC_LANG_SOURCE alone.
+#[tactic(auto, unfolding(crate::specs::Tries::tried_program))]
+fn tried_program(alloc: Global, arg: Arg<'_>) -> Result<Program, ParseFault>
+    ensures { Gives (λ p. p) result (rows.tried_program (span arg.entry)) }
+{
+    let inner = inside(alloc, arg)?;
+    let items = match read_items_at(alloc, inner.text, inner.at) {
+        Ok(items) => items,
+        Err(fault) => return Err(quote_fault(fault)),
+    };
+    if let Some((args, at)) = sole_call(b"AC_LANG_PROGRAM", &items) {
+        return lang_program(alloc, args, at);
+    }
+    match sole_call(b"AC_LANG_SOURCE", &items) {
+        Some((args, at)) => lang_source(alloc, args, at),
+        None => Err(ParseFault::UnknownStatement(arg.at)),
+    }
+}
+
+#[tactic(auto, unfolding(crate::specs::Tries::tries))]
+pub(crate) fn tries(alloc: Global, kind: Try, args: &[Arg<'_>]) -> Result<Question, ParseFault>
+    ensures { Gives (λ q. q) result (rows.tries kind (map span args.now)) }
+{
+    let program = tried_program(alloc, arg_at(args, 0))?;
+    Ok(Question::Tries { kind, program })
+}

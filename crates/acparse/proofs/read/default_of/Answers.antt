@@ -1,7 +1,0 @@
-use Rattle.std.proofs.Common.{sym, ap, ◌∙◌}
-use Rattle.std.specs.Prelude.{◌==◌}
-use Rattle.acparse.proofs.Texts.{some_default}
-use Rattle.acparse.proofs.read.default_of.Goals as goal
-
-pub returns : goal.returns
-returns c = sym (some_default c.args.given c.args.body.items (ap (λ n. n == 0) (sym c.args.body.ok.0) ∙ sym c.is_empty.ensures ∙ c.if-is_empty.false))
