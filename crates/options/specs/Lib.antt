@@ -1,0 +1,9 @@
+pub mod Directories
+pub mod Arguments
+pub mod Said
+pub mod Slashes
+pub mod Srcdir
+pub mod Reading
+pub mod Unrecognized
+pub mod Opening
+pub mod HelpText

@@ -1,0 +1,15 @@
+-- What an argument says, as the code has it, which lends texts from the argument.
+use Rattle.options.specs.Arguments.{Said, Turns, Gives, Awaits, Chooses, Misnames, Assigns, Misassigns, Nothing}
+use Rattle.options.specs.declared.argument.Said.{Said as Lent}
+use Rattle.options.specs.declared.argument.Said.TheVariants as lent
+
+-- the texts themselves
+abbrev pub said_of : Lent → Said
+said_of (lent.Turns switch) = Turns switch
+said_of (lent.Gives target value) = Gives target value.now
+said_of (lent.Awaits target) = Awaits target
+said_of (lent.Chooses choice) = Chooses choice.kind choice.name.now choice.value.now choice.option.now
+said_of lent.Misnames = Misnames
+said_of (lent.Assigns name value) = Assigns name.now value.now
+said_of lent.Misassigns = Misassigns
+said_of lent.Nothing = Nothing

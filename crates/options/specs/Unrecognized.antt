@@ -1,0 +1,34 @@
+-- Options about features and packages that no macro of the source declares (Autoconf's manual, "Controlling Checking of
+-- configure Options").
+use Rattle.std.specs.Prelude.{ℕ, List, [], ◌∷◌, ◌++◌, Result, Ok, Err, codes, if◌then◌else◌}
+use Rattle.std.specs.List.{flat_map}
+use Rattle.std.specs.Str.{bytes_eq}
+use Rattle.deftable.specs.declared.note.Note.{Note}
+use Rattle.deftable.specs.declared.note.Stream.TheVariants as stream
+use Rattle.options.specs.declared.fault.OptionFault.{OptionFault}
+use Rattle.options.specs.declared.fault.OptionFault.TheVariants.{FatalUnrecognized}
+
+-- an option behind a comma and a blank
+unfoldable pub behind_comma : ℕ × List ℕ → List ℕ
+behind_comma option = codes ", " ++ option.1
+
+-- the options, each with its place, with a comma and a blank between each two
+unfoldable pub listed : List (ℕ × List ℕ) → List ℕ
+listed [] = []
+listed (first ∷ more) = first.1 ++ flat_map behind_comma more
+
+-- what a user is told of them
+unfoldable pub warning : List (ℕ × List ℕ) → Note
+warning unrecognized = record {
+  stream = stream.Err;
+  text = codes "configure: WARNING: unrecognized options: " ++ listed unrecognized ++ codes "\n";
+}
+
+-- what is made of them, by the value of `enable_option_checking`, which is empty where it isn't set: nothing where there is
+-- none or the value is `no`, a fault at the first where it is `fatal`, and else one warning
+unfoldable pub notes_of : List ℕ → List (ℕ × List ℕ) → Result (List Note) OptionFault
+notes_of checking [] = Ok []
+notes_of checking (first ∷ more) =
+    if bytes_eq checking (codes "no") then Ok []
+    else (if bytes_eq checking (codes "fatal") then Err (FatalUnrecognized first.0)
+    else Ok (warning (first ∷ more) ∷ []))

@@ -1,0 +1,115 @@
+//! The help text of a source.
+
+ghost use Rattle.std.specs.Prelude.{◌≡◌, ◌++◌, ◌<◌, length, IfOk, OnOk};
+ghost use Rattle.std.specs.List.{flat_map};
+ghost use Rattle.options.specs.HelpText as words;
+
+use acargs::{Help, HelpList};
+use deftable::Bytes;
+use std::alloc::{AllocError, Global};
+use textcut::is_blank;
+
+/// The most bytes of a left text that has the right text behind it on its line.
+const WIDEST_LEFT: usize = 23;
+
+/// Where the right text begins, behind the two spaces in front of the left text.
+const LEFT_COLUMN: usize = 24;
+
+fn put_spaces(text: &mut Vec<u8>, n: usize) -> Result<(), AllocError>
+    ensures { OnOk result (text.new.items ≡ text.old.items ++ words.spaces n) }
+{
+    for _ in 0..n {
+        text.push(b' ')?;
+    }
+    Ok(())
+}
+
+/// Puts what stands between a left text of `n` bytes and the right text.
+#[tactic(auto, unfolding(crate::specs::HelpText::gap))]
+fn put_gap(text: &mut Vec<u8>, n: usize) -> Result<(), AllocError>
+    ensures { OnOk result (text.new.items ≡ text.old.items ++ words.gap n) }
+{
+    if n > WIDEST_LEFT {
+        text.push(b'\n')?;
+        return put_spaces(text, 26);
+    }
+    put_spaces(text, LEFT_COLUMN - n)
+}
+
+/// Puts what is left of a byte where each run of blanks is made one space; `blank` says whether a blank stands before it.
+fn put_byte(text: &mut Vec<u8>, blank: bool, byte: u8) -> Result<(), AllocError>
+    ensures { OnOk result (text.new.items ≡ text.old.items ++ words.squeezed_byte blank byte) }
+{
+    if !is_blank(byte) {
+        text.push(byte)?;
+    } else if !blank {
+        text.push(b' ')?;
+    }
+    Ok(())
+}
+
+/// Puts a text with each run of blanks made one space.
+fn put_squeezed(text: &mut Vec<u8>, right: &[u8]) -> Result<(), AllocError>
+    ensures { OnOk result (text.new.items ≡ text.old.items ++ words.squeezed right.now) }
+{
+    let mut blank = false;
+    for byte in right {
+        put_byte(text, blank, *byte)?;
+        blank = is_blank(*byte);
+    }
+    Ok(())
+}
+
+#[tactic(auto, unfolding(crate::specs::HelpText::entry_lines))]
+fn put_entry(text: &mut Vec<u8>, left: &[u8], right: &[u8]) -> Result<(), AllocError>
+    ensures { OnOk result (text.new.items ≡ text.old.items ++ words.entry_lines left.now right.now) }
+{
+    text.extend_from_slice(b"  ")?;
+    text.extend_from_slice(left)?;
+    put_gap(text, left.len())?;
+    put_squeezed(text, right)?;
+    text.extend_from_slice(b"\n")?;
+    Ok(())
+}
+
+fn put_plain(text: &mut Vec<u8>, plain: &[u8]) -> Result<(), AllocError>
+    ensures { OnOk result (text.new.items ≡ text.old.items ++ words.plain_lines plain.now) }
+{
+    if plain.is_empty() {
+        return Ok(());
+    }
+    text.extend_from_slice(plain)?;
+    text.extend_from_slice(b"\n")?;
+    Ok(())
+}
+
+fn put_help(text: &mut Vec<u8>, help: &Help) -> Result<(), AllocError>
+    ensures { OnOk result (text.new.items ≡ text.old.items ++ words.help_lines help.now) }
+{
+    match help {
+        Help::Entry { left, right } => put_entry(text, left.as_slice(), right.as_slice()),
+        Help::Text { text: plain } => put_plain(text, plain.as_slice()),
+    }
+}
+
+fn put_all(text: &mut Vec<u8>, entries: &[Help]) -> Result<(), AllocError>
+    ensures { OnOk result (text.new.items ≡ text.old.items ++ flat_map words.help_lines entries.now) }
+{
+    for help in entries {
+        put_help(text, help)?;
+    }
+    Ok(())
+}
+
+/// The help text: the usage, and what the source says of its options and variables, in its order (the layout is own).
+///
+/// An option or variable has its text from column 27 on, on a line of its own where the option is longer than 23 bytes;
+/// lines are not wrapped. It fails only for want of memory.
+#[tactic(auto, unfolding(crate::specs::HelpText::help_text))]
+pub fn help_text_of(alloc: Global, entries: &HelpList) -> Result<Bytes, AllocError>
+    ensures { IfOk result (λ text. text ≡ words.help_text entries.now) }
+{
+    let mut text = Vec::from_slice(alloc, b"Usage: configure [OPTION]... [VAR=VALUE]...\n")?;
+    put_all(&mut text, entries.as_slice())?;
+    Ok(Bytes::from_vec(text))
+}

@@ -1,0 +1,163 @@
+//! The variables that a run begins with.
+
+ghost use Rattle.std.specs.Prelude.{◌≡◌, ℕ, List, [], ◌++◌, None, IfOk, OnOk, fold, unwrap_or, codes, option_map};
+ghost use Rattle.deftable.specs.Table.{value_of};
+ghost use Rattle.options.specs.Directories.{directories as all_directories};
+ghost use Rattle.options.specs.Opening as words;
+
+use crate::directory::{Directory, directories};
+use crate::reader::Reader;
+use crate::slashes::without_slashes;
+use crate::unrecognized::Unrecognized;
+use deftable::{Bytes, Vars, is_shell_name};
+use std::alloc::{AllocError, Global};
+
+#[tactic(auto, unfolding(crate::specs::Opening::with_environment))]
+fn enter(vars: &mut Vars, entry: &(Bytes, Bytes)) -> Result<(), AllocError>
+    ensures { OnOk result (vars.new ≡ words.with_environment vars.old entry.now) }
+{
+    if is_shell_name(entry.0.as_slice()) {
+        return vars.set(entry.0.as_slice(), entry.1.as_slice());
+    }
+    Ok(())
+}
+
+/// Sets what the environment has; the last of a name counts.
+fn enter_all(vars: &mut Vars, env: &[(Bytes, Bytes)]) -> Result<(), AllocError>
+    ensures { OnOk result (vars.new ≡ fold words.with_environment vars.old env.now) }
+{
+    for entry in env {
+        enter(vars, entry)?;
+    }
+    Ok(())
+}
+
+#[tactic(auto, unfolding(crate::specs::Opening::with_default))]
+fn set_default(vars: &mut Vars, directory: Directory) -> Result<(), AllocError>
+    ensures { OnOk result (vars.new ≡ words.with_default vars.old directory) }
+{
+    vars.set(directory.variable(), directory.default_value())
+}
+
+/// Sets all directories to what they are where nothing else is said.
+fn set_defaults(vars: &mut Vars) -> Result<(), AllocError>
+    ensures { OnOk result (vars.new ≡ fold words.with_default vars.old all_directories) }
+{
+    for directory in directories() {
+        set_default(vars, *directory)?;
+    }
+    Ok(())
+}
+
+#[tactic(auto, unfolding(crate::specs::Opening::vars_before))]
+fn vars_before(alloc: Global, env: &[(Bytes, Bytes)]) -> Result<Vars, AllocError>
+    ensures { IfOk result (λ vars. vars ≡ words.vars_before env.now) }
+{
+    let mut vars = Vars::new(alloc);
+    enter_all(&mut vars, env)?;
+    set_defaults(&mut vars)?;
+    Ok(vars)
+}
+
+/// The reader before the first argument.
+#[tactic(auto, unfolding(crate::specs::Opening::reader_before))]
+pub(crate) fn reader_before(alloc: Global, env: &[(Bytes, Bytes)]) -> Result<Reader, AllocError>
+    ensures { IfOk result (λ r. r ≡ words.reader_before env.now) }
+{
+    let vars = vars_before(alloc, env)?;
+    Ok(Reader {
+        vars,
+        cache_name: None,
+        quiet: false,
+        no_create: false,
+        help: false,
+        version: false,
+        unrecognized: Unrecognized::new(alloc),
+        awaited: None,
+    })
+}
+
+/// Drops the final slashes of a directory's value.
+#[tactic(auto, unfolding(crate::specs::Opening::with_unslashed))]
+fn unslash(alloc: Global, vars: &mut Vars, directory: Directory) -> Result<(), AllocError>
+    ensures { OnOk result (vars.new ≡ words.with_unslashed vars.old directory) }
+{
+    let Some(value) = vars.get(directory.variable()) else {
+        return Ok(());
+    };
+    let value = Bytes::from_slice(alloc, without_slashes(value.as_slice()))?;
+    vars.set(directory.variable(), value.as_slice())
+}
+
+fn unslash_all(alloc: Global, vars: &mut Vars) -> Result<(), AllocError>
+    ensures { OnOk result (vars.new ≡ fold words.with_unslashed vars.old all_directories) }
+{
+    for directory in directories() {
+        unslash(alloc, vars, *directory)?;
+    }
+    Ok(())
+}
+
+/// The name of a mark of a variable: `ac_cv_env_`, the variable, and an ending.
+fn mark_name(alloc: Global, name: &[u8], ending: &[u8]) -> Result<Bytes, AllocError>
+    ensures { IfOk result (λ mark. mark ≡ codes "ac_cv_env_" ++ name.now ++ ending.now) }
+{
+    let mut mark = Vec::from_slice(alloc, b"ac_cv_env_")?;
+    mark.extend_from_slice(name)?;
+    mark.extend_from_slice(ending)?;
+    Ok(Bytes::from_vec(mark))
+}
+
+/// The mark that says whether a variable is set.
+fn set_mark(value: Option<&Bytes>) -> &'static [u8]
+    ensures { result.now ≡ words.set_mark (option_map (λ v. v.now) value.entry) }
+{
+    match value {
+        Some(_) => b"set",
+        None => b"",
+    }
+}
+
+pub(crate) fn value_or_empty<'a>(vars: &'a Vars, name: &[u8]) -> &'a [u8]
+    ensures { result.now ≡ unwrap_or (value_of vars.now name.now) [] }
+{
+    match vars.get(name) {
+        Some(value) => value.as_slice(),
+        None => b"",
+    }
+}
+
+/// Sets the marks of a precious variable: whether it is set, and its value.
+#[tactic(auto, unfolding(crate::specs::Opening::with_marks))]
+fn mark(alloc: Global, vars: &mut Vars, name: &Bytes) -> Result<(), AllocError>
+    ensures { OnOk result (vars.new ≡ words.with_marks vars.old name.now) }
+{
+    let set_name = mark_name(alloc, name.as_slice(), b"_set")?;
+    let value_name = mark_name(alloc, name.as_slice(), b"_value")?;
+    let set = set_mark(vars.get(name.as_slice()));
+    let value = Bytes::from_slice(alloc, value_or_empty(vars, name.as_slice()))?;
+    vars.set(set_name.as_slice(), set)?;
+    vars.set(value_name.as_slice(), value.as_slice())
+}
+
+fn mark_all(alloc: Global, vars: &mut Vars, precious: &[Bytes]) -> Result<(), AllocError>
+    ensures { OnOk result (vars.new ≡ fold words.with_marks vars.old precious.now) }
+{
+    for name in precious {
+        mark(alloc, vars, name)?;
+    }
+    Ok(())
+}
+
+/// Drops final slashes of directories, and then sets the marks of precious variables.
+#[tactic(auto, unfolding(crate::specs::Opening::vars_behind))]
+pub(crate) fn finish_vars(
+    alloc: Global,
+    vars: &mut Vars,
+    precious: &[Bytes],
+) -> Result<(), AllocError>
+    ensures { OnOk result (vars.new ≡ words.vars_behind precious.now vars.old) }
+{
+    unslash_all(alloc, vars)?;
+    mark_all(alloc, vars, precious)
+}

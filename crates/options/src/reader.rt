@@ -1,0 +1,170 @@
+//! The reading of arguments, from the left.
+
+ghost use Rattle.std.specs.Prelude.{◌≡◌, ◌+◌, ◌||◌, Option, IfOk, OnOk};
+ghost use Rattle.options.specs.Opening as words;
+ghost use Rattle.options.specs.Reading.{Gives};
+ghost use Rattle.options.specs.Said.{said_of};
+
+use crate::argument::{Choice, Said, Switch, Target, said_by};
+use crate::fault::OptionFault;
+use crate::unrecognized::Unrecognized;
+use acargs::feature::option_variable;
+use deftable::{Bytes, SubstList, Vars};
+use std::alloc::{AllocError, Global};
+
+/// What the arguments read so far have made.
+#[derive(Debug, Drop)]
+pub(crate) struct Reader {
+    pub(crate) vars: Vars,
+    pub(crate) cache_name: Option<Bytes>,
+    pub(crate) quiet: bool,
+    pub(crate) no_create: bool,
+    pub(crate) help: bool,
+    pub(crate) version: bool,
+    pub(crate) unrecognized: Unrecognized,
+    /// The option whose value the next argument is.
+    pub(crate) awaited: Option<Target>,
+}
+
+/// The cache of a name, which may mean that there is none.
+#[tactic(auto, unfolding(crate::specs::Opening::cache_named))]
+fn cache_named(alloc: Global, name: &[u8]) -> Result<Option<Bytes>, AllocError>
+    ensures { IfOk result (λ cache. cache ≡ words.cache_named name.now) }
+{
+    if name == b"".as_slice() || name == b"/dev/null".as_slice() {
+        return Ok(None);
+    }
+    Ok(Some(Bytes::from_slice(alloc, name)?))
+}
+
+/// Whether a macro declares the variable of an option, or it is that of `--enable-option-checking`.
+#[tactic(auto, unfolding(crate::specs::Opening::is_declared))]
+fn is_declared(features: &SubstList, packages: &SubstList, variable: &[u8]) -> bool
+    ensures { result ≡ words.is_declared features.now packages.now variable.now }
+{
+    features.has(variable)
+        || packages.has(variable)
+        || variable == b"enable_option_checking".as_slice()
+}
+
+impl Reader {
+    fn set_value(&mut self, alloc: Global, target: Target, value: &[u8]) -> Result<(), AllocError>
+        ensures { OnOk result (self.new ≡ words.with_value target value.now self.old) }
+    {
+        match target {
+            Target::Folder(directory) => self.vars.set(directory.variable(), value),
+            Target::Srcdir => Ok(()),
+            Target::CacheFile => {
+                self.cache_name = cache_named(alloc, value)?;
+                Ok(())
+            }
+        }
+    }
+
+    fn turn(&mut self, alloc: Global, switch: Switch) -> Result<(), AllocError>
+        ensures { OnOk result (self.new ≡ words.with_switch switch self.old) }
+    {
+        match switch {
+            Switch::ConfigCache => {
+                self.cache_name = Some(Bytes::from_slice(alloc, b"config.cache")?);
+            }
+            Switch::Quiet => self.quiet = true,
+            Switch::NoCreate => self.no_create = true,
+            Switch::Help => self.help = true,
+            Switch::Version => self.version = true,
+            Switch::Ignored => {}
+        }
+        Ok(())
+    }
+
+    /// Sets the variable of a feature or a package, and notes its option where the variable isn't declared.
+    #[tactic(auto, unfolding(crate::specs::Opening::with_choice))]
+    fn choose(
+        &mut self,
+        alloc: Global,
+        features: &SubstList,
+        packages: &SubstList,
+        i: u64,
+        choice: Choice<'_>,
+    ) -> Result<(), AllocError>
+        ensures { OnOk result (self.new ≡ words.with_choice features.now packages.now i choice.entry.kind choice.entry.name.now choice.entry.value.now choice.entry.option.now self.old) }
+    {
+        let variable = option_variable(alloc, choice.kind, choice.name)?;
+        self.vars.set(variable.as_slice(), choice.value)?;
+        if !is_declared(features, packages, variable.as_slice()) {
+            self.unrecognized.push(i, choice.option)?;
+        }
+        Ok(())
+    }
+
+    /// Reads what an argument says that isn't the second word of an option.
+    fn read_said(
+        &mut self,
+        alloc: Global,
+        features: &SubstList,
+        packages: &SubstList,
+        i: u64,
+        said: Said<'_>,
+    ) -> Result<(), OptionFault>
+        ensures { Gives (λ _. self.new) result (words.with_said features.now packages.now i (said_of said.entry) self.old) }
+    {
+        match said {
+            Said::Turns(switch) => self.turn(alloc, switch)?,
+            Said::Gives(target, value) => self.set_value(alloc, target, value)?,
+            Said::Awaits(target) => self.awaited = Some(target),
+            Said::Chooses(choice) => self.choose(alloc, features, packages, i, choice)?,
+            Said::Misnames => return Err(OptionFault::BadFeature(i)),
+            Said::Assigns(name, value) => self.vars.set(name, value)?,
+            Said::Misassigns => return Err(OptionFault::BadVariable(i)),
+            Said::Nothing => return Err(OptionFault::Unknown(i)),
+        }
+        Ok(())
+    }
+
+    /// Reads the argument at place `i`.
+    #[tactic(auto, unfolding(crate::specs::Opening::with_argument))]
+    fn read(
+        &mut self,
+        alloc: Global,
+        features: &SubstList,
+        packages: &SubstList,
+        i: u64,
+        argument: &Bytes,
+    ) -> Result<(), OptionFault>
+        ensures { Gives (λ _. self.new) result (words.with_argument features.now packages.now i argument.now self.old) }
+    {
+        let Some(target) = self.awaited else {
+            return self.read_said(alloc, features, packages, i, said_by(argument.as_slice()));
+        };
+        self.awaited = None;
+        self.set_value(alloc, target, argument.as_slice())?;
+        Ok(())
+    }
+
+    /// Refuses an end at which an option awaits its value; `i` is the place of the last argument.
+    #[tactic(auto, unfolding(crate::specs::Opening::at_end))]
+    fn end(self, i: u64) -> Result<Reader, OptionFault>
+        ensures { Gives (λ r. r) result (words.at_end i self) }
+    {
+        match self.awaited {
+            Some(_) => Err(OptionFault::MissingValue(i)),
+            None => Ok(self),
+        }
+    }
+
+    /// Reads arguments, of which the first has place 1.
+    pub(crate) fn read_all(
+        mut self,
+        alloc: Global,
+        features: &SubstList,
+        packages: &SubstList,
+        args: &[Bytes],
+    ) -> Result<Reader, OptionFault>
+        ensures { Gives (λ r. r) result (words.with_arguments features.now packages.now 0 self args.now) }
+    {
+        for (i, argument) in args.iter().enumerate() {
+            self.read(alloc, features, packages, i as u64 + 1, argument)?;
+        }
+        self.end(args.len() as u64)
+    }
+}

@@ -1,0 +1,81 @@
+//! The folder of the source.
+
+ghost use Rattle.std.specs.Prelude.{◌≡◌, None, codes};
+ghost use Rattle.options.specs.Said.{said_of};
+ghost use Rattle.options.specs.Srcdir as words;
+
+use crate::argument::{Said, Target, said_by};
+use crate::slashes::without_slashes;
+use deftable::Bytes;
+
+/// The option whose value the next argument is, behind an argument that says this.
+pub(crate) fn awaited_by(said: Said<'_>) -> Option<Target>
+    ensures { result ≡ words.awaited_by (said_of said.entry) }
+{
+    match said {
+        Said::Awaits(target) => Some(target),
+        _ => None,
+    }
+}
+
+/// The option whose value the next argument is, behind an argument that is itself such a value or isn't.
+fn awaited_behind(awaited: Option<Target>, argument: &Bytes) -> Option<Target>
+    ensures { result ≡ words.awaited_behind awaited argument.now }
+{
+    match awaited {
+        Some(_) => None,
+        None => awaited_by(said_by(argument.as_slice())),
+    }
+}
+
+/// The folder, where an option has this value.
+fn srcdir_of_value<'a>(target: Target, value: &'a [u8], srcdir: &'a [u8]) -> &'a [u8]
+    ensures { result.now ≡ words.srcdir_of_value target value.now srcdir.now }
+{
+    match target {
+        Target::Srcdir => value,
+        Target::CacheFile | Target::Folder(_) => srcdir,
+    }
+}
+
+fn srcdir_said<'a>(said: Said<'a>, srcdir: &'a [u8]) -> &'a [u8]
+    ensures { result.now ≡ words.srcdir_said (said_of said.entry) srcdir.now }
+{
+    match said {
+        Said::Gives(target, value) => srcdir_of_value(target, value, srcdir),
+        _ => srcdir,
+    }
+}
+
+/// The folder behind an argument, which may be the second word of an option.
+fn srcdir_behind<'a>(awaited: Option<Target>, argument: &'a Bytes, srcdir: &'a [u8]) -> &'a [u8]
+    ensures { result.now ≡ words.srcdir_behind awaited argument.now srcdir.now }
+{
+    match awaited {
+        Some(target) => srcdir_of_value(target, argument.as_slice(), srcdir),
+        None => srcdir_said(said_by(argument.as_slice()), srcdir),
+    }
+}
+
+/// The folder that arguments name, as they name it.
+fn srcdir_named(args: &[Bytes]) -> &[u8]
+    ensures { result.now ≡ words.srcdir_from None (codes ".") args.now }
+{
+    let mut awaited = None;
+    let mut srcdir = b".".as_slice();
+    for argument in args {
+        srcdir = srcdir_behind(awaited, argument, srcdir);
+        awaited = awaited_behind(awaited, argument);
+    }
+    srcdir
+}
+
+/// The folder of the source that the arguments of a command line name, without final slashes; `.` where they name none.
+///
+/// Arguments at fault are passed over, so the folder can be told before anything else is read. It takes no memory.
+#[tactic(auto, unfolding(crate::specs::Srcdir::srcdir_of))]
+pub fn srcdir_of(args: &[Bytes]) -> &[u8]
+    ensures { result.now ≡ words.srcdir_of args.now }
+{
+    without_slashes(srcdir_named(args))
+}

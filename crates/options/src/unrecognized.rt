@@ -1,0 +1,119 @@
+//! Options about features and packages that no macro of the source declares.
+
+ghost use Rattle.std.specs.Prelude.{◌≡◌, ℕ, List, [], ◌∷◌, ◌++◌, Ok, Some, IfOk, OnOk, OnErr, option_map};
+ghost use Rattle.std.specs.List.{flat_map};
+ghost use Rattle.std.specs.Str.{bytes_eq};
+ghost use Rattle.options.specs.Reading.{Gives};
+ghost use Rattle.options.specs.Unrecognized as words;
+
+use crate::fault::OptionFault;
+use deftable::{Bytes, Note, Notes, Stream};
+use std::alloc::{AllocError, Global};
+use std::marker::Model;
+
+/// Options that are not declared, each up to its `=` and with its place among the arguments, in order.
+#[derive(Debug, Drop)]
+pub(crate) struct Unrecognized {
+    options: Vec<(u64, Bytes)>,
+}
+
+impl Model for Unrecognized {
+    ghost Value = { List (ℕ × List ℕ) };
+
+    ghost view = { λ u. u.options.items };
+}
+
+impl Unrecognized {
+    /// No option.
+    pub(crate) fn new(alloc: Global) -> Unrecognized
+        ensures { result ≡ [] }
+    {
+        Unrecognized {
+            options: Vec::new(alloc),
+        }
+    }
+
+    /// Puts an option last. It fails only for want of memory.
+    pub(crate) fn push(&mut self, i: u64, option: &[u8]) -> Result<(), AllocError>
+        ensures { OnOk result (self.new ≡ self.old ++ (i, option.now) ∷ []) }
+    {
+        let option = Bytes::from_slice(*self.options.allocator(), option)?;
+        self.options.push((i, option))?;
+        Ok(())
+    }
+
+    /// All options, with a comma and a blank between each two.
+    #[tactic(auto, unfolding(crate::specs::Unrecognized::listed))]
+    fn put_listed(&self, text: &mut Vec<u8>) -> Result<(), AllocError>
+        ensures { OnOk result (text.new.items ≡ text.old.items ++ words.listed self.now) }
+    {
+        let Some((first, rest)) = self.options.as_slice().split_first() else {
+            return Ok(());
+        };
+        text.extend_from_slice(first.1.as_slice())?;
+        put_rest(text, rest)
+    }
+
+    /// What a user is told of the options.
+    #[tactic(auto, unfolding(crate::specs::Unrecognized::warning))]
+    fn warning(&self, alloc: Global) -> Result<Note, AllocError>
+        ensures { IfOk result (λ note. note ≡ words.warning self.now) }
+    {
+        let mut text = Vec::from_slice(alloc, b"configure: WARNING: unrecognized options: ")?;
+        self.put_listed(&mut text)?;
+        text.extend_from_slice(b"\n")?;
+        Ok(Note {
+            stream: Stream::Err,
+            text: Bytes::from_vec(text),
+        })
+    }
+
+    fn warnings(&self, alloc: Global) -> Result<Notes, AllocError>
+        ensures { IfOk result (λ notes. notes ≡ words.warning self.now ∷ []) }
+    {
+        let mut notes = Notes::new(alloc);
+        notes.push(self.warning(alloc)?)?;
+        Ok(notes)
+    }
+}
+
+/// Each option behind a comma and a blank.
+fn put_rest(text: &mut Vec<u8>, options: &[(u64, Bytes)]) -> Result<(), AllocError>
+    ensures { OnOk result (text.new.items ≡ text.old.items ++ flat_map words.behind_comma options.now) }
+{
+    for option in options {
+        put_behind_comma(text, option)?;
+    }
+    Ok(())
+}
+
+#[tactic(auto, unfolding(crate::specs::Unrecognized::behind_comma))]
+fn put_behind_comma(text: &mut Vec<u8>, option: &(u64, Bytes)) -> Result<(), AllocError>
+    ensures { OnOk result (text.new.items ≡ text.old.items ++ words.behind_comma option.now) }
+{
+    text.extend_from_slice(b", ")?;
+    text.extend_from_slice(option.1.as_slice())?;
+    Ok(())
+}
+
+/// What is made of options that are not declared: nothing where there is none, or where the value of
+/// `enable_option_checking` is `no`; `FatalUnrecognized` at the first where it is `fatal`; and else one warning.
+#[tactic(auto, unfolding(crate::specs::Unrecognized::notes_of))]
+pub(crate) fn notes_of(
+    alloc: Global,
+    checking: &[u8],
+    unrecognized: &Unrecognized,
+) -> Result<Notes, OptionFault>
+    ensures { Gives (λ notes. notes) result (words.notes_of checking.now unrecognized.now) }
+{
+    let Some((first, _)) = unrecognized.options.as_slice().split_first() else {
+        return Ok(Notes::new(alloc));
+    };
+    if checking == b"no".as_slice() {
+        return Ok(Notes::new(alloc));
+    }
+    if checking == b"fatal".as_slice() {
+        return Err(OptionFault::FatalUnrecognized(first.0));
+    }
+    Ok(unrecognized.warnings(alloc)?)
+}
