@@ -1,3 +1,4 @@
 pub mod Fill
 pub mod Hops
 pub mod Keys
+pub mod Place

@@ -3,7 +3,8 @@
 //! [`fill`] writes the value of a key where `@KEY@` stands and copies all else. A value is not read again, so a value may
 //! hold an `@` or the name of another key. `specs/Fill.antt` says which text a filled template is, twice: as a relation by
 //! cases on the template's front, and as the one text that stands in that relation. Read `table`, then `filling`; its
-//! [`has_one_filled_text`] says that the two are the same.
+//! [`has_one_filled_text`] says that the two are the same. `placing` has the variables that each output file has of its
+//! own: where it stands and what it is made from; `specs/Place.antt` says which they are.
 //!
 //! ```text
 //! let mut table = Table::new(alloc);
@@ -13,9 +14,11 @@
 #![tactic(auto)]
 
 pub mod filling;
+pub mod placing;
 pub mod table;
 #[cfg(test)]
 mod tests;
 
 pub use filling::{fill, has_one_filled_text};
+pub use placing::{Place, configure_input, place_vars};
 pub use table::Table;

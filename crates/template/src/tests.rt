@@ -64,3 +64,52 @@ fn keys(rt: HostRuntime) -> Result<(), Fail> {
     }
     Ok(())
 }
+
+#[test]
+fn places(rt: HostRuntime) -> Result<(), Fail> {
+    // the file, the top of the sources; srcdir, top_srcdir, top_builddir
+    let cases = [
+        (
+            b"a/b/Makefile".as_slice(),
+            b"../s".as_slice(),
+            b"../../../s/a/b".as_slice(),
+            b"../../../s".as_slice(),
+            b"../..".as_slice(),
+        ),
+        (b"a/b/Makefile", b".", b".", b"../..", b"../.."),
+        (b"Makefile", b"/s", b"/s", b"/s", b"."),
+        (b"a/Makefile", b"/s", b"/s/a", b"/s", b".."),
+        (b"Makefile", b".", b".", b".", b"."),
+        (b"Makefile", b"../s", b"../s", b"../s", b"."),
+        (
+            b"a/b/c/f",
+            b"./",
+            b"../../.././/a/b/c",
+            b"../../.././",
+            b"../../..",
+        ),
+    ];
+    for (file, from, srcdir, top_srcdir, top_builddir) in cases {
+        let place = place_vars(rt.alloc(), file, from)?;
+        assert_eq!(rt; place.srcdir.as_slice(), srcdir);
+        assert_eq!(rt; place.top_srcdir.as_slice(), top_srcdir);
+        assert_eq!(rt; place.builddir.as_slice(), b".".as_slice());
+        assert_eq!(rt; place.top_builddir.as_slice(), top_builddir);
+    }
+    Ok(())
+}
+
+#[test]
+fn what_files_are_made_from(rt: HostRuntime) -> Result<(), Fail> {
+    let text = configure_input(rt.alloc(), b"a/out", b"a/b/out.in")?;
+    assert_eq!(rt;
+        text.as_slice(),
+        b"a/out.  Generated from out.in by configure.".as_slice()
+    );
+    let text = configure_input(rt.alloc(), b"out", b"in")?;
+    assert_eq!(rt;
+        text.as_slice(),
+        b"out.  Generated from in by configure.".as_slice()
+    );
+    Ok(())
+}
