@@ -150,10 +150,18 @@ fn a_list_refuses(rt: HostRuntime) -> Result<(), Fail> {
     Ok(())
 }
 
-// Goes to a folder of the test's own.
-fn go_to(rt: &HostRuntime, folder: &str) -> Result<(), Fail> {
+// Goes to a new folder of the test's own.
+fn enter(rt: &HostRuntime, folder: &str) -> Result<(), Fail> {
+    let _ = fs::remove_dir_all(rt, folder);
     fs::create_dir(rt, folder)?;
     env::set_current_dir(rt, folder)?;
+    Ok(())
+}
+
+// Goes back, and removes the folder.
+fn leave(rt: &HostRuntime, folder: &str) -> Result<(), Fail> {
+    env::set_current_dir(rt, "..")?;
+    fs::remove_dir_all(rt, folder)?;
     Ok(())
 }
 
@@ -207,7 +215,7 @@ fn a_child_that_lives_on(rt: HostRuntime) -> Result<(), Fail> {
 #[test]
 fn a_conftest_in_the_folder(rt: HostRuntime) -> Result<(), Fail> {
     let alloc = rt.alloc();
-    go_to(&rt, "conftest_in_the_folder")?;
+    enter(&rt, "conftest_in_the_folder")?;
     let mut job = job_of(
         alloc,
         &[
@@ -223,7 +231,7 @@ fn a_conftest_in_the_folder(rt: HostRuntime) -> Result<(), Fail> {
     assert_eq!(rt; status, 0);
     assert_eq!(rt; text.as_slice(), b"int \xff;\n".as_slice());
     assert_eq!(rt; fs::read(&rt, "made")?.as_slice(), b"x\n".as_slice());
-    Ok(())
+    leave(&rt, "conftest_in_the_folder")
 }
 
 fn is_refused(rt: &HostRuntime, job: Job) -> Result<bool, Fail> {
@@ -255,7 +263,7 @@ const MEETING: &[u8] =
 #[test]
 fn sixteen_children_at_once(rt: HostRuntime) -> Result<(), Fail> {
     let alloc = rt.alloc();
-    go_to(&rt, "sixteen_children")?;
+    enter(&rt, "sixteen_children")?;
     let mut crew = ProcessCrew::new(rt.clone()?, alloc)?;
     let ends = run_all(alloc, &mut crew, 16, MEETING)?;
     assert_eq!(rt; ends.len(), 16);
@@ -263,5 +271,5 @@ fn sixteen_children_at_once(rt: HostRuntime) -> Result<(), Fail> {
         assert_eq!(rt; *slot, i);
         assert_eq!(rt; *status, 0);
     }
-    Ok(())
+    leave(&rt, "sixteen_children")
 }

@@ -1,18 +1,24 @@
 -- A machine goes from step to step.
-use Rattle.std.proofs.Common.{◌≡◌, ℕ, zero, suc, ◌+◌, ◌<◌, ◌≤◌, List, [], ◌∷◌, length, map, get_or, Some, refl, sym, ap, ◌∙◌, subst, arith}
+use Rattle.std.proofs.Common.{◌≡◌, ℕ, zero, suc, ◌+◌, ◌<◌, ◌≤◌, List, [], ◌∷◌, length, map, get_or, Option, Some, None, Result, Ok, Err, IfOk, refl, sym, ap, ◌∙◌, subst, arith}
+use Rattle.std.specs.Prelude.{replicate}
+use Rattle.std.specs.declared.alloc.AllocError.{AllocError}
 use Rattle.std.proofs.Math.Path.{fun_ext}
 use Rattle.std.proofs.lemmas.List.{length-map}
-use Rattle.meaning.specs.State.{State, How, Goes_on, Completed, Stopped, Run, Ends}
+use Rattle.crew.specs.declared.reply.Reply.{Reply}
+use Rattle.meaning.specs.State.{State, Scope, Goes_on, Run, Ends, Asks}
 use Rattle.plan.specs.declared.step.Step.{Step}
-use Rattle.plan.specs.Walk.{Scope, act, walk, shown}
-use Rattle.plan.specs.Inside.{StaysInside, reach}
-use Rattle.machine.specs.declared.stepping.Flow.{Flow}
-use Rattle.machine.specs.declared.stepping.Flow.TheVariants as flow
+use Rattle.plan.specs.Walk.{Instruction, act, walk, shown}
+use Rattle.plan.specs.Inside.{StaysInside, reach, asks_of, asks_after}
+use Rattle.machine.specs.declared.flow.Flow.{Flow}
+use Rattle.machine.specs.declared.flow.Flow.TheVariants as flow
 use Rattle.machine.specs.declared.machine.Phase.TheVariants as phase
-use Rattle.machine.specs.declared.machine.Phase.{Phase}
 use Rattle.machine.specs.declared.machine.Turn.{Turn}
-use Rattle.machine.specs.Flows.{Flows, scope}
-use Rattle.machine.specs.Standing.{Standing, run_at, run_from, end_of, turn_of, Turned}
+use Rattle.machine.specs.declared.machine.Turn.TheVariants as turn
+use Rattle.machine.specs.declared.wait.Wait.TheVariants as waits
+use Rattle.machine.specs.Flows.{Leads, Heeds, passed, asks_now}
+use Rattle.machine.specs.Moves.{arrived, turn_by}
+use Rattle.machine.specs.Standing.{Standing, with_phase, run_left, left_in, CutsAt, Refusals, asks_in, asks_left, Holds, Turned}
+use Rattle.machine.specs.Waits.{given, first_refused, resumed, waits_for}
 
 -- one step at a place
 walk_at : (steps : List Step) (k : ℕ) (s : Step) (c : Scope) (st : State) → k < length steps → s ≡ get_or steps k s
@@ -32,73 +38,279 @@ walk_past (x ∷ xs) zero c st le = absurd (omega arith)
 walk_past (x ∷ xs) (suc k) c st le = walk_past xs k c st (omega arith)
 
 -- a jump from a place stays inside
-reach_at : (steps : List Step) (k : ℕ) (s : Step) → StaysInside (map shown steps) → k < length steps → s ≡ get_or steps k s → k + 1 + reach (shown s) ≤ length steps
+pub reach_at : (steps : List Step) (k : ℕ) (s : Step) → StaysInside (map shown steps) → k < length steps → s ≡ get_or steps k s → k + 1 + reach (shown s) ≤ length steps
 reach_at [] k s h lt is = absurd (omega arith)
 reach_at (x ∷ xs) zero s h lt is = omega (arith, h.0, ap (λ y. reach (shown y)) is, length-map xs shown)
 reach_at (x ∷ xs) (suc k) s h lt is = omega (arith, reach_at xs k s h.1 (omega arith) is)
 
-pub passes_on : (steps : List Step) (place more : ℕ) (s : Step) (f : Flow) (before after : List ℕ) (old new : State) → StaysInside (map shown steps) → place < length steps → s ≡ get_or steps place s
-    → f ≡ flow.Pass more → Flows f (shown s) before old after new
-    → (place + 1 + more ≤ length steps) × (walk (map shown steps) (place + (1 + more)) (scope after) new ≡ walk (map shown steps) place (scope before) old)
-passes_on steps place more s f before after old new inside lt is is_pass h =
-    let g : Flows (flow.Pass more) (shown s) before old after new = subst (λ x. Flows x (shown s) before old after new) is_pass h in
-    let n : place + (1 + more) ≡ place + 1 + more = omega arith in (
-      omega (arith, reach_at steps place s inside lt is, g.0),
-      ap (λ k. walk (map shown steps) k (scope after) new) n
-          ∙ sym (g.1 (λ k. walk (map shown steps) (place + 1 + k)))
-          ∙ sym (walk_at steps place s (scope before) old lt is),
-    )
+-- what a step may ask, and those behind it
+asks_here : (steps : List Step) (k : ℕ) (s : Step) → k < length steps → s ≡ get_or steps k s → asks_after (map shown steps) k ≡ asks_of (shown s) + asks_after (map shown steps) (k + 1)
+asks_here [] k s lt is = absurd (omega arith)
+asks_here (x ∷ xs) zero s lt is = ap (λ y. asks_of (shown y) + asks_after (map shown xs) 0) (sym is)
+asks_here (x ∷ xs) (suc k) s lt is =
+    let n : suc (k + 1) ≡ suc k + 1 = omega arith in
+    asks_here xs k s (omega arith) is ∙ ap (λ m. asks_of (shown s) + asks_after (map shown (x ∷ xs)) m) n
 
-going : (steps : List Step) (m : Standing) → m.phase ≡ phase.Going → walk (map shown steps) m.place m.scope m.state ≡ run_at (map shown steps) m
-going steps m e = sym (ap (λ p. run_from (end_of p) (map shown steps) m) e)
+asks_from : (plan : List Instruction) (n : ℕ) → asks_after plan n ≤ asks_after plan 0
+asks_from [] n = omega arith
+asks_from (i ∷ rest) zero = omega arith
+asks_from (i ∷ rest) (suc n) = omega (arith, asks_from rest n)
 
--- a step that ends the run
-pub turns : (steps : List Step) (place : ℕ) (s : Step) (f : Flow) (how : How) (turn : Turn) (p : Phase) (m : Standing) (before after : List ℕ) (old new : State) → m.phase ≡ phase.Going → place < length steps → s ≡ get_or steps place s
-    → ((next : ℕ → Scope → State → Run) → act (shown s) next (scope before) old ≡ Ends how new)
-    → walk (map shown steps) place (scope before) old ≡ walk (map shown steps) m.place m.scope m.state
-    → end_of p ≡ Some how → turn ≡ turn_of how
-    → Turned (map shown steps) turn m (record { phase = p; place = place; scope = scope after; state = new })
-turns steps place s f how turn p m before after old new is_going lt is h inv ended shows = record {
-  how = how;
-  same =
-      ap (λ e. run_from e (map shown steps) (record { phase = p; place = place; scope = scope after; state = new })) ended
-      ∙ sym (h (λ k. walk (map shown steps) (place + 1 + k)))
-      ∙ sym (walk_at steps place s (scope before) old lt is) ∙ inv ∙ going steps m is_going;
-  ended = ended;
-  shows = shows;
-}
+-- passing steps leaves no more jobs
+asks_on : (plan : List Instruction) (k n : ℕ) → asks_after plan (k + n) ≤ asks_after plan k
+asks_on [] k n = omega arith
+asks_on (i ∷ rest) zero n = let e : 0 + n ≡ n = omega arith in subst (λ m. asks_after (i ∷ rest) m ≤ asks_after (i ∷ rest) 0) (sym e) (asks_from (i ∷ rest) n)
+asks_on (i ∷ rest) (suc k) n = let e : suc k + n ≡ suc (k + n) = omega arith in subst (λ m. asks_after (i ∷ rest) m ≤ asks_after rest k) (sym e) (asks_on rest k n)
 
-flows_complete : (f : Flow) (s : Step) (before after : List ℕ) (old new : State) → f ≡ flow.Complete → Flows f (shown s) before old after new → Flows flow.Complete (shown s) before old after new
-flows_complete f s before after old new is h = subst (λ x. Flows x (shown s) before old after new) is h
+-- where a flow is no turn, steps are passed
+arrived_pass : (f : Flow) (m : Standing) → turn_by f ≡ None → arrived f m ≡ record m { place = m.place + (1 + passed f) }
+arrived_pass (flow.Pass more) m e = refl
+arrived_pass (flow.Ask job wait) m e = cc
+arrived_pass flow.Complete m e = cc
+arrived_pass (flow.Stop status) m e = cc
+arrived_pass (flow.Cut number) m e = cc
 
-pub turns_completed : (steps : List Step) (place : ℕ) (s : Step) (f : Flow) (m : Standing) (before after : List ℕ) (old new : State) → m.phase ≡ phase.Going → place < length steps → s ≡ get_or steps place s
-    → f ≡ flow.Complete → Flows f (shown s) before old after new
-    → walk (map shown steps) place (scope before) old ≡ walk (map shown steps) m.place m.scope m.state
-    → Turned (map shown steps) (turn_of Completed) m (record { phase = phase.Completed; place = place; scope = scope after; state = new })
-turns_completed steps place s f m before after old new is_going lt is kind h inv =
-    turns steps place s f Completed _ phase.Completed m before after old new is_going lt is (flows_complete f s before after old new kind h) inv refl refl
+leads_pass : (f : Flow) (run : (ℕ → Scope → State → Run) → Run) (c : Scope) (st : State) → turn_by f ≡ None → Leads f run c st
+    → (next : ℕ → Scope → State → Run) → run next ≡ next (passed f) c st
+leads_pass (flow.Pass more) run c st e h next = h next
+leads_pass (flow.Ask job wait) run c st e h next = cc
+leads_pass flow.Complete run c st e h next = cc
+leads_pass (flow.Stop status) run c st e h next = cc
+leads_pass (flow.Cut number) run c st e h next = cc
 
-flows_stop : (f : Flow) (status : ℕ) (s : Step) (before after : List ℕ) (old new : State) → f ≡ flow.Stop status → Flows f (shown s) before old after new → Flows (flow.Stop status) (shown s) before old after new
-flows_stop f status s before after old new is h = subst (λ x. Flows x (shown s) before old after new) is h
+-- nothing is refused where nothing was asked
+heeds_none : (f : Flow) (replies : List Reply) (before : ℕ) → first_refused replies ≡ None → Heeds f [] 0 → Heeds f replies before
+heeds_none (flow.Pass more) replies before none h = none
+heeds_none (flow.Ask job wait) replies before none h = none
+heeds_none flow.Complete replies before none h = none
+heeds_none (flow.Stop status) replies before none h = none
+heeds_none (flow.Cut number) replies before none h = let e = h.1 in cc
 
-pub turns_stopped : (steps : List Step) (place status : ℕ) (s : Step) (f : Flow) (m : Standing) (before after : List ℕ) (old new : State) → m.phase ≡ phase.Going → place < length steps → s ≡ get_or steps place s
-    → f ≡ flow.Stop status → Flows f (shown s) before old after new
-    → walk (map shown steps) place (scope before) old ≡ walk (map shown steps) m.place m.scope m.state
-    → Turned (map shown steps) (turn_of (Stopped status)) m (record { phase = phase.Stopped status; place = place; scope = scope after; state = new })
-turns_stopped steps place status s f m before after old new is_going lt is kind h inv =
-    turns steps place s f (Stopped status) _ (phase.Stopped status) m before after old new is_going lt is (flows_stop f status s before after old new kind h) inv refl refl
+no_refusal : (replies : List (Option Reply)) → length replies ≡ 0 → first_refused (given replies) ≡ None
+no_refusal [] e = refl
+no_refusal (r ∷ rs) e = absurd (omega arith)
+
+-- how a machine moves that has done a step, or heard replies
+pub record Moves (plan : List Instruction) (f : Flow) (old m : Standing) (run : (ℕ → Scope → State → Run) → Run) : Type 0 where
+  pub leads : Leads f run m.scope m.state
+  pub place : m.place + 1 ≤ length plan
+  pub jobs : m.jobs ≡ []
+  pub replies : m.replies ≡ []
+  pub whole : run (λ k. walk plan (m.place + 1 + k)) ≡ run_left plan old
+  pub heeds : Heeds f (given old.replies) old.before
+  pub before : m.before ≡ old.before + length old.jobs
+  pub asks : asks_now f + asks_after plan (m.place + 1) ≤ asks_left plan old
+  pub counted : old.before + (length old.jobs + asks_left plan old) ≤ asks_after plan 0
+  pub cuts : (number : ℕ) → ((k : ℕ) × (first_refused (given old.replies) ≡ Some k) × (number ≡ old.before + k)) → CutsAt old.phase number old
+
+-- a turn
+lands_by : (plan : List Instruction) (f : Flow) (t : Turn) (old m : Standing) (run : (ℕ → Scope → State → Run) → Run) → turn_by f ≡ Some t → Moves plan f old m run → Turned plan t old (arrived f m)
+lands_by plan (flow.Pass more) t old m run e h = cc
+lands_by plan (flow.Ask job wait) t old m run e h =
+    let is : turn.Ask ≡ t = cc in
+    let n : m.place + 1 + 0 ≡ m.place + 1 = omega arith in
+    subst (λ x. Turned plan x old (arrived (flow.Ask job wait) m)) is (record {
+      same =
+          ap (λ k. Asks (job ∷ []) (λ rs. resumed wait rs (walk plan k) m.scope m.state)) (sym n)
+          ∙ sym (h.leads (λ k. walk plan (m.place + 1 + k))) ∙ h.whole;
+      shows = (refl, refl);
+      outcome = refl;
+      refusals = h.heeds;
+      before = h.before;
+      fresh = refl;
+      fits = record { jobs = refl; replies = refl; place = h.place; counted = omega (arith, h.before, h.asks, h.counted) };
+      ahead = omega (arith, h.asks);
+    })
+lands_by plan flow.Complete t old m run e h =
+    let is : turn.Done ≡ t = cc in
+    subst (λ x. Turned plan x old (arrived flow.Complete m)) is (record {
+      same = sym (h.leads (λ k. walk plan (m.place + 1 + k))) ∙ h.whole;
+      shows = (refl, h.jobs, refl);
+      outcome = refl;
+      refusals = h.heeds;
+      before = h.before;
+      fresh = h.replies ∙ sym (ap (λ l. replicate (length l) None) h.jobs);
+      fits = record { jobs = ap length h.jobs; replies = ap length h.replies; place = omega (arith, h.place); counted = omega (arith, h.before, ap length h.jobs, h.counted) };
+      ahead = omega (arith, ap length h.jobs);
+    })
+lands_by plan (flow.Stop status) t old m run e h =
+    let is : turn.Stopped status ≡ t = cc in
+    subst (λ x. Turned plan x old (arrived (flow.Stop status) m)) is (record {
+      same = sym (h.leads (λ k. walk plan (m.place + 1 + k))) ∙ h.whole;
+      shows = (refl, h.jobs, refl, refl);
+      outcome = refl;
+      refusals = h.heeds;
+      before = h.before;
+      fresh = h.replies ∙ sym (ap (λ l. replicate (length l) None) h.jobs);
+      fits = record { jobs = ap length h.jobs; replies = ap length h.replies; place = omega (arith, h.place); counted = omega (arith, h.before, ap length h.jobs, h.counted) };
+      ahead = omega (arith, ap length h.jobs);
+    })
+lands_by plan (flow.Cut number) t old m run e h =
+    let is : turn.Cut number ≡ t = cc in
+    subst (λ x. Turned plan x old (arrived (flow.Cut number) m)) is (record {
+      same = sym (h.leads (λ k. walk plan (m.place + 1 + k))) ∙ h.whole;
+      shows = (refl, h.jobs, refl);
+      outcome = refl;
+      refusals = h.cuts number h.heeds;
+      before = h.before;
+      fresh = h.replies ∙ sym (ap (λ l. replicate (length l) None) h.jobs);
+      fits = record { jobs = ap length h.jobs; replies = ap length h.replies; place = omega (arith, h.place); counted = omega (arith, h.before, ap length h.jobs, h.counted) };
+      ahead = omega (arith, ap length h.jobs);
+    })
+
+pub lands : (plan : List Instruction) (f : Flow) (t : Turn) (old m new : Standing) (run : (ℕ → Scope → State → Run) → Run) → turn_by f ≡ Some t → new ≡ arrived f m → Moves plan f old m run → Turned plan t old new
+lands plan f t old m new run e is h = subst (Turned plan t old) (sym is) (lands_by plan f t old m run e h)
+
+-- The loop of steps: the machine has come from `first` to `now`.
+pub record Comes (plan : List Instruction) (first now : Standing) : Type 0 where
+  pub same : walk plan now.place now.scope now.state ≡ walk plan first.place first.scope first.state
+  pub jobs : now.jobs ≡ []
+  pub replies : now.replies ≡ []
+  pub before : now.before ≡ first.before
+  pub inside : now.place ≤ length plan
+  pub ahead : asks_after plan now.place ≤ asks_after plan first.place
+
+-- a step has been done
+pub stepped : (steps : List Step) (s : Step) (f : Flow) (first now m : Standing) → now.place < length steps → s ≡ get_or steps now.place s
+    → Holds 0 (map shown steps) (with_phase phase.Going first) → Comes (map shown steps) first now
+    → m ≡ record now { phase = phase.Failed; scope = m.scope; state = m.state }
+    → asks_now f ≤ asks_of (shown s) → Heeds f [] 0 → Leads f (λ next. act (shown s) next now.scope now.state) m.scope m.state
+    → Moves (map shown steps) f (with_phase phase.Going first) m (λ next. act (shown s) next now.scope now.state)
+stepped steps s f first now m lt is holds h moved asks heeds leads =
+    let plan = map shown steps in
+    let place : m.place ≡ now.place = ap (λ x. x.place) moved in
+    record {
+      leads = leads;
+      place = omega (arith, place, length-map steps shown);
+      jobs = ap (λ x. x.jobs) moved ∙ h.jobs;
+      replies = ap (λ x. x.replies) moved ∙ h.replies;
+      whole =
+          ap (λ n. act (shown s) (λ k. walk plan (n + 1 + k)) now.scope now.state) place
+          ∙ sym (walk_at steps now.place s now.scope now.state lt is) ∙ h.same;
+      heeds = heeds_none f (given first.replies) first.before (no_refusal first.replies holds.replies) heeds;
+      before = omega (arith, ap (λ x. x.before) moved, h.before, holds.jobs);
+      asks = omega (arith, asks, asks_here steps now.place s lt is, h.ahead, ap (λ n. asks_after plan (n + 1)) place);
+      counted = holds.counted;
+      cuts = λ number c. c;
+    }
+
+-- and is passed
+pub passes_on : (steps : List Step) (s : Step) (f : Flow) (first now m new : Standing) → now.place < length steps → s ≡ get_or steps now.place s
+    → Comes (map shown steps) first now
+    → m ≡ record now { phase = phase.Failed; scope = m.scope; state = m.state }
+    → passed f ≤ reach (shown s) → StaysInside (map shown steps) → Leads f (λ next. act (shown s) next now.scope now.state) m.scope m.state
+    → turn_by f ≡ None → new ≡ arrived f m
+    → Comes (map shown steps) first new
+passes_on steps s f first now m new lt is h moved within inside leads none arrives =
+    let plan = map shown steps in
+    let e : new ≡ record m { place = m.place + (1 + passed f) } = arrives ∙ arrived_pass f m none in
+    let place : m.place ≡ now.place = ap (λ x. x.place) moved in
+    let n : m.place + (1 + passed f) ≡ now.place + 1 + passed f = omega arith in
+    let m_place : m.place + (1 + passed f) ≡ now.place + (1 + passed f) = omega arith in
+    record {
+      same =
+          ap (λ x. walk plan x.place x.scope x.state) e
+          ∙ ap (λ k. walk plan k m.scope m.state) n
+          ∙ sym (leads_pass f _ m.scope m.state none leads (λ k. walk plan (now.place + 1 + k)))
+          ∙ sym (walk_at steps now.place s now.scope now.state lt is) ∙ h.same;
+      jobs = ap (λ x. x.jobs) e ∙ ap (λ x. x.jobs) moved ∙ h.jobs;
+      replies = ap (λ x. x.replies) e ∙ ap (λ x. x.replies) moved ∙ h.replies;
+      before = ap (λ x. x.before) e ∙ ap (λ x. x.before) moved ∙ h.before;
+      inside = omega (arith, ap (λ x. x.place) e, n, within, reach_at steps now.place s inside lt is, length-map steps shown);
+      ahead = omega (arith, ap (λ x. asks_after plan x.place) e, ap (asks_after plan) m_place, asks_on plan now.place (1 + passed f), h.ahead);
+    }
 
 -- behind the last step
-pub turns_past : (steps : List Step) (place : ℕ) (m : Standing) (inside : List ℕ) (st : State) → m.phase ≡ phase.Going → length steps ≤ place
-    → walk (map shown steps) place (scope inside) st ≡ walk (map shown steps) m.place m.scope m.state
-    → Turned (map shown steps) (turn_of Goes_on) m (record { phase = phase.Past; place = place; scope = scope inside; state = st })
-turns_past steps place m inside st is_going past inv = record {
-  how = Goes_on;
-  same = sym (walk_past steps place (scope inside) st past) ∙ inv ∙ going steps m is_going;
-  ended = refl;
-  shows = refl;
+pub past : (steps : List Step) (first now new : Standing) → length steps ≤ now.place → Holds 0 (map shown steps) (with_phase phase.Going first) → Comes (map shown steps) first now
+    → new ≡ with_phase phase.Past now → Turned (map shown steps) turn.Done (with_phase phase.Going first) new
+past steps first now new le holds h is =
+    subst (Turned (map shown steps) turn.Done (with_phase phase.Going first)) (sym is) (record {
+      same = sym (walk_past steps now.place now.scope now.state le) ∙ h.same;
+      shows = (refl, h.jobs, refl);
+      outcome = refl;
+      refusals = no_refusal first.replies holds.replies;
+      before = omega (arith, h.before, holds.jobs);
+      fresh = h.replies ∙ sym (ap (λ l. replicate (length l) None) h.jobs);
+      fits = record { jobs = ap length h.jobs; replies = ap length h.replies; place = omega (arith, h.inside); counted = omega (arith, h.before, ap length h.jobs, holds.counted) };
+      ahead = omega (arith, ap length h.jobs);
+    })
+
+-- the replies have been heard
+pub told_all : (plan : List Instruction) (f : Flow) (old m : Standing) → old.phase ≡ phase.Asking → Holds 1 plan old
+    → m ≡ record old { phase = phase.Failed; scope = m.scope; state = m.state; wait = waits.Nothing; before = old.before + 1; jobs = []; replies = [] }
+    → asks_now f ≤ waits_for old.wait → Heeds f (given old.replies) old.before
+    → Leads f (λ next. resumed old.wait (given old.replies) (next 0) old.scope old.state) m.scope m.state
+    → Moves plan f old m (λ next. resumed old.wait (given old.replies) (next 0) old.scope old.state)
+told_all plan f old m asking holds moved asks heeds leads =
+    let place : m.place ≡ old.place = ap (λ x. x.place) moved in
+    let n : m.place + 1 + 0 ≡ old.place + 1 = omega arith in
+    let left : asks_left plan old ≡ waits_for old.wait + asks_after plan (old.place + 1) = ap (λ p. asks_in p plan old) asking in
+    record {
+      leads = leads;
+      place = omega (arith, place, holds.place);
+      jobs = ap (λ x. x.jobs) moved;
+      replies = ap (λ x. x.replies) moved;
+      whole = ap (λ k. resumed old.wait (given old.replies) (walk plan k) old.scope old.state) n ∙ sym (ap (λ p. left_in p plan old) asking);
+      heeds = heeds;
+      before = omega (arith, ap (λ x. x.before) moved, holds.jobs);
+      asks = omega (arith, asks, left, ap (λ k. asks_after plan (k + 1)) place);
+      counted = holds.counted;
+      cuts = λ number c. subst (λ p. CutsAt p number old) (sym asking) c;
+    }
+
+refusals_after : (t : Turn) (old mid : Standing) → first_refused (given old.replies) ≡ None → mid.replies ≡ [] → Refusals t (with_phase phase.Going mid) → Refusals t old
+refusals_after turn.Ask old mid none empty h = none
+refusals_after turn.Done old mid none empty h = none
+refusals_after (turn.Stopped status) old mid none empty h = none
+refusals_after (turn.Cut number) old mid none empty h = let e : None ≡ Some h.0 = sym (ap (λ l. first_refused (given l)) empty) ∙ h.1 in cc
+
+none_heard : (f : Flow) (replies : List Reply) (before : ℕ) → turn_by f ≡ None → Heeds f replies before → first_refused replies ≡ None
+none_heard (flow.Pass more) replies before e h = h
+none_heard (flow.Ask job wait) replies before e h = cc
+none_heard flow.Complete replies before e h = cc
+none_heard (flow.Stop status) replies before e h = cc
+none_heard (flow.Cut number) replies before e h = cc
+
+-- the replies have been heard, and the machine stands before the next step
+pub record Onward (plan : List Instruction) (old mid : Standing) : Type 0 where
+  pub none : first_refused (given old.replies) ≡ None
+  pub same : walk plan mid.place mid.scope mid.state ≡ run_left plan old
+  pub jobs : mid.jobs ≡ []
+  pub replies : mid.replies ≡ []
+  pub before : mid.before ≡ old.before + length old.jobs
+  pub inside : mid.place ≤ length plan
+  pub ahead : asks_after plan mid.place ≤ asks_left plan old
+  pub counted : old.before + (length old.jobs + asks_left plan old) ≤ asks_after plan 0
+
+pub onward : (plan : List Instruction) (f : Flow) (old m mid : Standing) (run : (ℕ → Scope → State → Run) → Run) → turn_by f ≡ None → mid ≡ arrived f m → passed f ≤ 0 → Moves plan f old m run → Onward plan old mid
+onward plan f old m mid run none arrives within h =
+    let e : mid ≡ record m { place = m.place + (1 + passed f) } = arrives ∙ arrived_pass f m none in
+    let n : m.place + (1 + passed f) ≡ m.place + 1 + passed f = omega arith in
+    record {
+      none = none_heard f (given old.replies) old.before none h.heeds;
+      same =
+          ap (λ x. walk plan x.place x.scope x.state) e ∙ ap (λ k. walk plan k m.scope m.state) n
+          ∙ sym (leads_pass f run m.scope m.state none h.leads (λ k. walk plan (m.place + 1 + k))) ∙ h.whole;
+      jobs = ap (λ x. x.jobs) e ∙ h.jobs;
+      replies = ap (λ x. x.replies) e ∙ h.replies;
+      before = ap (λ x. x.before) e ∙ h.before;
+      inside = omega (arith, ap (λ x. x.place) e, n, within, h.place);
+      ahead = omega (arith, ap (λ x. asks_after plan x.place) e, ap (asks_after plan) n, asks_on plan (m.place + 1) (passed f), h.asks);
+      counted = h.counted;
+    }
+
+pub turned_after : (plan : List Instruction) (t : Turn) (old mid new : Standing) → Onward plan old mid → Turned plan t (with_phase phase.Going mid) new → Turned plan t old new
+turned_after plan t old mid new h turned = record {
+  same = turned.same ∙ h.same;
+  shows = turned.shows;
+  outcome = turned.outcome;
+  refusals = refusals_after t old mid h.none h.replies turned.refusals;
+  before = omega (arith, turned.before, ap length h.jobs, h.before);
+  fresh = turned.fresh;
+  fits = turned.fits;
+  ahead = omega (arith, turned.ahead, h.ahead);
 }
 
--- an end that is reached is answered again
-pub again : (plan : _) (m : Standing) (status : ℕ) → m.phase ≡ phase.Stopped status → Turned plan (turn_of (Stopped status)) m m
-again plan m status is = record { how = Stopped status; same = refl; ended = ap end_of is; shows = refl }
+pub turned_after_ok : (plan : List Instruction) (r : Result Turn AllocError) (old mid new : Standing) → Onward plan old mid → IfOk r (λ t. Turned plan t (with_phase phase.Going mid) new) → IfOk r (λ t. Turned plan t old new)
+turned_after_ok plan (Ok t) old mid new h turned = turned_after plan t old mid new h turned
+turned_after_ok plan (Err e) old mid new h turned = turned

@@ -1,28 +1,40 @@
--- What one step does.
-use Rattle.std.specs.Prelude.{◌≡◌, ℕ, ◌≤◌, List}
-use Rattle.meaning.specs.State.{State, How, Goes_on, Completed, Stopped, Run, Ends}
-use Rattle.plan.specs.Walk.{Instruction, Scope, act}
-use Rattle.plan.specs.Inside.{reach}
-use Rattle.machine.specs.declared.stepping.End.{End}
-use Rattle.machine.specs.declared.stepping.End.TheVariants as end
-use Rattle.machine.specs.declared.stepping.Flow.{Flow}
-use Rattle.machine.specs.declared.stepping.Flow.TheVariants as flow
+-- Where a step leads, or the replies to what it asked.
+use Rattle.std.specs.Prelude.{◌≡◌, ℕ, ◌+◌, List, ◌∷◌, [], Some, None}
+use Rattle.crew.specs.declared.reply.Reply.{Reply}
+use Rattle.meaning.specs.State.{State, Scope, Completed, Stopped, Cut, Run, Ends, Asks}
+use Rattle.machine.specs.declared.flow.Flow.{Flow}
+use Rattle.machine.specs.declared.flow.Flow.TheVariants as flow
+use Rattle.machine.specs.Waits.{first_refused, resumed, waits_for}
 
--- how a statement ends
-abbrev pub how : End → How
-how end.GoesOn = Goes_on
-how end.Completed = Completed
-how (end.Stopped status) = Stopped status
+-- A run of a step, by what follows it, leads there with this choice and state.
+abbrev pub Leads : Flow → ((ℕ → Scope → State → Run) → Run) → Scope → State → Type 0
+Leads (flow.Pass more) run scope st = (next : ℕ → Scope → State → Run) → run next ≡ next more scope st
+Leads (flow.Ask job wait) run scope st = (next : ℕ → Scope → State → Run) → run next ≡ Asks (job ∷ []) (λ replies. resumed wait replies (next 0) scope st)
+Leads flow.Complete run scope st = (next : ℕ → Scope → State → Run) → run next ≡ Ends Completed st
+Leads (flow.Stop status) run scope st = (next : ℕ → Scope → State → Run) → run next ≡ Ends (Stopped status) st
+Leads (flow.Cut number) run scope st = (next : ℕ → Scope → State → Run) → run next ≡ Ends Cut st
 
--- what a plan keeps in mind, with this subject
-abbrev pub scope : List ℕ → Scope
-scope subject = record { subject = subject }
+-- how many steps are passed beside the step
+abbrev pub passed : Flow → ℕ
+passed (flow.Pass more) = more
+passed (flow.Ask job wait) = 0
+passed flow.Complete = 0
+passed (flow.Stop status) = 0
+passed (flow.Cut number) = 0
 
--- The step leads there, from the old subject and state to the new.
-abbrev pub Flows : Flow → Instruction → List ℕ → State → List ℕ → State → Type 0
-Flows (flow.Pass more) step before old after new =
-    (more ≤ reach step) × ((next : ℕ → Scope → State → Run) → act step next (scope before) old ≡ next more (scope after) new)
-Flows flow.Complete step before old after new =
-    (next : ℕ → Scope → State → Run) → act step next (scope before) old ≡ Ends Completed new
-Flows (flow.Stop status) step before old after new =
-    (next : ℕ → Scope → State → Run) → act step next (scope before) old ≡ Ends (Stopped status) new
+-- how many jobs may be asked until the step is left
+abbrev pub asks_now : Flow → ℕ
+asks_now (flow.Pass more) = 0
+asks_now (flow.Ask job wait) = 1 + waits_for wait
+asks_now flow.Complete = 0
+asks_now (flow.Stop status) = 0
+asks_now (flow.Cut number) = 0
+
+-- A run is cut where a reply is refused, and nowhere else; the number is that of the first refused child of the run, of
+-- which so many were asked before these replies.
+abbrev pub Heeds : Flow → List Reply → ℕ → Type 0
+Heeds (flow.Cut number) replies before = (k : ℕ) × (first_refused replies ≡ Some k) × (number ≡ before + k)
+Heeds (flow.Pass more) replies before = first_refused replies ≡ None
+Heeds (flow.Ask job wait) replies before = first_refused replies ≡ None
+Heeds flow.Complete replies before = first_refused replies ≡ None
+Heeds (flow.Stop status) replies before = first_refused replies ≡ None

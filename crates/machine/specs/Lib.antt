@@ -1,2 +1,4 @@
+pub mod Waits
 pub mod Flows
 pub mod Standing
+pub mod Moves

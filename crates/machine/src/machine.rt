@@ -1,32 +1,50 @@
 //! The machine.
 
-ghost use Rattle.std.specs.Prelude.{◌≡◌, [], IfOk, IsOk, IsErr, OnErr, IsSome, IfSome, map};
-ghost use Rattle.plan.specs.Inside.{StaysInside};
-ghost use Rattle.plan.specs.Walk.{no_choice, shown, walk};
-ghost use Rattle.machine.specs.Standing.{run_at, end_of, outcome_of, Turned};
+ghost use Rattle.std.specs.Prelude.{◌≡◌, ◌+◌, ◌<◌, ◌≤◌, ◌^◌, List, [], ◌∷◌, Some, None, unwrap_or, IfOk, IsOk, IsErr, OnOk, OnErr, IsSome, IfSome, length, map, replicate, slice_get, slice_set};
+ghost use Rattle.crew.specs.declared.reply.Reply.TheVariants.{StartRefused};
+ghost use Rattle.meaning.specs.State.{Scope, State, no_choice};
+ghost use Rattle.plan.specs.Inside.{StaysInside, asks_after, asks_of, reach};
+ghost use Rattle.plan.specs.Walk.{act, shown};
+ghost use Rattle.machine.specs.Flows.{Heeds, Leads, asks_now, passed};
+ghost use Rattle.machine.specs.Moves.{arrived, turn_by};
+ghost use Rattle.machine.specs.Standing.{Fits, Holds, Turned, outcome_of, with_phase};
+ghost use Rattle.machine.specs.Waits.{given, refused_rest, resumed, waits_for};
+ghost use Rattle.machine.specs.declared.wait.Wait.TheVariants as waits;
 
-use crate::stepping::{Flow, do_step};
+use crate::flow::Flow;
+use crate::scope::About;
+use crate::stepping::{do_step, hear};
 use crate::store::Store;
-use deftable::{Bytes, Defs, Vars};
+use crate::wait::Wait;
+use conftest::Job;
+use crew::Reply;
+use deftable::{Defs, Vars};
 use plan::{Plan, Step};
 use std::alloc::{AllocError, Global};
 use std::marker::Model;
+use std::mem;
 
 /// What comes next.
 #[derive(Clone, Copy, PartialEq, Eq, Debug)]
 pub enum Turn {
+    /// Replies to the jobs that are asked.
+    Ask,
     /// Nothing: the run is completed.
     Done,
-    /// Nothing: an error stopped the run, with this exit status.
+    /// Nothing: an error stopped the run, with this exit status, or the want of a compiler, with status 1.
     Stopped(u8),
+    /// Nothing: the run was cut, since its child of this number, from 1, was refused.
+    Cut(u64),
 }
 
 /// How a run ended.
 #[derive(Clone, Copy, PartialEq, Eq, Debug)]
 pub enum Outcome {
     Completed,
-    /// An error stopped the run, with this exit status.
+    /// An error stopped the run, with this exit status, or the want of a compiler, with status 1.
     Stopped(u8),
+    /// The start or the end of the child of this number, from 1, was refused.
+    CutShort(u64),
 }
 
 /// What a run leaves.
@@ -42,71 +60,112 @@ pub struct RunEnd {
 pub enum Phase {
     /// It has steps before it.
     Going,
+    /// It waits for replies.
+    Asking,
     /// It has walked past the last step.
     Past,
     /// A step has completed the run.
     Completed,
     /// A step has stopped the run.
     Stopped(u8),
+    /// A reply was refused.
+    Cut(u64),
     /// Memory ran out.
     Failed,
 }
 
-/// A run of a plan, which stands between its steps.
+/// A run of a plan, which stands between its steps, or within one that waits for replies.
 #[derive(Drop)]
 pub struct Machine {
     alloc: Global,
     phase: Phase,
     place: usize,
-    subject: Bytes,
+    about: About,
     store: Store,
+    wait: Wait,
+    before: u64,
+    jobs: Vec<Job>,
+    replies: Vec<Option<Reply>>,
 }
 
 impl Model for Machine {
+    ghost use Rattle.std.specs.Coded.{codes};
     ghost use Rattle.machine.specs.Standing.{Standing};
 
     ghost Value = { Standing };
 
-    ghost view = { λ m. record { phase = m.phase; place = m.place; scope = record { subject = m.subject }; state = m.store } };
+    ghost view = { λ m. record { phase = m.phase; place = m.place; scope = m.about; state = m.store; wait = m.wait; before = m.before; jobs = m.jobs.items; replies = m.replies.items } };
 }
 
 impl Machine {
     /// A machine before the first step of the plan, with these variables and no definitions. It takes no memory.
     pub fn new(alloc: Global, _plan: &Plan, vars: Vars) -> Machine
-        ensures { result ≡ record { phase = Phase.Going; place = 0; scope = no_choice; state = record { vars = vars; defs = [] } } }
+        ensures { result ≡ record { phase = Phase.Going; place = 0; scope = no_choice; state = record { vars = vars; defs = [] }; wait = waits.Nothing; before = 0; jobs = []; replies = [] } }
     {
         Machine {
             alloc,
             phase: Phase::Going,
             place: 0,
-            subject: Bytes::new(alloc),
+            about: About::nothing(alloc),
             store: Store::new(alloc, vars),
+            wait: Wait::Nothing,
+            before: 0,
+            jobs: Vec::new(alloc),
+            replies: Vec::new(alloc),
         }
     }
 
-    /// Goes on to the end of the run. Asked again, it answers the same again; once memory ran out, it fails for good.
+    /// The jobs that are asked, if any. It takes no memory.
+    pub fn asked(&self) -> &[Job]
+        ensures { result.now ≡ self.now.jobs }
+    {
+        self.jobs.as_slice()
+    }
+
+    /// The reply to the job at a place of `asked`, from 0, which has none yet. It takes no memory.
+    pub fn give(&mut self, k: usize, reply: Reply)
+        requires { slice_get self.old.replies k ≡ Some None }
+        ensures { self.new ≡ record self.old { replies = slice_set self.old.replies k (Some reply) } }
+    {
+        put(self.replies.as_mut_slice(), k, reply);
+    }
+
+    /// A refused start for each job that has no reply yet. It takes no memory.
+    pub fn cut(&mut self)
+        ensures { self.new ≡ record self.old { replies = refused_rest self.old.replies } }
+    {
+        refuse_rest(self.replies.as_mut_slice());
+    }
+
+    /// Goes on to the next jobs or to the end of the run, once each job that is asked has its reply. A job without one counts
+    /// as a refused start. Asked again at the end, it answers the same again; once memory ran out, it fails for good.
     pub fn advance(&mut self, plan: &Plan) -> Result<Turn, AllocError>
+        requires { Fits plan.now self.old }
         ensures turned { IfOk result (λ turn. Turned plan.now turn self.old self.new) }
         ensures failed { self.old.phase ≡ Phase.Failed → IsErr result }
         ensures err { OnErr result (self.new.phase ≡ Phase.Failed) }
-        ensures again { IsSome (end_of self.old.phase) → self.new ≡ self.old }
-        ensures answers { IsSome (end_of self.old.phase) → IsOk result }
+        ensures still { OnErr result (Fits plan.now self.new) }
+        ensures again { IsSome (outcome_of self.old.phase) → self.new ≡ self.old }
+        ensures answers { IsSome (outcome_of self.old.phase) → IsOk result }
     {
         match self.phase {
             Phase::Going => self.go_on(plan.steps()),
+            Phase::Asking => self.take_replies(plan.steps()),
             Phase::Past | Phase::Completed => Ok(Turn::Done),
             Phase::Stopped(status) => Ok(Turn::Stopped(status)),
+            Phase::Cut(number) => Ok(Turn::Cut(number)),
             Phase::Failed => Err(AllocError),
         }
     }
 
-    /// What the run leaves, once it is at its end.
+    /// What the run leaves, once it is at its end. It takes no memory.
     pub fn end(self) -> RunEnd
-        requires { IsSome (end_of self.phase) }
-        ensures { IfSome (end_of self.phase) (λ how. result ≡ record { outcome = outcome_of how; vars = self.state.vars; defs = self.state.defs }) }
+        requires { IsSome (outcome_of self.phase) }
+        ensures { IfSome (outcome_of self.phase) (λ outcome. result ≡ record { outcome = outcome; vars = self.state.vars; defs = self.state.defs }) }
     {
         let outcome = match self.phase {
             Phase::Stopped(status) => Outcome::Stopped(status),
+            Phase::Cut(number) => Outcome::CutShort(number),
             _ => Outcome::Completed,
         };
         let (vars, defs) = self.store.into_parts();
@@ -117,33 +176,163 @@ impl Machine {
         }
     }
 
-    // From step to step, up to an end.
-    fn go_on(&mut self, steps: &[Step]) -> Result<Turn, AllocError>
-        requires going { self.old.phase ≡ Phase.Going }
-        requires inside { StaysInside (map shown steps.now) }
-        ensures turned { IfOk result (λ turn. Turned (map shown steps.now) turn self.old self.new) }
-        ensures err { OnErr result (self.new.phase ≡ Phase.Failed) }
+    // How many steps are behind it.
+    fn place(&self) -> usize
+        ensures { result ≡ self.now.place }
+    {
+        self.place
+    }
+
+    // Does a step, and stands before it until it arrives.
+    fn step(&mut self, step: &Step) -> Result<Flow, AllocError>
+        ensures same { OnOk result (self.new ≡ record self.old { phase = Phase.Failed; scope = self.new.scope; state = self.new.state }) }
+        ensures err { OnErr result (self.new ≡ record self.old { phase = Phase.Failed; scope = self.new.scope; state = self.new.state }) }
+        ensures within { IfOk result (λ flow. passed flow ≤ reach (shown step.now)) }
+        ensures asks { IfOk result (λ flow. asks_now flow ≤ asks_of (shown step.now)) }
+        ensures heeds { IfOk result (λ flow. Heeds flow [] 0) }
+        ensures leads { IfOk result (λ flow. Leads flow (λ next. act (shown step.now) next self.old.scope self.old.state) self.new.scope self.new.state) }
     {
         self.phase = Phase::Failed;
-        while self.place < steps.len() {
-            match do_step(
-                self.alloc,
-                &mut self.store,
-                &mut self.subject,
-                &steps[self.place],
-            )? {
-                Flow::Pass { more } => self.place += 1 + more,
-                Flow::Complete => {
-                    self.phase = Phase::Completed;
-                    return Ok(Turn::Done);
-                }
-                Flow::Stop { status } => {
-                    self.phase = Phase::Stopped(status);
-                    return Ok(Turn::Stopped(status));
-                }
+        do_step(self.alloc, &mut self.store, &mut self.about, step)
+    }
+
+    // Takes the replies to the jobs that were asked.
+    fn hear(&mut self) -> Result<Flow, AllocError>
+        requires jobs { length self.old.jobs ≡ 1 }
+        requires replies { length self.old.replies ≡ 1 }
+        requires room { self.old.before + 1 < 2 ^ 64 }
+        ensures same { OnOk result (self.new ≡ record self.old { phase = Phase.Failed; scope = self.new.scope; state = self.new.state; wait = waits.Nothing; before = self.old.before + 1; jobs = []; replies = [] }) }
+        ensures err { OnErr result (self.new ≡ record self.old { phase = Phase.Failed; scope = self.new.scope; state = self.new.state; wait = waits.Nothing; before = self.old.before + 1; jobs = []; replies = [] }) }
+        ensures within { IfOk result (λ flow. passed flow ≤ 0) }
+        ensures asks { IfOk result (λ flow. asks_now flow ≤ waits_for self.old.wait) }
+        ensures heeds { IfOk result (λ flow. Heeds flow (given self.old.replies) self.old.before) }
+        ensures leads { IfOk result (λ flow. Leads flow (λ next. resumed self.old.wait (given self.old.replies) (next 0) self.old.scope self.old.state) self.new.scope self.new.state) }
+    {
+        self.phase = Phase::Failed;
+        let before = self.before;
+        self.before = before + 1;
+        self.jobs = Vec::new(self.alloc);
+        let replies = mem::replace(&mut self.replies, Vec::new(self.alloc));
+        let wait = mem::replace(&mut self.wait, Wait::Nothing);
+        hear(
+            self.alloc,
+            &mut self.store,
+            &mut self.about,
+            wait,
+            replies.as_slice(),
+            before,
+        )
+    }
+
+    // Goes where a step leads. It is a turn unless there are steps to do.
+    fn arrive(&mut self, flow: Flow) -> Result<Option<Turn>, AllocError>
+        requires room { self.old.place + (1 + passed flow) < 2 ^ 64 }
+        ensures turn { IfOk result (λ turn. turn ≡ turn_by flow) }
+        ensures moved { OnOk result (self.new ≡ arrived flow self.old) }
+        ensures err { OnErr result (self.new ≡ self.old) }
+    {
+        match flow {
+            Flow::Pass { more } => {
+                self.place += 1 + more;
+                Ok(None)
+            }
+            Flow::Ask { job, wait } => {
+                let (jobs, replies) = one_job(self.alloc, job)?;
+                self.jobs = jobs;
+                self.replies = replies;
+                self.wait = wait;
+                self.phase = Phase::Asking;
+                Ok(Some(Turn::Ask))
+            }
+            Flow::Complete => {
+                self.phase = Phase::Completed;
+                Ok(Some(Turn::Done))
+            }
+            Flow::Stop { status } => {
+                self.phase = Phase::Stopped(status);
+                Ok(Some(Turn::Stopped(status)))
+            }
+            Flow::Cut { number } => {
+                self.phase = Phase::Cut(number);
+                Ok(Some(Turn::Cut(number)))
             }
         }
+    }
+
+    // It is behind the last step.
+    fn pass_end(&mut self)
+        ensures { self.new ≡ with_phase Phase.Past self.old }
+    {
         self.phase = Phase::Past;
+    }
+
+    // From step to step, up to jobs or an end.
+    fn go_on(&mut self, steps: &[Step]) -> Result<Turn, AllocError>
+        requires holds { Holds 0 (map shown steps.now) (with_phase Phase.Going self.old) }
+        requires inside { StaysInside (map shown steps.now) }
+        ensures turned { IfOk result (λ turn. Turned (map shown steps.now) turn (with_phase Phase.Going self.old) self.new) }
+        ensures err { OnErr result (self.new.phase ≡ Phase.Failed) }
+        ensures still { OnErr result (Fits (map shown steps.now) self.new) }
+    {
+        'steps: while self.place() < steps.len() {
+            let flow = self.step(&steps[self.place()])?;
+            if let Some(turn) = self.arrive(flow)? {
+                return Ok(turn);
+            }
+        }
+        self.pass_end();
         Ok(Turn::Done)
+    }
+
+    // Takes the replies, and goes on.
+    fn take_replies(&mut self, steps: &[Step]) -> Result<Turn, AllocError>
+        requires asking { self.old.phase ≡ Phase.Asking }
+        requires holds { Holds 1 (map shown steps.now) self.old }
+        requires inside { StaysInside (map shown steps.now) }
+        requires few { asks_after (map shown steps.now) 0 ≤ 2 ^ 36 }
+        ensures turned { IfOk result (λ turn. Turned (map shown steps.now) turn self.old self.new) }
+        ensures err { OnErr result (self.new.phase ≡ Phase.Failed) }
+        ensures still { OnErr result (Fits (map shown steps.now) self.new) }
+    {
+        let flow = self.hear()?;
+        match self.arrive(flow)? {
+            Some(turn) => Ok(turn),
+            None => self.go_on(steps),
+        }
+    }
+}
+
+// One job, without a reply.
+fn one_job(alloc: Global, job: Job) -> Result<(Vec<Job>, Vec<Option<Reply>>), AllocError>
+    ensures { IfOk result (λ r. (r.0.items ≡ job ∷ []) × (r.1.items ≡ None ∷ [])) }
+{
+    let mut jobs = Vec::new(alloc);
+    jobs.push(job)?;
+    let mut replies = Vec::new(alloc);
+    replies.push(None)?;
+    Ok((jobs, replies))
+}
+
+fn put(replies: &mut [Option<Reply>], k: usize, reply: Reply)
+    requires { slice_get replies.old k ≡ Some None }
+    ensures { replies.new ≡ slice_set replies.old k (Some reply) }
+{
+    replies[k] = Some(reply);
+}
+
+// A refused start where there is no reply.
+fn or_refused(reply: &mut Option<Reply>)
+    ensures { reply.new ≡ Some (unwrap_or reply.old StartRefused) }
+{
+    if reply.is_none() {
+        *reply = Some(Reply::StartRefused);
+    }
+}
+
+fn refuse_rest(replies: &mut [Option<Reply>])
+    ensures { replies.new ≡ refused_rest replies.old }
+{
+    for reply in replies.iter_mut() {
+        or_refused(reply);
     }
 }

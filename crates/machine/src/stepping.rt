@@ -1,42 +1,140 @@
-//! One step.
+//! One step, and what the replies to its jobs lead to.
 
-ghost use Rattle.std.specs.Prelude.{◌≡◌, IfOk};
-ghost use Rattle.meaning.specs.Meaning.{effect, is_taken};
-ghost use Rattle.meaning.specs.State.{Ends};
-ghost use Rattle.plan.specs.Walk.{shown};
-ghost use Rattle.machine.specs.Flows.{Flows, how};
+ghost use Rattle.std.specs.Prelude.{◌≡◌, unwrap_or, ◌≤◌, ◌<◌, ◌+◌, ◌^◌, ◌++◌, ◌||◌, not, [], IfOk, OnOk, Some, if◌then◌else◌, length, option_map};
+ghost use Rattle.crew.specs.declared.reply.Reply.TheVariants.{StartRefused};
+ghost use Rattle.meaning.specs.Asking.{only_reply, success};
+ghost use Rattle.meaning.specs.Meaning.{asked, begun, check_prog, defaulted, has_value, is_full_name, is_taken, looks, path_prog, value_name};
+ghost use Rattle.meaning.specs.State.{Ends, Goes_on, Scope, answered, then_run};
+ghost use Rattle.meaning.specs.Search.{program_test, searched, settled_as, value_or_empty};
+ghost use Rattle.meaning.specs.Tries.{text_of, tried};
+ghost use Rattle.shellword.specs.Value.{word_value};
+ghost use Rattle.plan.specs.Inside.{asks_about, asks_by, asks_of, asks_to_try, reach};
+ghost use Rattle.plan.specs.Walk.{act, own_effect, shown};
+ghost use Rattle.machine.specs.Flows.{Heeds, Leads, asks_now, passed};
+ghost use Rattle.machine.specs.Waits.{first_refused, given, refused_here, resumed, told, waits_for};
 
+use crate::flow::Flow;
 use crate::package::initialise;
+use crate::scope::About;
+use crate::search::{Folders, Search, look_for, look_on, settle};
 use crate::store::Store;
-use acmacros::Plain;
+use crate::wait::Wait;
+use acargs::OptionKind;
+use acmacros::{Plain, Program, Question, Try};
+use conftest::run_job;
+use crew::Reply;
 use deftable::Bytes;
 use plan::Step;
+use shellword::HereText;
 use std::alloc::{AllocError, Global};
-use tree::When;
+use tree::{Subject, When};
 
-/// How a statement ends.
-#[derive(Clone, Copy, PartialEq, Eq, Debug)]
-pub(crate) enum End {
-    GoesOn,
-    Completed,
-    Stopped(u8),
+/// The value of a here text, if there is one.
+fn value_of(
+    alloc: Global,
+    store: &Store,
+    text: &Option<HereText>,
+) -> Result<Option<Bytes>, AllocError>
+    ensures { IfOk result (λ v. v ≡ option_map (λ t. word_value t store.now.vars) text.now) }
+{
+    match text {
+        Some(text) => Ok(Some(store.here_text(alloc, text)?)),
+        None => Ok(None),
+    }
 }
 
-/// Where a step leads.
-#[derive(Clone, Copy, PartialEq, Eq, Debug)]
-pub(crate) enum Flow {
-    /// To the step behind it, or so many further.
-    Pass { more: usize },
-    /// To the end of the run, completed.
-    Complete,
-    /// To the end of the run, stopped with an exit status.
-    Stop { status: u8 },
+/// A name behind a prefix.
+fn prefixed(alloc: Global, prefix: &[u8], name: &[u8]) -> Result<Bytes, AllocError>
+    ensures { IfOk result (λ b. b ≡ prefix.now ++ name.now) }
+{
+    let mut text = Vec::from_slice(alloc, prefix)?;
+    text.extend_from_slice(name)?;
+    Ok(Bytes::from_vec(text))
 }
 
-/// Does what a statement does.
+/// The search of AC_CHECK_PROG.
+fn check_prog(
+    alloc: Global,
+    variable: &[u8],
+    program: &Bytes,
+    found: Bytes,
+    otherwise: Option<Bytes>,
+) -> Result<Search, AllocError>
+    ensures { IfOk result (λ s. s ≡ check_prog variable.now program.now found otherwise) }
+{
+    Ok(Search {
+        variable: Bytes::from_slice(alloc, variable)?,
+        name: prefixed(alloc, b"ac_cv_prog_", variable)?,
+        program: program.copy(alloc)?,
+        found: Some(found),
+        otherwise,
+    })
+}
+
+/// The search of AC_PATH_PROG.
+fn path_prog(
+    alloc: Global,
+    variable: &[u8],
+    program: &Bytes,
+    otherwise: Option<Bytes>,
+) -> Result<Search, AllocError>
+    ensures { IfOk result (λ s. s ≡ path_prog variable.now program.now otherwise) }
+{
+    Ok(Search {
+        variable: Bytes::from_slice(alloc, variable)?,
+        name: prefixed(alloc, b"ac_cv_path_", variable)?,
+        program: program.copy(alloc)?,
+        found: None,
+        otherwise,
+    })
+}
+
+/// Looks for a program by its name.
+fn check_program(
+    alloc: Global,
+    store: &mut Store,
+    variable: &[u8],
+    program: &Bytes,
+    found: Bytes,
+    otherwise: Option<Bytes>,
+) -> Result<Flow, AllocError>
+    ensures within { IfOk result (λ flow. passed flow ≤ 0) }
+    ensures asks { IfOk result (λ flow. asks_now flow ≤ 65536) }
+    ensures heeds { IfOk result (λ flow. Heeds flow [] 0) }
+    ensures leads { IfOk result (λ flow. (about : Scope) → Leads flow (λ next. then_run (program_test (check_prog variable.now program.now found otherwise) (has_value store.old variable.now) store.old) (next 0 about)) about store.new) }
+{
+    let own = store.has_value(variable);
+    let search = check_prog(alloc, variable, program, found, otherwise)?;
+    let flow = look_for(alloc, store, search, own)?;
+    Ok(flow)
+}
+
+/// Looks for a program's full name.
+fn find_program(
+    alloc: Global,
+    store: &mut Store,
+    variable: &[u8],
+    program: &Bytes,
+    otherwise: Option<Bytes>,
+) -> Result<Flow, AllocError>
+    ensures within { IfOk result (λ flow. passed flow ≤ 0) }
+    ensures asks { IfOk result (λ flow. asks_now flow ≤ 65536) }
+    ensures heeds { IfOk result (λ flow. Heeds flow [] 0) }
+    ensures leads { IfOk result (λ flow. (about : Scope) → Leads flow (λ next. then_run (program_test (path_prog variable.now program.now otherwise) (is_full_name (value_or_empty store.old variable.now)) store.old) (next 0 about)) about store.new) }
+{
+    let own = store.has_full_name(variable);
+    let search = path_prog(alloc, variable, program, otherwise)?;
+    let flow = look_for(alloc, store, search, own)?;
+    Ok(flow)
+}
+
+/// Does what a statement does in its own step.
 #[tactic(auto, unfolding(meaning::specs::Meaning::effect))]
-fn execute(alloc: Global, store: &mut Store, statement: &Plain) -> Result<End, AllocError>
-    ensures { IfOk result (λ end. effect statement.now store.old ≡ Ends (how end) store.new) }
+fn execute(alloc: Global, store: &mut Store, statement: &Plain) -> Result<Flow, AllocError>
+    ensures within { IfOk result (λ flow. passed flow ≤ 0) }
+    ensures asks { IfOk result (λ flow. asks_now flow ≤ asks_by statement.now) }
+    ensures heeds { IfOk result (λ flow. Heeds flow [] 0) }
+    ensures leads { IfOk result (λ flow. (about : Scope) → Leads flow (λ next. then_run (own_effect statement.now store.old) (next 0 about)) about store.new) }
 {
     match statement {
         Plain::Init {
@@ -56,7 +154,12 @@ fn execute(alloc: Global, store: &mut Store, statement: &Plain) -> Result<End, A
                 url.as_slice(),
             )?;
         }
-        Plain::Accepted | Plain::ConfigFiles { .. } | Plain::Subst { .. } => {}
+        Plain::Accepted
+        | Plain::ConfigFiles { .. }
+        | Plain::Subst { .. }
+        | Plain::ArgVar { .. }
+        | Plain::CheckProgs { .. }
+        | Plain::ProgCc { .. } => {}
         Plain::Assign { name, value } | Plain::SubstValue { name, value } => {
             let value = store.word(alloc, value)?;
             store.set(name.as_slice(), value.as_slice())?;
@@ -66,20 +169,181 @@ fn execute(alloc: Global, store: &mut Store, statement: &Plain) -> Result<End, A
             let value = store.here_text(alloc, value)?;
             store.define(name.as_slice(), value.as_slice())?;
         }
-        Plain::Error { status, .. } => return Ok(End::Stopped(*status)),
-        Plain::Output => return Ok(End::Completed),
+        Plain::Error { status, .. } => return Ok(Flow::Stop { status: *status }),
+        Plain::CheckProg {
+            variable,
+            program,
+            found,
+            otherwise,
+        } => {
+            let found = store.here_text(alloc, found)?;
+            let otherwise = value_of(alloc, store, otherwise)?;
+            let flow = check_program(alloc, store, variable.as_slice(), program, found, otherwise)?;
+            return Ok(flow);
+        }
+        Plain::PathProg {
+            variable,
+            program,
+            otherwise,
+        } => {
+            let otherwise = value_of(alloc, store, otherwise)?;
+            let flow = find_program(alloc, store, variable.as_slice(), program, otherwise)?;
+            return Ok(flow);
+        }
+        Plain::Output => {
+            store.settle_prefixes()?;
+            return Ok(Flow::Complete);
+        }
     }
-    Ok(End::GoesOn)
+    Ok(Flow::Pass { more: 0 })
+}
+
+/// Whether a program of a list is looked for.
+fn is_wanted(always: bool, own: bool) -> bool
+    ensures { result ≡ (always || not own) }
+{
+    always || !own
+}
+
+/// Looks for a program of a list, always or while the variable is empty.
+fn look(
+    alloc: Global,
+    store: &mut Store,
+    variable: &[u8],
+    program: &Bytes,
+    always: bool,
+) -> Result<Flow, AllocError>
+    ensures within { IfOk result (λ flow. passed flow ≤ 0) }
+    ensures asks { IfOk result (λ flow. asks_now flow ≤ 65536) }
+    ensures heeds { IfOk result (λ flow. Heeds flow [] 0) }
+    ensures leads { IfOk result (λ flow. (about : Scope) → Leads flow (λ next. then_run (looks variable.now program.now always store.old) (next 0 about)) about store.new) }
+{
+    let own = store.has_value(variable);
+    if !is_wanted(always, own) {
+        return Ok(Flow::Pass { more: 0 });
+    }
+    let found = program.copy(alloc)?;
+    let flow = check_program(alloc, store, variable, program, found, None)?;
+    Ok(flow)
+}
+
+/// Gives a variable that is empty its default, if it has one.
+fn set_default(
+    alloc: Global,
+    store: &mut Store,
+    variable: &[u8],
+    value: &Option<HereText>,
+) -> Result<(), AllocError>
+    ensures { OnOk result (store.new ≡ defaulted variable.now (option_map (λ t. word_value t store.old.vars) value.now) store.old) }
+{
+    if let Some(text) = value {
+        if !store.has_value(variable) {
+            let value = store.here_text(alloc, text)?;
+            store.set(variable, value.as_slice())?;
+        }
+    }
+    Ok(())
+}
+
+/// The variable that has the value of an option which is given.
+fn value_name(kind: OptionKind) -> &'static [u8]
+    ensures { result.now ≡ value_name kind }
+{
+    match kind {
+        OptionKind::Feature => b"enableval",
+        OptionKind::Package => b"withval",
+    }
+}
+
+/// Tries a program.
+fn try_program(
+    alloc: Global,
+    store: &Store,
+    kind: Try,
+    program: &Program,
+) -> Result<Flow, AllocError>
+    ensures within { IfOk result (λ flow. passed flow ≤ 0) }
+    ensures asks { IfOk result (λ flow. asks_now flow ≤ asks_to_try kind) }
+    ensures heeds { IfOk result (λ flow. Heeds flow [] 0) }
+    ensures leads { IfOk result (λ flow. (about : Scope) → Leads flow (λ next. tried kind (text_of program.now store.now.vars) store.now (λ passed. next 0 (answered passed) store.now)) about store.now) }
+{
+    let text = store.program_text(alloc, program)?;
+    let Some(job) = store.job_to_try(alloc, kind, text.as_slice())? else {
+        return Ok(Flow::Stop { status: 1 });
+    };
+    let wait = match kind {
+        Try::Compile | Try::Link | Try::Preproc => Wait::Answer,
+        Try::Run => Wait::Link,
+    };
+    Ok(Flow::Ask { job, wait })
+}
+
+/// Asks what a choice is about. An option is given where its variable is set; its value is kept then.
+fn ask(
+    alloc: Global,
+    store: &mut Store,
+    about: &mut About,
+    question: &Question,
+) -> Result<Flow, AllocError>
+    ensures within { IfOk result (λ flow. passed flow ≤ 0) }
+    ensures asks { IfOk result (λ flow. asks_now flow ≤ asks_about (Subject.Asked question.now)) }
+    ensures heeds { IfOk result (λ flow. Heeds flow [] 0) }
+    ensures leads { IfOk result (λ flow. Leads flow (λ next. asked question.now store.old (next 0)) about.new store.new) }
+{
+    match question {
+        Question::Given { kind, variable, .. } => {
+            let value = match store.get(variable.as_slice()) {
+                Some(value) => value.copy(alloc)?,
+                None => {
+                    *about = About::answer(alloc, false);
+                    return Ok(Flow::Pass { more: 0 });
+                }
+            };
+            store.set(value_name(*kind), value.as_slice())?;
+            *about = About::answer(alloc, true);
+            Ok(Flow::Pass { more: 0 })
+        }
+        Question::Tries { kind, program } => {
+            let flow = try_program(alloc, store, *kind, program)?;
+            Ok(flow)
+        }
+    }
+}
+
+/// Begins a choice.
+#[tactic(auto, unfolding(meaning::specs::Meaning::begun))]
+fn begin(
+    alloc: Global,
+    store: &mut Store,
+    about: &mut About,
+    subject: &Subject,
+) -> Result<Flow, AllocError>
+    ensures within { IfOk result (λ flow. passed flow ≤ 0) }
+    ensures asks { IfOk result (λ flow. asks_now flow ≤ asks_about subject.now) }
+    ensures heeds { IfOk result (λ flow. Heeds flow [] 0) }
+    ensures leads { IfOk result (λ flow. Leads flow (λ next. begun subject.now store.old (next 0)) about.new store.new) }
+{
+    match subject {
+        Subject::Nothing => *about = About::nothing(alloc),
+        Subject::Word(word) => {
+            let value = store.word(alloc, word)?;
+            *about = About::word(value);
+        }
+        Subject::Asked(question) => return ask(alloc, store, about, question),
+    }
+    Ok(Flow::Pass { more: 0 })
 }
 
 /// Whether a case is taken.
 #[tactic(auto, unfolding(meaning::specs::Meaning::is_taken))]
-fn is_taken(alloc: Global, store: &Store, when: &When, subject: &Bytes) -> Result<bool, AllocError>
-    ensures { IfOk result (λ b. b ≡ is_taken when.now subject.now store.now.vars) }
+fn is_taken(alloc: Global, store: &Store, when: &When, about: &About) -> Result<bool, AllocError>
+    ensures { IfOk result (λ b. b ≡ is_taken when.now about.now store.now.vars) }
 {
     match when {
         When::Holds(test) => store.holds(alloc, test),
-        When::Matches(patterns) => Ok(patterns.matches(subject.as_slice())),
+        When::Matches(patterns) => Ok(patterns.matches(about.subject())),
+        When::Yes => Ok(about.is_yes()),
+        When::No => Ok(!about.is_yes()),
         When::Always => Ok(true),
     }
 }
@@ -88,28 +352,130 @@ fn is_taken(alloc: Global, store: &Store, when: &When, subject: &Bytes) -> Resul
 pub(crate) fn do_step(
     alloc: Global,
     store: &mut Store,
-    subject: &mut Bytes,
+    about: &mut About,
     step: &Step,
 ) -> Result<Flow, AllocError>
-    ensures { IfOk result (λ flow. Flows flow (shown step.now) subject.old store.old subject.new store.new) }
+    ensures within { IfOk result (λ flow. passed flow ≤ reach (shown step.now)) }
+    ensures asks { IfOk result (λ flow. asks_now flow ≤ asks_of (shown step.now)) }
+    ensures heeds { IfOk result (λ flow. Heeds flow [] 0) }
+    ensures leads { IfOk result (λ flow. Leads flow (λ next. act (shown step.now) next about.old store.old) about.new store.new) }
 {
     match step {
-        Step::Do(statement) => match execute(alloc, store, statement)? {
-            End::GoesOn => Ok(Flow::Pass { more: 0 }),
-            End::Completed => Ok(Flow::Complete),
-            End::Stopped(status) => Ok(Flow::Stop { status }),
-        },
-        Step::Subject(word) => {
-            *subject = store.word(alloc, word)?;
+        Step::Do(statement) => {
+            let flow = execute(alloc, store, statement)?;
+            Ok(flow)
+        }
+        Step::Look {
+            variable,
+            program,
+            always,
+        } => {
+            let flow = look(alloc, store, variable, program, *always)?;
+            Ok(flow)
+        }
+        Step::Default { variable, value } => {
+            set_default(alloc, store, variable, value)?;
             Ok(Flow::Pass { more: 0 })
         }
+        Step::Subject(subject) => begin(alloc, store, about, subject),
         Step::SkipUnless { when, steps } => {
-            if is_taken(alloc, store, when, subject)? {
+            if is_taken(alloc, store, when, about)? {
                 Ok(Flow::Pass { more: 0 })
             } else {
                 Ok(Flow::Pass { more: *steps })
             }
         }
         Step::Skip { steps } => Ok(Flow::Pass { more: *steps }),
+    }
+}
+
+/// Whether the child whose reply this is succeeded, if it answered.
+fn success(reply: &Option<Reply>) -> Option<bool>
+    ensures { result ≡ success (unwrap_or reply.now StartRefused) }
+{
+    match reply {
+        Some(Reply::Answer { status, .. }) => Some(*status == 0),
+        Some(Reply::StartRefused) | Some(Reply::EndRefused) | None => None,
+    }
+}
+
+/// Goes on with whether a folder has the program that is looked for.
+fn tell_search(
+    alloc: Global,
+    store: &mut Store,
+    search: Search,
+    file: Bytes,
+    left: Folders,
+    found: bool,
+) -> Result<Flow, AllocError>
+    ensures within { IfOk result (λ flow. passed flow ≤ 0) }
+    ensures asks { IfOk result (λ flow. asks_now flow ≤ length left) }
+    ensures heeds { IfOk result (λ flow. Heeds flow [] 0) }
+    ensures leads { IfOk result (λ flow. (about : Scope) → Leads flow (λ next. then_run (if found then Ends Goes_on (settled_as search (Some (unwrap_or search.found file)) store.old) else searched search left store.old) (next 0 about)) about store.new) }
+{
+    if !found {
+        return look_on(alloc, store, search, left);
+    }
+    let value = search.found.as_ref().unwrap_or(&file);
+    settle(store, &search, Some(value))?;
+    Ok(Flow::Pass { more: 0 })
+}
+
+/// Goes on with whether the child succeeded.
+fn tell(
+    alloc: Global,
+    store: &mut Store,
+    about: &mut About,
+    wait: Wait,
+    succeeded: bool,
+) -> Result<Flow, AllocError>
+    ensures within { IfOk result (λ flow. passed flow ≤ 0) }
+    ensures asks { IfOk result (λ flow. asks_now flow ≤ waits_for wait) }
+    ensures heeds { IfOk result (λ flow. Heeds flow [] 0) }
+    ensures leads { IfOk result (λ flow. Leads flow (λ next. told wait succeeded (next 0) about.old store.old) about.new store.new) }
+{
+    match wait {
+        Wait::Nothing => Ok(Flow::Pass { more: 0 }),
+        Wait::Answer => {
+            *about = About::answer(alloc, succeeded);
+            Ok(Flow::Pass { more: 0 })
+        }
+        Wait::Link => {
+            if !succeeded {
+                *about = About::answer(alloc, false);
+                return Ok(Flow::Pass { more: 0 });
+            }
+            let job = run_job(alloc, 0)?;
+            Ok(Flow::Ask {
+                job,
+                wait: Wait::Answer,
+            })
+        }
+        Wait::Folder { search, file, left } => {
+            let flow = tell_search(alloc, store, search, file, left, succeeded)?;
+            Ok(flow)
+        }
+    }
+}
+
+/// What the reply to the job that was asked leads to. So many children were asked before it.
+pub(crate) fn hear(
+    alloc: Global,
+    store: &mut Store,
+    about: &mut About,
+    wait: Wait,
+    replies: &[Option<Reply>],
+    before: u64,
+) -> Result<Flow, AllocError>
+    requires one { length replies.now ≡ 1 }
+    requires room { before + 1 < 2 ^ 64 }
+    ensures within { IfOk result (λ flow. passed flow ≤ 0) }
+    ensures asks { IfOk result (λ flow. asks_now flow ≤ waits_for wait) }
+    ensures heeds { IfOk result (λ flow. Heeds flow (given replies.now) before) }
+    ensures leads { IfOk result (λ flow. Leads flow (λ next. resumed wait (given replies.now) (next 0) about.old store.old) about.new store.new) }
+{
+    match success(&replies[0]) {
+        Some(succeeded) => tell(alloc, store, about, wait, succeeded),
+        None => Ok(Flow::Cut { number: before + 1 }),
     }
 }

@@ -1,11 +1,17 @@
 //! The variables and the definitions of a run.
 
-ghost use Rattle.std.specs.Prelude.{◌≡◌, [], IfOk, OnOk};
+ghost use Rattle.std.specs.Prelude.{◌≡◌, [], IfOk, OnOk, option_map};
 ghost use Rattle.deftable.specs.ShellName.{IsShellName};
+ghost use Rattle.deftable.specs.Table.{value_of};
 ghost use Rattle.shellword.specs.Truth.{truth};
 ghost use Rattle.shellword.specs.Value.{word_value};
-ghost use Rattle.meaning.specs.Meaning.{with_variable, with_definition};
+ghost use Rattle.meaning.specs.Meaning.{has_value, is_full_name, is_slash, is_unsettled, settled, starts_slash, with_prefixes, with_definition};
+ghost use Rattle.meaning.specs.Search.{value_or_empty, with_variable};
+ghost use Rattle.meaning.specs.Tries.{first_probe, text_of};
+ghost use Rattle.conftest.specs.Probe.{job_of};
 
+use acmacros::{Program, Try};
+use conftest::{Job, JobFault, compile_job, link_job, preproc_job, program_source};
 use deftable::{Bytes, Defs, Vars};
 use shellword::{HereText, Test, Word};
 use std::alloc::{AllocError, Global};
@@ -44,6 +50,116 @@ impl Store {
         self.vars.set(name, value)
     }
 
+    /// The value of a variable, if it is set.
+    pub(crate) fn get(&self, name: &[u8]) -> Option<&Bytes>
+        ensures { option_map (λ x. x.now) result ≡ value_of self.now.vars name.now }
+    {
+        self.vars.get(name)
+    }
+
+    /// A copy of a variable's value, if it is set.
+    pub(crate) fn value_of(&self, alloc: Global, name: &[u8]) -> Result<Option<Bytes>, AllocError>
+        ensures { IfOk result (λ v. v ≡ value_of self.now.vars name.now) }
+    {
+        match self.vars.get(name) {
+            Some(value) => Ok(Some(value.copy(alloc)?)),
+            None => Ok(None),
+        }
+    }
+
+    /// A variable's value, which is empty where it isn't set.
+    pub(crate) fn value_or_empty(&self, alloc: Global, name: &[u8]) -> Result<Bytes, AllocError>
+        ensures { IfOk result (λ v. v ≡ value_or_empty self.now name.now) }
+    {
+        match self.vars.get(name) {
+            Some(value) => value.copy(alloc),
+            None => Ok(Bytes::new(alloc)),
+        }
+    }
+
+    /// Whether a variable is set to something.
+    pub(crate) fn has_value(&self, name: &[u8]) -> bool
+        ensures { result ≡ has_value self.now name.now }
+    {
+        match self.vars.get(name) {
+            Some(value) => !value.is_empty(),
+            None => false,
+        }
+    }
+
+    /// Whether a variable is set to a full name.
+    pub(crate) fn has_full_name(&self, name: &[u8]) -> bool
+        ensures { result ≡ is_full_name (value_or_empty self.now name.now) }
+    {
+        match self.vars.get(name) {
+            Some(value) => is_full_name(value.as_slice()),
+            None => false,
+        }
+    }
+
+    /// The text of a program that is tried.
+    pub(crate) fn program_text(&self, alloc: Global, program: &Program) -> Result<Bytes, AllocError>
+        ensures { IfOk result (λ text. text ≡ text_of program.now self.now.vars) }
+    {
+        match program {
+            Program::Program { prologue, body } => {
+                let prologue = self.here_text(alloc, prologue)?;
+                let body = self.here_text(alloc, body)?;
+                program_source(alloc, prologue.as_slice(), body.as_slice())
+            }
+            Program::Source { text } => self.here_text(alloc, text),
+        }
+    }
+
+    /// The first job of a program that is tried, if there is a compiler.
+    pub(crate) fn job_to_try(
+        &self,
+        alloc: Global,
+        kind: Try,
+        source: &[u8],
+    ) -> Result<Option<Job>, AllocError>
+        ensures { IfOk result (λ job. job ≡ job_of (first_probe kind source.now) 0 self.now.vars self.now.defs) }
+    {
+        let job = match kind {
+            Try::Compile => compile_job(alloc, &self.vars, &self.defs, source, 0),
+            Try::Link | Try::Run => link_job(alloc, &self.vars, &self.defs, source, 0),
+            Try::Preproc => preproc_job(alloc, &self.vars, &self.defs, source, 0),
+        };
+        match job {
+            Ok(job) => Ok(Some(job)),
+            Err(JobFault::NoCompiler) => Ok(None),
+            Err(JobFault::OutOfMemory) => Err(AllocError),
+        }
+    }
+
+    fn is_unsettled(&self, name: &[u8]) -> bool
+        ensures { result ≡ is_unsettled (value_of self.now.vars name.now) }
+    {
+        match self.vars.get(name) {
+            Some(value) => value.as_slice() == b"NONE".as_slice(),
+            None => false,
+        }
+    }
+
+    // Sets a prefix that is `NONE`.
+    fn settle(&mut self, name: &[u8], value: &[u8]) -> Result<(), AllocError>
+        ensures { OnOk result (self.new ≡ settled name.now value.now self.old) }
+    {
+        if self.is_unsettled(name) {
+            self.set(name, value)?;
+        }
+        Ok(())
+    }
+
+    /// Settles prefix and exec_prefix, as the end of a source does.
+    pub(crate) fn settle_prefixes(&mut self) -> Result<(), AllocError>
+        ensures { OnOk result (self.new ≡ with_prefixes self.old) }
+    {
+        self.settle(b"prefix", b"/usr/local")?;
+        self.settle(b"exec_prefix", b"${prefix}")?;
+        Ok(())
+    }
+
     /// Defines a name.
     pub(crate) fn define(&mut self, name: &[u8], value: &[u8]) -> Result<(), AllocError>
         requires { IsShellName name.now }
@@ -79,5 +195,31 @@ impl Store {
     {
         let Store { vars, defs } = self;
         (vars, defs)
+    }
+}
+
+fn is_slash(byte: u8) -> bool
+    ensures { result ≡ is_slash byte }
+{
+    byte == b'/' || byte == b'\\'
+}
+
+fn starts_slash(text: &[u8]) -> bool
+    ensures { result ≡ starts_slash text.now }
+{
+    match text {
+        [first, ..] => is_slash(*first),
+        [] => false,
+    }
+}
+
+/// Whether a text is a full name: it begins with a slash or a backslash, or with one byte, a colon and one of these.
+fn is_full_name(text: &[u8]) -> bool
+    ensures { result ≡ is_full_name text.now }
+{
+    match text {
+        [drive, colon, rest @ ..] => is_slash(*drive) || (*colon == b':' && starts_slash(rest)),
+        [only] => is_slash(*only),
+        [] => false,
     }
 }

@@ -1,13 +1,18 @@
 //! Runs of small sources, each answer found by hand.
 
+ghost use Rattle.std.specs.Prelude.{OnOk};
+ghost use Rattle.machine.specs.Standing.{Fits};
+
 use super::*;
-use acmacros::Plain;
+use acargs::{Help, OptionKind};
+use acmacros::{Plain, Program, ProgramNames, Question, Try};
+use crew::Reply;
 use deftable::{Bytes, Name, Vars};
-use plan::compile_statements;
+use plan::{Plan, compile_statements};
 use shellword::{Patterns, read_here, read_patterns, read_test, read_word};
 use std::alloc::Global;
 use std::test::Fail;
-use tree::{Case, Stmt, When, choose};
+use tree::{Case, Stmt, Subject, When, choose};
 
 fn name(alloc: Global, text: &[u8]) -> Result<Name, Fail> {
     match Name::new(Bytes::from_slice(alloc, text)?) {
@@ -69,7 +74,7 @@ fn otherwise(body: Vec<Stmt>) -> Case {
 
 fn choice(alloc: Global, subject: &[u8], cases: Vec<Case>) -> Result<Stmt, Fail> {
     let subject = read_word(alloc, subject)?;
-    Ok(choose(subject, cases))
+    Ok(choose(Subject::Word(subject), cases))
 }
 
 /// Variables of which `x` is set, to this value.
@@ -80,14 +85,79 @@ fn variables(alloc: Global, x: &[u8]) -> Result<Vars, Fail> {
 }
 
 fn run(alloc: Global, statements: &[Stmt], vars: Vars) -> Result<RunEnd, Fail> {
-    let plan = compile_statements(alloc, statements)?;
-    let mut machine = Machine::new(alloc, &plan, vars);
-    let turn = machine.advance(&plan)?;
-    // A last turn is answered again.
-    if machine.advance(&plan)? != turn {
-        return Err(Fail::new("another turn"));
+    run_with(alloc, statements, vars, &[])
+}
+
+/// A reply: that of a child with this exit status, or a refused start for 300.
+fn reply(alloc: Global, status: u32) -> Reply {
+    if status == 300 {
+        return Reply::StartRefused;
     }
-    Ok(machine.end())
+    Reply::Answer {
+        status,
+        text: Bytes::new(alloc),
+    }
+}
+
+/// Answers the job that is asked next.
+fn answer(machine: &mut Machine, plan: &Plan, reply: Reply) -> Result<(), Fail>
+    requires { Fits plan.now machine.old }
+    ensures { OnOk result (Fits plan.now machine.new) }
+{
+    match machine.advance(plan)? {
+        Turn::Ask => {
+            machine.give(0, reply);
+            Ok(())
+        }
+        Turn::Done | Turn::Stopped(_) | Turn::Cut(_) => Err(Fail::new("nothing is asked")),
+    }
+}
+
+/// What a plan leaves whose children answer with these statuses, one after the other.
+fn end_of(alloc: Global, plan: &Plan, vars: Vars, statuses: &[u32]) -> Result<RunEnd, Fail> {
+    let mut machine = Machine::new(alloc, plan, vars);
+    for status in statuses {
+        answer(&mut machine, plan, reply(alloc, *status))?;
+    }
+    match machine.advance(plan)? {
+        Turn::Ask => Err(Fail::new("more is asked")),
+        Turn::Done | Turn::Stopped(_) | Turn::Cut(_) => Ok(machine.end()),
+    }
+}
+
+fn run_with(
+    alloc: Global,
+    statements: &[Stmt],
+    vars: Vars,
+    statuses: &[u32],
+) -> Result<RunEnd, Fail> {
+    let plan = compile_statements(alloc, statements)?;
+    end_of(alloc, &plan, vars, statuses)
+}
+
+/// Whether a run completes and leaves the value in the variable.
+fn leaves(
+    alloc: Global,
+    statements: &[Stmt],
+    vars: Vars,
+    statuses: &[u32],
+    name: &[u8],
+    value: &[u8],
+) -> Result<bool, Fail> {
+    let end = run_with(alloc, statements, vars, statuses)?;
+    Ok(end.outcome == Outcome::Completed && has(&end.vars, name, value))
+}
+
+/// How a run ends, and whether it leaves the variable unset.
+fn ends(
+    alloc: Global,
+    statements: &[Stmt],
+    vars: Vars,
+    statuses: &[u32],
+    name: &[u8],
+) -> Result<(Outcome, bool), Fail> {
+    let end = run_with(alloc, statements, vars, statuses)?;
+    Ok((end.outcome, end.vars.get(name).is_none()))
 }
 
 /// Whether the variable has the value.
@@ -148,6 +218,249 @@ fn choices(rt: HostRuntime) -> Result<(), Fail> {
     assert_eq!(rt; end.outcome, Outcome::Stopped(7));
     assert!(rt; has(&end.vars, b"r", b"3"));
     assert!(rt; end.vars.get(b"t").is_none());
+    Ok(())
+}
+
+/// A macro with two lists of statements: for yes, and for no.
+fn asking(alloc: Global, question: Question, found: Stmt, unfound: Stmt) -> Result<Stmt, Fail> {
+    let mut cases = Vec::new(alloc);
+    cases.push(Case {
+        when: When::Yes,
+        body: one(alloc, found)?,
+    })?;
+    cases.push(Case {
+        when: When::No,
+        body: one(alloc, unfound)?,
+    })?;
+    Ok(choose(Subject::Asked(question), cases))
+}
+
+/// AC_ARG_ENABLE, or AC_ARG_WITH, whose variable is `x`: r=1$enableval$withval, or r=2$enableval$withval
+fn option(alloc: Global, kind: OptionKind) -> Result<Vec<Stmt>, Fail> {
+    let question = Question::Given {
+        kind,
+        variable: name(alloc, b"x")?,
+        help: Help::Text {
+            text: Bytes::new(alloc),
+        },
+    };
+    let found = assign(alloc, b"r", b"1$enableval$withval")?;
+    let unfound = assign(alloc, b"r", b"2$enableval$withval")?;
+    one(alloc, asking(alloc, question, found, unfound)?)
+}
+
+#[test]
+fn options(rt: HostRuntime) -> Result<(), Fail> {
+    let alloc = rt.alloc();
+    let statements = option(alloc, OptionKind::Feature)?;
+    let end = run(alloc, statements.as_slice(), variables(alloc, b"no")?)?;
+    assert!(rt; has(&end.vars, b"r", b"1no"));
+    assert!(rt; has(&end.vars, b"enableval", b"no"));
+    let end = run(alloc, statements.as_slice(), variables(alloc, b"")?)?;
+    assert!(rt; has(&end.vars, b"r", b"1"));
+    let end = run(alloc, statements.as_slice(), Vars::new(alloc))?;
+    assert!(rt; has(&end.vars, b"r", b"2"));
+    assert!(rt; end.vars.get(b"enableval").is_none());
+    let statements = option(alloc, OptionKind::Package)?;
+    let end = run(alloc, statements.as_slice(), variables(alloc, b"yes")?)?;
+    assert!(rt; has(&end.vars, b"r", b"1yes"));
+    assert!(rt; has(&end.vars, b"withval", b"yes"));
+    Ok(())
+}
+
+#[test]
+fn prefixes(rt: HostRuntime) -> Result<(), Fail> {
+    let alloc = rt.alloc();
+    let statements = one(alloc, Stmt::Plain(Plain::Output))?;
+    let mut vars = Vars::new(alloc);
+    vars.set(b"prefix", b"NONE")?;
+    vars.set(b"exec_prefix", b"NONE")?;
+    let end = run(alloc, statements.as_slice(), vars)?;
+    assert!(rt; has(&end.vars, b"prefix", b"/usr/local"));
+    assert!(rt; has(&end.vars, b"exec_prefix", b"${prefix}"));
+    let mut vars = Vars::new(alloc);
+    vars.set(b"prefix", b"/opt")?;
+    let end = run(alloc, statements.as_slice(), vars)?;
+    assert!(rt; has(&end.vars, b"prefix", b"/opt"));
+    assert!(rt; end.vars.get(b"exec_prefix").is_none());
+    Ok(())
+}
+
+/// AC_COMPILE_IFELSE and its kin: r=1 where the program passes, else r=2
+fn tries(alloc: Global, kind: Try) -> Result<Vec<Stmt>, Fail> {
+    let question = Question::Tries {
+        kind,
+        program: Program::Program {
+            prologue: read_here(alloc, b"")?,
+            body: read_here(alloc, b"")?,
+        },
+    };
+    let found = assign(alloc, b"r", b"1")?;
+    let unfound = assign(alloc, b"r", b"2")?;
+    one(alloc, asking(alloc, question, found, unfound)?)
+}
+
+/// Variables of which CC is set.
+fn compiler(alloc: Global) -> Result<Vars, Fail> {
+    let mut vars = Vars::new(alloc);
+    vars.set(b"CC", b"cc")?;
+    Ok(vars)
+}
+
+#[test]
+fn a_program_that_is_compiled(rt: HostRuntime) -> Result<(), Fail> {
+    let alloc = rt.alloc();
+    let list = tries(alloc, Try::Compile)?;
+    assert!(rt; leaves(alloc, list.as_slice(), compiler(alloc)?, &[0], b"r", b"1")?);
+    assert!(rt; leaves(alloc, list.as_slice(), compiler(alloc)?, &[1], b"r", b"2")?);
+    let cut = ends(alloc, list.as_slice(), compiler(alloc)?, &[300], b"r")?;
+    assert_eq!(rt; cut, (Outcome::CutShort(1), true));
+    let stopped = ends(alloc, list.as_slice(), Vars::new(alloc), &[], b"r")?;
+    assert_eq!(rt; stopped, (Outcome::Stopped(1), true));
+    Ok(())
+}
+
+#[test]
+fn a_program_that_is_run(rt: HostRuntime) -> Result<(), Fail> {
+    let alloc = rt.alloc();
+    let list = tries(alloc, Try::Run)?;
+    assert!(rt;
+        leaves(
+            alloc,
+            list.as_slice(),
+            compiler(alloc)?,
+            &[0, 0],
+            b"r",
+            b"1"
+        )?
+    );
+    assert!(rt;
+        leaves(
+            alloc,
+            list.as_slice(),
+            compiler(alloc)?,
+            &[0, 1],
+            b"r",
+            b"2"
+        )?
+    );
+    assert!(rt; leaves(alloc, list.as_slice(), compiler(alloc)?, &[1], b"r", b"2")?);
+    let cut = ends(alloc, list.as_slice(), compiler(alloc)?, &[0, 300], b"r")?;
+    assert_eq!(rt; cut, (Outcome::CutShort(2), true));
+    Ok(())
+}
+
+/// The turn behind a cut, and how many jobs were asked before it.
+fn cut_once(alloc: Global, plan: &Plan, vars: Vars) -> Result<(Turn, usize), Fail> {
+    let mut machine = Machine::new(alloc, plan, vars);
+    if machine.advance(plan)? != Turn::Ask {
+        return Err(Fail::new("nothing is asked"));
+    }
+    let asked = machine.asked().len();
+    machine.cut();
+    let turn = machine.advance(plan)?;
+    if machine.advance(plan)? != turn {
+        return Err(Fail::new("another turn"));
+    }
+    Ok((turn, asked))
+}
+
+#[test]
+fn a_cut(rt: HostRuntime) -> Result<(), Fail> {
+    let alloc = rt.alloc();
+    let list = tries(alloc, Try::Link)?;
+    let plan = compile_statements(alloc, list.as_slice())?;
+    let (turn, asked) = cut_once(alloc, &plan, compiler(alloc)?)?;
+    assert_eq!(rt; turn, Turn::Cut(1));
+    assert_eq!(rt; asked, 1);
+    Ok(())
+}
+
+fn names(alloc: Global, texts: &[&[u8]]) -> Result<ProgramNames, Fail> {
+    let mut all = Vec::new(alloc);
+    for text in texts {
+        all.push(Bytes::from_slice(alloc, text)?)?;
+    }
+    Ok(ProgramNames::from_vec(all))
+}
+
+/// AC_CHECK_PROGS(V, [a b], [none])
+fn check_progs(alloc: Global) -> Result<Vec<Stmt>, Fail> {
+    one(
+        alloc,
+        Stmt::Plain(Plain::CheckProgs {
+            variable: name(alloc, b"V")?,
+            programs: names(alloc, &[b"a".as_slice(), b"b"])?,
+            otherwise: Some(read_here(alloc, b"none")?),
+        }),
+    )
+}
+
+fn path(alloc: Global, folders: &[u8]) -> Result<Vars, Fail> {
+    let mut vars = Vars::new(alloc);
+    vars.set(b"PATH", folders)?;
+    Ok(vars)
+}
+
+/// PATH is `/x`, and one more variable is set.
+fn path_and(alloc: Global, name: &[u8], value: &[u8]) -> Result<Vars, Fail> {
+    let mut vars = path(alloc, b"/x")?;
+    vars.set(name, value)?;
+    Ok(vars)
+}
+
+#[test]
+fn lists_of_programs(rt: HostRuntime) -> Result<(), Fail> {
+    let alloc = rt.alloc();
+    let list = check_progs(alloc)?;
+    // Two folders: the second has b. Then the first has a, one has neither, and there is none.
+    let vars = path(alloc, b"/x:/y/:")?;
+    assert!(rt; leaves(alloc, list.as_slice(), vars, &[1, 1, 1, 0], b"V", b"b")?);
+    let vars = path(alloc, b"/x:/y")?;
+    assert!(rt; leaves(alloc, list.as_slice(), vars, &[0], b"ac_cv_prog_V", b"a")?);
+    let vars = path(alloc, b":")?;
+    assert!(rt; leaves(alloc, list.as_slice(), vars, &[1, 1], b"V", b"none")?);
+    assert!(rt; leaves(alloc, list.as_slice(), Vars::new(alloc), &[], b"V", b"none")?);
+    Ok(())
+}
+
+#[test]
+fn programs_that_are_not_looked_for(rt: HostRuntime) -> Result<(), Fail> {
+    let alloc = rt.alloc();
+    let list = check_progs(alloc)?;
+    let vars = path_and(alloc, b"V", b"mine")?;
+    assert!(rt; leaves(alloc, list.as_slice(), vars, &[], b"ac_cv_prog_V", b"mine")?);
+    let vars = path_and(alloc, b"ac_cv_prog_V", b"old")?;
+    assert!(rt; leaves(alloc, list.as_slice(), vars, &[], b"V", b"old")?);
+    let vars = path(alloc, b"/x")?;
+    let cut = ends(alloc, list.as_slice(), vars, &[1, 300], b"ac_cv_prog_V")?;
+    assert_eq!(rt; cut, (Outcome::CutShort(2), true));
+    Ok(())
+}
+
+/// AC_PATH_PROG(V, p)
+fn path_prog(alloc: Global) -> Result<Vec<Stmt>, Fail> {
+    one(
+        alloc,
+        Stmt::Plain(Plain::PathProg {
+            variable: name(alloc, b"V")?,
+            program: Bytes::from_slice(alloc, b"p")?,
+            otherwise: None,
+        }),
+    )
+}
+
+#[test]
+fn full_names(rt: HostRuntime) -> Result<(), Fail> {
+    let alloc = rt.alloc();
+    let list = path_prog(alloc)?;
+    let vars = path(alloc, b"/x::/y")?;
+    assert!(rt; leaves(alloc, list.as_slice(), vars, &[1, 0], b"V", b"./p")?);
+    // A value that is no full name does not count.
+    let vars = path_and(alloc, b"V", b"p2")?;
+    assert!(rt; leaves(alloc, list.as_slice(), vars, &[0], b"V", b"/x/p")?);
+    let vars = path_and(alloc, b"V", b"c:\\p")?;
+    assert!(rt; leaves(alloc, list.as_slice(), vars, &[], b"V", b"c:\\p")?);
     Ok(())
 }
 

@@ -1,17 +1,18 @@
 -- Code that is written from the last step to the first.
-use Rattle.std.proofs.Common.{◌≡◌, ℕ, ◌+◌, ◌-◌, ◌<◌, ◌≤◌, arith, List, ◌∷◌, ◌++◌, Vec, Global, length, drop, get_or, refl, sym, ap, ◌∙◌, append_assoc}
+use Rattle.std.proofs.Common.{◌≡◌, ℕ, Bool, false, ◌==◌, ◌+◌, ◌-◌, ◌<◌, ◌≤◌, arith, List, ◌∷◌, ◌++◌, Vec, Global, length, drop, get_or, sym, ap, ◌∙◌, append_assoc}
 use Rattle.std.proofs.lemmas.List.{drop_more, append-nil}
-use Rattle.shellword.specs.declared.part.Part.{Part}
+use Rattle.std.proofs.lemmas.Bool.Decides.{nat_tests}
 use Rattle.tree.specs.declared.tree.Case as case
 use Rattle.tree.specs.declared.tree.Stmt.{Stmt, Choose}
+use Rattle.tree.specs.declared.tree.Subject as what
 use Rattle.tree.specs.declared.tree.Stmt.TheVariants.{Plain, Choose'}
 use Rattle.tree.specs.Script.{Script, Done, stmt_then, row_cases, script_of, cases_of}
 use Rattle.tree.proofs.ScriptLemmas.{choice_is}
-use Rattle.plan.specs.Walk.{Instruction, Begins}
-use Rattle.plan.specs.Code.{case_code, code_of, code_of_cases}
+use Rattle.plan.specs.Walk.{Instruction, Does, Looks, Begins}
+use Rattle.plan.specs.Code.{case_code, code_behind, code_of, code_of_cases, code_of_programs}
 
 code_more : (s : Stmt) (rest : Script) → code_of (stmt_then s rest) ≡ code_of (stmt_then s Done) ++ code_of rest
-code_more (Plain s) rest = refl
+code_more (Plain s) rest = ap (λ l. Does s ∷ (l ++ code_of rest)) (sym (append-nil (code_behind s)))
 code_more (Choose' subject m cases) rest = ap (λ l. Begins subject ∷ (l ++ code_of rest)) (sym (append-nil (code_of_cases (row_cases cases))))
 
 -- one statement more in front
@@ -41,8 +42,21 @@ code_at_case old new base list i d behind lt far is h =
     ∙ ap (λ l. code_of_cases (cases_of l) ++ base) (sym (drop_more list i d lt))
 
 -- a choice
-pub code_choice : (s : Stmt) (subject : List Part) (cases : Vec case.Case Global) → s ≡ Choose subject cases
+pub code_choice : (s : Stmt) (subject : what.Subject) (cases : Vec case.Case Global) → s ≡ Choose subject cases
     → code_of (stmt_then s Done) ≡ Begins subject ∷ code_of_cases (cases_of cases.items)
 code_choice s subject cases is =
     ap (λ x. code_of (stmt_then x Done)) is ∙ ap code_of (choice_is subject cases Done)
     ∙ ap (λ l. Begins subject ∷ l) (append-nil (code_of_cases (cases_of cases.items)))
+
+-- one program more in front
+pub code_at_program : (old new base : List Instruction) (variable : List ℕ) (programs : List (List ℕ)) (i j : ℕ) (p : List ℕ) (first : Bool) → 0 < i → i ≤ length programs → j ≡ i - 1 → p ≡ get_or programs j p
+    → first ≡ (j == 0) → new ≡ Looks variable p first ∷ old → old ≡ code_of_programs variable (drop i programs) (i == 0) ++ base
+    → new ≡ code_of_programs variable (drop j programs) (j == 0) ++ base
+code_at_program old new base variable programs i j p first some within next at is_first is h =
+    let lt : j < length programs = omega arith in
+    let up : i ≡ j + 1 = omega arith in
+    let later : (i == 0) ≡ false = grind (arith, nat_tests) in
+    is ∙ ap (λ b. Looks variable p b ∷ old) is_first
+    ∙ ap (λ l. Looks variable p (j == 0) ∷ l) (h ∙ ap (λ b. code_of_programs variable (drop i programs) b ++ base) later ∙ ap (λ k. code_of_programs variable (drop k programs) false ++ base) up)
+    ∙ ap (λ x. Looks variable x (j == 0) ∷ (code_of_programs variable (drop (j + 1) programs) false ++ base)) at
+    ∙ ap (λ l. code_of_programs variable l (j == 0) ++ base) (sym (drop_more programs j p lt))

@@ -1,20 +1,22 @@
 -- The weight of a list, statement after statement and case after case, and how long its code is.
-use Rattle.std.proofs.Common.{◌≡◌, ℕ, ◌+◌, ◌*◌, ◌<◌, ◌≤◌, Option, Some, None, IfSome, IfNone, is_some, true, List, [], ◌∷◌, Vec, Global, length, drop, get_or, ap, ◌∙◌, arith, length-append}
+use Rattle.std.proofs.Common.{◌≡◌, codes, ℕ, ◌+◌, ◌*◌, ◌<◌, ◌≤◌, Option, Some, None, IfSome, IfNone, is_some, Bool, true, false, refl, List, [], ◌∷◌, Vec, Global, length, drop, get_or, ap, ◌∙◌, arith, length-append}
 use Rattle.std.proofs.lemmas.List.{drop_more}
 use Rattle.std.proofs.lemmas.Bool.{true≢false}
-use Rattle.shellword.specs.declared.part.Part.{Part}
+use Rattle.acmacros.specs.declared.statement.Plain as plain
+use Rattle.acmacros.specs.declared.statement.Plain.TheVariants.{Init, Accepted, ConfigFiles, Assign, Subst, SubstValue, Define, DefineUnquoted, Error, ArgVar, CheckProg, PathProg, Output, CheckProgs, ProgCc}
 use Rattle.tree.specs.declared.tree.Case as case
 use Rattle.tree.specs.declared.tree.Stmt.{Stmt, Choose}
-use Rattle.tree.specs.declared.tree.Stmt.TheVariants.{Plain, Choose'}
+use Rattle.tree.specs.declared.tree.Subject as what
+use Rattle.tree.specs.declared.tree.Stmt.TheVariants as stmt
 use Rattle.tree.specs.Script.{Script, Done, Then, Choice, Cases, No_case, Case, stmt_then, script_of, cases_of}
 use Rattle.tree.proofs.ScriptLemmas.{choice_is}
-use Rattle.plan.specs.Walk.{Skips}
-use Rattle.plan.specs.Weight.{weight, weight_of_cases}
-use Rattle.plan.specs.Code.{case_code, code_of, code_of_cases}
+use Rattle.plan.specs.Walk.{Defaults, Skips}
+use Rattle.plan.specs.Weight.{entries_of, weight, weight_of_cases}
+use Rattle.plan.specs.Code.{case_code, code_behind, code_of, code_of_cases, code_of_programs}
 
 weight_more : (s : Stmt) (rest : Script) → weight (stmt_then s rest) ≡ weight (stmt_then s Done) + weight rest
-weight_more (Plain s) rest = omega arith
-weight_more (Choose' subject m cases) rest = omega arith
+weight_more (stmt.Plain s) rest = omega arith
+weight_more (stmt.Choose' subject m cases) rest = omega arith
 
 -- one statement of a list, and those behind it
 pub weight_at : (list : List Stmt) (i : ℕ) (d : Stmt) → i < length list
@@ -27,13 +29,13 @@ pub weight_at_case : (list : List case.Case) (i : ℕ) (d : case.Case) → i < l
 weight_at_case list i d lt = ap (λ l. weight_of_cases (cases_of l)) (drop_more list i d lt) ∙ omega arith
 
 -- a choice
-pub weight_choice : (s : Stmt) (subject : List Part) (cases : Vec case.Case Global) → s ≡ Choose subject cases
+pub weight_choice : (s : Stmt) (subject : what.Subject) (cases : Vec case.Case Global) → s ≡ Choose subject cases
     → weight (stmt_then s Done) ≡ 1 + weight_of_cases (cases_of cases.items)
 weight_choice s subject cases is = ap (λ x. weight (stmt_then x Done)) is ∙ ap weight (choice_is subject cases Done) ∙ omega arith
 
 pub weighs_something : (s : Stmt) → 1 ≤ weight (stmt_then s Done)
-weighs_something (Plain s) = omega arith
-weighs_something (Choose' subject m cases) = omega arith
+weighs_something (stmt.Plain s) = omega arith
+weighs_something (stmt.Choose' subject m cases) = omega arith
 
 -- one statement more
 pub weigh_on : (list : List Stmt) (i : ℕ) (s : Stmt) (left less room : ℕ) → i < length list → s ≡ get_or list i s
@@ -50,25 +52,47 @@ pub weigh_over : (list : List Stmt) (i : ℕ) (s : Stmt) (left room : ℕ) → i
 weigh_over list i s left room lt is e h =
     omega (arith, weight_at list i s lt, ap (λ x. weight (stmt_then x Done)) is)
 
-pub choose_some : (r : Option ℕ) (s : Stmt) (subject : List Part) (cases : Vec case.Case Global) (seen : List case.Case) (left room : ℕ) → s ≡ Choose subject cases
+pub choose_some : (r : Option ℕ) (s : Stmt) (subject : what.Subject) (cases : Vec case.Case Global) (seen : List case.Case) (left room : ℕ) → s ≡ Choose subject cases
     → seen ≡ cases.items → left + 1 ≡ room → IfSome r (λ l. l + weight_of_cases (cases_of seen) ≡ left)
     → IfSome r (λ l. l + weight (stmt_then s Done) ≡ room)
 choose_some None s subject cases seen left room is same one h = h
 choose_some (Some l) s subject cases seen left room is same one h =
     omega (arith, weight_choice s subject cases is, ap (λ x. weight_of_cases (cases_of x)) same)
 
-pub choose_none : (r : Option ℕ) (s : Stmt) (subject : List Part) (cases : Vec case.Case Global) (seen : List case.Case) (left room : ℕ) → s ≡ Choose subject cases
+pub choose_none : (r : Option ℕ) (s : Stmt) (subject : what.Subject) (cases : Vec case.Case Global) (seen : List case.Case) (left room : ℕ) → s ≡ Choose subject cases
     → seen ≡ cases.items → left + 1 ≡ room → IfNone r (left < weight_of_cases (cases_of seen))
     → IfNone r (room < weight (stmt_then s Done))
 choose_none None s subject cases seen left room is same one h =
     omega (arith, weight_choice s subject cases is, ap (λ x. weight_of_cases (cases_of x)) same)
 choose_none (Some l) s subject cases seen left room is same one h = h
 
+programs_bound : (variable : List ℕ) (programs : List (List ℕ)) (always : Bool) → length (code_of_programs variable programs always) ≡ length programs
+programs_bound variable [] always = refl
+programs_bound variable (p ∷ programs) always = omega (arith, programs_bound variable programs false)
+
+behind_bound : (s : plain.Plain) → length (code_behind s) ≤ entries_of s + 1
+behind_bound (CheckProgs variable programs otherwise) =
+    omega (arith, length-append (code_of_programs variable programs true) (Defaults variable otherwise ∷ []), programs_bound variable programs true)
+behind_bound (ProgCc programs) = omega (arith, programs_bound (codes "CC") programs true)
+behind_bound (Init a b d e f) = omega arith
+behind_bound Accepted = omega arith
+behind_bound (ConfigFiles outputs) = omega arith
+behind_bound (Assign name value) = omega arith
+behind_bound (Subst name) = omega arith
+behind_bound (SubstValue name value) = omega arith
+behind_bound (Define name value) = omega arith
+behind_bound (DefineUnquoted name value) = omega arith
+behind_bound (Error message status) = omega arith
+behind_bound (ArgVar name help) = omega arith
+behind_bound (CheckProg variable program found otherwise) = omega arith
+behind_bound (PathProg variable program otherwise) = omega arith
+behind_bound Output = omega arith
+
 mutual
   -- code has two steps at most for each unit of weight
   pub code_bound : (script : Script) → length (code_of script) ≤ 2 * weight script
   code_bound Done = omega arith
-  code_bound (Then s rest) = omega (arith, code_bound rest)
+  code_bound (Then s rest) = omega (arith, behind_bound s, length-append (code_behind s) (code_of rest), code_bound rest)
   code_bound (Choice subject cases rest) =
       omega (arith, length-append (code_of_cases cases) (code_of rest), cases_bound cases, code_bound rest)
 

@@ -1,42 +1,49 @@
 -- What a plan does.
-use Rattle.std.specs.Prelude.{◌≡◌, ℕ, zero, suc, List, [], ◌∷◌, if◌then◌else◌}
+use Rattle.std.specs.Prelude.{◌≡◌, ℕ, zero, suc, Bool, List, [], ◌∷◌, Option, option_map, if◌then◌else◌}
 use Rattle.shellword.specs.declared.part.Part.{Part}
 use Rattle.shellword.specs.Value.{word_value}
 use Rattle.acmacros.specs.declared.statement.Plain as plain
+use Rattle.acmacros.specs.declared.statement.Plain.TheVariants.{CheckProgs, ProgCc}
+use Rattle.tree.specs.declared.tree.Subject as subject
 use Rattle.tree.specs.declared.tree.When.{When}
 use Rattle.tree.specs.Script.{Script}
-use Rattle.meaning.specs.State.{State, Run, Ends, Goes_on, then_run}
-use Rattle.meaning.specs.Meaning.{effect, is_taken, meaning}
+use Rattle.meaning.specs.State.{State, Scope, no_choice, Run, Ends, Goes_on, then_run}
+use Rattle.meaning.specs.Meaning.{effect, begun, is_taken, looks, defaulted, meaning}
 use Rattle.plan.specs.declared.step.Step.{Step}
-use Rattle.plan.specs.declared.step.Step.TheVariants.{Do, Subject, SkipUnless, Skip}
+use Rattle.plan.specs.declared.step.Step.TheVariants.{Do, Look, Default, Subject, SkipUnless, Skip}
 
 -- A step, as contracts speak of it.
 pub data Instruction : Type 0 where
   Does : (statement : plain.Plain) → Instruction
-  Begins : (subject : List Part) → Instruction
+  Looks : (variable program : List ℕ) (always : Bool) → Instruction
+  Defaults : (variable : List ℕ) (value : Option (List Part)) → Instruction
+  Begins : (subject : subject.Subject) → Instruction
   Skips_unless : (when : When) (steps : ℕ) → Instruction
   Skips : (steps : ℕ) → Instruction
 
 -- a step of the code
 abbrev pub shown : Step → Instruction
 shown (Do statement) = Does statement.now
+shown (Look variable program always) = Looks variable.now program.now always
+shown (Default variable value) = Defaults variable.now value.now
 shown (Subject subject) = Begins subject.now
 shown (SkipUnless when steps) = Skips_unless when.now steps
 shown (Skip steps) = Skips steps
 
--- What a plan keeps in mind beside variables and definitions: the value of the subject of the choice begun last.
-pub record Scope : Type 0 where
-  pub subject : List ℕ
+-- What a statement does in the step that is its own. The programs of AC_CHECK_PROGS and AC_PROG_CC are steps behind it.
+abbrev pub own_effect : plain.Plain → State → Run
+own_effect (CheckProgs variable programs otherwise) st = Ends Goes_on st
+own_effect (ProgCc programs) st = Ends Goes_on st
+own_effect statement st = effect statement st
 
--- at the beginning there was no choice
-abbrev pub no_choice : Scope
-no_choice = record { subject = [] }
-
--- One step; `next n` passes n steps and goes on.
+-- One step; `next n` passes n steps and goes on. Beside variables and definitions a plan keeps in mind what the choice
+-- begun last is about.
 abbrev pub act : Instruction → (ℕ → Scope → State → Run) → Scope → State → Run
-act (Does statement) next scope st = then_run (effect statement st) (next 0 scope)
-act (Begins subject) next scope st = next 0 (record { subject = word_value subject st.vars }) st
-act (Skips_unless when steps) next scope st = if is_taken when scope.subject st.vars then next 0 scope st else next steps scope st
+act (Does statement) next scope st = then_run (own_effect statement st) (next 0 scope)
+act (Looks variable program always) next scope st = then_run (looks variable program always st) (next 0 scope)
+act (Defaults variable value) next scope st = next 0 scope (defaulted variable (option_map (λ text. word_value text st.vars) value) st)
+act (Begins subject) next scope st = begun subject st (next 0)
+act (Skips_unless when steps) next scope st = if is_taken when scope st.vars then next 0 scope st else next steps scope st
 act (Skips steps) next scope st = next steps scope st
 
 -- a plan, after passing some steps

@@ -20,13 +20,14 @@ impl<'a> Model for Code<'a> {
     ghost use Rattle.std.specs.Prelude.{List, map, reverse};
     ghost use Rattle.std.specs.Coded.{codes};
     ghost use Rattle.acmacros.specs.contracts.statement.Plain as plain;
+    ghost use Rattle.tree.specs.contracts.tree.Subject as subject;
     ghost use Rattle.tree.specs.contracts.tree.When as when;
     ghost use Rattle.plan.specs.Names.{DefinesNames};
     ghost use Rattle.plan.specs.Walk.{Instruction, shown};
 
     ghost Value = { List Instruction };
 
-    ghost coded = { Prim.hlevel (codes, plain.the_row.coded, when.the_row.coded) };
+    ghost coded = { Prim.hlevel (codes, plain.the_row.coded, subject.the_row.coded, when.the_row.coded) };
 
     ghost view = { λ c. map shown (reverse c.steps.items) };
 

@@ -1,13 +1,66 @@
 //! The steps of statements, written from the last to the first, so that each jump knows how far it goes.
 
-ghost use Rattle.std.specs.Prelude.{◌≡◌, ◌++◌, IfOk, OnOk};
+ghost use Rattle.std.specs.Prelude.{◌≡◌, ◌++◌, IfOk, OnOk, true};
 ghost use Rattle.tree.specs.Script.{Done, script_of, cases_of, stmt_then};
-ghost use Rattle.plan.specs.Code.{case_code, code_of, code_of_cases};
+ghost use Rattle.plan.specs.Code.{case_code, code_behind, code_of, code_of_cases, code_of_programs};
 
 use crate::code::Code;
 use crate::step::Step;
+use acmacros::Plain;
+use deftable::Bytes;
 use std::alloc::{AllocError, Global};
 use tree::{Case, Stmt};
+
+/// The programs that are looked for, before what is there.
+fn emit_programs<'a>(
+    code: &mut Code<'a>,
+    variable: &'a [u8],
+    programs: &'a [Bytes],
+) -> Result<(), AllocError>
+    ensures { OnOk result (code.new ≡ code_of_programs variable.now programs.now true ++ code.old) }
+{
+    for i in (0..programs.len()).rev() {
+        code.put(Step::Look {
+            variable,
+            program: &programs[i],
+            always: i == 0,
+        })?;
+    }
+    Ok(())
+}
+
+/// What stands behind the own step of a statement, before what is there.
+fn emit_behind<'a>(code: &mut Code<'a>, statement: &'a Plain) -> Result<(), AllocError>
+    ensures { OnOk result (code.new ≡ code_behind statement.now ++ code.old) }
+{
+    match statement {
+        Plain::CheckProgs {
+            variable,
+            programs,
+            otherwise,
+        } => {
+            code.put(Step::Default {
+                variable: variable.as_slice(),
+                value: otherwise,
+            })?;
+            emit_programs(code, variable.as_slice(), programs.as_slice())
+        }
+        Plain::ProgCc { programs } => emit_programs(code, b"CC", programs.as_slice()),
+        Plain::Init { .. }
+        | Plain::Accepted
+        | Plain::ConfigFiles { .. }
+        | Plain::Assign { .. }
+        | Plain::Subst { .. }
+        | Plain::SubstValue { .. }
+        | Plain::Define { .. }
+        | Plain::DefineUnquoted { .. }
+        | Plain::Error { .. }
+        | Plain::ArgVar { .. }
+        | Plain::CheckProg { .. }
+        | Plain::PathProg { .. }
+        | Plain::Output => Ok(()),
+    }
+}
 
 /// The statements, before what is there.
 #[cycle(emit)]
@@ -26,6 +79,7 @@ fn emit_statement<'a>(code: &mut Code<'a>, statement: &'a Stmt) -> Result<(), Al
 {
     match statement {
         Stmt::Plain(plain) => {
+            emit_behind(code, plain)?;
             code.put_statement(plain)?;
             Ok(())
         }

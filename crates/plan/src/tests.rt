@@ -1,11 +1,12 @@
 //! The limit, and the steps of a small source.
 
 use super::*;
-use acmacros::Plain;
-use shellword::{Patterns, Word};
+use acmacros::{Plain, ProgramNames};
+use deftable::Bytes;
+use shellword::Patterns;
 use std::alloc::{AllocError, Global};
 use std::test::Fail;
-use tree::{Case, Stmt, When, choose};
+use tree::{Case, Stmt, Subject, When, choose};
 
 /// So many statements.
 fn outputs(alloc: Global, count: usize) -> Result<Vec<Stmt>, AllocError> {
@@ -29,7 +30,7 @@ fn choice(alloc: Global, has_default: bool) -> Result<Stmt, AllocError> {
             body: outputs(alloc, 1)?,
         })?;
     }
-    Ok(choose(Word::empty(alloc), cases))
+    Ok(choose(Subject::Nothing, cases))
 }
 
 fn is_too_long(alloc: Global, statements: &[Stmt]) -> bool {
@@ -74,7 +75,7 @@ fn the_heaviest_source(rt: HostRuntime) -> Result<(), Fail> {
 /// How many steps a step passes, if it is a jump.
 fn jump_of(step: &Step) -> Option<usize> {
     match step {
-        Step::Do(_) | Step::Subject(_) => None,
+        Step::Do(_) | Step::Look { .. } | Step::Default { .. } | Step::Subject(_) => None,
         Step::SkipUnless { steps, .. } | Step::Skip { steps } => Some(*steps),
     }
 }
@@ -93,6 +94,34 @@ fn the_steps_of_a_choice(rt: HostRuntime) -> Result<(), Fail> {
         jumps.push(jump_of(step))?;
     }
     assert_eq!(rt; jumps.as_slice(), wanted.as_slice());
+    Ok(())
+}
+
+/// AC_PROG_CC of two compilers.
+fn compilers(alloc: Global) -> Result<Stmt, AllocError> {
+    let mut names = Vec::new(alloc);
+    names.push(Bytes::from_slice(alloc, b"gcc")?)?;
+    names.push(Bytes::from_slice(alloc, b"cc")?)?;
+    Ok(Stmt::Plain(Plain::ProgCc {
+        programs: ProgramNames::from_vec(names),
+    }))
+}
+
+#[test]
+fn a_list_of_programs(rt: HostRuntime) -> Result<(), Fail> {
+    let alloc = rt.alloc();
+    // it weighs 3, and has a step for each program
+    let mut statements = outputs(alloc, 65_532)?;
+    statements.push(compilers(alloc)?)?;
+    assert_eq!(rt;
+        compile_statements(alloc, statements.as_slice())?
+            .steps()
+            .len(),
+        65_535
+    );
+    let mut statements = outputs(alloc, 65_533)?;
+    statements.push(compilers(alloc)?)?;
+    assert!(rt; is_too_long(alloc, statements.as_slice()));
     Ok(())
 }
 

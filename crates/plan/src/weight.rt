@@ -2,8 +2,9 @@
 
 ghost use Rattle.std.specs.Prelude.{◌≡◌, ◌+◌, ◌<◌, ◌∷◌, [], IfSome, IfNone};
 ghost use Rattle.tree.specs.Script.{Done, script_of, cases_of, stmt_then};
-ghost use Rattle.plan.specs.Weight.{weight, weight_of_cases};
+ghost use Rattle.plan.specs.Weight.{entries_of, weight, weight_of_cases};
 
+use acmacros::Plain;
 use tree::{Case, Stmt};
 
 /// The room that is left once the statements are weighed, if there is room for all.
@@ -22,6 +23,30 @@ pub(crate) fn weigh(room: usize, statements: &[Stmt]) -> Option<usize>
     Some(left)
 }
 
+/// The entries of a statement's list of programs.
+fn entries_of(statement: &Plain) -> usize
+    ensures { result ≡ entries_of statement.now }
+{
+    match statement {
+        Plain::CheckProgs { programs, .. } | Plain::ProgCc { programs } => {
+            programs.as_slice().len()
+        }
+        Plain::Init { .. }
+        | Plain::Accepted
+        | Plain::ConfigFiles { .. }
+        | Plain::Assign { .. }
+        | Plain::Subst { .. }
+        | Plain::SubstValue { .. }
+        | Plain::Define { .. }
+        | Plain::DefineUnquoted { .. }
+        | Plain::Error { .. }
+        | Plain::ArgVar { .. }
+        | Plain::CheckProg { .. }
+        | Plain::PathProg { .. }
+        | Plain::Output => 0,
+    }
+}
+
 #[cycle(weigh)]
 fn weigh_statement(room: usize, statement: &Stmt) -> Option<usize>
     ensures some { IfSome result (λ left. left + weight (stmt_then statement.now Done) ≡ room) }
@@ -31,7 +56,7 @@ fn weigh_statement(room: usize, statement: &Stmt) -> Option<usize>
         return None;
     };
     match statement {
-        Stmt::Plain(_) => Some(left),
+        Stmt::Plain(plain) => left.checked_sub(entries_of(plain)),
         Stmt::Choose { cases, .. } => weigh_cases(left, cases.as_slice()),
     }
 }

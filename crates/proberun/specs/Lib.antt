@@ -1,0 +1,5 @@
+pub mod Starts
+pub mod Serving
+pub mod Ran
+pub mod Progress
+pub mod Agreeing

@@ -1,13 +1,17 @@
 use Rattle.std.proofs.Common.{ap, ◌∙◌, sym, subst, arith, length}
 use Rattle.tree.specs.Script.{script_of}
 use Rattle.plan.specs.Inside.{StaysInside}
-use Rattle.plan.specs.Walk.{walk, no_choice}
+use Rattle.meaning.specs.State.{no_choice}
+use Rattle.plan.specs.Walk.{walk}
 use Rattle.plan.proofs.Follows.{does_what, code_stays}
 use Rattle.plan.proofs.Weights.{code_bound, within}
 use Rattle.plan.proofs.compiling.compile_statements.Goals as goal
 
 pub new-requires : goal.new-requires
-new-requires c = subst StaysInside (sym c.in_ok-code.ensures) (code_stays (script_of c.args.statements.now))
+new-requires c = record {
+  inside = subst StaysInside (sym c.in_ok-code.ensures) (code_stays (script_of c.args.statements.now));
+  few = omega (arith, ap length c.in_ok-code.ensures, code_bound (script_of c.args.statements.now), within _ _ _ (sym c.if-is_none.ensures) c.weigh.ensures.some);
+}
 
 pub returns-clause-meaning : goal.returns-clause-meaning
 returns-clause-meaning c = λ st.

@@ -1,27 +1,24 @@
-use Rattle.std.proofs.Common.{◌∙◌, arith}
-use Rattle.machine.proofs.Goes.{passes_on, turns_completed, turns_stopped, turns_past}
+use Rattle.std.proofs.Common.{sym, ap, ◌∙◌, get_or, arith}
+use Rattle.machine.proofs.Goes.{reach_at, stepped, lands, passes_on, past}
 use Rattle.machine.proofs.machine.Machine.go_on.Goals as goal
 
-pub overflow_add-self : goal.overflow_add-self
-overflow_add-self c = omega (arith, (passes_on _ _ _ _ _ _ _ _ _ c.requires.inside c.loop-self-test.true c.index-steps-self.is c.in-Pass.is c.in_ok-more.ensures).0)
+pub arrive-requires : goal.arrive-requires
+arrive-requires c =
+    let is = c.index-steps-place.is ∙ ap (λ k. get_or c.args.steps.now k c.index-steps-place.result) c.place-in-steps.ensures in
+    let place = ap (λ x. x.place) c.in_ok-flow.ensures.same in
+    let reach = reach_at c.args.steps.now c.steps.self.place c.index-steps-place.result c.requires.inside (omega (arith, c.place.ensures, c.steps-test.true)) is in
+    record { room = omega (arith, place, reach, c.in_ok-flow.ensures.within) }
 
-pub loop-self-preserved : goal.loop-self-preserved
-loop-self-preserved c = record {
-  failed = c.loop-self.invariant.failed;
-  same = (passes_on _ _ _ _ _ _ _ _ _ c.requires.inside c.loop-self-test.true c.index-steps-self.is c.in-Pass.is c.in_ok-more.ensures).1 ∙ c.loop-self.invariant.same;
-}
+pub returns-in-Some-clause-turned : goal.returns-in-Some-clause-turned
+returns-in-Some-clause-turned c =
+    let is = c.index-steps-place.is ∙ ap (λ k. get_or c.args.steps.now k c.index-steps-place.result) c.place-in-steps.ensures in
+    lands _ c.in_ok-flow.flow c.in-Some.turn _ c.step.new.self _ _ (sym c.in_ok-turn.ensures.turn ∙ c.in-Some.is) c.in_ok-turn.ensures.moved
+    (stepped c.args.steps.now c.index-steps-place.result c.in_ok-flow.flow c.args.self.now c.steps.self c.step.new.self (omega (arith, c.place.ensures, c.steps-test.true)) is c.requires.holds c.steps.invariant c.in_ok-flow.ensures.same c.in_ok-flow.ensures.asks c.in_ok-flow.ensures.heeds c.in_ok-flow.ensures.leads)
 
-pub overflow_add-self-in-Pass : goal.overflow_add-self-in-Pass
-overflow_add-self-in-Pass c = omega (arith, (passes_on _ _ _ _ _ _ _ _ _ c.requires.inside c.loop-self-test.true c.index-steps-self.is c.in-Pass.is c.in_ok-more.ensures).0)
-
-pub returns-in-Complete-clause-turned : goal.returns-in-Complete-clause-turned
-returns-in-Complete-clause-turned c =
-    turns_completed _ _ _ _ _ _ _ _ _ c.requires.going c.loop-self-test.true c.index-steps-self.is c.in-Complete.is c.in_ok-more.ensures c.loop-self.invariant.same
-
-pub returns-in-Stop-clause-turned : goal.returns-in-Stop-clause-turned
-returns-in-Stop-clause-turned c =
-    turns_stopped _ _ _ _ _ _ _ _ _ _ c.requires.going c.loop-self-test.true c.index-steps-self.is c.in-Stop.is c.in_ok-more.ensures c.loop-self.invariant.same
+pub steps-preserved : goal.steps-preserved
+steps-preserved c =
+    let is = c.index-steps-place.is ∙ ap (λ k. get_or c.args.steps.now k c.index-steps-place.result) c.place-in-steps.ensures in
+    passes_on c.args.steps.now c.index-steps-place.result c.in_ok-flow.flow c.args.self.now c.steps.self c.step.new.self _ (omega (arith, c.place.ensures, c.steps-test.true)) is c.steps.invariant c.in_ok-flow.ensures.same c.in_ok-flow.ensures.within c.requires.inside c.in_ok-flow.ensures.leads (sym c.in_ok-turn.ensures.turn ∙ c.in_default.is) c.in_ok-turn.ensures.moved
 
 pub returns-clause-turned : goal.returns-clause-turned
-returns-clause-turned c =
-    turns_past _ _ _ _ _ c.requires.going c.loop-self-test.false c.loop-self.invariant.same
+returns-clause-turned c = past c.args.steps.now c.args.self.now c.steps.self _ (omega (arith, c.place.ensures, c.steps-test.false)) c.requires.holds c.steps.invariant c.pass_end.ensures

@@ -1,0 +1,83 @@
+-- The folders of a path.
+use Rattle.std.proofs.Common.{◌≡◌, ℕ, zero, suc, ◌+◌, ◌-◌, ◌≤◌, ◌==◌, Bool, true, false, cond, List, [], ◌∷◌, length, map, take, get_or, Bor, Option, None, refl, sym, ap, ◌∙◌, subst, arith}
+use Rattle.std.specs.Prelude.{codes, not, ◌||◌, option_map}
+use Rattle.std.proofs.lemmas.List.{length-map, take-map}
+use Rattle.textcut.specs.Cuts.{parts}
+use Rattle.deftable.specs.Table.{value_of}
+use Rattle.shellword.specs.declared.part.Part.{Part}
+use Rattle.shellword.specs.Value.{word_value}
+use Rattle.acmacros.specs.declared.statement.Plain as plain
+use Rattle.acmacros.specs.declared.statement.Plain.TheVariants.{CheckProg, PathProg}
+use Rattle.meaning.specs.State.{State, Scope, Run, Ends, Goes_on, then_run}
+use Rattle.meaning.specs.Meaning.{effect, check_prog, path_prog, has_value, is_full_name, looks}
+use Rattle.plan.specs.Walk.{own_effect}
+use Rattle.machine.specs.declared.flow.Flow.{Flow}
+use Rattle.machine.specs.Flows.{Leads}
+use Rattle.meaning.specs.Search.{Search, ends_empty, without_last_empty, folder_of, folders_of, value_or_empty, searched, looked_up, cached_search, program_test}
+
+-- the last part
+pub last_at : (xs : List (Bor (List ℕ))) (d : Bor (List ℕ)) (i : ℕ) → i + 1 ≡ length xs → (length (get_or xs i d).now == 0) ≡ ends_empty (map (λ part. part.now) xs)
+last_at [] d i e = absurd (omega arith)
+last_at (x ∷ []) d zero e = refl
+last_at (x ∷ []) d (suc i) e = absurd (omega arith)
+last_at (x ∷ y ∷ xs) d zero e = absurd (omega arith)
+last_at (x ∷ y ∷ xs) d (suc i) e = last_at (y ∷ xs) d i (omega arith)
+
+pub without_last : (xs : List (Bor (List ℕ))) (n : ℕ) → n ≡ length xs - 1 → ends_empty (map (λ part. part.now) xs) ≡ true → map (λ part. part.now) (take n xs) ≡ without_last_empty (map (λ part. part.now) xs)
+without_last xs n is empty =
+    let ys = map (λ part. part.now) xs in
+    let same : n ≡ length ys - 1 = omega (arith, is, length-map xs (λ part. part.now)) in
+    sym (take-map (λ part. part.now) n xs) ∙ ap (λ k. take k ys) same ∙ sym (ap (λ b. cond b (take (length ys - 1) ys) ys) empty)
+
+pub folders_are : (found : List (List ℕ)) (tried all kept : List (Bor (List ℕ))) (path : List ℕ) → found ≡ map folder_of (map (λ part. part.now) tried)
+    → tried ≡ take 65536 kept → map (λ part. part.now) kept ≡ without_last_empty (map (λ part. part.now) all) → map (λ part. part.now) all ≡ parts 58 path
+    → found ≡ folders_of path
+unfolding folders_of
+folders_are found tried all kept path is few left cut =
+    is ∙ ap (λ l. map folder_of (map (λ part. part.now) l)) few ∙ ap (map folder_of) (sym (take-map (λ part. part.now) 65536 kept))
+    ∙ ap (λ l. map folder_of (take 65536 l)) (left ∙ ap without_last_empty cut)
+
+take_few : {A : Type 0} (n : ℕ) (l : List A) → length (take n l) ≤ n
+take_few zero l = omega arith
+take_few (suc n) [] = omega arith
+take_few (suc n) (x ∷ l) = omega (arith, take_few n l)
+
+pub few_folders : (path : List ℕ) → length (folders_of path) ≤ 65536
+unfolding folders_of
+few_folders path =
+    let l = without_last_empty (parts 58 path) in
+    subst (λ k. k ≤ 65536) (sym (length-map (take 65536 l) folder_of)) (take_few 65536 l)
+
+-- a search that is not cached
+pub not_cached : (s : Search) (own : Bool) (st : State) → value_of st.vars s.name ≡ None → own ≡ false
+    → searched s (folders_of (value_or_empty st (codes "PATH"))) st ≡ program_test s own st
+not_cached s own st none is = sym (ap (λ b. looked_up s b st) is) ∙ sym (ap (λ v. cached_search v s own st) none)
+
+pub looks_test : (variable program : List ℕ) (always own wanted : Bool) (st : State) → wanted ≡ (always || not own) → own ≡ has_value st variable → wanted ≡ true
+    → program_test (check_prog variable program program None) (has_value st variable) st ≡ looks variable program always st
+looks_test variable program always own wanted st is has yes_wanted =
+    let e : (always || not (has_value st variable)) ≡ true = ap (λ b. always || not b) (sym has) ∙ sym is ∙ yes_wanted in
+    sym (ap (λ b. cond b (program_test (check_prog variable program program None) (has_value st variable) st) (Ends Goes_on st)) e)
+
+-- a flow that leads on a run leads on an equal one
+pub led : (f : Flow) (about : Scope) (st : State) (run run' : Run) → run ≡ run' → Leads f (λ next. then_run run (next 0 about)) about st → Leads f (λ next. then_run run' (next 0 about)) about st
+led f about st run run' e h = subst (λ r. Leads f (λ next. then_run r (next 0 about)) about st) e h
+
+pub check_effect : (statement : plain.Plain) (variable program : List ℕ) (f : List Part) (o : Option (List Part)) (seen found : List ℕ) (otherwise : Option (List ℕ)) (st : State)
+    → statement ≡ CheckProg variable program f o → seen ≡ variable → found ≡ word_value f st.vars → otherwise ≡ option_map (λ t. word_value t st.vars) o
+    → program_test (check_prog seen program found otherwise) (has_value st seen) st ≡ own_effect statement st
+unfolding effect
+check_effect statement variable program f o seen found otherwise st is s e d =
+    ap (λ v. program_test (check_prog v program found otherwise) (has_value st v) st) s
+    ∙ ap (λ v. program_test (check_prog variable program v otherwise) (has_value st variable) st) e
+    ∙ ap (λ v. program_test (check_prog variable program (word_value f st.vars) v) (has_value st variable) st) d
+    ∙ sym (ap (λ x. own_effect x st) is)
+
+pub path_effect : (statement : plain.Plain) (variable program : List ℕ) (o : Option (List Part)) (seen : List ℕ) (otherwise : Option (List ℕ)) (st : State)
+    → statement ≡ PathProg variable program o → seen ≡ variable → otherwise ≡ option_map (λ t. word_value t st.vars) o
+    → program_test (path_prog seen program otherwise) (is_full_name (value_or_empty st seen)) st ≡ own_effect statement st
+unfolding effect
+path_effect statement variable program o seen otherwise st is s d =
+    ap (λ v. program_test (path_prog v program otherwise) (is_full_name (value_or_empty st v)) st) s
+    ∙ ap (λ v. program_test (path_prog variable program v) (is_full_name (value_or_empty st variable)) st) d
+    ∙ sym (ap (λ x. own_effect x st) is)

@@ -1,0 +1,24 @@
+-- How a machine moves on.
+use Rattle.std.specs.Prelude.{◌+◌, [], ◌∷◌, Option, Some, None}
+use Rattle.machine.specs.declared.flow.Flow.{Flow}
+use Rattle.machine.specs.declared.flow.Flow.TheVariants as flow
+use Rattle.machine.specs.declared.machine.Phase.TheVariants as phase
+use Rattle.machine.specs.declared.machine.Turn.{Turn}
+use Rattle.machine.specs.declared.machine.Turn.TheVariants as turn
+use Rattle.machine.specs.Standing.{Standing}
+
+-- the machine goes where a step leads
+abbrev pub arrived : Flow → Standing → Standing
+arrived (flow.Pass more) m = record m { place = m.place + (1 + more) }
+arrived (flow.Ask job wait) m = record m { phase = phase.Asking; wait = wait; jobs = job ∷ []; replies = None ∷ [] }
+arrived flow.Complete m = record m { phase = phase.Completed }
+arrived (flow.Stop status) m = record m { phase = phase.Stopped status }
+arrived (flow.Cut number) m = record m { phase = phase.Cut number }
+
+-- the turn that it is then, unless there are steps to do
+abbrev pub turn_by : Flow → Option Turn
+turn_by (flow.Pass more) = None
+turn_by (flow.Ask job wait) = Some turn.Ask
+turn_by flow.Complete = Some turn.Done
+turn_by (flow.Stop status) = Some (turn.Stopped status)
+turn_by (flow.Cut number) = Some (turn.Cut number)

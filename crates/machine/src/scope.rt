@@ -1,0 +1,66 @@
+//! What the choice begun last is about.
+
+ghost use Rattle.std.specs.Prelude.{◌≡◌};
+ghost use Rattle.meaning.specs.State.{about, answered, no_choice};
+
+use deftable::Bytes;
+use std::alloc::Global;
+use std::marker::Model;
+
+/// The value of the word that patterns are for, and the answer to what was asked.
+#[derive(Debug, Drop)]
+pub(crate) struct About {
+    subject: Bytes,
+    answer: bool,
+}
+
+impl Model for About {
+    ghost use Rattle.meaning.specs.State.{Scope};
+
+    ghost Value = { Scope };
+
+    ghost view = { λ a. record { subject = a.subject; answer = a.answer } };
+}
+
+impl About {
+    /// About nothing.
+    pub(crate) fn nothing(alloc: Global) -> About
+        ensures { result ≡ no_choice }
+    {
+        About::answer(alloc, false)
+    }
+
+    /// About a word with this value.
+    pub(crate) fn word(subject: Bytes) -> About
+        ensures { result ≡ about subject }
+    {
+        About {
+            subject,
+            answer: false,
+        }
+    }
+
+    /// About a question with this answer.
+    pub(crate) fn answer(alloc: Global, answer: bool) -> About
+        ensures { result ≡ answered answer }
+    {
+        About {
+            subject: Bytes::new(alloc),
+            answer,
+        }
+    }
+
+    /// The value of the word.
+    pub(crate) fn subject(&self) -> &[u8]
+        ensures { result.now ≡ self.now.subject }
+    {
+        self.subject.as_slice()
+    }
+
+    /// Whether the answer is yes.
+    pub(crate) fn is_yes(&self) -> bool
+        ensures { result ≡ self.now.answer }
+    {
+        self.answer
+    }
+}

@@ -1,0 +1,218 @@
+//! Searches of programs along PATH.
+
+ghost use Rattle.std.specs.Prelude.{◌≡◌, ◌≤◌, ◌++◌, ◌∷◌, [], IfOk, OnOk, IfSome, IfNone, length, option_map, codes, map, take};
+ghost use Rattle.meaning.specs.State.{Scope, then_run};
+ghost use Rattle.meaning.specs.Search.{ends_empty, folder_of, folders_of, program_test, searched, settled_as, value_or_empty, without_last_empty};
+ghost use Rattle.machine.specs.Flows.{Heeds, Leads, asks_now, passed};
+
+use crate::flow::Flow;
+use crate::store::Store;
+use crate::wait::Wait;
+use conftest::path_job;
+use deftable::Bytes;
+use std::alloc::{AllocError, Global};
+use std::marker::Model;
+use textcut::parts;
+
+/// How many folders a search tries (own).
+const MOST_FOLDERS: usize = 65_536;
+
+/// A search of a program for a variable. Contracts see it as the meaning of statements does.
+#[derive(Debug, Drop)]
+pub(crate) struct Search {
+    pub(crate) variable: Bytes,
+    /// The cached name.
+    pub(crate) name: Bytes,
+    pub(crate) program: Bytes,
+    /// The value where the program is found, if it isn't the program's full name.
+    pub(crate) found: Option<Bytes>,
+    /// The value where it isn't found.
+    pub(crate) otherwise: Option<Bytes>,
+}
+
+impl Model for Search {
+    ghost use Rattle.meaning.specs.Search.{Search};
+
+    ghost Value = { Search };
+
+    ghost view = { λ s. record { variable = s.variable; name = s.name; program = s.program; found = s.found; otherwise = s.otherwise } };
+}
+
+/// Folders, in the order in which they are tried.
+#[derive(Debug, Drop)]
+pub(crate) struct Folders {
+    /// The last folder comes first.
+    folders: Vec<Bytes>,
+}
+
+impl Model for Folders {
+    ghost use Rattle.std.specs.Prelude.{List, ℕ, reverse};
+
+    ghost Value = { List (List ℕ) };
+
+    ghost view = { λ f. reverse f.folders.items };
+}
+
+impl Folders {
+    /// Takes the folder that is tried next.
+    fn take_first(&mut self) -> Option<Bytes>
+        ensures some { IfSome result (λ folder. self.old ≡ folder ∷ self.new) }
+        ensures none { IfNone result (self.old ≡ []) }
+    {
+        self.folders.pop()
+    }
+
+    /// The folders of a path.
+    fn of(alloc: Global, path: &[u8]) -> Result<Folders, AllocError>
+        ensures { IfOk result (λ f. f ≡ folders_of path.now) }
+    {
+        let parts = parts(alloc, path, b':')?;
+        let mut folders = folders_in(alloc, within(without_last_empty(parts.as_slice())))?;
+        folders.reverse();
+        Ok(Folders { folders })
+    }
+}
+
+/// Whether the last part is empty.
+fn ends_empty(parts: &[&[u8]]) -> bool
+    ensures { result ≡ ends_empty (map (λ part. part.now) parts.now) }
+{
+    let Some(last) = parts.len().checked_sub(1) else {
+        return false;
+    };
+    parts[last].is_empty()
+}
+
+/// The parts without an empty last one.
+fn without_last_empty<'a, 'b>(parts: &'b [&'a [u8]]) -> &'b [&'a [u8]]
+    ensures { map (λ part. part.now) result.now ≡ without_last_empty (map (λ part. part.now) parts.now) }
+{
+    if ends_empty(parts) {
+        return &parts[..parts.len().saturating_sub(1)];
+    }
+    parts
+}
+
+/// The parts up to the limit.
+fn within<'a, 'b>(parts: &'b [&'a [u8]]) -> &'b [&'a [u8]]
+    ensures { result.now ≡ take 65536 parts.now }
+{
+    if parts.len() > MOST_FOLDERS {
+        return &parts[..MOST_FOLDERS];
+    }
+    parts
+}
+
+/// A folder as it stands in front of a name.
+fn folder_of(alloc: Global, part: &[u8]) -> Result<Bytes, AllocError>
+    ensures { IfOk result (λ f. f ≡ folder_of part.now) }
+{
+    if part.is_empty() {
+        return Bytes::from_slice(alloc, b"./");
+    }
+    let mut folder = Vec::from_slice(alloc, part)?;
+    if !part.ends_with(b"/") {
+        folder.push(b'/')?;
+    }
+    Ok(Bytes::from_vec(folder))
+}
+
+fn folders_in(alloc: Global, parts: &[&[u8]]) -> Result<Vec<Bytes>, AllocError>
+    ensures { IfOk result (λ v. v.items ≡ map folder_of (map (λ part. part.now) parts.now)) }
+{
+    let mut folders = Vec::new(alloc);
+    for part in parts {
+        folders.push(folder_of(alloc, part)?)?;
+    }
+    Ok(folders)
+}
+
+/// Ends a search with the value that its name gets, if there is one.
+pub(crate) fn settle(
+    store: &mut Store,
+    search: &Search,
+    value: Option<&Bytes>,
+) -> Result<(), AllocError>
+    ensures { OnOk result (store.new ≡ settled_as search.now (option_map (λ v. v.now) value.entry) store.old) }
+{
+    match value {
+        Some(value) => {
+            store.set(search.name.as_slice(), value.as_slice())?;
+            store.set(search.variable.as_slice(), value.as_slice())?;
+        }
+        None => store.set(search.variable.as_slice(), b"")?,
+    }
+    Ok(())
+}
+
+/// A program's name within a folder.
+fn file_in(alloc: Global, folder: &Bytes, program: &Bytes) -> Result<Bytes, AllocError>
+    ensures { IfOk result (λ f. f ≡ folder.now ++ program.now) }
+{
+    let mut file = Vec::from_slice(alloc, folder.as_slice())?;
+    file.extend_from_slice(program.as_slice())?;
+    Ok(Bytes::from_vec(file))
+}
+
+/// Looks for the program in the folders that are left.
+pub(crate) fn look_on(
+    alloc: Global,
+    store: &mut Store,
+    search: Search,
+    mut left: Folders,
+) -> Result<Flow, AllocError>
+    ensures within { IfOk result (λ flow. passed flow ≤ 0) }
+    ensures asks { IfOk result (λ flow. asks_now flow ≤ length left) }
+    ensures heeds { IfOk result (λ flow. Heeds flow [] 0) }
+    ensures leads { IfOk result (λ flow. (about : Scope) → Leads flow (λ next. then_run (searched search left store.old) (next 0 about)) about store.new) }
+{
+    let Some(folder) = left.take_first() else {
+        settle(store, &search, search.otherwise.as_ref())?;
+        return Ok(Flow::Pass { more: 0 });
+    };
+    let file = file_in(alloc, &folder, &search.program)?;
+    let job = path_job(alloc, file.as_slice())?;
+    Ok(Flow::Ask {
+        job,
+        wait: Wait::Folder { search, file, left },
+    })
+}
+
+/// Looks for the program in the folders of PATH.
+fn search_path(alloc: Global, store: &mut Store, search: Search) -> Result<Flow, AllocError>
+    ensures within { IfOk result (λ flow. passed flow ≤ 0) }
+    ensures asks { IfOk result (λ flow. asks_now flow ≤ 65536) }
+    ensures heeds { IfOk result (λ flow. Heeds flow [] 0) }
+    ensures leads { IfOk result (λ flow. (about : Scope) → Leads flow (λ next. then_run (searched search (folders_of (value_or_empty store.old (codes "PATH"))) store.old) (next 0 about)) about store.new) }
+{
+    let path = store.value_or_empty(alloc, b"PATH")?;
+    let folders = Folders::of(alloc, path.as_slice())?;
+    let flow = look_on(alloc, store, search, folders)?;
+    Ok(flow)
+}
+
+/// A cached search. A name that is set is not looked for, nor is one whose variable has a value that counts (`own`).
+pub(crate) fn look_for(
+    alloc: Global,
+    store: &mut Store,
+    search: Search,
+    own: bool,
+) -> Result<Flow, AllocError>
+    ensures within { IfOk result (λ flow. passed flow ≤ 0) }
+    ensures asks { IfOk result (λ flow. asks_now flow ≤ 65536) }
+    ensures heeds { IfOk result (λ flow. Heeds flow [] 0) }
+    ensures leads { IfOk result (λ flow. (about : Scope) → Leads flow (λ next. then_run (program_test search own store.old) (next 0 about)) about store.new) }
+{
+    let cached = store.value_of(alloc, search.name.as_slice())?;
+    if let Some(value) = cached {
+        store.set(search.variable.as_slice(), value.as_slice())?;
+        return Ok(Flow::Pass { more: 0 });
+    }
+    if own {
+        let value = store.value_or_empty(alloc, search.variable.as_slice())?;
+        settle(store, &search, Some(&value))?;
+        return Ok(Flow::Pass { more: 0 });
+    }
+    let flow = search_path(alloc, store, search)?;
+    Ok(flow)
+}

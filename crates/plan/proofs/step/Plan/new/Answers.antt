@@ -1,0 +1,12 @@
+use Rattle.std.proofs.Common.{arith, subst, sym, ap}
+use Rattle.plan.specs.Inside.{StaysInside, asks_after}
+use Rattle.plan.specs.Names.{DefinesNames}
+use Rattle.plan.proofs.Follows.{asks_bound}
+use Rattle.plan.proofs.step.Plan.new.Goals as goal
+
+pub invariant_of-result : goal.invariant_of-result
+invariant_of-result c = (
+  subst StaysInside (sym c.into_steps.ensures.steps) c.requires.inside,
+  subst DefinesNames (sym c.into_steps.ensures.steps) c.into_steps.ensures.names,
+  omega (arith, asks_bound c.args.code, ap (λ l. asks_after l 0) c.into_steps.ensures.steps, c.requires.few),
+)

@@ -1,0 +1,82 @@
+-- A run reads no reply past those to the jobs that it asks.
+use Rattle.std.proofs.Common.{◌≡◌, ℕ, zero, suc, ◌≤◌, List, [], ◌∷◌, length, take, drop, Some, refl, sym, ap, ◌∙◌, subst, arith, length-append}
+use Rattle.std.proofs.lemmas.List.{length-drop}
+use Rattle.conftest.specs.declared.job.Job.{Job}
+use Rattle.crew.specs.declared.reply.Reply.{Reply}
+use Rattle.crew.specs.Events.{replies_in}
+use Rattle.meaning.specs.State.{Run, Ends, Asks}
+use Rattle.meaning.specs.Play.{Played, play, after, all_jobs}
+use Rattle.machine.specs.declared.machine.RunEnd.{RunEnd}
+use Rattle.machine.specs.Waits.{first_refused}
+use Rattle.proberun.specs.Ran.{outcome_from}
+use Rattle.proberun.specs.Agreeing.{Agree, RunsAgree}
+use Rattle.proberun.proofs.RunLemmas.{length-replies}
+
+agree_take : (n : ℕ) (xs ys : List Reply) → n ≤ length xs → n ≤ length ys → Agree xs ys → take n xs ≡ take n ys
+agree_take zero xs ys lx ly g = refl
+agree_take (suc n) [] ys lx ly g = absurd (omega arith)
+agree_take (suc n) (x ∷ xs) [] lx ly g = absurd (omega arith)
+agree_take (suc n) (x ∷ xs) (y ∷ ys) lx ly g =
+    ap (λ z. z ∷ take n xs) g.0 ∙ ap (λ l. y ∷ l) (agree_take n xs ys (omega arith) (omega arith) g.1)
+
+agree_drop : (n : ℕ) (xs ys : List Reply) → Agree xs ys → Agree (drop n xs) (drop n ys)
+agree_drop zero xs ys g = g
+agree_drop (suc n) [] ys g = tt
+agree_drop (suc n) (x ∷ xs) [] g = agree_nothing (drop n xs)
+  where
+    agree_nothing : (xs : List Reply) → Agree xs []
+    agree_nothing [] = tt
+    agree_nothing (x ∷ xs) = tt
+agree_drop (suc n) (x ∷ xs) (y ∷ ys) g = agree_drop n xs ys g.1
+
+agree_all : (xs ys : List Reply) → length xs ≡ length ys → Agree xs ys → xs ≡ ys
+agree_all [] [] e g = refl
+agree_all [] (y ∷ ys) e g = absurd (omega arith)
+agree_all (x ∷ xs) [] e g = absurd (omega arith)
+agree_all (x ∷ xs) (y ∷ ys) e g = ap (λ z. z ∷ xs) g.0 ∙ ap (λ l. y ∷ l) (agree_all xs ys (omega arith) g.1)
+
+-- so many replies are read
+abbrev Enough : Played → List Reply → Type 0
+Enough p replies = length replies ≡ length (all_jobs p.groups)
+
+-- the replies behind those to the first group
+rest_enough : (jobs : List Job) (p : Played) (xs : List Reply) → Enough (after (jobs ∷ []) p) xs → (length jobs ≤ length xs) × Enough p (drop (length jobs) xs)
+rest_enough jobs p xs e =
+    let parts = length-append jobs (all_jobs p.groups) in
+    let left = length-drop (length jobs) xs in
+    (omega (arith, e, parts), omega (arith, e, parts, left))
+
+same_play : (run : Run) (xs ys : List Reply) → Enough (play run xs) xs → Enough (play run ys) ys → Agree xs ys → play run xs ≡ play run ys
+same_play (Ends how st) xs ys a b g = refl
+same_play (Asks jobs next) xs ys a b g =
+    let n = length jobs in
+    let x = rest_enough jobs (play (next (take n xs)) (drop n xs)) xs a in
+    let y = rest_enough jobs (play (next (take n ys)) (drop n ys)) ys b in
+    let front : take n xs ≡ take n ys = agree_take n xs ys x.0 y.0 g in
+    let back : Enough (play (next (take n xs)) (drop n ys)) (drop n ys) = subst (λ l. Enough (play (next l) (drop n ys)) (drop n ys)) (sym front) y.1 in
+    ap (after (jobs ∷ [])) (same_play (next (take n xs)) (drop n xs) (drop n ys) x.1 back (agree_drop n xs ys g))
+    ∙ ap (λ l. after (jobs ∷ []) (play (next l) (drop n ys))) front
+
+same_end : (end other : RunEnd) → end.outcome ≡ other.outcome → end.vars ≡ other.vars → end.defs ≡ other.defs → end ≡ other
+same_end end other o v d =
+    let a : end ≡ record { outcome = other.outcome; vars = end.vars; defs = end.defs } = ap (λ x. record { outcome = x; vars = end.vars; defs = end.defs }) o in
+    let b : record { outcome = other.outcome; vars = end.vars; defs = end.defs } ≡ record { outcome = other.outcome; vars = other.vars; defs = end.defs } = ap (λ x. record { outcome = other.outcome; vars = x; defs = end.defs }) v in
+    let c : record { outcome = other.outcome; vars = other.vars; defs = end.defs } ≡ other = ap (λ x. record { outcome = other.outcome; vars = other.vars; defs = x }) d in
+    a ∙ b ∙ c
+
+pub runs_agree : RunsAgree
+runs_agree run window other_window before now other_before other_now end other_end one other g =
+    let xs = replies_in before.attempts (length (all_jobs one.groups)) one.since in
+    let ys = replies_in other_before.attempts (length (all_jobs other.groups)) other.since in
+    let enough : Enough (play run xs) xs = length-replies before.attempts (length (all_jobs one.groups)) one.since ∙ ap (λ p. length (all_jobs p.groups)) (sym one.meaning) in
+    let other_enough : Enough (play run ys) ys = length-replies other_before.attempts (length (all_jobs other.groups)) other.since ∙ ap (λ p. length (all_jobs p.groups)) (sym other.meaning) in
+    let same = sym one.meaning ∙ same_play run xs ys enough other_enough g ∙ other.meaning in
+    let groups : one.groups ≡ other.groups = ap (λ p. p.groups) same in
+    let how : one.how ≡ other.how = ap (λ p. p.how) same in
+    let count : length xs ≡ length ys =
+    length-replies before.attempts (length (all_jobs one.groups)) one.since ∙ ap (λ l. length (all_jobs l)) groups
+    ∙ sym (length-replies other_before.attempts (length (all_jobs other.groups)) other.since) in
+    let replies : xs ≡ ys = agree_all xs ys count g in
+    let outcomes : Some end.outcome ≡ Some other_end.outcome =
+    sym one.outcome ∙ ap (λ h. outcome_from h (first_refused xs)) how ∙ ap (λ l. outcome_from other.how (first_refused l)) replies ∙ other.outcome in
+    (groups, same_end end other_end (cc) (ap (λ p. p.state.vars) same) (ap (λ p. p.state.defs) same))

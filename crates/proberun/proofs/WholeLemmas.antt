@@ -1,0 +1,223 @@
+-- The machine and the crew, from group to group.
+use Rattle.std.proofs.Common.{◌≡◌, ℕ, ◌+◌, ◌≤◌, List, [], ◌++◌, ◌∷◌, length, map, take, drop, Option, Some, None, refl, sym, ap, ◌∙◌, subst, arith}
+use Rattle.std.specs.Prelude.{IfSome}
+use Rattle.std.proofs.lemmas.List.{append-nil}
+use Rattle.std.proofs.lemmas.List.Sums.{fold-append}
+use Rattle.crew.specs.declared.reply.Reply.{Reply}
+use Rattle.crew.specs.Events.{Account, IsIdle, replies_in, in_flight, flying_after}
+use Rattle.meaning.specs.State.{State, How, Goes_on, Completed, Stopped, Cut, Run, Ends, Asks, no_choice}
+use Rattle.meaning.specs.Play.{play, after, all_jobs}
+use Rattle.plan.specs.Walk.{Instruction, walk}
+use Rattle.plan.specs.Inside.{asks_after}
+use Rattle.machine.specs.declared.machine.Phase.{Phase}
+use Rattle.machine.specs.declared.machine.Phase.TheVariants as phase
+use Rattle.machine.specs.declared.machine.Turn.{Turn}
+use Rattle.machine.specs.declared.machine.Turn.TheVariants as turn
+use Rattle.machine.specs.declared.machine.Outcome.TheVariants as outcome
+use Rattle.machine.specs.declared.machine.RunEnd.{RunEnd}
+use Rattle.machine.specs.declared.wait.Wait.TheVariants as waits
+use Rattle.machine.specs.Waits.{given, first_refused, resumed}
+use Rattle.machine.specs.Standing.{Standing, run_in, run_at, left_in, run_left, Shows, CutsAt, Refusals, Holds, Fits, fits_in, asks_in, asks_left, Turned, outcome_of}
+use Rattle.proberun.specs.Serving.{Served, failed_count}
+use Rattle.proberun.specs.Ran.{Ran, outcome_from}
+use Rattle.proberun.specs.Progress.{Progress, Heeded, Moving}
+use Rattle.proberun.proofs.RunLemmas.{progress_begins, progress_same, progress_heard, progress_group, length-replies, answered_both, refused_behind, no_failures}
+
+-- a machine that is ready for its next turn
+pub record Ready (w : ℕ) (plan : List Instruction) (run : Run) (before now : Account) (m : Standing) (left : ℕ) : Type 0 where
+  pub progress : Progress w run (run_left plan m) m.before (given m.replies) before now
+  pub fits : Fits plan m
+  pub moving : Moving m.phase
+  pub asks : asks_left plan m ≡ left
+
+pub begins : (w : ℕ) (plan : List Instruction) (m : Standing) (st : State) (now : Account) → m ≡ record { phase = phase.Going; place = 0; scope = no_choice; state = st; wait = waits.Nothing; before = 0; jobs = []; replies = [] } → IsIdle now.events → Ready w plan (walk plan 0 no_choice st) now now m (asks_after plan 0)
+begins w plan m st now is idle =
+    subst (λ x. Ready w plan (walk plan 0 no_choice st) now now x (asks_after plan 0)) (sym is)
+    (record { progress = progress_begins w _ _ now refl idle; fits = record { jobs = refl; replies = refl; place = omega arith; counted = omega arith }; moving = tt; asks = refl })
+
+given-map : (rs : List Reply) → given (map Some rs) ≡ rs
+given-map [] = refl
+given-map (r ∷ rs) = ap (λ l. r ∷ l) (given-map rs)
+
+length-given : (rs : List (Option Reply)) → length (given rs) ≡ length rs
+length-given [] = refl
+length-given (r ∷ rs) = let e = length-given rs in omega arith
+
+length-somes : (rs : List Reply) → length (map Some rs) ≡ length rs
+length-somes [] = refl
+length-somes (r ∷ rs) = let e = length-somes rs in omega arith
+
+-- there is a place for the reply to each job
+places : (p : Phase) (plan : List Instruction) (m : Standing) → fits_in p plan m → length m.replies ≡ length m.jobs
+places phase.Going plan m h = h.replies ∙ sym h.jobs
+places phase.Asking plan m h = h.replies ∙ sym h.jobs
+places phase.Past plan m h = h.replies ∙ sym h.jobs
+places phase.Completed plan m h = h.replies ∙ sym h.jobs
+places (phase.Stopped status) plan m h = h.replies ∙ sym h.jobs
+places (phase.Cut number) plan m h = h.replies ∙ sym h.jobs
+places phase.Failed plan m h = h.replies ∙ sym h.jobs
+
+-- what an Ask shows
+shows_ask : (r : Run) (m : Standing) → Shows turn.Ask r m → m.phase ≡ phase.Asking
+shows_ask (Ends how st) m h = absurd h
+shows_ask (Asks jobs next) m h = h.0
+
+fits_at : (p : Phase) (plan : List Instruction) (m : Standing) → p ≡ phase.Asking → fits_in p plan m → Holds 1 plan m
+fits_at p plan m e h = let q : fits_in phase.Asking plan m = subst (λ x. fits_in x plan m) e h in q
+
+-- a machine that asks, asks one job
+pub one_job : (plan : List Instruction) (old m : Standing) → Turned plan turn.Ask old m → length m.jobs ≡ 1
+one_job plan old m t = (fits_at m.phase plan m (shows_ask (run_at plan m) m t.shows) t.fits).jobs
+
+-- where a machine asks, no call has failed so far
+pub no_failure_yet : (w : ℕ) (plan : List Instruction) (run : Run) (before mid : Account) (old m : Standing) → Turned plan turn.Ask old m → Progress w run (run_left plan old) old.before (given old.replies) before mid → mid.failures ≡ before.failures
+no_failure_yet w plan run before mid old m t p =
+    let none = no_failures (replies_in before.attempts (length (all_jobs p.groups)) p.since) (ap first_refused p.heeded.whole ∙ answered_both p.heeded.earlier (given old.replies) p.heeded.answered t.refusals) in
+    omega (arith, p.failures, none)
+
+-- what follows the replies to the jobs that a machine asks
+abbrev next_of : List Instruction → Standing → List Reply → Run
+next_of plan m replies = resumed m.wait replies (walk plan (m.place + 1)) m.scope m.state
+
+after_replies : (plan : List Instruction) (m : Standing) (rs : List Reply) → m.phase ≡ phase.Asking → run_left plan (record m { replies = map Some rs }) ≡ next_of plan m rs
+after_replies plan m rs asking =
+    ap (λ p. left_in p plan (record m { replies = map Some rs })) asking ∙ ap (next_of plan m) (given-map rs)
+
+served_ready : (w : ℕ) (plan : List Instruction) (run : Run) (before mid now : Account) (old m : Standing) (rs : List Reply) → Turned plan turn.Ask old m → Fits plan old → Progress w run (run_left plan old) old.before (given old.replies) before mid → (served : Served w mid m.jobs (map Some rs) now) → rs ≡ replies_in mid.attempts (length m.jobs) served.since → Ready w plan run before now (record m { replies = map Some rs }) (asks_left plan m)
+served_ready w plan run before mid now old m rs t fits p served rs_is =
+    let asking = shows_ask (run_at plan m) m t.shows in
+    let at : Holds 1 plan m = fits_at m.phase plan m asking t.fits in
+    let asks : Asks m.jobs (next_of plan m) ≡ run_left plan old = sym (ap (λ p. run_in p plan m) asking) ∙ t.same in
+    let count : m.before ≡ old.before + length (given old.replies) = omega (arith, t.before, length-given old.replies, places old.phase plan old fits) in
+    let heard = progress_heard w run (run_left plan old) old.before m.before (given old.replies) before mid t.refusals count p in
+    let q = progress_group w run m.jobs (next_of plan m) m.before before mid now (map Some rs) (progress_same w run (run_left plan old) (Asks m.jobs (next_of plan m)) m.before [] before mid asks heard) served in
+    let len : length (map Some rs) ≡ length m.jobs = length-somes rs ∙ ap length rs_is ∙ length-replies mid.attempts (length m.jobs) served.since in
+    let same : asks_left plan (record m { replies = map Some rs }) ≡ asks_left plan m =
+    ap (λ p. asks_in p plan (record m { replies = map Some rs })) asking ∙ sym (ap (λ p. asks_in p plan m) asking) in
+    record {
+      progress = progress_same w run _ _ _ _ before now (after_replies plan m rs asking ∙ ap (next_of plan m) rs_is)
+          (subst (λ l. Progress w run (next_of plan m (replies_in mid.attempts (length m.jobs) served.since)) m.before l before now) (sym rs_is ∙ sym (given-map rs)) q);
+      fits = let w : Holds 1 plan (record m { replies = map Some rs }) = record { jobs = at.jobs; replies = len ∙ at.jobs; place = at.place; counted = omega (arith, at.counted, same) } in
+          subst (λ x. fits_in x plan (record m { replies = map Some rs })) (sym asking) w;
+      moving = subst Moving (sym asking) tt;
+      asks = same;
+    }
+
+pub serves : (w : ℕ) (plan : List Instruction) (run : Run) (before mid now : Account) (old m new : Standing) → Turned plan turn.Ask old m → Fits plan old → Progress w run (run_left plan old) old.before (given old.replies) before mid → Served w mid m.jobs new.replies now → new ≡ record m { replies = new.replies } → Ready w plan run before now new (asks_left plan m)
+serves w plan run before mid now old m new t fits p served same =
+    let rs = replies_in mid.attempts (length m.jobs) served.since in
+    let is : new ≡ record m { replies = map Some rs } = same ∙ ap (λ l. record m { replies = l }) served.replied in
+    let served' : Served w mid m.jobs (map Some rs) now = record {
+      since = served.since;
+      events = served.events;
+      attempts = served.attempts;
+      replied = refl;
+      starts = served.starts;
+      least = served.least;
+      idle = served.idle;
+      landed = served.landed;
+      fills = served.fills;
+      failures = served.failures ∙ ap (λ l. mid.failures + failed_count l) served.replied;
+      few = subst (λ l. failed_count l ≤ length m.jobs) served.replied served.few;
+    } in
+    subst (λ x. Ready w plan run before now x (asks_left plan m)) (sym is) (served_ready w plan run before mid now old m rs t fits p served' refl)
+
+-- the place of the first refused reply that a last turn stands for
+abbrev PlaceBy : Turn → Option ℕ → Type 0
+PlaceBy turn.Ask refused = refused ≡ None
+PlaceBy turn.Done refused = refused ≡ None
+PlaceBy (turn.Stopped status) refused = refused ≡ None
+PlaceBy (turn.Cut number) refused = refused ≡ Some number
+
+cuts_at : (p : Phase) (number : ℕ) (m : Standing) → Moving p → CutsAt p number m → (k : ℕ) × (first_refused (given m.replies) ≡ Some k) × (number ≡ m.before + k)
+cuts_at phase.Going number m moving h = h
+cuts_at phase.Asking number m moving h = h
+cuts_at phase.Past number m moving h = absurd moving
+cuts_at phase.Completed number m moving h = absurd moving
+cuts_at (phase.Stopped status) number m moving h = absurd moving
+cuts_at (phase.Cut k) number m moving h = absurd moving
+cuts_at phase.Failed number m moving h = absurd moving
+
+place_by : (t : Turn) (m : Standing) (all : List Reply) → Heeded all m.before (given m.replies) → Moving m.phase → Refusals t m → PlaceBy t (first_refused all)
+place_by turn.Ask m all h moving r = ap first_refused h.whole ∙ answered_both h.earlier (given m.replies) h.answered r
+place_by turn.Done m all h moving r = ap first_refused h.whole ∙ answered_both h.earlier (given m.replies) h.answered r
+place_by (turn.Stopped status) m all h moving r = ap first_refused h.whole ∙ answered_both h.earlier (given m.replies) h.answered r
+place_by (turn.Cut number) m all h moving r =
+    let at = cuts_at m.phase number m moving r in
+    let n : length h.earlier + at.0 ≡ number = omega (arith, h.count, at.2) in
+    ap first_refused h.whole ∙ refused_behind h.earlier (given m.replies) at.0 h.answered at.1 ∙ ap Some n
+
+-- an end, with what the machine leaves there
+abbrev Leaves : Phase → Standing → RunEnd → Type 0
+Leaves p m end = IfSome (outcome_of p) (λ o. end ≡ record { outcome = o; vars = m.state.vars; defs = m.state.defs })
+
+abbrev state_in : RunEnd → State
+state_in end = record { vars = end.vars; defs = end.defs }
+
+record Ending (r : Run) (refused : Option ℕ) (end : RunEnd) : Type 0 where
+  pub how : How
+  pub is : r ≡ Ends how (state_in end)
+  pub outcome : outcome_from how refused ≡ Some end.outcome
+
+ending : (t : Turn) (r : Run) (m : Standing) (end : RunEnd) (refused : Option ℕ) → (t ≡ turn.Ask → ⊥) → Shows t r m → Leaves m.phase m end → PlaceBy t refused → Ending r refused end
+ending turn.Ask r m end refused ne h leaves place = absurd (ne refl)
+ending turn.Done (Ends Goes_on st) m end refused ne h leaves place =
+    let is : end ≡ record { outcome = outcome.Completed; vars = m.state.vars; defs = m.state.defs } = subst (λ p. Leaves p m end) h.0 leaves in
+    record { how = Goes_on; is = ap (Ends Goes_on) (sym h.2 ∙ sym (ap state_in is)); outcome = ap (outcome_from Goes_on) place ∙ ap (λ e. Some e.outcome) (sym is) }
+ending turn.Done (Ends Completed st) m end refused ne h leaves place =
+    let is : end ≡ record { outcome = outcome.Completed; vars = m.state.vars; defs = m.state.defs } = subst (λ p. Leaves p m end) h.0 leaves in
+    record { how = Completed; is = ap (Ends Completed) (sym h.2 ∙ sym (ap state_in is)); outcome = ap (outcome_from Completed) place ∙ ap (λ e. Some e.outcome) (sym is) }
+ending turn.Done (Ends (Stopped s) st) m end refused ne h leaves place = absurd h
+ending turn.Done (Ends Cut st) m end refused ne h leaves place = absurd h
+ending turn.Done (Asks jobs next) m end refused ne h leaves place = absurd h
+ending (turn.Stopped s) (Ends (Stopped status) st) m end refused ne h leaves place =
+    let is : end ≡ record { outcome = outcome.Stopped status; vars = m.state.vars; defs = m.state.defs } = subst (λ p. Leaves p m end) h.0 leaves in
+    record { how = Stopped status; is = ap (Ends (Stopped status)) (sym h.2 ∙ sym (ap state_in is)); outcome = ap (outcome_from (Stopped status)) place ∙ ap (λ e. Some e.outcome) (sym is) }
+ending (turn.Stopped s) (Ends Goes_on st) m end refused ne h leaves place = absurd h
+ending (turn.Stopped s) (Ends Completed st) m end refused ne h leaves place = absurd h
+ending (turn.Stopped s) (Ends Cut st) m end refused ne h leaves place = absurd h
+ending (turn.Stopped s) (Asks jobs next) m end refused ne h leaves place = absurd h
+ending (turn.Cut number) (Ends Cut st) m end refused ne h leaves place =
+    let is : end ≡ record { outcome = outcome.CutShort number; vars = m.state.vars; defs = m.state.defs } = subst (λ p. Leaves p m end) h.0 leaves in
+    record { how = Cut; is = ap (Ends Cut) (sym h.2 ∙ sym (ap state_in is)); outcome = ap (outcome_from Cut) place ∙ ap (λ e. Some e.outcome) (sym is) }
+ending (turn.Cut number) (Ends Goes_on st) m end refused ne h leaves place = absurd h
+ending (turn.Cut number) (Ends Completed st) m end refused ne h leaves place = absurd h
+ending (turn.Cut number) (Ends (Stopped s) st) m end refused ne h leaves place = absurd h
+ending (turn.Cut number) (Asks jobs next) m end refused ne h leaves place = absurd h
+
+pub ends : (w : ℕ) (plan : List Instruction) (run : Run) (before now : Account) (old m : Standing) (t : Turn) (end : RunEnd) → (t ≡ turn.Ask → ⊥) → Turned plan t old m → Moving old.phase → Progress w run (run_left plan old) old.before (given old.replies) before now → Leaves m.phase m end → Ran w run before now end
+ends w plan run before now old m t end ne turned moving p leaves =
+    let rs = replies_in before.attempts (length (all_jobs p.groups)) p.since in
+    let e = ending t (run_at plan m) m end (first_refused rs) ne turned.shows leaves (place_by t old rs p.heeded moving turned.refusals) in
+    let left : run_left plan old ≡ Ends e.how (state_in end) = sym turned.same ∙ e.is in
+    record {
+      since = p.since;
+      events = p.events;
+      groups = p.groups;
+      attempts = p.attempts;
+      starts = p.starts;
+      how = e.how;
+      meaning = ap (play run) (sym (append-nil rs)) ∙ p.plays [] ∙ ap (λ r. after p.groups (play r [])) left
+          ∙ ap (λ g. record { how = e.how; state = state_in end; groups = g }) (append-nil p.groups);
+      outcome = e.outcome;
+      fills = p.fills;
+      least = p.least;
+      failures = p.failures;
+    }
+
+-- as many children are in flight as before
+pub all_landed : (w : ℕ) (run left : Run) (asked : ℕ) (latest : List Reply) (before now : Account) → Progress w run left asked latest before now → in_flight now.events ≡ in_flight before.events
+all_landed w run left asked latest before now p = ap in_flight p.events ∙ fold-append flying_after 0 before.events p.since ∙ p.landed (in_flight before.events)
+
+-- a slice that was lent whole comes back
+drop_whole : {A : Type 0} (xs : List A) → drop (length xs) xs ≡ []
+drop_whole [] = refl
+drop_whole (x ∷ xs) = drop_whole xs
+
+take_whole : {A : Type 0} (xs : List A) → take (length xs) xs ≡ xs
+take_whole [] = refl
+take_whole (x ∷ xs) = ap (λ l. x ∷ l) (take_whole xs)
+
+pub came_back : {A : Type 0} (n : ℕ) (new old : List A) → length new ≡ length old → n ≡ length old → take n (new ++ drop (length new) old) ≡ new
+came_back n new old same n_is =
+    ap (λ k. take n (new ++ drop k old)) same ∙ ap (λ l. take n (new ++ l)) (drop_whole old) ∙ ap (take n) (append-nil new) ∙ ap (λ k. take k new) (n_is ∙ sym same) ∙ take_whole new

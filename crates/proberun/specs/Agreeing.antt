@@ -1,0 +1,22 @@
+-- Two runs of one plan, over crews that reply alike.
+use Rattle.std.specs.Prelude.{◌≡◌, ℕ, List, [], ◌∷◌, length}
+use Rattle.crew.specs.declared.reply.Reply.{Reply}
+use Rattle.crew.specs.Events.{Account, replies_in}
+use Rattle.meaning.specs.State.{Run}
+use Rattle.meaning.specs.Play.{all_jobs}
+use Rattle.machine.specs.declared.machine.RunEnd.{RunEnd}
+use Rattle.proberun.specs.Ran.{Ran}
+
+-- the n-th replies are the same, wherever both lists have one
+abbrev pub Agree : List Reply → List Reply → Type 0
+Agree [] ys = Unit {0}
+Agree (x ∷ xs) [] = Unit {0}
+Agree (x ∷ xs) (y ∷ ys) = (x ≡ y) × Agree xs ys
+
+-- Two runs whose n-th replies are the same, wherever both have one, ask the same groups of jobs and leave the same end,
+-- whatever their windows and the orders in which their children end.
+abbrev pub RunsAgree : Type 0
+RunsAgree = (run : Run) (window other_window : ℕ) (before now other_before other_now : Account) (end other_end : RunEnd)
+    → (one : Ran window run before now end) (other : Ran other_window run other_before other_now other_end)
+    → Agree (replies_in before.attempts (length (all_jobs one.groups)) one.since) (replies_in other_before.attempts (length (all_jobs other.groups)) other.since)
+    → (one.groups ≡ other.groups) × (end ≡ other_end)

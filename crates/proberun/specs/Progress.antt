@@ -1,0 +1,40 @@
+-- How far a run over a crew has come, between two groups of jobs.
+use Rattle.std.specs.Prelude.{◌≡◌, ℕ, ◌+◌, List, ◌++◌, length, fold, None}
+use Rattle.conftest.specs.declared.job.Job.{Job}
+use Rattle.crew.specs.declared.reply.Reply.{Reply}
+use Rattle.crew.specs.declared.event.CrewEvent.{CrewEvent}
+use Rattle.crew.specs.Events.{Account, IsIdle, replies_in, flying_after}
+use Rattle.meaning.specs.State.{Run}
+use Rattle.meaning.specs.Play.{play, after, all_jobs}
+use Rattle.machine.specs.declared.machine.Phase.{Phase}
+use Rattle.machine.specs.declared.machine.Phase.TheVariants as phase
+use Rattle.machine.specs.Waits.{first_refused}
+use Rattle.proberun.specs.Starts.{StartsAre, TakesLeast, Fills, EndsGroup, failures_in}
+
+-- Of all replies so far, those before the `latest` are as many as the jobs asked before, and none of them is refused.
+pub record Heeded (replies : List Reply) (asked : ℕ) (latest : List Reply) : Type 0 where
+  pub earlier : List Reply
+  pub whole : replies ≡ earlier ++ latest
+  pub count : length earlier ≡ asked
+  pub answered : first_refused earlier ≡ None
+
+-- How far a run has come: `left` is what is left of it, once it took the latest replies.
+pub record Progress (window : ℕ) (run left : Run) (asked : ℕ) (latest : List Reply) (before now : Account) : Type 0 where
+  pub since : List CrewEvent
+  pub events : now.events ≡ before.events ++ since
+  pub groups : List (List Job)
+  pub attempts : now.attempts ≡ before.attempts + length (all_jobs groups)
+  pub plays : (more : List Reply) → play run (replies_in before.attempts (length (all_jobs groups)) since ++ more) ≡ after groups (play left more)
+  pub heeded : Heeded (replies_in before.attempts (length (all_jobs groups)) since) asked latest
+  pub starts : StartsAre (all_jobs groups) before.attempts since
+  pub least : TakesLeast before.events since
+  pub idle : IsIdle now.events
+  pub landed : (n : ℕ) → fold flying_after n since ≡ n
+  pub fills : Fills window (EndsGroup before.attempts groups) 0 since
+  pub failures : now.failures ≡ before.failures + failures_in (replies_in before.attempts (length (all_jobs groups)) since)
+
+-- a machine that is not at an end
+abbrev pub Moving : Phase → Type 0
+Moving phase.Going = Unit {0}
+Moving phase.Asking = Unit {0}
+Moving p = ⊥

@@ -1,0 +1,57 @@
+//! Jobs that are to be started.
+
+ghost use Rattle.std.specs.Prelude.{◌≡◌, [], ◌∷◌, IfOk, IfSome, IfNone};
+
+use conftest::Job;
+use std::alloc::{AllocError, Global};
+use std::marker::Model;
+
+/// The jobs of a group that are still to be started, in order.
+#[derive(Drop)]
+pub(crate) struct Queue {
+    // the next one last
+    jobs: Vec<Job>,
+}
+
+impl Model for Queue {
+    ghost use Rattle.std.specs.Prelude.{List, reverse};
+    ghost use Rattle.std.specs.Coded.{codes};
+    ghost use Rattle.conftest.specs.declared.job.Job.{Job};
+    ghost use Rattle.conftest.specs.contracts.job.Job as job;
+
+    ghost Value = { List Job };
+
+    ghost coded = { Prim.hlevel (codes, job.the_row.coded) };
+
+    ghost view = { λ q. reverse q.jobs.items };
+}
+
+impl Queue {
+    /// A copy of each of these jobs. It fails only for want of memory.
+    pub(crate) fn copied(alloc: Global, jobs: &[Job]) -> Result<Queue, AllocError>
+        ensures { IfOk result (λ queue. queue ≡ jobs.now) }
+    {
+        let mut jobs = copies(alloc, jobs)?;
+        jobs.reverse();
+        Ok(Queue { jobs })
+    }
+
+    /// Takes the next job away, if there is one. It takes no memory.
+    pub(crate) fn take_first(&mut self) -> Option<Job>
+        ensures some { IfSome result (λ job. self.old ≡ job ∷ self.new) }
+        ensures none { IfNone result (self.old ≡ []) }
+        ensures same { IfNone result (self.new ≡ []) }
+    {
+        self.jobs.pop()
+    }
+}
+
+fn copies(alloc: Global, jobs: &[Job]) -> Result<Vec<Job>, AllocError>
+    ensures { IfOk result (λ all. all.items ≡ jobs.now) }
+{
+    let mut all = Vec::new(alloc);
+    for job in jobs {
+        all.push(job.copy(alloc)?)?;
+    }
+    Ok(all)
+}

@@ -1,0 +1,58 @@
+//! A whole run.
+
+ghost use Rattle.std.specs.Prelude.{◌≡◌, ◌+◌, ◌^◌, ◌≤◌, [], IfOk};
+ghost use Rattle.crew.specs.Events.{IsIdle, in_flight};
+ghost use Rattle.meaning.specs.State.{no_choice};
+ghost use Rattle.plan.specs.Inside.{asks_after};
+ghost use Rattle.plan.specs.Walk.{walk};
+ghost use Rattle.proberun.specs.Ran.{Ran};
+
+use crate::queue::Queue;
+use crate::serving::serve;
+use crate::slots::free_slots;
+use crew::Crew;
+use deftable::Vars;
+use machine::{Machine, RunEnd, Turn};
+use plan::Plan;
+use std::alloc::{AllocError, Global};
+
+// A plan asks so many jobs at most: its steps say so.
+fn bound(plan: &Plan)
+    ensures { asks_after plan.now 0 ≤ 2 ^ 36 }
+{
+    let _steps = plan.steps();
+}
+
+/// Runs a plan over a crew, with these variables and no definitions before it, at most `window` children at once.
+///
+/// The crew has no child in flight, and counts starts and refusals up to 2^62; a plan asks 2^36 jobs at most. Each start
+/// takes the least free slot. No child is left in flight, whatever the answer. It fails only for want of memory.
+pub fn run<C: Crew>(
+    alloc: Global,
+    plan: &Plan,
+    vars: Vars,
+    crew: &mut C,
+    window: usize,
+) -> Result<RunEnd, AllocError>
+    requires some { 1 ≤ window }
+    requires few { window ≤ 16 }
+    requires idle { IsIdle (C.account crew.old).events }
+    requires attempts { (C.account crew.old).attempts + 2 ^ 36 ≤ 2 ^ 62 }
+    requires failures { (C.account crew.old).failures + 256 ≤ 2 ^ 62 }
+    ensures idle { IsIdle (C.account crew.new).events }
+    ensures landed { in_flight (C.account crew.new).events ≡ in_flight (C.account crew.old).events }
+    ensures ran { IfOk result (λ end. Ran window (walk plan.now 0 no_choice (record { vars = vars; defs = [] })) (C.account crew.old) (C.account crew.new) end) }
+{
+    bound(plan);
+    let mut slots = free_slots(alloc, window)?;
+    let mut machine = Machine::new(alloc, plan, vars);
+    'groups: loop {
+        match machine.advance(plan)? {
+            Turn::Ask => {
+                let jobs = Queue::copied(alloc, machine.asked())?;
+                serve(&mut machine, crew, slots.as_mut_slice(), jobs);
+            }
+            _ => return Ok(machine.end()),
+        }
+    }
+}
