@@ -1,16 +1,21 @@
-// The program: `runner` with the process's arguments and streams.
+// The program: `runner` with the process's arguments, files and streams.
 #![tactic(auto)]
 
+use runner::{FilterFault, command};
 use std::io;
 use std::process::ExitCode;
 
 fn main(rt: HostRuntime) -> ExitCode {
-    let status = runner::command::run(
-        &rt,
-        rt.alloc(),
-        &mut rt.reader(),
-        &mut io::writer(&rt),
-        &mut rt.stderr(),
-    );
+    let status = match command::words(rt.alloc(), &rt) {
+        Ok(words) => command::run(
+            rt.alloc(),
+            &rt,
+            words.as_slice(),
+            &mut rt.reader(),
+            &mut io::writer(&rt),
+            &mut rt.stderr(),
+        ),
+        Err(_) => command::tell(&mut rt.stderr(), &FilterFault::OutOfMemory),
+    };
     ExitCode::from(status)
 }

@@ -1,6 +1,6 @@
 -- Which of the source's files are made from the template of the first one.
 use Rattle.std.proofs.Common.{◌≡◌, ◌≢◌, ℕ, zero, suc, Bool, true, false, cond, List, [], ◌∷◌, ◌++◌, inl, inr, Option, Some, None, Result, Ok, Err, Vec, Global, refl, sym, ap, subst, ◌∙◌, All, length, ◌<◌, ◌-◌, take, drop, slice_index_or, arith}
-use Rattle.std.specs.Prelude.{bytes_eq, not, find, ◌==◌, IfOk}
+use Rattle.std.specs.Prelude.{codes, bytes_eq, not, find, ◌==◌, IfOk}
 use Rattle.std.proofs.lemmas.Slice.Eq.{bytes_eq-Decides}
 use Rattle.std.proofs.lemmas.List.Elements.{All-cons}
 use Rattle.acargs.specs.declared.output.Output.{Output}
@@ -10,7 +10,7 @@ use Rattle.std.proofs.lemmas.Bool.Decides.{eqb_tells}
 use Rattle.runner.specs.declared.fault.Fault.TheVariants.{NoTemplate}
 use Rattle.runner.specs.declared.fault.FilterFault.TheVariants.{Run}
 use Rattle.template.specs.Fill.{Fills}
-use Rattle.runner.specs.Outputs.{files_of, names_of, is_other, IsMissing, ArePresent, no_file, all_there, IsFileText, nothing_named, filled, IsTemplateFault, is_missing, output_variables}
+use Rattle.runner.specs.Outputs.{files_of, names_of, is_other, IsMissing, ArePresent, no_file, all_there, IsFileText, nothing_named, filled, IsTemplateFault, is_missing, file_table}
 
 -- the first file of another template, behind files of this one
 pub record HasOther (template : List ℕ) (files : List Output) (other : Output) : Type 0 where
@@ -91,26 +91,20 @@ is_none : (files : List Output) → (length files == 0) ≡ true → files ≡ [
 is_none [] none = refl
 is_none (file ∷ files) none = let n : suc (length files) ≡ 0 = is_zero _ none in absurd (omega arith)
 
-is_some : (files : List Output) → (length files == 0) ≡ false → files ≢ []
-is_some files some e = let lt = is_positive _ some in let n = ap length e in absurd (omega arith)
-
 pub no_files : (s : Script) (files : List Output) → files ≡ files_of s → (length files == 0) ≡ true → ArePresent s
 no_files s files is none = no_file (sym is ∙ is_none files none)
 
 pub no_text : (s : Script) (files : List Output) (template : List ℕ) (vars : List (List ℕ × List ℕ)) (out : List ℕ) → files ≡ files_of s → (length files == 0) ≡ true → out ≡ [] → IsFileText s template vars out
 no_text s files template vars out is none empty = subst (IsFileText s template vars) (sym empty) (nothing_named (sym is ∙ is_none files none))
 
-pub some_text : (s : Script) (files : List Output) (template : List ℕ) (vars : List (List ℕ × List ℕ)) (names : List (List ℕ)) (out : List ℕ) → files ≡ files_of s → (length files == 0) ≡ false → names ≡ names_of s
-    → Fills (output_variables vars names) template out → IsFileText s template vars out
-some_text s files template vars names out is some named fills = filled (λ e. is_some files some (is ∙ e)) (subst (λ n. Fills (output_variables vars n) template out) named fills)
-
-pub some_text_of : {E : Type 0} (s : Script) (files : List Output) (template : List ℕ) (vars : List (List ℕ × List ℕ)) (names : List (List ℕ)) {table : List (List ℕ × List ℕ)} (r : Result (Vec ℕ Global) E) → files ≡ files_of s
-    → (length files == 0) ≡ false → names ≡ names_of s → table ≡ output_variables vars names → IfOk r (λ v. Fills table template v.items) → IfOk r (λ v. IsFileText s template vars v.items)
-some_text_of s files template vars names (Ok v) is some named same fills = some_text s files template vars names v.items is some named (subst (λ t. Fills t template v.items) same fills)
-some_text_of s files template vars names (Err e) is some named same fills = tt
+pub some_text_of : {E : Type 0} (s : Script) (files : List Output) (file : Output) (more : List Output) (template : List ℕ) (vars : List (List ℕ × List ℕ)) (names : List (List ℕ)) {table : List (List ℕ × List ℕ)} (r : Result (Vec ℕ Global) E)
+    → files ≡ files_of s → files ≡ file ∷ more → names ≡ names_of s → table ≡ file_table vars names file (codes ".") → IfOk r (λ v. Fills table template v.items) → IfOk r (λ v. IsFileText s template vars v.items)
+some_text_of s files file more template vars names (Ok v) is some named same fills =
+    filled (sym is ∙ some) (subst (λ n. Fills (file_table vars n file (codes ".")) template v.items) named (subst (λ t. Fills t template v.items) same fills))
+some_text_of s files file more template vars names (Err e) is some named same fills = tt
 
 -- the first file and the others, as a slice has them
-split : (files : List Output) (first : Output) → (length files == 0) ≡ false → first ≡ slice_index_or files 0 first → files ≡ first ∷ take (length files - 1) (drop 1 files)
+pub split : (files : List Output) (first : Output) → (length files == 0) ≡ false → first ≡ slice_index_or files 0 first → files ≡ first ∷ take (length files - 1) (drop 1 files)
 split [] first some is = let lt : 0 < 0 = is_positive 0 some in absurd (omega arith)
 split (file ∷ files) first some is =
     let n : length (file ∷ files) - 1 ≡ length files = omega arith in

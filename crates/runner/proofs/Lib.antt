@@ -2,4 +2,5 @@ pub mod Markers
 pub mod Files
 pub mod Refusals
 pub mod VariableLemmas
-pub mod Endings
+pub mod BarredLines
+pub mod Alone

@@ -1,27 +1,48 @@
 -- What the filter answers to its input.
-use Rattle.std.specs.Prelude.{◌≡◌, ◌≢◌, ◌≤◌, ◌<◌, ℕ, List, Err}
+use Rattle.std.specs.Prelude.{◌≡◌, ◌≢◌, ◌≤◌, ◌<◌, ℕ, List, [], Result, Ok, Err}
 use Rattle.acargs.specs.declared.fault.ParseFault as parse_fault
 use Rattle.acargs.specs.declared.fault.ParseFault.TheVariants as parse_faults
 use Rattle.acparse.specs.Profile.{source_of}
 use Rattle.acparse.specs.Source.{IsSource, IsSourceFault}
 use Rattle.meaning.specs.Meaning.{meaning}
-use Rattle.meaning.specs.State.{nothing}
+use Rattle.meaning.specs.State.{State}
+use Rattle.machine.specs.declared.machine.RunEnd.{RunEnd}
+use Rattle.options.specs.Opening.{opening}
+use Rattle.options.specs.declared.fault.OptionFault.{OptionFault}
+use Rattle.options.specs.declared.settings.Settings.{Settings}
+use Rattle.acmacros.specs.Scene.{start}
+use Rattle.tree.specs.Known.{after_all}
 use Rattle.plan.specs.Weight.{heaviest, weight}
 use Rattle.plan.specs.declared.fault.PlanFault.TheVariants.{TooLong}
-use Rattle.runner.specs.declared.fault.Fault.{Fault}
 use Rattle.runner.specs.declared.fault.Fault.TheVariants.{Parse, Plan, NoTemplate}
 use Rattle.runner.specs.declared.fault.FilterFault.{FilterFault}
 use Rattle.runner.specs.declared.fault.FilterFault.TheVariants.{Read, Usage, Run, Write, OutOfMemory}
 use Rattle.runner.specs.Outputs.{ArePresent, IsWritten, IsMissing}
 use Rattle.runner.specs.Parted.{IsParted, HasNoMarker}
+use Rattle.runner.specs.Ran.{RanAlone, status_of}
 use Rattle.tree.specs.Script.{Script}
 
--- The statements are run, with nothing set at the beginning: they are not too heavy, the templates are there, and this
--- is what is written, and the exit status.
+-- the settings of a run without arguments and environment
+abbrev pub settings_of : Script → Result Settings OptionFault
+settings_of s =
+    let known = after_all start s in
+    opening known.features known.packages known.precious [] []
+
+-- what the statements begin with: these settings' variables, and no definition
+abbrev pub opened : Settings → State
+opened settings = record { vars = settings.vars; defs = [] }
+
+-- The statements are run, without arguments and environment, and with each start of a child refused: they are not too
+-- heavy, the templates are there, and this is what is written, and the exit status.
 pub record IsRun (s : Script) (template out : List ℕ) (status : ℕ) : Type 0 where
   pub fits : weight s ≤ heaviest
+  pub settings : Settings
+  pub opens : settings_of s ≡ Ok settings
   pub present : ArePresent s
-  pub written : IsWritten s template (meaning s nothing) out status
+  pub end : RunEnd
+  pub ran : RanAlone (meaning s (opened settings)) end
+  pub written : IsWritten s template end.outcome end.vars out
+  pub exits : status ≡ status_of end.outcome
 
 -- The input is a source and a template, and this is what its run writes, and the exit status.
 pub record IsFiltered (input out : List ℕ) (status : ℕ) : Type 0 where

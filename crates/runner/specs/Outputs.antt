@@ -2,14 +2,17 @@
 use Rattle.std.specs.Prelude.{Bool, not, bytes_eq, ◌≡◌, ◌≢◌, ℕ, List, [], ◌∷◌, ◌++◌, All, codes, unwrap_or}
 use Rattle.deftable.specs.Table.{value_of, with_entry}
 use Rattle.acargs.specs.declared.output.Output.{Output}
-use Rattle.machine.specs.Standing.{outcome_of}
+use Rattle.machine.specs.declared.machine.Outcome.{Outcome}
 use Rattle.machine.specs.declared.machine.Outcome.TheVariants as outcome
-use Rattle.meaning.specs.State.{State, How, Stopped, Run, Ends}
+use Rattle.options.specs.Directories.{directory_names}
 use Rattle.template.specs.Fill.{Fills}
+use Rattle.template.specs.Place.{place_of, configure_input_of}
+use Rattle.template.specs.declared.placing.Place.{Place}
 use Rattle.runner.specs.declared.fault.Fault.TheVariants.{NoTemplate}
 use Rattle.runner.specs.declared.fault.FilterFault.{FilterFault}
 use Rattle.runner.specs.declared.fault.FilterFault.TheVariants as fault
-use Rattle.tree.specs.Known.{start, after_all}
+use Rattle.acmacros.specs.Scene.{start}
+use Rattle.tree.specs.Known.{after_all}
 use Rattle.tree.specs.Script.{Script}
 
 -- a table with an output variable more, by its value, which is empty where it is unset
@@ -31,9 +34,25 @@ unfoldable pub with_variables : List (List ℕ × List ℕ) → List (List ℕ �
 with_variables vars table [] = table
 with_variables vars table (name ∷ names) = with_variables vars (with_variable vars table name) names
 
--- the output variables: those of AC_INIT, and those of these names
+-- the output variables that every source has: those of AC_INIT, the directories, and LIBS (Autoconf's manual, "Preset
+-- Output Variables")
+unfoldable pub preset_variables : List (List ℕ × List ℕ) → List (List ℕ × List ℕ)
+preset_variables vars = with_variable vars (with_variables vars (package_variables vars) directory_names) (codes "LIBS")
+
+-- the output variables: those, and those of these names
 unfoldable pub output_variables : List (List ℕ × List ℕ) → List (List ℕ) → List (List ℕ × List ℕ)
-output_variables vars names = with_variables vars (package_variables vars) names
+output_variables vars names = with_variables vars (preset_variables vars) names
+
+-- a table with what is a file's own: where it stands, and where its sources are from there
+unfoldable pub with_place : List (List ℕ × List ℕ) → Place → List (List ℕ × List ℕ)
+with_place table place =
+    with_entry (with_entry (with_entry (with_entry table (codes "srcdir") place.srcdir) (codes "top_srcdir") place.top_srcdir)
+    (codes "builddir") place.builddir) (codes "top_builddir") place.top_builddir
+
+-- What a file's template is filled with: the output variables, and what is the file's own, which wins.
+unfoldable pub file_table : List (List ℕ × List ℕ) → List (List ℕ) → Output → List ℕ → List (List ℕ × List ℕ)
+file_table vars names file srcdir =
+    with_place (with_entry (output_variables vars names) (codes "configure_input") (configure_input_of file.name file.template)) (place_of file.name srcdir)
 
 -- the files that the statements name
 abbrev pub files_of : Script → List Output
@@ -48,15 +67,19 @@ pub data ArePresent (s : Script) : Type 0 where
   no_file : files_of s ≡ [] → ArePresent s
   all_there : {file : Output} {more : List Output} → files_of s ≡ file ∷ more → All (λ other. other.template ≡ file.template) more → ArePresent s
 
--- The text of the first file under these variables: its template filled; nothing where no file is named.
+-- The text of the first file under these variables: its template filled, where the source stands in the current folder;
+-- nothing where no file is named.
 pub data IsFileText (s : Script) (template : List ℕ) (vars : List (List ℕ × List ℕ)) : List ℕ → Type 0 where
   nothing_named : files_of s ≡ [] → IsFileText s template vars []
-  filled : {out : List ℕ} → files_of s ≢ [] → Fills (output_variables vars (names_of s)) template out → IsFileText s template vars out
+  filled : {file : Output} {more : List Output} {out : List ℕ} → files_of s ≡ file ∷ more → Fills (file_table vars (names_of s) file (codes ".")) template out
+      → IsFileText s template vars out
 
--- What a run writes, and its exit status: nothing where an error stops it; and else the first file's text.
-pub data IsWritten (s : Script) (template : List ℕ) : Run → List ℕ → ℕ → Type 0 where
-  stopped : {status : ℕ} {st : State} → IsWritten s template (Ends (Stopped status) st) [] status
-  completed : {how : How} {st : State} {out : List ℕ} → outcome_of how ≡ outcome.Completed → IsFileText s template st.vars out → IsWritten s template (Ends how st) out 0
+-- What a run writes that ends with this outcome and these variables: the first file's text where it is completed, and
+-- else nothing.
+abbrev pub IsWritten : Script → List ℕ → Outcome → List (List ℕ × List ℕ) → List ℕ → Type 0
+IsWritten s template outcome.Completed vars out = IsFileText s template vars out
+IsWritten s template (outcome.Stopped status) vars out = out ≡ []
+IsWritten s template (outcome.CutShort number) vars out = out ≡ []
 
 -- the file has another template than this one
 abbrev pub is_other : List ℕ → Output → Bool

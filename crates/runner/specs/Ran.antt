@@ -1,18 +1,29 @@
--- What a run leaves.
-use Rattle.std.specs.Prelude.{◌≡◌, ℕ, Bool, true, false}
-use Rattle.machine.specs.Standing.{outcome_of}
+-- What a run leaves, each of whose starts is refused.
+use Rattle.std.specs.Prelude.{◌≡◌, ℕ, List, length, replicate, Some}
+use Rattle.conftest.specs.declared.job.Job.{Job}
+use Rattle.crew.specs.declared.reply.Reply.{Reply}
+use Rattle.crew.specs.declared.reply.Reply.TheVariants.{StartRefused}
+use Rattle.machine.specs.Waits.{first_refused}
 use Rattle.machine.specs.declared.machine.Outcome.{Outcome}
 use Rattle.machine.specs.declared.machine.Outcome.TheVariants as outcome
 use Rattle.machine.specs.declared.machine.RunEnd.{RunEnd}
-use Rattle.meaning.specs.State.{How, Run, Ends}
+use Rattle.meaning.specs.Play.{play, all_jobs}
+use Rattle.meaning.specs.State.{How, Run}
+use Rattle.proberun.specs.Ran.{outcome_from}
 
--- The run ends so, with these variables and definitions.
-pub record Ran (run : Run) (end : RunEnd) : Type 0 where
+-- a refused start for each of these jobs
+abbrev pub refusals : List (List Job) → List Reply
+refusals groups = replicate (length (all_jobs groups)) StartRefused
+
+-- Each job that the run asks is refused, and the run ends so, with these variables and definitions.
+pub record RanAlone (run : Run) (end : RunEnd) : Type 0 where
+  pub groups : List (List Job)
   pub how : How
-  pub ended : run ≡ Ends how (record { vars = end.vars; defs = end.defs })
-  pub outcome : end.outcome ≡ outcome_of how
+  pub meaning : play run (refusals groups) ≡ record { how = how; state = record { vars = end.vars; defs = end.defs }; groups = groups }
+  pub outcome : outcome_from how (first_refused (refusals groups)) ≡ Some end.outcome
 
--- the exit status of a run: 0 where it is completed, and else the source's own
+-- the exit status of a run: 0 where it is completed, 3 where it is cut, and else the source's own
 abbrev pub status_of : Outcome → ℕ
 status_of outcome.Completed = 0
 status_of (outcome.Stopped status) = status
+status_of (outcome.CutShort number) = 3

@@ -1,17 +1,57 @@
 //! What the program does with its arguments and its standard streams.
 
-ghost use Rattle.std.specs.Prelude.{◌≡◌, ◌⊎◌, ℕ, List, IfSome};
+ghost use Rattle.std.specs.Prelude.{◌≡◌, ◌≢◌, ◌⊎◌, ℕ, List, [], drop, true, false, IfSome};
 ghost use Rattle.std.specs.Io.KnownBytes.{Appends};
 ghost use Rattle.runner.specs.Filtered.{IsFiltered};
+ghost use Rattle.runner.specs.Standin as meant;
+ghost use Rattle.runner.specs.Standin.{calls_standin, IsAnswered};
 
 use crate::fault::{Fault, FilterFault};
 use crate::filtering::{Filtered, filter};
-use std::alloc::Global;
+use crate::standin::standin;
+use deftable::Bytes;
+use std::alloc::{AllocError, Global};
 use std::env::{Env, FillError};
 use std::io::{self, Read, Write};
+use std::rt::Files;
 
 /// The exit status where something is at fault.
 const FAULT: u8 = 2;
+
+/// The bytes of an argument that are tried first; there is twice the room at each further try.
+const FIRST_ROOM: usize = 256;
+
+/// The most tries for one argument.
+const MOST_TRIES: u32 = 64;
+
+/// The arguments, without the program's name. They may be any bytes. It fails only for want of memory.
+pub fn words<V: Env>(alloc: Global, env: &V) -> Result<Vec<Bytes>, AllocError> {
+    let mut words = Vec::new(alloc);
+    for i in 1..usize::MAX {
+        let Some(word) = word(alloc, env, i)? else {
+            break;
+        };
+        words.push(word)?;
+    }
+    Ok(words)
+}
+
+/// The argument at `i`, if there is one.
+fn word<V: Env>(alloc: Global, env: &V, i: usize) -> Result<Option<Bytes>, AllocError> {
+    let mut room = FIRST_ROOM;
+    for _ in 0..MOST_TRIES {
+        let mut text = vec![in alloc; 0u8; room]?;
+        match env.arg(i, &mut text) {
+            Ok(len) => {
+                text.truncate(len);
+                return Ok(Some(Bytes::from_vec(text)));
+            }
+            Err(FillError::NotPresent) => return Ok(None),
+            Err(FillError::TooLong) => room = room.saturating_mul(2),
+        }
+    }
+    Err(AllocError)
+}
 
 /// The line of a fault.
 fn fault_line<W: Write>(errors: &mut W, fault: &FilterFault) -> io::Result<()> {
@@ -24,31 +64,64 @@ fn fault_line<W: Write>(errors: &mut W, fault: &FilterFault) -> io::Result<()> {
 }
 
 /// Tells a fault on standard error, and answers the exit status.
-fn tell<W: Write>(errors: &mut W, fault: &FilterFault) -> u8
+pub fn tell<W: Write>(errors: &mut W, fault: &FilterFault) -> u8
     ensures { result ≡ 2 }
 {
     let _ = fault_line(errors, fault);
     FAULT
 }
 
-/// Answers the exit status: that of the source's run, or 2 where something is at fault. Without arguments it filters its
-/// input; there is no other command.
+/// Does what the arguments ask for, and answers the exit status.
+///
+/// Without arguments it filters its input: the status is that of the source's run. `standin` and any words after it are a
+/// compiler's command, which the stand-in answers. There is no other command. The status is 2 where something is at fault,
+/// also the arguments.
 ///
 /// Faults are told on standard error, one line each. Where that can't be written the status alone tells them.
-pub fn run<V: Env, R: Read, W: Write, E: Write>(
-    env: &V,
+pub fn run<F: Files, R: Read, W: Write, E: Write>(
+    alloc: Global,
+    files: &F,
+    words: &[Bytes],
+    input: &mut R,
+    output: &mut W,
+    errors: &mut E,
+) -> u8
+    // Without arguments, where the status is not that of a fault, it and what is written are those of the source's meaning.
+    ensures written { words.now ≡ [] → (result ≡ 2) ⊎ IfSome (R.remaining input.old)
+        (λ text. (out : List ℕ) × IsFiltered text out result × Appends (W.contents output.old) (W.contents output.new) out) }
+    // The stand-in's status is 2 where memory runs out, and else its answer.
+    ensures standin { calls_standin words.now ≡ true → (result ≡ 2) ⊎ IsAnswered (drop 1 words.now) result }
+    ensures silent { calls_standin words.now ≡ true → result ≡ 0 → errors.new ≡ errors.old }
+    ensures unknown { words.now ≢ [] → calls_standin words.now ≡ false → result ≡ 2 }
+    // With arguments nothing is read from the input, and nothing written but on standard error.
+    ensures untouched { words.now ≢ [] → (input.new ≡ input.old) × (output.new ≡ output.old) }
+{
+    let Some((command, others)) = words.split_first() else {
+        return filtered(alloc, input, output, errors);
+    };
+    if is_standin(command.as_slice()) {
+        return stand_in(alloc, files, others, errors);
+    }
+    tell(errors, &FilterFault::Usage)
+}
+
+/// Whether the command is the stand-in for a compiler.
+fn is_standin(command: &[u8]) -> bool
+    ensures { result ≡ meant.is_standin command.now }
+{
+    command == b"standin".as_slice()
+}
+
+/// Filters the input, and answers the exit status.
+fn filtered<R: Read, W: Write, E: Write>(
     alloc: Global,
     input: &mut R,
     output: &mut W,
     errors: &mut E,
 ) -> u8
-    // Where the status is not that of a fault, it and what is written are those of the source's meaning.
-    ensures written { (result ≡ 2) ⊎ IfSome (R.remaining input.old)
+    ensures { (result ≡ 2) ⊎ IfSome (R.remaining input.old)
         (λ text. (out : List ℕ) × IsFiltered text out result × Appends (W.contents output.old) (W.contents output.new) out) }
 {
-    if !is_alone(env) {
-        return tell(errors, &FilterFault::Usage);
-    }
     match filter(alloc, input, output) {
         Ok(
             Filtered {
@@ -63,8 +136,13 @@ pub fn run<V: Env, R: Read, W: Write, E: Write>(
     }
 }
 
-/// Whether the program was given no argument.
-fn is_alone<V: Env>(env: &V) -> bool {
-    let mut first = [0u8; 1];
-    matches!(env.arg(1, &mut first), Err(FillError::NotPresent))
+/// Answers as the stand-in for a compiler.
+fn stand_in<F: Files, E: Write>(alloc: Global, files: &F, words: &[Bytes], errors: &mut E) -> u8
+    ensures answer { (result ≡ 2) ⊎ IsAnswered words.now result }
+    ensures silent { result ≡ 0 → errors.new ≡ errors.old }
+{
+    match standin(alloc, files, words, errors) {
+        Ok(status) => status,
+        Err(_) => tell(errors, &FilterFault::OutOfMemory),
+    }
 }

@@ -1,21 +1,23 @@
 //! The filter: a source and a template in, the filled text out.
 
-ghost use Rattle.std.specs.Prelude.{◌≡◌, ◌≢◌, ℕ, List, [], ◌+◌, ◌≤◌, length, drop, IfOk, IfErr, IfSome, find};
+ghost use Rattle.std.specs.Prelude.{◌≡◌, ◌≢◌, ℕ, List, [], ◌+◌, ◌≤◌, length, drop, Ok, IfOk, IfErr, IfSome, find};
 ghost use Rattle.std.specs.Option.{option_copied};
 ghost use Rattle.std.specs.Io.KnownBytes.{Appends};
-ghost use Rattle.meaning.specs.State as meant;
+ghost use Rattle.acmacros.specs.Scene.{start};
+ghost use Rattle.options.specs.declared.settings.Settings as settings;
+ghost use Rattle.tree.specs.Known.{after_all};
 ghost use Rattle.tree.specs.Script.{script_of};
 ghost use Rattle.runner.specs.declared.fault.FilterFault.{FilterFault};
-ghost use Rattle.runner.specs.Filtered.{IsRun, IsNotRun, IsFiltered, IsRefused};
+ghost use Rattle.runner.specs.Filtered.{IsRun, IsNotRun, IsFiltered, IsRefused, settings_of};
 ghost use Rattle.runner.specs.Outputs.{ArePresent, IsFileText, IsWritten, IsTemplateFault, files_of, names_of, is_other};
-ghost use Rattle.runner.specs.Ran.{Ran, status_of};
 
 use crate::fault::{Fault, FilterFault};
 use crate::input::{marker_place, read_input};
-use crate::outputs::output_variables;
-use crate::running::{run_plan, status_of as exit_status};
+use crate::outputs::file_table;
+use crate::running::{run_alone, status_of as exit_status};
 use acparse::{Output, Source, parse};
 use deftable::Vars;
+use options::read_args;
 use plan::compile;
 use proberun::{Outcome, RunEnd};
 use std::alloc::{AllocError, Global};
@@ -25,7 +27,7 @@ use template::fill;
 /// What the filter answers, besides the text that it writes.
 #[derive(Debug, Drop)]
 pub struct Filtered {
-    /// The exit status of the program: 0 for a run that completes, and else the source's own.
+    /// The exit status of the program: 0 for a run that completes, 3 for one that is cut, and else the source's own.
     pub status: u8,
     /// What belongs on standard error.
     pub errors: Vec<u8>,
@@ -76,10 +78,11 @@ fn file_text(
     requires names { source.now.substituted ≡ names_of (script_of source.now.statements.items) }
     ensures { IfOk result (λ v. IsFileText (script_of source.now.statements.items) template.now vars.now v.items) }
 {
-    if source.files.is_empty() {
+    let files = source.files.as_slice();
+    if files.is_empty() {
         return Ok(Vec::new(alloc));
     }
-    let table = output_variables(alloc, vars, &source.substituted)?;
+    let table = file_table(alloc, vars, &source.substituted, &files[0], b".")?;
     fill(alloc, template, &table)
 }
 
@@ -92,10 +95,10 @@ fn text_of(
 ) -> Result<Vec<u8>, AllocError>
     requires files { source.now.files ≡ files_of (script_of source.now.statements.items) }
     requires names { source.now.substituted ≡ names_of (script_of source.now.statements.items) }
-    ensures { IfOk result (λ v. (run : meant.Run) → Ran run end.now → IsWritten (script_of source.now.statements.items) template.now run v.items (status_of end.now.outcome)) }
+    ensures { IfOk result (λ v. IsWritten (script_of source.now.statements.items) template.now end.now.outcome end.now.vars v.items) }
 {
     match end.outcome {
-        Outcome::Stopped(_) => Ok(Vec::new(alloc)),
+        Outcome::Stopped(_) | Outcome::CutShort(_) => Ok(Vec::new(alloc)),
         Outcome::Completed => file_text(alloc, source, template, &end.vars),
     }
 }
@@ -107,16 +110,34 @@ struct Written {
     status: u8,
 }
 
-/// Runs a source, with nothing set at the beginning.
+/// The variables at the beginning of a run without arguments and environment. With no argument there is no fault but
+/// want of memory.
+fn opening(alloc: Global, source: &Source) -> Result<Vars, AllocError>
+    requires features { source.now.features ≡ (after_all start (script_of source.now.statements.items)).features }
+    requires packages { source.now.packages ≡ (after_all start (script_of source.now.statements.items)).packages }
+    requires precious { source.now.precious ≡ (after_all start (script_of source.now.statements.items)).precious }
+    ensures { IfOk result (λ vars. (s : settings.Settings) × (settings_of (script_of source.now.statements.items) ≡ Ok s) × (vars ≡ s.vars)) }
+{
+    match read_args(alloc, source, &[], &[]) {
+        Ok(settings) => Ok(settings.vars),
+        Err(_) => Err(AllocError),
+    }
+}
+
+/// Runs a source, without arguments and environment, and with each start of a child refused.
 fn run_source(alloc: Global, source: &Source, template: &[u8]) -> Result<Written, FilterFault>
     requires files { source.now.files ≡ files_of (script_of source.now.statements.items) }
     requires names { source.now.substituted ≡ names_of (script_of source.now.statements.items) }
+    requires features { source.now.features ≡ (after_all start (script_of source.now.statements.items)).features }
+    requires packages { source.now.packages ≡ (after_all start (script_of source.now.statements.items)).packages }
+    requires precious { source.now.precious ≡ (after_all start (script_of source.now.statements.items)).precious }
     ensures run { IfOk result (λ a. IsRun (script_of source.now.statements.items) template.now a.text.items a.status) }
     ensures refused { IfErr result (IsNotRun (script_of source.now.statements.items)) }
 {
     let plan = compile(alloc, source)?;
+    let vars = opening(alloc, source)?;
     check_templates(alloc, source)?;
-    let end = run_plan(alloc, &plan, Vars::new(alloc))?;
+    let end = run_alone(alloc, &plan, vars)?;
     let text = text_of(alloc, source, template, &end)?;
     Ok(Written {
         text,
@@ -136,9 +157,10 @@ fn answer(alloc: Global, input: &[u8]) -> Result<Written, FilterFault>
     run_source(alloc, &source, behind_marker(input, at))
 }
 
-/// Reads a configure.ac, a line that is exactly `%%` and the template of its first file, runs the source with nothing set
-/// at the beginning, and writes that file; nothing where the source names no file, or where an error stops the run. The
-/// status is 0 for a run that completes, and else the source's own. No other template is there. In this order `Read`,
+/// Reads a configure.ac, a line that is exactly `%%` and the template of its first file, runs the source without arguments
+/// and environment, and writes that file; nothing where the source names no file, or where an error stops the run. No child
+/// is started: a source that needs one is cut short, and nothing is written. The status is 0 for a run that completes, 3 for
+/// one that is cut, and else the source's own. No other template is there. In this order `Read`,
 /// `Usage`, `Run` with the first fault of the source, then that it is too long, and then the first template that is not
 /// there, `Write`; and `OutOfMemory` at any moment.
 ///

@@ -37,7 +37,7 @@ pub fn read_input<R: io::Read>(alloc: Global, reader: &mut R) -> Result<Vec<u8>,
 }
 
 /// The length of the first line, without its newline.
-fn line_len(text: &[u8]) -> usize
+pub(crate) fn line_len(text: &[u8]) -> usize
     ensures value { result ≡ words.line_len text.now }
     ensures within { result ≤ length text.now }
 {

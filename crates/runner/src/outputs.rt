@@ -1,14 +1,17 @@
 //! The table that a template is filled from.
 
-ghost use Rattle.std.specs.Prelude.{◌≡◌, OnOk, IfOk, [], unwrap_or};
+ghost use Rattle.std.specs.Prelude.{◌≡◌, OnOk, IfOk, [], map, unwrap_or};
 ghost use Rattle.deftable.specs.NameList.{AreShellNames};
 ghost use Rattle.deftable.specs.ShellName.{IsShellName};
 ghost use Rattle.deftable.specs.Table.{value_of, with_entry};
+ghost use Rattle.options.specs.Directories.{variable_of};
 ghost use Rattle.runner.specs.Outputs as words;
 
+use acparse::Output;
 use deftable::{Bytes, SubstList, Vars};
+use options::{Directory, directories};
 use std::alloc::{AllocError, Global};
-use template::Table;
+use template::{Place, Table, configure_input, place_vars};
 
 /// The value of a variable, or the empty text where it is unset.
 fn value<'a>(vars: &'a Vars, name: &[u8]) -> &'a [u8]
@@ -53,13 +56,69 @@ fn add_all(table: &mut Table, vars: &Vars, names: &[Bytes]) -> Result<(), AllocE
     Ok(())
 }
 
-/// The output variables with their values, which are empty where they are unset: those of AC_INIT, and those of these
-/// names.
+/// Adds directories with their values.
+fn add_directories(
+    table: &mut Table,
+    vars: &Vars,
+    directories: &[Directory],
+) -> Result<(), AllocError>
+    ensures { OnOk result (table.new ≡ words.with_variables vars.now table.old (map variable_of directories.now)) }
+{
+    for i in 0..directories.len() {
+        add(table, vars, directories[i].variable())?;
+    }
+    Ok(())
+}
+
+/// The output variables that every source has, with their values.
+#[tactic(auto, unfolding(crate::specs::Outputs::preset_variables, options::specs::Directories::directory_names))]
+fn preset_variables(alloc: Global, vars: &Vars) -> Result<Table, AllocError>
+    ensures { IfOk result (λ t. t ≡ words.preset_variables vars.now) }
+{
+    let mut table = package_variables(alloc, vars)?;
+    add_directories(&mut table, vars, directories())?;
+    add(&mut table, vars, b"LIBS")?;
+    Ok(table)
+}
+
+/// The output variables with their values, which are empty where they are unset: those that every source has, and those
+/// of these names.
 #[tactic(auto, unfolding(crate::specs::Outputs::output_variables))]
 pub fn output_variables(alloc: Global, vars: &Vars, names: &SubstList) -> Result<Table, AllocError>
     ensures { IfOk result (λ t. t ≡ words.output_variables vars.now names.now) }
 {
-    let mut table = package_variables(alloc, vars)?;
+    let mut table = preset_variables(alloc, vars)?;
     add_all(&mut table, vars, names.names())?;
+    Ok(table)
+}
+
+/// Adds where a file stands.
+#[tactic(auto, unfolding(crate::specs::Outputs::with_place))]
+fn add_place(table: &mut Table, place: &Place) -> Result<(), AllocError>
+    ensures { OnOk result (table.new ≡ words.with_place table.old place.now) }
+{
+    table.set(b"srcdir", place.srcdir.as_slice())?;
+    table.set(b"top_srcdir", place.top_srcdir.as_slice())?;
+    table.set(b"builddir", place.builddir.as_slice())?;
+    table.set(b"top_builddir", place.top_builddir.as_slice())
+}
+
+/// What a file's template is filled with: the output variables with their values, and what is the file's own, which wins.
+/// `srcdir` is the folder of the source, absolute or as seen from the folder of the build.
+#[tactic(auto, unfolding(crate::specs::Outputs::file_table))]
+pub fn file_table(
+    alloc: Global,
+    vars: &Vars,
+    names: &SubstList,
+    file: &Output,
+    srcdir: &[u8],
+) -> Result<Table, AllocError>
+    ensures { IfOk result (λ t. t ≡ words.file_table vars.now names.now file.now srcdir.now) }
+{
+    let mut table = output_variables(alloc, vars, names)?;
+    let input = configure_input(alloc, file.name.as_slice(), file.template.as_slice())?;
+    table.set(b"configure_input", input.as_slice())?;
+    let place = place_vars(alloc, file.name.as_slice(), srcdir)?;
+    add_place(&mut table, &place)?;
     Ok(table)
 }

@@ -3,16 +3,17 @@
 ghost use Rattle.std.specs.Io.{WritesAtMost};
 
 use super::*;
-use crate::running::run_plan;
+use crate::running::run_alone;
 use acargs::ParseFault;
 use acparse::parse;
-use deftable::Vars;
+use deftable::{Bytes, Vars};
 use plan::compile;
 use proberun::RunEnd;
 use std::alloc::{AllocError, Global};
 use std::env::{Env, FillError};
 use std::io::{self, Read, Write};
 use std::process::Abort;
+use std::rt::Files;
 use std::test::Fail;
 
 const DEMO: &[u8] =
@@ -109,6 +110,66 @@ fn runs(rt: HostRuntime) -> Result<(), Fail> {
         (b"a=x b=$a\nAC_SUBST([b])", b"@b@", 0, b"x"),
         (b"a='$b'; AC_SUBST([a])", b"@a@", 0, b"$b"),
         (b"AC_SUBST([a], [\"x y\"])\na=${a}z", b"@a@", 0, b"x yz"),
+        // directories, which are settled at the end, and where the file stands
+        (
+            b"",
+            b"@bindir@ @top_builddir@|@srcdir@ @LIBS@|@configure_input@",
+            0,
+            b"${exec_prefix}/bin .|. |f.  Generated from f.in by configure.",
+        ),
+        (
+            b"AC_SUBST([P],[\"$prefix\"])",
+            b"@P@ @prefix@ @exec_prefix@",
+            0,
+            b"NONE /usr/local ${prefix}",
+        ),
+        // An option that is not given, and precious variables
+        (
+            b"AC_ARG_ENABLE([x],[h],[r=1],[r=2])AC_ARG_WITH([y],,[s=1])\nAC_SUBST([r])AC_SUBST([s])",
+            b"@r@@s@@withval@",
+            0,
+            b"2@withval@",
+        ),
+        (
+            b"AC_ARG_VAR([CC],[c])\nAS_IF([test \"x$ac_cv_env_CC_set\" = x],[CC=cc])",
+            b"@CC@",
+            0,
+            b"cc",
+        ),
+        (
+            b"enable_x=yes\nAC_ARG_ENABLE([x],[h],[r=$enableval],[r=2])AC_SUBST([r])",
+            b"@r@",
+            0,
+            b"yes",
+        ),
+        // Nothing is started: a run that needs a child is cut, and one that lacks a compiler is stopped.
+        (
+            b"CC=cc\nAC_COMPILE_IFELSE([AC_LANG_PROGRAM([],[])],[r=1],[r=2])",
+            b"x",
+            3,
+            b"",
+        ),
+        (
+            b"AC_PROG_CC\nAC_LINK_IFELSE([AC_LANG_PROGRAM([],[])])",
+            b"x",
+            1,
+            b"",
+        ),
+        (b"PATH=/x\nAC_PATH_PROG([P],[p])", b"x", 3, b""),
+        (
+            b"AC_PROG_CC\nAC_SUBST([ac_cv_prog_CC])",
+            b"<@CC@@ac_cv_prog_CC@>",
+            0,
+            b"<>",
+        ),
+        (b"P=q\nAC_CHECK_PROG([P],[p],[x])", b"@P@", 0, b"q"),
+        (b"AC_CHECK_PROGS([P],[p q],[none])", b"@P@", 0, b"none"),
+        (
+            b"ac_cv_prog_P=seen\nAC_CHECK_PROG([P],[p],[x])",
+            b"@P@",
+            0,
+            b"seen",
+        ),
         // Errors stop a run with their status.
         (b"AC_MSG_ERROR([no])", b"x", 1, b""),
         (b"AS_IF([:],[AC_MSG_ERROR([no],[7])])", b"x", 7, b""),
@@ -120,9 +181,9 @@ fn runs(rt: HostRuntime) -> Result<(), Fail> {
     Ok(())
 }
 
-/// The example of docs/language.md, which has every macro that is read.
+/// The example of docs/language.md, which has every macro that is read and needs no child.
 const LANGUAGE: &[u8] =
-    b"AC_PREREQ([2.69])\nAC_INIT([GNU Hello], [2.12], [bug-hello@gnu.org])\nAC_CONFIG_SRCDIR([src/hello.c])\nAC_CONFIG_AUX_DIR([build-aux])\nAC_CONFIG_MACRO_DIR([m4])\nAC_CONFIG_MACRO_DIRS([m4 lib/m4])\nAC_LANG([C])\nAC_CONFIG_FILES([version])\n\nfeatures=none level=2   # two assignments, from the left\nAC_SUBST([features])\nAC_SUBST([CFLAGS], [\"-O$level -Wall\"])\nAS_IF([test \"x$features\" = xnone], [kind=plain],\n      [test -n \"$features\" && test \"$level\" != 0], [kind=rich],\n      [AC_MSG_ERROR([no features at all], [77])])\nAC_SUBST([kind])\nAS_CASE([$CFLAGS],\n  [*-O0* | *-Og*], [optimised=no],\n  [*-O?*],         [optimised=yes],\n  [optimised=unknown])\nAC_SUBST([optimised])\nAC_DEFINE([HAVE_HELLO])\nAC_DEFINE([GREETING], [\"hello, world\"], [What is said.])\nAC_DEFINE_UNQUOTED([KIND], [\"$kind\"], [What kind of hello.])\nAC_OUTPUT\n%%\n@PACKAGE_TARNAME@ @PACKAGE_VERSION@: @kind@, optimised: @optimised@ (@CFLAGS@)\n";
+    b"AC_PREREQ([2.69])\nAC_INIT([GNU Hello], [2.12], [bug-hello@gnu.org])\nAC_CONFIG_SRCDIR([src/hello.c])\nAC_CONFIG_AUX_DIR([build-aux])\nAC_CONFIG_MACRO_DIR([m4])\nAC_CONFIG_MACRO_DIRS([m4 lib/m4])\nAC_LANG([C])\nAC_CONFIG_FILES([version])\n\nfeatures=none level=2   # two assignments, from the left\nAC_SUBST([features])\nAC_SUBST([CFLAGS], [\"-O$level -Wall\"])\nAS_IF([test \"x$features\" = xnone], [kind=plain],\n      [test -n \"$features\" && test \"$level\" != 0], [kind=rich],\n      [AC_MSG_ERROR([no features at all], [77])])\nAC_SUBST([kind])\nAS_CASE([$CFLAGS],\n  [*-O0* | *-Og*], [optimised=no],\n  [*-O?*],         [optimised=yes],\n  [optimised=unknown])\nAC_SUBST([optimised])\nAC_ARG_ENABLE([colour], [AS_HELP_STRING([--disable-colour], [greet in plain text])],\n  [], [enable_colour=yes])\nAC_SUBST([enable_colour])\nAC_ARG_WITH([greeting], [AS_HELP_STRING([--with-greeting=TEXT], [what is said])],\n  [greeting=$withval], [greeting=hello])\nAC_SUBST([greeting])\nAC_ARG_VAR([CFLAGS], [flags of the C compiler])\nAC_DEFINE([HAVE_HELLO])\nAC_DEFINE([GREETING], [\"hello, world\"], [What is said.])\nAC_DEFINE_UNQUOTED([KIND], [\"$kind\"], [What kind of hello.])\nAC_OUTPUT\n%%\n@PACKAGE_TARNAME@ @PACKAGE_VERSION@: @kind@, optimised: @optimised@ (@CFLAGS@), @greeting@ in @bindir@\n";
 
 #[test]
 fn the_example_of_the_language(rt: HostRuntime) -> Result<(), Fail> {
@@ -132,7 +193,7 @@ fn the_example_of_the_language(rt: HostRuntime) -> Result<(), Fail> {
     assert_eq!(rt; answer.status, 0);
     assert_eq!(rt;
         written.as_slice(),
-        b"hello 2.12: plain, optimised: yes (-O2 -Wall)\n".as_slice()
+        b"hello 2.12: plain, optimised: yes (-O2 -Wall), hello in ${exec_prefix}/bin\n".as_slice()
     );
     Ok(())
 }
@@ -299,7 +360,7 @@ fn what_a_source_leaves(rt: HostRuntime) -> Result<(), Fail> {
         b"AC_INIT([a\"b\\],[1],[bugs])AC_DEFINE([X],[1])AC_DEFINE([PACKAGE_URL],[0])AC_DEFINE([Y],[2])AC_DEFINE([X],[\"3\"])AC_OUTPUT";
     let source = parse(rt.alloc(), text)?;
     let plan = compile(rt.alloc(), &source)?;
-    let RunEnd { vars, defs, .. } = run_plan(rt.alloc(), &plan, Vars::new(rt.alloc()))?;
+    let RunEnd { vars, defs, .. } = run_alone(rt.alloc(), &plan, Vars::new(rt.alloc()))?;
     let mut found = Vec::new(rt.alloc());
     for i in 0..vars.len() {
         let (name, value) = vars.at(i);
@@ -330,10 +391,10 @@ Y=2
     Ok(())
 }
 
-/// A process with at most one argument.
+/// A process with these arguments.
 #[derive(Drop)]
 struct Process {
-    argument: Option<&'static [u8]>,
+    arguments: &'static [&'static [u8]],
 }
 
 fn put(text: &[u8], buf: &mut [u8]) -> Result<usize, FillError>
@@ -348,10 +409,12 @@ fn put(text: &[u8], buf: &mut [u8]) -> Result<usize, FillError>
 
 impl Env for Process {
     fn arg(&self, i: usize, buf: &mut [u8]) -> Result<usize, FillError> {
-        match (i, self.argument) {
-            (0, _) => put(b"acrun", buf),
-            (1, Some(argument)) => put(argument, buf),
-            _ => Err(FillError::NotPresent),
+        if i == 0 {
+            return put(b"acrun", buf);
+        }
+        match self.arguments.get(i - 1) {
+            Some(argument) => put(argument, buf),
+            None => Err(FillError::NotPresent),
         }
     }
 
@@ -364,12 +427,28 @@ impl Env for Process {
     }
 }
 
+const ARGUMENTS: &[&[u8]] = &[b"a", b"", b"\xff\0 b", &[b'l'; 3000]];
+
+#[test]
+fn words_of_the_program(rt: HostRuntime) -> Result<(), Fail> {
+    let words = command::words(
+        rt.alloc(),
+        &Process {
+            arguments: ARGUMENTS,
+        },
+    )?;
+    assert_eq!(rt; words.len(), ARGUMENTS.len());
+    for (word, argument) in words.iter().zip(ARGUMENTS) {
+        assert_eq!(rt; word.as_slice(), *argument);
+    }
+    Ok(())
+}
+
 /// Runs the program without arguments on an input that is at fault, and asserts that it says so.
-fn assert_line<R: Read>(rt: &impl Abort, alloc: Global, input: &mut R, wanted: &[u8]) {
-    let alone = Process { argument: None };
+fn assert_line<R: Read>(rt: &(impl Abort + Files), alloc: Global, input: &mut R, wanted: &[u8]) {
     let mut output = Vec::new(alloc);
     let mut errors = Vec::new(alloc);
-    let status = command::run(&alone, alloc, input, &mut output, &mut errors);
+    let status = command::run(alloc, rt, &[], input, &mut output, &mut errors);
     assert_eq!(rt; status, 2);
     assert!(rt; output.is_empty());
     assert_eq!(rt; errors.as_slice(), wanted);
@@ -377,16 +456,15 @@ fn assert_line<R: Read>(rt: &impl Abort, alloc: Global, input: &mut R, wanted: &
 
 #[test]
 fn the_program(rt: HostRuntime) {
-    let alone = Process { argument: None };
     let mut input = DEMO;
     let mut output = Vec::new(rt.alloc());
     let mut errors = Vec::new(rt.alloc());
-    let status = command::run(&alone, rt.alloc(), &mut input, &mut output, &mut errors);
+    let status = command::run(rt.alloc(), &rt, &[], &mut input, &mut output, &mut errors);
     assert_eq!(rt; status, 0);
     assert_eq!(rt; output.as_slice(), b"demo 1.0 @nope@\n".as_slice());
     assert!(rt; errors.is_empty());
     let mut input = DEMO;
-    let status = command::run(&alone, rt.alloc(), &mut input, &mut Broken, &mut errors);
+    let status = command::run(rt.alloc(), &rt, &[], &mut input, &mut Broken, &mut errors);
     assert_eq!(rt; status, 2);
     assert_eq!(rt;
         errors.as_slice(),
@@ -395,19 +473,27 @@ fn the_program(rt: HostRuntime) {
 }
 
 #[test]
-fn arguments_are_not_known(rt: HostRuntime) {
-    for argument in [b"".as_slice(), b"x", b"configure"] {
-        let process = Process {
-            argument: Some(argument),
-        };
+fn arguments_that_are_not_known(rt: HostRuntime) -> Result<(), Fail> {
+    for argument in [b"".as_slice(), b"x", b"configure", b"standin2", b"-j2"] {
+        let mut words = Vec::new(rt.alloc());
+        words.push(Bytes::from_slice(rt.alloc(), argument)?)?;
+        words.push(Bytes::from_slice(rt.alloc(), b"standin")?)?;
         let mut input = DEMO;
         let mut output = Vec::new(rt.alloc());
         let mut errors = Vec::new(rt.alloc());
-        let status = command::run(&process, rt.alloc(), &mut input, &mut output, &mut errors);
+        let status = command::run(
+            rt.alloc(),
+            &rt,
+            words.as_slice(),
+            &mut input,
+            &mut output,
+            &mut errors,
+        );
         assert_eq!(rt; status, 2);
         assert!(rt; output.is_empty());
         assert_eq!(rt; errors.as_slice(), b"acrun: usage\n".as_slice());
     }
+    Ok(())
 }
 
 #[test]

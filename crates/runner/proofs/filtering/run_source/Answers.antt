@@ -1,11 +1,10 @@
 use Rattle.std.proofs.Common.{sym, ap, subst, ◌∙◌, []}
 use Rattle.std.proofs.lemmas.Result.{err_from_is_err_and}
-use Rattle.meaning.specs.Meaning.{meaning}
-use Rattle.meaning.specs.State.{nothing}
-use Rattle.plan.specs.Walk.{walk, no_choice}
+use Rattle.plan.specs.Walk.{walk}
+use Rattle.meaning.specs.State.{no_choice}
 use Rattle.tree.specs.Script.{script_of}
-use Rattle.runner.specs.Outputs.{IsWritten}
-use Rattle.runner.specs.Ran.{Ran}
+use Rattle.runner.specs.Filtered.{opened}
+use Rattle.runner.specs.Ran.{RanAlone}
 use Rattle.runner.proofs.Refusals.{plan_refused, template_not_run, memory_not_run}
 use Rattle.runner.proofs.filtering.run_source.Goals as goal
 
@@ -23,13 +22,22 @@ returns-in_err-end-clause-refused c = memory_not_run _ c.from_residual-in_err-en
 pub returns-in_err-text-clause-refused : goal.returns-in_err-text-clause-refused
 returns-in_err-text-clause-refused c = memory_not_run _ c.from_residual-in_err-text.result c.from_residual-in_err-text.ensures.1
 
+pub returns-in_err-vars-clause-refused : goal.returns-in_err-vars-clause-refused
+returns-in_err-vars-clause-refused c = memory_not_run _ c.from_residual-in_err-vars.result c.from_residual-in_err-vars.ensures.1
+
 pub returns-clause-run : goal.returns-clause-run
 returns-clause-run c =
     let s = script_of c.args.source.now.statements.items in
-    let begun = ap (λ v. walk c.in_ok-plan.plan 0 no_choice (record { vars = v; defs = [] })) c.new.ensures ∙ c.in_ok-plan.ensures.meaning nothing in
+    let o = c.in_ok-vars.ensures in
+    let st = opened o.0 in
+    let begun = ap (λ v. walk c.in_ok-plan.plan 0 no_choice (record { vars = v; defs = [] })) o.2 ∙ c.in_ok-plan.ensures.meaning st in
     record {
       fits = c.in_ok-plan.ensures.fits;
+      settings = o.0;
+      opens = o.1;
       present = c.in_ok-check_templates.ensures.present;
-      written = subst (IsWritten s c.args.template.now (meaning s nothing) c.in_ok-text.text.items) (sym c.status_of.ensures)
-          (c.in_ok-text.ensures (meaning s nothing) (subst (λ r. Ran r c.in_ok-end.end) begun c.in_ok-end.ensures));
+      end = c.in_ok-end.end;
+      ran = subst (λ r. RanAlone r c.in_ok-end.end) begun c.in_ok-end.ensures;
+      written = c.in_ok-text.ensures;
+      exits = c.status_of.ensures;
     }

@@ -1,5 +1,5 @@
 use Rattle.std.proofs.Common.{◌+◌, ◌≤◌, length, sym, ap, ◌∙◌, arith}
-use Rattle.runner.specs.Parted.{is_marker, first_line}
+use Rattle.runner.specs.Parted.{is_marker}
 use Rattle.runner.proofs.Markers.{is_line_len, is_first_line, marker_true, marker_false, parted_here, unmarked_here, stands_at_next}
 use Rattle.runner.proofs.input.marker_place.Goals as goal
 

@@ -1,0 +1,138 @@
+-- A run each of whose starts is refused.
+use Rattle.std.proofs.Common.{◌≡◌, ℕ, ◌+◌, List, [], ◌∷◌, ◌++◌, length, take, drop, Option, Some, None, refl, sym, ap, ◌∙◌, subst, arith}
+use Rattle.std.specs.Prelude.{IfSome, replicate}
+use Rattle.std.proofs.lemmas.List.{append-nil}
+use Rattle.conftest.specs.declared.job.Job.{Job}
+use Rattle.crew.specs.declared.reply.Reply.{Reply}
+use Rattle.crew.specs.declared.reply.Reply.TheVariants.{StartRefused}
+use Rattle.machine.specs.Standing.{Standing, run_in, run_at, left_in, run_left, Shows, CutsAt, Refusals, Holds, Fits, fits_in, Turned, outcome_of, outcome_by}
+use Rattle.machine.specs.Waits.{given, refused_rest, first_refused, resumed}
+use Rattle.machine.specs.declared.machine.Outcome.{Outcome}
+use Rattle.machine.specs.declared.machine.Outcome.TheVariants as outcome
+use Rattle.machine.specs.declared.machine.Phase.{Phase}
+use Rattle.machine.specs.declared.machine.Phase.TheVariants as phase
+use Rattle.machine.specs.declared.machine.RunEnd.{RunEnd}
+use Rattle.machine.specs.declared.machine.Turn.{Turn}
+use Rattle.machine.specs.declared.machine.Turn.TheVariants as turn
+use Rattle.machine.specs.declared.wait.Wait.TheVariants as waits
+use Rattle.meaning.specs.Play.{play, all_jobs}
+use Rattle.meaning.specs.State.{State, How, Goes_on, Completed, Stopped, Cut, Run, Ends, Asks, no_choice}
+use Rattle.plan.specs.Walk.{Instruction, walk}
+use Rattle.proberun.specs.Ran.{outcome_from}
+use Rattle.runner.specs.Ran.{RanAlone, refusals}
+
+-- what a machine leaves at its end
+abbrev pub Leaves : Standing → RunEnd → Type 0
+Leaves m end = IfSome (outcome_of m.phase) (λ o. end ≡ record { outcome = o; vars = m.state.vars; defs = m.state.defs })
+
+left_by : (o : Option Outcome) (p : Outcome) (m : Standing) (end : RunEnd) → o ≡ Some p → IfSome o (λ o. end ≡ record { outcome = o; vars = m.state.vars; defs = m.state.defs })
+    → end ≡ record { outcome = p; vars = m.state.vars; defs = m.state.defs }
+left_by o p m end e h = let q : IfSome (Some p) (λ o. end ≡ record { outcome = o; vars = m.state.vars; defs = m.state.defs }) = subst (λ x. IfSome x (λ o. end ≡ record { outcome = o; vars = m.state.vars; defs = m.state.defs })) e h in q
+
+-- a run that asks nothing
+at_once : (r : Run) (how : How) (m : Standing) (o : Outcome) (end : RunEnd) → r ≡ Ends how m.state → outcome_from how None ≡ Some o → end ≡ record { outcome = o; vars = m.state.vars; defs = m.state.defs } → RanAlone r end
+at_once r how m o end is out left = record {
+  groups = [];
+  how = how;
+  meaning = ap (λ x. play x []) is ∙ ap (λ (e : RunEnd). record { how = how; state = record { vars = e.vars; defs = e.defs }; groups = [] }) (sym left);
+  outcome = out ∙ ap (λ (e : RunEnd). Some e.outcome) (sym left);
+}
+
+ends_by : (t : Turn) (r : Run) (old m : Standing) (end : RunEnd) → Shows t r m → outcome_of m.phase ≡ outcome_by t → Refusals t old → old.phase ≡ phase.Going → old.replies ≡ [] → (t ≡ turn.Ask → ⊥) → Leaves m end → RanAlone r end
+ends_by turn.Ask r old m end s o h going none not_ask left = absurd (not_ask refl)
+ends_by turn.Done (Ends Goes_on st) old m end s o h going none not_ask left =
+    at_once (Ends Goes_on st) Goes_on m outcome.Completed end (ap (Ends Goes_on) (sym s.2)) refl (left_by _ _ m end o left)
+ends_by turn.Done (Ends Completed st) old m end s o h going none not_ask left =
+    at_once (Ends Completed st) Completed m outcome.Completed end (ap (Ends Completed) (sym s.2)) refl (left_by _ _ m end o left)
+ends_by turn.Done (Ends (Stopped status) st) old m end s o h going none not_ask left = absurd s
+ends_by turn.Done (Ends Cut st) old m end s o h going none not_ask left = absurd s
+ends_by turn.Done (Asks jobs next) old m end s o h going none not_ask left = absurd s
+ends_by (turn.Stopped n) (Ends (Stopped status) st) old m end s o h going none not_ask left =
+    at_once (Ends (Stopped status) st) (Stopped n) m (outcome.Stopped n) end (ap (λ k. Ends (Stopped k) st) (sym s.3) ∙ ap (Ends (Stopped n)) (sym s.2)) refl (left_by _ _ m end o left)
+ends_by (turn.Stopped n) (Ends Goes_on st) old m end s o h going none not_ask left = absurd s
+ends_by (turn.Stopped n) (Ends Completed st) old m end s o h going none not_ask left = absurd s
+ends_by (turn.Stopped n) (Ends Cut st) old m end s o h going none not_ask left = absurd s
+ends_by (turn.Stopped n) (Asks jobs next) old m end s o h going none not_ask left = absurd s
+ends_by (turn.Cut number) r old m end s o h going none not_ask left =
+    let at : CutsAt phase.Going number old = subst (λ p. CutsAt p number old) going h in
+    absurd (no_refusal at.0 (sym (ap (λ l. first_refused (given l)) none) ∙ at.1))
+  where
+    no_refusal : (k : ℕ) → (let none : Option ℕ = None in none) ≡ Some k → ⊥
+    no_refusal k e = cc
+
+pub alone_at_once : (plan : List Instruction) (t : Turn) (old m : Standing) (st : State) (end : RunEnd)
+    → old ≡ record { phase = phase.Going; place = 0; scope = no_choice; state = st; wait = waits.Nothing; before = 0; jobs = []; replies = [] }
+    → Turned plan t old m → (t ≡ turn.Ask → ⊥) → Leaves m end → RanAlone (walk plan 0 no_choice st) end
+alone_at_once plan t old m st end is turned not_ask left =
+    let begins : run_left plan old ≡ walk plan 0 no_choice st = ap (run_left plan) is in
+    subst (λ r. RanAlone r end) (turned.same ∙ begins)
+    (ends_by t (run_at plan m) old m end turned.shows turned.outcome turned.refusals (ap (λ (x : Standing). x.phase) is) (ap (λ (x : Standing). x.replies) is) not_ask left)
+
+-- ---- the first jobs are refused
+
+-- what follows the replies to the jobs that a machine asks
+abbrev next_of : List Instruction → Standing → List Reply → Run
+next_of plan m replies = resumed m.wait replies (walk plan (m.place + 1)) m.scope m.state
+
+fits_at : (p : Phase) (plan : List Instruction) (m : Standing) → p ≡ phase.Asking → fits_in p plan m → Holds 1 plan m
+fits_at p plan m e h = let q : fits_in phase.Asking plan m = subst (λ x. fits_in x plan m) e h in q
+
+cut_by : (t : Turn) (st : State) (m : Standing) → Shows t (Ends Cut st) m → (number : ℕ) × (t ≡ turn.Cut number) × (m.state ≡ st)
+cut_by turn.Ask st m s = absurd s
+cut_by turn.Done st m s = absurd s
+cut_by (turn.Stopped n) st m s = absurd s
+cut_by (turn.Cut number) st m s = (number, refl, s.2)
+
+first_one : (k : ℕ) → first_refused (StartRefused ∷ []) ≡ Some k → k ≡ 1
+first_one k e = cc
+
+played : (n : ℕ) (jobs : List Job) (next : List Reply → Run) (st : State) → n ≡ 1 → length jobs ≡ n → next (StartRefused ∷ []) ≡ Ends Cut st
+    → play (Asks jobs next) (StartRefused ∷ []) ≡ record { how = Cut; state = st; groups = jobs ∷ [] }
+played n jobs next st one len is =
+    ap (λ k. record { how = (play (next (take k (StartRefused ∷ []))) (drop k (StartRefused ∷ []))).how; state = (play (next (take k (StartRefused ∷ []))) (drop k (StartRefused ∷ []))).state; groups = (jobs ∷ []) ++ (play (next (take k (StartRefused ∷ []))) (drop k (StartRefused ∷ []))).groups }) (len ∙ one)
+    ∙ ap (λ r. record { how = (play r []).how; state = (play r []).state; groups = (jobs ∷ []) ++ (play r []).groups }) is
+
+one_refusal : (jobs : List Job) → length jobs ≡ 1 → refusals (jobs ∷ []) ≡ StartRefused ∷ []
+one_refusal jobs one = ap (λ (l : List Job). replicate (length l) StartRefused) (append-nil jobs) ∙ ap (λ n. replicate n StartRefused) one
+
+pub alone_refused : (plan : List Instruction) (t : Turn) (m cut new : Standing) (end : RunEnd) → m.phase ≡ phase.Asking → Fits plan m → m.before ≡ 0 → m.replies ≡ replicate (length m.jobs) None
+    → cut ≡ record m { replies = refused_rest m.replies } → Turned plan t cut new → Leaves new end → RanAlone (run_at plan m) end
+alone_refused plan t m cut new end asking fits first fresh is turned left =
+    let at : Holds 1 plan m = fits_at m.phase plan m asking fits in
+    let given_is : given cut.replies ≡ StartRefused ∷ [] =
+    ap (λ (x : Standing). given x.replies) is ∙ ap (λ l. given (refused_rest l)) (fresh ∙ ap (λ n. replicate n None) at.jobs) in
+    let phase_is : cut.phase ≡ phase.Asking = ap (λ (x : Standing). x.phase) is ∙ asking in
+    let rest : run_left plan cut ≡ Ends Cut m.state =
+    ap (λ p. left_in p plan cut) phase_is ∙ ap (λ l. resumed cut.wait l (walk plan (cut.place + 1)) cut.scope cut.state) given_is ∙ ap (λ (x : Standing). Ends Cut x.state) is in
+    let c = cut_by t m.state new (subst (λ r. Shows t r new) (turned.same ∙ rest) turned.shows) in
+    let number = c.0 in
+    let o : outcome_of new.phase ≡ Some (outcome.CutShort number) = turned.outcome ∙ ap outcome_by c.1 in
+    let e = left_by _ _ new end o left in
+    let h : CutsAt cut.phase number cut = subst (λ x. Refusals x cut) c.1 turned.refusals in
+    let k : CutsAt phase.Asking number cut = subst (λ p. CutsAt p number cut) phase_is h in
+    let one : k.0 ≡ 1 = first_one k.0 (sym (ap first_refused given_is) ∙ k.1) in
+    let before : cut.before ≡ 0 = ap (λ (x : Standing). x.before) is ∙ first in
+    let is_one : number ≡ 1 = omega (arith, k.2, one, before) in
+    let refused = one_refusal m.jobs at.jobs in
+    let state_is : record { vars = end.vars; defs = end.defs } ≡ m.state = ap (λ (x : RunEnd). record { vars = x.vars; defs = x.defs }) e ∙ c.2 in
+    record {
+      groups = m.jobs ∷ [];
+      how = Cut;
+      meaning = ap (play (run_at plan m)) refused ∙ ap (λ p. play (run_in p plan m) (StartRefused ∷ [])) asking
+          ∙ played 1 m.jobs (next_of plan m) m.state refl at.jobs refl
+          ∙ ap (λ s. record { how = Cut; state = s; groups = m.jobs ∷ [] }) (sym state_is);
+      outcome = ap (λ l. outcome_from Cut (first_refused l)) refused ∙ ap (λ n. Some (outcome.CutShort n)) (sym is_one) ∙ ap (λ (x : RunEnd). Some x.outcome) (sym e);
+    }
+
+-- a machine that was cut has an end
+pub cut_has_end : (plan : List Instruction) (t : Turn) (m cut new : Standing) → m.phase ≡ phase.Asking → Fits plan m → m.replies ≡ replicate (length m.jobs) None
+    → cut ≡ record m { replies = refused_rest m.replies } → Turned plan t cut new → (number : ℕ) × (outcome_of new.phase ≡ Some (outcome.CutShort number))
+cut_has_end plan t m cut new asking fits fresh is turned =
+    let at : Holds 1 plan m = fits_at m.phase plan m asking fits in
+    let given_is : given cut.replies ≡ StartRefused ∷ [] =
+    ap (λ (x : Standing). given x.replies) is ∙ ap (λ l. given (refused_rest l)) (fresh ∙ ap (λ n. replicate n None) at.jobs) in
+    let phase_is : cut.phase ≡ phase.Asking = ap (λ (x : Standing). x.phase) is ∙ asking in
+    let rest : run_left plan cut ≡ Ends Cut m.state =
+    ap (λ p. left_in p plan cut) phase_is ∙ ap (λ l. resumed cut.wait l (walk plan (cut.place + 1)) cut.scope cut.state) given_is ∙ ap (λ (x : Standing). Ends Cut x.state) is in
+    let c = cut_by t m.state new (subst (λ r. Shows t r new) (turned.same ∙ rest) turned.shows) in
+    (c.0, turned.outcome ∙ ap outcome_by c.1)

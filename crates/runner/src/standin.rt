@@ -1,0 +1,209 @@
+//! The stand-in for a compiler, which needs no compiler: it looks for lines in the text of the conftest (own).
+//!
+//! It stands for `CC` where a configure run is tried. Its list is the file `standin.txt` in the folder that it runs in. A
+//! conftest in which a line of the list stands is refused, and every other one is accepted. A list whose first line is
+//! `!meet` tries that children run at one time: each makes a file, and one of them waits for that of another.
+
+ghost use Rattle.std.specs.Prelude.{◌≡◌, ◌↔◌, ◌⊎◌, ℕ, List, [], ◌∷◌, ◌++◌, Some, None, IsTrue, IfOk, OnOk, IfSome, IfNone};
+ghost use Rattle.std.specs.Option.{option_copied};
+ghost use Rattle.std.specs.Io.KnownBytes.{Appends};
+ghost use Rattle.runner.specs.Standin as meant;
+ghost use Rattle.runner.specs.Standin.{conftest_name, is_meeting, waiting, IsBarred, IsFirstBarred, HasNoBarred, IsAnswered};
+
+use crate::fault::FilterFault;
+use crate::input::{line_len, read_input};
+use bstr::ByteSlice;
+use deftable::Bytes;
+use std::alloc::{AllocError, Global};
+use std::fs;
+use std::io::{ErrorKind, Write};
+use std::rt::Files;
+use textcut::parts;
+
+/// The file of the list.
+const LIST: &[u8] = b"standin.txt";
+
+/// The first line of a list that asks children to meet.
+const MEET: &[u8] = b"!meet";
+
+/// The conftest that waits for another one.
+const WAITING: &[u8] = b"conftest1.c";
+
+/// The file that it waits for.
+const AWAITED: &str = "conftest2.c.seen";
+
+/// The most times that it looks for that file.
+const MOST_LOOKS: u32 = 200_000;
+
+/// Answers the exit status of a compiler that is called with these words.
+///
+/// The conftest is the last word that ends in `.c`. The status is 1 where a line of the list that isn't empty stands in the
+/// conftest, and the first such line is written to `errors`; else it is 0. Where the list's first line is `!meet`, a file
+/// is made whose name is the conftest's with `.seen` behind it. Then the status is 0, but for `conftest1.c` it is 1 if
+/// `conftest2.c.seen` isn't seen by 200,000 looks.
+///
+/// A file that can't be read, or that has no end after 65,536 reads of at most 4,096 bytes, holds nothing. It fails only
+/// for want of memory. Its time is that of one search of the conftest for each line of the list.
+pub fn standin<F: Files, E: Write>(
+    alloc: Global,
+    files: &F,
+    words: &[Bytes],
+    errors: &mut E,
+) -> Result<u8, AllocError>
+    ensures answer { IfOk result (IsAnswered words.now) }
+    // What it accepts is accepted in silence.
+    ensures silent { IfOk result (λ status. status ≡ 0 → errors.new ≡ errors.old) }
+{
+    let list = file_text(alloc, files, LIST)?;
+    let name = name_of_conftest(words);
+    if asks_to_meet(list.as_slice()) {
+        return meet(alloc, files, name);
+    }
+    let conftest = text_of_conftest(alloc, files, name)?;
+    judge(alloc, list.as_slice(), conftest.as_slice(), errors)
+}
+
+/// Whether the word is the name of a file in C.
+fn names_source(word: &[u8]) -> bool
+    ensures { result ≡ meant.names_source word.now }
+{
+    word.ends_with(b".c")
+}
+
+/// The name of the conftest.
+fn name_of_conftest(words: &[Bytes]) -> Option<&Bytes>
+    ensures { option_copied result ≡ conftest_name words.now }
+{
+    words
+        .iter()
+        .rev()
+        .find(|word| names_source(word.as_slice()))
+}
+
+/// Whether the list asks children to meet.
+fn asks_to_meet(list: &[u8]) -> bool
+    ensures { result ≡ is_meeting list.now }
+{
+    &list[..line_len(list)] == MEET
+}
+
+/// Whether this line of the list stands in the conftest.
+fn is_barred(conftest: &[u8], line: &[u8]) -> bool
+    ensures { IsTrue result ↔ IsBarred conftest.now line.now }
+{
+    !line.is_empty() && conftest.contains_str(line)
+}
+
+/// The first line of the list that stands in the conftest.
+fn first_barred<'a>(
+    alloc: Global,
+    list: &'a [u8],
+    conftest: &[u8],
+) -> Result<Option<&'a [u8]>, AllocError>
+    ensures found { IfOk result (λ o. IfSome o (λ line. IsFirstBarred list.now conftest.now line.now)) }
+    ensures none { IfOk result (λ o. IfNone o (HasNoBarred list.now conftest.now)) }
+{
+    let lines = parts(alloc, list, b'\n')?;
+    for line in lines.as_slice() {
+        if is_barred(conftest, line) {
+            return Ok(Some(line));
+        }
+    }
+    Ok(None)
+}
+
+/// The answer on a conftest: 1 where a line of the list stands in it, which is told, and else 0.
+fn judge<E: Write>(
+    alloc: Global,
+    list: &[u8],
+    conftest: &[u8],
+    errors: &mut E,
+) -> Result<u8, AllocError>
+    ensures barred { IfOk result (λ status. status ≡ 1 → (line : List ℕ) × IsFirstBarred list.now conftest.now line) }
+    ensures passed { IfOk result (λ status. status ≡ 0 → HasNoBarred list.now conftest.now) }
+    ensures silent { IfOk result (λ status. status ≡ 0 → errors.new ≡ errors.old) }
+    ensures status { IfOk result (λ status. (status ≡ 0) ⊎ (status ≡ 1)) }
+{
+    match first_barred(alloc, list, conftest)? {
+        Some(line) => {
+            let _ = tell_line(errors, line);
+            Ok(1)
+        }
+        None => Ok(0),
+    }
+}
+
+/// Writes a line.
+fn tell_line<E: Write>(errors: &mut E, line: &[u8]) -> std::io::Result<()>
+    ensures { OnOk result (Appends (E.contents errors.old) (E.contents errors.new) (line.now ++ 10 ∷ [])) }
+{
+    errors.write_all(line)?;
+    errors.write_all(b"\n")
+}
+
+/// What the conftest holds.
+fn text_of_conftest<F: Files>(
+    alloc: Global,
+    files: &F,
+    name: Option<&Bytes>,
+) -> Result<Vec<u8>, AllocError>
+    ensures { IfOk result (λ text. option_copied name.entry ≡ None → text.items ≡ []) }
+{
+    match name {
+        Some(name) => file_text(alloc, files, name.as_slice()),
+        None => Ok(Vec::new(alloc)),
+    }
+}
+
+/// What a file holds; nothing where it can't be read.
+fn file_text<F: Files>(alloc: Global, files: &F, name: &[u8]) -> Result<Vec<u8>, AllocError> {
+    let Ok(name) = std::str::from_utf8(name) else {
+        return Ok(Vec::new(alloc));
+    };
+    let mut file = match fs::open(files, name) {
+        Ok(file) => file,
+        Err(e) if e.kind() == ErrorKind::OutOfMemory => return Err(AllocError),
+        Err(_) => return Ok(Vec::new(alloc)),
+    };
+    match read_input(alloc, &mut file) {
+        Ok(text) => Ok(text),
+        Err(FilterFault::OutOfMemory) => Err(AllocError),
+        Err(_) => Ok(Vec::new(alloc)),
+    }
+}
+
+/// Makes the file that says that the conftest was seen; the one that waits then looks for the other's.
+fn meet<F: Files>(alloc: Global, files: &F, name: Option<&Bytes>) -> Result<u8, AllocError>
+    ensures status { IfOk result (λ status. (status ≡ 0) ⊎ (status ≡ 1)) }
+    ensures waited { IfOk result (λ status. status ≡ 1 → option_copied name.entry ≡ Some waiting) }
+{
+    let Some(name) = name else {
+        return Ok(0);
+    };
+    let name = name.as_slice();
+    make_seen(alloc, files, name)?;
+    if name != WAITING || is_seen(files) {
+        return Ok(0);
+    }
+    Ok(1)
+}
+
+/// Makes the file that says that the conftest was seen, if that can be made.
+fn make_seen<F: Files>(alloc: Global, files: &F, name: &[u8]) -> Result<(), AllocError> {
+    let Ok(name) = std::str::from_utf8(name) else {
+        return Ok(());
+    };
+    let seen = format!(in alloc; "{name}.seen")?;
+    let _ = fs::write(files, seen.as_str(), b"");
+    Ok(())
+}
+
+/// Looks for the file that is waited for.
+fn is_seen<F: Files>(files: &F) -> bool {
+    for _ in 0..MOST_LOOKS {
+        if matches!(fs::exists(files, AWAITED), Ok(true)) {
+            return true;
+        }
+    }
+    false
+}
