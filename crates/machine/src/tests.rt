@@ -5,7 +5,7 @@ ghost use Rattle.machine.specs.Standing.{Fits};
 
 use super::*;
 use acargs::{Help, OptionKind};
-use acmacros::{Plain, Program, ProgramNames, Question, Try};
+use acmacros::{Plain, Program, Question, Try};
 use crew::Reply;
 use deftable::{Bytes, Name, Vars};
 use plan::{Plan, compile_statements};
@@ -320,36 +320,6 @@ fn a_program_that_is_compiled(rt: HostRuntime) -> Result<(), Fail> {
     Ok(())
 }
 
-#[test]
-fn a_program_that_is_run(rt: HostRuntime) -> Result<(), Fail> {
-    let alloc = rt.alloc();
-    let list = tries(alloc, Try::Run)?;
-    assert!(rt;
-        leaves(
-            alloc,
-            list.as_slice(),
-            compiler(alloc)?,
-            &[0, 0],
-            b"r",
-            b"1"
-        )?
-    );
-    assert!(rt;
-        leaves(
-            alloc,
-            list.as_slice(),
-            compiler(alloc)?,
-            &[0, 1],
-            b"r",
-            b"2"
-        )?
-    );
-    assert!(rt; leaves(alloc, list.as_slice(), compiler(alloc)?, &[1], b"r", b"2")?);
-    let cut = ends(alloc, list.as_slice(), compiler(alloc)?, &[0, 300], b"r")?;
-    assert_eq!(rt; cut, (Outcome::CutShort(2), true));
-    Ok(())
-}
-
 /// The turn behind a cut, and how many jobs were asked before it.
 fn cut_once(alloc: Global, plan: &Plan, vars: Vars) -> Result<(Turn, usize), Fail> {
     let mut machine = Machine::new(alloc, plan, vars);
@@ -373,94 +343,6 @@ fn a_cut(rt: HostRuntime) -> Result<(), Fail> {
     let (turn, asked) = cut_once(alloc, &plan, compiler(alloc)?)?;
     assert_eq!(rt; turn, Turn::Cut(1));
     assert_eq!(rt; asked, 1);
-    Ok(())
-}
-
-fn names(alloc: Global, texts: &[&[u8]]) -> Result<ProgramNames, Fail> {
-    let mut all = Vec::new(alloc);
-    for text in texts {
-        all.push(Bytes::from_slice(alloc, text)?)?;
-    }
-    Ok(ProgramNames::from_vec(all))
-}
-
-/// AC_CHECK_PROGS(V, [a b], [none])
-fn check_progs(alloc: Global) -> Result<Vec<Stmt>, Fail> {
-    one(
-        alloc,
-        Stmt::Plain(Plain::CheckProgs {
-            variable: name(alloc, b"V")?,
-            programs: names(alloc, &[b"a".as_slice(), b"b"])?,
-            otherwise: Some(read_here(alloc, b"none")?),
-        }),
-    )
-}
-
-fn path(alloc: Global, folders: &[u8]) -> Result<Vars, Fail> {
-    let mut vars = Vars::new(alloc);
-    vars.set(b"PATH", folders)?;
-    Ok(vars)
-}
-
-/// PATH is `/x`, and one more variable is set.
-fn path_and(alloc: Global, name: &[u8], value: &[u8]) -> Result<Vars, Fail> {
-    let mut vars = path(alloc, b"/x")?;
-    vars.set(name, value)?;
-    Ok(vars)
-}
-
-#[test]
-fn lists_of_programs(rt: HostRuntime) -> Result<(), Fail> {
-    let alloc = rt.alloc();
-    let list = check_progs(alloc)?;
-    // Two folders: the second has b. Then the first has a, one has neither, and there is none.
-    let vars = path(alloc, b"/x:/y/:")?;
-    assert!(rt; leaves(alloc, list.as_slice(), vars, &[1, 1, 1, 0], b"V", b"b")?);
-    let vars = path(alloc, b"/x:/y")?;
-    assert!(rt; leaves(alloc, list.as_slice(), vars, &[0], b"ac_cv_prog_V", b"a")?);
-    let vars = path(alloc, b":")?;
-    assert!(rt; leaves(alloc, list.as_slice(), vars, &[1, 1], b"V", b"none")?);
-    assert!(rt; leaves(alloc, list.as_slice(), Vars::new(alloc), &[], b"V", b"none")?);
-    Ok(())
-}
-
-#[test]
-fn programs_that_are_not_looked_for(rt: HostRuntime) -> Result<(), Fail> {
-    let alloc = rt.alloc();
-    let list = check_progs(alloc)?;
-    let vars = path_and(alloc, b"V", b"mine")?;
-    assert!(rt; leaves(alloc, list.as_slice(), vars, &[], b"ac_cv_prog_V", b"mine")?);
-    let vars = path_and(alloc, b"ac_cv_prog_V", b"old")?;
-    assert!(rt; leaves(alloc, list.as_slice(), vars, &[], b"V", b"old")?);
-    let vars = path(alloc, b"/x")?;
-    let cut = ends(alloc, list.as_slice(), vars, &[1, 300], b"ac_cv_prog_V")?;
-    assert_eq!(rt; cut, (Outcome::CutShort(2), true));
-    Ok(())
-}
-
-/// AC_PATH_PROG(V, p)
-fn path_prog(alloc: Global) -> Result<Vec<Stmt>, Fail> {
-    one(
-        alloc,
-        Stmt::Plain(Plain::PathProg {
-            variable: name(alloc, b"V")?,
-            program: Bytes::from_slice(alloc, b"p")?,
-            otherwise: None,
-        }),
-    )
-}
-
-#[test]
-fn full_names(rt: HostRuntime) -> Result<(), Fail> {
-    let alloc = rt.alloc();
-    let list = path_prog(alloc)?;
-    let vars = path(alloc, b"/x::/y")?;
-    assert!(rt; leaves(alloc, list.as_slice(), vars, &[1, 0], b"V", b"./p")?);
-    // A value that is no full name does not count.
-    let vars = path_and(alloc, b"V", b"p2")?;
-    assert!(rt; leaves(alloc, list.as_slice(), vars, &[0], b"V", b"/x/p")?);
-    let vars = path_and(alloc, b"V", b"c:\\p")?;
-    assert!(rt; leaves(alloc, list.as_slice(), vars, &[], b"V", b"c:\\p")?);
     Ok(())
 }
 

@@ -148,11 +148,31 @@ fn programs_that_are_looked_for(rt: HostRuntime) -> Result<(), Fail> {
             values,
         )?;
     }
-    let name = b"ac_cv_path_r".as_slice();
-    let found = [b"/x/p".as_slice(), name, b"/x/p"];
-    assert_run(&rt, rt.alloc(), path, b"10", Outcome::Completed, 4, found)?;
-    let given = [b"/y/p".as_slice(), name, b"/y/p"];
-    assert_run(&rt, rt.alloc(), full, b"", Outcome::Completed, 0, given)?;
+    let names = [
+        (path, b"10".as_slice(), 4, b"/x/p".as_slice()),
+        (b"PATH=/x::/y\nAC_PATH_PROG([r],[p])", b"10", 4, b"./p"),
+        (full, b"", 0, b"/y/p"),
+        (
+            b"r='c:\\p' PATH=/x\nAC_PATH_PROG([r],[p])",
+            b"",
+            0,
+            b"c:\\p",
+        ),
+        // A value that is no full name does not count.
+        (b"r=p2 PATH=/x\nAC_PATH_PROG([r],[p])", b"0", 2, b"/x/p"),
+    ];
+    for (lines, script, calls, r) in names {
+        let values = [r, b"ac_cv_path_r".as_slice(), r];
+        assert_run(
+            &rt,
+            rt.alloc(),
+            lines,
+            script,
+            Outcome::Completed,
+            calls,
+            values,
+        )?;
+    }
     // A search that is cut leaves its name and its variable as they were.
     let unset = [b"-".as_slice(), b"ac_cv_prog_r", b"-"];
     assert_run(
