@@ -1,6 +1,7 @@
 //! Sources that ask children, over a crew in memory.
 
-use acparse::parse;
+use crate::standin_tests::{enter, leave};
+use acparse::{Source, parse};
 use crew::{MemoryCrew, Order, ProcessCrew, Reply};
 use deftable::{Bytes, Vars};
 use plan::compile;
@@ -26,12 +27,17 @@ fn replies(alloc: Global, script: &[u8]) -> Result<Vec<Reply>, AllocError> {
     Ok(replies)
 }
 
-/// What a source with these lines leaves under a script, and how many calls its crew had.
-fn run_lines(alloc: Global, lines: &[u8], script: &[u8]) -> Result<(RunEnd, usize), Fail> {
+/// The source of these lines between AC_INIT and AC_OUTPUT.
+fn source(alloc: Global, lines: &[u8]) -> Result<Source, Fail> {
     let mut text = Vec::from_slice(alloc, b"AC_INIT([demo],[1.0])\n")?;
     text.extend_from_slice(lines)?;
     text.extend_from_slice(b"\nAC_OUTPUT\n")?;
-    let source = parse(alloc, &text)?;
+    Ok(parse(alloc, &text)?)
+}
+
+/// What a source with these lines leaves under a script, and how many calls its crew had.
+fn run_lines(alloc: Global, lines: &[u8], script: &[u8]) -> Result<(RunEnd, usize), Fail> {
+    let source = source(alloc, lines)?;
     let plan = compile(alloc, &source)?;
     let mut crew = MemoryCrew::new(alloc, replies(alloc, script)?, Order::Oldest)?;
     let end = run(alloc, &plan, Vars::new(alloc), &mut crew, 1)?;
@@ -226,16 +232,29 @@ fn each_call_refused_in_turn(rt: HostRuntime) -> Result<(), Fail> {
     Ok(())
 }
 
-/// A compiler that can't be started cuts the run, over real processes.
+/// Over real processes: a compiler that can't be started cuts the run, and a shell is found in the second folder of PATH.
 #[test]
-fn a_compiler_that_is_not_there(rt: HostRuntime) -> Result<(), Fail> {
-    let text = b"AC_INIT([demo],[1.0])\nCC=/nowhere/cc\n\
-        AC_COMPILE_IFELSE([AC_LANG_PROGRAM([],[])],[r=1],[r=2])\nAC_OUTPUT\n";
-    let source = parse(rt.alloc(), text)?;
-    let plan = compile(rt.alloc(), &source)?;
-    let mut crew = ProcessCrew::new(rt.clone()?, rt.alloc())?;
-    let end = run(rt.alloc(), &plan, Vars::new(rt.alloc()), &mut crew, 1)?;
-    assert_eq!(rt; end.outcome, Outcome::CutShort(1));
-    assert!(rt; end.vars.get(b"r").is_none());
-    Ok(())
+fn over_processes(rt: HostRuntime) -> Result<(), Fail> {
+    enter(&rt, "over_processes")?;
+    let cases = [
+        (
+            b"CC=/nowhere/cc\nAC_COMPILE_IFELSE([AC_LANG_PROGRAM([],[])],[r=1],[r=2])".as_slice(),
+            Outcome::CutShort(1),
+            b"-".as_slice(),
+        ),
+        (
+            b"PATH=/nowhere:/bin\nAC_PATH_PROG([r],[sh])",
+            Outcome::Completed,
+            b"/bin/sh",
+        ),
+    ];
+    for (lines, outcome, r) in cases {
+        let source = source(rt.alloc(), lines)?;
+        let plan = compile(rt.alloc(), &source)?;
+        let mut crew = ProcessCrew::new(rt.clone()?, rt.alloc())?;
+        let end = run(rt.alloc(), &plan, Vars::new(rt.alloc()), &mut crew, 1)?;
+        assert!(rt; end.outcome == outcome, "{end:?}");
+        assert!(rt; value(&end.vars, b"r") == r, "{end:?}");
+    }
+    leave(&rt, "over_processes")
 }

@@ -22,7 +22,7 @@ fn words_of(alloc: Global, words: &[&[u8]]) -> Result<Vec<Bytes>, AllocError> {
 }
 
 /// Goes to a new folder.
-fn enter(rt: &HostRuntime, folder: &str) -> Result<(), Fail> {
+pub(crate) fn enter(rt: &HostRuntime, folder: &str) -> Result<(), Fail> {
     let _ = fs::remove_dir_all(rt, folder);
     fs::create_dir(rt, folder)?;
     env::set_current_dir(rt, folder)?;
@@ -30,7 +30,7 @@ fn enter(rt: &HostRuntime, folder: &str) -> Result<(), Fail> {
 }
 
 /// Goes back, and removes the folder.
-fn leave(rt: &HostRuntime, folder: &str) -> Result<(), Fail> {
+pub(crate) fn leave(rt: &HostRuntime, folder: &str) -> Result<(), Fail> {
     env::set_current_dir(rt, "..")?;
     fs::remove_dir_all(rt, folder)?;
     Ok(())
