@@ -24,7 +24,8 @@ const FIRST_ROOM: usize = 256;
 /// The most tries for one argument.
 const MOST_TRIES: u32 = 64;
 
-/// The arguments, without the program's name. They may be any bytes. It fails only for want of memory.
+/// The arguments, without the program's name. They may be any bytes. It fails only for want of memory. No clause says which
+/// they are, since [`Env`] has no meaning that one could name.
 pub fn words<V: Env>(alloc: Global, env: &V) -> Result<Vec<Bytes>, AllocError> {
     let mut words = Vec::new(alloc);
     for i in 1..usize::MAX {
