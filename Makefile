@@ -1,4 +1,5 @@
-# make demo     builds the program and runs it on the examples
+# make          proves every crate, then builds the program
+# make demo     the same, and runs it on the examples
 # make compile  tries the conftests with a real compiler, the one that CC names
 # make check    every proof, every test and every must-fail edit (rt ci)
 # make install  puts the built program at $(prefix)/bin/acrun
@@ -6,25 +7,43 @@
 prefix = /usr/local
 acrun = crates/acrun/out/acrun
 conftests = crates/conftests/out/conftests
-sources = $(shell git ls-files 'crates/*/src' 'crates/*/specs' 'crates/*/proofs' crates.txt 2>/dev/null)
+
+# A crate is proved as soon as those that it uses are; out/NAME.proved is made then. The graph is that of crates.txt, of which
+# each line becomes one word here: NAME:DEP,DEP.
+comma = ,
+lines := $(shell sed -e 's/\#.*//' -e '/:/!d' -e 's/ *: */:/' -e 's/ *$$//' -e 's/ \{1,\}/,/g' crates.txt)
+crates := $(foreach line,$(lines),$(firstword $(subst :, ,$(line))))
+uses = $(filter $(crates),$(subst $(comma), ,$(word 2,$(subst :, ,$(filter $(1):%,$(lines))))))
+# those that the program stands on
+needed := acrun
+$(foreach pass,1 2 3 4 5 6 7 8 9 10,$(eval needed := $(sort $(needed) $(foreach name,$(needed),$(call uses,$(name))))))
+sources = $(shell find crates/$(1)/src crates/$(1)/specs crates/$(1)/proofs -type f 2>/dev/null)
+
+ifeq ($(filter -j% --jobs%,$(MAKEFLAGS)),)
+MAKEFLAGS += --jobs=$(shell nproc)
+endif
 
 .PHONY: all demo compile check install
 
 all: $(acrun)
 
-# Every library that the program stands on is proved before it is built; then it runs its stored input once.
-$(acrun): $(sources)
-	cd crates/acrun && rt run < stdin
-	@touch $(acrun)
+define crate
+out/$(1).proved: crates.txt $(call sources,$(1)) $(foreach use,$(call uses,$(1)),out/$(use).proved)
+	@sh tools/prove.sh $(1) $(needed)
+endef
+$(foreach name,$(crates),$(eval $(call crate,$(name))))
+
+# The program is built over the proofs, and runs its stored input once.
+$(acrun): out/acrun.proved crates/acrun/stdin
+	@sh tools/build.sh acrun
 
 demo: $(acrun)
 	@sh examples/run.sh $(acrun) examples/first
 	@sh examples/run.sh $(acrun) examples/branches
 	@sh examples/standin/run.sh $(acrun)
 
-$(conftests): $(sources)
-	cd crates/conftests && rt run < /dev/null
-	@touch $(conftests)
+$(conftests): out/conftests.proved
+	@sh tools/build.sh conftests
 
 compile: $(conftests)
 	@sh examples/conftests/run.sh $(conftests)
