@@ -9,7 +9,7 @@ use Rattle.memchr.specs.Find.{Nowhere, Passes, is_byte}
 use Rattle.deftable.specs.ShellName.{IsShellName, starts_name, continues_name}
 use Rattle.deftable.specs.Table.{value_of, HasShellNames}
 use Rattle.template.specs.Fill.{at_sign, BeginsWithKey, Fills, before_at, key_at_front, filled_behind, filled, entry_of}
-use Rattle.template.specs.Hops.{HasNoAt, opened_before, GoesOn}
+use Rattle.template.specs.Hops.{HasNoAt}
 use Rattle.template.specs.Fill.Fills.{nothing, key, byte}
 
 module _ (es : List (List ℕ × List ℕ)) where
@@ -80,11 +80,6 @@ module _ (es : List (List ℕ × List ℕ)) where
 
   pub filled-end : (s : List ℕ) → HasNoAt s → filled es s ≡ s
   filled-end s h = ap (filled es) (sym (append-nil s)) ∙ filled-plain s [] h ∙ ap (λ x. s ++ x) filled-[] ∙ append-nil s
-
-  -- what is left behind the last `@` is copied, with that `@` where it is not yet written
-  pub filled-last : (opened : Bool) (s : List ℕ) → HasNoAt s → filled es (opened_before opened s) ≡ opened_before opened s
-  filled-last true s h = filled-open s h ∙ ap (λ x. at_sign ∷ x) (filled-end s h)
-  filled-last false s h = filled-end s h
 
   -- ---- the relation
 
@@ -233,24 +228,6 @@ module _ (es : List (List ℕ × List ℕ)) (names : HasShellNames es) where
   -- the function's text stands in the relation
   pub filled-Fills : (text : List ℕ) → Fills es text (filled es text)
   filled-Fills text = Fills-behind text zero
-
--- ---- what the hops write
-
-module _ (es : List (List ℕ × List ℕ)) where
-  -- a key behind an open `@`: its value is written, and no `@` is open then
-  pub GoesOn-value : (made later : List ℕ) (opened : Bool) (s v : List ℕ) → HasNoAt s → opened ≡ true → value_of es s ≡ Some v → later ≡ made ++ v
-      → GoesOn es made opened s later false
-  GoesOn-value made later true s v h is_open is e = λ rest.
-      ap (λ x. made ++ x) (filled-key es s rest v h is) ∙ sym (append_assoc made v (filled es rest)) ∙ ap (λ x. x ++ filled es rest) (sym e)
-  GoesOn-value made later false s v h is_open is e = absurd cc
-
-  -- no key: the stretch is copied, with the open `@` before it, and the `@` behind it is open
-  pub GoesOn-copied : (made later : List ℕ) (opened : Bool) (s : List ℕ) → HasNoAt s → (opened ≡ true → value_of es s ≡ None) → later ≡ made ++ opened_before opened s
-      → GoesOn es made opened s later true
-  GoesOn-copied made later true s h none e = λ rest.
-      ap (λ x. made ++ x) (filled-no_key es s rest h (none refl)) ∙ sym (append_assoc made (at_sign ∷ s) (filled es (at_sign ∷ rest))) ∙ ap (λ x. x ++ filled es (at_sign ∷ rest)) (sym e)
-  GoesOn-copied made later false s h none e = λ rest.
-      ap (λ x. made ++ x) (filled-plain es s (at_sign ∷ rest) h) ∙ sym (append_assoc made s (filled es (at_sign ∷ rest))) ∙ ap (λ x. x ++ filled es (at_sign ∷ rest)) (sym e)
 
 -- ---- stretches as a search gives them
 

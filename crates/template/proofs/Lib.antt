@@ -1,3 +1,4 @@
 pub mod Keys
 pub mod Laws
 pub mod Places
+pub mod Steps

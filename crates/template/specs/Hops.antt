@@ -1,5 +1,5 @@
 -- What is written on the way from `@` to `@` of a template.
-use Rattle.std.specs.Prelude.{◌≡◌, ℕ, Bool, true, false, ◌==◌, List, ◌∷◌, ◌++◌}
+use Rattle.std.specs.Prelude.{◌≡◌, ℕ, ◌+◌, ◌<◌, ◌≤◌, Bool, true, false, ◌==◌, List, ◌∷◌, ◌++◌, Option, Some, None, length, drop, slice_range, if◌then◌else◌}
 use Rattle.std.specs.List.{AllByRecursion}
 use Rattle.template.specs.Fill.{at_sign, filled}
 
@@ -7,13 +7,30 @@ use Rattle.template.specs.Fill.{at_sign, filled}
 abbrev pub HasNoAt : List ℕ → Type 0
 HasNoAt s = AllByRecursion (λ b. (b == at_sign) ≡ false) s
 
--- the text, with an `@` before it that was read already where one is open
-abbrev pub opened_before : Bool → List ℕ → List ℕ
-opened_before true text = at_sign ∷ text
-opened_before false text = text
+-- the byte at this place is `@`
+abbrev pub HasAt : List ℕ → ℕ → Type 0
+HasAt text at = drop at text ≡ at_sign ∷ drop (at + 1) text
 
--- Writing goes on: what is written and the text that is still to be filled make the same text before and after this stretch
--- with the `@` behind it, whatever follows.
-abbrev pub GoesOn : List (List ℕ × List ℕ) → List ℕ → Bool → List ℕ → List ℕ → Bool → Type 0
-GoesOn es made opened stretch later_made later_opened =
-    (rest : List ℕ) → made ++ filled es (opened_before opened (stretch ++ at_sign ∷ rest)) ≡ later_made ++ filled es (opened_before later_opened rest)
+-- the first `@` from a place on is at another
+pub record HasNextAt (text : List ℕ) (from at : ℕ) : Type 0 where
+  pub low : from ≤ at
+  pub high : at < length text
+  pub clean : HasNoAt (slice_range text from at)
+  pub there : HasAt text at
+
+-- where the first `@` from a place on is, if there is one
+abbrev pub IsNextAt : List ℕ → ℕ → Option ℕ → Type 0
+IsNextAt text from None = HasNoAt (drop from text)
+IsNextAt text from (Some at) = HasNextAt text from at
+
+-- how far the text has been read: an open `@` has been
+abbrev pub read_to : ℕ → Bool → ℕ
+read_to last opened = if opened then last + 1 else last
+
+-- A filling has come to a place, where an `@` may be open, which begins a key or not: what is written, then the text from
+-- `start` up to that place as it is, and then the rest filled, is the whole filled.
+pub record HasComeTo (es : List (List ℕ × List ℕ)) (text made : List ℕ) (start last : ℕ) (opened : Bool) : Type 0 where
+  pub ordered : start ≤ last
+  pub within : read_to last opened ≤ length text
+  pub at_open : opened ≡ true → HasAt text last
+  pub whole : made ++ (slice_range text start last ++ filled es (drop last text)) ≡ filled es text

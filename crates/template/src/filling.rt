@@ -1,13 +1,35 @@
 // Hops from `@` to `@`.
-ghost use Rattle.std.specs.Prelude.{◌≡◌, ℕ, Some, None, true, List, ◌∷◌, ◌++◌, IfSome, IfNone, IfOk, OnOk};
+ghost use Rattle.std.specs.Prelude.{◌≡◌, ℕ, ◌+◌, ◌-◌, ◌^◌, ◌<◌, ◌≤◌, Some, None, true, List, length, slice_range, IfSome, IfNone, IfOk};
 ghost use Rattle.deftable.specs.Table.{value_of};
-ghost use Rattle.template.specs.Fill.{at_sign, Fills, filled};
-ghost use Rattle.template.specs.Hops.{HasNoAt, opened_before, GoesOn};
+ghost use Rattle.template.specs.Fill.{Fills, filled};
+ghost use Rattle.template.specs.Hops.{HasNextAt, IsNextAt, HasComeTo, read_to};
 
 use crate::table::Table;
 use deftable::Bytes;
 use memchr::memchr;
 use std::alloc::{AllocError, Global};
+
+// What is held so far is written at the latest once it is so long, while a processor's cache still has it.
+const MOST_HELD: usize = 16384;
+
+// How far a filling has come: what is before `start` is written, and the text from there up to `last` is to be copied. An `@`
+// at `last` is open if it may begin a key.
+#[derive(Clone, Copy, Debug)]
+struct Held {
+    start: usize,
+    last: usize,
+    opened: bool,
+}
+
+impl Held {
+    // How far the text has been read.
+    fn read_to(self) -> usize
+        requires { self.last < 2 ^ 64 - 1 }
+        ensures { result ≡ read_to self.last self.opened }
+    {
+        if self.opened { self.last + 1 } else { self.last }
+    }
+}
 
 /// The template `text` with the keys of `table` filled in.
 ///
@@ -18,13 +40,15 @@ pub fn fill(alloc: Global, text: &[u8], table: &Table) -> Result<Vec<u8>, AllocE
     ensures exact { IfOk result (λ v. v.items ≡ filled table.now text.now) }
 {
     let mut made = Vec::with_capacity(alloc, text.len())?;
-    let mut rest = text;
-    let mut opened = false;
-    while let Some((stretch, behind)) = split_at_sign(rest) {
-        opened = put_stretch(&mut made, table, opened, stretch)?;
-        rest = behind;
+    let mut held = Held {
+        start: 0,
+        last: 0,
+        opened: false,
+    };
+    while let Some(at) = next_at(text, held.read_to()) {
+        held = step(&mut made, text, table, held, at)?;
     }
-    put_copy(&mut made, opened, rest)?;
+    made.extend_from_slice(&text[held.start..])?;
     has_one_filled_text(text, table);
     Ok(made)
 }
@@ -38,53 +62,59 @@ pub fn has_one_filled_text(text: &[u8], table: &Table)
     let _ = table.longest_key();
 }
 
-// The stretch before the first `@`, and what follows that `@`.
-fn split_at_sign(text: &[u8]) -> Option<(&[u8], &[u8])>
-    ensures parts { IfSome result (λ p. text.now ≡ p.0.now ++ at_sign ∷ p.1.now) }
-    ensures clean { IfSome result (λ p. HasNoAt p.0.now) }
-    ensures none { IfNone result (HasNoAt text.now) }
+// The place of the first `@` from `from` on.
+fn next_at(text: &[u8], from: usize) -> Option<usize>
+    requires { from ≤ length text.now }
+    ensures { IsNextAt text.now from result }
 {
-    let at = memchr(b'@', text)?;
-    Some((&text[..at], &text[at + 1..]))
+    let ahead = memchr(b'@', &text[from..])?;
+    Some(from + ahead)
 }
 
-// Writes what a stretch between two `@` becomes, and says whether the `@` behind it is open: it may begin a key.
-fn put_stretch(
+// Goes on to the next `@`: writes the value of the key that ends there, or holds what is read to be copied.
+fn step(
     made: &mut Vec<u8>,
+    text: &[u8],
     table: &Table,
-    opened: bool,
-    stretch: &[u8],
-) -> Result<bool, AllocError>
-    requires { HasNoAt stretch.now }
-    ensures { IfOk result (λ is_open. GoesOn table.now made.old.items opened stretch.now made.new.items is_open) }
+    held: Held,
+    at: usize,
+) -> Result<Held, AllocError>
+    requires come { HasComeTo table.now text.now made.old.items held.start held.last held.opened }
+    requires next { HasNextAt text.now (read_to held.last held.opened) at }
+    ensures read { IfOk result (λ later. read_to later.last later.opened ≡ at + 1) }
+    ensures come { IfOk result (λ later. HasComeTo table.now text.now made.new.items later.start later.last later.opened) }
 {
-    match value_between(table, opened, stretch) {
-        Some(value) => {
-            made.extend_from_slice(value.as_slice())?;
-            Ok(false)
-        }
-        None => {
-            put_copy(made, opened, stretch)?;
-            Ok(true)
-        }
+    if let Some(value) = value_between(text, table, held, at) {
+        made.extend_from_slice(&text[held.start..held.last])?;
+        made.extend_from_slice(value.as_slice())?;
+        return Ok(Held {
+            start: at + 1,
+            last: at + 1,
+            opened: false,
+        });
     }
+    let mut start = held.start;
+    if at - start >= MOST_HELD {
+        made.extend_from_slice(&text[start..at])?;
+        start = at;
+    }
+    Ok(Held {
+        start,
+        last: at,
+        opened: true,
+    })
 }
 
-// The value of the stretch, where an `@` is open before it and it is a key.
-fn value_between<'a>(table: &'a Table, opened: bool, stretch: &[u8]) -> Option<&'a Bytes>
-    ensures value { IfSome result (λ x. value_of table.now stretch.now ≡ Some x.now) }
-    ensures opened { IfSome result (λ _. opened ≡ true) }
-    ensures none { IfNone result (opened ≡ true → value_of table.now stretch.now ≡ None) }
+// The value of the key between the open `@` and the next one, if it is a key.
+fn value_between<'a>(text: &[u8], table: &'a Table, held: Held, at: usize) -> Option<&'a Bytes>
+    requires { HasNextAt text.now (read_to held.last held.opened) at }
+    ensures value { IfSome result (λ x. value_of table.now (slice_range text.now (held.last + 1) at) ≡ Some x.now) }
+    ensures opened { IfSome result (λ _. held.opened ≡ true) }
+    ensures none { IfNone result (held.opened ≡ true → value_of table.now (slice_range text.now (held.last + 1) at) ≡ None) }
 {
-    if opened { table.get(stretch) } else { None }
-}
-
-// Writes a stretch as it is, with the open `@` before it.
-fn put_copy(made: &mut Vec<u8>, opened: bool, stretch: &[u8]) -> Result<(), AllocError>
-    ensures { OnOk result (made.new.items ≡ made.old.items ++ opened_before opened stretch.now) }
-{
-    if opened {
-        made.push(b'@')?;
+    if held.opened {
+        table.get(&text[held.last + 1..at])
+    } else {
+        None
     }
-    made.extend_from_slice(stretch)
 }

@@ -1,11 +1,9 @@
-use Rattle.std.proofs.Common.{◌≡◌, ◌++◌, length}
-use Rattle.template.specs.Fill.{filled}
-use Rattle.template.specs.Hops.{opened_before}
+use Rattle.std.proofs.Common.{◌-◌, length}
+use Rattle.template.specs.Hops.{HasComeTo, read_to}
 use Rattle.template.proofs.filling.fill.Given as goal
 
--- what is written, and what is left filled, is the whole filled
-abbrev pub invariant-loop-stretch : goal.invariant-loop-stretch
-invariant-loop-stretch l = l.made.items ++ filled l.table (opened_before l.opened l.rest) ≡ filled l.table l.text
+abbrev pub invariant-loop-at : goal.invariant-loop-at
+invariant-loop-at l = HasComeTo l.table l.text l.made.items l.held.start l.held.last l.held.opened
 
-abbrev pub decreases-loop-stretch : goal.decreases-loop-stretch
-decreases-loop-stretch l = length l.rest
+abbrev pub decreases-loop-at : goal.decreases-loop-at
+decreases-loop-at l = length l.text - read_to l.held.last l.held.opened
