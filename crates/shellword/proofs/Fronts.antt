@@ -8,9 +8,10 @@ use Rattle.deftable.specs.ShellName.{starts_name, continues_name}
 use Rattle.shellword.specs.declared.front.Context.{Context}
 use Rattle.shellword.specs.declared.front.Context.TheVariants.{Bare, Single, Double, Here}
 use Rattle.shellword.specs.declared.front.Front.{Front}
-use Rattle.shellword.specs.Text.{single_quote, double_quote, backslash, dollar, backquote, open_brace, close_brace, name_len, is_special, escapes, escapes_front, escaped_part, byte_in, follows_dollar, stands_alone, closes_brace}
+use Rattle.shellword.specs.Text.{single_quote, double_quote, backslash, dollar, backquote, open_brace, close_brace, name_len, follows_dollar, stands_alone}
+use Rattle.shellword.specs.Contexts.{is_special, escapes, escapes_front, escaped_part, byte_in, closes_brace}
 use Rattle.shellword.specs.Scan.{front, backslash_front, braced_front, dollar_front, quote_context, front_of}
-use Rattle.shellword.specs.Word.{IsFront, single_opens, double_opens, single_closes, double_closes, escaped, kept, variable, in_braces, lone_dollar, ordinary}
+use Rattle.shellword.proofs.Steps.{IsFront, single_opens, double_opens, single_closes, double_closes, escaped, kept, variable, in_braces, lone_dollar, ordinary}
 use Rattle.shellword.proofs.Outcome.{chosen, failed, ok_is}
 
 pub name_len-le-length : (text : List ℕ) → name_len text ≤ length text
@@ -43,7 +44,12 @@ alone_len (b ∷ bs) h = rw (starts_no_name (starts_name b) (follows_dollar b) h
 closed_by : (n : ℕ) (inside rest : List ℕ) → drop n inside ≡ close_brace ∷ rest → closes_brace (drop n inside) ≡ true
 closed_by n inside rest e = ap closes_brace e
 
-pub front-read : {c : Context} {text : List ℕ} {f : Front} → IsFront c text f → (at : ℕ) → front_of at c text ≡ Ok f
+-- what the reader finds at the front of this text
+abbrev pub Begins : ℕ → Context → List ℕ → Front → Type 0
+Begins at c [] f = ⊥
+Begins at c (b ∷ bs) f = front_of at c b bs ≡ Ok f
+
+pub front-read : {c : Context} {text : List ℕ} {f : Front} → IsFront c text f → (at : ℕ) → Begins at c text f
 unfolding front_of
 front-read single_opens at = refl
 front-read double_opens at = refl
@@ -130,7 +136,7 @@ read-quote Double b bs special x y z =
     subst (λ (n : ℕ). IsFront Double (n ∷ bs) (front None 1 Bare)) (sym (eqb-true b double_quote (one_of_four (b == double_quote) _ _ _ special x y z))) double_closes
 read-quote Here b bs special x y z = absurd (none_of_three _ _ _ special x y z)
 
-pub read-front : (at : ℕ) (c : Context) (b : ℕ) (bs : List ℕ) (f : Front) → front_of at c (b ∷ bs) ≡ Ok f → IsFront c (b ∷ bs) f
+pub read-front : (at : ℕ) (c : Context) (b : ℕ) (bs : List ℕ) (f : Front) → front_of at c b bs ≡ Ok f → IsFront c (b ∷ bs) f
 unfolding front_of
 read-front at c b bs f e =
     elim (chosen (is_special c b) _ _ _ e) [

@@ -5,14 +5,17 @@ pub mod Joining
 pub mod Laws
 pub mod Matcher
 pub mod Outcome
+pub mod Parts
 pub mod PatternLists
 pub mod PatternReading
 pub mod Runs
+pub mod Steps
 pub mod TestFaults
 pub mod TestReading
 pub mod TokenReading
 pub mod Tokens
 pub mod Truths
 pub mod Values
+pub mod Variables
 pub mod WordFaults
 pub mod Words

@@ -34,7 +34,7 @@ token-within (line_end) n ts h w = w
 token-within (both) n ts h w = (omega arith, w)
 token-within (either) n ts h w = (omega arith, w)
 token-within (lone_bar x) n ts h w = (omega arith, w)
-token-within (a_word x run) n ts h w = w
+token-within (a_word x word over place) n ts h w = w
 
 pub tokens-within : {bars : Bool} {at : ℕ} {text : List ℕ} {tokens : List Token} → AreTokens bars at text tokens → (n : ℕ) → at + length text ≤ n → Within n tokens
 tokens-within (no_more) n h = tt

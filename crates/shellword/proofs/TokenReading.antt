@@ -12,7 +12,8 @@ use Rattle.shellword.specs.declared.token.Token.TheVariants.{Word, Join, Bar}
 use Rattle.shellword.specs.Text.{is_space, newline, ampersand, bar, ends_word, begins_with}
 use Rattle.shellword.specs.Scan.{◌>>=◌, scan}
 use Rattle.shellword.specs.Cut.{ampersand_at, bar_at, token_at, tokens_of}
-use Rattle.shellword.specs.Word.{Runs, ends, goes_on}
+use Rattle.shellword.specs.Word.{AreWordParts, BeginsAt}
+use Rattle.shellword.proofs.Parts.{word-run, run-word, word_runs}
 use Rattle.shellword.specs.Tokens.{IsToken, line_end, both, either, lone_bar, a_word, AreTokens, no_more, space, next}
 use Rattle.shellword.proofs.Outcome.{chosen, failed, ok_is, bind_ok}
 use Rattle.shellword.proofs.Fronts.{front-len}
@@ -46,16 +47,12 @@ ends_none b h =
     let p7 = left_false _ _ p6 in
     record { space = left_false (is_space b) (b == newline) p7; line = right_false (is_space b) (b == newline) p7; both = right_false _ (b == ampersand) p5; either = right_false _ (b == bar) p4 }
 
-pub run-len : {c : Context} {text : List ℕ} {parts : List Part} {n : ℕ} → Runs c text parts n → n ≤ length text
-run-len (ends unquoted over) = omega arith
-run-len (goes_on {c} {text} {f} {parts} {n} over h rest) = omega (arith, (front-len h).1, run-len rest, length-drop f.len text)
-
 pub token-len : {bars : Bool} {at : ℕ} {text : List ℕ} {t : Token} {k : ℕ} → IsToken bars at text t k → k ≤ length text
 token-len (line_end) = omega arith
 token-len (both) = omega arith
 token-len (either) = omega arith
 token-len (lone_bar x) = omega arith
-token-len (a_word x run) = run-len run
+token-len (a_word x word over place) = omega (arith, place)
 
 begins : (b : ℕ) (text : List ℕ) → begins_with b text ≡ true → (rest : List ℕ) × (text ≡ b ∷ rest)
 begins b [] h = absurd cc
@@ -74,9 +71,10 @@ token-read (line_end) = (refl, refl, omega arith, omega arith)
 token-read (both) = (refl, refl, omega arith, omega arith)
 token-read (either) = (refl, refl, omega arith, omega arith)
 token-read (lone_bar {at} {rest} h) = (refl, rw h refl, omega arith, omega arith)
-token-read (a_word {lone_bars} {at} {b} {n} {rest} {parts} h run) =
+token-read (a_word {lone_bars} {at} {b} {n} {text} {rest} {parts} h word over place) =
     let e = ends_none b h in
-    (e.space, rw (h, e.line, e.both, e.either, run-scan run at) refl, moved run h, run-len run)
+    let run = word_runs word over place in
+    (e.space, rw (h, e.line, e.both, e.either, run-scan run at) refl, moved run h, omega (arith, place))
 
 -- what the reader found, from the place `at` on
 abbrev pub TokenFound : Bool → ℕ → List ℕ → Token × ℕ → Type 0
@@ -121,7 +119,7 @@ read-token bars at b bs r e =
                         | inr h ↦
                             let q = bind_ok (scan 0 Bare at (b ∷ bs)) (λ r. Ok (Word r.0, r.1)) r h.1 in
                             let f = scan-found 0 Bare at (b ∷ bs) q.0.0 q.0.1 (omega arith) q.1 in
-                            subst (TokenFound bars at (b ∷ bs)) (ok_is _ _ q.2) (f.0, a_word h.0 f.1, omega (arith, f.2))
+                            subst (TokenFound bars at (b ∷ bs)) (ok_is _ _ q.2) (let w = run-word f.1 in (f.0, a_word h.0 w.0 w.1 w.2, omega (arith, f.2)))
                       ])
                 ])
           ])

@@ -6,13 +6,15 @@ use Rattle.shellword.specs.declared.fault.ShellFault.TheVariants.{BadWord}
 use Rattle.shellword.specs.declared.front.Context.{Context}
 use Rattle.shellword.specs.declared.front.Context.TheVariants.{Bare, Here}
 use Rattle.shellword.specs.declared.token.Token.TheVariants.{Word}
-use Rattle.shellword.specs.Text.{backslash, dollar, backquote, newline, ampersand, bar, open_brace, name_len, is_special, stands_alone, closes_brace, is_blank, is_space, begins_with, ends_word, is_over, is_quoted, is_parted}
+use Rattle.shellword.specs.Text.{backslash, dollar, backquote, newline, ampersand, bar, open_brace, name_len, stands_alone, is_blank, is_space, begins_with, ends_word, is_parted}
+use Rattle.shellword.specs.Contexts.{is_special, closes_brace, is_over, is_quoted}
 use Rattle.shellword.specs.Scan.{◌>>=◌, braced_front, dollar_front, front_of, close, scan, word_of, word_front_of, here_of}
 use Rattle.shellword.specs.Cut.{ampersand_at, bar_at, token_at, tokens_of}
 use Rattle.shellword.proofs.Outcome.{chosen, passed, fault_is, bind_err}
 use Rattle.shellword.proofs.Fronts.{read-front, front-len}
 use Rattle.shellword.proofs.Words.{front-run}
-use Rattle.shellword.proofs.TokenReading.{run-len, token-len, read-token}
+use Rattle.shellword.proofs.Parts.{run-len}
+use Rattle.shellword.proofs.TokenReading.{token-len, read-token}
 
 -- a fault of a word, at a place of at most n
 abbrev pub Fault : ℕ → ShellFault → Type 0
@@ -39,7 +41,7 @@ dollar-fault at c bs f e =
       | inr none ↦ (elim (chosen (stands_alone bs) _ _ _ none.1) [ inl h ↦ absurd (passed h.1) | inr h ↦ braced-fault at c bs f h.1 ])
     ]
 
-front-fault : (at : ℕ) (c : Context) (b : ℕ) (bs : List ℕ) (f : ShellFault) → front_of at c (b ∷ bs) ≡ Err f → Fault at f
+front-fault : (at : ℕ) (c : Context) (b : ℕ) (bs : List ℕ) (f : ShellFault) → front_of at c b bs ≡ Err f → Fault at f
 unfolding front_of
 front-fault at c b bs f e =
     elim (chosen (is_special c b) _ _ _ e) [
@@ -70,7 +72,7 @@ scan-fault zero c at (b ∷ bs) f h e =
     elim (chosen (is_over c (b ∷ bs)) _ _ _ e) [
       | inl over ↦ further at (at + suc (length bs)) f (close-fault c at f over.1) (omega arith)
       | inr more ↦
-          (elim (bind_err (front_of at c (b ∷ bs)) (λ x. scan (x.len - 1) x.context (at + 1) bs >>= λ r. Ok (option_to_list x.part ++ r.0, r.1)) f more.1) [
+          (elim (bind_err (front_of at c b bs) (λ x. scan (x.len - 1) x.context (at + 1) bs >>= λ r. Ok (option_to_list x.part ++ r.0, r.1)) f more.1) [
             | inl x ↦ further at (at + suc (length bs)) f (front-fault at c b bs f x) (omega arith)
             | inr x ↦
                 let len = front-len (read-front at c b bs x.0 x.1) in

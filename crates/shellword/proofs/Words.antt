@@ -1,14 +1,18 @@
 -- Words, the fronts of bare text and here texts: which parts they have is what the reader gives.
 use Rattle.std.proofs.Common.{◌≡◌, ℕ, zero, suc, ◌+◌, ◌-◌, ◌<◌, ◌≤◌, true, false, cond, inl, inr, List, [], ◌∷◌, ◌++◌, length, drop, option_to_list, Ok, Err, refl, sym, ap, subst, ◌∙◌, arith}
 use Rattle.std.specs.List.{list_all}
+use Rattle.std.proofs.lemmas.Bool.{and_parts}
 use Rattle.shellword.specs.declared.fault.ShellFault.TheVariants.{BadWord}
 use Rattle.shellword.specs.declared.part.Part.{Part}
 use Rattle.shellword.specs.declared.front.Context.{Context}
 use Rattle.shellword.specs.declared.front.Context.TheVariants.{Bare, Here}
 use Rattle.shellword.specs.declared.front.Front.{Front}
-use Rattle.shellword.specs.Text.{is_blank, is_over, is_quoted, is_parted}
+use Rattle.shellword.specs.Text.{is_blank, word_ends, is_parted}
+use Rattle.shellword.specs.Contexts.{is_over, is_quoted}
 use Rattle.shellword.specs.Scan.{◌>>=◌, front_of, close, scan, word_of, word_front_of, here_of}
-use Rattle.shellword.specs.Word.{IsFront, Runs, ends, goes_on, IsWord, IsWordFront, IsHere}
+use Rattle.shellword.specs.Word.{AreWordParts, IsWord, IsWordFront, IsHere, BeginsAt}
+use Rattle.shellword.proofs.Steps.{IsFront, Runs, ends, goes_on}
+use Rattle.shellword.proofs.Parts.{word-run, run-word, run-here, here-run}
 use Rattle.shellword.proofs.Outcome.{chosen, failed, ok_is, bind_ok}
 use Rattle.shellword.proofs.Fronts.{front-read, read-front, front-len}
 use Rattle.shellword.proofs.Runs.{with_parts, scan_over, scan_front}
@@ -62,7 +66,7 @@ scan-found zero c at (b ∷ bs) parts stop h e =
     (elim (chosen (is_over c (b ∷ bs)) _ _ _ e) [
       | inl over ↦ closed-found c at (b ∷ bs) parts stop over.0 over.1
       | inr more ↦
-          let front = bind_ok (front_of at c (b ∷ bs)) (λ f. scan (f.len - 1) f.context (at + 1) bs >>= λ r. Ok (option_to_list f.part ++ r.0, r.1)) (parts, stop) more.1 in
+          let front = bind_ok (front_of at c b bs) (λ f. scan (f.len - 1) f.context (at + 1) bs >>= λ r. Ok (option_to_list f.part ++ r.0, r.1)) (parts, stop) more.1 in
           let f = front.0 in
           let there = read-front at c b bs f front.1 in
           let len = front-len there in
@@ -94,38 +98,54 @@ scan_moves at b bs text r is more e =
 
 -- ---- whole texts
 
+-- before blanks a word ends, and where bare text is parted
+blanks_end : (rest : List ℕ) → list_all is_blank rest ≡ true → word_ends rest ≡ true
+blanks_end [] h = refl
+blanks_end (b ∷ bs) h = rw (and_parts (is_blank b) (list_all is_blank bs) h).0 refl
+
+parted_ends : (rest : List ℕ) → is_parted rest ≡ true → word_ends rest ≡ true
+parted_ends [] h = refl
+parted_ends (b ∷ bs) h = rw h refl
+
 pub word-read : (text : List ℕ) (parts : List Part) → IsWord text parts → word_of text ≡ Ok parts
 unfolding word_of
-word-read text parts h = rw (run-front h.word, h.rest) refl
+word-read text parts h =
+    let r = word-run h.word (blanks_end h.rest h.blanks) in
+    rw (run-front r.run, r.ends, h.blanks) refl
 
 pub read-word : (text : List ℕ) (parts : List Part) → word_of text ≡ Ok parts → IsWord text parts
 unfolding word_of
 read-word text parts e =
     let r = bind_ok (scan 0 Bare 0 text) (λ r. cond (list_all is_blank (drop r.1 text)) (Ok r.0) (Err (BadWord r.1))) parts e in
     elim (chosen (list_all is_blank (drop r.0.1 text)) _ _ _ r.2) [
-      | inl h ↦ record { len = r.0.1; word = subst (λ (ps : List Part). Runs Bare text ps r.0.1) (ok_is _ _ h.1) (front-run Bare text r.0 r.1); rest = h.0 }
+      | inl h ↦ record { rest = drop r.0.1 text; word = subst (λ (ps : List Part). AreWordParts text ps (drop r.0.1 text)) (ok_is _ _ h.1) (run-word (front-run Bare text r.0 r.1)).0; blanks = h.0 }
       | inr h ↦ absurd (failed h.1)
     ]
 
 pub word_front-read : (text : List ℕ) (parts : List Part) (n : ℕ) → IsWordFront text parts n → word_front_of text ≡ Ok (parts, n)
 unfolding word_front_of
-word_front-read text parts n h = rw (run-front h.word, h.parted) refl
+word_front-read text parts n h =
+    let r = word-run h.word (parted_ends h.rest h.parted) in
+    let len : r.len ≡ n = omega (arith, h.place, r.place) in
+    rw (run-front r.run, r.ends, h.parted) (ap (λ (m : ℕ). Ok (parts, m)) len)
 
 pub read-word_front : (text : List ℕ) (r : List Part × ℕ) → word_front_of text ≡ Ok r → IsWordFront text r.0 r.1
 unfolding word_front_of
 read-word_front text r e =
     let q = bind_ok (scan 0 Bare 0 text) (λ r. cond (is_parted (drop r.1 text)) (Ok r) (Err (BadWord r.1))) r e in
     elim (chosen (is_parted (drop q.0.1 text)) _ _ _ q.2) [
-      | inl h ↦ subst (λ (r : List Part × ℕ). IsWordFront text r.0 r.1) (ok_is _ _ h.1) (record { word = front-run Bare text q.0 q.1; parted = h.0 })
+      | inl h ↦
+          let w = run-word (front-run Bare text q.0 q.1) in
+          subst (λ (r : List Part × ℕ). IsWordFront text r.0 r.1) (ok_is _ _ h.1) (record { rest = drop q.0.1 text; word = w.0; place = w.2; parted = h.0 })
       | inr h ↦ absurd (failed h.1)
     ]
 
 pub here-read : (text : List ℕ) (parts : List Part) → IsHere text parts → here_of text ≡ Ok parts
 unfolding here_of
-here-read text parts h = rw (run-front h.run) refl
+here-read text parts h = rw (run-front (here-run h).run) refl
 
 pub read-here : (text : List ℕ) (parts : List Part) → here_of text ≡ Ok parts → IsHere text parts
 unfolding here_of
 read-here text parts e =
     let r = bind_ok (scan 0 Here 0 text) (λ r. Ok r.0) parts e in
-    record { len = r.0.1; run = subst (λ (ps : List Part). Runs Here text ps r.0.1) (ok_is _ _ r.2) (front-run Here text r.0 r.1) }
+    subst (IsHere text) (ok_is _ _ r.2) (run-here (front-run Here text r.0 r.1))

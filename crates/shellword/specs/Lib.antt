@@ -1,3 +1,4 @@
+pub mod Contexts
 pub mod Cut
 pub mod Element
 pub mod Faults
@@ -11,3 +12,4 @@ pub mod Tokens
 pub mod Truth
 pub mod Value
 pub mod Word
+pub mod WordFaults

@@ -8,7 +8,8 @@ use Rattle.shellword.specs.declared.part.Part.TheVariants.{Variable}
 use Rattle.shellword.specs.declared.front.Context.{Context}
 use Rattle.shellword.specs.declared.front.Context.TheVariants.{Bare, Single, Double, Here}
 use Rattle.shellword.specs.declared.front.Front.{Front}
-use Rattle.shellword.specs.Text.{is_blank, is_over, is_quoted, is_parted, single_quote, backslash, dollar, backquote, open_brace, name_len, is_special, escapes, escaped_part, byte_in, stands_alone, closes_brace}
+use Rattle.shellword.specs.Text.{is_blank, is_parted, single_quote, backslash, dollar, backquote, open_brace, name_len, stands_alone}
+use Rattle.shellword.specs.Contexts.{is_over, is_quoted, is_special, escapes, escaped_part, byte_in, closes_brace}
 
 infixl 10 ◌>>=◌
 abbrev pub ◌>>=◌ : {A B : Type 0} → Result A ShellFault → (A → Result B ShellFault) → Result B ShellFault
@@ -43,10 +44,9 @@ abbrev pub quote_context : Context → ℕ → Context
 quote_context Bare b = if b == single_quote then Single else Double
 quote_context c b = Bare
 
--- what stands at the front of a text that is not empty
-unfoldable pub front_of : ℕ → Context → List ℕ → Result Front ShellFault
-front_of at c [] = Ok (front None 0 c)
-front_of at c (b ∷ bs) =
+-- what stands at the front of b ∷ bs
+unfoldable pub front_of : ℕ → Context → ℕ → List ℕ → Result Front ShellFault
+front_of at c b bs =
     if is_special c b then
     (if b == backslash then Ok (backslash_front c bs)
     else (if b == dollar then dollar_front at c bs
@@ -65,7 +65,7 @@ scan skip c at [] = close c at
 scan (suc k) c at (b ∷ bs) = scan k c (at + 1) bs
 scan zero c at (b ∷ bs) =
     if is_over c (b ∷ bs) then close c at
-    else (front_of at c (b ∷ bs) >>= λ f. scan (f.len - 1) f.context (at + 1) bs >>= λ r. Ok (option_to_list f.part ++ r.0, r.1))
+    else (front_of at c b bs >>= λ f. scan (f.len - 1) f.context (at + 1) bs >>= λ r. Ok (option_to_list f.part ++ r.0, r.1))
 
 -- the text as one word, with blanks behind it
 unfoldable pub word_of : List ℕ → Result (List Part) ShellFault

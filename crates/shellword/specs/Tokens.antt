@@ -1,12 +1,11 @@
 -- How a text is cut into words, and what stands between them.
 use Rattle.std.specs.Prelude.{◌≡◌, ℕ, ◌+◌, Bool, true, false, List, [], ◌∷◌, drop}
 use Rattle.shellword.specs.declared.part.Part.{Part}
-use Rattle.shellword.specs.declared.front.Context.TheVariants.{Bare}
 use Rattle.shellword.specs.declared.token.Joint.TheVariants.{And, Or}
 use Rattle.shellword.specs.declared.token.Token.{Token}
 use Rattle.shellword.specs.declared.token.Token.TheVariants.{Word, Join, Bar, Newline}
-use Rattle.shellword.specs.Text.{is_space, newline, ampersand, bar, ends_word, begins_with}
-use Rattle.shellword.specs.Word.{Runs}
+use Rattle.shellword.specs.Text.{is_space, newline, ampersand, bar, ends_word, word_ends, begins_with}
+use Rattle.shellword.specs.Word.{AreWordParts, BeginsAt}
 
 -- A text that stands at the place `at` begins with this token, of this length: a newline, `&&`, `||`, a bar alone
 -- where such bars are read, or a word. No other byte that ends a word begins one.
@@ -15,8 +14,8 @@ pub data IsToken : Bool → ℕ → List ℕ → Token → ℕ → Type 0 where
   both : {lone_bars : Bool} {at : ℕ} {rest : List ℕ} → IsToken lone_bars at (ampersand ∷ ampersand ∷ rest) (Join And (at + 2)) 2
   either : {lone_bars : Bool} {at : ℕ} {rest : List ℕ} → IsToken lone_bars at (bar ∷ bar ∷ rest) (Join Or (at + 2)) 2
   lone_bar : {at : ℕ} {rest : List ℕ} → begins_with bar rest ≡ false → IsToken true at (bar ∷ rest) (Bar (at + 1)) 1
-  a_word : {lone_bars : Bool} {at b n : ℕ} {rest : List ℕ} {parts : List Part} → ends_word b ≡ false → Runs Bare (b ∷ rest) parts n
-      → IsToken lone_bars at (b ∷ rest) (Word parts) n
+  a_word : {lone_bars : Bool} {at b n : ℕ} {text rest : List ℕ} {parts : List Part} → ends_word b ≡ false → AreWordParts (b ∷ text) parts rest → word_ends rest ≡ true → BeginsAt n rest (b ∷ text)
+      → IsToken lone_bars at (b ∷ text) (Word parts) n
 
 -- A text that stands at the place `at` is cut into these tokens, with spaces and tabs between them.
 pub data AreTokens : Bool → ℕ → List ℕ → List Token → Type 0 where

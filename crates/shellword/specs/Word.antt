@@ -1,55 +1,80 @@
--- Which parts a shell text has.
-use Rattle.std.specs.Prelude.{◌≡◌, ℕ, ◌+◌, ◌<◌, true, false, List, [], ◌∷◌, ◌++◌, take, drop, Some, None, option_to_list, IsTrue}
+-- Which parts a word and a here text have: runs of parts (POSIX shell, 2.2 "Quoting" and 2.6.2 "Parameter Expansion").
+-- Each case shows the text, the parts that its front makes, and the rest of the text.
+use Rattle.std.specs.Prelude.{◌≡◌, ℕ, ◌+◌, true, false, List, [], ◌∷◌, ◌++◌, length, map, IsTrue}
 use Rattle.std.specs.List.{list_all}
+use Rattle.deftable.specs.ShellName.{continues_name, IsShellName}
 use Rattle.shellword.specs.declared.part.Part.{Part}
-use Rattle.shellword.specs.declared.part.Part.TheVariants.{Variable}
-use Rattle.shellword.specs.declared.front.Context.{Context}
-use Rattle.shellword.specs.declared.front.Context.TheVariants.{Bare, Single, Double, Here}
-use Rattle.shellword.specs.declared.front.Front.{Front}
-use Rattle.shellword.specs.Text.{single_quote, double_quote, backslash, dollar, open_brace, close_brace, name_len, is_special, escapes, escapes_front, escaped_part, byte_in, stands_alone, is_blank, is_over, is_quoted, is_parted}
-use Rattle.shellword.specs.Scan.{front}
+use Rattle.shellword.specs.declared.part.Part.TheVariants.{Plain, Quoted, Variable}
+use Rattle.shellword.specs.Text.{single_quote, double_quote, backslash, dollar, newline, open_brace, close_brace, expands_bare, expands_in_double, expands_here, escapes_in_double, escapes_here, begins, has_no, stands_alone, is_blank, ends_word, is_parted}
 
--- A text that stands so begins with this: a part or none, of this length, and where the next byte stands.
--- No backquote and no other `$` begins a text where these bytes are special.
-pub data IsFront : Context → List ℕ → Front → Type 0 where
-  -- a quote that opens or closes
-  single_opens : {rest : List ℕ} → IsFront Bare (single_quote ∷ rest) (front None 1 Single)
-  double_opens : {rest : List ℕ} → IsFront Bare (double_quote ∷ rest) (front None 1 Double)
-  single_closes : {rest : List ℕ} → IsFront Single (single_quote ∷ rest) (front None 1 Bare)
-  double_closes : {rest : List ℕ} → IsFront Double (double_quote ∷ rest) (front None 1 Bare)
-  -- a backslash that makes the next byte ordinary, and one that stays
-  escaped : {c : Context} {b : ℕ} {rest : List ℕ} → escapes c b ≡ true → IsFront c (backslash ∷ b ∷ rest) (front (escaped_part c b) 2 c)
-  kept : {c : Context} {rest : List ℕ} → is_special c backslash ≡ true → escapes_front c rest ≡ false
-      → IsFront c (backslash ∷ rest) (front (Some (byte_in c backslash)) 1 c)
-  -- `$name`, the longest name that there is, and `${name}`
-  variable : {c : Context} {rest : List ℕ} → is_special c dollar ≡ true → 0 < name_len rest
-      → IsFront c (dollar ∷ rest) (front (Some (Variable (take (name_len rest) rest))) (name_len rest + 1) c)
-  in_braces : {c : Context} {inside rest : List ℕ} → is_special c dollar ≡ true → 0 < name_len inside → drop (name_len inside) inside ≡ close_brace ∷ rest
-      → IsFront c (dollar ∷ open_brace ∷ inside) (front (Some (Variable (take (name_len inside) inside))) (name_len inside + 3) c)
-  -- a `$` that is itself
-  lone_dollar : {c : Context} {rest : List ℕ} → is_special c dollar ≡ true → stands_alone rest ≡ true
-      → IsFront c (dollar ∷ rest) (front (Some (byte_in c dollar)) 1 c)
-  -- any other byte
-  ordinary : {c : Context} {b : ℕ} {rest : List ℕ} → is_special c b ≡ false → IsFront c (b ∷ rest) (front (Some (byte_in c b)) 1 c)
+-- `$` and a name, as long as it goes; or `${`, a name and `}` (POSIX shell, 2.6.2)
+pub data IsVariable : List ℕ → List ℕ → List ℕ → Type 0 where
+  named : {name rest : List ℕ} → IsShellName name → begins continues_name rest ≡ false → IsVariable (dollar ∷ (name ++ rest)) name rest
+  in_braces : {name rest : List ℕ} → IsShellName name → IsVariable (dollar ∷ open_brace ∷ (name ++ close_brace ∷ rest)) name rest
 
--- The first n bytes of a text that stands so are these parts of a word or of a here text, which ends there.
-pub data Runs : Context → List ℕ → List Part → ℕ → Type 0 where
-  ends : {c : Context} {text : List ℕ} → is_quoted c ≡ false → is_over c text ≡ true → Runs c text [] 0
-  goes_on : {c : Context} {text : List ℕ} {f : Front} {parts : List Part} {n : ℕ} → is_over c text ≡ false → IsFront c text f
-      → Runs f.context (drop f.len text) parts n → Runs c text (option_to_list f.part ++ parts) (f.len + n)
+-- ---- words
 
--- The text is one word, with blanks behind it.
+-- a part in double quotes: a backslash and a byte that it quotes, a backslash before any other byte, a variable, a `$`
+-- that is itself, or any other byte (POSIX shell, 2.2.3)
+pub data IsDoublePart : List ℕ → Part → List ℕ → Type 0 where
+  escaped : {b : ℕ} {rest : List ℕ} → escapes_in_double b ≡ true → IsDoublePart (backslash ∷ b ∷ rest) (Quoted b) rest
+  kept_backslash : {rest : List ℕ} → begins escapes_in_double rest ≡ false → IsDoublePart (backslash ∷ rest) (Quoted backslash) rest
+  variable : {text name rest : List ℕ} → IsVariable text name rest → IsDoublePart text (Variable name) rest
+  lone_dollar : {rest : List ℕ} → stands_alone rest ≡ true → IsDoublePart (dollar ∷ rest) (Quoted dollar) rest
+  byte : {b : ℕ} {rest : List ℕ} → expands_in_double b ≡ false → IsDoublePart (b ∷ rest) (Quoted b) rest
+
+-- a run of such parts (POSIX shell, 2.2.3)
+pub data AreDoubleParts : List ℕ → List Part → List ℕ → Type 0 where
+  no_more : {rest : List ℕ} → AreDoubleParts rest [] rest
+  more : {text after rest : List ℕ} {part : Part} {parts : List Part} → IsDoublePart text part after → AreDoubleParts after parts rest → AreDoubleParts text (part ∷ parts) rest
+
+-- a part of a word, or parts in quotes: `'..'`, whose bytes are literal; `".."`; a backslash and the byte that it quotes;
+-- a backslash at the end, which is itself; a variable; a `$` that is itself; or any other byte that does not end a word
+-- (POSIX shell, 2.2.1 to 2.2.3; the backslash at the end is own)
+pub data IsWordPart : List ℕ → List Part → List ℕ → Type 0 where
+  single_quoted : {rest : List ℕ} (inside : List ℕ) → has_no single_quote inside ≡ true → IsWordPart (single_quote ∷ (inside ++ single_quote ∷ rest)) (map Quoted inside) rest
+  double_quoted : {text rest : List ℕ} {parts : List Part} → AreDoubleParts text parts (double_quote ∷ rest) → IsWordPart (double_quote ∷ text) parts rest
+  escaped : {b : ℕ} {rest : List ℕ} → IsWordPart (backslash ∷ b ∷ rest) (Quoted b ∷ []) rest
+  last_backslash : IsWordPart (backslash ∷ []) (Plain backslash ∷ []) []
+  variable : {text name rest : List ℕ} → IsVariable text name rest → IsWordPart text (Variable name ∷ []) rest
+  lone_dollar : {rest : List ℕ} → stands_alone rest ≡ true → IsWordPart (dollar ∷ rest) (Plain dollar ∷ []) rest
+  byte : {b : ℕ} {rest : List ℕ} → expands_bare b ≡ false → ends_word b ≡ false → IsWordPart (b ∷ rest) (Plain b ∷ []) rest
+
+-- a run of such parts (POSIX shell, 2.2)
+pub data AreWordParts : List ℕ → List Part → List ℕ → Type 0 where
+  no_more : {rest : List ℕ} → AreWordParts rest [] rest
+  more : {text after rest : List ℕ} {first parts : List Part} → IsWordPart text first after → AreWordParts after parts rest → AreWordParts text (first ++ parts) rest
+
+-- The text is one word, and then blanks (own).
 pub record IsWord (text : List ℕ) (parts : List Part) : Type 0 where
-  pub len : ℕ
-  pub word : Runs Bare text parts len
-  pub rest : IsTrue (list_all is_blank (drop len text))
+  pub rest : List ℕ
+  pub word : AreWordParts text parts rest
+  pub blanks : IsTrue (list_all is_blank rest)
 
--- The first n bytes of bare text are one word, and there the text is parted.
+-- the rest, an end of the text, begins at this place
+abbrev pub BeginsAt : ℕ → List ℕ → List ℕ → Type 0
+BeginsAt at rest text = at + length rest ≡ length text
+
+-- The first n bytes of bare text are one word, and there the text is parted (own).
 pub record IsWordFront (text : List ℕ) (parts : List Part) (n : ℕ) : Type 0 where
-  pub word : Runs Bare text parts n
-  pub parted : IsTrue (is_parted (drop n text))
+  pub rest : List ℕ
+  pub word : AreWordParts text parts rest
+  pub place : BeginsAt n rest text
+  pub parted : IsTrue (is_parted rest)
 
--- All of the text is a here text.
-pub record IsHere (text : List ℕ) (parts : List Part) : Type 0 where
-  pub len : ℕ
-  pub run : Runs Here text parts len
+-- ---- here texts
+
+-- a part of a here text: a backslash and a byte that it quotes; a backslash and a newline, which leave nothing; a
+-- backslash before any other byte; a variable; a `$` that is itself; or any other byte, quotes too (POSIX shell, 2.7.4)
+pub data IsHerePart : List ℕ → List Part → List ℕ → Type 0 where
+  escaped : {b : ℕ} {rest : List ℕ} → expands_here b ≡ true → IsHerePart (backslash ∷ b ∷ rest) (Quoted b ∷ []) rest
+  joined_line : {rest : List ℕ} → IsHerePart (backslash ∷ newline ∷ rest) [] rest
+  kept_backslash : {rest : List ℕ} → begins escapes_here rest ≡ false → IsHerePart (backslash ∷ rest) (Plain backslash ∷ []) rest
+  variable : {text name rest : List ℕ} → IsVariable text name rest → IsHerePart text (Variable name ∷ []) rest
+  lone_dollar : {rest : List ℕ} → stands_alone rest ≡ true → IsHerePart (dollar ∷ rest) (Plain dollar ∷ []) rest
+  byte : {b : ℕ} {rest : List ℕ} → expands_here b ≡ false → IsHerePart (b ∷ rest) (Plain b ∷ []) rest
+
+-- All of the text is a here text (POSIX shell, 2.7.4).
+pub data IsHere : List ℕ → List Part → Type 0 where
+  no_more : IsHere [] []
+  more : {text rest : List ℕ} {first parts : List Part} → IsHerePart text first rest → IsHere rest parts → IsHere text (first ++ parts)

@@ -3,7 +3,8 @@
 ghost use Rattle.std.specs.Prelude.{◌≡◌, ◌+◌, ◌<◌, ◌≤◌, ◌∷◌, Some, None, length, IfOk, IfErr};
 ghost use Rattle.std.specs.List.{prefix_len};
 ghost use Rattle.deftable.specs.ShellName.{starts_name, continues_name};
-ghost use Rattle.shellword.specs.Text.{name_len, is_special, escapes, escapes_front, stands_alone, follows_dollar, closes_brace, byte_in, escaped_part};
+ghost use Rattle.shellword.specs.Contexts.{is_special, escapes, escapes_front, closes_brace, byte_in, escaped_part};
+ghost use Rattle.shellword.specs.Text.{name_len, stands_alone, follows_dollar};
 ghost use Rattle.shellword.specs.declared.fault.ShellFault.TheVariants.{OutOfMemory};
 ghost use Rattle.shellword.specs.declared.part.Part.TheVariants.{Variable};
 ghost use Rattle.shellword.specs.Faults.{IsWordFault};
@@ -243,7 +244,7 @@ pub(crate) fn read_front(
     byte: u8,
     rest: &[u8],
 ) -> Result<Front, ShellFault>
-    ensures value { Gives (λ f. f) result (front_of at context (byte ∷ rest.now)) }
+    ensures value { Gives (λ f. f) result (front_of at context byte rest.now) }
     ensures fault { IfErr result (IsWordFault at) }
     ensures within { IfOk result (λ f. (0 < f.len) × (f.len ≤ length rest.now + 1)) }
 {

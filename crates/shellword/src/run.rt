@@ -3,7 +3,8 @@
 ghost use Rattle.std.specs.Prelude.{◌≡◌, ℕ, List, ◌∷◌, ◌+◌, ◌++◌, ◌≤◌, drop, length, IfOk, IfErr, OnOk, option_to_list};
 ghost use Rattle.shellword.specs.Faults.{IsWordFault};
 ghost use Rattle.shellword.specs.Gives.{Gives};
-ghost use Rattle.shellword.specs.Text.{is_over, is_quoted, ends_word, is_blank};
+ghost use Rattle.shellword.specs.Contexts.{is_over, is_quoted};
+ghost use Rattle.shellword.specs.Text.{ends_word, is_blank};
 ghost use Rattle.shellword.specs.Scan.{scan};
 ghost use Rattle.shellword.specs.declared.fault.ShellFault.TheVariants.{OutOfMemory};
 
