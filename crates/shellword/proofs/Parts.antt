@@ -79,15 +79,9 @@ more_variable (w.in_braces form) Single h = refl
 more_variable (w.in_braces form) Double h = refl
 more_variable (w.in_braces form) Here h = refl
 
-single_runs : (inside : List ℕ) {after rest : List ℕ} {parts : List Part} → has_no single_quote inside ≡ true → RunsTo Bare after parts rest
-    → RunsTo Single (inside ++ single_quote ∷ after) (map Quoted inside ++ parts) rest
-single_runs [] none r = leads_on refl (record { len = 1; step = s.single_closes; ends = refl }) r
-single_runs (b ∷ bs) none r =
-    let both = and_parts (not (b == single_quote)) (has_no single_quote bs) none in
-    leads_on refl (record { len = 1; step = s.ordinary (is_not (b == single_quote) both.0); ends = refl }) (single_runs bs both.1 r) where
-      is_not : (t : Bool) → not t ≡ true → t ≡ false
-      is_not true h = absurd cc
-      is_not false h = refl
+is_not : (t : Bool) → not t ≡ true → t ≡ false
+is_not true h = absurd cc
+is_not false h = refl
 
 -- a part in double quotes is one step
 double_leads : {text after : List ℕ} {part : Part} → IsDoublePart text part after → Leads Double text (Some part) Double after
@@ -104,20 +98,53 @@ double_goes_on (w.variable v) = more_variable v Double refl
 double_goes_on (w.lone_dollar h) = refl
 double_goes_on (w.byte h) = refl
 
-double_runs : {text rest : List ℕ} {inner parts : List Part} {stop : List ℕ} → AreDoubleParts text inner rest → RunsTo Double rest parts stop → RunsTo Double text (inner ++ parts) stop
-double_runs w.no_more r = r
-double_runs (w.more one others) r = leads_on (double_goes_on one) (double_leads one) (double_runs others r)
+-- one of the three bytes
+three_bytes : (P : ℕ → Type 0) → P backslash → P dollar → P backquote → (b : ℕ) → expands_here b ≡ true → P b
+three_bytes P x y z b h =
+    elim (or_cases (b == backslash || b == dollar) (b == backquote) h) [
+      | inr e ↦ subst P (sym (eqb-true b backquote e)) z
+      | inl two ↦ (elim (or_cases (b == backslash) (b == dollar) two) [ inl e ↦ subst P (sym (eqb-true b backslash e)) x | inr e ↦ subst P (sym (eqb-true b dollar e)) y ])
+    ]
 
--- a part of a word, before the rest of it
-word_part_runs : {text after rest : List ℕ} {first parts : List Part} → IsWordPart text first after → RunsTo Bare after parts rest → RunsTo Bare text (first ++ parts) rest
-word_part_runs (w.single_quoted inside none) r = leads_on refl (record { len = 1; step = s.single_opens; ends = refl }) (single_runs inside none r)
-word_part_runs (w.double_quoted inner) r =
-    leads_on refl (record { len = 1; step = s.double_opens; ends = refl }) (double_runs inner (leads_on refl (record { len = 1; step = s.double_closes; ends = refl }) r))
-word_part_runs w.escaped r = leads_on refl (record { len = 2; step = s.escaped refl; ends = refl }) r
-word_part_runs w.last_backslash r = leads_on refl (record { len = 1; step = s.kept refl refl; ends = refl }) r
-word_part_runs (w.variable v) r = leads_on (more_variable v Bare refl) (variable_leads v Bare refl) r
-word_part_runs (w.lone_dollar h) r = leads_on refl (record { len = 1; step = s.lone_dollar refl h; ends = refl }) r
-word_part_runs (w.byte h over) r = leads_on over (record { len = 1; step = s.ordinary h; ends = refl }) r
+escaped_here : (b : ℕ) (rest : List ℕ) → expands_here b ≡ true → Leads Here (backslash ∷ b ∷ rest) (Some (Quoted b)) Here rest
+escaped_here b rest h =
+    three_bytes (λ x. Leads Here (backslash ∷ x ∷ rest) (Some (Quoted x)) Here rest) (record { len = 2; step = s.escaped refl; ends = refl }) (record { len = 2; step = s.escaped refl; ends = refl })
+    (record { len = 2; step = s.escaped refl; ends = refl }) b h
+
+-- ---- what steps carry along, the parts of words and here texts do
+
+module _ (P : Context → List ℕ → List Part → Type 0) (on : (c d : Context) (text after : List ℕ) (part : Option Part) (parts : List Part) → is_over c text ≡ false → Leads c text part d after → P d after parts → P c text (option_to_list part ++ parts)) where
+  -- up to the quote that closes, or to the end
+  single_carry : (inside after : List ℕ) (parts : List Part) → has_no single_quote inside ≡ true → P Single after parts → P Single (inside ++ after) (map Quoted inside ++ parts)
+  single_carry [] after parts none p = p
+  single_carry (b ∷ bs) after parts none p =
+      let both = and_parts (not (b == single_quote)) (has_no single_quote bs) none in
+      on Single Single _ _ _ _ refl (record { len = 1; step = s.ordinary (is_not (b == single_quote) both.0); ends = refl }) (single_carry bs after parts both.1 p)
+
+  double_carry : {text rest : List ℕ} {inner : List Part} (parts : List Part) → AreDoubleParts text inner rest → P Double rest parts → P Double text (inner ++ parts)
+  double_carry parts w.no_more p = p
+  double_carry parts (w.more one others) p = on Double Double _ _ _ _ (double_goes_on one) (double_leads one) (double_carry parts others p)
+
+  word_part_carry : {text after : List ℕ} {first : List Part} (parts : List Part) → IsWordPart text first after → P Bare after parts → P Bare text (first ++ parts)
+  word_part_carry parts (w.single_quoted {rest = after} inside none) p =
+      on Bare Single _ _ None _ refl (record { len = 1; step = s.single_opens; ends = refl })
+      (single_carry inside (single_quote ∷ after) parts none (on Single Bare _ _ None _ refl (record { len = 1; step = s.single_closes; ends = refl }) p))
+  word_part_carry parts (w.double_quoted inner) p =
+      on Bare Double _ _ None _ refl (record { len = 1; step = s.double_opens; ends = refl })
+      (double_carry parts inner (on Double Bare _ _ None _ refl (record { len = 1; step = s.double_closes; ends = refl }) p))
+  word_part_carry parts (w.escaped {b = b}) p = on Bare Bare _ _ (Some (Quoted b)) _ refl (record { len = 2; step = s.escaped refl; ends = refl }) p
+  word_part_carry parts w.last_backslash p = on Bare Bare _ _ (Some (Plain backslash)) _ refl (record { len = 1; step = s.kept refl refl; ends = refl }) p
+  word_part_carry parts (w.variable v) p = on Bare Bare _ _ _ _ (more_variable v Bare refl) (variable_leads v Bare refl) p
+  word_part_carry parts (w.lone_dollar h) p = on Bare Bare _ _ (Some (Plain dollar)) _ refl (record { len = 1; step = s.lone_dollar refl h; ends = refl }) p
+  word_part_carry parts (w.byte {b = b} h over) p = on Bare Bare _ _ (Some (Plain b)) _ over (record { len = 1; step = s.ordinary h; ends = refl }) p
+
+  here_part_carry : {text after : List ℕ} {first : List Part} (parts : List Part) → IsHerePart text first after → P Here after parts → P Here text (first ++ parts)
+  here_part_carry parts (w.escaped {b} {rest} h) p = on Here Here _ _ (Some (Quoted b)) _ refl (escaped_here b rest h) p
+  here_part_carry parts w.joined_line p = on Here Here _ _ None _ refl (record { len = 2; step = s.escaped refl; ends = refl }) p
+  here_part_carry parts (w.kept_backslash h) p = on Here Here _ _ (Some (Plain backslash)) _ refl (record { len = 1; step = s.kept refl h; ends = refl }) p
+  here_part_carry parts (w.variable v) p = on Here Here _ _ _ _ (more_variable v Here refl) (variable_leads v Here refl) p
+  here_part_carry parts (w.lone_dollar h) p = on Here Here _ _ (Some (Plain dollar)) _ refl (record { len = 1; step = s.lone_dollar refl h; ends = refl }) p
+  here_part_carry parts (w.byte {b = b} h) p = on Here Here _ _ (Some (Plain b)) _ refl (record { len = 1; step = s.ordinary h; ends = refl }) p
 
 -- where a run ends, and its length
 pub record RunsUpTo (c : Context) (text : List ℕ) (parts : List Part) (rest : List ℕ) : Type 0 where
@@ -140,7 +167,7 @@ over_is (b ∷ bs) = refl
 
 word_runs_to : {text rest : List ℕ} {parts : List Part} → AreWordParts text parts rest → word_ends rest ≡ true → RunsTo Bare text parts rest
 word_runs_to (w.no_more {rest}) over = record { len = 0; run = s.ends refl (sym (over_is rest) ∙ over); ends = refl; within = omega arith }
-word_runs_to (w.more one others) over = word_part_runs one (word_runs_to others over)
+word_runs_to {rest = rest} (w.more {parts = parts} one others) over = word_part_carry (λ c text parts. RunsTo c text parts rest) (λ c d text after part parts. leads_on) parts one (word_runs_to others over)
 
 pub word-run : {text rest : List ℕ} {parts : List Part} → AreWordParts text parts rest → word_ends rest ≡ true → RunsUpTo Bare text parts rest
 word-run word over = up_to (word_runs_to word over)
@@ -151,30 +178,9 @@ word_runs {text} {rest} {parts} {n} word over place =
     let len : r.len ≡ n = omega (arith, place, r.place) in
     subst (Runs Bare text parts) len r.run
 
--- one of the three bytes
-three_bytes : (P : ℕ → Type 0) → P backslash → P dollar → P backquote → (b : ℕ) → expands_here b ≡ true → P b
-three_bytes P x y z b h =
-    elim (or_cases (b == backslash || b == dollar) (b == backquote) h) [
-      | inr e ↦ subst P (sym (eqb-true b backquote e)) z
-      | inl two ↦ (elim (or_cases (b == backslash) (b == dollar) two) [ inl e ↦ subst P (sym (eqb-true b backslash e)) x | inr e ↦ subst P (sym (eqb-true b dollar e)) y ])
-    ]
-
-escaped_here : (b : ℕ) (rest : List ℕ) → expands_here b ≡ true → Leads Here (backslash ∷ b ∷ rest) (Some (Quoted b)) Here rest
-escaped_here b rest h =
-    three_bytes (λ x. Leads Here (backslash ∷ x ∷ rest) (Some (Quoted x)) Here rest) (record { len = 2; step = s.escaped refl; ends = refl }) (record { len = 2; step = s.escaped refl; ends = refl })
-    (record { len = 2; step = s.escaped refl; ends = refl }) b h
-
-here_part_runs : {text after rest : List ℕ} {first parts : List Part} → IsHerePart text first after → RunsTo Here after parts rest → RunsTo Here text (first ++ parts) rest
-here_part_runs (w.escaped {b} {rest} h) r = leads_on refl (escaped_here b rest h) r
-here_part_runs w.joined_line r = leads_on refl (record { len = 2; step = s.escaped refl; ends = refl }) r
-here_part_runs (w.kept_backslash h) r = leads_on refl (record { len = 1; step = s.kept refl h; ends = refl }) r
-here_part_runs (w.variable v) r = leads_on (more_variable v Here refl) (variable_leads v Here refl) r
-here_part_runs (w.lone_dollar h) r = leads_on refl (record { len = 1; step = s.lone_dollar refl h; ends = refl }) r
-here_part_runs (w.byte h) r = leads_on refl (record { len = 1; step = s.ordinary h; ends = refl }) r
-
 here_runs_to : {text : List ℕ} {parts : List Part} → IsHere text parts → RunsTo Here text parts []
 here_runs_to w.no_more = record { len = 0; run = s.ends refl refl; ends = refl; within = omega arith }
-here_runs_to (w.more one others) = here_part_runs one (here_runs_to others)
+here_runs_to (w.more {parts = parts} one others) = here_part_carry (λ c text parts. RunsTo c text parts []) (λ c d text after part parts. leads_on) parts one (here_runs_to others)
 
 pub here-run : {text : List ℕ} {parts : List Part} → IsHere text parts → RunsUpTo Here text parts []
 here-run h = up_to (here_runs_to h)
@@ -209,67 +215,56 @@ Spelled Single text parts rest = InSingle text parts rest
 Spelled Double text parts rest = InDouble text parts rest
 Spelled Here text parts rest = IsHere text parts
 
-double_more : {text after rest : List ℕ} {part : Part} {parts : List Part} → IsDoublePart text part after → InDouble after parts rest → InDouble text (part ∷ parts) rest
-double_more {part = part} one d = record { inner = part ∷ d.inner; after = d.after; others = d.others; quoted = w.more one d.quoted; parts_are = ap (λ (ps : List Part). part ∷ ps) d.parts_are; word = d.word; over = d.over }
+-- a part that stands so
+pub data PartOf : Context → List ℕ → List Part → List ℕ → Type 0 where
+  bare : {text after : List ℕ} {first : List Part} → IsWordPart text first after → PartOf Bare text first after
+  single : {b : ℕ} {after : List ℕ} → (b == single_quote) ≡ false → PartOf Single (b ∷ after) (Quoted b ∷ []) after
+  double : {text after : List ℕ} {part : Part} → IsDoublePart text part after → PartOf Double text (part ∷ []) after
+  here : {text after : List ℕ} {first : List Part} → IsHerePart text first after → PartOf Here text first after
 
-single_more : {b : ℕ} {text rest : List ℕ} {parts : List Part} → (b == single_quote) ≡ false → InSingle text parts rest → InSingle (b ∷ text) (Quoted b ∷ parts) rest
-single_more {b} h i = record {
-  inside = b ∷ i.inside;
-  after = i.after;
-  others = i.others;
-  none = rw (h, i.none) refl;
-  text_is = ap (λ (t : List ℕ). b ∷ t) i.text_is;
-  parts_are = ap (λ (ps : List Part). Quoted b ∷ ps) i.parts_are;
-  word = i.word;
-  over = i.over;
-}
+variable_part : (c : Context) {text name after : List ℕ} → is_special c dollar ≡ true → IsVariable text name after → PartOf c text (Variable name ∷ []) after
+variable_part Bare special v = bare (w.variable v)
+variable_part Single special v = absurd cc
+variable_part Double special v = double (w.variable v)
+variable_part Here special v = here (w.variable v)
 
--- a variable, where they have a meaning
-variable_spelled : (c : Context) (text name after rest : List ℕ) (parts : List Part) → is_special c dollar ≡ true → IsVariable text name after → Spelled c after parts rest → Spelled c text (Variable name ∷ parts) rest
-variable_spelled Bare text name after rest parts special v p = (w.more (w.variable v) p.0, p.1)
-variable_spelled Single text name after rest parts special v p = absurd cc
-variable_spelled Double text name after rest parts special v p = double_more (w.variable v) p
-variable_spelled Here text name after rest parts special v p = w.more (w.variable v) p
-
-escaped_spelled : (c : Context) (b : ℕ) (after rest : List ℕ) (parts : List Part) → escapes c b ≡ true → Spelled c after parts rest → Spelled c (backslash ∷ b ∷ after) (option_to_list (escaped_part c b) ++ parts) rest
-escaped_spelled Bare b after rest parts h p = (w.more w.escaped p.0, p.1)
-escaped_spelled Single b after rest parts h p = absurd cc
-escaped_spelled Double b after rest parts h p = double_more (w.escaped h) p
-escaped_spelled Here b after rest parts h p =
+escaped_here_part : (b : ℕ) (after : List ℕ) → escapes_here b ≡ true → IsHerePart (backslash ∷ b ∷ after) (option_to_list (escaped_part Here b)) after
+escaped_here_part b after h =
     elim (or_cases (b == dollar || b == backquote || b == backslash) (b == newline) h) [
-      | inr e ↦ subst (λ (x : ℕ). IsHere (backslash ∷ x ∷ after) (option_to_list (escaped_part Here x) ++ parts)) (sym (eqb-true b newline e)) (w.more w.joined_line p)
+      | inr e ↦ subst (λ (x : ℕ). IsHerePart (backslash ∷ x ∷ after) (option_to_list (escaped_part Here x)) after) (sym (eqb-true b newline e)) w.joined_line
       | inl three ↦
           (elim (or_cases (b == dollar || b == backquote) (b == backslash) three) [
-            | inr e ↦ here backslash (eqb-true b backslash e) refl refl
-            | inl two ↦ (elim (or_cases (b == dollar) (b == backquote) two) [ inl e ↦ here dollar (eqb-true b dollar e) refl refl | inr e ↦ here backquote (eqb-true b backquote e) refl refl ])
+            | inr e ↦ one backslash (eqb-true b backslash e) (w.escaped refl)
+            | inl two ↦ (elim (or_cases (b == dollar) (b == backquote) two) [ inl e ↦ one dollar (eqb-true b dollar e) (w.escaped refl) | inr e ↦ one backquote (eqb-true b backquote e) (w.escaped refl) ])
           ])
     ] where
-      here : (x : ℕ) → b ≡ x → expands_here x ≡ true → escaped_part Here x ≡ Some (Quoted x) → IsHere (backslash ∷ b ∷ after) (option_to_list (escaped_part Here b) ++ parts)
-      here x is expands part =
-          subst (λ (y : ℕ). IsHere (backslash ∷ y ∷ after) (option_to_list (escaped_part Here y) ++ parts)) (sym is)
-          (subst (λ (q : Option Part). IsHere (backslash ∷ x ∷ after) (option_to_list q ++ parts)) (sym part) (w.more (w.escaped expands) p))
+  one : (x : ℕ) → b ≡ x → IsHerePart (backslash ∷ x ∷ after) (option_to_list (escaped_part Here x)) after → IsHerePart (backslash ∷ b ∷ after) (option_to_list (escaped_part Here b)) after
+  one x is part = subst (λ (y : ℕ). IsHerePart (backslash ∷ y ∷ after) (option_to_list (escaped_part Here y)) after) (sym is) part
 
-kept_spelled : (c : Context) (after rest : List ℕ) (parts : List Part) → is_special c backslash ≡ true → escapes_front c after ≡ false → Spelled c after parts rest
-    → Spelled c (backslash ∷ after) (byte_in c backslash ∷ parts) rest
-kept_spelled Bare [] rest parts special none p = last p.0 where
-  last : AreWordParts [] parts rest → AreWordParts (backslash ∷ []) (Plain backslash ∷ parts) rest × (word_ends rest ≡ true)
-  last word = (w.more w.last_backslash word, p.1)
-kept_spelled Bare (b ∷ bs) rest parts special none p = absurd cc
-kept_spelled Single after rest parts special none p = absurd cc
-kept_spelled Double after rest parts special none p = double_more (w.kept_backslash none) p
-kept_spelled Here after rest parts special none p = w.more (w.kept_backslash none) p
+escaped_part_of : (c : Context) (b : ℕ) (after : List ℕ) → escapes c b ≡ true → PartOf c (backslash ∷ b ∷ after) (option_to_list (escaped_part c b)) after
+escaped_part_of Bare b after h = bare w.escaped
+escaped_part_of Single b after h = absurd cc
+escaped_part_of Double b after h = double (w.escaped h)
+escaped_part_of Here b after h = here (escaped_here_part b after h)
 
-alone_spelled : (c : Context) (after rest : List ℕ) (parts : List Part) → is_special c dollar ≡ true → stands_alone after ≡ true → Spelled c after parts rest → Spelled c (dollar ∷ after) (byte_in c dollar ∷ parts) rest
-alone_spelled Bare after rest parts special alone p = (w.more (w.lone_dollar alone) p.0, p.1)
-alone_spelled Single after rest parts special alone p = absurd cc
-alone_spelled Double after rest parts special alone p = double_more (w.lone_dollar alone) p
-alone_spelled Here after rest parts special alone p = w.more (w.lone_dollar alone) p
+kept_part : (c : Context) (after : List ℕ) → is_special c backslash ≡ true → escapes_front c after ≡ false → PartOf c (backslash ∷ after) (byte_in c backslash ∷ []) after
+kept_part Bare [] special none = bare w.last_backslash
+kept_part Bare (b ∷ bs) special none = absurd cc
+kept_part Single after special none = absurd cc
+kept_part Double after special none = double (w.kept_backslash none)
+kept_part Here after special none = here (w.kept_backslash none)
 
-byte_spelled : (c : Context) (b : ℕ) (after rest : List ℕ) (parts : List Part) → is_special c b ≡ false → is_over c (b ∷ after) ≡ false → Spelled c after parts rest → Spelled c (b ∷ after) (byte_in c b ∷ parts) rest
-byte_spelled Bare b after rest parts plain more p = (w.more (w.byte plain more) p.0, p.1)
-byte_spelled Single b after rest parts plain more p = single_more plain p
-byte_spelled Double b after rest parts plain more p = double_more (w.byte plain) p
-byte_spelled Here b after rest parts plain more p = w.more (w.byte plain) p
+alone_part : (c : Context) (after : List ℕ) → is_special c dollar ≡ true → stands_alone after ≡ true → PartOf c (dollar ∷ after) (byte_in c dollar ∷ []) after
+alone_part Bare after special alone = bare (w.lone_dollar alone)
+alone_part Single after special alone = absurd cc
+alone_part Double after special alone = double (w.lone_dollar alone)
+alone_part Here after special alone = here (w.lone_dollar alone)
+
+byte_part : (c : Context) (b : ℕ) (after : List ℕ) → is_special c b ≡ false → is_over c (b ∷ after) ≡ false → PartOf c (b ∷ after) (byte_in c b ∷ []) after
+byte_part Bare b after plain more = bare (w.byte plain more)
+byte_part Single b after plain more = single plain
+byte_part Double b after plain more = double (w.byte plain)
+byte_part Here b after plain more = here (w.byte plain)
 
 pub variable_is : (text : List ℕ) → 0 < name_len text → IsVariable (dollar ∷ text) (take (name_len text) text) (drop (name_len text) text)
 variable_is text some =
@@ -281,31 +276,60 @@ braced_is inside rest some closes =
     let whole : take (name_len inside) inside ++ close_brace ∷ rest ≡ inside = ap (λ (t : List ℕ). take (name_len inside) inside ++ t) (sym closes) ∙ take-append-drop (name_len inside) inside in
     subst (λ (t : List ℕ). IsVariable (dollar ∷ open_brace ∷ t) (take (name_len inside) inside) rest) whole (w.in_braces (name_at inside some).0)
 
-step_spelled : {c : Context} {text : List ℕ} {f : Front} → IsFront c text f → (rest : List ℕ) (parts : List Part) → is_over c text ≡ false → Spelled f.context (drop f.len text) parts rest
-    → Spelled c text (option_to_list f.part ++ parts) rest
-step_spelled (s.single_opens {rest = after}) rest parts more p = (
-  subst (λ (ps : List Part). AreWordParts (single_quote ∷ after) ps rest) (sym p.parts_are)
-      (subst (λ (t : List ℕ). AreWordParts (single_quote ∷ t) (map Quoted p.inside ++ p.others) rest) (sym p.text_is) (w.more (w.single_quoted p.inside p.none) p.word)),
-  p.over,
-)
-step_spelled (s.double_opens {rest = after}) rest parts more p =
-    (subst (λ (ps : List Part). AreWordParts (double_quote ∷ after) ps rest) (sym p.parts_are) (w.more (w.double_quoted p.quoted) p.word), p.over)
-step_spelled (s.single_closes {rest = after}) rest parts more p =
-    record { inside = []; after = after; others = parts; none = refl; text_is = refl; parts_are = refl; word = p.0; over = p.1 }
-step_spelled (s.double_closes {rest = after}) rest parts more p =
-    record { inner = []; after = after; others = parts; quoted = w.no_more; parts_are = refl; word = p.0; over = p.1 }
-step_spelled (s.escaped {c = c} {b = b} {rest = after} h) rest parts more p = escaped_spelled c b after rest parts h p
-step_spelled (s.kept {c = c} {rest = after} special none) rest parts more p = kept_spelled c after rest parts special none p
-step_spelled (s.variable {c = c} {rest = after} special some) rest parts more p =
+-- what a step finds: a part, or a quote that opens or closes
+pub data Found : Context → List ℕ → Front → Type 0 where
+  part : {c : Context} {text : List ℕ} {part : Option Part} {len : ℕ} → PartOf c text (option_to_list part) (drop len text) → Found c text (front part len c)
+  single_opens : {after : List ℕ} → Found Bare (single_quote ∷ after) (front None 1 Single)
+  double_opens : {after : List ℕ} → Found Bare (double_quote ∷ after) (front None 1 Double)
+  single_closes : {after : List ℕ} → Found Single (single_quote ∷ after) (front None 1 Bare)
+  double_closes : {after : List ℕ} → Found Double (double_quote ∷ after) (front None 1 Bare)
+
+pub step_found : {c : Context} {text : List ℕ} {f : Front} → IsFront c text f → is_over c text ≡ false → Found c text f
+step_found s.single_opens more = single_opens
+step_found s.double_opens more = double_opens
+step_found s.single_closes more = single_closes
+step_found s.double_closes more = double_closes
+step_found (s.escaped {c = c} {b = b} {rest = after} h) more = part (escaped_part_of c b after h)
+step_found (s.kept {c = c} {rest = after} special none) more = part (kept_part c after special none)
+step_found (s.variable {c = c} {rest = after} special some) more =
     let one : name_len after + 1 ≡ suc (name_len after) = omega arith in
-    variable_spelled c (dollar ∷ after) _ _ rest parts special (variable_is after some) (subst (λ (k : ℕ). Spelled c (drop k (dollar ∷ after)) parts rest) one p)
-step_spelled (s.in_braces {c = c} {inside = inside} {rest = after} special some closes) rest parts more p =
+    part (subst (λ (k : ℕ). PartOf c (dollar ∷ after) (Variable (take (name_len after) after) ∷ []) (drop k (dollar ∷ after))) (sym one) (variable_part c special (variable_is after some)))
+step_found (s.in_braces {c = c} {inside = inside} {rest = after} special some closes) more =
     let three : name_len inside + 3 ≡ suc (suc (name_len inside + 1)) = omega arith in
     let there : drop (name_len inside + 1) inside ≡ after = sym (drop-drop 1 (name_len inside) inside) ∙ ap (λ (t : List ℕ). drop 1 t) closes in
-    variable_spelled c (dollar ∷ open_brace ∷ inside) _ _ rest parts special (braced_is inside after some closes)
-    (subst (λ (t : List ℕ). Spelled c t parts rest) there (subst (λ (k : ℕ). Spelled c (drop k (dollar ∷ open_brace ∷ inside)) parts rest) three p))
-step_spelled (s.lone_dollar {c = c} {rest = after} special alone) rest parts more p = alone_spelled c after rest parts special alone p
-step_spelled (s.ordinary {c = c} {b = b} {rest = after} plain) rest parts more p = byte_spelled c b after rest parts plain more p
+    let v = variable_part c special (braced_is inside after some closes) in
+    part (subst (λ (k : ℕ). PartOf c (dollar ∷ open_brace ∷ inside) (Variable (take (name_len inside) inside) ∷ []) (drop k (dollar ∷ open_brace ∷ inside))) (sym three)
+    (subst (PartOf c (dollar ∷ open_brace ∷ inside) (Variable (take (name_len inside) inside) ∷ [])) (sym there) v))
+step_found (s.lone_dollar {c = c} {rest = after} special alone) more = part (alone_part c after special alone)
+step_found (s.ordinary {c = c} {b = b} {rest = after} plain) more = part (byte_part c b after plain more)
+
+part_spelled : {c : Context} {text after : List ℕ} {first : List Part} → PartOf c text first after → (rest : List ℕ) (parts : List Part) → Spelled c after parts rest → Spelled c text (first ++ parts) rest
+part_spelled (bare one) rest parts p = (w.more one p.0, p.1)
+part_spelled (single {b} h) rest parts p = record {
+  inside = b ∷ p.inside;
+  after = p.after;
+  others = p.others;
+  none = rw (h, p.none) refl;
+  text_is = ap (λ (t : List ℕ). b ∷ t) p.text_is;
+  parts_are = ap (λ (ps : List Part). Quoted b ∷ ps) p.parts_are;
+  word = p.word;
+  over = p.over;
+}
+part_spelled (double {part = q} one) rest parts p =
+    record { inner = q ∷ p.inner; after = p.after; others = p.others; quoted = w.more one p.quoted; parts_are = ap (λ (ps : List Part). q ∷ ps) p.parts_are; word = p.word; over = p.over }
+part_spelled (here one) rest parts p = w.more one p
+
+step_spelled : {c : Context} {text : List ℕ} {f : Front} → Found c text f → (rest : List ℕ) (parts : List Part) → Spelled f.context (drop f.len text) parts rest → Spelled c text (option_to_list f.part ++ parts) rest
+step_spelled (part one) rest parts p = part_spelled one rest parts p
+step_spelled (single_opens {after}) rest parts p =
+    (subst (λ (ps : List Part). AreWordParts (single_quote ∷ after) ps rest) (sym p.parts_are)
+    (subst (λ (t : List ℕ). AreWordParts (single_quote ∷ t) (map Quoted p.inside ++ p.others) rest) (sym p.text_is) (w.more (w.single_quoted p.inside p.none) p.word)), p.over)
+step_spelled (double_opens {after}) rest parts p =
+    (subst (λ (ps : List Part). AreWordParts (double_quote ∷ after) ps rest) (sym p.parts_are) (w.more (w.double_quoted p.quoted) p.word), p.over)
+step_spelled (single_closes {after}) rest parts p =
+    record { inside = []; after = after; others = parts; none = refl; text_is = refl; parts_are = refl; word = p.0; over = p.1 }
+step_spelled (double_closes {after}) rest parts p =
+    record { inner = []; after = after; others = parts; quoted = w.no_more; parts_are = refl; word = p.0; over = p.1 }
 
 nothing_left : (text : List ℕ) → is_over Here text ≡ true → text ≡ []
 nothing_left [] over = refl
@@ -320,7 +344,7 @@ ends_spelled Here text unquoted over = subst (λ (t : List ℕ). IsHere t []) (s
 runs_spelled : {c : Context} {text : List ℕ} {parts : List Part} {n : ℕ} → Runs c text parts n → Spelled c text parts (drop n text)
 runs_spelled (s.ends {c} {text} unquoted over) = ends_spelled c text unquoted over
 runs_spelled (s.goes_on {c} {text} {f} {parts} {n} more one others) =
-    subst (Spelled c text (option_to_list f.part ++ parts)) (drop-drop n f.len text) (step_spelled one _ _ more (runs_spelled others))
+    subst (Spelled c text (option_to_list f.part ++ parts)) (drop-drop n f.len text) (step_spelled (step_found one more) _ _ (runs_spelled others))
 
 pub run-len : {c : Context} {text : List ℕ} {parts : List Part} {n : ℕ} → Runs c text parts n → n ≤ length text
 run-len (s.ends unquoted over) = omega arith

@@ -8,6 +8,7 @@ use Rattle.shellword.specs.declared.front.Front.{Front}
 use Rattle.shellword.specs.Text.{single_quote, double_quote, backslash, dollar, open_brace, close_brace, name_len, stands_alone}
 use Rattle.shellword.specs.Contexts.{is_special, escapes, escapes_front, escaped_part, byte_in, is_over, is_quoted}
 use Rattle.shellword.specs.Scan.{front}
+use Rattle.shellword.specs.WordFaults.{BeginsRefused}
 
 -- A text whose first byte stands so begins with this: a part or none, of this length, and where the next byte stands.
 pub data IsFront : Context → List ℕ → Front → Type 0 where
@@ -36,3 +37,9 @@ pub data Runs : Context → List ℕ → List Part → ℕ → Type 0 where
   ends : {c : Context} {text : List ℕ} → is_quoted c ≡ false → is_over c text ≡ true → Runs c text [] 0
   goes_on : {c : Context} {text : List ℕ} {f : Front} {parts : List Part} {n : ℕ} → is_over c text ≡ false → IsFront c text f
       → Runs f.context (drop f.len text) parts n → Runs c text (option_to_list f.part ++ parts) (f.len + n)
+
+-- A text that stands so is refused before this rest of it.
+pub data Breaks : Context → List ℕ → List ℕ → Type 0 where
+  at_end : {c : Context} → is_quoted c ≡ true → Breaks c [] []
+  refused : {c : Context} {text : List ℕ} → is_special c dollar ≡ true → BeginsRefused text → Breaks c text text
+  step : {c : Context} {text rest : List ℕ} {f : Front} → is_over c text ≡ false → IsFront c text f → Breaks f.context (drop f.len text) rest → Breaks c text rest
