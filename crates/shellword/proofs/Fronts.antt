@@ -71,11 +71,11 @@ read-backslash c (b ∷ bs) special = by_escape (escapes c b) refl where
   by_escape true h = escaped h
   by_escape false h = kept special h
 
-both : (p q : Bool) → (p && q) ≡ true → (p ≡ true) × (q ≡ true)
+pub both : (p q : Bool) → (p && q) ≡ true → (p ≡ true) × (q ≡ true)
 both true q h = (refl, h)
 both false q h = absurd cc
 
-brace_there : (text : List ℕ) → closes_brace text ≡ true → (rest : List ℕ) × (text ≡ close_brace ∷ rest)
+pub brace_there : (text : List ℕ) → closes_brace text ≡ true → (rest : List ℕ) × (text ≡ close_brace ∷ rest)
 brace_there [] h = absurd cc
 brace_there (b ∷ bs) h = (bs, ap (λ (x : ℕ). x ∷ bs) (eqb-true b close_brace h))
 

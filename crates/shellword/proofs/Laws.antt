@@ -1,7 +1,8 @@
 -- The readings as functions, and what they read: laws that the crates above may cite.
-use Rattle.std.proofs.Common.{◌≡◌, ℕ, ◌≤◌, List, length, true, false, Ok, Err, sym, subst, ◌∙◌, inl, inr, ◌↔◌, None, []}
+use Rattle.std.proofs.Common.{◌≡◌, ℕ, ◌≤◌, List, length, true, false, Result, Ok, Err, refl, sym, subst, ◌∙◌, inl, inr, ◌↔◌, None, []}
+use Rattle.std.specs.Prelude.{IfErr}
 use Rattle.shellword.specs.declared.fault.ShellFault.{ShellFault}
-use Rattle.shellword.specs.declared.fault.ShellFault.TheVariants.{BadPattern}
+use Rattle.shellword.specs.declared.fault.ShellFault.TheVariants.{BadWord, BadTest, BadPattern, OutOfMemory}
 use Rattle.shellword.specs.declared.part.Part.{Part}
 use Rattle.shellword.specs.declared.pattern.Piece.{Piece}
 use Rattle.shellword.specs.Scan.{word_of, word_front_of, here_of}
@@ -16,7 +17,9 @@ use Rattle.shellword.proofs.TokenReading.{tokens-read}
 use Rattle.shellword.proofs.TestReading.{test-read, read-test}
 use Rattle.shellword.proofs.PatternReading.{patterns-read, read-patterns, cut_found, alternatives-fault, uncut-fault}
 use Rattle.shellword.proofs.TestFaults.{joined-fault}
-use Rattle.shellword.proofs.WordFaults.{Fault, word-fault, word_front-fault, here-fault, cut-fault}
+use Rattle.shellword.specs.WordFaults.{IsBadWord, IsBadFront, IsBadHere, IsRefusal}
+use Rattle.shellword.specs.Gives.{Gives, Fails}
+use Rattle.shellword.proofs.WordFaults.{Fault, word-fault, word_front-fault, here-fault, cut-fault, word-bad, bad-word, front-bad, bad-front, here-bad, bad-here}
 
 pub word_reading : (text : List ℕ) (parts : List Part) → (word_of text ≡ Ok parts) ↔ IsWord text parts
 word_reading text parts = (read-word text parts, word-read text parts)
@@ -57,3 +60,27 @@ pattern_faults text f e =
       | inl x ↦ uncut-fault (length text) (tokens_of true 0 0 text) f (cut-fault true text) x
       | inr x ↦ alternatives-fault text x.0 f (cut_found (tokens_of true 0 0 text) x.0 x.1) x.2
     ]
+
+-- ---- where a text is refused
+
+-- the place of a refusal
+refused_at : (Bad : ℕ → Type 0) (at : ℕ) (f : ShellFault) → BadWord at ≡ f → ((k : ℕ) × (f ≡ BadWord k) × Bad k) → Bad at
+refused_at Bad at f e p = let same : p.0 ≡ at = let whole : BadWord p.0 ≡ BadWord at = sym p.1 ∙ sym e in cc in subst Bad same p.2
+
+pub word_refusal : (text : List ℕ) (at : ℕ) → (word_of text ≡ Err (BadWord at)) ↔ IsBadWord text at
+word_refusal text at = (λ e. refused_at (IsBadWord text) at (BadWord at) refl (word-bad text (BadWord at) e), bad-word)
+
+pub front_refusal : (text : List ℕ) (at : ℕ) → (word_front_of text ≡ Err (BadWord at)) ↔ IsBadFront text at
+front_refusal text at = (λ e. refused_at (IsBadFront text) at (BadWord at) refl (front-bad text (BadWord at) e), bad-front)
+
+pub here_refusal : (text : List ℕ) (at : ℕ) → (here_of text ≡ Err (BadWord at)) ↔ IsBadHere text at
+here_refusal text at = (λ e. refused_at (IsBadHere text) at (BadWord at) refl (here-bad text (BadWord at) e), bad-here)
+
+-- the refusal of an answer
+pub refusal_of : {X Y : Type 0} (Bad : ℕ → Type 0) (view : X → Y) (r : Result X ShellFault) (read : Result Y ShellFault) → ((f : ShellFault) → read ≡ Err f → (at : ℕ) × (f ≡ BadWord at) × Bad at) → Gives view r read
+    → IfErr r (IsRefusal Bad)
+refusal_of Bad view (Ok x) read known given = tt
+refusal_of Bad view (Err OutOfMemory) read known given = tt
+refusal_of Bad view (Err (BadWord at)) read known given = refused_at Bad at (BadWord at) refl (known (BadWord at) given)
+refusal_of Bad view (Err (BadTest at)) read known given = let p = known (BadTest at) given in let e = p.1 in absurd cc
+refusal_of Bad view (Err (BadPattern at)) read known given = let p = known (BadPattern at) given in let e = p.1 in absurd cc

@@ -17,5 +17,6 @@ pub mod Tokens
 pub mod Truths
 pub mod Values
 pub mod Variables
+pub mod WordBreaks
 pub mod WordFaults
 pub mod Words

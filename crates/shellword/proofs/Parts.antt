@@ -44,7 +44,7 @@ leads_on {c} {d} {text} {after} {rest} {part} {parts} more l r = record {
   within = let one = (front-len l.step).1 in let two : length (drop l.len text) ≡ length after = ap length l.ends in omega (arith, r.within, length-drop l.len text);
 }
 
-variable_leads : {text name rest : List ℕ} → IsVariable text name rest → (c : Context) → is_special c dollar ≡ true → Leads c text (Some (Variable name)) c rest
+pub variable_leads : {text name rest : List ℕ} → IsVariable text name rest → (c : Context) → is_special c dollar ≡ true → Leads c text (Some (Variable name)) c rest
 variable_leads (w.named {name} {rest} form stops) c special =
     let len = name_len_is name rest form stops in
     let some : 0 < name_len (name ++ rest) = omega (arith, some_name name form) in
@@ -115,17 +115,17 @@ escaped_here b rest h =
 
 module _ (P : Context → List ℕ → List Part → Type 0) (on : (c d : Context) (text after : List ℕ) (part : Option Part) (parts : List Part) → is_over c text ≡ false → Leads c text part d after → P d after parts → P c text (option_to_list part ++ parts)) where
   -- up to the quote that closes, or to the end
-  single_carry : (inside after : List ℕ) (parts : List Part) → has_no single_quote inside ≡ true → P Single after parts → P Single (inside ++ after) (map Quoted inside ++ parts)
+  pub single_carry : (inside after : List ℕ) (parts : List Part) → has_no single_quote inside ≡ true → P Single after parts → P Single (inside ++ after) (map Quoted inside ++ parts)
   single_carry [] after parts none p = p
   single_carry (b ∷ bs) after parts none p =
       let both = and_parts (not (b == single_quote)) (has_no single_quote bs) none in
       on Single Single _ _ _ _ refl (record { len = 1; step = s.ordinary (is_not (b == single_quote) both.0); ends = refl }) (single_carry bs after parts both.1 p)
 
-  double_carry : {text rest : List ℕ} {inner : List Part} (parts : List Part) → AreDoubleParts text inner rest → P Double rest parts → P Double text (inner ++ parts)
+  pub double_carry : {text rest : List ℕ} {inner : List Part} (parts : List Part) → AreDoubleParts text inner rest → P Double rest parts → P Double text (inner ++ parts)
   double_carry parts w.no_more p = p
   double_carry parts (w.more one others) p = on Double Double _ _ _ _ (double_goes_on one) (double_leads one) (double_carry parts others p)
 
-  word_part_carry : {text after : List ℕ} {first : List Part} (parts : List Part) → IsWordPart text first after → P Bare after parts → P Bare text (first ++ parts)
+  pub word_part_carry : {text after : List ℕ} {first : List Part} (parts : List Part) → IsWordPart text first after → P Bare after parts → P Bare text (first ++ parts)
   word_part_carry parts (w.single_quoted {rest = after} inside none) p =
       on Bare Single _ _ None _ refl (record { len = 1; step = s.single_opens; ends = refl })
       (single_carry inside (single_quote ∷ after) parts none (on Single Bare _ _ None _ refl (record { len = 1; step = s.single_closes; ends = refl }) p))
@@ -138,7 +138,7 @@ module _ (P : Context → List ℕ → List Part → Type 0) (on : (c d : Contex
   word_part_carry parts (w.lone_dollar h) p = on Bare Bare _ _ (Some (Plain dollar)) _ refl (record { len = 1; step = s.lone_dollar refl h; ends = refl }) p
   word_part_carry parts (w.byte {b = b} h over) p = on Bare Bare _ _ (Some (Plain b)) _ over (record { len = 1; step = s.ordinary h; ends = refl }) p
 
-  here_part_carry : {text after : List ℕ} {first : List Part} (parts : List Part) → IsHerePart text first after → P Here after parts → P Here text (first ++ parts)
+  pub here_part_carry : {text after : List ℕ} {first : List Part} (parts : List Part) → IsHerePart text first after → P Here after parts → P Here text (first ++ parts)
   here_part_carry parts (w.escaped {b} {rest} h) p = on Here Here _ _ (Some (Quoted b)) _ refl (escaped_here b rest h) p
   here_part_carry parts w.joined_line p = on Here Here _ _ None _ refl (record { len = 2; step = s.escaped refl; ends = refl }) p
   here_part_carry parts (w.kept_backslash h) p = on Here Here _ _ (Some (Plain backslash)) _ refl (record { len = 1; step = s.kept refl h; ends = refl }) p

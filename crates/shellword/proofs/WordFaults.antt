@@ -1,19 +1,23 @@
 -- Which fault a text that is no word or here text has, and where.
-use Rattle.std.proofs.Common.{◌≡◌, ℕ, zero, suc, ◌+◌, ◌-◌, ◌≤◌, Bool, ◌&&◌, ltb, ◌==◌, cond, inl, inr, List, [], ◌∷◌, ◌++◌, length, drop, option_to_list, Result, Ok, Err, sym, arith}
+use Rattle.std.proofs.Common.{◌≡◌, ℕ, zero, suc, ◌+◌, ◌-◌, ◌≤◌, Bool, true, ◌&&◌, ltb, ◌==◌, cond, inl, inr, List, [], ◌∷◌, ◌++◌, length, drop, Result, Ok, Err, refl, sym, ap, ◌∙◌, arith}
 use Rattle.std.specs.List.{list_all}
 use Rattle.shellword.specs.declared.fault.ShellFault.{ShellFault}
 use Rattle.shellword.specs.declared.fault.ShellFault.TheVariants.{BadWord}
+use Rattle.shellword.specs.declared.part.Part.{Part}
 use Rattle.shellword.specs.declared.front.Context.{Context}
 use Rattle.shellword.specs.declared.front.Context.TheVariants.{Bare, Here}
 use Rattle.shellword.specs.declared.token.Token.TheVariants.{Word}
-use Rattle.shellword.specs.Text.{backslash, dollar, backquote, newline, ampersand, bar, open_brace, name_len, stands_alone, is_blank, is_space, begins_with, ends_word, is_parted}
+use Rattle.shellword.specs.Text.{backslash, dollar, backquote, newline, ampersand, bar, open_brace, name_len, stands_alone, is_blank, is_space, begins_with, ends_word, word_ends, is_parted}
 use Rattle.shellword.specs.Contexts.{is_special, closes_brace, is_over, is_quoted}
 use Rattle.shellword.specs.Scan.{◌>>=◌, braced_front, dollar_front, front_of, close, scan, word_of, word_front_of, here_of}
 use Rattle.shellword.specs.Cut.{ampersand_at, bar_at, token_at, tokens_of}
+use Rattle.shellword.specs.Word.{AreWordParts, BeginsAt}
+use Rattle.shellword.specs.WordFaults.{WordBreaks, IsBadWord, word_breaks, goes_on, IsBadFront, front_breaks, operator, IsBadHere}
 use Rattle.shellword.proofs.Outcome.{chosen, passed, fault_is, bind_err}
 use Rattle.shellword.proofs.Fronts.{read-front, front-len}
-use Rattle.shellword.proofs.Words.{front-run}
-use Rattle.shellword.proofs.Parts.{run-len}
+use Rattle.shellword.proofs.Words.{run-front, front-run}
+use Rattle.shellword.proofs.Parts.{word-run, run-word}
+use Rattle.shellword.proofs.WordBreaks.{BreaksAt, scan-breaks, breaks-scan, word-breaks, here-breaks, breaks-word, breaks-here}
 use Rattle.shellword.proofs.TokenReading.{token-len, read-token}
 
 -- a fault of a word, at a place of at most n
@@ -26,86 +30,89 @@ placed at = Err (BadWord at)
 at_place : {A : Type 0} (at n : ℕ) (f : ShellFault) → placed {A = A} at ≡ Err f → at ≤ n → Fault n f
 at_place {A} at n f e h = (at, sym (fault_is {A = A} _ _ e), h)
 
-braced-fault : (at : ℕ) (c : Context) (bs : List ℕ) (f : ShellFault) → braced_front at c bs ≡ Err f → Fault at f
-braced-fault at c [] f e = at_place at at f e (omega arith)
-braced-fault at c (b ∷ inside) f e =
-    elim (chosen (b == open_brace && ltb 0 (name_len inside) && closes_brace (drop (name_len inside) inside)) _ _ _ e) [
-      | inl h ↦ absurd (passed h.1)
-      | inr h ↦ at_place at at f h.1 (omega arith)
-    ]
-
-dollar-fault : (at : ℕ) (c : Context) (bs : List ℕ) (f : ShellFault) → dollar_front at c bs ≡ Err f → Fault at f
-dollar-fault at c bs f e =
-    elim (chosen (ltb 0 (name_len bs)) _ _ _ e) [
-      | inl h ↦ absurd (passed h.1)
-      | inr none ↦ (elim (chosen (stands_alone bs) _ _ _ none.1) [ inl h ↦ absurd (passed h.1) | inr h ↦ braced-fault at c bs f h.1 ])
-    ]
-
-front-fault : (at : ℕ) (c : Context) (b : ℕ) (bs : List ℕ) (f : ShellFault) → front_of at c b bs ≡ Err f → Fault at f
-unfolding front_of
-front-fault at c b bs f e =
-    elim (chosen (is_special c b) _ _ _ e) [
-      | inr h ↦ absurd (passed h.1)
-      | inl special ↦
-          (elim (chosen (b == backslash) _ _ _ special.1) [
-            | inl h ↦ absurd (passed h.1)
-            | inr no_backslash ↦
-                (elim (chosen (b == dollar) _ _ _ no_backslash.1) [
-                  | inl h ↦ dollar-fault at c bs f h.1
-                  | inr no_dollar ↦ (elim (chosen (b == backquote) _ _ _ no_dollar.1) [ inl h ↦ at_place at at f h.1 (omega arith) | inr h ↦ absurd (passed h.1) ])
-                ])
-          ])
-    ]
-
-close-fault : (c : Context) (at : ℕ) (f : ShellFault) → close c at ≡ Err f → Fault at f
-close-fault c at f e = elim (chosen (is_quoted c) _ _ _ e) [ inl h ↦ at_place at at f h.1 (omega arith) | inr h ↦ absurd (passed h.1) ]
-
 further : (m n : ℕ) (f : ShellFault) → Fault m f → m ≤ n → Fault n f
 further m n f p h = (p.0, p.1, omega (arith, p.2))
 
-scan-fault : (k : ℕ) (c : Context) (at : ℕ) (text : List ℕ) (f : ShellFault) → k ≤ length text → scan k c at text ≡ Err f → Fault (at + length text) f
-unfolding scan
-scan-fault zero c at [] f h e = further at (at + 0) f (close-fault c at f e) (omega arith)
-scan-fault (suc k) c at [] f h e = absurd (omega arith)
-scan-fault (suc k) c at (b ∷ bs) f h e = further (at + 1 + length bs) (at + suc (length bs)) f (scan-fault k c (at + 1) bs f (omega arith) e) (omega arith)
-scan-fault zero c at (b ∷ bs) f h e =
-    elim (chosen (is_over c (b ∷ bs)) _ _ _ e) [
-      | inl over ↦ further at (at + suc (length bs)) f (close-fault c at f over.1) (omega arith)
-      | inr more ↦
-          (elim (bind_err (front_of at c b bs) (λ x. scan (x.len - 1) x.context (at + 1) bs >>= λ r. Ok (option_to_list x.part ++ r.0, r.1)) f more.1) [
-            | inl x ↦ further at (at + suc (length bs)) f (front-fault at c b bs f x) (omega arith)
-            | inr x ↦
-                let len = front-len (read-front at c b bs x.0 x.1) in
-                (elim (bind_err (scan (x.0.len - 1) x.0.context (at + 1) bs) (λ r. Ok (option_to_list x.0.part ++ r.0, r.1)) f x.2) [
-                  | inl y ↦ further (at + 1 + length bs) (at + suc (length bs)) f (scan-fault (x.0.len - 1) x.0.context (at + 1) bs f (omega (arith, len.0, len.1)) y) (omega arith)
-                  | inr y ↦ absurd (passed y.2)
-                ])
+-- ---- whole texts: the place at fault
+
+-- a run that is refused
+run_refused : (c : Context) (text : List ℕ) (f : ShellFault) → scan 0 c 0 text ≡ Err f → BreaksAt c (length text) text f
+run_refused c text f e = let b = scan-breaks 0 c 0 text f (omega arith) e in record { rest = b.rest; at = b.at; fault = b.fault; breaks = b.breaks; place = b.place ∙ omega arith }
+
+word_refused : {text rest : List ℕ} → WordBreaks text rest → (at : ℕ) → BeginsAt at rest text → scan 0 Bare 0 text ≡ Err (BadWord at)
+word_refused h at place = breaks-scan (word-breaks h) 0 at (place ∙ omega arith)
+
+-- a word that ends before what may not follow it
+word_found : {text rest : List ℕ} {parts : List Part} → AreWordParts text parts rest → word_ends rest ≡ true → (at : ℕ) → BeginsAt at rest text → (scan 0 Bare 0 text ≡ Ok (parts, at)) × (drop at text ≡ rest)
+word_found {text} {rest} {parts} word over at place =
+    let r = word-run word over in
+    let len : r.len ≡ at = omega (arith, place, r.place) in
+    (run-front r.run ∙ ap (λ (n : ℕ). Ok (parts, n)) len, ap (λ (n : ℕ). drop n text) (sym len) ∙ r.ends)
+
+pub word-bad : (text : List ℕ) (f : ShellFault) → word_of text ≡ Err f → (at : ℕ) × (f ≡ BadWord at) × IsBadWord text at
+unfolding word_of
+word-bad text f e =
+    elim (bind_err (scan 0 Bare 0 text) (λ r. cond (list_all is_blank (drop r.1 text)) (Ok r.0) (Err (BadWord r.1))) f e) [
+      | inl x ↦ let b = run_refused Bare text f x in (b.at, b.fault, word_breaks (breaks-word b.breaks) b.place)
+      | inr x ↦
+          (elim (chosen (list_all is_blank (drop x.0.1 text)) _ _ _ x.2) [
+            | inl h ↦ absurd (passed h.1)
+            | inr h ↦ let w = run-word (front-run Bare text x.0 x.1) in (x.0.1, sym (fault_is {A = List Part} _ _ h.1), goes_on w.0 w.1 h.0 w.2)
           ])
     ]
 
-whole-fault : (c : Context) (text : List ℕ) (f : ShellFault) → scan 0 c 0 text ≡ Err f → Fault (length text) f
-whole-fault c text f e = further (0 + length text) (length text) f (scan-fault 0 c 0 text f (omega arith) e) (omega arith)
+pub bad-word : {text : List ℕ} {at : ℕ} → IsBadWord text at → word_of text ≡ Err (BadWord at)
+unfolding word_of
+bad-word (word_breaks {at = at} h place) = rw (word_refused h at place) refl
+bad-word (goes_on {at = at} word over more place) = let p = word_found word over at place in rw (p.0, p.1, more) refl
+
+pub front-bad : (text : List ℕ) (f : ShellFault) → word_front_of text ≡ Err f → (at : ℕ) × (f ≡ BadWord at) × IsBadFront text at
+unfolding word_front_of
+front-bad text f e =
+    elim (bind_err (scan 0 Bare 0 text) (λ r. cond (is_parted (drop r.1 text)) (Ok r) (Err (BadWord r.1))) f e) [
+      | inl x ↦ let b = run_refused Bare text f x in (b.at, b.fault, front_breaks (breaks-word b.breaks) b.place)
+      | inr x ↦
+          (elim (chosen (is_parted (drop x.0.1 text)) _ _ _ x.2) [
+            | inl h ↦ absurd (passed h.1)
+            | inr h ↦ let w = run-word (front-run Bare text x.0 x.1) in (x.0.1, sym (fault_is {A = List Part × ℕ} _ _ h.1), operator w.0 w.1 h.0 w.2)
+          ])
+    ]
+
+pub bad-front : {text : List ℕ} {at : ℕ} → IsBadFront text at → word_front_of text ≡ Err (BadWord at)
+unfolding word_front_of
+bad-front (front_breaks {at = at} h place) = rw (word_refused h at place) refl
+bad-front (operator {at = at} word over more place) = let p = word_found word over at place in rw (p.0, p.1, more) refl
+
+pub here-bad : (text : List ℕ) (f : ShellFault) → here_of text ≡ Err f → (at : ℕ) × (f ≡ BadWord at) × IsBadHere text at
+unfolding here_of
+here-bad text f e =
+    elim (bind_err (scan 0 Here 0 text) (λ r. Ok r.0) f e) [
+      | inl x ↦ let b = run_refused Here text f x in (b.at, b.fault, record { rest = b.rest; breaks = breaks-here b.breaks; place = b.place })
+      | inr x ↦ absurd (passed x.2)
+    ]
+
+pub bad-here : {text : List ℕ} {at : ℕ} → IsBadHere text at → here_of text ≡ Err (BadWord at)
+unfolding here_of
+bad-here {text} {at} h = rw (breaks-scan (here-breaks h.breaks) 0 at (h.place ∙ omega arith)) refl
+
+-- ---- and it is a place of the text or its end
+
+bad-place : {text : List ℕ} {at : ℕ} → IsBadWord text at → at ≤ length text
+bad-place (word_breaks h place) = omega (arith, place)
+bad-place (goes_on word over more place) = omega (arith, place)
+
+front-place : {text : List ℕ} {at : ℕ} → IsBadFront text at → at ≤ length text
+front-place (front_breaks h place) = omega (arith, place)
+front-place (operator word over more place) = omega (arith, place)
 
 pub word-fault : (text : List ℕ) (f : ShellFault) → word_of text ≡ Err f → Fault (length text) f
-unfolding word_of
-word-fault text f e =
-    elim (bind_err (scan 0 Bare 0 text) (λ r. cond (list_all is_blank (drop r.1 text)) (Ok r.0) (Err (BadWord r.1))) f e) [
-      | inl x ↦ whole-fault Bare text f x
-      | inr x ↦ (elim (chosen (list_all is_blank (drop x.0.1 text)) _ _ _ x.2) [ inl h ↦ absurd (passed h.1) | inr h ↦ at_place x.0.1 (length text) f h.1 (run-len (front-run Bare text x.0 x.1)) ])
-    ]
+word-fault text f e = let p = word-bad text f e in (p.0, p.1, bad-place p.2)
 
 pub word_front-fault : (text : List ℕ) (f : ShellFault) → word_front_of text ≡ Err f → Fault (length text) f
-unfolding word_front_of
-word_front-fault text f e =
-    elim (bind_err (scan 0 Bare 0 text) (λ r. cond (is_parted (drop r.1 text)) (Ok r) (Err (BadWord r.1))) f e) [
-      | inl x ↦ whole-fault Bare text f x
-      | inr x ↦ (elim (chosen (is_parted (drop x.0.1 text)) _ _ _ x.2) [ inl h ↦ absurd (passed h.1) | inr h ↦ at_place x.0.1 (length text) f h.1 (run-len (front-run Bare text x.0 x.1)) ])
-    ]
+word_front-fault text f e = let p = front-bad text f e in (p.0, p.1, front-place p.2)
 
 pub here-fault : (text : List ℕ) (f : ShellFault) → here_of text ≡ Err f → Fault (length text) f
-unfolding here_of
-here-fault text f e =
-    elim (bind_err (scan 0 Here 0 text) (λ r. Ok r.0) f e) [ inl x ↦ whole-fault Here text f x | inr x ↦ absurd (passed x.2) ]
+here-fault text f e = let p = here-bad text f e in (p.0, p.1, omega (arith, p.2.place))
 
 -- ---- tokens
 
@@ -135,7 +142,7 @@ token-fault bars at b bs f e =
                         | inl h ↦ at_place at (at + suc (length bs)) f h.1 (omega arith)
                         | inr h ↦
                             (elim (bind_err (scan 0 Bare at (b ∷ bs)) (λ r. Ok (Word r.0, r.1)) f h.1) [
-                              | inl x ↦ scan-fault 0 Bare at (b ∷ bs) f (omega arith) x
+                              | inl x ↦ let b = scan-breaks 0 Bare at (b ∷ bs) f (omega arith) x in (b.at, b.fault, omega (arith, b.place))
                               | inr x ↦ absurd (passed x.2)
                             ])
                       ])

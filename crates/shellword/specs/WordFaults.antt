@@ -23,14 +23,14 @@ pub data WordBreaks : List ℕ → List ℕ → Type 0 where
 
 -- The text is no word: it breaks at this place, or the word ends there and more than blanks follow.
 pub data IsBadWord : List ℕ → ℕ → Type 0 where
-  breaks : {text rest : List ℕ} {at : ℕ} → WordBreaks text rest → BeginsAt at rest text → IsBadWord text at
+  word_breaks : {text rest : List ℕ} {at : ℕ} → WordBreaks text rest → BeginsAt at rest text → IsBadWord text at
   goes_on : {text rest : List ℕ} {parts : List Part} {at : ℕ} → AreWordParts text parts rest → word_ends rest ≡ true → list_all is_blank rest ≡ false → BeginsAt at rest text
       → IsBadWord text at
 
 -- No word is at the front of bare text: it breaks at this place, or the word ends there before what does not part the
 -- text, which is one of & | < > ( ).
 pub data IsBadFront : List ℕ → ℕ → Type 0 where
-  breaks : {text rest : List ℕ} {at : ℕ} → WordBreaks text rest → BeginsAt at rest text → IsBadFront text at
+  front_breaks : {text rest : List ℕ} {at : ℕ} → WordBreaks text rest → BeginsAt at rest text → IsBadFront text at
   operator : {text rest : List ℕ} {parts : List Part} {at : ℕ} → AreWordParts text parts rest → word_ends rest ≡ true → is_parted rest ≡ false → BeginsAt at rest text
       → IsBadFront text at
 

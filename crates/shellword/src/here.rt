@@ -6,6 +6,7 @@ ghost use Rattle.shellword.specs.Gives.{Gives};
 ghost use Rattle.shellword.specs.Scan.{here_of};
 ghost use Rattle.shellword.specs.Value.{word_value};
 ghost use Rattle.shellword.specs.Word.{IsHere};
+ghost use Rattle.shellword.specs.WordFaults.{IsBadHere, IsRefusal};
 ghost use Rattle.shellword.specs.declared.part.Part.{Part};
 
 use crate::fault::ShellFault;
@@ -41,9 +42,15 @@ fn read_parts(alloc: Global, text: &[u8]) -> Result<HereText, ShellFault>
     Ok(HereText { parts })
 }
 
-/// Reads a here text (POSIX shell, 2.7.4). `$name` and `${name}` stand for a variable's value; a backslash before
-/// `$`, a backquote, a backslash or a newline is dropped, a newline with it; quotes have no meaning.
-/// Any other use of `$` that a shell would expand, and a backquote, is `BadWord`.
+/// Reads a here text (POSIX shell, 2.7.4). `$name` and `${name}` are a variable's value. A backslash before `$`, a
+/// backquote, a backslash or a newline is dropped, and a newline with it. Quotes have no meaning.
+///
+/// # Errors
+///
+/// Returns [`ShellFault::BadWord`] with the place of the first backquote that no backslash quotes, or of the first `$`
+/// that a shell expands and that begins neither `$name` nor `${name}`.
+///
+/// Returns [`ShellFault::OutOfMemory`] if memory runs out.
 pub fn read_here(alloc: Global, text: &[u8]) -> Result<HereText, ShellFault>
     // The reading, as a function of the text.
     ensures exact { Gives (λ h. h) result (here_of text.now) }
@@ -51,6 +58,8 @@ pub fn read_here(alloc: Global, text: &[u8]) -> Result<HereText, ShellFault>
     ensures found { IfOk result (IsHere text.now) }
     // A here text is read, unless memory runs out.
     ensures only { (parts : List Part) → IsHere text.now parts → Gives (λ h. h) result (Ok parts) }
+    // What is refused is no here text, and is at fault there.
+    ensures refused { IfErr result (IsRefusal (IsBadHere text.now)) }
     ensures fault { IfErr result (IsWordFault (length text.now)) }
 {
     read_parts(alloc, text)

@@ -6,6 +6,7 @@ ghost use Rattle.shellword.specs.Scan.{word_of, word_front_of, here_of};
 ghost use Rattle.shellword.specs.Test.{IsTest, IsFaultOfTest, test_of};
 ghost use Rattle.shellword.specs.Truth.{Joined};
 ghost use Rattle.shellword.specs.Word.{IsWord, IsWordFront, IsHere};
+ghost use Rattle.shellword.specs.WordFaults.{IsBadWord, IsBadFront, IsBadHere};
 ghost use Rattle.shellword.specs.declared.fault.ShellFault.{ShellFault};
 ghost use Rattle.shellword.specs.declared.fault.ShellFault.TheVariants.{BadWord, BadPattern};
 ghost use Rattle.shellword.specs.declared.part.Part.{Part};
@@ -38,4 +39,12 @@ pub fn faults_are_placed()
     ensures here { (text : List ℕ) (f : ShellFault) → here_of text ≡ Err f → (at : ℕ) × (f ≡ BadWord at) × (at ≤ length text) }
     ensures test { (text : List ℕ) (f : ShellFault) → test_of text ≡ Err f → IsFaultOfTest text f }
     ensures patterns { (text : List ℕ) (f : ShellFault) → patterns_of text ≡ Err f → (at : ℕ) × (f ≡ BadPattern at) × (at ≤ length text) }
+{}
+
+/// The reading of a text, as a function, refuses a word, a word at the front and a here text exactly where the text has
+/// none, at the place at fault.
+pub fn refusals_are_exact()
+    ensures word { (text : List ℕ) (at : ℕ) → (word_of text ≡ Err (BadWord at)) ↔ IsBadWord text at }
+    ensures front { (text : List ℕ) (at : ℕ) → (word_front_of text ≡ Err (BadWord at)) ↔ IsBadFront text at }
+    ensures here { (text : List ℕ) (at : ℕ) → (here_of text ≡ Err (BadWord at)) ↔ IsBadHere text at }
 {}

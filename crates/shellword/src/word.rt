@@ -9,6 +9,7 @@ ghost use Rattle.shellword.specs.Text.{is_blank, is_parted};
 ghost use Rattle.shellword.specs.Scan.{scan, word_of, word_front_of};
 ghost use Rattle.shellword.specs.Value.{word_value};
 ghost use Rattle.shellword.specs.Word.{IsWord, IsWordFront};
+ghost use Rattle.shellword.specs.WordFaults.{IsBadWord, IsBadFront, IsRefusal};
 ghost use Rattle.shellword.specs.declared.part.Part.{Part};
 ghost use Rattle.shellword.specs.declared.fault.ShellFault.TheVariants.{OutOfMemory};
 
@@ -102,11 +103,18 @@ fn read_front_word(alloc: Global, text: &[u8]) -> Result<(Word, usize), ShellFau
     }
 }
 
-/// Reads a text that is one word (POSIX shell, 2.2 and 2.3), with any blanks behind it.
+/// Reads a text that is one word, and then blanks or nothing (POSIX shell, 2.2 and 2.3).
 ///
-/// The text is refused, at the byte at fault, where it holds outside quotes a blank before its end or one of
-/// `;`, `&`, `|`, `<`, `>`, `(` and `)`; a backquote; a `$` that begins anything but `$name` or `${name}` where a
-/// shell would expand it; or a quote that isn't closed, which is at fault at the text's end.
+/// # Errors
+///
+/// Returns [`ShellFault::BadWord`] with the place of the first of these:
+///
+/// - a backquote that no backslash and no single quote quotes;
+/// - a `$` that a shell expands and that begins neither `$name` nor `${name}`;
+/// - outside quotes, one of `;`, `&`, `|`, `<`, `>`, `(` and `)`, or a blank with more than blanks after it;
+/// - the end of the text, if a quote is open there.
+///
+/// Returns [`ShellFault::OutOfMemory`] if memory runs out.
 pub fn read_word(alloc: Global, text: &[u8]) -> Result<Word, ShellFault>
     // The reading, as a function of the text.
     ensures exact { Gives (λ w. w) result (word_of text.now) }
@@ -114,17 +122,28 @@ pub fn read_word(alloc: Global, text: &[u8]) -> Result<Word, ShellFault>
     ensures found { IfOk result (IsWord text.now) }
     // A word is read, unless memory runs out.
     ensures only { (parts : List Part) → IsWord text.now parts → Gives (λ w. w) result (Ok parts) }
+    // What is refused is no word, and is at fault there.
+    ensures refused { IfErr result (IsRefusal (IsBadWord text.now)) }
     ensures fault { IfErr result (IsWordFault (length text.now)) }
 {
     read_whole(alloc, text)
 }
 
-/// Reads the word at the front of bare text, and answers its length too. The word ends at the text's end or before
-/// the first blank or `;` outside quotes; it may be empty. The texts that are refused are those of `read_word`.
+/// Reads the word at the front of bare text, and returns its length too. The word ends at the end of the text or before
+/// the first blank or `;` outside quotes. It may be empty.
+///
+/// # Errors
+///
+/// Returns [`ShellFault::BadWord`] with the place of the first of these: a backquote or a `$` that [`read_word`] refuses
+/// too; outside quotes, one of `&`, `|`, `<`, `>`, `(` and `)`; the end of the text, if a quote is open there. What
+/// follows the word is not read.
+///
+/// Returns [`ShellFault::OutOfMemory`] if memory runs out.
 pub fn read_word_front(alloc: Global, text: &[u8]) -> Result<(Word, usize), ShellFault>
     ensures exact { Gives (λ r. (r.0, r.1)) result (word_front_of text.now) }
     ensures found { IfOk result (λ r. IsWordFront text.now r.0 r.1) }
     ensures only { (parts : List Part) (n : ℕ) → IsWordFront text.now parts n → Gives {Y = List Part × ℕ} (λ r. (r.0, r.1)) result (Ok (parts, n)) }
+    ensures refused { IfErr result (IsRefusal (IsBadFront text.now)) }
     ensures within { IfOk result (λ r. r.1 ≤ length text.now) }
     ensures fault { IfErr result (IsWordFault (length text.now)) }
 {

@@ -4,6 +4,9 @@ use Rattle.shellword.specs.Scan.{here_of}
 use Rattle.shellword.specs.Word.{IsHere}
 use Rattle.shellword.proofs.Outcome.{told}
 use Rattle.shellword.proofs.Words.{here-read, read-here}
+use Rattle.shellword.specs.WordFaults.{IsBadHere}
+use Rattle.shellword.proofs.Laws.{refusal_of}
+use Rattle.shellword.proofs.WordFaults.{here-bad}
 use Rattle.shellword.proofs.here.read_here.Goals as goal
 
 pub returns-clause-found : goal.returns-clause-found
@@ -11,3 +14,6 @@ returns-clause-found c = told (λ h. h) (IsHere c.args.text.now) c.read_parts.re
 
 pub returns-clause-only : goal.returns-clause-only
 returns-clause-only c = λ parts h. subst (λ r. Gives (λ h. h) c.read_parts.result r) (here-read c.args.text.now parts h) c.read_parts.ensures.exact
+
+pub returns-clause-refused : goal.returns-clause-refused
+returns-clause-refused c = refusal_of (IsBadHere c.args.text.now) (λ h. h) c.read_parts.result (here_of c.args.text.now) (here-bad c.args.text.now) c.read_parts.ensures.exact

@@ -4,6 +4,9 @@ use Rattle.shellword.specs.Scan.{word_of}
 use Rattle.shellword.specs.Word.{IsWord}
 use Rattle.shellword.proofs.Outcome.{told}
 use Rattle.shellword.proofs.Words.{word-read, read-word}
+use Rattle.shellword.specs.WordFaults.{IsBadWord}
+use Rattle.shellword.proofs.Laws.{refusal_of}
+use Rattle.shellword.proofs.WordFaults.{word-bad}
 use Rattle.shellword.proofs.word.read_word.Goals as goal
 
 pub returns-clause-found : goal.returns-clause-found
@@ -11,3 +14,6 @@ returns-clause-found c = told (λ w. w) (IsWord c.args.text.now) c.read_whole.re
 
 pub returns-clause-only : goal.returns-clause-only
 returns-clause-only c = λ parts h. subst (λ r. Gives (λ w. w) c.read_whole.result r) (word-read c.args.text.now parts h) c.read_whole.ensures.exact
+
+pub returns-clause-refused : goal.returns-clause-refused
+returns-clause-refused c = refusal_of (IsBadWord c.args.text.now) (λ w. w) c.read_whole.result (word_of c.args.text.now) (word-bad c.args.text.now) c.read_whole.ensures.exact

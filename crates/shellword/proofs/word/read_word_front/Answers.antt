@@ -4,6 +4,9 @@ use Rattle.shellword.specs.Scan.{word_front_of}
 use Rattle.shellword.specs.Word.{IsWordFront}
 use Rattle.shellword.proofs.Outcome.{told}
 use Rattle.shellword.proofs.Words.{word_front-read, read-word_front}
+use Rattle.shellword.specs.WordFaults.{IsBadFront}
+use Rattle.shellword.proofs.Laws.{refusal_of}
+use Rattle.shellword.proofs.WordFaults.{front-bad}
 use Rattle.shellword.proofs.word.read_word_front.Goals as goal
 
 pub returns-clause-found : goal.returns-clause-found
@@ -12,3 +15,6 @@ returns-clause-found c =
 
 pub returns-clause-only : goal.returns-clause-only
 returns-clause-only c = λ parts n h. subst (λ r. Gives (λ r. (r.0, r.1)) c.read_front_word.result r) (word_front-read c.args.text.now parts n h) c.read_front_word.ensures.exact
+
+pub returns-clause-refused : goal.returns-clause-refused
+returns-clause-refused c = refusal_of (IsBadFront c.args.text.now) (λ r. (r.0, r.1)) c.read_front_word.result (word_front_of c.args.text.now) (front-bad c.args.text.now) c.read_front_word.ensures.exact
