@@ -3,7 +3,8 @@ use Rattle.std.proofs.Common.{◌≡◌, ◌||◌, ℕ, Bool, true, false, List,
 use Rattle.std.specs.List.{list_any}
 use Rattle.std.proofs.lemmas.Bool.{or_cases}
 use Rattle.shellword.specs.declared.pattern.Piece.{Piece}
-use Rattle.shellword.specs.Matching.{MatchesAny, this, another, matching, matches_any}
+use Rattle.shellword.specs.Matching.{MatchesAny, this, another}
+use Rattle.shellword.specs.Matcher.{matching, matches_any}
 use Rattle.shellword.proofs.Matcher.{matches-matching, matching-matches}
 
 or_right : (p q : Bool) → q ≡ true → (p || q) ≡ true

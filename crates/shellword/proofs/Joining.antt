@@ -8,7 +8,8 @@ use Rattle.shellword.specs.declared.token.Joint.{Joint}
 use Rattle.shellword.specs.declared.token.Token.{Token}
 use Rattle.shellword.specs.declared.token.Token.TheVariants.{Word, Join, Bar, Newline}
 use Rattle.shellword.specs.Truth.{Joined}
-use Rattle.shellword.specs.Test.{is_newline, ended, joining}
+use Rattle.shellword.specs.Joining.{ended, joining}
+use Rattle.shellword.specs.Tokens.{is_newline}
 
 module _ (before : Option (Joined × Joint)) (words : List (List Part)) (at : ℕ) (tokens rest : List Token) (t : Token) (total : Result Joined ShellFault) (is : tokens ≡ t ∷ rest) (so_far : joining before words at tokens ≡ total) where
   pub on_word : (w : List Part) (pushed : List (List Part)) → t ≡ Word w → pushed ≡ words ++ w ∷ [] → joining before pushed at rest ≡ total

@@ -9,8 +9,10 @@ use Rattle.shellword.specs.Scan.{word_of, word_front_of, here_of}
 use Rattle.shellword.specs.Cut.{tokens_of}
 use Rattle.shellword.specs.Word.{IsWord, IsWordFront, IsHere}
 use Rattle.shellword.specs.Truth.{Joined}
-use Rattle.shellword.specs.Test.{IsCut, IsTest, IsFaultOfTest, joining, test_of}
-use Rattle.shellword.specs.Pattern.{ArePatterns, or_in_pattern, alternatives, patterns_of}
+use Rattle.shellword.specs.Test.{IsCut, IsTest, IsFaultOfTest}
+use Rattle.shellword.specs.Joining.{joining, test_of}
+use Rattle.shellword.specs.Pattern.{ArePatterns}
+use Rattle.shellword.specs.Listing.{or_in_pattern, alternatives, patterns_of}
 use Rattle.shellword.proofs.Outcome.{failed, bind_err}
 use Rattle.shellword.proofs.Words.{word-read, read-word, word_front-read, read-word_front, here-read, read-here}
 use Rattle.shellword.proofs.TokenReading.{tokens-read}

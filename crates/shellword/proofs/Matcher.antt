@@ -7,7 +7,8 @@ use Rattle.shellword.specs.declared.pattern.Piece.{Piece}
 use Rattle.shellword.specs.declared.pattern.Piece.TheVariants.{AnyBytes, OneByte, Byte}
 use Rattle.shellword.specs.declared.matching.Step.{Step}
 use Rattle.shellword.specs.declared.matching.Step.TheVariants.{Star, Taken, End, Stuck}
-use Rattle.shellword.specs.Matching.{Matches, nothing, any_bytes, one_byte, byte, some_rest, matching, step_of}
+use Rattle.shellword.specs.Matching.{Matches, nothing, any_bytes, one_byte, byte}
+use Rattle.shellword.specs.Matcher.{some_rest, matching, step_of}
 
 -- ---- the definition as a function
 

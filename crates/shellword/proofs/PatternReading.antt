@@ -11,7 +11,9 @@ use Rattle.shellword.specs.Faults.{IsWordFault, IsPatternFault}
 use Rattle.shellword.specs.Gives.{Gives}
 use Rattle.shellword.specs.Scan.{◌>>=◌}
 use Rattle.shellword.specs.Cut.{tokens_of}
-use Rattle.shellword.specs.Pattern.{pieces_of, AreAlternatives, last, more, ArePatterns, in_pattern, or_in_pattern, pieces_or, alternatives, patterns_of}
+use Rattle.shellword.specs.Pattern.{AreAlternatives, last, more, ArePatterns}
+use Rattle.shellword.specs.Listing.{in_pattern, or_in_pattern, pieces_or, alternatives, patterns_of}
+use Rattle.shellword.specs.Pieces.{pieces_of}
 use Rattle.shellword.proofs.Outcome.{failed, passed, ok_is, fault_is, bind_ok, bind_err}
 use Rattle.shellword.proofs.TokenReading.{tokens-read, cut-read}
 use Rattle.shellword.proofs.TestFaults.{Within, tokens-within}

@@ -16,7 +16,9 @@ use Rattle.shellword.specs.Element.{element_of}
 use Rattle.shellword.specs.Cut.{tokens_of}
 use Rattle.shellword.specs.Tokens.{IsToken, line_end, both, either, lone_bar, a_word, AreTokens, no_more, space, next}
 use Rattle.shellword.specs.Truth.{Joined}
-use Rattle.shellword.specs.Test.{is_newline, element_or, with_element, ended, joining, IsCut, IsFaultOfTest}
+use Rattle.shellword.specs.Test.{IsCut, IsFaultOfTest}
+use Rattle.shellword.specs.Joining.{element_or, with_element, ended, joining}
+use Rattle.shellword.specs.Tokens.{is_newline}
 use Rattle.shellword.proofs.Outcome.{chosen, failed, passed, fault_is, bind_err}
 use Rattle.shellword.proofs.TokenReading.{tokens-read, cut-read, token-len}
 

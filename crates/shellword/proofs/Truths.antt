@@ -3,7 +3,8 @@ use Rattle.std.proofs.Common.{◌≡◌, ℕ, ◌+◌, ◌<◌, Bool, List, [], 
 use Rattle.std.proofs.lemmas.List.{take_more}
 use Rattle.shellword.specs.declared.element.Element.{Element}
 use Rattle.shellword.specs.declared.token.Joint.{Joint}
-use Rattle.shellword.specs.Truth.{Joined, single, joined, nested, nested_push, element_truth, joint_truth, truth}
+use Rattle.shellword.specs.Truth.{Joined, single, joined, element_truth, joint_truth, truth}
+use Rattle.shellword.specs.Nested.{nested, nested_push}
 
 pub truth_single : (e : Element) (vars : List (List ℕ × List ℕ)) → truth (single e) vars ≡ element_truth e vars
 unfolding truth

@@ -3,8 +3,13 @@ pub mod Cut
 pub mod Element
 pub mod Faults
 pub mod Gives
+pub mod Joining
+pub mod Listing
+pub mod Matcher
 pub mod Matching
+pub mod Nested
 pub mod Pattern
+pub mod Pieces
 pub mod Scan
 pub mod Test
 pub mod Text

@@ -1,10 +1,9 @@
--- Which texts a pattern matches.
-use Rattle.std.specs.Prelude.{ℕ, Bool, true, false, ◌&&◌, ◌||◌, List, [], ◌∷◌, ◌++◌, ◌==◌, if◌then◌else◌}
-use Rattle.std.specs.List.{list_any}
+-- Which texts a pattern matches (POSIX shell, 2.14.1).
+use Rattle.std.specs.Prelude.{ℕ, List, [], ◌∷◌, ◌++◌}
 use Rattle.shellword.specs.declared.pattern.Piece.{Piece}
 use Rattle.shellword.specs.declared.pattern.Piece.TheVariants.{AnyBytes, OneByte, Byte}
-use Rattle.shellword.specs.declared.matching.Step.{Step}
-use Rattle.shellword.specs.declared.matching.Step.TheVariants.{Star, Taken, End, Stuck}
+-- the same as a function, by this file's name too
+pub use Rattle.shellword.specs.Matcher.{matches_any}
 
 -- The text splits into parts, one for each piece of the pattern: any bytes for `*`, one byte for `?`, the byte itself
 -- for any other.
@@ -18,33 +17,3 @@ pub data Matches : List Piece → List ℕ → Type 0 where
 pub data MatchesAny : List (List Piece) → List ℕ → Type 0 where
   this : {pattern : List Piece} {others : List (List Piece)} {text : List ℕ} → Matches pattern text → MatchesAny (pattern ∷ others) text
   another : {pattern : List Piece} {others : List (List Piece)} {text : List ℕ} → MatchesAny others text → MatchesAny (pattern ∷ others) text
-
--- ---- the same as a function
-
--- what is left of the text behind some front of it passes the test
-abbrev pub some_rest : (List ℕ → Bool) → List ℕ → Bool
-some_rest test [] = test []
-some_rest test (b ∷ bs) = test (b ∷ bs) || some_rest test bs
-
-unfoldable pub matching : List Piece → List ℕ → Bool
-matching [] [] = true
-matching [] (b ∷ bs) = false
-matching (AnyBytes ∷ pieces) text = some_rest (matching pieces) text
-matching (OneByte ∷ pieces) [] = false
-matching (OneByte ∷ pieces) (b ∷ bs) = matching pieces bs
-matching (Byte c ∷ pieces) [] = false
-matching (Byte c ∷ pieces) (b ∷ bs) = (b == c) && matching pieces bs
-
--- whether one of the patterns matches the text
-abbrev pub matches_any : List (List Piece) → List ℕ → Bool
-matches_any patterns text = list_any (λ pattern. matching pattern text) patterns
-
--- what the matcher does before these pieces and this text
-abbrev pub step_of : List Piece → List ℕ → Step
-step_of [] [] = End
-step_of [] (b ∷ bs) = Stuck
-step_of (AnyBytes ∷ pieces) text = Star
-step_of (OneByte ∷ pieces) [] = Stuck
-step_of (OneByte ∷ pieces) (b ∷ bs) = Taken
-step_of (Byte c ∷ pieces) [] = Stuck
-step_of (Byte c ∷ pieces) (b ∷ bs) = if b == c then Taken else Stuck

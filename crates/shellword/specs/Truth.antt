@@ -13,27 +13,6 @@ pub data Joined : Type 0 where
   single : Element → Joined
   joined : Joined → Joint → Element → Joined
 
--- a test with these elements behind it, each with the joint before it
-abbrev pub nested : Joined → List (Joint × Element) → Joined
-nested test [] = test
-nested test (next ∷ rest) = nested (joined test next.0 next.1) rest
-
-pub nested_push : (test : Joined) (rest : List (Joint × Element)) (next : Joint × Element) → nested test (rest ++ next ∷ []) ≡ joined (nested test rest) next.0 next.1
-nested_push test [] next = refl
-nested_push test (one ∷ rest) next = nested_push (joined test one.0 one.1) rest next
-
--- the first element of a test, and those behind it
-abbrev pub flat : Joined → Element × List (Joint × Element)
-flat (single e) = (e, [])
-flat (joined test joint e) = ((flat test).0, (flat test).1 ++ (joint, e) ∷ [])
-
-abbrev pub nested_pair : Element × List (Joint × Element) → Joined
-nested_pair p = nested (single p.0) p.1
-
-pub nested_pair-flat : (test : Joined) → nested_pair (flat test) ≡ test
-nested_pair-flat (single e) = refl
-nested_pair-flat (joined test joint e) = nested_push (single (flat test).0) (flat test).1 (joint, e) ∙ ap (λ (t : Joined). joined t joint e) (nested_pair-flat test)
-
 abbrev pub condition_truth : Condition → List (List ℕ × List ℕ) → Bool
 condition_truth True vars = true
 condition_truth False vars = false

@@ -1,7 +1,8 @@
 //! Lists of patterns, of which a text may match any.
 
 ghost use Rattle.std.specs.Prelude.{◌≡◌, ◌==◌, ◌↔◌, IsTrue, length};
-ghost use Rattle.shellword.specs.Matching.{MatchesAny, matches_any};
+ghost use Rattle.shellword.specs.Matcher.{matches_any};
+ghost use Rattle.shellword.specs.Matching.{MatchesAny};
 
 use crate::matching::match_pieces;
 use crate::pattern::Pattern;

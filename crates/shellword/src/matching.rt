@@ -1,7 +1,8 @@
 //! The matcher.
 
 ghost use Rattle.std.specs.Prelude.{◌≡◌, ◌↔◌, ◌≤◌, IsTrue, length, drop};
-ghost use Rattle.shellword.specs.Matching.{Matches, matching, step_of};
+ghost use Rattle.shellword.specs.Matcher.{matching, step_of};
+ghost use Rattle.shellword.specs.Matching.{Matches};
 
 use crate::pattern::Piece;
 

@@ -4,7 +4,9 @@ ghost use Rattle.std.specs.Prelude.{◌≡◌, ◌++◌, ◌↔◌, List, Ok, If
 ghost use Rattle.shellword.specs.Faults.{IsPatternFault};
 ghost use Rattle.shellword.specs.Gives.{Gives};
 ghost use Rattle.shellword.specs.Matching.{Matches};
-ghost use Rattle.shellword.specs.Pattern.{piece_of, pieces_of, pieces_or, word_in, behind_bar, alternatives, in_pattern, patterns_of, ArePatterns};
+ghost use Rattle.shellword.specs.Listing.{pieces_or, word_in, behind_bar, alternatives, in_pattern, patterns_of};
+ghost use Rattle.shellword.specs.Pattern.{ArePatterns};
+ghost use Rattle.shellword.specs.Pieces.{piece_of, pieces_of};
 ghost use Rattle.shellword.specs.declared.pattern.Piece.{Piece};
 
 use crate::fault::ShellFault;
@@ -138,7 +140,7 @@ fn in_pattern(fault: ShellFault) -> ShellFault
 }
 
 /// The text as a list of patterns, by its tokens.
-#[tactic(auto, unfolding(crate::specs::Pattern::patterns_of))]
+#[tactic(auto, unfolding(crate::specs::Listing::patterns_of))]
 fn read_whole(alloc: Global, text: &[u8]) -> Result<Vec<Pattern>, ShellFault>
     ensures exact { Gives (λ v. v.items) result (patterns_of text.now) }
     ensures fault { IfErr result (IsPatternFault (length text.now)) }

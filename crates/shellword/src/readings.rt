@@ -1,9 +1,11 @@
 //! Laws of the readings, which the crates above may rest on.
 
 ghost use Rattle.std.specs.Prelude.{◌≡◌, ◌≤◌, ◌↔◌, ℕ, List, Result, Ok, Err, length};
-ghost use Rattle.shellword.specs.Pattern.{ArePatterns, patterns_of};
+ghost use Rattle.shellword.specs.Joining.{test_of};
+ghost use Rattle.shellword.specs.Listing.{patterns_of};
+ghost use Rattle.shellword.specs.Pattern.{ArePatterns};
 ghost use Rattle.shellword.specs.Scan.{word_of, word_front_of, here_of};
-ghost use Rattle.shellword.specs.Test.{IsTest, IsFaultOfTest, test_of};
+ghost use Rattle.shellword.specs.Test.{IsTest, IsFaultOfTest};
 ghost use Rattle.shellword.specs.Truth.{Joined};
 ghost use Rattle.shellword.specs.Word.{IsWord, IsWordFront, IsHere};
 ghost use Rattle.shellword.specs.WordFaults.{IsBadWord, IsBadFront, IsBadHere};

@@ -4,8 +4,11 @@ ghost use Rattle.std.specs.Prelude.{◌≡◌, ◌≢◌, ◌≤◌, ◌∷◌, 
 ghost use Rattle.std.specs.List.{list_all};
 ghost use Rattle.shellword.specs.Faults.{IsTestFault};
 ghost use Rattle.shellword.specs.Gives.{Gives};
-ghost use Rattle.shellword.specs.Test.{is_newline, ended, joining, test_of, IsTest, IsFaultOfTest};
-ghost use Rattle.shellword.specs.Truth.{Joined, single, joined, nested, joint_truth, truth};
+ghost use Rattle.shellword.specs.Joining.{ended, joining, test_of};
+ghost use Rattle.shellword.specs.Nested.{nested};
+ghost use Rattle.shellword.specs.Test.{IsTest, IsFaultOfTest};
+ghost use Rattle.shellword.specs.Tokens.{is_newline};
+ghost use Rattle.shellword.specs.Truth.{Joined, single, joined, joint_truth, truth};
 ghost use Rattle.shellword.specs.declared.fault.ShellFault.TheVariants.{OutOfMemory};
 
 use crate::element::{Element, element_of};
@@ -32,7 +35,8 @@ impl Model for Test {
     ghost use Rattle.shellword.specs.declared.token.Joint.{Joint};
     ghost use Rattle.shellword.specs.contracts.element.Element as element;
     ghost use Rattle.shellword.specs.contracts.token.Joint as joint;
-    ghost use Rattle.shellword.specs.Truth.{Joined, single, nested, flat, nested_pair, nested_pair-flat};
+    ghost use Rattle.shellword.specs.Nested.{nested, flat, nested_pair, nested_pair-flat};
+    ghost use Rattle.shellword.specs.Truth.{Joined, single};
 
     ghost Value = { Joined };
 
@@ -162,7 +166,7 @@ fn join_tokens(alloc: Global, mut tokens: VecDeque<Token>) -> Result<Test, Shell
     end_element(alloc, before, words, at)
 }
 
-#[tactic(auto, unfolding(crate::specs::Test::test_of))]
+#[tactic(auto, unfolding(crate::specs::Joining::test_of))]
 fn read_whole(alloc: Global, text: &[u8]) -> Result<Test, ShellFault>
     ensures exact { Gives (λ t. t) result (test_of text.now) }
     ensures fault { IfErr result (IsFaultOfTest text.now) }

@@ -1,6 +1,7 @@
 use Rattle.std.proofs.Common.{◌≡◌, length, sym, ap, ◌∙◌, arith}
 use Rattle.std.proofs.lemmas.Result.{err_from_is_err_and}
-use Rattle.shellword.specs.Pattern.{pieces_or, pieces_of}
+use Rattle.shellword.specs.Listing.{pieces_or}
+use Rattle.shellword.specs.Pieces.{pieces_of}
 use Rattle.shellword.proofs.Elements.{none_left}
 use Rattle.shellword.proofs.Outcome.{fails_along}
 use Rattle.shellword.proofs.PatternLists.{on_nothing, on_no_word, on_failed, on_last, on_no_bar, on_bar}

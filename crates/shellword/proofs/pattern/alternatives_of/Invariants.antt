@@ -1,5 +1,5 @@
 use Rattle.std.proofs.Common.{◌≡◌, length}
-use Rattle.shellword.specs.Pattern.{alternatives}
+use Rattle.shellword.specs.Listing.{alternatives}
 use Rattle.shellword.proofs.PatternLists.{with_patterns}
 use Rattle.shellword.proofs.pattern.alternatives_of.Given as goal
 

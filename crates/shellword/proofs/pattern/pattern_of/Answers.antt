@@ -1,6 +1,6 @@
 use Rattle.std.proofs.Common.{sym, ap}
 use Rattle.shellword.proofs.PatternLists.{piece_more, piece_none, pieces_all}
-use Rattle.shellword.specs.Pattern.{pieces_or}
+use Rattle.shellword.specs.Listing.{pieces_or}
 use Rattle.shellword.proofs.pattern.pattern_of.Goals as goal
 
 pub loop-part-preserved : goal.loop-part-preserved

@@ -1,5 +1,5 @@
 use Rattle.std.proofs.Common.{◌≡◌, drop}
-use Rattle.shellword.specs.Pattern.{pieces_of}
+use Rattle.shellword.specs.Pieces.{pieces_of}
 use Rattle.shellword.proofs.PatternLists.{with_front}
 use Rattle.shellword.proofs.pattern.pattern_of.Given as goal
 

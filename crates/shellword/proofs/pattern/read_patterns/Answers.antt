@@ -1,6 +1,7 @@
 use Rattle.std.proofs.Common.{subst}
 use Rattle.shellword.specs.Gives.{Gives}
-use Rattle.shellword.specs.Pattern.{patterns_of, ArePatterns}
+use Rattle.shellword.specs.Pattern.{ArePatterns}
+use Rattle.shellword.specs.Listing.{patterns_of}
 use Rattle.shellword.proofs.Outcome.{told}
 use Rattle.shellword.proofs.PatternReading.{patterns-read, read-patterns}
 use Rattle.shellword.proofs.pattern.read_patterns.Goals as goal

@@ -1,6 +1,6 @@
 use Rattle.std.proofs.Common.{◌≡◌, length}
 use Rattle.std.specs.List.{list_all}
-use Rattle.shellword.specs.Test.{is_newline}
+use Rattle.shellword.specs.Tokens.{is_newline}
 use Rattle.shellword.proofs.test.are_newlines.Given as goal
 
 abbrev pub invariant-loop-token : goal.invariant-loop-token

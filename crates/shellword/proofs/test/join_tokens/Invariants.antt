@@ -1,5 +1,5 @@
 use Rattle.std.proofs.Common.{◌≡◌, length, [], None}
-use Rattle.shellword.specs.Test.{joining}
+use Rattle.shellword.specs.Joining.{joining}
 use Rattle.shellword.proofs.test.join_tokens.Given as goal
 
 abbrev pub invariant-loop-token : goal.invariant-loop-token

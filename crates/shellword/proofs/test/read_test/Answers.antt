@@ -1,6 +1,7 @@
 use Rattle.std.proofs.Common.{subst}
 use Rattle.shellword.specs.Gives.{Gives}
-use Rattle.shellword.specs.Test.{test_of, IsTest}
+use Rattle.shellword.specs.Test.{IsTest}
+use Rattle.shellword.specs.Joining.{test_of}
 use Rattle.shellword.proofs.Outcome.{told}
 use Rattle.shellword.proofs.TestReading.{test-read, read-test}
 use Rattle.shellword.proofs.test.read_test.Goals as goal

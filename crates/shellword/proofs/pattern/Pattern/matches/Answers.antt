@@ -1,6 +1,6 @@
 use Rattle.std.proofs.Common.{◌≡◌, List, sym, ap, ◌∙◌}
 use Rattle.shellword.specs.declared.pattern.Piece.{Piece}
-use Rattle.shellword.specs.Matching.{matching}
+use Rattle.shellword.specs.Matcher.{matching}
 use Rattle.shellword.proofs.Matcher.{matches-matching, matching-matches}
 use Rattle.shellword.proofs.pattern.Pattern.matches.Goals as goal
 

@@ -1,5 +1,6 @@
 use Rattle.std.proofs.Common.{ap, ◌∙◌}
-use Rattle.shellword.specs.Truth.{Joined, single, joined, nested, nested_push}
+use Rattle.shellword.specs.Truth.{Joined, single, joined}
+use Rattle.shellword.specs.Nested.{nested, nested_push}
 use Rattle.shellword.proofs.test.Test.joined.Goals as goal
 
 pub returns-clause-ok : goal.returns-clause-ok
