@@ -1,7 +1,7 @@
 -- Which fault a text that is no test has, and where.
-use Rattle.std.proofs.Common.{◌≡◌, ℕ, ◌+◌, ◌≤◌, Bool, false, inl, inr, List, [], ◌∷◌, ◌++◌, length, Option, Some, None, Result, Ok, Err, sym, subst, ◌∙◌, arith}
+use Rattle.std.proofs.Common.{◌≡◌, ℕ, ◌+◌, ◌≤◌, Bool, false, inl, inr, List, [], ◌∷◌, ◌++◌, length, Option, Some, None, Result, Ok, Err, refl, sym, subst, ◌∙◌, arith}
 use Rattle.std.specs.Prelude.{IfErr}
-use Rattle.std.specs.List.{list_all}
+use Rattle.std.specs.List.{list_all, list_any}
 use Rattle.std.proofs.lemmas.List.{length-drop}
 use Rattle.shellword.specs.declared.fault.ShellFault.{ShellFault}
 use Rattle.shellword.specs.declared.fault.ShellFault.TheVariants.{BadWord, BadTest, BadPattern, OutOfMemory}
@@ -18,7 +18,7 @@ use Rattle.shellword.specs.Tokens.{IsToken, line_end, both, either, lone_bar, a_
 use Rattle.shellword.specs.Truth.{Joined}
 use Rattle.shellword.specs.Test.{IsCut, IsFaultOfTest}
 use Rattle.shellword.specs.Joining.{element_or, with_element, ended, joining}
-use Rattle.shellword.specs.Tokens.{is_newline}
+use Rattle.shellword.specs.Tokens.{is_newline, is_bar}
 use Rattle.shellword.proofs.Outcome.{chosen, failed, passed, fault_is, bind_err}
 use Rattle.shellword.proofs.TokenReading.{tokens-read, cut-read, token-len}
 
@@ -43,6 +43,20 @@ tokens-within (no_more) n h = tt
 tokens-within (space x more) n h = tokens-within more n (omega arith)
 tokens-within (next {at = at} {n = k} {text = text} {tokens = tokens} one more) n h =
     token-within one n tokens h (tokens-within more n (omega (arith, token-len one, length-drop k text)))
+
+-- ---- no bar alone
+
+no_bar : {bars : Bool} {at : ℕ} {text : List ℕ} {t : Token} {k : ℕ} → IsToken bars at text t k → bars ≡ false → is_bar t ≡ false
+no_bar (line_end) e = refl
+no_bar (both) e = refl
+no_bar (either) e = refl
+no_bar (lone_bar x) e = absurd cc
+no_bar (a_word x word over place) e = refl
+
+pub no_bars : {bars : Bool} {at : ℕ} {text : List ℕ} {tokens : List Token} → AreTokens bars at text tokens → bars ≡ false → list_any is_bar tokens ≡ false
+no_bars (no_more) e = refl
+no_bars (space x more) e = no_bars more e
+no_bars (next one more) e = rw (no_bar one e, no_bars more e) refl
 
 -- ---- a test that is no test
 

@@ -1,4 +1,4 @@
--- The elements of a test, by the words that they are made of.
+-- The elements of a test, by the words that they are made of (POSIX `test`, by the number of its words; 2.9.2 for `!`).
 use Rattle.std.specs.Prelude.{ℕ, Bool, true, false, ◌&&◌, ◌||◌, not, List, [], ◌∷◌, Option, Some, None, option_map, codes, ◌==◌, if◌then◌else◌}
 use Rattle.shellword.specs.declared.part.Part.{Part}
 use Rattle.shellword.specs.declared.part.Part.TheVariants.{Plain, Quoted, Variable}
@@ -6,13 +6,13 @@ use Rattle.shellword.specs.declared.element.Condition.{Condition}
 use Rattle.shellword.specs.declared.element.Condition.TheVariants.{True, False, Nonempty, Empty, Equal, Different}
 use Rattle.shellword.specs.declared.element.Element.{Element}
 
--- the part is this byte, quoted or not
+-- the part is this byte, quoted or not (own)
 abbrev pub part_is : Part → ℕ → Bool
 part_is (Plain b) c = b == c
 part_is (Quoted b) c = b == c
 part_is (Variable name) c = false
 
--- the word is constant, and is this text
+-- the word is constant, and is this text (own)
 abbrev pub word_is : List Part → List ℕ → Bool
 word_is [] [] = true
 word_is [] (c ∷ cs) = false
@@ -22,7 +22,7 @@ word_is (part ∷ parts) (c ∷ cs) = part_is part c && word_is parts cs
 abbrev pub plainly : Condition → Element
 plainly condition = record { negated = false; condition = condition }
 
--- `!` before an element
+-- `!` before an element (POSIX shell, 2.9.2)
 abbrev pub negated : Element → Element
 negated e = record { negated = not e.negated; condition = e.condition }
 
@@ -30,7 +30,7 @@ abbrev pub negated_if : Bool → Element → Element
 negated_if true e = negated e
 negated_if false e = e
 
--- `test` with one word to four, by their number
+-- `test` with one word to four, by their number (POSIX `test`, without the operators on files and numbers)
 abbrev pub one_word : List Part → Element
 one_word a = plainly (Nonempty a)
 
@@ -49,26 +49,25 @@ three_words a b c =
 abbrev pub four_words : List Part → List Part → List Part → List Part → Option Element
 four_words a b c d = if word_is a (codes "!") then option_map negated (three_words b c d) else None
 
-abbrev pub condition_of : List (List Part) → Option Element
-condition_of [] = None
-condition_of (a ∷ []) = Some (one_word a)
-condition_of (a ∷ b ∷ []) = two_words a b
-condition_of (a ∷ b ∷ c ∷ []) = three_words a b c
-condition_of (a ∷ b ∷ c ∷ d ∷ []) = four_words a b c d
-condition_of (a ∷ b ∷ c ∷ d ∷ e ∷ rest) = None
+abbrev pub condition_of : List Part → List (List Part) → Option Element
+condition_of a [] = Some (one_word a)
+condition_of a (b ∷ []) = two_words a b
+condition_of a (b ∷ c ∷ []) = three_words a b c
+condition_of a (b ∷ c ∷ d ∷ []) = four_words a b c d
+condition_of a (b ∷ c ∷ d ∷ e ∷ rest) = None
 
--- `:`, `true` and `false`, which stand alone
+-- `:`, `true` and `false`, alone (the special built-in `:`, and POSIX `true` and `false`)
 abbrev pub constant_of : List Part → Option Element
 constant_of word =
     if word_is word (codes ":") || word_is word (codes "true") then Some (plainly True)
     else (if word_is word (codes "false") then Some (plainly False) else None)
 
--- a command and the words behind it
+-- a command and the words after it (own)
 abbrev pub command_of : List Part → List (List Part) → Option Element
 command_of word [] = constant_of word
-command_of word (a ∷ rest) = if word_is word (codes "test") then condition_of (a ∷ rest) else None
+command_of word (a ∷ rest) = if word_is word (codes "test") then condition_of a rest else None
 
--- the words of an element: a command, or `!` and an element
+-- the words of an element: a command, or `!` and an element (POSIX shell, 2.9.2; `!` more than once is own)
 unfoldable pub element_of : List (List Part) → Option Element
 element_of [] = None
 element_of (word ∷ words) = if word_is word (codes "!") then option_map negated (element_of words) else command_of word words

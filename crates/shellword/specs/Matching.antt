@@ -1,4 +1,4 @@
--- Which texts a pattern matches (POSIX shell, 2.14.1).
+-- Which texts a pattern matches (POSIX shell, 2.14).
 use Rattle.std.specs.Prelude.{ℕ, List, [], ◌∷◌, ◌++◌}
 use Rattle.shellword.specs.declared.pattern.Piece.{Piece}
 use Rattle.shellword.specs.declared.pattern.Piece.TheVariants.{AnyBytes, OneByte, Byte}

@@ -1,4 +1,4 @@
--- Which patterns a text lists (POSIX shell, 2.9.4.3 and 2.14.1).
+-- Which patterns a text lists (POSIX shell, 2.9.4.3 and 2.14).
 use Rattle.std.specs.Prelude.{◌≡◌, ℕ, true, List, [], ◌∷◌, Some}
 use Rattle.shellword.specs.declared.part.Part.{Part}
 use Rattle.shellword.specs.declared.pattern.Piece.{Piece}

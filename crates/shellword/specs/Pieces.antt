@@ -6,7 +6,7 @@ use Rattle.shellword.specs.declared.pattern.Piece.{Piece}
 use Rattle.shellword.specs.declared.pattern.Piece.TheVariants.{AnyBytes, OneByte, Byte}
 
 -- What a part of a word is in a pattern: if they are not quoted, `*` is any bytes, `?` one byte, and brackets have no
--- place in one; nor has a variable (POSIX shell, 2.14.1; what has no place is own).
+-- place in one; nor has a variable (POSIX shell, 2.14; what has no place is own).
 abbrev pub piece_of : Part → Option Piece
 piece_of (Plain b) =
     if b == 42 then Some AnyBytes

@@ -148,11 +148,10 @@ fn negated(element: Option<Element>) -> Option<Element>
     }
 }
 
-/// The words behind `test`.
-fn condition_of(mut words: VecDeque<Word>) -> Option<Element>
-    ensures { result ≡ condition_of words.items }
+/// The words after `test`, of which `a` is the first.
+fn condition_of(a: Word, mut words: VecDeque<Word>) -> Option<Element>
+    ensures { result ≡ condition_of a words.items }
 {
-    let a = words.pop_front()?;
     let Some(b) = words.pop_front() else {
         return Some(one_word(a));
     };
@@ -169,7 +168,7 @@ fn condition_of(mut words: VecDeque<Word>) -> Option<Element>
     }
 }
 
-/// A command that stands alone.
+/// A command alone.
 fn constant_of(word: Word) -> Option<Element>
     ensures { result ≡ constant_of word }
 {
@@ -182,14 +181,15 @@ fn constant_of(word: Word) -> Option<Element>
     }
 }
 
-/// A command and the words behind it.
-fn command_of(word: Word, words: VecDeque<Word>) -> Option<Element>
+/// A command and the words after it.
+fn command_of(word: Word, mut words: VecDeque<Word>) -> Option<Element>
     ensures { result ≡ command_of word words.items }
 {
-    if words.is_empty() {
-        constant_of(word)
-    } else if word.is(b"test") {
-        condition_of(words)
+    let Some(first) = words.pop_front() else {
+        return constant_of(word);
+    };
+    if word.is(b"test") {
+        condition_of(first, words)
     } else {
         None
     }

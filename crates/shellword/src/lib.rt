@@ -44,7 +44,7 @@ pub use fault::ShellFault;
 pub use here::{HereText, read_here};
 pub use part::Part;
 pub use pattern::{Pattern, Piece, read_patterns};
-pub use readings::{faults_are_placed, one_reading, readings_are_exact, refusals_are_exact};
+pub use readings::{faults_are_placed, one_reading, readings_are_exact, refusals_are_exact, tests_have_no_bars};
 pub use test::{Test, read_test};
 pub use token::Joint;
 pub use word::{Word, read_word, read_word_front};

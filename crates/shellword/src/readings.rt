@@ -1,12 +1,15 @@
 //! Laws of the readings, which the crates above may rest on.
 
-ghost use Rattle.std.specs.Prelude.{◌≡◌, ◌≤◌, ◌↔◌, ℕ, List, Result, Ok, Err, length};
+ghost use Rattle.std.specs.Prelude.{◌≡◌, ◌≤◌, ◌↔◌, ℕ, List, Result, Ok, Err, length, false};
+ghost use Rattle.std.specs.List.{list_any};
 ghost use Rattle.shellword.specs.Joining.{test_of};
 ghost use Rattle.shellword.specs.Listing.{patterns_of};
 ghost use Rattle.shellword.specs.Pattern.{ArePatterns};
 ghost use Rattle.shellword.specs.Scan.{word_of, word_front_of, here_of};
 ghost use Rattle.shellword.specs.Test.{IsTest, IsFaultOfTest};
+ghost use Rattle.shellword.specs.Tokens.{AreTokens, is_bar};
 ghost use Rattle.shellword.specs.Truth.{Joined};
+ghost use Rattle.shellword.specs.declared.token.Token.{Token};
 ghost use Rattle.shellword.specs.Word.{IsWord, IsWordFront, IsHere};
 ghost use Rattle.shellword.specs.WordFaults.{IsBadWord, IsBadFront, IsBadHere};
 ghost use Rattle.shellword.specs.declared.fault.ShellFault.{ShellFault};
@@ -49,4 +52,9 @@ pub fn refusals_are_exact()
     ensures word { (text : List ℕ) (at : ℕ) → (word_of text ≡ Err (BadWord at)) ↔ IsBadWord text at }
     ensures front { (text : List ℕ) (at : ℕ) → (word_front_of text ≡ Err (BadWord at)) ↔ IsBadFront text at }
     ensures here { (text : List ℕ) (at : ℕ) → (here_of text ≡ Err (BadWord at)) ↔ IsBadHere text at }
+{}
+
+/// A text that is cut into the tokens of a test has no bar alone.
+pub fn tests_have_no_bars()
+    ensures { (at : ℕ) (text : List ℕ) (tokens : List Token) → AreTokens false at text tokens → list_any is_bar tokens ≡ false }
 {}

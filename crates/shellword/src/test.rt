@@ -153,6 +153,7 @@ fn join_tokens(alloc: Global, mut tokens: VecDeque<Token>) -> Result<Test, Shell
                 words = VecDeque::new(alloc);
                 at = behind;
             }
+            // No text of a test has one: `tests_have_no_bars`.
             Token::Bar(_) => return Err(ShellFault::BadTest(at)),
             Token::Newline if words.is_empty() => {}
             Token::Newline => {
