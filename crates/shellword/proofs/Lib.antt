@@ -8,6 +8,7 @@ pub mod Outcome
 pub mod Parts
 pub mod PatternLists
 pub mod PatternReading
+pub mod Rows
 pub mod Runs
 pub mod Steps
 pub mod TestFaults
