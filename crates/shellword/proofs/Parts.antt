@@ -238,8 +238,8 @@ escaped_here_part b after h =
             | inl two ↦ (elim (or_cases (b == dollar) (b == backquote) two) [ inl e ↦ one dollar (eqb-true b dollar e) (w.escaped refl) | inr e ↦ one backquote (eqb-true b backquote e) (w.escaped refl) ])
           ])
     ] where
-  one : (x : ℕ) → b ≡ x → IsHerePart (backslash ∷ x ∷ after) (option_to_list (escaped_part Here x)) after → IsHerePart (backslash ∷ b ∷ after) (option_to_list (escaped_part Here b)) after
-  one x is part = subst (λ (y : ℕ). IsHerePart (backslash ∷ y ∷ after) (option_to_list (escaped_part Here y)) after) (sym is) part
+      one : (x : ℕ) → b ≡ x → IsHerePart (backslash ∷ x ∷ after) (option_to_list (escaped_part Here x)) after → IsHerePart (backslash ∷ b ∷ after) (option_to_list (escaped_part Here b)) after
+      one x is part = subst (λ (y : ℕ). IsHerePart (backslash ∷ y ∷ after) (option_to_list (escaped_part Here y)) after) (sym is) part
 
 escaped_part_of : (c : Context) (b : ℕ) (after : List ℕ) → escapes c b ≡ true → PartOf c (backslash ∷ b ∷ after) (option_to_list (escaped_part c b)) after
 escaped_part_of Bare b after h = bare w.escaped
@@ -321,9 +321,11 @@ part_spelled (here one) rest parts p = w.more one p
 
 step_spelled : {c : Context} {text : List ℕ} {f : Front} → Found c text f → (rest : List ℕ) (parts : List Part) → Spelled f.context (drop f.len text) parts rest → Spelled c text (option_to_list f.part ++ parts) rest
 step_spelled (part one) rest parts p = part_spelled one rest parts p
-step_spelled (single_opens {after}) rest parts p =
-    (subst (λ (ps : List Part). AreWordParts (single_quote ∷ after) ps rest) (sym p.parts_are)
-    (subst (λ (t : List ℕ). AreWordParts (single_quote ∷ t) (map Quoted p.inside ++ p.others) rest) (sym p.text_is) (w.more (w.single_quoted p.inside p.none) p.word)), p.over)
+step_spelled (single_opens {after}) rest parts p = (
+  subst (λ (ps : List Part). AreWordParts (single_quote ∷ after) ps rest) (sym p.parts_are)
+      (subst (λ (t : List ℕ). AreWordParts (single_quote ∷ t) (map Quoted p.inside ++ p.others) rest) (sym p.text_is) (w.more (w.single_quoted p.inside p.none) p.word)),
+  p.over,
+)
 step_spelled (double_opens {after}) rest parts p =
     (subst (λ (ps : List Part). AreWordParts (double_quote ∷ after) ps rest) (sym p.parts_are) (w.more (w.double_quoted p.quoted) p.word), p.over)
 step_spelled (single_closes {after}) rest parts p =

@@ -1,4 +1,4 @@
--- What a byte means by where it stands, as the reader has it.
+-- What a byte is by where it is, as the reader has it.
 use Rattle.std.specs.Prelude.{ℕ, Bool, true, false, List, [], ◌∷◌, Option, Some, None, ◌==◌, if◌then◌else◌}
 use Rattle.shellword.specs.declared.part.Part.{Part}
 use Rattle.shellword.specs.declared.part.Part.TheVariants.{Plain, Quoted}
@@ -29,7 +29,7 @@ abbrev pub escaped_part : Context → ℕ → Option Part
 escaped_part Here b = if b == newline then None else Some (Quoted b)
 escaped_part c b = Some (Quoted b)
 
--- a byte that is itself: as it stands, or quoted
+-- a byte that is itself: plain, or quoted
 abbrev pub byte_in : Context → ℕ → Part
 byte_in Bare b = Plain b
 byte_in Single b = Quoted b

@@ -9,7 +9,7 @@ use Rattle.shellword.specs.declared.token.Token.TheVariants.{Word, Join, Bar, Ne
 use Rattle.shellword.specs.Text.{is_space, newline, ampersand, bar, ends_word, begins_with}
 use Rattle.shellword.specs.Scan.{◌>>=◌, scan}
 
--- `&` before this text, and `|`; and the place behind the token
+-- `&` before this text, and `|`; and the place after the token
 abbrev pub ampersand_at : ℕ → List ℕ → Result (Token × ℕ) ShellFault
 ampersand_at at bs = if begins_with ampersand bs then Ok (Join And (at + 2), at + 2) else Err (BadWord at)
 
@@ -18,11 +18,11 @@ bar_at lone_bars at bs =
     if begins_with bar bs then Ok (Join Or (at + 2), at + 2)
     else (if lone_bars then Ok (Bar (at + 1), at + 1) else Err (BadWord at))
 
--- the word at the front, and the place behind it
+-- the word at the front, and the place after it
 abbrev pub word_at : ℕ → List ℕ → Result (Token × ℕ) ShellFault
 word_at at text = scan 0 Bare at text >>= λ r. Ok (Word r.0, r.1)
 
--- what stands at the front of b ∷ bs, at the place `at`, where no space does; and the place behind it
+-- the token at the front of b ∷ bs, at the place `at`, where no space is; and the place after it
 unfoldable pub token_at : Bool → ℕ → ℕ → List ℕ → Result (Token × ℕ) ShellFault
 token_at lone_bars at b bs =
     if b == newline then Ok (Newline, at + 1)

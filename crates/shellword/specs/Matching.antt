@@ -13,7 +13,7 @@ pub data Matches : List Piece → List ℕ → Type 0 where
   one_byte : {pieces : List Piece} {rest : List ℕ} (b : ℕ) → Matches pieces rest → Matches (OneByte ∷ pieces) (b ∷ rest)
   byte : {pieces : List Piece} {rest : List ℕ} (b : ℕ) → Matches pieces rest → Matches (Byte b ∷ pieces) (b ∷ rest)
 
--- The text matches one of the patterns.
+-- The text matches one of the patterns (POSIX shell, 2.9.4.3).
 pub data MatchesAny : List (List Piece) → List ℕ → Type 0 where
   this : {pattern : List Piece} {others : List (List Piece)} {text : List ℕ} → Matches pattern text → MatchesAny (pattern ∷ others) text
   another : {pattern : List Piece} {others : List (List Piece)} {text : List ℕ} → MatchesAny others text → MatchesAny (pattern ∷ others) text

@@ -39,12 +39,12 @@ dollar_front at c text =
     else (if stands_alone text then Ok (front (Some (byte_in c dollar)) 1 c)
     else braced_front at c text)
 
--- behind a quote that opens, or that closes
+-- after a quote that opens, or that closes
 abbrev pub quote_context : Context → ℕ → Context
 quote_context Bare b = if b == single_quote then Single else Double
 quote_context c b = Bare
 
--- what stands at the front of b ∷ bs
+-- the front of b ∷ bs
 unfoldable pub front_of : ℕ → Context → ℕ → List ℕ → Result Front ShellFault
 front_of at c b bs =
     if is_special c b then
@@ -58,7 +58,7 @@ front_of at c b bs =
 abbrev pub close : Context → ℕ → Result (List Part × ℕ) ShellFault
 close c at = if is_quoted c then Err (BadWord at) else Ok ([], at)
 
--- The parts up to the end of the word or here text, and the place behind them: at the place `at`, with `skip`
+-- The parts up to the end of the word or here text, and the place after them: at the place `at`, with `skip`
 -- bytes of the last front still to be passed over.
 unfoldable pub scan : ℕ → Context → ℕ → List ℕ → Result (List Part × ℕ) ShellFault
 scan skip c at [] = close c at
@@ -67,7 +67,7 @@ scan zero c at (b ∷ bs) =
     if is_over c (b ∷ bs) then close c at
     else (front_of at c b bs >>= λ f. scan (f.len - 1) f.context (at + 1) bs >>= λ r. Ok (option_to_list f.part ++ r.0, r.1))
 
--- the text as one word, with blanks behind it
+-- the text as one word, and then blanks
 unfoldable pub word_of : List ℕ → Result (List Part) ShellFault
 word_of text = scan 0 Bare 0 text >>= λ r. if list_all is_blank (drop r.1 text) then Ok r.0 else Err (BadWord r.1)
 

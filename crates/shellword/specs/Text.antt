@@ -82,7 +82,7 @@ abbrev pub follows_dollar : ℕ → Bool
 follows_dollar b =
     is_ascii_digit b || b == 64 || b == 42 || b == 35 || b == 63 || b == 33 || b == 45 || b == dollar || b == 40 || b == open_brace
 
--- before this text a `$` is itself (POSIX shell, 2.6, where it is unspecified)
+-- before this text a `$` is itself (POSIX shell, 2.6, leaves it open)
 abbrev pub stands_alone : List ℕ → Bool
 stands_alone [] = true
 stands_alone (b ∷ bs) = not (starts_name b || follows_dollar b)

@@ -8,13 +8,14 @@ abbrev pub or_empty : Option (List ℕ) → List ℕ
 or_empty None = []
 or_empty (Some value) = value
 
--- A byte stands for itself, a variable for its value, which is empty if it is unset and is not read again.
+-- A byte is itself, a variable its value, which is empty if it is unset, and is neither split nor read again
+-- (POSIX shell, 2.6.2; that it is never split is own).
 abbrev pub part_value : List (List ℕ × List ℕ) → Part → List ℕ
 part_value vars (Plain b) = b ∷ []
 part_value vars (Quoted b) = b ∷ []
 part_value vars (Variable name) = or_empty (value_of vars name)
 
--- the values of the parts, joined
+-- the values of the parts, joined (POSIX shell, 2.6)
 unfoldable pub word_value : List Part → List (List ℕ × List ℕ) → List ℕ
 word_value [] vars = []
 word_value (part ∷ parts) vars = part_value vars part ++ word_value parts vars

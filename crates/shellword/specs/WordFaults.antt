@@ -12,8 +12,8 @@ pub data BeginsRefused : List ℕ → Type 0 where
   command : {rest : List ℕ} → BeginsRefused (backquote ∷ rest)
   expansion : {rest : List ℕ} → stands_alone rest ≡ false → ((name after : List ℕ) → IsVariable (dollar ∷ rest) name after → ⊥) → BeginsRefused (dollar ∷ rest)
 
--- A word is refused before this rest of the text: there such a byte stands, also in double quotes; or the text ends in
--- quotes; after any whole parts.
+-- After any whole parts, a word is refused before this rest of the text, which begins with such a byte, also in double
+-- quotes; or the text ends in quotes.
 pub data WordBreaks : List ℕ → List ℕ → Type 0 where
   refused : {text : List ℕ} → BeginsRefused text → WordBreaks text text
   single_open : {inside : List ℕ} → has_no single_quote inside ≡ true → WordBreaks (single_quote ∷ inside) []
@@ -45,7 +45,7 @@ pub record IsBadHere (text : List ℕ) (at : ℕ) : Type 0 where
   pub breaks : HereBreaks text rest
   pub place : BeginsAt at rest text
 
--- what a refusal says of a text, where `Bad` says which places are at fault: memory may run out at any time
+-- a refusal names a place that `Bad` says is at fault, or memory ran out
 abbrev pub IsRefusal : (ℕ → Type 0) → ShellFault → Type 0
 IsRefusal Bad (BadWord at) = Bad at
 IsRefusal Bad OutOfMemory = Unit {0}

@@ -30,7 +30,7 @@ pub enum Condition {
 /// An element of a test: a condition, or a condition that must not hold.
 #[derive(Debug, Drop)]
 pub struct Element {
-    /// Whether an odd number of `!` stands before the condition.
+    /// Whether an odd number of `!` is before the condition.
     pub negated: bool,
     pub condition: Condition,
 }

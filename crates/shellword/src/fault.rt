@@ -9,7 +9,7 @@ use thiserror::Error;
 /// What is wrong with a shell text, and the place of the byte at fault, counted from 0.
 #[derive(Clone, Copy, Debug, PartialEq, Eq, Error)]
 pub enum ShellFault {
-    /// A word is not one that is read here (POSIX shell, 2.2 and 2.6; own where it refuses more).
+    /// A word is not one that is read here (POSIX shell, 2.2 and 2.6; what else is refused is own).
     #[error("1 at {0}")]
     BadWord(usize),
     /// The words are no test.

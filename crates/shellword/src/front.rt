@@ -1,4 +1,4 @@
-//! What stands at the front of a shell text.
+//! The front of a shell text.
 
 ghost use Rattle.std.specs.Prelude.{◌≡◌, ◌+◌, ◌<◌, ◌≤◌, ◌∷◌, Some, None, length, IfOk, IfErr};
 ghost use Rattle.std.specs.List.{prefix_len};
@@ -16,7 +16,7 @@ use crate::part::Part;
 use deftable::Bytes;
 use std::alloc::Global;
 
-/// Where a byte stands, which says how it is read.
+/// Where a byte is, which says how it is read.
 #[derive(Clone, Copy)]
 pub(crate) enum Context {
     /// In a word, outside quotes.
@@ -29,7 +29,7 @@ pub(crate) enum Context {
     Here,
 }
 
-/// What stands at the front of a text: the part that it leaves, if any, its length, and where the next byte stands.
+/// The front of a text: the part that it leaves, if any, its length, and where the next byte is.
 #[derive(Drop)]
 pub(crate) struct Front {
     pub(crate) part: Option<Part>,
@@ -67,7 +67,7 @@ fn name_len(text: &[u8]) -> usize
     }
 }
 
-/// Whether the byte is more than itself where it stands.
+/// Whether the byte is more than itself there.
 fn is_special(context: Context, byte: u8) -> bool
     ensures { result ≡ is_special context byte }
 {
@@ -102,7 +102,7 @@ fn byte_in(context: Context, byte: u8) -> Part
     }
 }
 
-/// What a byte behind a backslash leaves: itself, but nothing for a newline in a here text.
+/// What a byte after a backslash leaves: itself, but nothing for a newline in a here text.
 fn escaped_part(context: Context, byte: u8) -> Option<Part>
     ensures { result ≡ escaped_part context byte }
 {
@@ -224,7 +224,7 @@ fn read_dollar(alloc: Global, at: usize, context: Context, rest: &[u8]) -> Resul
     }
 }
 
-/// Where the next byte stands behind a quote that opens or closes.
+/// Where the byte after a quote is, which opens or closes.
 fn quote_context(context: Context, byte: u8) -> Context
     ensures { result ≡ quote_context context byte }
 {
@@ -236,7 +236,7 @@ fn quote_context(context: Context, byte: u8) -> Context
 }
 
 #[tactic(auto, unfolding(crate::specs::Scan::front_of))]
-/// What stands at the front of a text that begins with `byte` at the place `at`, and goes on with `rest`.
+/// Reads the front of a text that begins with `byte` at the place `at`, and goes on with `rest`.
 pub(crate) fn read_front(
     alloc: Global,
     at: usize,

@@ -11,14 +11,17 @@
 //! patterns[1].matches(b"bc")                         // true
 //! ```
 //!
-//! Read `part`, then `front` (what one byte or a few of them mean, by where they stand), `run` (one word or here text),
+//! Read `part`, then `front` (what one byte or a few of them are, by where they are), `run` (one word or here text),
 //! `word` and `here`; then `token` (a text cut into words, joints, bars and newlines), `element` and `test`; then
-//! `pattern`, `matching` and `alternatives`. Beside them stand the definitions: `specs/Word` (the grammar of words and here texts),
-//! `specs/Tokens`, `specs/Element`, `specs/Test` and `specs/Pattern`; `specs/Value`, `specs/Truth` and
-//! `specs/Matching` say what is meant by what was read. `readings` has the laws that tie the grammars to the readings
-//! as functions (`word_of`, `word_front_of`, `here_of`, `test_of`, `patterns_of`).
+//! `pattern`, `matching` and `alternatives`.
 //!
-//! What a shell would do beyond this is refused, never done otherwise: parameters and expansions behind `$`, command
+//! The grammars are `specs/Word` (words and here texts), `specs/WordFaults` (where they are refused), `specs/Tokens`,
+//! `specs/Element`, `specs/Test` and `specs/Pattern`. `specs/Value`, `specs/Truth` and `specs/Matching` define the value
+//! of a word, the truth of a test and the texts that a pattern matches. `specs/Scan`, `specs/Cut`, `specs/Joining`,
+//! `specs/Listing` and `specs/Matcher` are the readers and the matcher as functions, and `readings` has the laws that
+//! tie both together. `proofs/Rows` computes worked examples.
+//!
+//! What a shell would do beyond this is refused, never done otherwise: other parameters and expansions after `$`, command
 //! substitution, redirections, bracket expressions and variables in patterns, and the other forms of `test`.
 //! A value is never split into fields, read again or expanded to file names.
 #![tactic(auto)]
@@ -44,7 +47,9 @@ pub use fault::ShellFault;
 pub use here::{HereText, read_here};
 pub use part::Part;
 pub use pattern::{Pattern, Piece, read_patterns};
-pub use readings::{faults_are_placed, one_reading, readings_are_exact, refusals_are_exact, tests_have_no_bars};
+pub use readings::{
+    faults_are_placed, one_reading, readings_are_exact, refusals_are_exact, tests_have_no_bars,
+};
 pub use test::{Test, read_test};
 pub use token::Joint;
 pub use word::{Word, read_word, read_word_front};

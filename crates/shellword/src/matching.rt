@@ -37,14 +37,14 @@ fn next_step(pieces: &[Piece], text: &[u8]) -> Step
     }
 }
 
-/// Whether the pieces match all of the text. Where it is stuck, the matcher goes back to the last `*`, which takes one
+/// Whether the pieces match all of the text. If it is stuck, the matcher goes back to the last `*`, which takes one
 /// byte more; it never has to go back to one before that.
 pub(crate) fn match_pieces(pieces: &[Piece], text: &[u8]) -> bool
     ensures { result ≡ matching pieces.now text.now }
 {
     let mut piece = 0;
     let mut at = 0;
-    // Behind the last `*`: the place of the next piece, and where the text for it begins.
+    // After the last `*`: the place of the next piece, and where the text for it begins.
     let mut star: Option<(usize, usize)> = None;
     'steps: loop {
         match next_step(&pieces[piece..], &text[at..]) {

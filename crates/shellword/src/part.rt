@@ -5,7 +5,7 @@ use deftable::Bytes;
 /// A part of a word or of a here text.
 #[derive(Debug, Drop)]
 pub enum Part {
-    /// A byte as it stands, outside quotes.
+    /// A byte outside quotes, which no backslash quotes.
     Plain(u8),
     /// A byte that quotes or a backslash make ordinary.
     Quoted(u8),

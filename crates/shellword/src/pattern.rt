@@ -152,12 +152,19 @@ fn read_whole(alloc: Global, text: &[u8]) -> Result<Vec<Pattern>, ShellFault>
 }
 
 /// Reads a list of patterns (POSIX shell, 2.9.4.3 and 2.14): alternatives with `|` between them and spaces and tabs
-/// round them. `*` matches any bytes and `?` one byte, where they are not quoted; all else matches itself.
+/// round them. If they are not quoted, `*` matches any bytes and `?` one byte. All else matches itself.
 ///
-/// Refused are a text whose quotes, backslashes and `$` no word has, a variable, an unquoted bracket, parenthesis,
-/// `;`, `&`, `<` or `>`, an unquoted blank within an alternative, an unquoted newline anywhere, and an alternative
-/// without any byte (`''` has two and matches the empty text). Where a word is refused, its byte is at fault, else the
-/// start of the alternative.
+/// # Errors
+///
+/// Returns [`ShellFault::BadPattern`] with the place of the first of these, if the text has any: a backquote or a `$` that
+/// [`read_word`](crate::read_word) refuses too; outside quotes, one of `;`, `<`, `>`, `(` and `)`, or an `&` alone; the end
+/// of the text, if a quote is open there.
+///
+/// Otherwise, returns [`ShellFault::BadPattern`] for the first alternative that has a variable, an unquoted bracket, an
+/// unquoted blank within it, an unquoted newline, `&&` or `||`, or no byte (`''` has two, and matches the empty text). The
+/// place is that after the bar before it, or 0.
+///
+/// Returns [`ShellFault::OutOfMemory`] if memory runs out.
 pub fn read_patterns(alloc: Global, text: &[u8]) -> Result<Vec<Pattern>, ShellFault>
     // The reading, as a function of the text.
     ensures exact { Gives (λ v. v.items) result (patterns_of text.now) }

@@ -37,7 +37,7 @@ pub fn one_reading()
 {}
 
 /// The fault of a reading is the one of its kind, at a place of the text or its end. A test has that of a word exactly
-/// where a word is refused.
+/// if a word of it is refused.
 pub fn faults_are_placed()
     ensures word { (text : List ℕ) (f : ShellFault) → word_of text ≡ Err f → (at : ℕ) × (f ≡ BadWord at) × (at ≤ length text) }
     ensures front { (text : List ℕ) (f : ShellFault) → word_front_of text ≡ Err f → (at : ℕ) × (f ≡ BadWord at) × (at ≤ length text) }
@@ -46,8 +46,8 @@ pub fn faults_are_placed()
     ensures patterns { (text : List ℕ) (f : ShellFault) → patterns_of text ≡ Err f → (at : ℕ) × (f ≡ BadPattern at) × (at ≤ length text) }
 {}
 
-/// The reading of a text, as a function, refuses a word, a word at the front and a here text exactly where the text has
-/// none, at the place at fault.
+/// The reading of a text, as a function, is refused exactly if the grammar has no word, no word at the front or no here
+/// text there, and its fault has the place that the grammar names.
 pub fn refusals_are_exact()
     ensures word { (text : List ℕ) (at : ℕ) → (word_of text ≡ Err (BadWord at)) ↔ IsBadWord text at }
     ensures front { (text : List ℕ) (at : ℕ) → (word_front_of text ≡ Err (BadWord at)) ↔ IsBadFront text at }

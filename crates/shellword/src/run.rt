@@ -62,7 +62,7 @@ fn push_part(parts: &mut Vec<Part>, part: Option<Part>) -> Result<(), ShellFault
     Ok(())
 }
 
-/// The parts from `start` up to the end of the word or here text, and the place behind them.
+/// The parts from `start` up to the end of the word or here text, and the place after them.
 pub(crate) fn read_run(
     alloc: Global,
     text: &[u8],

@@ -177,12 +177,19 @@ fn read_whole(alloc: Global, text: &[u8]) -> Result<Test, ShellFault>
 }
 
 /// Reads a test: elements joined by `&&` and `||`, of equal rank from the left, with newlines at both ends and
-/// behind a joint. An element is `:`, `true`, `false`, `test` with one to four words, or `!` before an element
+/// after a joint. An element is `:`, `true`, `false`, `test` with one to four words, or `!` before an element
 /// (POSIX shell, 2.9.3, and `test` by the number of its words).
 ///
-/// A text with a word that `read_word` would refuse is `BadWord` at the byte at fault, also where `;`, or one `&`
-/// or `|` alone, stands outside quotes; any other text that is no test is `BadTest`, at the start of the element
-/// at fault, behind the joint before it.
+/// # Errors
+///
+/// Returns [`ShellFault::BadWord`] with the place of the first of these, if the text has any: a backquote or a `$` that
+/// [`read_word`](crate::read_word) refuses too; outside quotes, one of `;`, `<`, `>`, `(` and `)`, or an `&` or `|` alone;
+/// the end of the text, if a quote is open there.
+///
+/// Otherwise, returns [`ShellFault::BadTest`] if the words and joints are no test. The place is that after the joint before
+/// the element at fault, or 0.
+///
+/// Returns [`ShellFault::OutOfMemory`] if memory runs out.
 pub fn read_test(alloc: Global, text: &[u8]) -> Result<Test, ShellFault>
     // The reading, as a function of the text.
     ensures exact { Gives (λ t. t) result (test_of text.now) }
@@ -190,7 +197,7 @@ pub fn read_test(alloc: Global, text: &[u8]) -> Result<Test, ShellFault>
     ensures found { IfOk result (IsTest text.now) }
     // A test is read, unless memory runs out.
     ensures only { (test : Joined) → IsTest text.now test → Gives (λ t. t) result (Ok test) }
-    // Which of the two faults is answered, and where.
+    // Which of the two faults is answered, and its place.
     ensures fault { IfErr result (IsFaultOfTest text.now) }
 {
     read_whole(alloc, text)

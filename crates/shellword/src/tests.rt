@@ -14,7 +14,7 @@ fn variables(alloc: Global) -> Result<Vars, AllocError> {
     Ok(vars)
 }
 
-/// A fault as it is printed, behind a `!`.
+/// A fault as it is printed, after a `!`.
 fn printed(alloc: Global, fault: ShellFault) -> Result<Bytes, AllocError> {
     let text = format!(in alloc; "!{fault}")?;
     Bytes::from_slice(alloc, text.as_bytes())

@@ -14,7 +14,7 @@ use crate::word::Word;
 use std::alloc::Global;
 use std::collections::VecDeque;
 
-/// How a test and the element behind it are joined.
+/// How a test and the element after it are joined.
 #[derive(Clone, Copy, Debug, PartialEq, Eq)]
 pub enum Joint {
     /// `&&`: both hold.
@@ -23,7 +23,7 @@ pub enum Joint {
     Or,
 }
 
-/// A word, or what stands between words; with a joint and a bar goes the place behind it.
+/// A word, or what is between words. A joint and a bar have the place after them.
 #[derive(Drop)]
 pub(crate) enum Token {
     Word(Word),
@@ -47,7 +47,7 @@ fn is_space(byte: u8) -> bool
     byte == b' ' || byte == b'\t'
 }
 
-/// An ampersand at `at`: two of them are a joint, one is none; and the place behind it.
+/// An ampersand at `at`: two of them are a joint, one is none; and the place after it.
 fn read_ampersand(text: &[u8], at: usize) -> Result<(Token, usize), ShellFault>
     requires { at < length text.now }
     ensures value { Gives (λ r. (r.0, r.1)) result (ampersand_at at (drop (at + 1) text.now)) }
@@ -61,7 +61,7 @@ fn read_ampersand(text: &[u8], at: usize) -> Result<(Token, usize), ShellFault>
     }
 }
 
-/// A bar at `at`: two of them are a joint, one may be a token too; and the place behind it.
+/// A bar at `at`: two of them are a joint, one may be a token too; and the place after it.
 fn read_bar(text: &[u8], at: usize, lone_bars: bool) -> Result<(Token, usize), ShellFault>
     requires { at < length text.now }
     ensures value { Gives (λ r. (r.0, r.1)) result (bar_at lone_bars at (drop (at + 1) text.now)) }
@@ -77,7 +77,7 @@ fn read_bar(text: &[u8], at: usize, lone_bars: bool) -> Result<(Token, usize), S
     }
 }
 
-/// The word at `at`, where no blank and no operator stands; and the place behind it.
+/// The word at `at`, where no blank and no operator is; and the place after it.
 fn read_word_at(alloc: Global, text: &[u8], at: usize) -> Result<(Token, usize), ShellFault>
     requires within { at < length text.now }
     requires word { ends_word (slice_index text.now at) ≡ false }
@@ -90,7 +90,7 @@ fn read_word_at(alloc: Global, text: &[u8], at: usize) -> Result<(Token, usize),
 }
 
 #[tactic(auto, unfolding(crate::specs::Cut::token_at))]
-/// What stands at `at`, where no space does; and the place behind it.
+/// The token at `at`, where no space is; and the place after it.
 fn read_token(
     alloc: Global,
     text: &[u8],

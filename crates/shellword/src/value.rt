@@ -8,7 +8,7 @@ use crate::part::Part;
 use deftable::{Bytes, Vars};
 use std::alloc::{AllocError, Global};
 
-/// Puts a variable's value behind `out`: nothing, if it is unset.
+/// Appends a variable's value to `out`: nothing, if it is unset.
 fn push_variable(out: &mut Vec<u8>, name: &Bytes, vars: &Vars) -> Result<(), AllocError>
     ensures { OnOk result (out.new.items ≡ out.old.items ++ part_value vars.now (Variable name.now)) }
 {
