@@ -13,9 +13,10 @@ use Rattle.baretext.specs.declared.fault.BareFault.{BareFault}
 use Rattle.baretext.specs.declared.fault.BareFault.TheVariants.{UnknownStatement, Shell, OutOfMemory}
 use Rattle.baretext.specs.declared.item.Stage.{Stage}
 use Rattle.baretext.specs.declared.item.Stage.TheVariants.{Opening, Assigned, Closed}
-use Rattle.baretext.specs.Continuation.{hash, joined}
+use Rattle.baretext.specs.Joining.{joined}
+use Rattle.baretext.specs.Text.{hash, colon, equals}
 use Rattle.baretext.specs.Faults.{IsReadingFault}
-use Rattle.baretext.specs.Statements.{colon, equals, assigns, item}
+use Rattle.baretext.specs.Statements.{assigns, item}
 use Rattle.baretext.specs.Reading.{◌>>=◌, word_fault, placed, value_at, assignment_at, shell_word_at, item_of, statements_from, statements_of}
 use Rattle.baretext.proofs.Outcome.{chosen, passed, fault_is, bind_err}
 use Rattle.baretext.proofs.Fronts.{begins, read-item, item-len}

@@ -13,12 +13,11 @@ use Rattle.shellword.specs.Text.{newline, semicolon, is_space, is_parted, begins
 use Rattle.shellword.specs.Scan.{word_front_of}
 use Rattle.shellword.specs.Word.{IsWordFront}
 use Rattle.shellword.proofs.Laws.{front_reading}
-use Rattle.shellword.proofs.TokenReading.{run-len}
 use Rattle.baretext.specs.declared.item.Item.{Item}
 use Rattle.baretext.specs.declared.item.Stage.{Stage}
 use Rattle.baretext.specs.declared.item.Stage.TheVariants.{Opening, Assigned, Closed}
-use Rattle.baretext.specs.Continuation.{hash}
-use Rattle.baretext.specs.Statements.{colon, equals, takes_assignments, assigns, item, nothing, IsItem, space, line_end, parted, comment, lone_colon, assignment}
+use Rattle.baretext.specs.Text.{hash, colon, equals}
+use Rattle.baretext.specs.Statements.{takes_assignments, assigns, item, nothing, IsItem, space, line_end, parted, comment, lone_colon, assignment}
 use Rattle.baretext.specs.Reading.{◌>>=◌, placed, value_at, assignment_at, shell_word_at, item_of}
 use Rattle.baretext.proofs.Outcome.{chosen, failed, ok_is, bind_ok}
 
@@ -36,7 +35,7 @@ start_among false false d false h = absurd cc
 start-continues : (b : ℕ) → starts_name b ≡ true → continues_name b ≡ true
 start-continues b h = start_among (is_in_range 65 90 b) (is_in_range 97 122 b) (is_in_range 48 57 b) (b == 95) h
 
-name_all : (name : List ℕ) → IsShellName name → list_all continues_name name ≡ true
+pub name_all : (name : List ℕ) → IsShellName name → list_all continues_name name ≡ true
 name_all [] h = refl
 name_all (b ∷ bs) h =
     let both = and_parts (starts_name b) (list_all continues_name bs) h in
@@ -184,4 +183,4 @@ item-len line_end = (omega arith, omega arith)
 item-len parted = (omega arith, omega arith)
 item-len (comment {stage} {rest}) = (omega arith, omega (arith, prefix_len-le-length (λ b. not (b == newline)) rest))
 item-len (lone_colon h) = (omega arith, omega arith)
-item-len (assignment {stage} {name} {rest} {parts} {n} takes form h) = (omega arith, omega (arith, length-append name (equals ∷ rest), run-len h.word))
+item-len (assignment {stage} {name} {rest} {parts} {n} takes form h) = (omega arith, omega (arith, length-append name (equals ∷ rest), h.place))

@@ -6,7 +6,8 @@ use Rattle.shellword.specs.Text.{backslash, newline}
 use Rattle.baretext.specs.declared.continuation.Place.{Place}
 use Rattle.baretext.specs.declared.continuation.Place.TheVariants.{Start}
 use Rattle.baretext.specs.declared.continuation.State.{State}
-use Rattle.baretext.specs.Continuation.{escapes, behind, behind_quoted, IsJoined, at_end, continued, quoted, last, other, state, written, next, left, joined_from, joined}
+use Rattle.baretext.specs.Continuation.{escapes, behind, behind_quoted, IsJoined, at_end, continued, quoted, last, other}
+use Rattle.baretext.specs.Joining.{state, written, next, left, joined_from, joined}
 
 joined-read : {p : Place} {text out : List ℕ} → IsJoined p text out → joined_from (state p false) text ≡ out
 unfolding joined_from

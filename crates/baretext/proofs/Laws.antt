@@ -2,7 +2,7 @@
 use Rattle.std.proofs.Common.{◌≡◌, ℕ, List, Ok, ◌↔◌, refl, ap, ◌∙◌, arith}
 use Rattle.baretext.specs.declared.assignments.Assignment.{Assignment}
 use Rattle.baretext.specs.declared.item.Stage.TheVariants.{Opening}
-use Rattle.baretext.specs.Continuation.{joined}
+use Rattle.baretext.specs.Joining.{joined}
 use Rattle.baretext.specs.Statements.{IsBareText}
 use Rattle.baretext.specs.Reading.{statements_from, statements_of}
 use Rattle.baretext.proofs.Joining.{joined_reading}

@@ -3,5 +3,7 @@ pub mod Fronts
 pub mod Joining
 pub mod Laws
 pub mod Outcome
+pub mod Quotes
 pub mod Refusals
+pub mod Rows
 pub mod Scans

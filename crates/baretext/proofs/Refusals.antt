@@ -10,17 +10,18 @@ use Rattle.shellword.specs.declared.fault.ShellFault.TheVariants.{BadWord}
 use Rattle.shellword.specs.declared.fault.ShellFault.TheVariants as words
 use Rattle.shellword.specs.Text.{newline, semicolon, is_space, is_parted, begins_with}
 use Rattle.shellword.specs.Scan.{word_front_of}
-use Rattle.shellword.proofs.Laws.{front_faults}
+use Rattle.shellword.proofs.Laws.{front_faults, front_refusal}
 use Rattle.baretext.specs.declared.assignments.Assignment.{Assignment}
 use Rattle.baretext.specs.declared.fault.BareFault.{BareFault}
 use Rattle.baretext.specs.declared.fault.BareFault.TheVariants.{UnknownStatement, Shell, OutOfMemory}
 use Rattle.baretext.specs.declared.item.Item.{Item}
 use Rattle.baretext.specs.declared.item.Stage.{Stage}
 use Rattle.baretext.specs.declared.item.Stage.TheVariants.{Opening, Assigned, Closed}
-use Rattle.baretext.specs.Continuation.{hash, joined}
+use Rattle.baretext.specs.Joining.{joined}
+use Rattle.baretext.specs.Text.{hash, colon, equals}
 use Rattle.baretext.specs.Gives.{Gives, Fails}
 use Rattle.baretext.specs.Refused.{IsNamed, IsFirstFault, unknown, refused_word, behind, IsFaultOfText, IsRefused}
-use Rattle.baretext.specs.Statements.{colon, equals, takes_assignments, assigns, item, IsItem}
+use Rattle.baretext.specs.Statements.{takes_assignments, assigns, item, IsItem}
 use Rattle.baretext.specs.Reading.{◌>>=◌, word_fault, placed, value_at, assignment_at, shell_word_at, item_of, statements_from, statements_of}
 use Rattle.baretext.proofs.Outcome.{chosen, failed, passed, fault_is, bind_err}
 use Rattle.baretext.proofs.Fronts.{begins, item-read, read-item, item-len, named-read, assignment-named}
@@ -122,7 +123,7 @@ item-refused stage at b bs f e =
       | inl is ↦
           let u : item_of stage at (b ∷ bs) ≡ Err (UnknownStatement at) = e ∙ ap (λ (g : BareFault). Err g) (sym is) in
           subst (IsFirstFault stage at (b ∷ bs)) is (unknown (omega arith) (λ i h. failed (sym u ∙ item-read h at)) (λ name value h. not-named stage at (b ∷ bs) name value u h))
-      | inr r ↦ subst (IsFirstFault stage at (b ∷ bs)) r.is (refused_word r.named r.refused)
+      | inr r ↦ subst (IsFirstFault stage at (b ∷ bs)) r.is (refused_word r.named ((front_refusal r.value r.k).0 r.refused))
     ]
 
 statements-refused : (k : ℕ) (stage : Stage) (at : ℕ) (text : List ℕ) (f : BareFault) → k ≤ length text → statements_from k stage at text ≡ Err f
@@ -179,7 +180,7 @@ first-refused (unknown {stage} {at} {text} some no_item no_name) = by_text text 
   by_text (b ∷ bs) some no_item no_name = item_failed stage at (b ∷ bs) (UnknownStatement at) some (refused-unknown stage at b bs (item_of stage at (b ∷ bs)) refl no_item no_name)
 first-refused (refused_word {stage} {at} {k} {text} {name} {value} h refused) =
     item_failed stage at text (Shell (BadWord (at + (length name + 1) + k))) (named_some stage text name value h)
-    (item-named stage at text name value h ∙ ap (λ r. placed (at + (length name + 1)) r >>= λ w. Ok (item (Some (assigns name w.0)) (length name + 1 + w.1) Assigned)) refused)
+    (item-named stage at text name value h ∙ ap (λ r. placed (at + (length name + 1)) r >>= λ w. Ok (item (Some (assigns name w.0)) (length name + 1 + w.1) Assigned)) ((front_refusal value k).1 refused))
 first-refused (behind {stage} {at} {text} {i} {f} h rest) =
     let len = item-len h in
     item_first stage at text i (omega (arith, len.0, len.1)) (item-read h at) len.0 len.1 ∙ ap (with_list (option_to_list i.assignment)) (first-refused rest)

@@ -1,6 +1,9 @@
 pub mod Continuation
 pub mod Faults
 pub mod Gives
+pub mod Joining
+pub mod Kept
 pub mod Reading
 pub mod Refused
 pub mod Statements
+pub mod Text

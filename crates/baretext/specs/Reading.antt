@@ -14,26 +14,27 @@ use Rattle.baretext.specs.declared.fault.BareFault.TheVariants.{UnknownStatement
 use Rattle.baretext.specs.declared.item.Item.{Item}
 use Rattle.baretext.specs.declared.item.Stage.{Stage}
 use Rattle.baretext.specs.declared.item.Stage.TheVariants.{Opening, Assigned, Closed}
-use Rattle.baretext.specs.Continuation.{hash, joined}
-use Rattle.baretext.specs.Statements.{colon, equals, comment_len, assigns, item, nothing}
+use Rattle.baretext.specs.Joining.{joined}
+use Rattle.baretext.specs.Statements.{assigns, item, nothing}
+use Rattle.baretext.specs.Text.{hash, colon, equals, comment_len}
 
 infixl 10 ◌>>=◌
 abbrev pub ◌>>=◌ : {A B : Type 0} → Result A BareFault → (A → Result B BareFault) → Result B BareFault
 (Ok x) >>= f = f x
 (Err e) >>= f = Err e
 
--- the fault of a word that stands at the place `start`
+-- the fault of a word at the place `start`
 abbrev pub word_fault : ℕ → ShellFault → BareFault
 word_fault start (BadWord at) = Shell (BadWord (start + at))
 word_fault start words.OutOfMemory = OutOfMemory
 word_fault start f = Shell f
 
--- what was read of a word that stands at the place `start`
+-- what was read of a word at the place `start`
 abbrev pub placed : {A : Type 0} → ℕ → Result A ShellFault → Result A BareFault
 placed start (Ok x) = Ok x
 placed start (Err f) = Err (word_fault start f)
 
--- the word at the front of this text, which stands at the place `start`; and its length
+-- the word at the front of this text, which is at the place `start`; and its length
 abbrev pub value_at : ℕ → List ℕ → Result (List Part × ℕ) BareFault
 value_at start text = placed start (word_front_of text)
 
@@ -57,7 +58,7 @@ shell_word_at Assigned at text = assignment_at at text
 shell_word_at Opening at [] = assignment_at at []
 shell_word_at Opening at (b ∷ bs) = if b == colon then (if is_parted bs then Ok (nothing 1 Closed) else assignment_at at (b ∷ bs)) else assignment_at at (b ∷ bs)
 
--- what stands at the front of this text, which stands at the place `at`
+-- the front of this text, which is at the place `at`
 unfoldable pub item_of : Stage → ℕ → List ℕ → Result Item BareFault
 item_of stage at [] = shell_word_at stage at []
 item_of stage at (b ∷ bs) =

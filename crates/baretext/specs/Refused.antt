@@ -1,8 +1,8 @@
--- Which fault bare text has that makes no assignments: the first from the left.
-use Rattle.std.specs.Prelude.{◌≡◌, ℕ, ◌+◌, ◌<◌, true, List, ◌∷◌, ◌++◌, length, drop, Err}
+-- Which fault bare text has that makes no assignments: the first from the left (own).
+use Rattle.std.specs.Prelude.{◌≡◌, ℕ, ◌+◌, ◌<◌, true, List, ◌∷◌, ◌++◌, length, drop}
 use Rattle.deftable.specs.ShellName.{IsShellName}
 use Rattle.shellword.specs.declared.fault.ShellFault.TheVariants.{BadWord}
-use Rattle.shellword.specs.Scan.{word_front_of}
+use Rattle.shellword.specs.WordFaults.{IsBadFront}
 use Rattle.baretext.specs.declared.continuation.Place.TheVariants.{Start}
 use Rattle.baretext.specs.declared.fault.BareFault.{BareFault}
 use Rattle.baretext.specs.declared.fault.BareFault.TheVariants.{UnknownStatement, Shell, OutOfMemory}
@@ -10,34 +10,35 @@ use Rattle.baretext.specs.declared.item.Item.{Item}
 use Rattle.baretext.specs.declared.item.Stage.{Stage}
 use Rattle.baretext.specs.declared.item.Stage.TheVariants.{Opening}
 use Rattle.baretext.specs.Continuation.{IsJoined}
-use Rattle.baretext.specs.Statements.{equals, takes_assignments, IsItem}
+use Rattle.baretext.specs.Statements.{takes_assignments, IsItem}
+use Rattle.baretext.specs.Text.{equals}
 
--- A text begins with a name and `=`, where an assignment may stand.
+-- A text begins with a name and `=`, and an assignment may be there (POSIX shell, 2.9.1).
 pub record IsNamed (stage : Stage) (text name value : List ℕ) : Type 0 where
   pub takes : takes_assignments stage ≡ true
   pub form : IsShellName name
   pub begins : name ++ equals ∷ value ≡ text
 
--- A text without line continuations, of which a statement is read so far and which stands at the place `at`, has this
--- fault first.
+-- A text without line continuations, of which a statement is read so far and which is at the place `at`, has this fault
+-- first (own).
 pub data IsFirstFault : Stage → ℕ → List ℕ → BareFault → Type 0 where
   -- neither an item begins here nor `NAME=`
   unknown : {stage : Stage} {at : ℕ} {text : List ℕ} → 0 < length text → ((i : Item) → IsItem stage text i → ⊥) → ((name value : List ℕ) → IsNamed stage text name value → ⊥)
       → IsFirstFault stage at text (UnknownStatement at)
-  -- the word behind `NAME=` is refused
-  refused_word : {stage : Stage} {at k : ℕ} {text name value : List ℕ} → IsNamed stage text name value → word_front_of value ≡ Err (BadWord k)
+  -- no word is at the front of what follows `NAME=`
+  refused_word : {stage : Stage} {at k : ℕ} {text name value : List ℕ} → IsNamed stage text name value → IsBadFront value k
       → IsFirstFault stage at text (Shell (BadWord (at + (length name + 1) + k)))
-  -- the fault is behind an item
+  -- the fault is after an item
   behind : {stage : Stage} {at : ℕ} {text : List ℕ} {i : Item} {f : BareFault} → IsItem stage text i → IsFirstFault i.stage (at + i.len) (drop i.len text) f
       → IsFirstFault stage at text f
 
--- Bare text has this fault.
+-- Bare text has this fault (own).
 pub record IsFaultOfText (text : List ℕ) (f : BareFault) : Type 0 where
   pub lines : List ℕ
   pub joined : IsJoined Start text lines
   pub first : IsFirstFault Opening 0 lines f
 
--- the fault of an answer: that of the text, or want of memory
+-- the fault of an answer: that of the text, or memory ran out
 abbrev pub IsRefused : List ℕ → BareFault → Type 0
 IsRefused text OutOfMemory = Unit {0}
 IsRefused text f = IsFaultOfText text f

@@ -1,6 +1,5 @@
--- Which assignments bare text makes.
-use Rattle.std.specs.Prelude.{◌≡◌, ℕ, ◌+◌, Bool, true, false, not, List, [], ◌∷◌, ◌++◌, ◌==◌, length, drop, Option, Some, None, option_to_list}
-use Rattle.std.specs.List.{prefix_len}
+-- Which assignments bare text makes (POSIX shell, 2.9.1, as far as it assigns).
+use Rattle.std.specs.Prelude.{◌≡◌, ℕ, ◌+◌, Bool, true, false, List, [], ◌∷◌, ◌++◌, length, drop, Option, Some, None, option_to_list}
 use Rattle.deftable.specs.ShellName.{IsShellName}
 use Rattle.shellword.specs.declared.part.Part.{Part}
 use Rattle.shellword.specs.Text.{newline, semicolon, is_space, is_parted}
@@ -10,19 +9,10 @@ use Rattle.baretext.specs.declared.continuation.Place.TheVariants.{Start}
 use Rattle.baretext.specs.declared.item.Item.{Item}
 use Rattle.baretext.specs.declared.item.Stage.{Stage}
 use Rattle.baretext.specs.declared.item.Stage.TheVariants.{Opening, Assigned, Closed}
-use Rattle.baretext.specs.Continuation.{hash, IsJoined}
+use Rattle.baretext.specs.Continuation.{IsJoined}
+use Rattle.baretext.specs.Text.{hash, colon, equals, comment_len}
 
-abbrev pub colon : ℕ
-colon = 58
-
-abbrev pub equals : ℕ
-equals = 61
-
--- how many bytes stand before the end of the line
-abbrev pub comment_len : List ℕ → ℕ
-comment_len text = prefix_len (λ b. not (b == newline)) text
-
--- Behind a lone colon no assignment begins.
+-- After a lone colon no assignment begins (own).
 abbrev pub takes_assignments : Stage → Bool
 takes_assignments Closed = false
 takes_assignments stage = true
@@ -37,7 +27,7 @@ abbrev pub nothing : ℕ → Stage → Item
 nothing len stage = item None len stage
 
 -- A text without line continuations, of which a statement is read so far, begins with this: an assignment or none, of
--- this length, and how far the statement is read behind it.
+-- this length, and how far the statement is read after it (POSIX shell, 2.3, 2.9.1 and 2.10.2; what else is refused is own).
 pub data IsItem : Stage → List ℕ → Item → Type 0 where
   -- a space or tab
   space : {stage : Stage} {b : ℕ} {rest : List ℕ} → is_space b ≡ true → IsItem stage (b ∷ rest) (nothing 1 stage)
@@ -52,13 +42,13 @@ pub data IsItem : Stage → List ℕ → Item → Type 0 where
   assignment : {stage : Stage} {name rest : List ℕ} {parts : List Part} {n : ℕ} → takes_assignments stage ≡ true → IsShellName name → IsWordFront rest parts n
       → IsItem stage (name ++ equals ∷ rest) (item (Some (assigns name parts)) (length name + 1 + n) Assigned)
 
--- A text without line continuations, of which a statement is read so far, makes these assignments.
+-- A text without line continuations, of which a statement is read so far, makes these assignments (POSIX shell, 2.9.1).
 pub data AreStatements : Stage → List ℕ → List Assignment → Type 0 where
   no_more : {stage : Stage} → AreStatements stage [] []
   more : {stage : Stage} {text : List ℕ} {i : Item} {list : List Assignment} → IsItem stage text i → AreStatements i.stage (drop i.len text) list
       → AreStatements stage text (option_to_list i.assignment ++ list)
 
--- Bare text makes these assignments.
+-- Bare text makes these assignments (POSIX shell, 2.2.1 and 2.9.1).
 pub record IsBareText (text : List ℕ) (list : List Assignment) : Type 0 where
   pub lines : List ℕ
   pub joined : IsJoined Start text lines

@@ -1,7 +1,9 @@
 //! Line continuations, which vanish before statements are read.
 
 ghost use Rattle.std.specs.Prelude.{◌≡◌, ◌++◌, ◌≤◌, length, IfOk, OnOk};
-ghost use Rattle.baretext.specs.Continuation as specs;
+ghost use Rattle.baretext.specs.Continuation as places;
+ghost use Rattle.baretext.specs.Joining as joining;
+ghost use Rattle.baretext.specs.Text as bytes;
 
 use std::alloc::{AllocError, Global};
 
@@ -29,14 +31,14 @@ pub(crate) struct State {
 
 /// Whether a blank or `;` parts bare text here, outside quotes.
 fn is_part_end(byte: u8) -> bool
-    ensures { result ≡ specs.is_part_end byte }
+    ensures { result ≡ bytes.is_part_end byte }
 {
     byte == b' ' || byte == b'\t' || byte == b'\n' || byte == b';'
 }
 
 /// Whether a backslash at this place quotes the byte behind it.
 fn escapes(place: Place) -> bool
-    ensures { result ≡ specs.escapes place }
+    ensures { result ≡ places.escapes place }
 {
     match place {
         Place::Start | Place::Word | Place::Double => true,
@@ -46,7 +48,7 @@ fn escapes(place: Place) -> bool
 
 /// Where the next byte stands behind one outside quotes.
 fn behind_bare(byte: u8) -> Place
-    ensures { result ≡ specs.behind_bare byte }
+    ensures { result ≡ places.behind_bare byte }
 {
     if is_part_end(byte) {
         Place::Start
@@ -61,7 +63,7 @@ fn behind_bare(byte: u8) -> Place
 
 /// Where the next byte stands behind one that is not quoted by a backslash.
 fn behind(place: Place, byte: u8) -> Place
-    ensures { result ≡ specs.behind place byte }
+    ensures { result ≡ places.behind place byte }
 {
     match place {
         Place::Start if byte == b'#' => Place::Comment,
@@ -75,7 +77,7 @@ fn behind(place: Place, byte: u8) -> Place
 
 /// Where the next byte stands behind one that a backslash quotes.
 fn behind_quoted(place: Place) -> Place
-    ensures { result ≡ specs.behind_quoted place }
+    ensures { result ≡ places.behind_quoted place }
 {
     match place {
         Place::Start => Place::Word,
@@ -85,7 +87,7 @@ fn behind_quoted(place: Place) -> Place
 
 /// The state behind a byte.
 fn next(state: State, byte: u8) -> State
-    ensures { result ≡ specs.next state byte }
+    ensures { result ≡ joining.next state byte }
 {
     let place = state.place;
     if state.escaped {
@@ -113,7 +115,7 @@ fn next(state: State, byte: u8) -> State
 
 /// Writes what a byte leaves.
 fn push_byte(out: &mut Vec<u8>, state: State, byte: u8) -> Result<(), AllocError>
-    ensures { OnOk result (out.new.items ≡ out.old.items ++ specs.written state byte) }
+    ensures { OnOk result (out.new.items ≡ out.old.items ++ joining.written state byte) }
 {
     if state.escaped {
         if byte != b'\n' {
@@ -128,7 +130,7 @@ fn push_byte(out: &mut Vec<u8>, state: State, byte: u8) -> Result<(), AllocError
 
 /// Writes what the end of the text leaves: a last backslash that quotes nothing.
 fn push_end(out: &mut Vec<u8>, state: State) -> Result<(), AllocError>
-    ensures { OnOk result (out.new.items ≡ out.old.items ++ specs.left state) }
+    ensures { OnOk result (out.new.items ≡ out.old.items ++ joining.left state) }
 {
     if state.escaped {
         out.push(b'\\')?;
@@ -138,7 +140,7 @@ fn push_end(out: &mut Vec<u8>, state: State) -> Result<(), AllocError>
 
 /// The text without its line continuations.
 pub(crate) fn join_lines(alloc: Global, text: &[u8]) -> Result<Vec<u8>, AllocError>
-    ensures value { IfOk result (λ v. v.items ≡ specs.joined text.now) }
+    ensures value { IfOk result (λ v. v.items ≡ joining.joined text.now) }
     ensures within { IfOk result (λ v. length v.items ≤ length text.now) }
 {
     let mut out = Vec::new(alloc);

@@ -7,7 +7,8 @@ ghost use Rattle.shellword.specs.Text as bytes;
 ghost use Rattle.baretext.specs.Faults.{IsBareFault};
 ghost use Rattle.baretext.specs.Gives.{Gives};
 ghost use Rattle.baretext.specs.Reading as specs;
-ghost use Rattle.baretext.specs.Statements.{comment_len, nothing};
+ghost use Rattle.baretext.specs.Statements.{nothing};
+ghost use Rattle.baretext.specs.Text.{comment_len};
 
 use crate::assignments::Assignment;
 use crate::fault::BareFault;

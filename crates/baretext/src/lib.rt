@@ -8,11 +8,14 @@
 //! for assignment in assignments.into_vec() { .. }    // a, x; b, the value of a; c, 1;2
 //! ```
 //!
-//! First line continuations vanish (`continuation`); what is left is cut into items (`item`): spaces, ends of
-//! statements, comments, lone colons and assignments, whose words are those of `shellword`; `statements` puts both
-//! together. Beside them stand the definitions: `specs/Continuation` and `specs/Statements` say which text is which
-//! assignments, by cases on its front, `specs/Refused` which fault comes first, and `specs/Reading` is the same as a function. `readings` has the laws that tie
-//! them together.
+//! First line continuations vanish (`continuation`). What is left is cut into items (`item`): spaces, ends of
+//! statements, comments, lone colons and assignments, whose words are those of `shellword`. `statements` puts both
+//! together.
+//!
+//! `specs/Continuation` and `specs/Statements` say which text is which assignments, by cases on its front, and
+//! `specs/Refused` which fault comes first. `specs/Joining` and `specs/Reading` are the same as functions. `readings` has
+//! the laws that tie them together, and the quotes of `specs/Continuation` to those of shell words (`specs/Kept`).
+//! `proofs/Rows` computes worked examples.
 #![tactic(auto)]
 
 mod assignments;
@@ -24,7 +27,9 @@ mod statements;
 
 pub use assignments::{Assignment, Assignments};
 pub use fault::BareFault;
-pub use readings::{faults_are_exact, faults_are_placed, one_reading, readings_are_exact};
+pub use readings::{
+    faults_are_exact, faults_are_placed, one_reading, quotes_are_of_words, readings_are_exact,
+};
 pub use statements::read_statements;
 
 #[cfg(test)]

@@ -1,6 +1,6 @@
 use Rattle.std.proofs.Common.{ℕ, false, List, ◌++◌, ap, ◌∙◌}
 use Rattle.baretext.specs.declared.continuation.Place.TheVariants.{Start}
-use Rattle.baretext.specs.Continuation.{state, joined_from}
+use Rattle.baretext.specs.Joining.{state, joined_from}
 use Rattle.baretext.proofs.Joining.{begun, lines_more, lines_end, no_longer}
 use Rattle.baretext.proofs.continuation.join_lines.Goals as goal
 

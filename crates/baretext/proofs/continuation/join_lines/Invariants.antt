@@ -1,5 +1,5 @@
 use Rattle.std.proofs.Common.{◌≡◌, ◌++◌, drop}
-use Rattle.baretext.specs.Continuation.{joined_from, joined}
+use Rattle.baretext.specs.Joining.{joined_from, joined}
 use Rattle.baretext.proofs.continuation.join_lines.Given as goal
 
 abbrev pub invariant-loop-byte : goal.invariant-loop-byte
