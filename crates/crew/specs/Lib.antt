@@ -1,4 +1,6 @@
 pub mod Child
+pub mod Ending
 pub mod Events
+pub mod Launch
 pub mod Scripted
 pub mod Sound

@@ -18,9 +18,12 @@
 
 mod calls;
 mod child;
+mod children;
+mod diagnostics;
 mod event;
 mod failures;
 mod flight;
+mod launcher;
 mod memory;
 mod order;
 mod process;

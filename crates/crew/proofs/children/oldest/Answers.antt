@@ -1,6 +1,6 @@
 use Rattle.std.proofs.Common.{rules, ◌≡◌, ◌∷◌}
 use Rattle.crew.proofs.SlotLemmas.{below_rest}
-use Rattle.crew.proofs.process.oldest.Goals as goal
+use Rattle.crew.proofs.children.oldest.Goals as goal
 
 pub returns-clause-within : goal.returns-clause-within
 returns-clause-within c =

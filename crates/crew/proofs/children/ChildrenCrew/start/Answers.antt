@@ -3,8 +3,9 @@ use Rattle.std.specs.Prelude.{All}
 use Rattle.crew.specs.Events.{busy, slots_in_flight}
 use Rattle.crew.specs.Sound.{ListsBusy}
 use Rattle.crew.proofs.ScriptLemmas.{moved}
+use Rattle.crew.proofs.ChildLemmas.{lists_same, runs_refused, runs_started}
 use Rattle.crew.proofs.SlotLemmas.{lists_start, slots_start, below_push}
-use Rattle.crew.proofs.process.ProcessCrewCrew.start.Goals as goal
+use Rattle.crew.proofs.children.ChildrenCrew.start.Goals as goal
 
 pub invariant_of-self-2 : goal.invariant_of-self-2
 invariant_of-self-2 g c =
@@ -17,4 +18,14 @@ invariant_of-self-2 g c =
     let n : length c.put_slot.new.slots.items ≡ length c.make_room.new.slots.items + 1 = ap length c.put_slot.ensures ∙ length-append _ _ in
     let m : length c.put.new.list.items ≡ length c.make_room.new.events.items + 1 = ap length c.put.ensures.items ∙ length-append _ _ in
     let room : length c.put.new.list.items + length c.put_slot.new.slots.items ≤ vec_capacity c.put.new.list = omega (arith, n, m, c.if-not-make_room.ensures.room, c.put.ensures.room) in
-    (c.self.invariant.0, order, lists, within, room)
+    (c.self.invariant.0, order, lists, within, room, runs_started _ _ _ _ _ _ _ _ c.self.invariant.5 c.in-Some.ensures.taken c.in-Ok.ensures events)
+
+pub invariant_of-self-in_default-started : goal.invariant_of-self-in_default-started
+invariant_of-self-in_default-started g c =
+    let events = c.make_room.ensures.events in
+    let slots = c.make_room.ensures.slots in
+    let order : c.make_room.new.slots.items ≡ slots_in_flight c.make_room.new.events.items = slots ∙ c.self.invariant.1 ∙ sym (ap slots_in_flight events) in
+    let lists : ListsBusy c.make_room.new.slots.items c.make_room.new.events.items = lists_same _ _ _ _ c.self.invariant.2 slots events in
+    let within : All (λ x. x < 16) c.make_room.new.slots.items = subst (All (λ x. x < 16)) (sym slots) c.self.invariant.3 in
+    let room : length c.make_room.new.events.items + length c.make_room.new.slots.items ≤ vec_capacity c.make_room.new.events = omega (arith, c.if-not-make_room.ensures.room) in
+    (c.self.invariant.0, order, lists, within, room, runs_refused _ _ _ _ c.args.job c.self.invariant.5 c.in_default-started.ensures.refused events)

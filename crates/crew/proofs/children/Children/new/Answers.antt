@@ -1,10 +1,11 @@
 use Rattle.std.proofs.Common.{sym, ap, ◌∙◌, length, arith}
 use Rattle.crew.specs.Events.{slots_in_flight}
+use Rattle.crew.proofs.ChildLemmas.{runs_none}
 use Rattle.crew.proofs.SlotLemmas.{lists_none, below_none}
-use Rattle.crew.proofs.process.ProcessCrew.new.Goals as goal
+use Rattle.crew.proofs.children.Children.new.Goals as goal
 
 pub invariant_of-result : goal.invariant_of-result
 invariant_of-result g c =
     let slots = c.new.ensures.items in
     let events = c.new-2.ensures.items in
-    (omega arith, slots ∙ sym (ap slots_in_flight events), lists_none _ _ slots events, below_none _ slots, omega (arith, ap length slots, ap length events))
+    (omega arith, slots ∙ sym (ap slots_in_flight events), lists_none _ _ slots events, below_none _ slots, omega (arith, ap length slots, ap length events), runs_none _ _ c.requires events)

@@ -1,0 +1,175 @@
+//! A crew of children, over what starts them.
+
+ghost use Rattle.std.specs.Prelude.{◌≡◌, ◌≢◌, ◌+◌, ◌^◌, ◌<◌, ◌≤◌, [], ◌∷◌, ◌++◌, true, false, IfOk, OnOk, OnErr, All, length, vec_capacity};
+ghost use Rattle.std.specs.Bool.{OnTrue};
+ghost use Rattle.std.specs.VecDeque.{deque_capacity};
+ghost use Rattle.crew.specs.Events.{IsSomeBusy, busy, failure_of, slots_in_flight};
+ghost use Rattle.crew.specs.Launch.{Runs};
+ghost use Rattle.crew.specs.declared.reply.Reply.TheVariants.{StartRefused};
+ghost use Rattle.crew.specs.declared.event.CrewEvent.TheVariants.{Started, Ended};
+
+use crate::calls::Crew;
+use crate::child::{ended, started};
+use crate::event::{CrewEvent, Refused};
+use crate::failures::{failures_after, refusal};
+use crate::launcher::Launcher;
+use crate::reply::Reply;
+use crate::room::put;
+use conftest::Job;
+use std::alloc::{AllocError, Global};
+use std::collections::VecDeque;
+use std::marker::Model;
+use std::process::Child;
+
+const SLOTS: usize = 16;
+
+// A crew of the children that a launcher starts.
+#[derive(Drop)]
+pub(crate) struct Children<L: Launcher + Drop> {
+    launcher: L,
+    alloc: Global,
+    children: Vec<Option<Child<L::Process>>>,
+    // the slots in flight, the oldest child's first
+    slots: VecDeque<usize>,
+    events: Vec<CrewEvent>,
+    attempts: u64,
+    failures: u64,
+}
+
+impl<L: Launcher + Drop> Model for Children<L> {
+    ghost use Rattle.std.specs.Prelude.{◌≡◌, ◌+◌, ◌≤◌, ◌<◌, vec_len, vec_capacity, All, length};
+    ghost use Rattle.crew.specs.Events.{Account, slots_in_flight};
+    ghost use Rattle.crew.specs.Launch.{Runs};
+    ghost use Rattle.crew.specs.Sound.{ListsBusy};
+
+    ghost Value = { Account };
+
+    ghost view = { λ c. record { events = c.events.items; attempts = c.attempts; failures = c.failures } };
+
+    ghost invariant = { λ c. (vec_len c.children ≡ 16)
+        × (c.slots.items ≡ slots_in_flight c.events.items)
+        × ListsBusy c.slots.items c.events.items
+        × All (λ s. s < 16) c.slots.items
+        × (length c.events.items + length c.slots.items ≤ vec_capacity c.events)
+        × Runs (L.calls c.launcher) c.events.items };
+}
+
+impl<L: Launcher + Drop> Children<L> {
+    // A crew that has started nothing.
+    pub(crate) fn new(launcher: L, alloc: Global) -> Result<Children<L>, AllocError>
+        requires { Runs (L.calls launcher) [] }
+        ensures { IfOk result (λ c. c ≡ record { events = []; attempts = 0; failures = 0 }) }
+    {
+        let mut children = Vec::with_capacity(alloc, SLOTS)?;
+        for _ in 0..SLOTS {
+            children.push(None)?;
+        }
+        Ok(Children {
+            launcher,
+            alloc,
+            children,
+            slots: VecDeque::new(alloc),
+            events: Vec::new(alloc),
+            attempts: 0,
+            failures: 0,
+        })
+    }
+}
+
+impl<L: Launcher + Drop> Crew for Children<L> {
+    ghost account = { λ c. c };
+
+    fn start(&mut self, slot: usize, job: Job) -> Result<(), Refused> {
+        self.attempts += 1;
+        let number = self.attempts;
+        let Ok(kept) = job.copy(self.alloc) else {
+            return Err(refusal(&mut self.failures));
+        };
+        if !make_room(&mut self.events, &mut self.slots) {
+            return Err(refusal(&mut self.failures));
+        }
+        let Some(child) = started(&mut self.launcher, self.alloc, &job) else {
+            return Err(refusal(&mut self.failures));
+        };
+        self.children[slot] = Some(child);
+        let start = CrewEvent::Started {
+            slot,
+            job: kept,
+            number,
+        };
+        put(&mut self.events, start);
+        put_slot(&mut self.slots, slot);
+        Ok(())
+    }
+
+    fn next(&mut self) -> (usize, Reply)
+        requires flying { IsSomeBusy self.old.events }
+        requires failures { self.old.failures < 2 ^ 62 }
+        ensures was_busy { busy result.0 self.old.events ≡ true }
+        ensures ended { self.new.events ≡ self.old.events ++ Ended result.0 result.1 self.old.attempts ∷ [] }
+        ensures number { self.new.attempts ≡ self.old.attempts }
+        ensures reply { result.1 ≢ StartRefused }
+        ensures count { self.new.failures ≡ self.old.failures + failure_of result.1 }
+        ensures oldest { slots_in_flight self.old.events ≡ result.0 ∷ slots_in_flight self.new.events }
+    {
+        let slot = oldest(&mut self.slots);
+        let reply = match self.children[slot].take() {
+            Some(mut child) => ended(self.alloc, &mut child),
+            None => Reply::EndRefused,
+        };
+        let (reply, kept) = doubled(self.alloc, reply);
+        self.failures = failures_after(&reply, self.failures);
+        let end = CrewEvent::Ended {
+            slot,
+            reply: kept,
+            number: self.attempts,
+        };
+        put(&mut self.events, end);
+        (slot, reply)
+    }
+}
+
+// A reply and its copy; both are a refusal where there is no memory for the copy.
+fn doubled(alloc: Global, reply: Reply) -> (Reply, Reply)
+    requires { reply ≢ StartRefused }
+    ensures same { result.1 ≡ result.0 }
+    ensures answer { result.0 ≢ StartRefused }
+{
+    match reply.copy(alloc) {
+        Ok(kept) => (reply, kept),
+        Err(_) => (Reply::EndRefused, Reply::EndRefused),
+    }
+}
+
+// Room for the event of a start, and for the ends of its child and of those in flight.
+fn make_room(events: &mut Vec<CrewEvent>, slots: &mut VecDeque<usize>) -> bool
+    ensures events { events.new.items ≡ events.old.items }
+    ensures slots { slots.new.items ≡ slots.old.items }
+    ensures grown { vec_capacity events.old ≤ vec_capacity events.new }
+    ensures room { OnTrue result (length events.new.items + length slots.new.items + 2 ≤ vec_capacity events.new) }
+    ensures slot { OnTrue result (length slots.new.items < deque_capacity slots.new) }
+{
+    let room = slots.len() + 2;
+    if events.reserve(room).is_err() {
+        return false;
+    }
+    slots.reserve(1).is_ok()
+}
+
+fn put_slot(slots: &mut VecDeque<usize>, slot: usize)
+    requires { length slots.old.items < deque_capacity slots.old }
+    ensures { slots.new.items ≡ slots.old.items ++ slot ∷ [] }
+{
+    let pushed = slots.push_back(slot);
+    pushed.unwrap();
+}
+
+fn oldest(slots: &mut VecDeque<usize>) -> usize
+    requires some { 0 < length slots.old.items }
+    requires within { All (λ s. s < 16) slots.old.items }
+    ensures first { slots.old.items ≡ result ∷ slots.new.items }
+    ensures slot { result < 16 }
+    ensures within { All (λ s. s < 16) slots.new.items }
+{
+    slots.pop_front().unwrap()
+}

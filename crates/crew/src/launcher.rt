@@ -1,0 +1,57 @@
+//! Where a crew of real children meets the system.
+
+ghost use Rattle.std.specs.Prelude.{[], ◌∷◌, None, Option, List, OnOk, OnErr};
+ghost use Rattle.std.specs.Process.{command_args, command_program};
+ghost use Rattle.crew.specs.Launch.{Adds, Call, Failed, Spawned, Wrote};
+
+use std::fs;
+use std::io;
+use std::process::{Child, Command, OpenProcess, Processes, Stdio};
+use std::rt::Files;
+
+/// Writes files and starts commands.
+pub(crate) trait Launcher {
+    type Process: OpenProcess + Drop;
+
+    // What was written and started, the oldest first, where that is known.
+    ghost calls: { Self → Option (List Call) } = { λ _. None };
+
+    // Makes the file, or replaces it.
+    fn write(&mut self, name: &str, text: &[u8]) -> io::Result<()>
+        ensures done { OnOk result (Adds (calls self.old) (calls self.new) (Wrote name.now text.now ∷ [])) }
+        ensures refused { OnErr result (Adds (calls self.old) (calls self.new) []) };
+
+    // Starts the command with empty standard input, its output dropped and its diagnostics to be read.
+    fn spawn(&mut self, command: &mut Command) -> io::Result<Child<Self::Process>>
+        ensures done { OnOk result (Adds (calls self.old) (calls self.new)
+            (Spawned (command_program command.old ∷ command_args command.old) ∷ [])) }
+        ensures refused { OnErr result (Adds (calls self.old) (calls self.new) (Failed ∷ [])) };
+}
+
+/// The system of a runtime.
+#[derive(Drop)]
+pub(crate) struct Host<R: Files + Processes + Drop> {
+    rt: R,
+}
+
+impl<R: Files + Processes + Drop> Host<R> {
+    pub(crate) fn new(rt: R) -> Host<R> {
+        Host { rt }
+    }
+}
+
+impl<R: Files + Processes + Drop> Launcher for Host<R> {
+    type Process = R::Started;
+
+    fn write(&mut self, name: &str, text: &[u8]) -> io::Result<()> {
+        fs::write(&self.rt, name, text)
+    }
+
+    fn spawn(&mut self, command: &mut Command) -> io::Result<Child<R::Started>> {
+        command
+            .stdin(Stdio::null())
+            .stdout(Stdio::null())
+            .stderr(Stdio::piped());
+        command.spawn(&self.rt)
+    }
+}
