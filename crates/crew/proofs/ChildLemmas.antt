@@ -111,9 +111,11 @@ runs_added None (Some new) more events after r adds step = absurd adds
 runs_added (Some old) None more events after r adds step = absurd adds
 runs_added (Some old) (Some new) more events after r adds step =
     let start : Run = record { file = None; jobs = [] } in
-    record { same = λ known is.
-      let here : known ≡ old ++ more = ap (λ o. unwrap_or o []) (sym is) ∙ adds in
-      ap (fold run_after start) here ∙ fold-append run_after start old more ∙ ap (λ run. fold run_after run more) (r.same old refl) ∙ step }
+    record {
+      same = λ known is.
+          let here : known ≡ old ++ more = ap (λ o. unwrap_or o []) (sym is) ∙ adds in
+          ap (fold run_after start) here ∙ fold-append run_after start old more ∙ ap (λ run. fold run_after run more) (r.same old refl) ∙ step;
+    }
 
 -- nothing more was called
 runs_same : (calls new : Option (List Call)) (events : List CrewEvent) → Runs calls events → Adds calls new [] → Runs new events

@@ -4,10 +4,9 @@ ghost use Rattle.std.specs.Prelude.{[], ◌∷◌, None, Option, List, OnOk, OnE
 ghost use Rattle.std.specs.Process.{command_args, command_program};
 ghost use Rattle.crew.specs.Launch.{Adds, Call, Failed, Spawned, Wrote};
 
-use std::fs;
-use std::io;
 use std::process::{Child, Command, OpenProcess, Processes, Stdio};
 use std::rt::Files;
+use std::{fs, io};
 
 /// Writes files and starts commands.
 pub(crate) trait Launcher {

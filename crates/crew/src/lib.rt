@@ -18,6 +18,8 @@
 
 mod calls;
 mod child;
+#[cfg(test)]
+mod child_tests;
 mod children;
 mod diagnostics;
 mod event;

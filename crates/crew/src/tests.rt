@@ -247,12 +247,65 @@ fn refused_starts(rt: HostRuntime) -> Result<(), Fail> {
     assert!(rt; is_refused(&rt, job_of(alloc, &[])?)?);
     assert!(rt; is_refused(&rt, job_of(alloc, &[b"sh".as_slice(), b"\xff"])?)?);
     assert!(rt; is_refused(&rt, job_of(alloc, &[b"sh".as_slice(), b"a\0b"])?)?);
-    let mut job = job_of(alloc, &[b"true".as_slice()])?;
+    Ok(())
+}
+
+fn with_file(alloc: Global, script: &[u8], name: &[u8], text: &[u8]) -> Result<Job, AllocError> {
+    let mut job = job_of(alloc, &[b"sh".as_slice(), b"-c", script])?;
     job.file = Some((
-        Bytes::from_slice(alloc, b"no/folder/conftest.c")?,
-        Bytes::new(alloc),
+        Bytes::from_slice(alloc, name)?,
+        Bytes::from_slice(alloc, text)?,
     ));
-    assert!(rt; is_refused(&rt, job)?);
+    Ok(job)
+}
+
+#[test]
+fn a_conftest_of_a_mebibyte(rt: HostRuntime) -> Result<(), Fail> {
+    let alloc = rt.alloc();
+    enter(&rt, "large_conftest")?;
+    let mut text = Vec::from_elem(alloc, b'a', 1_048_576)?;
+    text[0] = b'<';
+    text[1_048_575] = b'>';
+    let job = with_file(alloc, b"wc -c < c.c >&2", b"c.c", text.as_slice())?;
+    let (_, count) = child(&rt, job)?;
+    assert_eq!(rt; count.as_slice(), b"1048576\n".as_slice());
+    assert_eq!(rt; fs::read(&rt, "c.c")?.as_slice(), text.as_slice());
+    leave(&rt, "large_conftest")
+}
+
+// A conftest that can't be written starts no child: its directory is not there, its device is full.
+#[test]
+fn unwritten_conftests(rt: HostRuntime) -> Result<(), Fail> {
+    let alloc = rt.alloc();
+    enter(&rt, "unwritten_conftests")?;
+    for name in [b"no/c.c".as_slice(), b"/dev/full", b"c\xff.c", b"c\0.c"] {
+        let job = with_file(alloc, b": > made", name, b"int x;")?;
+        assert!(rt; is_refused(&rt, job)?);
+        assert!(rt; !fs::exists(&rt, "made")?);
+    }
+    leave(&rt, "unwritten_conftests")
+}
+
+#[test]
+fn the_words_of_a_child(rt: HostRuntime) -> Result<(), Fail> {
+    let script = b"for a; do echo \"<$a>\" >&2; done".as_slice();
+    let words = [
+        b"sh".as_slice(),
+        b"-c",
+        script,
+        b"sh",
+        b"",
+        b"a b",
+        b"*",
+        b"\"$x\"\n",
+        b"-n",
+    ];
+    let (status, text) = child(&rt, job_of(rt.alloc(), &words)?)?;
+    assert_eq!(rt; status, 0);
+    assert_eq!(rt;
+        text.as_slice(),
+        b"<>\n<a b>\n<*>\n<\"$x\"\n>\n<-n>\n".as_slice()
+    );
     Ok(())
 }
 
