@@ -75,16 +75,32 @@ const fn giving(pieces: u32, size: usize) -> Pipe {
     }
 }
 
-// What the end of a child answers, with the length of its text, and whether it was waited for.
-fn end_of(alloc: Global, pipe: Option<Pipe>, status: Option<i32>) -> (Option<(u32, usize)>, bool) {
+// The end of a child answers this status and so long a text, or it is refused; and it has been waited for.
+fn is_end(
+    alloc: Global,
+    pipe: Option<Pipe>,
+    status: Option<i32>,
+    want: Option<(u32, usize)>,
+) -> bool {
     let mut child = Child::from_parts(Process { status }, None, None, pipe);
-    let answer = match ended(alloc, &mut child) {
-        Reply::Answer { status, text } => Some((status, text.len())),
-        Reply::StartRefused | Reply::EndRefused => None,
+    let is_wanted = match ended(alloc, &mut child) {
+        Reply::Answer { status, text } => want == Some((status, text.len())),
+        Reply::StartRefused | Reply::EndRefused => want.is_none(),
     };
-    // A process that has not been waited for has no status to tell.
+    // `Process` has a status to give here only if a wait has given it.
     let waited = matches!(child.try_wait(), Ok(Some(_)));
-    (answer, waited)
+    is_wanted && waited == status.is_some()
+}
+
+fn failing(fails_at: u32, pipe: Pipe) -> Pipe {
+    Pipe { fails_at, ..pipe }
+}
+
+fn interrupted(times: u32) -> Pipe {
+    Pipe {
+        interrupted: times,
+        ..giving(3, 5)
+    }
 }
 
 #[test]
@@ -95,90 +111,52 @@ fn the_end_of_a_pipe(rt: HostRuntime) {
         (giving(1023, 1), 1023),
         (giving(1024, 1), 1024),
         (giving(1025, 1), 1024),
-        (giving(15, 4096), 61_440),
         (giving(16, 4096), 65_536),
         (giving(17, 4096), 65_536),
         (giving(1025, 4096), 65_536),
         // The read after the last is not made.
-        (
-            Pipe {
-                fails_at: 1025,
-                ..giving(2000, 1)
-            },
-            1024,
-        ),
-        (
-            Pipe {
-                interrupted: 1,
-                ..giving(3, 5)
-            },
-            15,
-        ),
-        (
-            Pipe {
-                interrupted: 1023,
-                ..giving(3, 5)
-            },
-            15,
-        ),
+        (failing(1025, giving(2000, 1)), 1024),
+        (interrupted(1), 15),
+        (interrupted(1023), 15),
     ];
     for (i, (pipe, len)) in cases.iter().enumerate() {
-        let end = end_of(rt.alloc(), Some(*pipe), EXIT_7);
-        assert_eq!(rt; end, (Some((7, *len)), true), "case {i}");
+        let holds = is_end(rt.alloc(), Some(*pipe), EXIT_7, Some((7, *len)));
+        assert!(rt; holds, "case {i}");
     }
 }
 
 #[test]
 fn reads_that_fail(rt: HostRuntime) {
     let cases = [
-        Pipe {
-            fails_at: 1,
-            ..giving(5, 9)
-        },
-        Pipe {
-            fails_at: 3,
-            ..giving(5, 9)
-        },
+        Some(failing(1, giving(5, 9))),
+        Some(failing(3, giving(5, 9))),
         // past what is kept
-        Pipe {
-            fails_at: 20,
-            ..giving(30, 4096)
-        },
-        Pipe {
-            fails_at: 1024,
-            ..giving(2000, 1)
-        },
+        Some(failing(20, giving(30, 4096))),
+        Some(failing(1024, giving(2000, 1))),
         // in place of the end
-        Pipe {
-            fails_at: 6,
-            ..giving(5, 9)
-        },
-        Pipe {
-            interrupted: 1024,
-            ..giving(5, 9)
-        },
+        Some(failing(6, giving(5, 9))),
+        Some(interrupted(1024)),
+        None,
     ];
     for (i, pipe) in cases.iter().enumerate() {
-        let end = end_of(rt.alloc(), Some(*pipe), EXIT_7);
-        assert_eq!(rt; end, (None, true), "case {i}");
+        assert!(rt; is_end(rt.alloc(), *pipe, EXIT_7, None), "case {i}");
     }
-    assert_eq!(rt; end_of(rt.alloc(), None, EXIT_7), (None, true));
 }
 
 #[test]
 fn waits(rt: HostRuntime) {
-    let text = Some(giving(1, 4));
-    for (raw, status) in [
-        (0, 0),
-        (256, 1),
-        (127 * 256, 127),
-        (255 * 256, 255),
-        (9, 256),
-        (139, 256),
-    ] {
-        let end = end_of(rt.alloc(), text, Some(raw));
-        assert_eq!(rt; end, (Some((status, 4)), true), "status {raw}");
+    let cases = [
+        (Some(0), Some((0, 4))),
+        (Some(256), Some((1, 4))),
+        (Some(127 * 256), Some((127, 4))),
+        (Some(255 * 256), Some((255, 4))),
+        // signals, the second with a core
+        (Some(9), Some((256, 4))),
+        (Some(139), Some((256, 4))),
+        (None, None),
+    ];
+    for (i, (status, want)) in cases.iter().enumerate() {
+        let holds = is_end(rt.alloc(), Some(giving(1, 4)), *status, *want);
+        assert!(rt; holds, "case {i}");
     }
-    assert_eq!(rt; end_of(rt.alloc(), text, None), (None, false));
-    assert_eq!(rt; end_of(rt.alloc(), None, None), (None, false));
 }

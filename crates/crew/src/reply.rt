@@ -8,7 +8,7 @@ use std::alloc::{AllocError, Global};
 /// What became of a job that a crew was to start.
 #[derive(Debug, Drop)]
 pub enum Reply {
-    /// The child ended. Its status is its exit status, or 256 where a signal ended it; the text is what it wrote on
+    /// The child ended. Its status is its exit status, or 256 if a signal ended it; the text is what it wrote on
     /// standard error, up to a limit.
     Answer { status: u32, text: Bytes },
     /// The child was not started.
@@ -18,7 +18,7 @@ pub enum Reply {
 }
 
 impl Reply {
-    /// An equal reply in memory of its own. It fails only for want of memory.
+    /// Returns an equal reply in memory of its own. It fails only if memory runs out.
     pub fn copy(&self, alloc: Global) -> Result<Reply, AllocError>
         ensures { IfOk result (λ reply. reply ≡ self.now) }
     {
