@@ -3,7 +3,7 @@ use Rattle.std.proofs.Common.{◌≡◌, ℕ, ◌<◌, Bool, List, length, inl, 
 use Rattle.m4quote.specs.declared.fault.QuoteFault.{QuoteFault}
 use Rattle.m4quote.specs.declared.fault.QuoteFault.TheVariants.{OutOfMemory}
 use Rattle.m4quote.specs.Faults.{QuoteBreaks, stays_open, one_too_many, in_quotes, FrontBreaks, stray, no_room, quote_breaks, InsideBreaks, no_close, piece_breaks, paren_too_many, in_parens, ArgumentsBreak, argument_breaks, later_argument, Breaks, front_breaks, arguments_break, behind_front, behind_call, IsFirstFault, too_large, breaks, breaks_before_nul, nul, nul_in_open, IsBracketFault}
-use Rattle.m4quote.specs.Used.{Unquotes, nothing, front, UnquoteBreaks, here, behind, UseBreaks, outer, inner_quote, inner_close}
+use Rattle.m4quote.specs.Used.{Unquotes, nothing, front, UnquoteBreaks, stray_close, unclosed, behind, UseBreaks, outer, inner_close}
 use Rattle.m4quote.proofs.Insides.{front_fits}
 use Rattle.m4quote.proofs.UsedText.{IsBracketFaultAt, break_place}
 
@@ -52,7 +52,8 @@ pub unquote_breaks-kind : {text : List ℕ} {f : QuoteFault} → UnquoteBreaks 0
 unquote_breaks-kind {text} {f} broken = let h = break_place broken in bracket_fault text f h.0 h.1 (omega (arith, h.2))
 
 pub unquote_breaks-no_memory : {at : ℕ} {text : List ℕ} {f : QuoteFault} → UnquoteBreaks at text f → f ≡ OutOfMemory → ⊥
-unquote_breaks-no_memory (here broken) e = front_no_memory broken e
+unquote_breaks-no_memory stray_close e = cc
+unquote_breaks-no_memory (unclosed broken) e = cc
 unquote_breaks-no_memory (behind whole later) e = unquote_breaks-no_memory later e
 
 -- nothing comes of nothing
@@ -62,10 +63,8 @@ some_left (front whole later) some = let fits = front_fits whole in omega (arith
 
 pub use_breaks-kind : {arg : List ℕ} {f : QuoteFault} → UseBreaks arg f → IsBracketFault arg f
 use_breaks-kind (outer broken) = unquote_breaks-kind broken
-use_breaks-kind (inner_quote once broken) = some_left once (let h = break_place broken in omega (arith, h.2))
 use_breaks-kind (inner_close once broken) = some_left once (let h = break_place broken in omega (arith, h.2))
 
 pub use_breaks-no_memory : {arg : List ℕ} {f : QuoteFault} → UseBreaks arg f → f ≡ OutOfMemory → ⊥
 use_breaks-no_memory (outer broken) e = unquote_breaks-no_memory broken e
-use_breaks-no_memory (inner_quote once broken) e = cc
 use_breaks-no_memory (inner_close once broken) e = cc

@@ -2,16 +2,17 @@
 -- give are the same, there is one reading, and what is read is made of parts of the text.
 use Rattle.std.proofs.Common.{◌≡◌, ◌≢◌, ◌↔◌, ℕ, ◌⊎◌, inl, inr, List, Result, Ok, Err, refl, sym, ◌∙◌, arith}
 use Rattle.m4quote.specs.declared.fault.QuoteFault.{QuoteFault}
-use Rattle.m4quote.specs.declared.fault.QuoteFault.TheVariants.{OutOfMemory}
+use Rattle.m4quote.specs.declared.fault.QuoteFault.TheVariants.{UnclosedQuote, StrayClose, OutOfMemory}
 use Rattle.m4quote.specs.Entry.{Entry}
 use Rattle.m4quote.specs.Spelling.{IsSpelling}
 use Rattle.m4quote.specs.Parts.{ArePartsOf}
 use Rattle.m4quote.specs.Faults.{IsFirstFault, IsBracketFault}
-use Rattle.m4quote.specs.Used.{IsUsed, UseBreaks, IsBareValue, UnquoteBreaks}
+use Rattle.m4quote.specs.Used.{Unquotes, IsUsed, UseBreaks, IsBareValue, UnquoteBreaks}
 use Rattle.m4quote.specs.Scan.{outcome, used, bare_value_of}
 use Rattle.m4quote.proofs.Outcome.{ok_is, fault_is, failed}
 use Rattle.m4quote.proofs.Whole.{outcome-spelling, spelling-outcome, outcome-fault, fault-outcome}
 use Rattle.m4quote.proofs.UsedText.{used-is, is-used, used-breaks, breaks-used, bare_value_of-is, is-bare_value_of, bare_value_of-breaks, breaks-bare_value_of}
+use Rattle.m4quote.proofs.Closed.{second_breaks}
 use Rattle.m4quote.proofs.PartsOf.{items-parts}
 use Rattle.m4quote.proofs.FaultKinds.{first_fault-no_memory, use_breaks-kind, use_breaks-no_memory, unquote_breaks-kind, unquote_breaks-no_memory}
 
@@ -65,6 +66,10 @@ used_is_fault arg f = (breaks-used arg f, λ h. used-breaks h)
 -- which faults come
 pub use_fault_kind : (arg : List ℕ) (f : QuoteFault) → UseBreaks arg f → IsBracketFault arg f
 use_fault_kind arg f h = use_breaks-kind h
+
+-- the second reading leaves no quote open
+pub second_closes : (arg once : List ℕ) (at place : ℕ) → Unquotes arg once → UnquoteBreaks at once (UnclosedQuote place) → ⊥
+second_closes arg once at place first breaks = let h = second_breaks first breaks in let e : UnclosedQuote place ≡ StrayClose h.0 = h.1 in cc
 
 -- want of memory is none of them
 pub use_fault_is_not_memory : (arg : List ℕ) (f : QuoteFault) → UseBreaks arg f → f ≢ OutOfMemory

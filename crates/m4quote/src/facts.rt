@@ -2,12 +2,12 @@
 
 ghost use Rattle.std.specs.Prelude.{◌≡◌, ◌≢◌, ◌⊎◌, ◌↔◌, ℕ, List, Ok, Err};
 ghost use Rattle.m4quote.specs.declared.fault.QuoteFault.{QuoteFault};
-ghost use Rattle.m4quote.specs.declared.fault.QuoteFault.TheVariants.{OutOfMemory};
+ghost use Rattle.m4quote.specs.declared.fault.QuoteFault.TheVariants.{OutOfMemory, UnclosedQuote};
 ghost use Rattle.m4quote.specs.Entry.{Entry};
 ghost use Rattle.m4quote.specs.Spelling.{IsSpelling};
 ghost use Rattle.m4quote.specs.Parts.{ArePartsOf};
 ghost use Rattle.m4quote.specs.Faults.{IsFirstFault, IsBracketFault};
-ghost use Rattle.m4quote.specs.Used.{IsUsed, UseBreaks, IsBareValue, UnquoteBreaks};
+ghost use Rattle.m4quote.specs.Used.{IsUsed, UseBreaks, Unquotes, IsBareValue, UnquoteBreaks};
 ghost use Rattle.m4quote.specs.Scan.{outcome, used, bare_value_of};
 
 /// A text spells at most one list of items, has at most one first fault, and never both.
@@ -35,6 +35,8 @@ pub fn used_laws()
     ensures text { (arg out : List ℕ) → (used arg ≡ Ok out) ↔ IsUsed arg out }
     ensures fault { (arg : List ℕ) (f : QuoteFault) → (used arg ≡ Err f) ↔ UseBreaks arg f }
     ensures kinds { (arg : List ℕ) (f : QuoteFault) → UseBreaks arg f → IsBracketFault arg f }
+    // The text without its outermost quotes leaves no quote unclosed.
+    ensures closed { (arg once : List ℕ) (at place : ℕ) → Unquotes arg once → UnquoteBreaks at once (UnclosedQuote place) → ⊥ }
     ensures no_memory { (arg : List ℕ) (f : QuoteFault) → UseBreaks arg f → f ≢ OutOfMemory }
 {}
 
