@@ -7,7 +7,7 @@ use Rattle.std.proofs.Math.ListN.{drop_of_length-le}
 use Rattle.m4quote.specs.declared.item.Arg.{Arg}
 use Rattle.m4quote.specs.declared.item.Item.{Item}
 use Rattle.m4quote.specs.Entry.{Span, Entry, call, bare, span, view, views}
-use Rattle.m4quote.specs.Parts.{IsItemOf, ArePartsOf}
+use Rattle.m4quote.specs.Parts.{IsPart, IsItemOf, ArePartsOf}
 use Rattle.acargs.specs.Inside.{depth_behind, closes_at_end, are_blank, only_text, brackets, less_arguments, less_calls}
 use Rattle.acargs.specs.Texts.{is_all_blank}
 
@@ -18,21 +18,23 @@ closes_stop i text lt = ap (closes_at_end 0) (drop_more text i 0 lt)
 
 -- ---- places
 
--- the text that is found has a place that can be named
-pub placed : (base n : ℕ) (text : List ℕ) (items : List Entry) (s : Span) → base + length text < n → ArePartsOf base text items → only_text items ≡ Some s → s.at + length s.text < n
-placed base n text [] s fits parts e = absurd cc
-placed base n text (call name args at ∷ items) s fits parts e = absurd cc
-placed base n text (bare t at ∷ items) s fits parts e =
-    by (is_all_blank t) (are_blank items) (placed base n text items s fits (All-tail (IsItemOf base text) (bare t at) items parts)) e
+-- the text that is found is a part of the whole
+pub part_of : (base : ℕ) (text : List ℕ) (items : List Entry) (s : Span) → ArePartsOf base text items → only_text items ≡ Some s → IsPart base text s.at s.text
+part_of base text [] s parts e = absurd cc
+part_of base text (call name args at ∷ items) s parts e = absurd cc
+part_of base text (bare t at ∷ items) s parts e =
+    by (is_all_blank t) (are_blank items) (part_of base text items s (All-tail (IsItemOf base text) (bare t at) items parts)) e
   where
-    here : (let found : Option Span = Some (record { text = t; at = at }) in found) ≡ Some s → s.at + length s.text < n
+    here : (let found : Option Span = Some (record { text = t; at = at }) in found) ≡ Some s → IsPart base text s.at s.text
     here h =
-        let p = All-head (IsItemOf base text) (bare t at) items parts in
         let same : s ≡ record { text = t; at = at } = cc in
-        let fit : at + length t < n = omega (arith, p.begins, p.ends) in
-        subst (λ (x : Span). x.at + length x.text < n) (sym same) fit
+        subst (λ (x : Span). IsPart base text x.at x.text) (sym same) (All-head (IsItemOf base text) (bare t at) items parts)
 
-    by : (b c : Bool) → (only_text items ≡ Some s → s.at + length s.text < n) → cond b (only_text items) (cond c (Some (record { text = t; at = at })) None) ≡ Some s → s.at + length s.text < n
+    by : (b c : Bool) → (only_text items ≡ Some s → IsPart base text s.at s.text) → cond b (only_text items) (cond c (Some (record { text = t; at = at })) None) ≡ Some s → IsPart base text s.at s.text
     by true c rest h = rest h
     by false true rest h = here h
     by false false rest h = absurd cc
+
+-- so it has a place that can be named
+pub placed : (base n : ℕ) (text : List ℕ) (items : List Entry) (s : Span) → base + length text < n → ArePartsOf base text items → only_text items ≡ Some s → s.at + length s.text < n
+placed base n text items s fits parts e = let p = part_of base text items s parts e in omega (arith, p.begins, p.ends)

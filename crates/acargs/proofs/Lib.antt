@@ -4,4 +4,7 @@ pub mod IdleLemmas
 pub mod OutputLemmas
 pub mod FaultLemmas
 pub mod InsideLemmas
+pub mod Outside
+pub mod Runs
+pub mod Standings
 pub mod FeatureLemmas

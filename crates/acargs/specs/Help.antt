@@ -1,17 +1,19 @@
--- Help arguments: AS_HELP_STRING alone, with blanks and `dnl` lines round it, or a text of its own making (Autoconf's
--- manual, "Making Your Help Strings Look Pretty").
+-- Help arguments (Autoconf's manual, "Making Your Help Strings Look Pretty").
+--
+-- AS_HELP_STRING is looked for among the argument's items or, if the argument is one quoted run with blanks and `dnl` lines
+-- round it, among the items of the run's inside. Quadrigraphs are replaced later, in what is read there. If AS_HELP_STRING is
+-- called, nothing else may be there but blanks and `dnl` lines, and the help is an entry. If it isn't called, or the items
+-- can't be read, the help is the argument's used text. (Own: Autoconf expands AS_HELP_STRING wherever it finds it.)
 use Rattle.std.specs.Prelude.{◌≡◌, ℕ, Bool, true, false, ◌&&◌, ◌||◌, ◌==◌, List, [], ◌∷◌, length, Option, Some, None, Result, Ok, Err, codes, if◌then◌else◌}
 use Rattle.std.specs.Str.{bytes_eq}
 use Rattle.m4quote.specs.Entry.{Span, Entry, call, bare}
-use Rattle.m4quote.specs.Scan.{outcome, bare_value_of}
-use Rattle.m4quote.specs.declared.fault.QuoteFault.{QuoteFault}
 use Rattle.acargs.specs.declared.fault.ParseFault.{ParseFault}
 use Rattle.acargs.specs.declared.fault.ParseFault.TheVariants.{UnknownStatement, ArgCount}
 use Rattle.acargs.specs.declared.help.Help.{Help}
 use Rattle.acargs.specs.declared.help.Help.TheVariants as helps
 use Rattle.acargs.specs.Arguments.{arg_at, text}
-use Rattle.acargs.specs.Inside.{inside, are_blank}
-use Rattle.acargs.specs.Reading.{◌>>=◌, quoted, wants}
+use Rattle.acargs.specs.Inside.{are_blank, call_items}
+use Rattle.acargs.specs.Reading.{◌>>=◌, wants}
 use Rattle.acargs.specs.Texts.{is_all_blank}
 
 -- ---- a call that stands alone
@@ -21,7 +23,7 @@ pub record Called : Type 0 where
   pub args : List Span
   pub at : ℕ
 
--- the call of this name, where items are blanks besides
+-- the call of this name, if the other items are blanks
 abbrev pub sole_call : List ℕ → List Entry → Option Called
 sole_call name [] = None
 sole_call name (call other args at ∷ items) = if bytes_eq other name && are_blank items then Some (record { args = args; at = at }) else None
@@ -34,18 +36,6 @@ abbrev pub has_call : List ℕ → List Entry → Bool
 has_call name [] = false
 has_call name (call other args at ∷ items) = bytes_eq other name || has_call name items
 has_call name (bare text at ∷ items) = has_call name items
-
-abbrev pub calls : List ℕ → Result (List Entry) QuoteFault → Bool
-calls name (Ok items) = has_call name items
-calls name (Err f) = false
-
-abbrev pub value_calls : List ℕ → Result (List ℕ) QuoteFault → Bool
-value_calls name (Ok value) = calls name (outcome 0 value)
-value_calls name (Err f) = false
-
--- the argument calls this name, as it stands or with its quotes taken away once
-unfoldable pub mentions : List ℕ → Span → Bool
-mentions name arg = calls name (outcome arg.at arg.text) || value_calls name (bare_value_of arg.text)
 
 -- ---- help
 
@@ -60,21 +50,21 @@ help_string args at = do
   right ← text (arg_at args 1)
   Ok (helps.Entry left right)
 
-abbrev pub alone : ℕ → Option Called → Result Help ParseFault
-alone at None = Err (UnknownStatement at)
-alone at (Some c) = help_string c.args c.at
-
--- a help argument that calls AS_HELP_STRING: it stands alone there
-unfoldable pub called_help : Span → Result Help ParseFault
-called_help arg = do
-  a ← inside arg
-  items ← quoted (outcome a.at a.text)
-  alone arg.at (sole_call help_string_name items)
-
 -- a help argument of its own making
 abbrev pub own_text : Span → Result Help ParseFault
 own_text arg = text arg >>= λ t. Ok (helps.Text t)
 
+-- The help that an argument gives, by whether AS_HELP_STRING is called in it, and by the call that is all that it holds.
+abbrev pub help_by : Span → Bool → Option Called → Result Help ParseFault
+help_by arg called (Some c) = help_string c.args c.at
+help_by arg true None = Err (UnknownStatement arg.at)
+help_by arg false None = own_text arg
+
+-- the help that an argument gives in which these items are found, or none can be read
+abbrev pub help_among : Span → Result (List Entry) ParseFault → Result Help ParseFault
+help_among arg (Ok items) = help_by arg (has_call help_string_name items) (sole_call help_string_name items)
+help_among arg (Err f) = own_text arg
+
 -- a help argument
 unfoldable pub help : Span → Result Help ParseFault
-help arg = if mentions help_string_name arg then called_help arg else own_text arg
+help arg = help_among arg (call_items arg)

@@ -1,6 +1,5 @@
--- A statement argument, and the text that it stands for: one quoted run with blanks and `dnl` lines round it stands for
--- its inside, and a text without a bracket outside its calls for itself (own; where quotes are left out, Autoconf
--- would expand the calls first, to the same statements).
+-- The text that a statement argument stands for, and the items among which a call is looked for, as functions of the argument.
+-- `Standing` has the rules, and the contract of `inside_laws` says that the two agree. All of this is own.
 use Rattle.std.specs.Prelude.{ℕ, ◌+◌, ◌-◌, Bool, true, false, ◌&&◌, ◌||◌, ◌==◌, List, [], ◌∷◌, length, take, drop, filter, fold, Option, Some, None, Result, Ok, Err, nat_lt, if◌then◌else◌}
 use Rattle.std.specs.List.{prefix_len}
 use Rattle.m4quote.specs.Entry.{Span, Entry, call, bare}
@@ -9,7 +8,7 @@ use Rattle.textcut.specs.Cuts.{is_blank, trimmed}
 use Rattle.acargs.specs.declared.fault.ParseFault.{ParseFault}
 use Rattle.acargs.specs.declared.fault.ParseFault.TheVariants.{UnknownStatement}
 use Rattle.acargs.specs.Reading.{◌>>=◌, quoted}
-use Rattle.acargs.specs.Texts.{is_all_blank}
+use Rattle.acargs.specs.Texts.{is_all_blank, is_bracket}
 
 -- ---- one quoted run
 
@@ -62,9 +61,6 @@ inside_of (Some s) = run_inside s
 
 -- ---- brackets outside calls
 
-abbrev pub is_bracket : ℕ → Bool
-is_bracket b = b == 91 || b == 93
-
 abbrev pub brackets : List ℕ → ℕ
 brackets text = length (filter is_bracket text)
 
@@ -89,6 +85,10 @@ is_unquoted text items = less_calls (brackets text) items == 0
 
 -- ---- the argument
 
+-- the items that a text spells
+abbrev pub items_of : Span → Result (List Entry) ParseFault
+items_of s = quoted (outcome s.at s.text)
+
 abbrev pub or_itself : Span → List Entry → Option Span → Result Span ParseFault
 or_itself arg items (Some s) = Ok s
 or_itself arg items None = if is_unquoted arg.text items then Ok arg else Err (UnknownStatement arg.at)
@@ -96,5 +96,19 @@ or_itself arg items None = if is_unquoted arg.text items then Ok arg else Err (U
 -- the text that a statement argument stands for
 unfoldable pub inside : Span → Result Span ParseFault
 inside arg = do
-  items ← quoted (outcome arg.at arg.text)
+  items ← items_of arg
   or_itself arg items (inside_of (only_text items))
+
+-- ---- a call that may be quoted or not
+
+-- the items of the run's inside, or the argument's own
+abbrev pub items_of_run : List Entry → Option Span → Result (List Entry) ParseFault
+items_of_run items None = Ok items
+items_of_run items (Some s) = items_of s
+
+-- The items among which a call is looked for that may be quoted or not: those of the inside, if the argument is one quoted
+-- run with blanks and `dnl` lines round it, else the argument's own. Here brackets may be anywhere. (own)
+unfoldable pub call_items : Span → Result (List Entry) ParseFault
+call_items arg = do
+  items ← items_of arg
+  items_of_run items (inside_of (only_text items))

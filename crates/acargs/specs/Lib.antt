@@ -9,6 +9,7 @@ pub mod Stand
 pub mod Shell
 pub mod Numbers
 pub mod Inside
+pub mod Standing
 pub mod Feature
 pub mod Help
 pub mod Programs

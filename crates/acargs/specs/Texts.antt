@@ -1,5 +1,5 @@
 -- Forms of texts.
-use Rattle.std.specs.Prelude.{ℕ, Bool, true, false, not, ◌==◌, List, [], ◌∷◌}
+use Rattle.std.specs.Prelude.{ℕ, Bool, true, false, not, ◌||◌, ◌==◌, List, [], ◌∷◌}
 use Rattle.std.specs.List.{list_all, list_any}
 use Rattle.std.specs.Str.{bytes_eq}
 use Rattle.textcut.specs.Cuts.{is_blank}
@@ -8,6 +8,10 @@ use Rattle.textcut.specs.Cuts.{is_blank}
 abbrev pub is_empty : List ℕ → Bool
 is_empty [] = true
 is_empty (b ∷ bs) = false
+
+-- `[` or `]`
+abbrev pub is_bracket : ℕ → Bool
+is_bracket b = b == 91 || b == 93
 
 -- blanks alone
 abbrev pub is_all_blank : List ℕ → Bool

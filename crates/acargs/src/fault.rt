@@ -32,10 +32,10 @@ pub enum ParseFault {
     /// Shell text: a word, a test or a list of patterns that is not read.
     #[error("6.{} at {}", shell_kind(.0), .1)]
     Shell(ShellFault, usize),
-    /// A macro that stands in the file's own list alone, or there once.
+    /// A macro that is allowed only at top level, or a second AC_INIT.
     #[error("7 at {0}")]
     NotAtTop(usize),
-    /// Something other than blanks and comments before AC_INIT.
+    /// Something other than AC_PREREQ, blanks and comments before AC_INIT, or no AC_INIT at all.
     #[error("8")]
     NoInit,
     /// The source ends without AC_OUTPUT.
@@ -103,7 +103,7 @@ pub fn quote_fault(fault: QuoteFault) -> ParseFault
     }
 }
 
-/// The fault of a text that stands at `base`, in the source. `len` is the length of the text.
+/// Returns the fault of a text at offset `base` with its offset in the source.
 pub(crate) fn moved_by(base: usize, fault: QuoteFault) -> QuoteFault
     requires { IsWithin base fault }
     ensures { result ≡ moved base fault }

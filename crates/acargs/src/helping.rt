@@ -1,22 +1,21 @@
 //! Help arguments.
 
-ghost use Rattle.std.specs.Prelude.{◌≡◌, ◌+◌, ◌<◌, ◌^◌, length, MatchOption, None, Some, IfOk, map};
+ghost use Rattle.std.specs.Prelude.{◌≡◌, MatchOption, None, Some, map};
 ghost use Rattle.m4quote.specs.Entry.{span, views};
-ghost use Rattle.m4quote.specs.Scan.{outcome, bare_value_of};
 ghost use Rattle.acargs.specs.Help as words;
 ghost use Rattle.acargs.specs.Reading.{Gives};
 
 use crate::arguments::{arg_at, is_all_blank, text};
-use crate::fault::{ParseFault, quote_fault};
+use crate::fault::ParseFault;
 use crate::help::Help;
-use crate::inside::{are_blank, inside};
-use m4quote::{Arg, Item, QuoteFault, bare_value, read_items_at};
-use std::alloc::{AllocError, Global};
+use crate::inside::{are_blank, call_items};
+use m4quote::{Arg, Item};
+use std::alloc::Global;
 
 /// The macro that a help argument may call.
 const HELP_STRING: &[u8] = b"AS_HELP_STRING";
 
-/// The arguments of the call of this name and the place of its name, where items are blanks besides.
+/// If the items are a single call of `name` and blanks, returns its arguments and its offset.
 pub fn sole_call<'a, 'b>(name: &[u8], items: &'b [Item<'a>]) -> Option<(&'b [Arg<'a>], usize)>
     ensures { MatchOption result (words.sole_call name.now (views items.now) ≡ None) (λ r. words.sole_call name.now (views items.now) ≡ Some (record { args = map span r.0.now; at = r.1 })) }
 {
@@ -56,39 +55,6 @@ fn has_call(name: &[u8], items: &[Item<'_>]) -> bool
     false
 }
 
-/// Whether a text at `at` calls this name.
-fn calls(alloc: Global, name: &[u8], text: &[u8], at: usize) -> Result<bool, AllocError>
-    requires { at + length text.now < 2 ^ 64 }
-    ensures { IfOk result (λ b. b ≡ words.calls name.now (outcome at text.now)) }
-{
-    match read_items_at(alloc, text, at) {
-        Ok(items) => Ok(has_call(name, &items)),
-        Err(QuoteFault::OutOfMemory) => Err(AllocError),
-        Err(_) => Ok(false),
-    }
-}
-
-fn value_calls(alloc: Global, name: &[u8], text: &[u8]) -> Result<bool, AllocError>
-    ensures { IfOk result (λ b. b ≡ words.value_calls name.now (bare_value_of text.now)) }
-{
-    match bare_value(alloc, text) {
-        Ok(value) => calls(alloc, name, value.as_slice(), 0),
-        Err(QuoteFault::OutOfMemory) => Err(AllocError),
-        Err(_) => Ok(false),
-    }
-}
-
-/// Whether the argument calls this name, as it stands or with its quotes taken away once.
-#[tactic(auto, unfolding(crate::specs::Help::mentions))]
-fn mentions(alloc: Global, name: &[u8], arg: Arg<'_>) -> Result<bool, AllocError>
-    ensures { IfOk result (λ b. b ≡ words.mentions name.now (span arg.entry)) }
-{
-    if calls(alloc, name, arg.text, arg.at)? {
-        return Ok(true);
-    }
-    value_calls(alloc, name, arg.text)
-}
-
 /// AS_HELP_STRING with these arguments, whose name stands at `at`.
 #[tactic(auto, unfolding(crate::specs::Help::help_string))]
 fn help_string(alloc: Global, args: &[Arg<'_>], at: usize) -> Result<Help, ParseFault>
@@ -102,21 +68,6 @@ fn help_string(alloc: Global, args: &[Arg<'_>], at: usize) -> Result<Help, Parse
     Ok(Help::Entry { left, right })
 }
 
-#[tactic(auto, unfolding(crate::specs::Help::called_help))]
-fn called_help(alloc: Global, arg: Arg<'_>) -> Result<Help, ParseFault>
-    ensures { Gives (λ h. h) result (words.called_help (span arg.entry)) }
-{
-    let inner = inside(alloc, arg)?;
-    let items = match read_items_at(alloc, inner.text, inner.at) {
-        Ok(items) => items,
-        Err(fault) => return Err(quote_fault(fault)),
-    };
-    match sole_call(HELP_STRING, &items) {
-        None => Err(ParseFault::UnknownStatement(arg.at)),
-        Some((args, at)) => help_string(alloc, args, at),
-    }
-}
-
 fn own_text(alloc: Global, arg: Arg<'_>) -> Result<Help, ParseFault>
     ensures { Gives (λ h. h) result (words.own_text (span arg.entry)) }
 {
@@ -124,15 +75,34 @@ fn own_text(alloc: Global, arg: Arg<'_>) -> Result<Help, ParseFault>
     Ok(Help::Text { text })
 }
 
-/// What a help argument says: AS_HELP_STRING, which stands alone in it, with blanks and `dnl` lines round it; or the used
-/// text. `UnknownStatement` at the argument where AS_HELP_STRING is called beside something else, `ArgCount` at its name
-/// where it has not two arguments.
+/// The help of an argument in which these items are found.
+fn help_among(alloc: Global, arg: Arg<'_>, items: &[Item<'_>]) -> Result<Help, ParseFault>
+    ensures { Gives (λ h. h) result (words.help_by (span arg.entry) (words.has_call words.help_string_name (views items.now)) (words.sole_call words.help_string_name (views items.now))) }
+{
+    if let Some((args, at)) = sole_call(HELP_STRING, items) {
+        return help_string(alloc, args, at);
+    }
+    if has_call(HELP_STRING, items) {
+        return Err(ParseFault::UnknownStatement(arg.at));
+    }
+    own_text(alloc, arg)
+}
+
+/// Returns what a help argument says. If AS_HELP_STRING is called among its items (`call_items`), that is the entry that the
+/// call makes; else it is the argument's used text.
+///
+/// # Errors
+///
+/// - `UnknownStatement` at the argument, if it calls AS_HELP_STRING and holds something else than blanks and `dnl` lines.
+/// - `ArgCount` at the name AS_HELP_STRING, if that has not two arguments.
+/// - The faults of the used texts.
 #[tactic(auto, unfolding(crate::specs::Help::help))]
 pub fn help(alloc: Global, arg: Arg<'_>) -> Result<Help, ParseFault>
     ensures { Gives (λ h. h) result (words.help (span arg.entry)) }
 {
-    if mentions(alloc, HELP_STRING, arg)? {
-        return called_help(alloc, arg);
+    match call_items(alloc, arg) {
+        Ok(items) => help_among(alloc, arg, &items),
+        Err(ParseFault::OutOfMemory) => Err(ParseFault::OutOfMemory),
+        Err(_) => own_text(alloc, arg),
     }
-    own_text(alloc, arg)
 }

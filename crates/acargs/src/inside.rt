@@ -1,10 +1,12 @@
-//! Statement arguments.
+//! Arguments that hold statements, or one call.
 
-ghost use Rattle.std.specs.Prelude.{◌≡◌, ◌+◌, ◌<◌, ◌≤◌, ◌^◌, length, map, MatchOption, None, Some};
+ghost use Rattle.std.specs.Prelude.{◌≡◌, ◌+◌, ◌<◌, ◌≤◌, ◌^◌, length, map, IfOk, MatchOption, None, Some};
 ghost use Rattle.std.specs.List.{prefix_len};
-ghost use Rattle.m4quote.specs.Entry.{span, view, views};
+ghost use Rattle.m4quote.specs.Entry.{Span, span, view, views};
+ghost use Rattle.m4quote.specs.Parts.{ArePartsOf};
 ghost use Rattle.acargs.specs.Inside as words;
 ghost use Rattle.acargs.specs.Reading.{Gives};
+ghost use Rattle.acargs.specs.Texts as texts;
 
 use crate::arguments::is_all_blank;
 use crate::fault::{ParseFault, quote_fault};
@@ -109,7 +111,7 @@ fn run_inside<'a>(text: &'a [u8], at: usize) -> Option<Arg<'a>>
 }
 
 fn is_bracket(byte: u8) -> bool
-    ensures { result ≡ words.is_bracket byte }
+    ensures { result ≡ texts.is_bracket byte }
 {
     byte == b'[' || byte == b']'
 }
@@ -159,23 +161,59 @@ fn is_unquoted(text: &[u8], items: &[Item<'_>]) -> bool
     less_calls(brackets(text), items) == 0
 }
 
-/// The text that a statement argument stands for: the inside of one quoted run with blanks and `dnl` lines round it, or
-/// the argument itself where no bracket stands outside its calls. Anything else is `UnknownStatement` at the argument.
+/// The items that an argument spells.
+fn items_of<'a>(alloc: Global, arg: Arg<'a>) -> Result<Vec<Item<'a>>, ParseFault>
+    ensures value { Gives (λ v. views v.items) result (words.items_of (span arg.entry)) }
+    ensures parts { IfOk result (λ v. ArePartsOf arg.entry.at arg.entry.text.now (views v.items)) }
+{
+    match read_items_at(alloc, arg.text, arg.at) {
+        Ok(items) => Ok(items),
+        Err(fault) => Err(quote_fault(fault)),
+    }
+}
+
+/// The inside of the one quoted run that items are.
+fn only_run<'a>(items: &[Item<'a>]) -> Option<Arg<'a>>
+    requires { (s : Span) → words.only_text (views items.now) ≡ Some s → s.at + length s.text < 2 ^ 64 }
+    ensures { MatchOption result (words.inside_of (words.only_text (views items.now)) ≡ None) (λ r. words.inside_of (words.only_text (views items.now)) ≡ Some (span r)) }
+{
+    match only_text(items) {
+        Some((text, at)) => run_inside(text, at),
+        None => None,
+    }
+}
+
+/// Returns the text that a statement argument stands for: the inside of one quoted run with blanks and `dnl` lines round it,
+/// or the argument itself if no bracket is outside its calls. `inside_laws` says so in the words of `specs/Standing`.
+///
+/// # Errors
+///
+/// - The fault of the argument's quotes.
+/// - `UnknownStatement` at the argument, if it stands for neither.
 #[tactic(auto, unfolding(crate::specs::Inside::inside))]
 pub fn inside<'a>(alloc: Global, arg: Arg<'a>) -> Result<Arg<'a>, ParseFault>
     ensures { Gives span result (words.inside (span arg.entry)) }
 {
-    let items = match read_items_at(alloc, arg.text, arg.at) {
-        Ok(items) => items,
-        Err(fault) => return Err(quote_fault(fault)),
-    };
-    if let Some((text, at)) = only_text(&items) {
-        if let Some(inside) = run_inside(text, at) {
-            return Ok(inside);
-        }
+    let items = items_of(alloc, arg)?;
+    if let Some(inside) = only_run(&items) {
+        return Ok(inside);
     }
     if !is_unquoted(arg.text, &items) {
         return Err(ParseFault::UnknownStatement(arg.at));
     }
     Ok(arg)
+}
+
+/// Returns the items among which a call is looked for that an argument may hold quoted or not: those of the inside, if the
+/// argument is one quoted run with blanks and `dnl` lines round it, else the argument's own. Unlike in `inside`, brackets may
+/// be anywhere.
+#[tactic(auto, unfolding(crate::specs::Inside::call_items))]
+pub fn call_items<'a>(alloc: Global, arg: Arg<'a>) -> Result<Vec<Item<'a>>, ParseFault>
+    ensures { Gives (λ v. views v.items) result (words.call_items (span arg.entry)) }
+{
+    let items = items_of(alloc, arg)?;
+    match only_run(&items) {
+        Some(inside) => items_of(alloc, inside),
+        None => Ok(items),
+    }
 }

@@ -2,6 +2,8 @@
 
 use crate::arguments::{arg_at, is_given, line, name, text, title};
 use crate::fault::{ParseFault, quote_fault, shell_fault};
+use crate::help::Help;
+use crate::helping::help;
 use crate::idle::is_idle;
 use crate::inside::inside;
 use crate::numbers::{language, status, version};
@@ -11,6 +13,7 @@ use crate::shell::{here_text, patterns, test, word};
 use crate::stand::{NO_EDGE, is_statement};
 use m4quote::{Arg, QuoteFault};
 use shellword::ShellFault;
+use std::alloc::Global;
 use std::test::Fail;
 
 fn arg<'a>(text: &'a [u8]) -> Arg<'a> {
@@ -91,4 +94,81 @@ fn files(rt: HostRuntime) -> Result<(), Fail> {
     assert!(rt; files.has(b"b"), "a file");
     assert!(rt; outputs(alloc, &files, arg(b"[a]")).is_err(), "twice");
     Ok(())
+}
+
+/// Whether a help argument says this: an entry, or a text of its own making, which has no left side.
+fn says(alloc: Global, text: &[u8], left: Option<&[u8]>, right: &[u8]) -> bool {
+    match help(alloc, arg(text)) {
+        Ok(Help::Entry { left: l, right: r }) => left == Some(l.as_slice())
+            && r.as_slice() == right,
+        Ok(Help::Text { text }) => left == None && text.as_slice() == right,
+        Err(_) => false,
+    }
+}
+
+#[test]
+fn help_entries(rt: HostRuntime) {
+    let alloc = rt.alloc();
+    let entries = [
+        (
+            b"[AS_HELP_STRING([--enable-x],[range @<:@0,1)])]".as_slice(),
+            b"--enable-x".as_slice(),
+            b"range [0,1)".as_slice(),
+        ),
+        (
+            b"AS_HELP_STRING([--enable-x],[range @<:@0,1)])",
+            b"--enable-x",
+            b"range [0,1)",
+        ),
+        (
+            b"[AS_HELP_STRING([--x],[end with @:>@])]",
+            b"--x",
+            b"end with ]",
+        ),
+        (
+            b"[AS_HELP_STRING(--x, use @%:@ marks)]",
+            b"--x",
+            b"use # marks",
+        ),
+        (b"AS_HELP_STRING([--x],[y]) dnl [z]\n", b"--x", b"y"),
+    ];
+    for (text, left, right) in entries {
+        assert!(rt; says(alloc, text, Some(left), right), "{text:?}");
+    }
+}
+
+#[test]
+fn help_texts(rt: HostRuntime) {
+    let alloc = rt.alloc();
+    let texts = [
+        (
+            b"[AS_HELP@&t@_STRING([a],[b])]".as_slice(),
+            b"AS_HELP_STRING(a,b)".as_slice(),
+        ),
+        (b"[AS_HELP_STRING[]][[]]", b"AS_HELP_STRING"),
+        (b"[a][b] [x [y]]", b"ab x y"),
+        (b"[AC_FOO(]", b"AC_FOO("),
+    ];
+    for (text, wanted) in texts {
+        assert!(rt; says(alloc, text, None, wanted), "{text:?}");
+    }
+}
+
+#[test]
+fn help_beside_something_else(rt: HostRuntime) {
+    let alloc = rt.alloc();
+    let faults = [
+        (
+            b"[@%:@ AS_HELP_STRING([a],[b])]".as_slice(),
+            ParseFault::UnknownStatement(0),
+        ),
+        (
+            b"[x] AS_HELP_STRING([a],[b])",
+            ParseFault::UnknownStatement(0),
+        ),
+        (b"[AS_HELP_STRING([a])]", ParseFault::ArgCount(1)),
+    ];
+    for (text, fault) in faults {
+        assert!(rt; help(alloc, arg(text)).err() == Some(fault), "{text:?}");
+    }
 }
