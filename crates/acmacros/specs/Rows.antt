@@ -1,9 +1,9 @@
 -- The rows of the profile: for each macro what its arguments are, from the left, and which statement it makes. The
 -- fault of the first argument at fault is the macro's.
-use Rattle.std.specs.Prelude.{ℕ, Bool, ◌||◌, List, length, Result, Ok, Err, nat_lt, codes, if◌then◌else◌}
+use Rattle.std.specs.Prelude.{ℕ, List, length, Result, Ok, nat_lt, codes, if◌then◌else◌}
 use Rattle.m4quote.specs.Entry.{Span}
 use Rattle.acargs.specs.declared.fault.ParseFault.{ParseFault}
-use Rattle.acargs.specs.declared.fault.ParseFault.TheVariants.{ArgCount, TooMany, UnknownStatement}
+use Rattle.acargs.specs.declared.fault.ParseFault.TheVariants.{TooMany}
 use Rattle.acargs.specs.Arguments.{arg_at, text, name, title, line, is_given}
 use Rattle.acargs.specs.declared.feature.OptionKind.{OptionKind}
 use Rattle.acargs.specs.declared.feature.OptionKind.TheVariants.{Feature, Package}
@@ -114,16 +114,8 @@ unfoldable pub arg_var : scene.Scene → List Span → Result Plain ParseFault
 arg_var c args = do
   n ← name (arg_at args 0)
   _ ← wants (has_room c.substituted n) (TooMany (arg_at args 0).at)
-  _ ← wants (has_room c.precious n) (TooMany (arg_at args 0).at)
   help ← text (arg_at args 1)
   Ok (ArgVar n help)
-
--- AC_OUTPUT, or AC_OUTPUT with an empty argument
-unfoldable pub output : List Span → Result Plain ParseFault
-output args = do
-  t ← text (arg_at args 0)
-  _ ← wants (is_empty t) (ArgCount (arg_at args 0).at)
-  Ok Output
 
 -- the statement of a macro whose name stands at this place, behind what is known
 unfoldable pub plain_of : scene.Scene → PlainMacro → ℕ → List Span → Result Plain ParseFault
@@ -141,10 +133,7 @@ plain_of c macro.ProgCc at args = prog_cc c at args
 plain_of c macro.CheckProg at args = check_prog c args
 plain_of c macro.CheckProgs at args = check_progs c args
 plain_of c macro.PathProg at args = path_prog c args
-plain_of c macro.HelpString at args = Err (UnknownStatement at)
-plain_of c macro.LangProgram at args = Err (UnknownStatement at)
-plain_of c macro.LangSource at args = Err (UnknownStatement at)
-plain_of c macro.Output at args = output args
+plain_of c macro.Output at args = Ok Output
 
 -- ---- questions
 

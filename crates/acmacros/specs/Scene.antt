@@ -1,13 +1,15 @@
 -- What statements leave to be known for those behind them: how far the source is, and its lists.
-use Rattle.std.specs.Prelude.{ℕ, Bool, true, false, not, ◌&&◌, ◌||◌, List, [], ◌∷◌, ◌++◌, Result, Err, codes}
+use Rattle.std.specs.Prelude.{ℕ, Bool, true, false, not, ◌&&◌, ◌||◌, List, [], ◌∷◌, ◌++◌, Result, Ok, Err, codes}
 use Rattle.deftable.specs.NameList.{with_name}
 use Rattle.acargs.specs.declared.fault.ParseFault.{ParseFault}
 use Rattle.acargs.specs.declared.fault.ParseFault.TheVariants.{NoInit, AfterOutput, NotAtTop, UnknownStatement}
-use Rattle.acargs.specs.Reading.{◌>>=◌, wants}
+use Rattle.acargs.specs.Reading.{wants}
 use Rattle.acargs.specs.declared.feature.OptionKind.TheVariants.{Feature, Package}
 use Rattle.acargs.specs.declared.help.Help.TheVariants.{Entry}
 use Rattle.acmacros.specs.declared.macros.Macro as macro
 use Rattle.acmacros.specs.declared.macros.Macro.TheVariants.{Plain}
+use Rattle.acmacros.specs.declared.macros.Named.{Named}
+use Rattle.acmacros.specs.declared.macros.Named.TheVariants.{Statement, Argument}
 use Rattle.acmacros.specs.declared.macros.PlainMacro.TheVariants as plain_macro
 use Rattle.acmacros.specs.declared.scene.Scene as scene
 use Rattle.acmacros.specs.declared.scene.Stage as stages
@@ -70,24 +72,20 @@ may_begin (Plain plain_macro.Init) = true
 may_begin (Plain plain_macro.Prereq) = true
 may_begin _ = false
 
--- AS_HELP_STRING, AC_LANG_PROGRAM and AC_LANG_SOURCE stand in arguments, and are no statements
-abbrev pub is_statement_macro : macro.Macro → Bool
-is_statement_macro (Plain plain_macro.HelpString) = false
-is_statement_macro (Plain plain_macro.LangProgram) = false
-is_statement_macro (Plain plain_macro.LangSource) = false
-is_statement_macro _ = true
-
--- A macro that stands at this place, in the file's own list or another: AC_INIT is the first statement but for AC_PREREQ, and
--- stands once, behind AC_OUTPUT there is none, some macros stand in the file's own list alone, and some in arguments.
+-- The place of a call in the file's own list or in another: the first call is that of AC_INIT or AC_PREREQ, AC_INIT comes
+-- once, no call follows that of AC_OUTPUT, and some macros are allowed in the file's own list alone.
 unfoldable pub placed : Bool → stages.Stage → macro.Macro → ℕ → Result (Unit {0}) ParseFault
 placed top Before m at = wants (may_begin m) NoInit
-placed top Open m at = do
-  _ ← wants (not (is_init m) && (top || not (row m).top)) (NotAtTop at)
-  wants (is_statement_macro m) (UnknownStatement at)
+placed top Open m at = wants (not (is_init m) && (top || not (row m).top)) (NotAtTop at)
 placed top Ended m at = Err (AfterOutput at)
 
--- other bare text than blanks and comments, which no statement is read from
+-- the fault of what is no statement
 abbrev pub bare_fault : stages.Stage → ℕ → ParseFault
 bare_fault Before at = NoInit
 bare_fault Open at = UnknownStatement at
 bare_fault Ended at = AfterOutput at
+
+-- a call of a macro that is read in arguments alone is no statement
+abbrev pub as_statement : stages.Stage → ℕ → Named → Result macro.Macro ParseFault
+as_statement stage at (Statement m) = Ok m
+as_statement stage at (Argument m) = Err (bare_fault stage at)

@@ -1,5 +1,5 @@
 -- Rows of macros that look for programs (Autoconf's manual, "Generic Programs" and "C Compiler").
-use Rattle.std.specs.Prelude.{ℕ, ◌+◌, Bool, ◌&&◌, List, [], ◌∷◌, length, Option, Some, None, Result, Ok, nat_le, codes, if◌then◌else◌}
+use Rattle.std.specs.Prelude.{ℕ, ◌+◌, Bool, List, [], ◌∷◌, length, Option, Some, None, Result, Ok, nat_le, codes, if◌then◌else◌}
 use Rattle.deftable.specs.NameList.{has_name}
 use Rattle.m4quote.specs.Entry.{Span}
 use Rattle.shellword.specs.declared.part.Part.{Part}
@@ -73,6 +73,6 @@ compilers arg = if is_given arg then programs arg else Ok usual_compilers
 -- AC_PROG_CC([compilers]), whose name stands at this place
 unfoldable pub prog_cc : scene.Scene → ℕ → List Span → Result Plain ParseFault
 prog_cc c at args = do
-  _ ← wants (has_tool_room c.substituted && has_tool_room c.precious) (TooMany at)
+  _ ← wants (has_tool_room c.substituted) (TooMany at)
   list ← compilers (arg_at args 0)
   Ok (ProgCc list)

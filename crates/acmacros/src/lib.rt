@@ -12,6 +12,7 @@
 //! statement `Plain::Define` of `HAVE_X` and `1`.
 #![tactic(auto)]
 
+pub mod limits;
 pub mod macros;
 pub mod program;
 pub mod rows;
@@ -20,7 +21,7 @@ mod searches;
 pub mod statement;
 mod tries;
 
-pub use macros::{ChoiceMacro, Macro, PlainMacro, QuestionMacro, Row};
+pub use macros::{ArgumentMacro, ChoiceMacro, Macro, Named, PlainMacro, QuestionMacro, Row};
 pub use program::{Program, ProgramNames, Try};
 pub use scene::{Scene, Stage};
 pub use statement::{Plain, Question};

@@ -1,10 +1,14 @@
 //! The table of macros.
 
-ghost use Rattle.std.specs.Prelude.{◌≡◌};
+ghost use Rattle.std.specs.Prelude.{◌≡◌, map, length, IfOk};
+ghost use Rattle.m4quote.specs.Entry.{span};
 ghost use Rattle.acmacros.specs.Table as table;
 
 use crate::program::Try;
 use acargs::OptionKind;
+use acargs::arguments::{arg_at, is_given};
+use m4quote::Arg;
+use std::alloc::{AllocError, Global};
 
 /// A macro without statements in its arguments.
 #[derive(Clone, Copy, Debug, PartialEq, Eq)]
@@ -24,12 +28,6 @@ pub enum PlainMacro {
     CheckProg,
     CheckProgs,
     PathProg,
-    /// AS_HELP_STRING, which stands in help arguments alone and is no statement.
-    HelpString,
-    /// AC_LANG_PROGRAM, which stands in arguments of tests alone and is no statement.
-    LangProgram,
-    /// AC_LANG_SOURCE, likewise.
-    LangSource,
     Output,
 }
 
@@ -49,15 +47,35 @@ pub enum QuestionMacro {
     Tries(Try),
 }
 
-/// A macro. Macros are grouped by where statements stand in their arguments.
+/// A macro whose calls are statements. Macros are grouped by which of their arguments hold statements.
 #[derive(Clone, Copy, Debug, PartialEq, Eq)]
 pub enum Macro {
-    /// Nowhere.
+    /// None.
     Plain(PlainMacro),
-    /// In every second argument behind the first, and in the last.
+    /// Every second argument, and the last if it is left over. The word of AS_CASE comes before them.
     Choice(ChoiceMacro),
-    /// In two arguments behind those of the question: for yes, and for no.
+    /// The two arguments after those of the question: the first for yes, the second for no.
     Question(QuestionMacro),
+}
+
+/// A macro that is read in arguments of other macros alone.
+#[derive(Clone, Copy, Debug, PartialEq, Eq)]
+pub enum ArgumentMacro {
+    /// AS_HELP_STRING, in the help arguments of AC_ARG_ENABLE and AC_ARG_WITH.
+    HelpString,
+    /// AC_LANG_PROGRAM, in the first argument of AC_COMPILE_IFELSE and its like.
+    LangProgram,
+    /// AC_LANG_SOURCE, likewise.
+    LangSource,
+}
+
+/// What a name of a macro names.
+#[derive(Clone, Copy, Debug, PartialEq, Eq)]
+pub enum Named {
+    /// A macro whose calls are statements.
+    Statement(Macro),
+    /// A macro that is read in arguments alone.
+    Argument(ArgumentMacro),
 }
 
 /// Macros that say what a source is and what it makes.
@@ -101,8 +119,6 @@ fn action_named(name: &[u8]) -> Option<Macro>
         Some(Macro::Plain(PlainMacro::DefineUnquoted))
     } else if name == b"AC_MSG_ERROR".as_slice() {
         Some(Macro::Plain(PlainMacro::MsgError))
-    } else if name == b"AS_HELP_STRING".as_slice() {
-        Some(Macro::Plain(PlainMacro::HelpString))
     } else if name == b"AS_IF".as_slice() {
         Some(Macro::Choice(ChoiceMacro::If))
     } else if name == b"AS_CASE".as_slice() {
@@ -146,7 +162,7 @@ fn search_named(name: &[u8]) -> Option<Macro>
     }
 }
 
-/// Macros that try programs, and those that say which.
+/// Macros that try programs.
 #[tactic(auto, unfolding(crate::specs::Table::try_named))]
 fn try_named(name: &[u8]) -> Option<Macro>
     ensures { result ≡ table.try_named name.now }
@@ -159,19 +175,31 @@ fn try_named(name: &[u8]) -> Option<Macro>
         Some(Macro::Question(QuestionMacro::Tries(Try::Preproc)))
     } else if name == b"AC_RUN_IFELSE".as_slice() {
         Some(Macro::Question(QuestionMacro::Tries(Try::Run)))
-    } else if name == b"AC_LANG_PROGRAM".as_slice() {
-        Some(Macro::Plain(PlainMacro::LangProgram))
-    } else if name == b"AC_LANG_SOURCE".as_slice() {
-        Some(Macro::Plain(PlainMacro::LangSource))
     } else {
         None
     }
 }
 
-/// The macro of a name; none for a macro that is not read.
-#[tactic(auto, unfolding(crate::specs::Table::macro_named))]
-pub fn macro_named(name: &[u8]) -> Option<Macro>
-    ensures { result ≡ table.macro_named name.now }
+/// Macros that are read in arguments of other macros alone.
+#[tactic(auto, unfolding(crate::specs::Table::argument_named))]
+fn argument_named(name: &[u8]) -> Option<ArgumentMacro>
+    ensures { result ≡ table.argument_named name.now }
+{
+    if name == b"AS_HELP_STRING".as_slice() {
+        Some(ArgumentMacro::HelpString)
+    } else if name == b"AC_LANG_PROGRAM".as_slice() {
+        Some(ArgumentMacro::LangProgram)
+    } else if name == b"AC_LANG_SOURCE".as_slice() {
+        Some(ArgumentMacro::LangSource)
+    } else {
+        None
+    }
+}
+
+/// The macro of a name whose calls are statements.
+#[tactic(auto, unfolding(crate::specs::Table::statement_named))]
+fn statement_named(name: &[u8]) -> Option<Macro>
+    ensures { result ≡ table.statement_named name.now }
 {
     if let Some(m) = setting_named(name) {
         return Some(m);
@@ -188,7 +216,21 @@ pub fn macro_named(name: &[u8]) -> Option<Macro>
     action_named(name)
 }
 
-/// How many arguments a macro takes, and whether it stands in the file's own list of statements alone.
+/// Returns the macro of a name, or `None` if the profile has no macro of that name.
+#[tactic(auto, unfolding(crate::specs::Table::macro_named))]
+pub fn macro_named(name: &[u8]) -> Option<Named>
+    ensures { result ≡ table.macro_named name.now }
+{
+    if let Some(m) = statement_named(name) {
+        return Some(Named::Statement(m));
+    }
+    match argument_named(name) {
+        Some(m) => Some(Named::Argument(m)),
+        None => None,
+    }
+}
+
+/// How many arguments a macro takes, and whether its calls are allowed in the file's own list of statements alone.
 #[derive(Clone, Copy, Debug, PartialEq, Eq)]
 pub struct Row {
     pub least: usize,
@@ -196,7 +238,7 @@ pub struct Row {
     pub top: bool,
 }
 
-/// Any number of arguments: more than a source can have.
+/// Any number of arguments: as many as a source has bytes, so more than one call has.
 const ANY: usize = 1_048_576;
 
 const fn counts(least: usize, most: usize, top: bool) -> Row
@@ -205,7 +247,7 @@ const fn counts(least: usize, most: usize, top: bool) -> Row
     Row { least, most, top }
 }
 
-/// The row of a macro.
+/// Returns the row of a macro whose calls are statements.
 pub fn look_up(m: Macro) -> Row
     ensures { result ≡ table.row m }
 {
@@ -224,14 +266,56 @@ pub fn look_up(m: Macro) -> Row
         Macro::Plain(PlainMacro::CheckProg) => counts(3, 4, false),
         Macro::Plain(PlainMacro::CheckProgs) => counts(2, 3, false),
         Macro::Plain(PlainMacro::PathProg) => counts(2, 3, false),
-        Macro::Plain(PlainMacro::HelpString) => counts(2, 2, false),
-        Macro::Plain(PlainMacro::LangProgram) => counts(0, 2, false),
-        Macro::Plain(PlainMacro::LangSource) => counts(1, 1, false),
         Macro::Plain(PlainMacro::Output) => counts(0, 1, true),
         Macro::Choice(ChoiceMacro::If) => counts(2, ANY, false),
         Macro::Choice(ChoiceMacro::Case) => counts(2, ANY, false),
         Macro::Question(QuestionMacro::Given(_)) => counts(1, 4, false),
         Macro::Question(QuestionMacro::Tries(Try::Run)) => counts(1, 4, false),
         Macro::Question(QuestionMacro::Tries(_)) => counts(1, 3, false),
+    }
+}
+
+/// The row of a macro that is read in arguments alone.
+fn look_up_argument(m: ArgumentMacro) -> Row
+    ensures { result ≡ table.argument_row m }
+{
+    match m {
+        ArgumentMacro::HelpString => counts(2, 2, false),
+        ArgumentMacro::LangProgram => counts(0, 2, false),
+        ArgumentMacro::LangSource => counts(1, 1, false),
+    }
+}
+
+/// Whether a row allows so many arguments.
+fn allows(row: Row, count: usize) -> bool
+    ensures { result ≡ table.allows row count }
+{
+    row.least <= count && count <= row.most
+}
+
+/// Whether a call is AC_OUTPUT with a text.
+fn is_output_of_text(alloc: Global, m: Macro, args: &[Arg<'_>]) -> Result<bool, AllocError>
+    ensures { IfOk result (λ b. b ≡ table.is_output_of_text m (map span args.now)) }
+{
+    match m {
+        Macro::Plain(PlainMacro::Output) => is_given(alloc, arg_at(args, 0)),
+        _ => Ok(false),
+    }
+}
+
+/// Returns whether a macro takes these arguments: they are as many as it wants, and the one of AC_OUTPUT is empty.
+#[tactic(auto, unfolding(crate::specs::Table::takes))]
+pub fn takes(alloc: Global, m: Named, args: &[Arg<'_>]) -> Result<bool, AllocError>
+    ensures { IfOk result (λ b. b ≡ table.takes m (map span args.now)) }
+{
+    match m {
+        Named::Statement(m) => {
+            if !allows(look_up(m), args.len()) {
+                return Ok(false);
+            }
+            let with_text = is_output_of_text(alloc, m, args)?;
+            Ok(!with_text)
+        }
+        Named::Argument(m) => Ok(allows(look_up_argument(m), args.len())),
     }
 }

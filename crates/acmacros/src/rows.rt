@@ -204,23 +204,8 @@ fn arg_var(alloc: Global, scene: &Scene, args: &[Arg<'_>]) -> Result<Plain, Pars
     if !has_room(&scene.substituted, &name) {
         return Err(ParseFault::TooMany(arg.at));
     }
-    if !has_room(&scene.precious, &name) {
-        return Err(ParseFault::TooMany(arg.at));
-    }
     let help = text(alloc, arg_at(args, 1))?;
     Ok(Plain::ArgVar { name, help })
-}
-
-#[tactic(auto, unfolding(crate::specs::Rows::output))]
-fn output(alloc: Global, args: &[Arg<'_>]) -> Result<Plain, ParseFault>
-    ensures { Gives (λ s. s) result (rows.output (map span args.now)) }
-{
-    let arg = arg_at(args, 0);
-    let text = text(alloc, arg)?;
-    if !text.is_empty() {
-        return Err(ParseFault::ArgCount(arg.at));
-    }
-    Ok(Plain::Output)
 }
 
 /// The statement of a macro with these arguments, whose name stands at `at`, behind what is known.
@@ -249,10 +234,7 @@ pub fn plain(
         PlainMacro::CheckProg => check_prog(alloc, scene, args),
         PlainMacro::CheckProgs => check_progs(alloc, scene, args),
         PlainMacro::PathProg => path_prog(alloc, scene, args),
-        PlainMacro::HelpString => Err(ParseFault::UnknownStatement(at)),
-        PlainMacro::LangProgram => Err(ParseFault::UnknownStatement(at)),
-        PlainMacro::LangSource => Err(ParseFault::UnknownStatement(at)),
-        PlainMacro::Output => output(alloc, args),
+        PlainMacro::Output => Ok(Plain::Output),
     }
 }
 

@@ -5,7 +5,7 @@ ghost use Rattle.deftable.specs.ShellName.{IsShellName};
 ghost use Rattle.acargs.specs.Reading.{Gives};
 ghost use Rattle.acmacros.specs.Scene as scenes;
 
-use crate::macros::{Macro, PlainMacro, look_up};
+use crate::macros::{Macro, Named, PlainMacro, look_up};
 use crate::statement::{Plain, Question};
 use acargs::{Help, HelpList, Name, OptionKind, Outputs, ParseFault};
 use deftable::{Bytes, SubstList};
@@ -164,16 +164,12 @@ fn may_begin(m: Macro) -> bool
     is_init(m) || m == Macro::Plain(PlainMacro::Prereq)
 }
 
-/// Whether a macro is a statement; the others stand in arguments.
-fn is_statement(m: Macro) -> bool
-    ensures { result ≡ scenes.is_statement_macro m }
-{
-    m != Macro::Plain(PlainMacro::HelpString)
-        && m != Macro::Plain(PlainMacro::LangProgram)
-        && m != Macro::Plain(PlainMacro::LangSource)
-}
-
-/// Whether a macro whose name stands at `at` may stand here, in the file's own list (`top`) or in another.
+/// Checks that a call is allowed at its place: `top` says whether that is the file's own list or another, and `at` is the
+/// place of the macro's name.
+///
+/// # Errors
+/// `NoInit` before AC_INIT, where AC_PREREQ and AC_INIT alone are allowed, `AfterOutput` after AC_OUTPUT, and between them
+/// `NotAtTop` for a second AC_INIT, and in another list for a macro that the file's own list alone may hold.
 #[tactic(auto, unfolding(crate::specs::Scene::placed))]
 pub fn check_place(top: bool, stage: Stage, m: Macro, at: usize) -> Result<(), ParseFault>
     ensures { Gives (λ x. x) result (scenes.placed top stage m at) }
@@ -188,16 +184,23 @@ pub fn check_place(top: bool, stage: Stage, m: Macro, at: usize) -> Result<(), P
             if is_init(m) || (look_up(m).top && !top) {
                 return Err(ParseFault::NotAtTop(at));
             }
-            if !is_statement(m) {
-                return Err(ParseFault::UnknownStatement(at));
-            }
         }
         Stage::Ended => return Err(ParseFault::AfterOutput(at)),
     }
     Ok(())
 }
 
-/// What is wrong with bare text at `at` that says something.
+/// Returns the macro of a call as a statement: a call of a macro that is read in arguments alone is no statement.
+pub fn as_statement(stage: Stage, at: usize, m: Named) -> Result<Macro, ParseFault>
+    ensures { result ≡ scenes.as_statement stage at m }
+{
+    match m {
+        Named::Statement(m) => Ok(m),
+        Named::Argument(_) => Err(bare_fault(stage, at)),
+    }
+}
+
+/// Returns the fault of what is no statement, at `at`.
 pub fn bare_fault(stage: Stage, at: usize) -> ParseFault
     ensures { result ≡ scenes.bare_fault stage at }
 {

@@ -1,6 +1,6 @@
 //! Readers of macros that look for programs.
 
-ghost use Rattle.std.specs.Prelude.{◌≡◌, ◌&&◌, map, IfOk};
+ghost use Rattle.std.specs.Prelude.{◌≡◌, map, IfOk};
 ghost use Rattle.m4quote.specs.Entry.{span};
 ghost use Rattle.acargs.specs.Reading.{Gives};
 ghost use Rattle.acmacros.specs.Room as rooms;
@@ -158,9 +158,6 @@ pub(crate) fn prog_cc(
     ensures { Gives (λ s. s) result (rows.prog_cc scene.now at (map span args.now)) }
 {
     if !has_tool_room(&scene.substituted) {
-        return Err(ParseFault::TooMany(at));
-    }
-    if !has_tool_room(&scene.precious) {
         return Err(ParseFault::TooMany(at));
     }
     let names = compilers(alloc, arg_at(args, 0))?;

@@ -1,5 +1,5 @@
 -- A fault that is read is one, and all before it is right.
-use Rattle.std.proofs.Common.{◌≡◌, ℕ, zero, suc, Bool, true, false, List, [], ◌∷◌, drop, Option, Some, None, Result, Ok, Err, ◌&&◌, ◌⊎◌, refl, sym, subst, inl, inr}
+use Rattle.std.proofs.Common.{◌≡◌, ℕ, zero, suc, Bool, false, List, [], ◌∷◌, drop, Option, Some, None, Result, Ok, Err, refl, ap, sym, subst, inl, inr, ◌∙◌}
 use Rattle.m4quote.specs.Entry.{Span, Entry, call, bare}
 use Rattle.m4quote.specs.declared.fault.QuoteFault.{QuoteFault}
 use Rattle.acargs.specs.declared.fault.ParseFault.{ParseFault}
@@ -9,12 +9,14 @@ use Rattle.acargs.specs.Reading.{quoted, quote_fault}
 use Rattle.acargs.specs.Stand.{edge_of, no_edge}
 use Rattle.acargs.proofs.Binds.{bind_err, wants_err, err_is}
 use Rattle.acargs.specs.Arguments.{is_given}
-use Rattle.acargs.specs.Inside.{inside}
+use Rattle.acmacros.specs.declared.macros.ArgumentMacro.{ArgumentMacro}
 use Rattle.acmacros.specs.declared.macros.ChoiceMacro.{ChoiceMacro}
 use Rattle.acmacros.specs.declared.macros.Macro.{Macro}
 use Rattle.acmacros.specs.declared.macros.Macro.TheVariants.{Plain, Choice as A_choice, Question as A_question}
+use Rattle.acmacros.specs.declared.macros.Named.{Named}
+use Rattle.acmacros.specs.declared.macros.Named.TheVariants.{Statement, Argument}
 use Rattle.acmacros.specs.declared.macros.QuestionMacro.{QuestionMacro}
-use Rattle.acmacros.specs.Scene.{after_question}
+use Rattle.acmacros.specs.Scene.{after_question, as_statement, bare_fault}
 use Rattle.tree.specs.declared.tree.When.{When}
 use Rattle.tree.specs.declared.tree.When.TheVariants.{Yes, No, Always}
 use Rattle.acmacros.specs.declared.scene.Scene as scene
@@ -22,13 +24,12 @@ use Rattle.acmacros.specs.declared.scene.Stage.{Stage}
 use Rattle.acmacros.specs.Table.{macro_named}
 use Rattle.m4quote.proofs.Laws.{outcome_is_spelling, outcome_is_fault}
 use Rattle.m4quote.specs.Scan.{outcome}
-use Rattle.std.proofs.lemmas.Bool.{leb-false}
 use Rattle.tree.specs.Known.{after_all, after_cases}
 use Rattle.tree.specs.Script.{Script, Cases}
-use Rattle.acparse.specs.Breaks.{WithinBreaks, MayNotStand, unknown, too_few, too_many, not_here, in_text, CasesBreak, in_condition, in_body, behind_case, in_default, ActionBreaks, in_action, ItemBreaks, other_text, may_not_stand, argument, in_subject, in_cases, in_question, in_yes, in_no, Breaks, here, behind, TextBreaks, no_items, in_items, IsBroken}
+use Rattle.acparse.specs.Breaks.{WithinBreaks, MayNotStand, unknown, other_arguments, in_arguments_alone, not_here, in_text, CasesBreak, in_condition, in_body, behind_case, in_default, ActionBreaks, in_action, ItemBreaks, other_text, may_not_stand, argument, in_subject, in_cases, in_question, in_yes, in_no, Breaks, here, behind, TextBreaks, no_items, in_items, IsBroken}
 use Rattle.acparse.specs.Profile.{Bodies, body_of, items_of, item_of, call_of, checked, known, case_args, case_if, cases_in, choice_of, action_in, action_args, asked_of}
 use Rattle.acparse.specs.Statements.{Within, MayStand, IsBody}
-use Rattle.acparse.proofs.Found.{Reads, known_some, may_stand, action_found, item_found, body_found, quoted_ok}
+use Rattle.acparse.proofs.Found.{Reads, known_some, some, is_of_statement, may_stand, action_found, item_found, body_found, quoted_ok}
 
 -- each fault of a statement argument that is read is one
 abbrev pub Faults : Bodies → WithinBreaks → Type 0
@@ -38,13 +39,13 @@ pub quoted_err : {A : Type 0} (r : Result A QuoteFault) (f : ParseFault) → quo
 quoted_err (Ok y) f e = absurd cc
 quoted_err {A = A} (Err q) f e = (q, refl, sym (err_is {A = A} _ f e))
 
-known_none : (at : ℕ) (o : Option Macro) (f : ParseFault) → known at o ≡ Err f → (o ≡ None) × (f ≡ UnknownMacro at)
-known_none at None f e = (refl, sym (err_is {A = Macro} _ f e))
+known_none : (at : ℕ) (o : Option Named) (f : ParseFault) → known at o ≡ Err f → (o ≡ None) × (f ≡ UnknownMacro at)
+known_none at None f e = (refl, sym (err_is {A = Named} _ f e))
 known_none at (Some m) f e = absurd cc
 
-not_both : (a b : Bool) → (a && b) ≡ false → (a ≡ false) ⊎ (b ≡ false)
-not_both true b e = inr e
-not_both false b e = inl refl
+is_of_arguments : (stage : Stage) (at : ℕ) (named : Named) (f : ParseFault) → as_statement stage at named ≡ Err f → (m : ArgumentMacro) × (named ≡ Argument m) × (f ≡ bare_fault stage at)
+is_of_arguments stage at (Statement m) f e = absurd cc
+is_of_arguments stage at (Argument m) f e = (m, refl, sym (err_is {A = Macro} _ f e))
 
 may_not_stand_by : (top : Bool) (stage : Stage) (edge : Edge) (name : List ℕ) (args : List Span) (at : ℕ) (next : List Entry) (f : ParseFault)
     → checked top stage edge name args at next ≡ Err f → MayNotStand top stage edge name args at next f
@@ -54,16 +55,18 @@ may_not_stand_by top stage edge name args at next f e =
     elim (bind_err _ _ _ e) [
       | inl h ↦ let k = known_none at (macro_named name) f h in subst P (sym k.1) (unknown k.0)
       | inr m ↦ elim (bind_err _ _ _ m.2) [
-        | inl h ↦ let n = wants_err _ _ _ h in subst P (sym n.1) (elim (not_both _ _ n.0) [
-          | inl few ↦ too_few (known_some _ _ _ m.1) (leb-false _ _ few)
-          | inr many ↦ too_many (known_some _ _ _ m.1) (leb-false _ _ many)
-        ])
+        | inl h ↦ let n = wants_err _ _ _ h in subst P (sym n.1) (other_arguments (known_some _ _ _ m.1) n.0)
         | inr n ↦ elim (bind_err _ _ _ n.2) [
-          | inl h ↦ not_here (known_some _ _ _ m.1) h
-          | inr p ↦ elim (bind_err _ _ _ p.2) [
-            | inl h ↦ let w = wants_err _ _ _ h in subst P (sym w.1) (in_text (known_some _ _ _ m.1) w.0)
-            | inr q ↦ absurd (no_macro m.0 q.2)
-          ]
+          | inl h ↦ let a = is_of_arguments stage at m.0 f h in subst P (sym a.2) (in_arguments_alone (known_some _ _ _ m.1 ∙ ap some a.1))
+          | inr s ↦
+              let is : macro_named name ≡ Some (Statement s.0) = known_some _ _ _ m.1 ∙ ap some (is_of_statement stage at m.0 s.0 s.1) in
+              elim (bind_err _ _ _ s.2) [
+                | inl h ↦ not_here is h
+                | inr p ↦ elim (bind_err _ _ _ p.2) [
+                  | inl h ↦ let w = wants_err _ _ _ h in subst P (sym w.1) (in_text is w.0)
+                  | inr q ↦ absurd (no_macro s.0 q.2)
+                ]
+              ]
         ]
       ]
     ]

@@ -1,5 +1,5 @@
 -- What is read is so.
-use Rattle.std.proofs.Common.{◌≡◌, ℕ, zero, suc, Bool, true, false, List, [], ◌∷◌, drop, Option, Some, None, Result, Ok, Err, ◌&&◌, refl, subst}
+use Rattle.std.proofs.Common.{◌≡◌, ℕ, zero, suc, Bool, true, false, List, [], ◌∷◌, drop, Option, Some, None, Result, Ok, Err, refl, ap, subst, ◌∙◌}
 use Rattle.m4quote.specs.Entry.{Span, Entry, call, bare}
 use Rattle.m4quote.specs.declared.fault.QuoteFault.{QuoteFault}
 use Rattle.acargs.specs.declared.stand.Edge.{Edge}
@@ -10,27 +10,27 @@ use Rattle.acargs.proofs.Binds.{bind_ok, ok_is, wants_ok}
 use Rattle.acmacros.specs.declared.macros.Macro.{Macro}
 use Rattle.acmacros.specs.declared.macros.ChoiceMacro.{ChoiceMacro}
 use Rattle.acmacros.specs.declared.macros.Macro.TheVariants.{Plain, Choice as A_choice, Question as A_question}
+use Rattle.acmacros.specs.declared.macros.Named.{Named}
+use Rattle.acmacros.specs.declared.macros.Named.TheVariants.{Statement, Argument}
 use Rattle.acmacros.specs.declared.macros.QuestionMacro.{QuestionMacro}
-use Rattle.acmacros.specs.Scene.{after_question}
+use Rattle.acmacros.specs.Scene.{after_question, as_statement}
+use Rattle.acmacros.specs.Table.{macro_named, takes}
 use Rattle.tree.specs.declared.tree.When.{When}
 use Rattle.tree.specs.declared.tree.When.TheVariants.{Yes, No, Always}
 use Rattle.acmacros.specs.declared.scene.Scene as scene
 use Rattle.acmacros.specs.declared.scene.Stage.{Stage}
 use Rattle.acmacros.specs.declared.scene.Stage.TheVariants.{Before, Open, Ended}
-use Rattle.std.proofs.lemmas.Bool.{leb-true}
 use Rattle.m4quote.specs.Scan.{outcome, bare_value_of}
 use Rattle.m4quote.proofs.Laws.{outcome_is_spelling, bare_value_is_value}
 use Rattle.baretext.proofs.Laws.{read-text}
 use Rattle.baretext.specs.Reading.{statements_of}
-use Rattle.baretext.specs.declared.assignments.Assignment.{Assignment}
 use Rattle.baretext.specs.declared.fault.BareFault.{BareFault}
 use Rattle.acargs.specs.declared.fault.ParseFault.{ParseFault}
 use Rattle.acargs.specs.Arguments.{is_given}
-use Rattle.acargs.specs.Inside.{inside}
 use Rattle.tree.specs.Known.{after_all, after_cases}
 use Rattle.tree.specs.Script.{Script, Done, Cases, No_case}
 use Rattle.acparse.specs.Bare.{bare_at, assigned, of_value, idle_or, bare_of}
-use Rattle.acparse.specs.Profile.{action_in, asked_of, action_args, Bodies, body_of, items_of, item_of, call_of, checked, known, when_of, subject_of, case_args, case_if, cases_in, choice_of}
+use Rattle.acparse.specs.Profile.{action_in, asked_of, action_args, Bodies, body_of, items_of, item_of, call_of, checked, known, case_args, case_if, cases_in, choice_of}
 use Rattle.acparse.specs.Statements.{Within, MayStand, IsBare, before, ended, assignments, AreCases, no_more, default, pair, IsAction, absent, there, IsItem, bare_text, plain_call, choice, question, AreStatements, none, one, IsBody}
 
 -- each statement argument that is read is so
@@ -41,13 +41,16 @@ pub quoted_ok : {A : Type 0} (r : Result A QuoteFault) (x : A) → quoted r ≡ 
 quoted_ok (Ok y) x e = cc
 quoted_ok (Err f) x e = absurd cc
 
-pub known_some : (at : ℕ) (o : Option Macro) (m : Macro) → known at o ≡ Ok m → o ≡ Some m
+pub known_some : (at : ℕ) (o : Option Named) (m : Named) → known at o ≡ Ok m → o ≡ Some m
 known_some at None m e = absurd cc
 known_some at (Some k) m e = cc
 
-both : (a b : Bool) → (a && b) ≡ true → (a ≡ true) × (b ≡ true)
-both true b e = (refl, e)
-both false b e = absurd cc
+pub is_of_statement : (stage : Stage) (at : ℕ) (named : Named) (m : Macro) → as_statement stage at named ≡ Ok m → named ≡ Statement m
+is_of_statement stage at (Statement k) m e = cc
+is_of_statement stage at (Argument k) m e = absurd cc
+
+abbrev pub some : Named → Option Named
+some m = Some m
 
 pub may_stand : (top : Bool) (stage : Stage) (edge : Edge) (name : List ℕ) (args : List Span) (at : ℕ) (next : List Entry) (m : Macro)
     → checked top stage edge name args at next ≡ Ok m → MayStand top stage edge name args at next m
@@ -55,14 +58,14 @@ unfolding checked
 may_stand top stage edge name args at next m e =
     let k = bind_ok _ _ _ e in
     let n = bind_ok _ _ _ k.2 in
-    let p = bind_ok _ _ _ n.2 in
+    let s = bind_ok _ _ _ n.2 in
+    let p = bind_ok _ _ _ s.2 in
     let q = bind_ok _ _ _ p.2 in
-    let counts = both _ _ (wants_ok _ _ _ n.1) in
-    subst (MayStand top stage edge name args at next) (ok_is k.0 m q.2)
+    let is : k.0 ≡ Statement s.0 = is_of_statement stage at k.0 s.0 s.1 in
+    subst (MayStand top stage edge name args at next) (ok_is s.0 m q.2)
     (record {
-      known = known_some _ _ _ k.1;
-      least = leb-true _ _ counts.0;
-      most = leb-true _ _ counts.1;
+      known = known_some at (macro_named name) k.0 k.1 ∙ ap some is;
+      taken = subst (λ (n : Named). takes n args ≡ true) is (wants_ok _ _ _ n.1);
       in_place = p.1;
       parted = wants_ok _ _ _ q.1;
     })

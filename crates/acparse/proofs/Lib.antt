@@ -4,3 +4,4 @@ pub mod Found
 pub mod Only
 pub mod Broken
 pub mod Whole
+pub mod ListLimits

@@ -1,19 +1,18 @@
 -- What is so is read.
-use Rattle.std.proofs.Common.{◌≡◌, ℕ, zero, suc, Bool, true, false, List, Ok, ◌&&◌, refl, ap, ◌∙◌}
+use Rattle.std.proofs.Common.{◌≡◌, ℕ, zero, suc, Bool, false, List, Ok, refl, ap, ◌∙◌}
 use Rattle.m4quote.specs.Entry.{Span, Entry}
 use Rattle.m4quote.proofs.Laws.{outcome_is_spelling, bare_value_is_value}
 use Rattle.baretext.proofs.Laws.{text-read}
-use Rattle.acargs.specs.declared.fault.ParseFault.{ParseFault}
 use Rattle.acargs.specs.declared.stand.Edge.{Edge}
 use Rattle.acargs.specs.Reading.{quoted}
 use Rattle.acargs.proofs.Binds.{then_ok, wants_true}
 use Rattle.acmacros.specs.declared.macros.ChoiceMacro.{ChoiceMacro}
 use Rattle.acmacros.specs.declared.macros.Macro.{Macro}
+use Rattle.acmacros.specs.declared.macros.Named.TheVariants.{Statement}
 use Rattle.acmacros.specs.declared.scene.Scene as scene
 use Rattle.acmacros.specs.declared.scene.Stage.{Stage}
 use Rattle.acmacros.specs.declared.scene.Stage.TheVariants.{Before, Ended}
 use Rattle.acmacros.specs.Scene.{bare_fault}
-use Rattle.std.proofs.lemmas.Bool.{le-leb}
 use Rattle.tree.specs.declared.tree.When.{When}
 use Rattle.tree.specs.Script.{Script, Cases}
 use Rattle.acparse.specs.Bare.{bare_at, of_value, idle_or, bare_of}
@@ -24,16 +23,12 @@ use Rattle.acparse.specs.Statements.{Within, MayStand, IsBare, before, ended, as
 abbrev pub Gets : Bodies → Within → Type 0
 Gets bodies Inside = (c : scene.Scene) (arg : Span) (s : Script) → Inside c arg s → bodies c arg ≡ Ok s
 
-both : (a b : Bool) → a ≡ true → b ≡ true → (a && b) ≡ true
-both a b p q = rw (p, q) refl
-
 pub is_checked : (top : Bool) (stage : Stage) (edge : Edge) (name : List ℕ) (args : List Span) (at : ℕ) (next : List Entry) (m : Macro)
     → MayStand top stage edge name args at next m → checked top stage edge name args at next ≡ Ok m
 unfolding checked
 is_checked top stage edge name args at next m h =
-    then_ok _ _ m _ (ap (known at) h.known)
-    (then_ok _ _ tt _ (wants_true _ _ (both _ _ (le-leb _ _ h.least) (le-leb _ _ h.most)))
-    (then_ok _ _ tt _ h.in_place (then_ok _ _ tt _ (wants_true _ _ h.parted) refl)))
+    then_ok _ _ (Statement m) _ (ap (known at) h.known)
+    (then_ok _ _ tt _ (wants_true _ _ h.taken) (then_ok _ _ tt _ h.in_place (then_ok _ _ tt _ (wants_true _ _ h.parted) refl)))
 
 bare_only : {stage : Stage} (at : ℕ) {text : List ℕ} {s : Script} → IsBare stage text s → bare_of stage at text ≡ Ok s
 unfolding bare_of

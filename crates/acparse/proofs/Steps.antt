@@ -1,6 +1,6 @@
 -- What the loops over items and over cases keep.
-use Rattle.std.proofs.Common.{◌≡◌, ◌+◌, ◌-◌, ◌<◌, ◌≤◌, ℕ, Bool, true, false, cond, List, [], ◌∷◌, ◌++◌, length, take, drop, get_or, map, Result, Ok, Err, refl, ap, sym, ◌∙◌, subst, arith}
-use Rattle.std.specs.Prelude.{option_to_list, Option, Some, None}
+use Rattle.std.proofs.Common.{◌≡◌, ◌+◌, ◌-◌, ◌<◌, ℕ, Bool, List, [], ◌∷◌, ◌++◌, length, take, drop, get_or, map, Result, Ok, Err, refl, ap, sym, ◌∙◌, subst, arith}
+use Rattle.std.specs.Prelude.{option_to_list, Option}
 use Rattle.std.specs.Result.{MatchResult}
 use Rattle.std.proofs.lemmas.List.{drop_more, take_all, length-drop}
 use Rattle.m4quote.specs.declared.item.Arg.{Arg}
@@ -18,8 +18,8 @@ use Rattle.tree.specs.declared.tree.Case as case
 use Rattle.tree.specs.declared.tree.Stmt.{Stmt}
 use Rattle.tree.specs.declared.tree.When.{When}
 use Rattle.tree.specs.Known.{after_all, after_cases}
-use Rattle.tree.specs.Script.{Script, Done, Then, Choice, Cases, No_case, Case, joined, followed, script_of, cases_of, stmt_then}
-use Rattle.tree.proofs.ScriptLemmas.{script_push, joined_done, joined_assoc, after_joined, cases_push, followed_none, followed_assoc, after_followed}
+use Rattle.tree.specs.Script.{Script, Cases, No_case, Case, joined, followed, script_of, cases_of}
+use Rattle.tree.proofs.ScriptLemmas.{script_push, joined_done, joined_assoc, after_joined, cases_push, followed_assoc, after_followed}
 use Rattle.acparse.specs.Bare.{bare_of}
 use Rattle.acparse.specs.Profile.{Bodies, Adds, behind, when_of, cases_in, items_of, item_of, call_of, checked}
 use Rattle.acparse.proofs.Texts.{bare_known, fails_inside}

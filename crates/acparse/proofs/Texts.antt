@@ -5,7 +5,7 @@ use Rattle.baretext.specs.declared.assignments.Assignment.{Assignment}
 use Rattle.acargs.specs.declared.fault.ParseFault.{ParseFault}
 use Rattle.acargs.specs.declared.fault.ParseFault.TheVariants.{OutOfMemory}
 use Rattle.acargs.specs.Idle.{is_idle}
-use Rattle.acargs.specs.Reading.{◌>>=◌, Fails, Gives}
+use Rattle.acargs.specs.Reading.{Fails, Gives}
 use Rattle.acargs.proofs.Binds.{bind_ok, ok_is, fails_bind}
 use Rattle.acmacros.specs.declared.scene.Scene as scene
 use Rattle.acmacros.specs.declared.scene.Stage.{Stage}
@@ -56,7 +56,7 @@ ended_open stage e f = cc
 -- ---- defaults, and what is known
 
 -- assignments leave nothing to be known
-assigned_known : (list : List Assignment) (c : scene.Scene) → after_all c (assigned list) ≡ c
+pub assigned_known : (list : List Assignment) (c : scene.Scene) → after_all c (assigned list) ≡ c
 unfolding after
 assigned_known [] c = refl
 assigned_known (a ∷ more) c = assigned_known more c

@@ -1,5 +1,5 @@
 -- Bare text between calls: the assignments that its value makes, or nothing where no statement may stand.
-use Rattle.std.specs.Prelude.{ℕ, Bool, true, false, List, [], ◌∷◌, Result, Ok, Err, if◌then◌else◌}
+use Rattle.std.specs.Prelude.{ℕ, Bool, true, false, List, [], ◌∷◌, Result, Ok, Err}
 use Rattle.m4quote.specs.declared.fault.QuoteFault.{QuoteFault}
 use Rattle.m4quote.specs.Scan.{bare_value_of}
 use Rattle.baretext.specs.declared.assignments.Assignment.{Assignment}

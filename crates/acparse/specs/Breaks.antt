@@ -1,6 +1,6 @@
 -- The first fault of items: everything before it, in its list and in each list round it, has statements, and it names
 -- what is wrong at its place.
-use Rattle.std.specs.Prelude.{◌≡◌, ℕ, zero, suc, ◌<◌, ◌⊎◌, Bool, false, List, [], ◌∷◌, length, drop, Some, None, Ok, Err}
+use Rattle.std.specs.Prelude.{◌≡◌, ℕ, zero, suc, ◌⊎◌, Bool, false, List, [], ◌∷◌, drop, Some, None, Ok, Err}
 use Rattle.m4quote.specs.Entry.{Span, Entry, call, bare}
 use Rattle.m4quote.specs.Faults.{IsFirstFault}
 use Rattle.m4quote.specs.Spelling.{IsSpelling}
@@ -11,17 +11,20 @@ use Rattle.acargs.specs.declared.stand.Edge.{Edge}
 use Rattle.acargs.specs.Inside.{inside}
 use Rattle.acargs.specs.Reading.{quote_fault}
 use Rattle.acargs.specs.Stand.{edge_of, no_edge, is_statement}
+use Rattle.acmacros.specs.declared.macros.ArgumentMacro.{ArgumentMacro}
 use Rattle.acmacros.specs.declared.macros.ChoiceMacro.{ChoiceMacro}
 use Rattle.acmacros.specs.declared.macros.Macro.{Macro}
 use Rattle.acmacros.specs.declared.macros.Macro.TheVariants.{Plain, Choice as A_choice, Question as A_question}
+use Rattle.acmacros.specs.declared.macros.Named.{Named}
+use Rattle.acmacros.specs.declared.macros.Named.TheVariants.{Statement, Argument as An_argument}
 use Rattle.acmacros.specs.declared.macros.QuestionMacro.{QuestionMacro}
 use Rattle.acmacros.specs.declared.macros.PlainMacro.{PlainMacro}
 use Rattle.acmacros.specs.declared.scene.Scene as scene
 use Rattle.acmacros.specs.declared.scene.Stage.{Stage}
 use Rattle.acmacros.specs.declared.statement.Question.{Question}
 use Rattle.acmacros.specs.Rows.{plain_of, question_of}
-use Rattle.acmacros.specs.Scene.{after_question, placed}
-use Rattle.acmacros.specs.Table.{macro_named, row}
+use Rattle.acmacros.specs.Scene.{after_question, bare_fault, placed}
+use Rattle.acmacros.specs.Table.{macro_named, takes}
 use Rattle.tree.specs.declared.tree.Subject.{Subject}
 use Rattle.tree.specs.declared.tree.When.{When}
 use Rattle.tree.specs.declared.tree.When.TheVariants.{Yes}
@@ -35,13 +38,14 @@ use Rattle.acparse.specs.Statements.{Within, MayStand, IsAction, IsItem, IsBody}
 abbrev pub WithinBreaks : Type 1
 WithinBreaks = scene.Scene → Span → ParseFault → Type 0
 
--- A call may not stand here.
+-- A call is no statement here: its macro is unknown, takes other arguments, is read in arguments alone, or has another
+-- place, or the call is not parted from other text.
 pub data MayNotStand (top : Bool) (stage : Stage) (edge : Edge) (name : List ℕ) (args : List Span) (at : ℕ) (behind : List Entry) : ParseFault → Type 0 where
   unknown : macro_named name ≡ None → MayNotStand top stage edge name args at behind (UnknownMacro at)
-  too_few : {m : Macro} → macro_named name ≡ Some m → length args < (row m).least → MayNotStand top stage edge name args at behind (ArgCount at)
-  too_many : {m : Macro} → macro_named name ≡ Some m → (row m).most < length args → MayNotStand top stage edge name args at behind (ArgCount at)
-  not_here : {m : Macro} {f : ParseFault} → macro_named name ≡ Some m → placed top stage m at ≡ Err f → MayNotStand top stage edge name args at behind f
-  in_text : {m : Macro} → macro_named name ≡ Some m → is_statement edge name args at behind ≡ false → MayNotStand top stage edge name args at behind (UnknownStatement at)
+  other_arguments : {m : Named} → macro_named name ≡ Some m → takes m args ≡ false → MayNotStand top stage edge name args at behind (ArgCount at)
+  in_arguments_alone : {m : ArgumentMacro} → macro_named name ≡ Some (An_argument m) → MayNotStand top stage edge name args at behind (bare_fault stage at)
+  not_here : {m : Macro} {f : ParseFault} → macro_named name ≡ Some (Statement m) → placed top stage m at ≡ Err f → MayNotStand top stage edge name args at behind f
+  in_text : {m : Macro} → macro_named name ≡ Some (Statement m) → is_statement edge name args at behind ≡ false → MayNotStand top stage edge name args at behind (UnknownStatement at)
 
 -- An argument among cases is at fault, and those before it are not.
 pub data CasesBreak (Inside : Within) (Broken : WithinBreaks) (m : ChoiceMacro) : scene.Scene → List Span → ParseFault → Type 0 where

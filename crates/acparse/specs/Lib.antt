@@ -3,3 +3,4 @@ pub mod Profile
 pub mod Statements
 pub mod Breaks
 pub mod Source
+pub mod Limits

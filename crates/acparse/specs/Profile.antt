@@ -1,6 +1,6 @@
 -- Which statements a source is, and its first fault, as one function of its text. It says which of two faults of one
 -- item is named; what a tree and a fault are, apart from any order, is in Source.
-use Rattle.std.specs.Prelude.{◌≡◌, ℕ, zero, suc, ◌&&◌, Bool, true, false, List, [], ◌∷◌, length, drop, Option, Some, None, Result, Ok, Err, nat_le, if◌then◌else◌}
+use Rattle.std.specs.Prelude.{◌≡◌, ℕ, zero, suc, Bool, true, false, List, [], ◌∷◌, drop, Option, Some, None, Result, Ok, Err, if◌then◌else◌}
 use Rattle.m4quote.specs.Entry.{Span, Entry, call, bare}
 use Rattle.m4quote.specs.Scan.{outcome}
 use Rattle.acargs.specs.declared.fault.ParseFault.{ParseFault}
@@ -15,14 +15,15 @@ use Rattle.acmacros.specs.declared.macros.ChoiceMacro.{ChoiceMacro}
 use Rattle.acmacros.specs.declared.macros.ChoiceMacro.TheVariants.{If, Case as As_case}
 use Rattle.acmacros.specs.declared.macros.Macro.{Macro}
 use Rattle.acmacros.specs.declared.macros.Macro.TheVariants.{Plain, Choice as A_choice, Question as A_question}
+use Rattle.acmacros.specs.declared.macros.Named.{Named}
 use Rattle.acmacros.specs.declared.macros.QuestionMacro.{QuestionMacro}
 use Rattle.acmacros.specs.declared.macros.QuestionMacro.TheVariants.{Given, Tries}
 use Rattle.acmacros.specs.declared.scene.Stage.{Stage}
 use Rattle.acmacros.specs.declared.scene.Stage.TheVariants.{Before, Open, Ended}
 use Rattle.acmacros.specs.declared.scene.Scene as scene
 use Rattle.acmacros.specs.Rows.{plain_of, question_of}
-use Rattle.acmacros.specs.Scene.{start, after_question, placed}
-use Rattle.acmacros.specs.Table.{macro_named, row}
+use Rattle.acmacros.specs.Scene.{start, after_question, as_statement, placed}
+use Rattle.acmacros.specs.Table.{macro_named, takes}
 use Rattle.tree.specs.declared.tree.Subject.{Subject}
 use Rattle.tree.specs.declared.tree.Subject.TheVariants.{Nothing, Word, Asked}
 use Rattle.tree.specs.declared.tree.When.{When}
@@ -113,16 +114,17 @@ asked_of bodies m c args = do
 
 -- ---- items
 
-abbrev pub known : ℕ → Option Macro → Result Macro ParseFault
+abbrev pub known : ℕ → Option Named → Result Named ParseFault
 known at None = Err (UnknownMacro at)
 known at (Some m) = Ok m
 
--- The macro of a call between what stands before it and the items behind it. In this order: its name is known, the
--- number of its arguments is right, it may stand here, and it stands as a statement.
+-- The macro of a call between what is before it and the items after it. In this order: its name is known, it takes these
+-- arguments, its calls are statements, one is allowed here, and this one is parted from other text.
 unfoldable pub checked : Bool → Stage → Edge → List ℕ → List Span → ℕ → List Entry → Result Macro ParseFault
 checked top stage edge name args at behind = do
-  m ← known at (macro_named name)
-  _ ← wants (nat_le (row m).least (length args) && nat_le (length args) (row m).most) (ArgCount at)
+  named ← known at (macro_named name)
+  _ ← wants (takes named args) (ArgCount at)
+  m ← as_statement stage at named
   _ ← placed top stage m at
   _ ← wants (is_statement edge name args at behind) (UnknownStatement at)
   Ok m

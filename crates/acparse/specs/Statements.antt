@@ -1,5 +1,5 @@
 -- Which statements items are. No order of reading: a case for each form of item.
-use Rattle.std.specs.Prelude.{◌≡◌, ℕ, zero, suc, ◌≤◌, Bool, true, false, List, [], ◌∷◌, length, drop, Some, Ok}
+use Rattle.std.specs.Prelude.{◌≡◌, ℕ, zero, suc, Bool, true, false, List, [], ◌∷◌, drop, Some, Ok}
 use Rattle.m4quote.specs.Entry.{Span, Entry, call, bare}
 use Rattle.m4quote.specs.Spelling.{IsSpelling}
 use Rattle.m4quote.specs.Used.{IsBareValue}
@@ -14,6 +14,7 @@ use Rattle.acmacros.specs.declared.macros.ChoiceMacro.{ChoiceMacro}
 use Rattle.acmacros.specs.declared.macros.Macro.{Macro}
 use Rattle.acmacros.specs.declared.macros.Macro.TheVariants.{Plain, Choice as A_choice, Question as A_question}
 use Rattle.acmacros.specs.declared.macros.QuestionMacro.{QuestionMacro}
+use Rattle.acmacros.specs.declared.macros.Named.TheVariants.{Statement}
 use Rattle.acmacros.specs.declared.macros.PlainMacro.{PlainMacro}
 use Rattle.acmacros.specs.declared.scene.Scene as scene
 use Rattle.acmacros.specs.declared.scene.Stage.{Stage}
@@ -22,7 +23,7 @@ use Rattle.acmacros.specs.declared.statement.Plain as plain
 use Rattle.acmacros.specs.declared.statement.Question.{Question}
 use Rattle.acmacros.specs.Rows.{plain_of, question_of}
 use Rattle.acmacros.specs.Scene.{after_question, placed}
-use Rattle.acmacros.specs.Table.{macro_named, row}
+use Rattle.acmacros.specs.Table.{macro_named, takes}
 use Rattle.tree.specs.declared.tree.Subject.{Subject}
 use Rattle.tree.specs.declared.tree.Subject.TheVariants.{Asked}
 use Rattle.tree.specs.declared.tree.When.{When}
@@ -36,11 +37,10 @@ use Rattle.acparse.specs.Profile.{when_of, subject_of, case_args, case_if, actio
 abbrev pub Within : Type 1
 Within = scene.Scene → Span → Script → Type 0
 
--- A call of the macro may stand between what stands before it and the items behind it.
+-- A call of the macro is a statement between what is before it and the items after it.
 pub record MayStand (top : Bool) (stage : Stage) (edge : Edge) (name : List ℕ) (args : List Span) (at : ℕ) (behind : List Entry) (m : Macro) : Type 0 where
-  pub known : macro_named name ≡ Some m
-  pub least : (row m).least ≤ length args
-  pub most : length args ≤ (row m).most
+  pub known : macro_named name ≡ Some (Statement m)
+  pub taken : takes (Statement m) args ≡ true
   pub in_place : placed top stage m at ≡ Ok tt
   pub parted : is_statement edge name args at behind ≡ true
 

@@ -17,17 +17,18 @@ use acargs::fault::quote_fault;
 use acargs::inside::inside;
 use acargs::shell::{patterns, test, word};
 use acargs::stand::{Edge, NO_EDGE, edge_of, is_statement};
-use acmacros::macros::{look_up, macro_named};
+use acmacros::macros::{macro_named, takes};
 use acmacros::rows::{plain, question};
-use acmacros::scene::{check_place, note, note_question};
+use acmacros::scene::{as_statement, check_place, note, note_question};
 use acmacros::{ChoiceMacro, Macro, QuestionMacro, Scene, Stage};
 use m4quote::{Arg, Item, read_items_at};
 use std::alloc::{AllocError, Global};
 use tree::{Case, Stmt, Subject, When, choose};
 
-/// The macro of a call between what stands before it and the items behind it, where it may stand.
+/// The macro of a call that is a statement between what is before it and the items after it.
 #[tactic(auto, unfolding(crate::specs::Profile::checked))]
 fn check_call(
+    alloc: Global,
     top: bool,
     stage: Stage,
     edge: Edge,
@@ -38,13 +39,13 @@ fn check_call(
 ) -> Result<Macro, ParseFault>
     ensures { Gives (λ m. m) result (profile.checked top stage edge name.now (map span args.now) at (views behind.now)) }
 {
-    let Some(m) = macro_named(name) else {
+    let Some(named) = macro_named(name) else {
         return Err(ParseFault::UnknownMacro(at));
     };
-    let wanted = look_up(m);
-    if args.len() < wanted.least || wanted.most < args.len() {
+    if !takes(alloc, named, args)? {
         return Err(ParseFault::ArgCount(at));
     }
+    let m = as_statement(stage, at, named)?;
     check_place(top, stage, m, at)?;
     if !is_statement(edge, name, args, at, behind) {
         return Err(ParseFault::UnknownStatement(at));
@@ -321,7 +322,7 @@ fn read_item(
     match item {
         Item::Bare { text, at } => read_bare(alloc, scene.stage, *at, text, out),
         Item::Call { name, args, at } => {
-            let m = check_call(top, scene.stage, edge, name, args, *at, behind)?;
+            let m = check_call(alloc, top, scene.stage, edge, name, args, *at, behind)?;
             let s = read_call(alloc, room, scene, m, *at, args)?;
             out.push(s)?;
             Ok(())

@@ -8,6 +8,7 @@ ghost use Rattle.tree.specs.Known.{after_all};
 ghost use Rattle.acparse.specs.Profile.{source_of};
 ghost use Rattle.tree.specs.Script.{Script, script_of};
 ghost use Rattle.acparse.specs.Source.{IsSource, IsSourceFault};
+ghost use Rattle.acparse.specs.Limits.{HasShortLists};
 
 use crate::read::read_statements;
 use acargs::fault::quote_fault;
@@ -82,6 +83,8 @@ pub fn parse(alloc: Global, text: &[u8]) -> Result<Source, ParseFault>
     ensures help { IfOk result (λ s. s.help ≡ (after_all start (script_of s.statements.items)).help) }
     // Its files are those that its statements name.
     ensures files { IfOk result (λ s. s.files ≡ (after_all start (script_of s.statements.items)).files) }
+    // Its lists are within their limits.
+    ensures limits { IfOk result HasShortLists }
     // A source of the profile is read, unless memory runs out.
     ensures only { (s : Script) → IsSource text.now s → Gives (λ v. script_of v.statements.items) result (Ok s) }
     // A fault names what is wrong at its place, and all before it is right.

@@ -196,7 +196,7 @@ fn faults_of_the_text_between(rt: HostRuntime) {
         ),
         (
             b"AC_INIT([x],[1])\nAC_OUTPUT([x])",
-            ParseFault::ArgCount(27),
+            ParseFault::ArgCount(17),
         ),
     ];
     for (text, fault) in cases {
