@@ -2,7 +2,7 @@
 use Rattle.std.proofs.Common.{◌≡◌, ℕ, ◌+◌, ◌<◌, ◌≤◌, List, Result, Ok, Err, length, drop, get_or, sym, ap, ◌∙◌, arith}
 use Rattle.std.proofs.Math.ListN.{drop_of_length-le}
 use Rattle.options.proofs.Turns.{next_of}
-use Rattle.options.specs.Opening.{with_argument, with_arguments, at_end}
+use Rattle.options.specs.Stepwise.{with_argument, with_arguments, at_end}
 use Rattle.options.specs.Reading.{◌>>=◌, Fails, Gives}
 use Rattle.options.specs.declared.fault.OptionFault.{OptionFault}
 use Rattle.options.specs.declared.fault.OptionFault.TheVariants.{OutOfMemory}

@@ -1,26 +1,30 @@
--- What an argument of a command line says (Autoconf's manual, "Running configure Scripts" and "configure Invocation").
-use Rattle.std.specs.Prelude.{ℕ, ◌+◌, Bool, ◌||◌, ◌==◌, nat_eq, List, take, drop, Option, Some, None, unwrap_or, option_map, position, codes, if◌then◌else◌}
+-- What one argument of a command line says, as a function, and so what all of them give.
+use Rattle.std.specs.Prelude.{ℕ, ◌+◌, Bool, ◌||◌, ◌==◌, nat_eq, List, [], ◌∷◌, ◌++◌, Option, Some, None, Result, Ok, Err, unwrap_or, option_map, codes, if◌then◌else◌}
 use Rattle.std.specs.List.{starts_with}
 use Rattle.std.specs.Str.{bytes_eq}
 use Rattle.deftable.specs.ShellName.{is_shell_name_of}
 use Rattle.acargs.specs.Feature.{is_feature}
 use Rattle.acargs.specs.declared.feature.OptionKind.{OptionKind}
 use Rattle.acargs.specs.declared.feature.OptionKind.TheVariants.{Feature, Package}
+use Rattle.options.specs.CommandLine.{Setting, Variable, Choice, Switched, valued, key_of, is_dashed, enabling, disabling}
 use Rattle.options.specs.Directories.{directory_named}
+use Rattle.options.specs.Reading.{◌>>=◌}
 use Rattle.options.specs.declared.argument.Target.{Target}
 use Rattle.options.specs.declared.argument.Target.TheVariants.{Folder, Srcdir, CacheFile}
 use Rattle.options.specs.declared.argument.Switch.{Switch}
 use Rattle.options.specs.declared.argument.Switch.TheVariants.{ConfigCache, Quiet, NoCreate, Help, Version, Ignored}
+use Rattle.options.specs.declared.fault.OptionFault.{OptionFault}
+use Rattle.options.specs.declared.fault.OptionFault.TheVariants.{Unknown, BadFeature, BadVariable, MissingValue}
 
--- What an argument says that isn't the second word of an option.
+-- What an argument says that isn't the value of the option before it.
 pub data Said : Type 0 where
-  -- an option that is one word
+  -- an option without a value
   Turns : (switch : Switch) → Said
   -- an option with its value
   Gives : (target : Target) → (value : List ℕ) → Said
-  -- the first of two words of an option, whose value is the next argument
+  -- an option whose value is the next argument
   Awaits : (target : Target) → Said
-  -- a feature or a package, what is said of it, and the option that says it
+  -- a feature or a package, its value, and the text before the `=`
   Chooses : (kind : OptionKind) → (name : List ℕ) → (value : List ℕ) → (option : List ℕ) → Said
   -- a feature or a package whose name can't be one
   Misnames : Said
@@ -31,28 +35,18 @@ pub data Said : Type 0 where
   -- nothing that is known
   Nothing : Said
 
--- where the first `=` stands
-abbrev pub equals_in : List ℕ → Option ℕ
-equals_in text = position (λ b. b == 61) text
-
--- the text up to a place; all of it where there is none
-abbrev pub up_to : Option ℕ → List ℕ → List ℕ
-up_to (Some i) text = take i text
-up_to None text = text
-
--- what stands before the first `=`, which may be all
-unfoldable pub key_of : List ℕ → List ℕ
-key_of text = up_to (equals_in text) text
-
--- what stands behind the first `=`, if there is one
+-- the text after the first `=`, if there is one
 unfoldable pub value_in : List ℕ → Option (List ℕ)
-value_in text = option_map (λ i. drop (i + 1) text) (equals_in text)
+value_in [] = None
+value_in (b ∷ bs) = if b == 61 then Some bs else value_in bs
 
--- the text begins with the other one
-abbrev pub begins : List ℕ → List ℕ → Bool
-begins front text = starts_with nat_eq text front
+-- what follows the front, if the text begins with it
+unfoldable pub rest_after : List ℕ → List ℕ → Option (List ℕ)
+rest_after [] text = Some text
+rest_after (c ∷ cs) [] = None
+rest_after (c ∷ cs) (b ∷ bs) = if b == c then rest_after cs bs else None
 
--- the options of one word
+-- the options without a value
 unfoldable pub switch_of : List ℕ → Option Switch
 switch_of argument =
     if bytes_eq argument (codes "-C") || bytes_eq argument (codes "--config-cache") then Some ConfigCache
@@ -63,59 +57,101 @@ switch_of argument =
     else (if bytes_eq argument (codes "-v") || bytes_eq argument (codes "--verbose") || bytes_eq argument (codes "--no-recursion") then Some Ignored
     else None)))))
 
--- the options of directories, by what stands before the `=`
-unfoldable pub folder_of : List ℕ → Option Target
-folder_of key =
-    if begins (codes "--") key then option_map (λ directory. Folder directory) (directory_named (drop 2 key)) else None
+-- the option of a directory, by its text after the dashes
+abbrev pub folder_named : List ℕ → Option Target
+folder_named option = option_map (λ directory. Folder directory) (directory_named option)
 
--- the options with a value, by what stands before the `=`
+-- the options of directories
+unfoldable pub folder_of : List ℕ → Option Target
+folder_of key = elim (rest_after (codes "--") key) [ Some option ↦ folder_named option | None ↦ None ]
+
+-- the options with a value
 unfoldable pub target_of : List ℕ → Option Target
 target_of key =
     if bytes_eq key (codes "--srcdir") then Some Srcdir
     else (if bytes_eq key (codes "--cache-file") then Some CacheFile
     else folder_of key)
 
--- a feature or a package with what is said of it, if its name can be one
+-- a feature or a package with its value, if its name can be one
 abbrev pub chosen : OptionKind → List ℕ → List ℕ → List ℕ → Said
 chosen kind name value option = if is_feature name then Chooses kind name value option else Misnames
 
--- `--enable-f[=A]`, `--with-f[=A]`
-unfoldable pub enabled_by : List ℕ → Option Said
-enabled_by argument =
-    if begins (codes "--enable-") argument
-    then Some (chosen Feature (key_of (drop 9 argument)) (unwrap_or (value_in (drop 9 argument)) (codes "yes")) (key_of argument))
-    else (if begins (codes "--with-") argument
-    then Some (chosen Package (key_of (drop 7 argument)) (unwrap_or (value_in (drop 7 argument)) (codes "yes")) (key_of argument))
-    else None)
+-- a feature or a package that is turned on, by the text after `--enable-` or `--with-`
+abbrev pub enabled : OptionKind → List ℕ → List ℕ → Said
+enabled kind rest argument = chosen kind (key_of rest) (unwrap_or (value_in rest) (codes "yes")) (key_of argument)
 
--- `--disable-f`, `--without-f`
-unfoldable pub disabled_by : List ℕ → Option Said
-disabled_by argument =
-    if begins (codes "--disable-") argument then Some (chosen Feature (drop 10 argument) (codes "no") (key_of argument))
-    else (if begins (codes "--without-") argument then Some (chosen Package (drop 10 argument) (codes "no") (key_of argument))
-    else None)
+-- a feature or a package that is turned off, by the text after `--disable-` or `--without-`
+abbrev pub disabled : OptionKind → List ℕ → List ℕ → Said
+disabled kind rest argument = chosen kind rest (codes "no") (key_of argument)
 
--- `NAME=VALUE`, where there is a value
-abbrev pub assigned : List ℕ → Option (List ℕ) → Said
-assigned name None = Nothing
-assigned name (Some value) = if is_shell_name_of name then Assigns name value else Misassigns
+-- the options of packages
+unfoldable pub package_of : List ℕ → Said
+package_of argument = elim (rest_after (enabling Package) argument) [
+  | Some rest ↦ enabled Package rest argument
+  | None ↦ elim (rest_after (disabling Package) argument) [ Some rest ↦ disabled Package rest argument | None ↦ Nothing ]
+]
 
--- any other argument
-unfoldable pub plain_of : List ℕ → Said
-plain_of argument = if begins (codes "-") argument then Nothing else assigned (key_of argument) (value_in argument)
+-- the options of features and packages
+unfoldable pub choice_of : List ℕ → Said
+choice_of argument = elim (rest_after (enabling Feature) argument) [
+  | Some rest ↦ enabled Feature rest argument
+  | None ↦ elim (rest_after (disabling Feature) argument) [ Some rest ↦ disabled Feature rest argument | None ↦ package_of argument ]
+]
 
--- an option with a value, in one word or in two
+-- an option with a value, in one argument or in two
 abbrev pub given_or_awaited : Target → Option (List ℕ) → Said
 given_or_awaited target (Some value) = Gives target value
 given_or_awaited target None = Awaits target
 
--- what an argument says where it is no option of one word
+-- the options with a value, or about features and packages
 unfoldable pub said_with_value : List ℕ → Said
 said_with_value argument = elim (target_of (key_of argument)) [
   | Some target ↦ given_or_awaited target (value_in argument)
-  | None ↦ unwrap_or (enabled_by argument) (unwrap_or (disabled_by argument) (plain_of argument))
+  | None ↦ choice_of argument
 ]
+
+-- what an argument says that begins with a `-`
+unfoldable pub dashed_of : List ℕ → Said
+dashed_of argument = elim (switch_of argument) [ Some switch ↦ Turns switch | None ↦ said_with_value argument ]
+
+-- `NAME=VALUE`, if there is a value
+abbrev pub assigned : List ℕ → Option (List ℕ) → Said
+assigned name None = Nothing
+assigned name (Some value) = if is_shell_name_of name then Assigns name value else Misassigns
 
 -- what an argument says
 unfoldable pub said_by : List ℕ → Said
-said_by argument = elim (switch_of argument) [ Some switch ↦ Turns switch | None ↦ said_with_value argument ]
+said_by argument = if is_dashed argument then dashed_of argument else assigned (key_of argument) (value_in argument)
+
+-- ---- all arguments
+
+-- what the argument at place i gives that says this, and takes no other argument
+abbrev pub alone : ℕ → Said → Result Setting OptionFault
+alone i (Turns switch) = Ok (Switched switch)
+alone i (Gives target value) = Ok (valued target value)
+alone i (Awaits target) = Err (MissingValue i)
+alone i (Chooses kind name value option) = Ok (Choice i kind name value option)
+alone i Misnames = Err (BadFeature i)
+alone i (Assigns name value) = Ok (Variable name value)
+alone i Misassigns = Err (BadVariable i)
+alone i Nothing = Err (Unknown i)
+
+-- the option that awaits its value after an argument that says this
+abbrev pub awaited_by : Said → Option Target
+awaited_by (Awaits target) = Some target
+awaited_by other = None
+
+-- a setting, and those after it
+abbrev pub and_then : Result Setting OptionFault → Result (List Setting) OptionFault → Result (List Setting) OptionFault
+and_then first rest = first >>= λ setting. rest >>= λ settings. Ok (setting ∷ settings)
+
+-- The settings that arguments give, or their first fault. There were i arguments before them, and the last one may await
+-- its value.
+unfoldable pub given : Option Target → ℕ → List (List ℕ) → Result (List Setting) OptionFault
+given None i [] = Ok []
+given (Some target) i [] = Err (MissingValue i)
+given (Some target) i (value ∷ more) = and_then (Ok (valued target value)) (given None (i + 1) more)
+given None i (word ∷ more) = elim (awaited_by (said_by word)) [
+  | Some target ↦ given (Some target) (i + 1) more
+  | None ↦ and_then (alone (i + 1) (said_by word)) (given None (i + 1) more)
+]

@@ -1,4 +1,5 @@
 pub mod Directories
+pub mod CommandLine
 pub mod Arguments
 pub mod Said
 pub mod Slashes
@@ -6,4 +7,5 @@ pub mod Srcdir
 pub mod Reading
 pub mod Unrecognized
 pub mod Opening
+pub mod Stepwise
 pub mod HelpText

@@ -1,118 +1,93 @@
--- The opening of a run: the variables and the settings that it begins with, as the environment and the arguments of a
--- command line make them (Autoconf's manual, "Running configure Scripts", "Setting Output Variables" and "Cache Variables").
-use Rattle.std.specs.Prelude.{ℕ, ◌+◌, Bool, true, false, ◌||◌, List, [], ◌∷◌, ◌++◌, Option, Some, None, unwrap_or, Result, Ok, Err, fold, codes, if◌then◌else◌}
+-- The opening of a run: the variables and the settings that it begins with, from the environment and the arguments of a
+-- command line (Autoconf's manual, "Running configure Scripts", "Setting Output Variables" and "Cache Variables").
+use Rattle.std.specs.Prelude.{◌≡◌, ℕ, Bool, true, false, ◌||◌, List, [], ◌∷◌, ◌++◌, map, filter, Option, Some, None, unwrap_or, Result, Ok, Err, fold, codes, if◌then◌else◌}
+use Rattle.std.specs.List.{flat_map, list_any}
 use Rattle.std.specs.Str.{bytes_eq}
 use Rattle.deftable.specs.NameList.{has_name}
 use Rattle.deftable.specs.ShellName.{is_shell_name_of}
 use Rattle.deftable.specs.Table.{value_of, with_entry}
 use Rattle.acargs.specs.Feature.{option_variable}
-use Rattle.acargs.specs.declared.feature.OptionKind.{OptionKind}
-use Rattle.options.specs.Arguments.{Said, Turns, Gives, Awaits, Chooses, Misnames, Assigns, Misassigns, Nothing, said_by}
+use Rattle.options.specs.Arguments.{given}
+use Rattle.options.specs.CommandLine.{Setting, Variable, Choice, Cache, Source, Switched, GivesSettings, IsFirstFault}
 use Rattle.options.specs.Directories.{directories, variable_of, default_of}
 use Rattle.options.specs.Reading.{◌>>=◌}
 use Rattle.options.specs.Slashes.{without_slashes}
-use Rattle.options.specs.Srcdir.{srcdir_of}
 use Rattle.options.specs.Unrecognized.{notes_of}
 use Rattle.deftable.specs.declared.note.Note.{Note}
 use Rattle.options.specs.declared.argument.Switch.{Switch}
 use Rattle.options.specs.declared.argument.Switch.TheVariants.{ConfigCache, Quiet, NoCreate, Help, Version, Ignored}
-use Rattle.options.specs.declared.argument.Target.{Target}
-use Rattle.options.specs.declared.argument.Target.TheVariants.{Folder, Srcdir, CacheFile}
 use Rattle.options.specs.declared.directory.Directory.{Directory}
 use Rattle.options.specs.declared.fault.OptionFault.{OptionFault}
-use Rattle.options.specs.declared.fault.OptionFault.TheVariants.{Unknown, BadFeature, BadVariable, MissingValue}
-use Rattle.options.specs.declared.reader.Reader.{Reader}
 use Rattle.options.specs.declared.settings.Settings.{Settings}
 
--- ---- before the arguments
+-- ---- which setting counts
 
--- with an entry of the environment: the last of a name counts, and what is no shell name is skipped
-unfoldable pub with_environment : List (List ℕ × List ℕ) → List ℕ × List ℕ → List (List ℕ × List ℕ)
-with_environment vars entry = if is_shell_name_of entry.0 then with_entry vars entry.0 entry.1 else vars
-
--- with a directory as it is where nothing else is said
-unfoldable pub with_default : List (List ℕ × List ℕ) → Directory → List (List ℕ × List ℕ)
-with_default vars directory = with_entry vars (variable_of directory) (default_of directory)
-
--- the environment, and the directories over it
-unfoldable pub vars_before : List (List ℕ × List ℕ) → List (List ℕ × List ℕ)
-vars_before environment = fold with_default (fold with_environment [] environment) directories
-
--- before the first argument
-unfoldable pub reader_before : List (List ℕ × List ℕ) → Reader
-reader_before environment = record {
-  vars = vars_before environment;
-  cache_name = None;
-  quiet = false;
-  no_create = false;
-  help = false;
-  version = false;
-  unrecognized = [];
-  awaited = None;
-}
-
--- ---- the arguments, from the left
+-- the last of these, or else the first argument
+abbrev pub last_of : {A : Type 0} → A → List A → A
+last_of otherwise [] = otherwise
+last_of otherwise (x ∷ xs) = last_of x xs
 
 -- the cache of a name: none where the name is empty or `/dev/null`
 unfoldable pub cache_named : List ℕ → Option (List ℕ)
 cache_named name = if bytes_eq name [] || bytes_eq name (codes "/dev/null") then None else Some name
 
--- behind an option and its value; what the source's folder is, is told by `srcdir_of`
-abbrev pub with_value : Target → List ℕ → Reader → Reader
-with_value (Folder directory) value r = record r { vars = with_entry r.vars (variable_of directory) value }
-with_value Srcdir value r = r
-with_value CacheFile value r = record r { cache_name = cache_named value }
+-- the cache that a setting names, or none
+abbrev pub caches_in : Setting → List (Option (List ℕ))
+caches_in (Cache name) = cache_named name ∷ []
+caches_in (Switched ConfigCache) = Some (codes "config.cache") ∷ []
+caches_in other = []
 
--- behind an option of one word
-abbrev pub with_switch : Switch → Reader → Reader
-with_switch ConfigCache r = record r { cache_name = Some (codes "config.cache") }
-with_switch Quiet r = record r { quiet = true }
-with_switch NoCreate r = record r { no_create = true }
-with_switch Help r = record r { help = true }
-with_switch Version r = record r { version = true }
-with_switch Ignored r = r
+-- the directory of the source that a setting names
+abbrev pub sources_in : Setting → List (List ℕ)
+sources_in (Source directory) = directory ∷ []
+sources_in other = []
 
--- a macro of the source declares the variable, or it is that of `--enable-option-checking`
-unfoldable pub is_declared : List (List ℕ) → List (List ℕ) → List ℕ → Bool
-is_declared features packages variable =
-    has_name features variable || has_name packages variable || bytes_eq variable (codes "enable_option_checking")
+-- the directory of the source: the last one that is named, without final slashes; the current one if none is
+unfoldable pub source_directory : List Setting → List ℕ
+source_directory settings = without_slashes (last_of (codes ".") (flat_map sources_in settings))
 
--- behind what is said of a feature or a package by the argument at place i: its variable is set, declared or not
-unfoldable pub with_choice : List (List ℕ) → List (List ℕ) → ℕ → OptionKind → List ℕ → List ℕ → List ℕ → Reader → Reader
-with_choice features packages i kind name value option r = record r {
-  vars = with_entry r.vars (option_variable kind name) value;
-  unrecognized = (if is_declared features packages (option_variable kind name) then r.unrecognized else r.unrecognized ++ (i, option) ∷ []);
-}
+-- the setting turns this on
+abbrev pub is_quiet : Setting → Bool
+is_quiet (Switched Quiet) = true
+is_quiet other = false
 
--- behind an argument at place i that says this
-abbrev pub with_said : List (List ℕ) → List (List ℕ) → ℕ → Said → Reader → Result Reader OptionFault
-with_said features packages i (Turns switch) r = Ok (with_switch switch r)
-with_said features packages i (Gives target value) r = Ok (with_value target value r)
-with_said features packages i (Awaits target) r = Ok (record r { awaited = Some target })
-with_said features packages i (Chooses kind name value option) r = Ok (with_choice features packages i kind name value option r)
-with_said features packages i Misnames r = Err (BadFeature i)
-with_said features packages i (Assigns name value) r = Ok (record r { vars = with_entry r.vars name value })
-with_said features packages i Misassigns r = Err (BadVariable i)
-with_said features packages i Nothing r = Err (Unknown i)
+abbrev pub is_no_create : Setting → Bool
+is_no_create (Switched NoCreate) = true
+is_no_create other = false
 
--- behind the argument at place i, which is the value of the option before it where that awaits one
-unfoldable pub with_argument : List (List ℕ) → List (List ℕ) → ℕ → List ℕ → Reader → Result Reader OptionFault
-with_argument features packages i argument r = elim r.awaited [
-  | Some target ↦ Ok (with_value target argument (record r { awaited = None }))
-  | None ↦ with_said features packages i (said_by argument) r
-]
+abbrev pub is_help : Setting → Bool
+is_help (Switched Help) = true
+is_help other = false
 
--- behind all arguments, of which so many were read: the last one awaits no value
-unfoldable pub at_end : ℕ → Reader → Result Reader OptionFault
-at_end i r = elim r.awaited [ Some target ↦ Err (MissingValue i) | None ↦ Ok r ]
+abbrev pub is_version : Setting → Bool
+is_version (Switched Version) = true
+is_version other = false
 
--- behind these arguments, where so many were read before
-unfoldable pub with_arguments : List (List ℕ) → List (List ℕ) → ℕ → Reader → List (List ℕ) → Result Reader OptionFault
-with_arguments features packages i r [] = at_end i r
-with_arguments features packages i r (argument ∷ more) =
-    with_argument features packages (i + 1) argument r >>= λ next. with_arguments features packages (i + 1) next more
+-- ---- variables
 
--- ---- behind the arguments
+-- the variable that a setting sets, and its value
+abbrev pub variables_in : Setting → List (List ℕ × List ℕ)
+variables_in (Variable name value) = (name, value) ∷ []
+variables_in (Choice place kind name value option) = (option_variable kind name, value) ∷ []
+variables_in other = []
+
+-- the variable of a directory, and its default
+abbrev pub default_entry : Directory → List ℕ × List ℕ
+default_entry directory = (variable_of directory, default_of directory)
+
+-- What sets a variable, from first to last: the environment, where the name is a shell name; the directories, to their
+-- defaults; and the settings.
+unfoldable pub setters : List (List ℕ × List ℕ) → List Setting → List (List ℕ × List ℕ)
+setters environment settings =
+    filter (λ entry. is_shell_name_of entry.0) environment ++ map default_entry directories ++ flat_map variables_in settings
+
+-- with a variable set to a value
+abbrev pub with_variable : List (List ℕ × List ℕ) → List ℕ × List ℕ → List (List ℕ × List ℕ)
+with_variable vars entry = with_entry vars entry.0 entry.1
+
+-- the variables that all of these set: each has the value of its last setter
+unfoldable pub set_by : List (List ℕ × List ℕ) → List (List ℕ × List ℕ)
+set_by entries = fold with_variable [] entries
 
 -- with a directory's value without its final slashes
 unfoldable pub with_unslashed : List (List ℕ × List ℕ) → Directory → List (List ℕ × List ℕ)
@@ -132,30 +107,63 @@ with_marks vars name =
     with_entry (with_entry vars (codes "ac_cv_env_" ++ name ++ codes "_set") (set_mark (value_of vars name)))
     (codes "ac_cv_env_" ++ name ++ codes "_value") (unwrap_or (value_of vars name) [])
 
--- the variables that the run begins with
-unfoldable pub vars_behind : List (List ℕ) → List (List ℕ × List ℕ) → List (List ℕ × List ℕ)
-vars_behind precious vars = fold with_marks (fold with_unslashed vars directories) precious
+-- the variables after all of the above: final slashes of directories are dropped, and then precious variables are marked
+unfoldable pub finished : List (List ℕ) → List (List ℕ × List ℕ) → List (List ℕ × List ℕ)
+finished precious vars = fold with_marks (fold with_unslashed vars directories) precious
 
--- the settings, once all arguments are read, with these pieces to be told
-unfoldable pub settings_with : List (List ℕ) → List (List ℕ) → Reader → List Note → Settings
-settings_with precious arguments r notes = record {
-  vars = vars_behind precious r.vars;
+-- ---- options that no macro declares
+
+-- a macro of the source declares the variable, or it is that of `--enable-option-checking`
+unfoldable pub is_declared : List (List ℕ) → List (List ℕ) → List ℕ → Bool
+is_declared features packages variable =
+    has_name features variable || has_name packages variable || bytes_eq variable (codes "enable_option_checking")
+
+-- the option of a feature or a package, with its place, if its variable is not declared
+abbrev pub undeclared_in : List (List ℕ) → List (List ℕ) → Setting → List (ℕ × List ℕ)
+undeclared_in features packages (Choice place kind name value option) =
+    if is_declared features packages (option_variable kind name) then [] else (place, option) ∷ []
+undeclared_in features packages other = []
+
+-- how options are checked: the value of `enable_option_checking`, or nothing
+abbrev pub checking_in : List (List ℕ × List ℕ) → List ℕ
+checking_in vars = unwrap_or (value_of vars (codes "enable_option_checking")) []
+
+-- ---- the opening
+
+-- the run's settings, with these variables set and these notes
+unfoldable pub run_settings : List (List ℕ) → List (List ℕ × List ℕ) → List Setting → List Note → Settings
+run_settings precious vars settings notes = record {
+  vars = finished precious vars;
   notes = notes;
-  cache_name = r.cache_name;
-  srcdir = srcdir_of arguments;
-  quiet = r.quiet;
-  no_create = r.no_create;
-  help = r.help;
-  version = r.version;
+  cache_name = last_of None (flat_map caches_in settings);
+  srcdir = source_directory settings;
+  quiet = list_any is_quiet settings;
+  no_create = list_any is_no_create settings;
+  help = list_any is_help settings;
+  version = list_any is_version settings;
 }
 
--- the settings, once all arguments are read
-unfoldable pub settings_behind : List (List ℕ) → List (List ℕ) → Reader → Result Settings OptionFault
-settings_behind precious arguments r =
-    notes_of (unwrap_or (value_of r.vars (codes "enable_option_checking")) []) r.unrecognized >>= λ notes. Ok (settings_with precious arguments r notes)
+-- what a run begins with, by the settings of its arguments; a fault if options are checked fatally and one isn't declared
+unfoldable pub opened_by : List (List ℕ) → List (List ℕ) → List (List ℕ) → List (List ℕ × List ℕ) → List Setting → Result Settings OptionFault
+opened_by features packages precious environment settings =
+    let vars : List (List ℕ × List ℕ) = set_by (setters environment settings) in
+    notes_of (checking_in vars) (flat_map (undeclared_in features packages) settings) >>= λ notes. Ok (run_settings precious vars settings notes)
 
 -- The settings of a command line and an environment, where the source declares these features, packages and precious
 -- variables; or the first fault.
 unfoldable pub opening : List (List ℕ) → List (List ℕ) → List (List ℕ) → List (List ℕ) → List (List ℕ × List ℕ) → Result Settings OptionFault
-opening features packages precious arguments environment =
-    with_arguments features packages 0 (reader_before environment) arguments >>= settings_behind precious arguments
+opening features packages precious arguments environment = given None 0 arguments >>= opened_by features packages precious environment
+
+-- ---- the same as relations
+
+-- The arguments give settings, and the run begins with this.
+pub record IsOpening (features packages precious arguments : List (List ℕ)) (environment : List (List ℕ × List ℕ)) (opened : Settings) : Type 0 where
+  pub settings : List Setting
+  pub gives : GivesSettings 0 arguments settings
+  pub is : opened_by features packages precious environment settings ≡ Ok opened
+
+-- The first fault: of the arguments; or if there is none, of an option that isn't declared.
+pub data IsOpeningFault (features packages precious arguments : List (List ℕ)) (environment : List (List ℕ × List ℕ)) (fault : OptionFault) : Type 0 where
+  of_arguments : IsFirstFault 0 arguments fault → IsOpeningFault features packages precious arguments environment fault
+  of_options : (settings : List Setting) → GivesSettings 0 arguments settings → opened_by features packages precious environment settings ≡ Err fault
+      → IsOpeningFault features packages precious arguments environment fault

@@ -1,10 +1,9 @@
 //! What an argument of a command line says.
 
-ghost use Rattle.std.specs.Prelude.{◌≡◌, ◌<◌, ◌≤◌, ◌==◌, length, position, option_map, IfSome, unwrap_or, codes};
+ghost use Rattle.std.specs.Prelude.{◌≡◌, ◌<◌, ◌==◌, length, position, option_map, IfSome};
 ghost use Rattle.options.specs.Arguments as words;
-ghost use Rattle.options.specs.Directories as directories;
+ghost use Rattle.options.specs.CommandLine as lines;
 ghost use Rattle.options.specs.Said.{said_of};
-ghost use Rattle.options.specs.declared.argument.Target.TheVariants.{Folder};
 
 use crate::directory::{Directory, directory_named};
 use acargs::OptionKind;
@@ -28,25 +27,25 @@ pub enum Switch {
     Ignored,
 }
 
-/// What an option sets that has a value, behind a `=` or as the next argument.
+/// What an option with a value sets. The value is after a `=`, or the next argument.
 #[derive(Clone, Copy, PartialEq, Eq, Debug)]
 pub enum Target {
     /// A directory of the installation, or a prefix.
     Folder(Directory),
-    /// The folder of the source.
+    /// The directory of the source.
     Srcdir,
     /// The name of the cache.
     CacheFile,
 }
 
-/// What an argument says that isn't the second word of an option.
+/// What an argument says that isn't the value of the option before it.
 #[derive(Clone, Copy, Debug)]
 pub(crate) enum Said<'a> {
-    /// An option of one word.
+    /// An option without a value.
     Turns(Switch),
     /// An option with its value.
     Gives(Target, &'a [u8]),
-    /// The first of two words of an option: the next argument is its value.
+    /// An option whose value is the next argument.
     Awaits(Target),
     /// A feature or a package, by name.
     Chooses(Choice<'a>),
@@ -60,28 +59,27 @@ pub(crate) enum Said<'a> {
     Nothing,
 }
 
-/// What is said of a feature or a package.
+/// A feature or a package, and its value.
 #[derive(Clone, Copy, Debug)]
 pub(crate) struct Choice<'a> {
     pub(crate) kind: OptionKind,
     pub(crate) name: &'a [u8],
     pub(crate) value: &'a [u8],
-    /// The option that says it, up to its `=`.
+    /// The argument before its `=`.
     pub(crate) option: &'a [u8],
 }
 
-/// Where the first `=` stands.
+/// The place of the first `=`.
 fn equals_in(text: &[u8]) -> Option<usize>
-    ensures value { result ≡ words.equals_in text.now }
+    ensures value { result ≡ position (λ b. b == 61) text.now }
     ensures within { IfSome result (λ i. i < length text.now) }
 {
     text.iter().position(|byte| *byte == b'=')
 }
 
-/// What stands before the first `=`, which may be all.
-#[tactic(auto, unfolding(crate::specs::Arguments::key_of))]
+/// The text before the first `=`; all of it if it has none.
 fn key_of(text: &[u8]) -> &[u8]
-    ensures { result.now ≡ words.key_of text.now }
+    ensures { result.now ≡ lines.key_of text.now }
 {
     match equals_in(text) {
         Some(i) => &text[..i],
@@ -89,8 +87,7 @@ fn key_of(text: &[u8]) -> &[u8]
     }
 }
 
-/// What stands behind the first `=`.
-#[tactic(auto, unfolding(crate::specs::Arguments::value_in))]
+/// The text after the first `=`.
 fn value_in(text: &[u8]) -> Option<&[u8]>
     ensures { option_map (λ value. value.now) result ≡ words.value_in text.now }
 {
@@ -100,7 +97,14 @@ fn value_in(text: &[u8]) -> Option<&[u8]>
     }
 }
 
-/// The option of one word that an argument is.
+/// What follows `front`, if the text begins with it.
+fn rest_after<'a>(front: &[u8], text: &'a [u8]) -> Option<&'a [u8]>
+    ensures { option_map (λ rest. rest.now) result ≡ words.rest_after front.now text.now }
+{
+    text.strip_prefix(front)
+}
+
+/// The option without a value that an argument is.
 #[tactic(auto, unfolding(crate::specs::Arguments::switch_of))]
 fn switch_of(argument: &[u8]) -> Option<Switch>
     ensures { result ≡ words.switch_of argument.now }
@@ -128,9 +132,9 @@ fn switch_of(argument: &[u8]) -> Option<Switch>
     }
 }
 
-/// What the option of a directory sets.
+/// What the option of a directory sets, by its text after the dashes.
 fn folder_named(option: &[u8]) -> Option<Target>
-    ensures { result ≡ option_map (λ directory. Folder directory) (directories.directory_named option.now) }
+    ensures { result ≡ words.folder_named option.now }
 {
     match directory_named(option) {
         Some(directory) => Some(Target::Folder(directory)),
@@ -138,19 +142,18 @@ fn folder_named(option: &[u8]) -> Option<Target>
     }
 }
 
-/// What an option sets, by what stands before the `=`, if it is that of a directory.
+/// What the option of a directory sets.
 #[tactic(auto, unfolding(crate::specs::Arguments::folder_of))]
 fn folder_of(key: &[u8]) -> Option<Target>
     ensures { result ≡ words.folder_of key.now }
 {
-    if key.starts_with(b"--") {
-        folder_named(&key[2..])
-    } else {
-        None
+    match rest_after(b"--", key) {
+        Some(option) => folder_named(option),
+        None => None,
     }
 }
 
-/// What an option with a value sets, by what stands before the `=`.
+/// What an option with a value sets.
 #[tactic(auto, unfolding(crate::specs::Arguments::target_of))]
 fn target_of(key: &[u8]) -> Option<Target>
     ensures { result ≡ words.target_of key.now }
@@ -179,9 +182,9 @@ fn chosen<'a>(kind: OptionKind, name: &'a [u8], value: &'a [u8], option: &'a [u8
     }
 }
 
-/// What is said behind `--enable-` or `--with-`: a name, and a value behind a `=`, which is `yes` where there is none.
-fn chosen_by_value<'a>(kind: OptionKind, rest: &'a [u8], argument: &'a [u8]) -> Said<'a>
-    ensures { said_of result ≡ words.chosen kind (words.key_of rest.now) (unwrap_or (words.value_in rest.now) (codes "yes")) (words.key_of argument.now) }
+/// A feature or a package that is turned on: `rest` is its name, and its value after a `=`, which is `yes` if there is none.
+fn enabled<'a>(kind: OptionKind, rest: &'a [u8], argument: &'a [u8]) -> Said<'a>
+    ensures { said_of result ≡ words.enabled kind rest.now argument.now }
 {
     let option = key_of(argument);
     match value_in(rest) {
@@ -190,57 +193,38 @@ fn chosen_by_value<'a>(kind: OptionKind, rest: &'a [u8], argument: &'a [u8]) -> 
     }
 }
 
-/// What `--enable-` and `--with-` say.
-#[tactic(auto, unfolding(crate::specs::Arguments::enabled_by))]
-fn enabled_by(argument: &[u8]) -> Option<Said<'_>>
-    ensures { option_map said_of result ≡ words.enabled_by argument.now }
+/// A feature or a package that is turned off: all of `rest` is its name.
+fn disabled<'a>(kind: OptionKind, rest: &'a [u8], argument: &'a [u8]) -> Said<'a>
+    ensures { said_of result ≡ words.disabled kind rest.now argument.now }
 {
-    if argument.starts_with(b"--enable-") {
-        Some(chosen_by_value(OptionKind::Feature, &argument[9..], argument))
-    } else if argument.starts_with(b"--with-") {
-        Some(chosen_by_value(OptionKind::Package, &argument[7..], argument))
-    } else {
-        None
+    chosen(kind, rest, b"no", key_of(argument))
+}
+
+/// What `--with-` and `--without-` say.
+#[tactic(auto, unfolding(crate::specs::Arguments::package_of))]
+fn package_of(argument: &[u8]) -> Said<'_>
+    ensures { said_of result ≡ words.package_of argument.now }
+{
+    if let Some(rest) = rest_after(b"--with-", argument) {
+        return enabled(OptionKind::Package, rest, argument);
+    }
+    match rest_after(b"--without-", argument) {
+        Some(rest) => disabled(OptionKind::Package, rest, argument),
+        None => Said::Nothing,
     }
 }
 
-/// What is said behind `--disable-` or `--without-`, which take no value.
-fn chosen_not<'a>(kind: OptionKind, name: &'a [u8], argument: &'a [u8]) -> Said<'a>
-    ensures { said_of result ≡ words.chosen kind name.now (codes "no") (words.key_of argument.now) }
+/// What an option about a feature or a package says.
+#[tactic(auto, unfolding(crate::specs::Arguments::choice_of))]
+fn choice_of(argument: &[u8]) -> Said<'_>
+    ensures { said_of result ≡ words.choice_of argument.now }
 {
-    chosen(kind, name, b"no", key_of(argument))
-}
-
-/// What `--disable-` and `--without-` say.
-#[tactic(auto, unfolding(crate::specs::Arguments::disabled_by))]
-fn disabled_by(argument: &[u8]) -> Option<Said<'_>>
-    ensures { option_map said_of result ≡ words.disabled_by argument.now }
-{
-    if argument.starts_with(b"--disable-") {
-        Some(chosen_not(OptionKind::Feature, &argument[10..], argument))
-    } else if argument.starts_with(b"--without-") {
-        Some(chosen_not(OptionKind::Package, &argument[10..], argument))
-    } else {
-        None
+    if let Some(rest) = rest_after(b"--enable-", argument) {
+        return enabled(OptionKind::Feature, rest, argument);
     }
-}
-
-/// What an argument says that is no option.
-#[tactic(auto, unfolding(crate::specs::Arguments::plain_of))]
-fn plain_of(argument: &[u8]) -> Said<'_>
-    ensures { said_of result ≡ words.plain_of argument.now }
-{
-    if argument.starts_with(b"-") {
-        return Said::Nothing;
-    }
-    let Some(value) = value_in(argument) else {
-        return Said::Nothing;
-    };
-    let name = key_of(argument);
-    if is_shell_name(name) {
-        Said::Assigns(name, value)
-    } else {
-        Said::Misassigns
+    match rest_after(b"--disable-", argument) {
+        Some(rest) => disabled(OptionKind::Feature, rest, argument),
+        None => package_of(argument),
     }
 }
 
@@ -254,20 +238,48 @@ fn given_or_awaited<'a>(target: Target, value: Option<&'a [u8]>) -> Said<'a>
     }
 }
 
-/// What an argument says that is no option of one word.
+/// What an option says that has a value, or is about a feature or a package.
 #[tactic(auto, unfolding(crate::specs::Arguments::said_with_value))]
 fn said_with_value(argument: &[u8]) -> Said<'_>
     ensures { said_of result ≡ words.said_with_value argument.now }
 {
-    if let Some(target) = target_of(key_of(argument)) {
-        return given_or_awaited(target, value_in(argument));
+    match target_of(key_of(argument)) {
+        Some(target) => given_or_awaited(target, value_in(argument)),
+        None => choice_of(argument),
     }
-    if let Some(said) = enabled_by(argument) {
-        return said;
+}
+
+/// What an argument says that begins with a `-`.
+#[tactic(auto, unfolding(crate::specs::Arguments::dashed_of))]
+fn dashed_of(argument: &[u8]) -> Said<'_>
+    ensures { said_of result ≡ words.dashed_of argument.now }
+{
+    match switch_of(argument) {
+        Some(switch) => Said::Turns(switch),
+        None => said_with_value(argument),
     }
-    match disabled_by(argument) {
-        Some(said) => said,
-        None => plain_of(argument),
+}
+
+/// What an argument says that is no option.
+fn assigned<'a>(name: &'a [u8], value: Option<&'a [u8]>) -> Said<'a>
+    ensures { said_of result ≡ words.assigned name.now (option_map (λ v. v.now) value.entry) }
+{
+    let Some(value) = value else {
+        return Said::Nothing;
+    };
+    if is_shell_name(name) {
+        Said::Assigns(name, value)
+    } else {
+        Said::Misassigns
+    }
+}
+
+fn is_dashed(argument: &[u8]) -> bool
+    ensures { result ≡ lines.is_dashed argument.now }
+{
+    match argument.first() {
+        Some(byte) => *byte == b'-',
+        None => false,
     }
 }
 
@@ -276,8 +288,9 @@ fn said_with_value(argument: &[u8]) -> Said<'_>
 pub(crate) fn said_by(argument: &[u8]) -> Said<'_>
     ensures { said_of result ≡ words.said_by argument.now }
 {
-    match switch_of(argument) {
-        Some(switch) => Said::Turns(switch),
-        None => said_with_value(argument),
+    if is_dashed(argument) {
+        dashed_of(argument)
+    } else {
+        assigned(key_of(argument), value_in(argument))
     }
 }

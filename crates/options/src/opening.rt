@@ -4,6 +4,7 @@ ghost use Rattle.std.specs.Prelude.{◌≡◌, ℕ, List, [], ◌++◌, None, If
 ghost use Rattle.deftable.specs.Table.{value_of};
 ghost use Rattle.options.specs.Directories.{directories as all_directories};
 ghost use Rattle.options.specs.Opening as words;
+ghost use Rattle.options.specs.Stepwise as steps;
 
 use crate::directory::{Directory, directories};
 use crate::reader::Reader;
@@ -12,9 +13,9 @@ use crate::unrecognized::Unrecognized;
 use deftable::{Bytes, Vars, is_shell_name};
 use std::alloc::{AllocError, Global};
 
-#[tactic(auto, unfolding(crate::specs::Opening::with_environment))]
+#[tactic(auto, unfolding(crate::specs::Stepwise::with_environment))]
 fn enter(vars: &mut Vars, entry: &(Bytes, Bytes)) -> Result<(), AllocError>
-    ensures { OnOk result (vars.new ≡ words.with_environment vars.old entry.now) }
+    ensures { OnOk result (vars.new ≡ steps.with_environment vars.old entry.now) }
 {
     if is_shell_name(entry.0.as_slice()) {
         return vars.set(entry.0.as_slice(), entry.1.as_slice());
@@ -24,7 +25,7 @@ fn enter(vars: &mut Vars, entry: &(Bytes, Bytes)) -> Result<(), AllocError>
 
 /// Sets what the environment has; the last of a name counts.
 fn enter_all(vars: &mut Vars, env: &[(Bytes, Bytes)]) -> Result<(), AllocError>
-    ensures { OnOk result (vars.new ≡ fold words.with_environment vars.old env.now) }
+    ensures { OnOk result (vars.new ≡ fold steps.with_environment vars.old env.now) }
 {
     for entry in env {
         enter(vars, entry)?;
@@ -32,16 +33,16 @@ fn enter_all(vars: &mut Vars, env: &[(Bytes, Bytes)]) -> Result<(), AllocError>
     Ok(())
 }
 
-#[tactic(auto, unfolding(crate::specs::Opening::with_default))]
+#[tactic(auto, unfolding(crate::specs::Stepwise::with_default))]
 fn set_default(vars: &mut Vars, directory: Directory) -> Result<(), AllocError>
-    ensures { OnOk result (vars.new ≡ words.with_default vars.old directory) }
+    ensures { OnOk result (vars.new ≡ steps.with_default vars.old directory) }
 {
     vars.set(directory.variable(), directory.default_value())
 }
 
-/// Sets all directories to what they are where nothing else is said.
+/// Sets all directories to their defaults.
 fn set_defaults(vars: &mut Vars) -> Result<(), AllocError>
-    ensures { OnOk result (vars.new ≡ fold words.with_default vars.old all_directories) }
+    ensures { OnOk result (vars.new ≡ fold steps.with_default vars.old all_directories) }
 {
     for directory in directories() {
         set_default(vars, *directory)?;
@@ -49,9 +50,9 @@ fn set_defaults(vars: &mut Vars) -> Result<(), AllocError>
     Ok(())
 }
 
-#[tactic(auto, unfolding(crate::specs::Opening::vars_before))]
+#[tactic(auto, unfolding(crate::specs::Stepwise::vars_before))]
 fn vars_before(alloc: Global, env: &[(Bytes, Bytes)]) -> Result<Vars, AllocError>
-    ensures { IfOk result (λ vars. vars ≡ words.vars_before env.now) }
+    ensures { IfOk result (λ vars. vars ≡ steps.vars_before env.now) }
 {
     let mut vars = Vars::new(alloc);
     enter_all(&mut vars, env)?;
@@ -60,9 +61,9 @@ fn vars_before(alloc: Global, env: &[(Bytes, Bytes)]) -> Result<Vars, AllocError
 }
 
 /// The reader before the first argument.
-#[tactic(auto, unfolding(crate::specs::Opening::reader_before))]
+#[tactic(auto, unfolding(crate::specs::Stepwise::reader_before))]
 pub(crate) fn reader_before(alloc: Global, env: &[(Bytes, Bytes)]) -> Result<Reader, AllocError>
-    ensures { IfOk result (λ r. r ≡ words.reader_before env.now) }
+    ensures { IfOk result (λ r. r ≡ steps.reader_before env.now) }
 {
     let vars = vars_before(alloc, env)?;
     Ok(Reader {
@@ -150,13 +151,13 @@ fn mark_all(alloc: Global, vars: &mut Vars, precious: &[Bytes]) -> Result<(), Al
 }
 
 /// Drops final slashes of directories, and then sets the marks of precious variables.
-#[tactic(auto, unfolding(crate::specs::Opening::vars_behind))]
+#[tactic(auto, unfolding(crate::specs::Opening::finished))]
 pub(crate) fn finish_vars(
     alloc: Global,
     vars: &mut Vars,
     precious: &[Bytes],
 ) -> Result<(), AllocError>
-    ensures { OnOk result (vars.new ≡ words.vars_behind precious.now vars.old) }
+    ensures { OnOk result (vars.new ≡ words.finished precious.now vars.old) }
 {
     unslash_all(alloc, vars)?;
     mark_all(alloc, vars, precious)

@@ -1,7 +1,8 @@
 //! The reading of arguments, from the left.
 
 ghost use Rattle.std.specs.Prelude.{◌≡◌, ◌+◌, ◌||◌, Option, IfOk, OnOk};
-ghost use Rattle.options.specs.Opening as words;
+ghost use Rattle.options.specs.Opening.{cache_named as cache_of, is_declared as declared_of};
+ghost use Rattle.options.specs.Stepwise as words;
 ghost use Rattle.options.specs.Reading.{Gives};
 ghost use Rattle.options.specs.Said.{said_of};
 
@@ -29,7 +30,7 @@ pub(crate) struct Reader {
 /// The cache of a name, which may mean that there is none.
 #[tactic(auto, unfolding(crate::specs::Opening::cache_named))]
 fn cache_named(alloc: Global, name: &[u8]) -> Result<Option<Bytes>, AllocError>
-    ensures { IfOk result (λ cache. cache ≡ words.cache_named name.now) }
+    ensures { IfOk result (λ cache. cache ≡ cache_of name.now) }
 {
     if name == b"".as_slice() || name == b"/dev/null".as_slice() {
         return Ok(None);
@@ -40,7 +41,7 @@ fn cache_named(alloc: Global, name: &[u8]) -> Result<Option<Bytes>, AllocError>
 /// Whether a macro declares the variable of an option, or it is that of `--enable-option-checking`.
 #[tactic(auto, unfolding(crate::specs::Opening::is_declared))]
 fn is_declared(features: &SubstList, packages: &SubstList, variable: &[u8]) -> bool
-    ensures { result ≡ words.is_declared features.now packages.now variable.now }
+    ensures { result ≡ declared_of features.now packages.now variable.now }
 {
     features.has(variable)
         || packages.has(variable)
@@ -78,7 +79,7 @@ impl Reader {
     }
 
     /// Sets the variable of a feature or a package, and notes its option where the variable isn't declared.
-    #[tactic(auto, unfolding(crate::specs::Opening::with_choice))]
+    #[tactic(auto, unfolding(crate::specs::Stepwise::with_choice))]
     fn choose(
         &mut self,
         alloc: Global,
@@ -97,7 +98,7 @@ impl Reader {
         Ok(())
     }
 
-    /// Reads what an argument says that isn't the second word of an option.
+    /// Reads what an argument says that isn't the value of the option before it.
     fn read_said(
         &mut self,
         alloc: Global,
@@ -122,7 +123,7 @@ impl Reader {
     }
 
     /// Reads the argument at place `i`.
-    #[tactic(auto, unfolding(crate::specs::Opening::with_argument))]
+    #[tactic(auto, unfolding(crate::specs::Stepwise::with_argument))]
     fn read(
         &mut self,
         alloc: Global,
@@ -142,7 +143,7 @@ impl Reader {
     }
 
     /// Refuses an end at which an option awaits its value; `i` is the place of the last argument.
-    #[tactic(auto, unfolding(crate::specs::Opening::at_end))]
+    #[tactic(auto, unfolding(crate::specs::Stepwise::at_end))]
     fn end(self, i: u64) -> Result<Reader, OptionFault>
         ensures { Gives (λ r. r) result (words.at_end i self) }
     {

@@ -1,11 +1,14 @@
 //! The settings of a run.
 
-ghost use Rattle.std.specs.Prelude.{◌≡◌, [], IfOk, unwrap_or, codes};
-ghost use Rattle.deftable.specs.Table.{value_of};
-ghost use Rattle.options.specs.Opening as words;
+ghost use Rattle.std.specs.Prelude.{◌≡◌, ◌≢◌, Ok, Err, IfOk, IfErr};
+ghost use Rattle.options.specs.Opening.{checking_in, opening, IsOpening, IsOpeningFault};
 ghost use Rattle.options.specs.Reading.{Gives};
 ghost use Rattle.options.specs.Srcdir.{srcdir_of};
+ghost use Rattle.options.specs.Stepwise as words;
 ghost use Rattle.options.specs.Unrecognized.{notes_of};
+ghost use Rattle.options.specs.declared.fault.OptionFault as faults;
+ghost use Rattle.options.specs.declared.fault.OptionFault.TheVariants.{OutOfMemory};
+ghost use Rattle.options.specs.declared.settings.Settings as settings;
 
 use crate::fault::OptionFault;
 use crate::opening::{finish_vars, reader_before, value_or_empty};
@@ -38,7 +41,7 @@ pub struct Settings {
 }
 
 /// The settings, once all arguments are read, with what is to be told.
-#[tactic(auto, unfolding(crate::specs::Opening::settings_with))]
+#[tactic(auto, unfolding(crate::specs::Stepwise::settings_with))]
 fn settings_with(
     alloc: Global,
     precious: &SubstList,
@@ -65,36 +68,55 @@ fn settings_with(
 }
 
 /// What is to be told of options that are not declared.
-fn notes_behind(alloc: Global, reader: &Reader) -> Result<Notes, OptionFault>
-    ensures { Gives (λ notes. notes) result (notes_of (unwrap_or (value_of reader.now.vars (codes "enable_option_checking")) []) reader.now.unrecognized) }
+fn notes_after(alloc: Global, reader: &Reader) -> Result<Notes, OptionFault>
+    ensures { Gives (λ notes. notes) result (notes_of (checking_in reader.now.vars) reader.now.unrecognized) }
 {
     let checking = value_or_empty(&reader.vars, b"enable_option_checking");
     notes_of(alloc, checking, &reader.unrecognized)
 }
 
 /// The settings, once all arguments are read.
-fn settings_behind(
+fn settings_after(
     alloc: Global,
     precious: &SubstList,
     args: &[Bytes],
     reader: Reader,
 ) -> Result<Settings, OptionFault>
-    ensures exact { Gives (λ s. s) result (words.settings_behind precious.now args.now reader) }
+    ensures exact { Gives (λ s. s) result (words.settings_after precious.now args.now reader) }
     ensures folder { IfOk result (λ s. s.srcdir ≡ srcdir_of args.now) }
 {
-    let notes = notes_behind(alloc, &reader)?;
+    let notes = notes_after(alloc, &reader)?;
     Ok(settings_with(alloc, precious, args, reader, notes)?)
 }
 
-/// The settings of a command line and an environment (Autoconf's manual, "Running configure Scripts"; the table of options
-/// is this project's own).
+/// Reads the arguments from the left, and then makes the settings.
+#[tactic(auto, unfolding(crate::specs::Stepwise::stepwise))]
+fn read_stepwise(
+    alloc: Global,
+    features: &SubstList,
+    packages: &SubstList,
+    precious: &SubstList,
+    args: &[Bytes],
+    env: &[(Bytes, Bytes)],
+) -> Result<Settings, OptionFault>
+    ensures exact { Gives (λ s. s) result (words.stepwise features.now packages.now precious.now args.now env.now) }
+    ensures folder { IfOk result (λ s. s.srcdir ≡ srcdir_of args.now) }
+{
+    let reader = reader_before(alloc, env)?;
+    let reader = reader.read_all(alloc, features, packages, args)?;
+    settings_after(alloc, precious, args, reader)
+}
+
+/// Returns the settings of a command line and an environment (Autoconf's manual, "Running configure Scripts"; the table of
+/// options is this project's own).
 ///
 /// `features` and `packages` are the variables of the features and packages that the source declares, as `enable_a_b` and
 /// `with_x`; `precious` are its precious variables. `env` are the entries of the environment, each a name and a value.
+/// The directory of the source is the one that [`srcdir_of`] returns.
 ///
-/// The first fault is answered: those of arguments in order, and then `FatalUnrecognized`. The folder of the source is
-/// the one that [`srcdir_of`] tells.
-#[tactic(auto, unfolding(crate::specs::Opening::opening))]
+/// # Errors
+///
+/// Returns the first fault of the arguments, in their order, or if they are right, `FatalUnrecognized`.
 pub fn read_args_of(
     alloc: Global,
     features: &SubstList,
@@ -103,10 +125,12 @@ pub fn read_args_of(
     args: &[Bytes],
     env: &[(Bytes, Bytes)],
 ) -> Result<Settings, OptionFault>
-    ensures exact { Gives (λ s. s) result (words.opening features.now packages.now precious.now args.now env.now) }
+    ensures found { IfOk result (λ s. IsOpening features.now packages.now precious.now args.now env.now s) }
+    ensures only { (s : settings.Settings) → IsOpening features.now packages.now precious.now args.now env.now s → Gives (λ s. s) result (Ok s) }
+    ensures fault { IfErr result (λ f. f ≢ OutOfMemory → IsOpeningFault features.now packages.now precious.now args.now env.now f) }
+    ensures named { (f : faults.OptionFault) → IsOpeningFault features.now packages.now precious.now args.now env.now f → Gives (λ s. s) result (Err f) }
+    ensures exact { Gives (λ s. s) result (opening features.now packages.now precious.now args.now env.now) }
     ensures folder { IfOk result (λ s. s.srcdir ≡ srcdir_of args.now) }
 {
-    let reader = reader_before(alloc, env)?;
-    let reader = reader.read_all(alloc, features, packages, args)?;
-    settings_behind(alloc, precious, args, reader)
+    read_stepwise(alloc, features, packages, precious, args, env)
 }

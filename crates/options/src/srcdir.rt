@@ -1,6 +1,7 @@
-//! The folder of the source.
+//! The directory of the source.
 
 ghost use Rattle.std.specs.Prelude.{◌≡◌, None, codes};
+ghost use Rattle.options.specs.Arguments.{awaited_by as awaited_of};
 ghost use Rattle.options.specs.Said.{said_of};
 ghost use Rattle.options.specs.Srcdir as words;
 
@@ -8,9 +9,9 @@ use crate::argument::{Said, Target, said_by};
 use crate::slashes::without_slashes;
 use deftable::Bytes;
 
-/// The option whose value the next argument is, behind an argument that says this.
-pub(crate) fn awaited_by(said: Said<'_>) -> Option<Target>
-    ensures { result ≡ words.awaited_by (said_of said.entry) }
+/// The option whose value the next argument is, after an argument that says this.
+fn awaited_by(said: Said<'_>) -> Option<Target>
+    ensures { result ≡ awaited_of (said_of said.entry) }
 {
     match said {
         Said::Awaits(target) => Some(target),
@@ -18,9 +19,9 @@ pub(crate) fn awaited_by(said: Said<'_>) -> Option<Target>
     }
 }
 
-/// The option whose value the next argument is, behind an argument that is itself such a value or isn't.
-fn awaited_behind(awaited: Option<Target>, argument: &Bytes) -> Option<Target>
-    ensures { result ≡ words.awaited_behind awaited argument.now }
+/// The option whose value the next argument is, after an argument that may be such a value itself.
+fn awaited_after(awaited: Option<Target>, argument: &Bytes) -> Option<Target>
+    ensures { result ≡ words.awaited_after awaited argument.now }
 {
     match awaited {
         Some(_) => None,
@@ -28,7 +29,7 @@ fn awaited_behind(awaited: Option<Target>, argument: &Bytes) -> Option<Target>
     }
 }
 
-/// The folder, where an option has this value.
+/// The directory, after an option with this value.
 fn srcdir_of_value<'a>(target: Target, value: &'a [u8], srcdir: &'a [u8]) -> &'a [u8]
     ensures { result.now ≡ words.srcdir_of_value target value.now srcdir.now }
 {
@@ -47,9 +48,9 @@ fn srcdir_said<'a>(said: Said<'a>, srcdir: &'a [u8]) -> &'a [u8]
     }
 }
 
-/// The folder behind an argument, which may be the second word of an option.
-fn srcdir_behind<'a>(awaited: Option<Target>, argument: &'a Bytes, srcdir: &'a [u8]) -> &'a [u8]
-    ensures { result.now ≡ words.srcdir_behind awaited argument.now srcdir.now }
+/// The directory, after an argument that may be the value of the option before it.
+fn srcdir_after<'a>(awaited: Option<Target>, argument: &'a Bytes, srcdir: &'a [u8]) -> &'a [u8]
+    ensures { result.now ≡ words.srcdir_after awaited argument.now srcdir.now }
 {
     match awaited {
         Some(target) => srcdir_of_value(target, argument.as_slice(), srcdir),
@@ -57,15 +58,15 @@ fn srcdir_behind<'a>(awaited: Option<Target>, argument: &'a Bytes, srcdir: &'a [
     }
 }
 
-/// The folder that arguments name, as they name it.
+/// The directory that arguments name, as they name it.
 fn srcdir_named(args: &[Bytes]) -> &[u8]
     ensures { result.now ≡ words.srcdir_from None (codes ".") args.now }
 {
     let mut awaited = None;
     let mut srcdir = b".".as_slice();
     for argument in args {
-        srcdir = srcdir_behind(awaited, argument, srcdir);
-        awaited = awaited_behind(awaited, argument);
+        srcdir = srcdir_after(awaited, argument, srcdir);
+        awaited = awaited_after(awaited, argument);
     }
     srcdir
 }

@@ -1,5 +1,5 @@
 use Rattle.std.proofs.Common.{◌≡◌, take, fold}
-use Rattle.options.specs.Opening.{with_environment}
+use Rattle.options.specs.Stepwise.{with_environment}
 use Rattle.options.proofs.opening.enter_all.Given as goal
 
 abbrev pub invariant-loop-entry : goal.invariant-loop-entry

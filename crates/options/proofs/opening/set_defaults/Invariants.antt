@@ -1,5 +1,5 @@
 use Rattle.std.proofs.Common.{◌≡◌, take, fold}
-use Rattle.options.specs.Opening.{with_default}
+use Rattle.options.specs.Stepwise.{with_default}
 use Rattle.options.proofs.opening.set_defaults.Given as goal
 
 abbrev pub invariant-loop-directory : goal.invariant-loop-directory

@@ -4,7 +4,7 @@ use Rattle.options.proofs.srcdir.srcdir_named.Goals as goal
 
 pub loop-argument-preserved : goal.loop-argument-preserved
 loop-argument-preserved c =
-    folder_more _ _ _ _ _ _ _ _ c.loop-argument-test.true c.argument-item.is c.awaited_behind-awaited.ensures c.srcdir_behind-srcdir.ensures c.loop-argument.invariant
+    folder_more _ _ _ _ _ _ _ _ c.loop-argument-test.true c.argument-item.is c.awaited_after-awaited.ensures c.srcdir_after-srcdir.ensures c.loop-argument.invariant
 
 pub returns : goal.returns
 returns c = sym (folder_end _ _ _ _ c.loop-argument-test.false) ∙ c.loop-argument.invariant

@@ -1,5 +1,5 @@
 use Rattle.std.proofs.Common.{◌≡◌, drop}
-use Rattle.options.specs.Opening.{with_arguments}
+use Rattle.options.specs.Stepwise.{with_arguments}
 use Rattle.options.proofs.reader.Reader.read_all.Given as goal
 
 abbrev pub invariant-loop-i : goal.invariant-loop-i

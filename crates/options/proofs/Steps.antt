@@ -1,0 +1,464 @@
+-- The code's way through the arguments leads to the opening.
+use Rattle.std.proofs.Common.{◌≡◌, ℕ, ◌+◌, Bool, true, false, ◌||◌, if◌then◌else◌, List, [], ◌∷◌, ◌++◌, append_assoc, map, fold, Option, Some, None, Result, Ok, Err, codes, refl, sym, ap, subst, ◌∙◌}
+use Rattle.std.specs.List.{filter, flat_map, list_any}
+use Rattle.std.proofs.lemmas.List.{append-nil}
+use Rattle.std.proofs.lemmas.List.Sums.{fold-append}
+use Rattle.deftable.specs.ShellName.{is_shell_name_of}
+use Rattle.deftable.specs.Table.{with_entry}
+use Rattle.deftable.specs.declared.note.Note.{Note}
+use Rattle.acargs.specs.Feature.{option_variable}
+use Rattle.options.proofs.Lines.{alone_awaits, settings_given, given_reads, Reads}
+use Rattle.options.proofs.Words.{option_said, setting_said}
+use Rattle.options.specs.Arguments.{Said, Turns, Gives, Awaits, Chooses, Misnames, Assigns, Misassigns, Nothing, said_by, alone, awaited_by, and_then, given}
+use Rattle.options.specs.CommandLine as line
+use Rattle.options.specs.CommandLine.{Setting, Variable, Choice, Cache, Source, Switched, valued, GivesSettings}
+use Rattle.options.specs.Directories.{directories, variable_of, default_of}
+use Rattle.options.specs.Opening.{last_of, cache_named, caches_in, sources_in, source_directory, is_quiet, is_no_create, is_help, is_version, variables_in, default_entry, setters, with_variable, set_by, finished, is_declared, undeclared_in, checking_in, run_settings, opened_by, opening}
+use Rattle.options.specs.Reading.{◌>>=◌}
+use Rattle.options.specs.Slashes.{without_slashes}
+use Rattle.options.specs.Srcdir.{srcdir_said, srcdir_from, srcdir_of}
+use Rattle.options.specs.Stepwise.{with_environment, with_default, vars_before, reader_before, with_value, with_switch, with_choice, with_said, with_argument, at_end, with_arguments, settings_with, settings_after, stepwise}
+use Rattle.options.specs.Unrecognized.{notes_of}
+use Rattle.options.specs.declared.argument.Target.{Target}
+use Rattle.options.specs.declared.argument.Target.TheVariants.{Folder, Srcdir, CacheFile}
+use Rattle.options.specs.declared.argument.Switch.{Switch}
+use Rattle.options.specs.declared.argument.Switch.TheVariants.{ConfigCache, Quiet, NoCreate, Help, Version, Ignored}
+use Rattle.options.specs.declared.directory.Directory.{Directory}
+use Rattle.options.specs.declared.fault.OptionFault.{OptionFault}
+use Rattle.options.specs.declared.fault.OptionFault.TheVariants.{MissingValue}
+use Rattle.options.specs.declared.reader.Reader.{Reader}
+use Rattle.options.specs.declared.settings.Settings.{Settings}
+
+-- ---- what a setting makes of a reader
+
+abbrev after : List (List ℕ) → List (List ℕ) → Setting → Reader → Reader
+after features packages (Variable name value) r = record r { vars = with_entry r.vars name value }
+after features packages (Choice i kind name value option) r = with_choice features packages i kind name value option r
+after features packages (Cache name) r = record r { cache_name = cache_named name }
+after features packages (Source directory) r = r
+after features packages (Switched switch) r = with_switch switch r
+
+unfoldable after_all : List (List ℕ) → List (List ℕ) → List Setting → Reader → Reader
+after_all features packages [] r = r
+after_all features packages (setting ∷ more) r = after_all features packages more (after features packages setting r)
+
+value_after : (features packages : List (List ℕ)) (target : Target) (value : List ℕ) (r : Reader) → with_value target value r ≡ after features packages (valued target value) r
+value_after features packages (Folder directory) value r = refl
+value_after features packages Srcdir value r = refl
+value_after features packages CacheFile value r = refl
+
+said_after : (features packages : List (List ℕ)) (i : ℕ) (said : Said) (r : Reader) → awaited_by said ≡ None
+    → with_said features packages i said r ≡ (alone i said >>= λ setting. Ok (after features packages setting r))
+said_after features packages i (Turns switch) r e = refl
+said_after features packages i (Gives target value) r e = ap (λ next. Ok next) (value_after features packages target value r)
+said_after features packages i (Awaits target) r e = absurd (cc)
+said_after features packages i (Chooses kind name value option) r e = refl
+said_after features packages i Misnames r e = refl
+said_after features packages i (Assigns name value) r e = refl
+said_after features packages i Misassigns r e = refl
+said_after features packages i Nothing r e = refl
+
+awaits_is : (features packages : List (List ℕ)) (i : ℕ) (said : Said) (target : Target) (r : Reader) → awaited_by said ≡ Some target
+    → with_said features packages i said r ≡ Ok (record r { awaited = Some target })
+awaits_is features packages i (Turns switch) t r e = absurd (cc)
+awaits_is features packages i (Gives target value) t r e = absurd (cc)
+awaits_is features packages i (Awaits target) t r e = ap (λ a. Ok (record r { awaited = a })) e
+awaits_is features packages i (Chooses kind name value option) t r e = absurd (cc)
+awaits_is features packages i Misnames t r e = absurd (cc)
+awaits_is features packages i (Assigns name value) t r e = absurd (cc)
+awaits_is features packages i Misassigns t r e = absurd (cc)
+awaits_is features packages i Nothing t r e = absurd (cc)
+
+-- no option awaits its value
+abbrev idle : Reader → Reader
+idle r = record r { awaited = None }
+
+idle_is : (r : Reader) → r.awaited ≡ None → idle r ≡ r
+idle_is r e = ap (λ a. record r { awaited = a }) (sym e)
+
+awaits_still : (setting : Setting) (features packages : List (List ℕ)) (r : Reader) → (after features packages setting r).awaited ≡ r.awaited
+unfolding with_choice
+awaits_still (Variable n v) features packages r = refl
+awaits_still (Choice i k n v o) features packages r = refl
+awaits_still (Cache n) features packages r = refl
+awaits_still (Source d) features packages r = refl
+awaits_still (Switched ConfigCache) features packages r = refl
+awaits_still (Switched Quiet) features packages r = refl
+awaits_still (Switched NoCreate) features packages r = refl
+awaits_still (Switched Help) features packages r = refl
+awaits_still (Switched Version) features packages r = refl
+awaits_still (Switched Ignored) features packages r = refl
+
+-- ---- the steps, and what the arguments give
+
+joined : (features packages : List (List ℕ)) (first : Setting) (r : Reader) (rest : Result (List Setting) OptionFault)
+    → (rest >>= λ settings. Ok (after_all features packages settings (after features packages first r)))
+    ≡ (and_then (Ok first) rest >>= λ settings. Ok (after_all features packages settings r))
+unfolding after_all
+joined features packages first r (Ok settings) = refl
+joined features packages first r (Err fault) = refl
+
+-- what is read after an argument
+abbrev Step : List (List ℕ) → List (List ℕ) → List (List ℕ) → Type 0
+Step features packages more = (awaited : Option Target) (i : ℕ) (r : Reader) → r.awaited ≡ awaited
+    → with_arguments features packages i r more ≡ (given awaited i more >>= λ settings. Ok (after_all features packages settings (idle r)))
+
+after_setting : (features packages more : List (List ℕ)) (i : ℕ) (setting : Setting) (r : Reader) → r.awaited ≡ None → Step features packages more
+    → with_arguments features packages i (after features packages setting r) more
+    ≡ (and_then (Ok setting) (given None i more) >>= λ settings. Ok (after_all features packages settings r))
+after_setting features packages more i setting r e step =
+    let none : (after features packages setting r).awaited ≡ None = awaits_still setting features packages r ∙ e in
+    step None i (after features packages setting r) none
+    ∙ ap (λ q. given None i more >>= λ settings. Ok (after_all features packages settings q)) (idle_is (after features packages setting r) none)
+    ∙ joined features packages setting r (given None i more)
+
+end_steps : (features packages : List (List ℕ)) → Step features packages []
+unfolding with_arguments at_end given after_all
+end_steps features packages None i r e =
+    ap (λ a. elim a as (λ a. Result Reader OptionFault) [ Some target ↦ Err (MissingValue i) | None ↦ Ok r ]) e ∙ ap (λ q. Ok q) (sym (idle_is r e))
+end_steps features packages (Some target) i r e =
+    ap (λ a. elim a as (λ a. Result Reader OptionFault) [ Some target ↦ Err (MissingValue i) | None ↦ Ok r ]) e
+
+value_steps : (features packages : List (List ℕ)) (target : Target) (value : List ℕ) (more : List (List ℕ)) (i : ℕ) (r : Reader) → r.awaited ≡ Some target
+    → Step features packages more → with_arguments features packages i r (value ∷ more)
+    ≡ (given (Some target) i (value ∷ more) >>= λ settings. Ok (after_all features packages settings (idle r)))
+unfolding with_arguments with_argument given
+value_steps features packages target value more i r e step =
+    ap (λ a. (elim a as (λ a. Result Reader OptionFault) [ Some t ↦ Ok (with_value t value (idle r)) | None ↦ with_said features packages (i + 1) (said_by value) r ])
+    >>= λ next. with_arguments features packages (i + 1) next more) e
+    ∙ ap (λ next. with_arguments features packages (i + 1) next more) (value_after features packages target value (idle r))
+    ∙ after_setting features packages more (i + 1) (valued target value) (idle r) refl step
+
+-- an argument that isn't the value of an option
+word_steps : (features packages : List (List ℕ)) (word : List ℕ) (more : List (List ℕ)) (i : ℕ) (r : Reader) → r.awaited ≡ None → Step features packages more
+    → with_arguments features packages i r (word ∷ more) ≡ (given None i (word ∷ more) >>= λ settings. Ok (after_all features packages settings (idle r)))
+unfolding with_arguments with_argument given
+word_steps features packages word more i r e step =
+    ap (λ a. (elim a as (λ a. Result Reader OptionFault) [ Some t ↦ Ok (with_value t word (idle r)) | None ↦ with_said features packages (i + 1) (said_by word) r ])
+    >>= λ next. with_arguments features packages (i + 1) next more) e
+    ∙ at (awaited_by (said_by word)) refl where
+  alone_at : (first : Result Setting OptionFault) → ((first >>= λ setting. Ok (after features packages setting r)) >>= λ next. with_arguments features packages (i + 1) next more)
+      ≡ (and_then first (given None (i + 1) more) >>= λ settings. Ok (after_all features packages settings (idle r)))
+  alone_at (Ok setting) =
+      after_setting features packages more (i + 1) setting r e step
+      ∙ ap (λ q. and_then (Ok setting) (given None (i + 1) more) >>= λ settings. Ok (after_all features packages settings q)) (sym (idle_is r e))
+  alone_at (Err fault) = refl
+
+  at : (a : Option Target) → awaited_by (said_by word) ≡ a
+      → (with_said features packages (i + 1) (said_by word) r >>= λ next. with_arguments features packages (i + 1) next more)
+      ≡ ((elim a as (λ a. Result (List Setting) OptionFault) [
+        | Some target ↦ given (Some target) (i + 1) more
+        | None ↦ and_then (alone (i + 1) (said_by word)) (given None (i + 1) more)
+      ]) >>= λ settings. Ok (after_all features packages settings (idle r)))
+  at (Some target) is =
+      ap (λ q. q >>= λ next. with_arguments features packages (i + 1) next more) (awaits_is features packages (i + 1) (said_by word) target r is)
+      ∙ step (Some target) (i + 1) (record r { awaited = Some target }) refl
+  at None is =
+      ap (λ q. q >>= λ next. with_arguments features packages (i + 1) next more) (said_after features packages (i + 1) (said_by word) r is)
+      ∙ alone_at (alone (i + 1) (said_by word))
+
+steps : (features packages arguments : List (List ℕ)) → Step features packages arguments
+steps features packages [] = end_steps features packages
+steps features packages (word ∷ more) =
+    λ awaited i r e. at awaited i r e (steps features packages more) where
+  at : (awaited : Option Target) (i : ℕ) (r : Reader) → r.awaited ≡ awaited → Step features packages more
+      → with_arguments features packages i r (word ∷ more) ≡ (given awaited i (word ∷ more) >>= λ settings. Ok (after_all features packages settings (idle r)))
+  at None i r e step = word_steps features packages word more i r e step
+  at (Some target) i r e step = value_steps features packages target word more i r e step
+
+-- ---- what all settings make of a reader
+
+or_true : (b : Bool) → (b || true) ≡ true
+or_true true = refl
+or_true false = refl
+
+or_false : (b : Bool) → (b || false) ≡ b
+or_false true = refl
+or_false false = refl
+
+choice_unrecognized : (t : Bool) (i : ℕ) (option : List ℕ) (r : Reader) (rest : List (ℕ × List ℕ))
+    → (if t then r.unrecognized else r.unrecognized ++ (i, option) ∷ []) ++ rest ≡ r.unrecognized ++ ((if t then [] else (i, option) ∷ []) ++ rest)
+choice_unrecognized true i option r rest = refl
+choice_unrecognized false i option r rest = append_assoc r.unrecognized ((i, option) ∷ []) rest
+
+vars_step : (setting : Setting) (features packages : List (List ℕ)) (r : Reader) (rest : List (List ℕ × List ℕ))
+    → (fold with_variable (after features packages setting r).vars rest) ≡ (fold with_variable r.vars (variables_in setting ++ rest))
+unfolding with_choice
+vars_step (Variable n v) features packages r rest = refl
+vars_step (Choice i k n v o) features packages r rest = refl
+vars_step (Cache n) features packages r rest = refl
+vars_step (Source d) features packages r rest = refl
+vars_step (Switched ConfigCache) features packages r rest = refl
+vars_step (Switched Quiet) features packages r rest = refl
+vars_step (Switched NoCreate) features packages r rest = refl
+vars_step (Switched Help) features packages r rest = refl
+vars_step (Switched Version) features packages r rest = refl
+vars_step (Switched Ignored) features packages r rest = refl
+
+vars_after : (settings : List Setting) (features packages : List (List ℕ)) (r : Reader) → (after_all features packages settings r).vars ≡ (fold with_variable r.vars (flat_map variables_in settings))
+unfolding after_all
+vars_after [] features packages r = refl
+vars_after (setting ∷ more) features packages r =
+    vars_after more features packages (after features packages setting r) ∙ vars_step setting features packages r (flat_map variables_in more)
+
+cache_name_step : (setting : Setting) (features packages : List (List ℕ)) (r : Reader) (rest : List (Option (List ℕ)))
+    → (last_of (after features packages setting r).cache_name rest) ≡ (last_of r.cache_name (caches_in setting ++ rest))
+unfolding with_choice
+cache_name_step (Variable n v) features packages r rest = refl
+cache_name_step (Choice i k n v o) features packages r rest = refl
+cache_name_step (Cache n) features packages r rest = refl
+cache_name_step (Source d) features packages r rest = refl
+cache_name_step (Switched ConfigCache) features packages r rest = refl
+cache_name_step (Switched Quiet) features packages r rest = refl
+cache_name_step (Switched NoCreate) features packages r rest = refl
+cache_name_step (Switched Help) features packages r rest = refl
+cache_name_step (Switched Version) features packages r rest = refl
+cache_name_step (Switched Ignored) features packages r rest = refl
+
+cache_name_after : (settings : List Setting) (features packages : List (List ℕ)) (r : Reader) → (after_all features packages settings r).cache_name ≡ (last_of r.cache_name (flat_map caches_in settings))
+unfolding after_all
+cache_name_after [] features packages r = refl
+cache_name_after (setting ∷ more) features packages r =
+    cache_name_after more features packages (after features packages setting r) ∙ cache_name_step setting features packages r (flat_map caches_in more)
+
+unrecognized_step : (setting : Setting) (features packages : List (List ℕ)) (r : Reader) (rest : List (ℕ × List ℕ))
+    → ((after features packages setting r).unrecognized ++ rest) ≡ (r.unrecognized ++ (undeclared_in features packages setting ++ rest))
+unfolding with_choice
+unrecognized_step (Variable n v) features packages r rest = refl
+unrecognized_step (Choice i k n v o) features packages r rest = choice_unrecognized (is_declared features packages (option_variable k n)) i o r rest
+unrecognized_step (Cache n) features packages r rest = refl
+unrecognized_step (Source d) features packages r rest = refl
+unrecognized_step (Switched ConfigCache) features packages r rest = refl
+unrecognized_step (Switched Quiet) features packages r rest = refl
+unrecognized_step (Switched NoCreate) features packages r rest = refl
+unrecognized_step (Switched Help) features packages r rest = refl
+unrecognized_step (Switched Version) features packages r rest = refl
+unrecognized_step (Switched Ignored) features packages r rest = refl
+
+unrecognized_after : (settings : List Setting) (features packages : List (List ℕ)) (r : Reader) → (after_all features packages settings r).unrecognized ≡ (r.unrecognized ++ flat_map (undeclared_in features packages) settings)
+unfolding after_all
+unrecognized_after [] features packages r = sym (append-nil r.unrecognized)
+unrecognized_after (setting ∷ more) features packages r =
+    unrecognized_after more features packages (after features packages setting r) ∙ unrecognized_step setting features packages r (flat_map (undeclared_in features packages) more)
+
+quiet_step : (setting : Setting) (features packages : List (List ℕ)) (r : Reader) (rest : Bool)
+    → ((after features packages setting r).quiet || rest) ≡ (r.quiet || (is_quiet setting || rest))
+unfolding with_choice
+quiet_step (Variable n v) features packages r rest = refl
+quiet_step (Choice i k n v o) features packages r rest = refl
+quiet_step (Cache n) features packages r rest = refl
+quiet_step (Source d) features packages r rest = refl
+quiet_step (Switched ConfigCache) features packages r rest = refl
+quiet_step (Switched Quiet) features packages r rest = sym (or_true r.quiet)
+quiet_step (Switched NoCreate) features packages r rest = refl
+quiet_step (Switched Help) features packages r rest = refl
+quiet_step (Switched Version) features packages r rest = refl
+quiet_step (Switched Ignored) features packages r rest = refl
+
+quiet_after : (settings : List Setting) (features packages : List (List ℕ)) (r : Reader) → (after_all features packages settings r).quiet ≡ (r.quiet || list_any is_quiet settings)
+unfolding after_all
+quiet_after [] features packages r = sym (or_false r.quiet)
+quiet_after (setting ∷ more) features packages r =
+    quiet_after more features packages (after features packages setting r) ∙ quiet_step setting features packages r (list_any is_quiet more)
+
+no_create_step : (setting : Setting) (features packages : List (List ℕ)) (r : Reader) (rest : Bool)
+    → ((after features packages setting r).no_create || rest) ≡ (r.no_create || (is_no_create setting || rest))
+unfolding with_choice
+no_create_step (Variable n v) features packages r rest = refl
+no_create_step (Choice i k n v o) features packages r rest = refl
+no_create_step (Cache n) features packages r rest = refl
+no_create_step (Source d) features packages r rest = refl
+no_create_step (Switched ConfigCache) features packages r rest = refl
+no_create_step (Switched Quiet) features packages r rest = refl
+no_create_step (Switched NoCreate) features packages r rest = sym (or_true r.no_create)
+no_create_step (Switched Help) features packages r rest = refl
+no_create_step (Switched Version) features packages r rest = refl
+no_create_step (Switched Ignored) features packages r rest = refl
+
+no_create_after : (settings : List Setting) (features packages : List (List ℕ)) (r : Reader) → (after_all features packages settings r).no_create ≡ (r.no_create || list_any is_no_create settings)
+unfolding after_all
+no_create_after [] features packages r = sym (or_false r.no_create)
+no_create_after (setting ∷ more) features packages r =
+    no_create_after more features packages (after features packages setting r) ∙ no_create_step setting features packages r (list_any is_no_create more)
+
+help_step : (setting : Setting) (features packages : List (List ℕ)) (r : Reader) (rest : Bool)
+    → ((after features packages setting r).help || rest) ≡ (r.help || (is_help setting || rest))
+unfolding with_choice
+help_step (Variable n v) features packages r rest = refl
+help_step (Choice i k n v o) features packages r rest = refl
+help_step (Cache n) features packages r rest = refl
+help_step (Source d) features packages r rest = refl
+help_step (Switched ConfigCache) features packages r rest = refl
+help_step (Switched Quiet) features packages r rest = refl
+help_step (Switched NoCreate) features packages r rest = refl
+help_step (Switched Help) features packages r rest = sym (or_true r.help)
+help_step (Switched Version) features packages r rest = refl
+help_step (Switched Ignored) features packages r rest = refl
+
+help_after : (settings : List Setting) (features packages : List (List ℕ)) (r : Reader) → (after_all features packages settings r).help ≡ (r.help || list_any is_help settings)
+unfolding after_all
+help_after [] features packages r = sym (or_false r.help)
+help_after (setting ∷ more) features packages r =
+    help_after more features packages (after features packages setting r) ∙ help_step setting features packages r (list_any is_help more)
+
+version_step : (setting : Setting) (features packages : List (List ℕ)) (r : Reader) (rest : Bool)
+    → ((after features packages setting r).version || rest) ≡ (r.version || (is_version setting || rest))
+unfolding with_choice
+version_step (Variable n v) features packages r rest = refl
+version_step (Choice i k n v o) features packages r rest = refl
+version_step (Cache n) features packages r rest = refl
+version_step (Source d) features packages r rest = refl
+version_step (Switched ConfigCache) features packages r rest = refl
+version_step (Switched Quiet) features packages r rest = refl
+version_step (Switched NoCreate) features packages r rest = refl
+version_step (Switched Help) features packages r rest = refl
+version_step (Switched Version) features packages r rest = sym (or_true r.version)
+version_step (Switched Ignored) features packages r rest = refl
+
+version_after : (settings : List Setting) (features packages : List (List ℕ)) (r : Reader) → (after_all features packages settings r).version ≡ (r.version || list_any is_version settings)
+unfolding after_all
+version_after [] features packages r = sym (or_false r.version)
+version_after (setting ∷ more) features packages r =
+    version_after more features packages (after features packages setting r) ∙ version_step setting features packages r (list_any is_version more)
+
+-- ---- variables before the arguments
+
+environment_before : (entries vars : List (List ℕ × List ℕ)) → fold with_environment vars entries ≡ fold with_variable vars (filter (λ entry. is_shell_name_of entry.0) entries)
+unfolding with_environment
+environment_before [] vars = refl
+environment_before (entry ∷ more) vars = at (is_shell_name_of entry.0) (environment_before more) where
+  at : (t : Bool) → ((next : List (List ℕ × List ℕ)) → fold with_environment next more ≡ fold with_variable next (filter (λ entry. is_shell_name_of entry.0) more))
+      → fold with_environment (if t then with_entry vars entry.0 entry.1 else vars) more
+      ≡ fold with_variable vars (if t then entry ∷ filter (λ entry. is_shell_name_of entry.0) more else filter (λ entry. is_shell_name_of entry.0) more)
+  at true rest = rest (with_entry vars entry.0 entry.1)
+  at false rest = rest vars
+
+defaults_before : (ds : List Directory) (vars : List (List ℕ × List ℕ)) → fold with_default vars ds ≡ fold with_variable vars (map default_entry ds)
+unfolding with_default
+defaults_before [] vars = refl
+defaults_before (d ∷ ds) vars = defaults_before ds (with_entry vars (variable_of d) (default_of d))
+
+vars_are : (environment : List (List ℕ × List ℕ)) (settings : List Setting)
+    → fold with_variable (vars_before environment) (flat_map variables_in settings) ≡ set_by (setters environment settings)
+unfolding vars_before set_by setters
+vars_are environment settings =
+    let entries : List (List ℕ × List ℕ) = filter (λ entry. is_shell_name_of entry.0) environment in
+    let defaults : List (List ℕ × List ℕ) = map default_entry directories in
+    ap (λ vars. fold with_variable vars (flat_map variables_in settings))
+    (defaults_before directories (fold with_environment [] environment)
+    ∙ ap (λ vars. fold with_variable vars defaults) (environment_before environment [])
+    ∙ sym (fold-append with_variable [] entries defaults))
+    ∙ sym (fold-append with_variable [] (entries ++ defaults) (flat_map variables_in settings))
+
+-- ---- the directory of the source
+
+said_source : (i : ℕ) (said : Said) (setting : Setting) (srcdir : List ℕ) → alone i said ≡ Ok setting → srcdir_said said srcdir ≡ last_of srcdir (sources_in setting)
+said_source i (Turns switch) setting srcdir e = ap (λ s. last_of srcdir (sources_in s)) (let same : Switched switch ≡ setting = cc in same)
+said_source i (Gives (Folder d) value) setting srcdir e = ap (λ s. last_of srcdir (sources_in s)) (let same : Variable (variable_of d) value ≡ setting = cc in same)
+said_source i (Gives Srcdir value) setting srcdir e = ap (λ s. last_of srcdir (sources_in s)) (let same : Source value ≡ setting = cc in same)
+said_source i (Gives CacheFile value) setting srcdir e = ap (λ s. last_of srcdir (sources_in s)) (let same : Cache value ≡ setting = cc in same)
+said_source i (Awaits target) setting srcdir e = absurd (cc)
+said_source i (Chooses kind name value option) setting srcdir e = ap (λ s. last_of srcdir (sources_in s)) (let same : Choice i kind name value option ≡ setting = cc in same)
+said_source i Misnames setting srcdir e = absurd (cc)
+said_source i (Assigns name value) setting srcdir e = ap (λ s. last_of srcdir (sources_in s)) (let same : Variable name value ≡ setting = cc in same)
+said_source i Misassigns setting srcdir e = absurd (cc)
+said_source i Nothing setting srcdir e = absurd (cc)
+
+value_source : (target : Target) (value srcdir : List ℕ) → srcdir_said (Gives target value) srcdir ≡ last_of srcdir (sources_in (valued target value))
+value_source (Folder d) value srcdir = refl
+value_source Srcdir value srcdir = refl
+value_source CacheFile value srcdir = refl
+
+last_more : (setting : Setting) (srcdir : List ℕ) (rest : List (List ℕ)) → last_of (last_of srcdir (sources_in setting)) rest ≡ last_of srcdir (sources_in setting ++ rest)
+last_more (Variable n v) srcdir rest = refl
+last_more (Choice i k n v o) srcdir rest = refl
+last_more (Cache n) srcdir rest = refl
+last_more (Source d) srcdir rest = refl
+last_more (Switched switch) srcdir rest = refl
+
+named_source : {i : ℕ} {arguments : List (List ℕ)} {settings : List Setting} → GivesSettings i arguments settings → (srcdir : List ℕ)
+    → srcdir_from None srcdir arguments ≡ last_of srcdir (flat_map sources_in settings)
+unfolding srcdir_from
+named_source line.no_more srcdir = refl
+named_source {i = i} (line.one_word {word = word} {setting = setting} {more = more} {settings = settings} h rest) srcdir =
+    let said = setting_said h in
+    ap (λ a. srcdir_from a (srcdir_said (said_by word) srcdir) more) (alone_awaits (i + 1) (said_by word) setting said)
+    ∙ ap (λ d. srcdir_from None d more) (said_source (i + 1) (said_by word) setting srcdir said)
+    ∙ named_source rest (last_of srcdir (sources_in setting))
+    ∙ last_more setting srcdir (flat_map sources_in settings)
+named_source (line.two_words {option = option} {target = target} {more = more} {settings = settings} h value rest) srcdir =
+    ap (λ said. srcdir_from (awaited_by said) (srcdir_said said srcdir) (value ∷ more)) (option_said h)
+    ∙ ap (λ d. srcdir_from None d more) (value_source target value srcdir)
+    ∙ named_source rest (last_of srcdir (sources_in (valued target value)))
+    ∙ last_more (valued target value) srcdir (flat_map sources_in settings)
+
+-- If the arguments are right, the directory that is named whether or not they are is the one of the settings.
+pub srcdir_agrees : (arguments : List (List ℕ)) (settings : List Setting) → GivesSettings 0 arguments settings → srcdir_of arguments ≡ source_directory settings
+unfolding srcdir_of source_directory
+srcdir_agrees arguments settings h = ap without_slashes (named_source h (codes "."))
+
+-- ---- the whole
+
+-- the settings of these parts
+unfoldable made_of : List (List ℕ) → List (List ℕ × List ℕ) → List (ℕ × List ℕ) → Option (List ℕ) → List ℕ → Bool → Bool → Bool → Bool → Result Settings OptionFault
+made_of precious vars unrecognized cache srcdir quiet no_create help version =
+    notes_of (checking_in vars) unrecognized >>= λ notes. Ok record {
+      vars = finished precious vars;
+      notes = notes;
+      cache_name = cache;
+      srcdir = srcdir;
+      quiet = quiet;
+      no_create = no_create;
+      help = help;
+      version = version;
+    }
+
+after_made : (precious arguments : List (List ℕ)) (r : Reader)
+    → settings_after precious arguments r ≡ made_of precious r.vars r.unrecognized r.cache_name (srcdir_of arguments) r.quiet r.no_create r.help r.version
+unfolding settings_after settings_with made_of
+after_made precious arguments r = refl
+
+opened_made : (features packages precious : List (List ℕ)) (environment : List (List ℕ × List ℕ)) (settings : List Setting)
+    → opened_by features packages precious environment settings
+    ≡ made_of precious (set_by (setters environment settings)) (flat_map (undeclared_in features packages) settings) (last_of None (flat_map caches_in settings))
+    (source_directory settings) (list_any is_quiet settings) (list_any is_no_create settings) (list_any is_help settings) (list_any is_version settings)
+unfolding opened_by run_settings made_of
+opened_made features packages precious environment settings = refl
+
+settings_opened : (features packages precious arguments : List (List ℕ)) (environment : List (List ℕ × List ℕ)) (settings : List Setting) → GivesSettings 0 arguments settings
+    → settings_after precious arguments (after_all features packages settings (idle (reader_before environment))) ≡ opened_by features packages precious environment settings
+unfolding reader_before
+settings_opened features packages precious arguments environment settings h =
+    let r : Reader = idle (reader_before environment) in
+    let end : Reader = after_all features packages settings r in
+    let vars : end.vars ≡ set_by (setters environment settings) = vars_after settings features packages r ∙ vars_are environment settings in
+    let unrecognized : end.unrecognized ≡ flat_map (undeclared_in features packages) settings = unrecognized_after settings features packages r in
+    let cache : end.cache_name ≡ last_of None (flat_map caches_in settings) = cache_name_after settings features packages r in
+    let srcdir : srcdir_of arguments ≡ source_directory settings = srcdir_agrees arguments settings h in
+    let quiet : end.quiet ≡ list_any is_quiet settings = quiet_after settings features packages r in
+    let no_create : end.no_create ≡ list_any is_no_create settings = no_create_after settings features packages r in
+    let help : end.help ≡ list_any is_help settings = help_after settings features packages r in
+    let version : end.version ≡ list_any is_version settings = version_after settings features packages r in
+    after_made precious arguments end
+    ∙ ap (λ x. made_of precious x end.unrecognized end.cache_name (srcdir_of arguments) end.quiet end.no_create end.help end.version) vars
+    ∙ ap (λ x. made_of precious (set_by (setters environment settings)) x end.cache_name (srcdir_of arguments) end.quiet end.no_create end.help end.version) unrecognized
+    ∙ ap (λ x. made_of precious (set_by (setters environment settings)) (flat_map (undeclared_in features packages) settings) x (srcdir_of arguments) end.quiet end.no_create end.help end.version) cache
+    ∙ ap (λ x. made_of precious (set_by (setters environment settings)) (flat_map (undeclared_in features packages) settings) (last_of None (flat_map caches_in settings)) x end.quiet end.no_create end.help end.version) srcdir
+    ∙ ap (λ x. made_of precious (set_by (setters environment settings)) (flat_map (undeclared_in features packages) settings) (last_of None (flat_map caches_in settings)) (source_directory settings) x end.no_create end.help end.version) quiet
+    ∙ ap (λ x. made_of precious (set_by (setters environment settings)) (flat_map (undeclared_in features packages) settings) (last_of None (flat_map caches_in settings)) (source_directory settings) (list_any is_quiet settings) x end.help end.version) no_create
+    ∙ ap (λ x. made_of precious (set_by (setters environment settings)) (flat_map (undeclared_in features packages) settings) (last_of None (flat_map caches_in settings)) (source_directory settings) (list_any is_quiet settings) (list_any is_no_create settings) x end.version) help
+    ∙ ap (λ x. made_of precious (set_by (setters environment settings)) (flat_map (undeclared_in features packages) settings) (last_of None (flat_map caches_in settings)) (source_directory settings) (list_any is_quiet settings) (list_any is_no_create settings) (list_any is_help settings) x) version
+    ∙ sym (opened_made features packages precious environment settings)
+
+-- The steps of the code give the opening.
+pub stepwise_is_opening : (features packages precious arguments : List (List ℕ)) (environment : List (List ℕ × List ℕ))
+    → stepwise features packages precious arguments environment ≡ opening features packages precious arguments environment
+unfolding stepwise opening reader_before
+stepwise_is_opening features packages precious arguments environment =
+    ap (λ q. q >>= settings_after precious arguments) (steps features packages arguments None 0 (reader_before environment) refl)
+    ∙ at (given None 0 arguments) refl where
+  at : (g : Result (List Setting) OptionFault) → given None 0 arguments ≡ g
+      → ((g >>= λ settings. Ok (after_all features packages settings (idle (reader_before environment)))) >>= settings_after precious arguments)
+      ≡ (g >>= opened_by features packages precious environment)
+  at (Ok settings) e = settings_opened features packages precious arguments environment settings (subst (Reads 0 arguments) e (given_reads 0 arguments))
+  at (Err fault) e = refl

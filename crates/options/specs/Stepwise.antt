@@ -1,0 +1,126 @@
+-- The opening of a run step by step, as the code reads it: what each argument makes of what was read before it.
+use Rattle.std.specs.Prelude.{ℕ, ◌+◌, true, false, List, [], ◌∷◌, ◌++◌, Option, Some, None, Result, Ok, Err, fold, codes, if◌then◌else◌}
+use Rattle.deftable.specs.ShellName.{is_shell_name_of}
+use Rattle.deftable.specs.Table.{with_entry}
+use Rattle.acargs.specs.Feature.{option_variable}
+use Rattle.acargs.specs.declared.feature.OptionKind.{OptionKind}
+use Rattle.options.specs.Arguments.{Said, Turns, Gives, Awaits, Chooses, Misnames, Assigns, Misassigns, Nothing, said_by}
+use Rattle.options.specs.Directories.{directories, variable_of, default_of}
+use Rattle.options.specs.Opening.{cache_named, is_declared, checking_in, finished}
+use Rattle.options.specs.Reading.{◌>>=◌}
+use Rattle.options.specs.Srcdir.{srcdir_of}
+use Rattle.options.specs.Unrecognized.{notes_of}
+use Rattle.deftable.specs.declared.note.Note.{Note}
+use Rattle.options.specs.declared.argument.Switch.{Switch}
+use Rattle.options.specs.declared.argument.Switch.TheVariants.{ConfigCache, Quiet, NoCreate, Help, Version, Ignored}
+use Rattle.options.specs.declared.argument.Target.{Target}
+use Rattle.options.specs.declared.argument.Target.TheVariants.{Folder, Srcdir, CacheFile}
+use Rattle.options.specs.declared.directory.Directory.{Directory}
+use Rattle.options.specs.declared.fault.OptionFault.{OptionFault}
+use Rattle.options.specs.declared.fault.OptionFault.TheVariants.{Unknown, BadFeature, BadVariable, MissingValue}
+use Rattle.options.specs.declared.reader.Reader.{Reader}
+use Rattle.options.specs.declared.settings.Settings.{Settings}
+
+-- ---- before the arguments
+
+-- with an entry of the environment: the last of a name counts, and what is no shell name is skipped
+unfoldable pub with_environment : List (List ℕ × List ℕ) → List ℕ × List ℕ → List (List ℕ × List ℕ)
+with_environment vars entry = if is_shell_name_of entry.0 then with_entry vars entry.0 entry.1 else vars
+
+-- with a directory as it is where nothing else is said
+unfoldable pub with_default : List (List ℕ × List ℕ) → Directory → List (List ℕ × List ℕ)
+with_default vars directory = with_entry vars (variable_of directory) (default_of directory)
+
+-- the environment, and the directories over it
+unfoldable pub vars_before : List (List ℕ × List ℕ) → List (List ℕ × List ℕ)
+vars_before environment = fold with_default (fold with_environment [] environment) directories
+
+-- before the first argument
+unfoldable pub reader_before : List (List ℕ × List ℕ) → Reader
+reader_before environment = record {
+  vars = vars_before environment;
+  cache_name = None;
+  quiet = false;
+  no_create = false;
+  help = false;
+  version = false;
+  unrecognized = [];
+  awaited = None;
+}
+
+-- ---- the arguments, from the left
+
+-- after an option and its value; `srcdir_of` gives the directory of the source
+abbrev pub with_value : Target → List ℕ → Reader → Reader
+with_value (Folder directory) value r = record r { vars = with_entry r.vars (variable_of directory) value }
+with_value Srcdir value r = r
+with_value CacheFile value r = record r { cache_name = cache_named value }
+
+-- after an option without a value
+abbrev pub with_switch : Switch → Reader → Reader
+with_switch ConfigCache r = record r { cache_name = Some (codes "config.cache") }
+with_switch Quiet r = record r { quiet = true }
+with_switch NoCreate r = record r { no_create = true }
+with_switch Help r = record r { help = true }
+with_switch Version r = record r { version = true }
+with_switch Ignored r = r
+
+-- after a feature or a package of the argument at place i: its variable is set, declared or not
+unfoldable pub with_choice : List (List ℕ) → List (List ℕ) → ℕ → OptionKind → List ℕ → List ℕ → List ℕ → Reader → Reader
+with_choice features packages i kind name value option r = record r {
+  vars = with_entry r.vars (option_variable kind name) value;
+  unrecognized = (if is_declared features packages (option_variable kind name) then r.unrecognized else r.unrecognized ++ (i, option) ∷ []);
+}
+
+-- after an argument at place i that says this
+abbrev pub with_said : List (List ℕ) → List (List ℕ) → ℕ → Said → Reader → Result Reader OptionFault
+with_said features packages i (Turns switch) r = Ok (with_switch switch r)
+with_said features packages i (Gives target value) r = Ok (with_value target value r)
+with_said features packages i (Awaits target) r = Ok (record r { awaited = Some target })
+with_said features packages i (Chooses kind name value option) r = Ok (with_choice features packages i kind name value option r)
+with_said features packages i Misnames r = Err (BadFeature i)
+with_said features packages i (Assigns name value) r = Ok (record r { vars = with_entry r.vars name value })
+with_said features packages i Misassigns r = Err (BadVariable i)
+with_said features packages i Nothing r = Err (Unknown i)
+
+-- after the argument at place i, which is the value of the option before it if that awaits one
+unfoldable pub with_argument : List (List ℕ) → List (List ℕ) → ℕ → List ℕ → Reader → Result Reader OptionFault
+with_argument features packages i argument r = elim r.awaited [
+  | Some target ↦ Ok (with_value target argument (record r { awaited = None }))
+  | None ↦ with_said features packages i (said_by argument) r
+]
+
+-- at the end of the arguments, of which i were read: the last one awaits no value
+unfoldable pub at_end : ℕ → Reader → Result Reader OptionFault
+at_end i r = elim r.awaited [ Some target ↦ Err (MissingValue i) | None ↦ Ok r ]
+
+-- after these arguments, where i were read before
+unfoldable pub with_arguments : List (List ℕ) → List (List ℕ) → ℕ → Reader → List (List ℕ) → Result Reader OptionFault
+with_arguments features packages i r [] = at_end i r
+with_arguments features packages i r (argument ∷ more) =
+    with_argument features packages (i + 1) argument r >>= λ next. with_arguments features packages (i + 1) next more
+
+-- ---- after the arguments
+
+-- the settings after all arguments, with these notes
+unfoldable pub settings_with : List (List ℕ) → List (List ℕ) → Reader → List Note → Settings
+settings_with precious arguments r notes = record {
+  vars = finished precious r.vars;
+  notes = notes;
+  cache_name = r.cache_name;
+  srcdir = srcdir_of arguments;
+  quiet = r.quiet;
+  no_create = r.no_create;
+  help = r.help;
+  version = r.version;
+}
+
+-- the settings after all arguments
+unfoldable pub settings_after : List (List ℕ) → List (List ℕ) → Reader → Result Settings OptionFault
+settings_after precious arguments r =
+    notes_of (checking_in r.vars) r.unrecognized >>= λ notes. Ok (settings_with precious arguments r notes)
+
+-- the settings of a command line and an environment, or the first fault
+unfoldable pub stepwise : List (List ℕ) → List (List ℕ) → List (List ℕ) → List (List ℕ) → List (List ℕ × List ℕ) → Result Settings OptionFault
+stepwise features packages precious arguments environment =
+    with_arguments features packages 0 (reader_before environment) arguments >>= settings_after precious arguments
