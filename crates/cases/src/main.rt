@@ -1,0 +1,37 @@
+//! Cases in files: what is to be read of a source, and what a run of it is to give.
+//!
+//! The arguments are names of files. `casefile` has their form, `given` what a case gives, and `answers` what the engine
+//! makes of it, in the words of `tree_words`, `plain_words` and `shell_words` for a tree, and of `runs` for what was run.
+//! A case differs where that is not what the file says. `data/README` says how to add a case.
+//!
+//! It prints a line for each file, before it what was wanted and found of each case that differs, and exits with status 1
+//! if one does.
+#![tactic(auto)]
+
+mod answers;
+mod casefile;
+mod given;
+mod pages;
+mod plain_words;
+mod recorder;
+mod report;
+mod runs;
+mod shell_words;
+mod texts;
+mod tree_words;
+
+use std::io::{self, Write};
+use std::process::ExitCode;
+use std::{env, fs};
+
+fn main(rt: HostRuntime) -> io::Result<ExitCode> {
+    let mut output = io::writer(&rt);
+    let mut all_right = true;
+    for name in env::args(&rt)?.skip(1) {
+        let text = fs::read(&rt, name.as_str())?;
+        let found = report::check_file(rt.alloc(), name.as_str().as_bytes(), text.as_slice())?;
+        output.write_all(found.text.as_slice())?;
+        all_right = all_right && found.is_right;
+    }
+    Ok(ExitCode::from(u8::from(!all_right)))
+}
