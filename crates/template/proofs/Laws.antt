@@ -235,7 +235,7 @@ never_true : (b : Bool) → (b ≡ true → ⊥) → b ≡ false
 never_true true h = absurd (h refl)
 never_true false h = refl
 
-HasNoAt-each : (s : List ℕ) → ((k : ℕ) → k < length s → (get_or s k 0 == at_sign) ≡ true → ⊥) → HasNoAt s
+pub HasNoAt-each : (s : List ℕ) → ((k : ℕ) → k < length s → (get_or s k 0 == at_sign) ≡ true → ⊥) → HasNoAt s
 HasNoAt-each [] h = tt
 HasNoAt-each (b ∷ bs) h = (never_true (b == at_sign) (h 0 (omega arith)), HasNoAt-each bs (λ k below is. h (suc k) (omega arith) is))
 

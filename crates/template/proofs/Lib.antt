@@ -2,3 +2,4 @@ pub mod Keys
 pub mod Laws
 pub mod Places
 pub mod Steps
+pub mod Windows

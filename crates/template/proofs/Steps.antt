@@ -5,15 +5,15 @@ use Rattle.std.proofs.lemmas.List.{drop-drop, take-append-drop}
 use Rattle.std.proofs.Math.Seq.{take-add}
 use Rattle.deftable.specs.Table.{value_of}
 use Rattle.template.specs.Fill.{at_sign, filled}
-use Rattle.template.specs.Hops.{HasNoAt, HasAt, HasNextAt, IsNextAt, read_to, HasComeTo}
+use Rattle.template.specs.Hops.{HasNoAt, HasAt, HasNextAt, read_to, HasComeTo}
 use Rattle.template.proofs.Laws.{filled-plain, filled-key, filled-no_key, filled-open, filled-end}
 
-cut : (i j : ℕ) (xs : List ℕ) → i ≤ j → drop i xs ≡ slice_range xs i j ++ drop j xs
+pub cut : (i j : ℕ) (xs : List ℕ) → i ≤ j → drop i xs ≡ slice_range xs i j ++ drop j xs
 cut i j xs le =
     let there : i + (j - i) ≡ j = omega arith in
     sym (take-append-drop (j - i) (drop i xs)) ∙ ap (λ t. take (j - i) (drop i xs) ++ t) (drop-drop (j - i) i xs ∙ ap (λ n. drop n xs) there)
 
-joined : (i j k : ℕ) (xs : List ℕ) → i ≤ j → j ≤ k → slice_range xs i j ++ slice_range xs j k ≡ slice_range xs i k
+pub joined : (i j k : ℕ) (xs : List ℕ) → i ≤ j → j ≤ k → slice_range xs i j ++ slice_range xs j k ≡ slice_range xs i k
 joined i j k xs le le2 =
     let there : i + (j - i) ≡ j = omega arith in
     let long : (j - i) + (k - j) ≡ k - i = omega arith in

@@ -1,5 +1,5 @@
 -- What is written on the way from `@` to `@` of a template.
-use Rattle.std.specs.Prelude.{◌≡◌, ℕ, ◌+◌, ◌<◌, ◌≤◌, Bool, true, false, ◌==◌, List, ◌∷◌, ◌++◌, Option, Some, None, length, drop, slice_range, if◌then◌else◌}
+use Rattle.std.specs.Prelude.{◌≡◌, ℕ, ◌+◌, ◌<◌, ◌≤◌, Bool, true, false, ◌==◌, List, ◌∷◌, ◌++◌, length, drop, slice_range, if◌then◌else◌}
 use Rattle.std.specs.List.{AllByRecursion}
 use Rattle.template.specs.Fill.{at_sign, filled}
 
@@ -17,11 +17,6 @@ pub record HasNextAt (text : List ℕ) (from at : ℕ) : Type 0 where
   pub high : at < length text
   pub clean : HasNoAt (slice_range text from at)
   pub there : HasAt text at
-
--- where the first `@` from a place on is, if there is one
-abbrev pub IsNextAt : List ℕ → ℕ → Option ℕ → Type 0
-IsNextAt text from None = HasNoAt (drop from text)
-IsNextAt text from (Some at) = HasNextAt text from at
 
 -- how far the text has been read: an open `@` has been
 abbrev pub read_to : ℕ → Bool → ℕ

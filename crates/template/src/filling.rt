@@ -2,11 +2,11 @@
 ghost use Rattle.std.specs.Prelude.{◌≡◌, ℕ, ◌+◌, ◌-◌, ◌^◌, ◌<◌, ◌≤◌, Some, None, true, List, length, slice_range, IfSome, IfNone, IfOk};
 ghost use Rattle.deftable.specs.Table.{value_of};
 ghost use Rattle.template.specs.Fill.{Fills, filled};
-ghost use Rattle.template.specs.Hops.{HasNextAt, IsNextAt, HasComeTo, read_to};
+ghost use Rattle.template.specs.Hops.{HasNextAt, HasComeTo, read_to};
 
+use crate::signs::{Window, next_sign};
 use crate::table::Table;
 use deftable::Bytes;
-use memchr::memchr;
 use std::alloc::{AllocError, Global};
 
 // What is held so far is written at the latest once it is so long, while a processor's cache still has it.
@@ -45,7 +45,9 @@ pub fn fill(alloc: Global, text: &[u8], table: &Table) -> Result<Vec<u8>, AllocE
         last: 0,
         opened: false,
     };
-    while let Some(at) = next_at(text, held.read_to()) {
+    let mut window = Window::new();
+    while let Some((at, later)) = next_sign(text, window, held.read_to()) {
+        window = later;
         held = step(&mut made, text, table, held, at)?;
     }
     made.extend_from_slice(&text[held.start..])?;
@@ -60,15 +62,6 @@ pub fn has_one_filled_text(text: &[u8], table: &Table)
 {
     let _ = text;
     let _ = table.longest_key();
-}
-
-// The place of the first `@` from `from` on.
-fn next_at(text: &[u8], from: usize) -> Option<usize>
-    requires { from ≤ length text.now }
-    ensures { IsNextAt text.now from result }
-{
-    let ahead = memchr(b'@', &text[from..])?;
-    Some(from + ahead)
 }
 
 // Goes on to the next `@`: writes the value of the key that ends there, or holds what is read to be copied.
