@@ -1,5 +1,6 @@
 pub mod Keys
 pub mod Laws
 pub mod Places
+pub mod Sieves
 pub mod Steps
 pub mod Windows

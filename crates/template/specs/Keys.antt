@@ -1,8 +1,25 @@
 -- The keys of a table.
-use Rattle.std.specs.Prelude.{ℕ, ◌≤◌, List, length}
+use Rattle.std.specs.Prelude.{◌≡◌, ℕ, ◌+◌, ◌-◌, ◌%◌, ◌≤◌, List, length, slice_index}
+use Rattle.std.specs.Int.{bit_at}
 use Rattle.std.specs.List.{AllByRecursion}
 use Rattle.deftable.specs.Table.{names_of}
 
 -- each key has at most so many bytes
 abbrev pub AreUpTo : ℕ → List (List ℕ × List ℕ) → Type 0
 AreUpTo n es = AllByRecursion (λ k. length k ≤ n) (names_of es)
+
+-- a text's row in a sieve, by its first byte
+abbrev pub row_of : List ℕ → ℕ
+row_of k = slice_index k 0 % 64
+
+-- a text's place in its row, by its last byte and its length
+abbrev pub place_of : List ℕ → ℕ
+place_of k = (slice_index k (length k - 1) + length k) % 64
+
+-- the sieve lets the text through: the bit at its place is set
+unfoldable pub Passes : List ℕ → List ℕ → Type 0
+Passes rows k = bit_at (slice_index rows (row_of k)) (place_of k) ≡ 1
+
+-- the sieve lets each key through
+abbrev pub AllPass : List ℕ → List (List ℕ × List ℕ) → Type 0
+AllPass rows es = AllByRecursion (Passes rows) (names_of es)

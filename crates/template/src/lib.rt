@@ -15,6 +15,7 @@
 
 pub mod filling;
 pub mod placing;
+mod sieve;
 mod signs;
 pub mod table;
 #[cfg(test)]

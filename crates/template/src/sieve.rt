@@ -1,0 +1,64 @@
+// What no key can be, seen without a look-up.
+ghost use Rattle.std.specs.Prelude.{◌≡◌, ℕ, List, [], ◌+◌, ◌<◌, ◌↔◌, ◌%◌, IsTrue};
+ghost use Rattle.template.specs.Keys.{Passes};
+ghost use Rattle.template.specs.Keys as keys;
+
+use std::marker::Model;
+
+// A set of texts that may let others through too: a bit for each first byte, and for each last byte and length together.
+#[derive(Debug, Drop)]
+pub(crate) struct Sieve {
+    rows: [u64; 64],
+}
+
+impl Model for Sieve {
+    ghost Value = { List ℕ };
+
+    ghost view = { λ s. s.rows };
+}
+
+impl Sieve {
+    pub(crate) fn new() -> Sieve {
+        Sieve { rows: [0; 64] }
+    }
+
+    // Lets the text through from now on.
+    pub(crate) fn add(&mut self, text: &[u8])
+        ensures added { Passes self.new text.now }
+        ensures kept { (other : List ℕ) → Passes self.old other → Passes self.new other }
+    {
+        let row = row_of(text);
+        self.rows[row] |= 1 << place_of(text);
+    }
+
+    // Whether the text may be one of those that were added.
+    #[inline(always)]
+    #[tactic(auto, unfolding(crate::specs::Keys::Passes))]
+    pub(crate) fn lets_through(&self, text: &[u8]) -> bool
+        ensures { IsTrue result ↔ Passes self.now text.now }
+    {
+        (self.rows[row_of(text)] >> place_of(text)) & 1 != 0
+    }
+}
+
+#[inline(always)]
+fn row_of(text: &[u8]) -> usize
+    ensures row { result ≡ keys.row_of text.now }
+    ensures small { result < 64 }
+{
+    match text.first() {
+        Some(first) => (*first % 64) as usize,
+        None => 0,
+    }
+}
+
+#[inline(always)]
+fn place_of(text: &[u8]) -> usize
+    ensures place { result ≡ keys.place_of text.now }
+    ensures small { result < 64 }
+{
+    match text.last() {
+        Some(last) => (*last as usize + text.len() % 64) % 64,
+        None => 0,
+    }
+}
