@@ -1,5 +1,5 @@
 -- The keys of a table.
-use Rattle.std.specs.Prelude.{◌≡◌, ℕ, ◌+◌, ◌-◌, ◌%◌, ◌≤◌, List, length, slice_index}
+use Rattle.std.specs.Prelude.{◌≡◌, ℕ, ◌+◌, ◌-◌, ◌%◌, ◌≤◌, max, List, [], ◌∷◌, length, slice_index}
 use Rattle.std.specs.Int.{bit_at}
 use Rattle.std.specs.List.{AllByRecursion}
 use Rattle.deftable.specs.Table.{names_of}
@@ -7,6 +7,11 @@ use Rattle.deftable.specs.Table.{names_of}
 -- each key has at most so many bytes
 abbrev pub AreUpTo : ℕ → List (List ℕ × List ℕ) → Type 0
 AreUpTo n es = AllByRecursion (λ k. length k ≤ n) (names_of es)
+
+-- the number of bytes of the longest key, or 0 where there is none
+unfoldable pub longest_of : List (List ℕ × List ℕ) → ℕ
+longest_of [] = 0
+longest_of (e ∷ es) = max (length e.0) (longest_of es)
 
 -- a text's row in a sieve, by its first byte
 abbrev pub row_of : List ℕ → ℕ

@@ -2,9 +2,10 @@
 ghost use Rattle.std.specs.Prelude.{◌≡◌, ℕ, List, [], OnOk, OnErr, option_map};
 ghost use Rattle.deftable.specs.ShellName.{IsShellName};
 ghost use Rattle.deftable.specs.Table.{value_of, with_entry, HasShellNames};
-ghost use Rattle.template.specs.Keys.{AreUpTo};
+ghost use Rattle.template.specs.Keys.{AreUpTo, AllPass, longest_of};
 
-use deftable::{Bytes, Defs, is_shell_name};
+use crate::sieve::Sieve;
+use deftable::{Bytes, Defs};
 use std::alloc::{AllocError, Global};
 use std::marker::Model;
 
@@ -15,6 +16,7 @@ use std::marker::Model;
 pub struct Table {
     entries: Defs,
     longest: usize,
+    sieve: Sieve,
 }
 
 impl Model for Table {
@@ -22,7 +24,7 @@ impl Model for Table {
 
     ghost view = { λ t. t.entries };
 
-    ghost invariant = { λ t. HasShellNames t.entries × AreUpTo t.longest t.entries };
+    ghost invariant = { λ t. HasShellNames t.entries × (t.longest ≡ longest_of t.entries) × AllPass t.sieve t.entries };
 }
 
 #[tactic(auto, using(crate::proofs::Keys::keys))]
@@ -34,6 +36,7 @@ impl Table {
         Table {
             entries: Defs::new(alloc),
             longest: 0,
+            sieve: Sieve::new(),
         }
     }
 
@@ -45,10 +48,12 @@ impl Table {
     {
         self.entries.define(key, value)?;
         self.longest = self.longest.max(key.len());
+        self.sieve.add(key);
         Ok(())
     }
 
-    /// The value of the key, or `None` where it is no key. What no key can be is not looked up.
+    /// The value of the key, or `None` if it is no key. Most texts that are no key are not looked up.
+    #[inline]
     pub fn get(&self, key: &[u8]) -> Option<&Bytes>
         ensures value { option_map (λ x. x.now) result ≡ value_of self.now key.now }
         ensures shell_names { HasShellNames self.now }
@@ -56,14 +61,15 @@ impl Table {
         if key.len() > self.longest {
             return None;
         }
-        if !is_shell_name(key) {
+        if !self.sieve.lets_through(key) {
             return None;
         }
         self.entries.get(key)
     }
 
-    /// The most bytes that a key has; no longer text is a key.
+    /// The number of bytes of the longest key, or 0 if there is no key. So no longer text is a key.
     pub fn longest_key(&self) -> usize
+        ensures exact { result ≡ longest_of self.now }
         ensures bound { AreUpTo result self.now }
         ensures shell_names { HasShellNames self.now }
     {

@@ -1,14 +1,15 @@
-use Rattle.std.proofs.Common.{sym, subst}
+use Rattle.std.proofs.Common.{◌≡◌, sym, ap, ◌∙◌, subst, max, length}
 use Rattle.deftable.specs.Table.{with_entry, HasShellNames}
 use Rattle.deftable.proofs.Tables.{HasShellNames-with_entry}
-use Rattle.template.specs.Keys.{AreUpTo}
-use Rattle.template.proofs.Keys.{AreUpTo-with_entry}
+use Rattle.template.specs.Keys.{AllPass, longest_of}
+use Rattle.template.proofs.Keys.{longest_of-with_entry, AllPass-with_entry}
 use Rattle.template.proofs.table.Table.set.Goals as goal
 
 pub invariant_of-self-2 : goal.invariant_of-self-2
 invariant_of-self-2 c =
-    let e = sym c.in_ok-define.ensures.ok in
-    let later = with_entry c.self.inside.entries c.args.key.now c.args.value.now in
-    let up_to : AreUpTo c.max-self-inside.result later =
-    subst (λ n. AreUpTo n later) (sym c.max-self-inside.ensures) (AreUpTo-with_entry _ _ _ _ c.self.invariant.1) in
-    (subst HasShellNames e (HasShellNames-with_entry _ _ _ c.requires c.self.invariant.0), subst (AreUpTo c.max-self-inside.result) e up_to)
+    let es = c.self.inside.entries in
+    let e = sym c.in_ok-define.ensures.ok in (
+      subst HasShellNames e (HasShellNames-with_entry es c.args.key.now c.args.value.now c.requires c.self.invariant.0),
+      c.max-self-inside.ensures ∙ ap (λ n. max n (length c.args.key.now)) c.self.invariant.1 ∙ sym (longest_of-with_entry es c.args.key.now c.args.value.now) ∙ ap longest_of e,
+      subst (AllPass c.add.new.self) e (AllPass-with_entry c.self.inside.sieve c.add.new.self es c.args.key.now c.args.value.now c.add.ensures.kept c.add.ensures.added c.self.invariant.2),
+    )
