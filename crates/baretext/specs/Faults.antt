@@ -1,4 +1,4 @@
--- Which fault an answer may be, and where: the place of a byte of a text of n bytes, or its end.
+-- Which fault an answer may be: its place is that of a byte of a text of n bytes, or its end (own).
 use Rattle.std.specs.Prelude.{ℕ, ◌≤◌}
 use Rattle.shellword.specs.declared.fault.ShellFault.TheVariants.{BadWord}
 use Rattle.baretext.specs.declared.fault.BareFault.{BareFault}

@@ -7,7 +7,7 @@ ghost use Rattle.baretext.specs.Text as bytes;
 
 use std::alloc::{AllocError, Global};
 
-/// Where a byte of bare text stands.
+/// Where a byte of bare text is.
 #[derive(Clone, Copy)]
 pub(crate) enum Place {
     /// At the start of a shell word, outside quotes.
@@ -22,7 +22,7 @@ pub(crate) enum Place {
     Comment,
 }
 
-/// Where a byte stands, and whether a backslash is before it that quotes it and was not written yet.
+/// Where a byte is, and whether a backslash is before it that quotes it and was not written yet.
 #[derive(Clone, Copy)]
 pub(crate) struct State {
     pub(crate) place: Place,
@@ -36,7 +36,7 @@ fn is_part_end(byte: u8) -> bool
     byte == b' ' || byte == b'\t' || byte == b'\n' || byte == b';'
 }
 
-/// Whether a backslash at this place quotes the byte behind it.
+/// Whether a backslash at this place quotes the byte after it.
 fn escapes(place: Place) -> bool
     ensures { result ≡ places.escapes place }
 {
@@ -46,7 +46,7 @@ fn escapes(place: Place) -> bool
     }
 }
 
-/// Where the next byte stands behind one outside quotes.
+/// Where the byte is after one outside quotes.
 fn behind_bare(byte: u8) -> Place
     ensures { result ≡ places.behind_bare byte }
 {
@@ -61,7 +61,7 @@ fn behind_bare(byte: u8) -> Place
     }
 }
 
-/// Where the next byte stands behind one that is not quoted by a backslash.
+/// Where the byte is after one that no backslash quotes.
 fn behind(place: Place, byte: u8) -> Place
     ensures { result ≡ places.behind place byte }
 {
@@ -75,7 +75,7 @@ fn behind(place: Place, byte: u8) -> Place
     }
 }
 
-/// Where the next byte stands behind one that a backslash quotes.
+/// Where the byte is after one that a backslash quotes.
 fn behind_quoted(place: Place) -> Place
     ensures { result ≡ places.behind_quoted place }
 {
@@ -85,7 +85,7 @@ fn behind_quoted(place: Place) -> Place
     }
 }
 
-/// The state behind a byte.
+/// The state after a byte.
 fn next(state: State, byte: u8) -> State
     ensures { result ≡ joining.next state byte }
 {

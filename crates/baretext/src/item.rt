@@ -1,4 +1,4 @@
-//! What stands at the front of statements.
+//! The front of statements.
 
 ghost use Rattle.std.specs.Prelude.{◌≡◌, ◌+◌, ◌<◌, ◌≤◌, ◌^◌, not, length, IfOk, IfErr, drop};
 ghost use Rattle.std.specs.List.{prefix_len};
@@ -19,16 +19,15 @@ use std::alloc::Global;
 /// How far the reading of a statement is.
 #[derive(Clone, Copy)]
 pub(crate) enum Stage {
-    /// Nothing but spaces and comments stands before.
+    /// There is nothing but spaces and comments before.
     Opening,
-    /// Assignments stand before.
+    /// There are assignments before.
     Assigned,
-    /// A lone colon stands before.
+    /// There is a lone colon before.
     Closed,
 }
 
-/// What stands at the front of a text: an assignment or nothing that is kept, its length, and how far the statement is
-/// read behind it.
+/// The front of a text: an assignment or nothing that is kept, its length, and how far the statement is read after it.
 #[derive(Drop)]
 pub(crate) struct Item {
     pub(crate) assignment: Option<Assignment>,
@@ -67,7 +66,7 @@ fn is_name_byte(byte: u8) -> bool
     byte.is_ascii_alphanumeric() || byte == b'_'
 }
 
-/// How many bytes of names stand at the front.
+/// How many bytes of names are at the front.
 fn name_bytes(text: &[u8]) -> usize
     ensures value { result ≡ prefix_len continues_name text.now }
     ensures within { result ≤ length text.now }
@@ -75,7 +74,7 @@ fn name_bytes(text: &[u8]) -> usize
     text.iter().take_while(|b| is_name_byte(**b)).count()
 }
 
-/// How many bytes stand before the end of the line.
+/// How many bytes are before the end of the line.
 fn comment_len(text: &[u8]) -> usize
     ensures value { result ≡ comment_len text.now }
     ensures within { result ≤ length text.now }
@@ -94,7 +93,7 @@ fn nothing(len: usize, stage: Stage) -> Item
     }
 }
 
-/// The word at the front of `text`, which stands at the place `start`; and its length.
+/// The word at the front of `text`, which is at the place `start`; and its length.
 fn read_value(alloc: Global, start: usize, text: &[u8]) -> Result<(Word, usize), BareFault>
     requires { start + length text.now < 2 ^ 64 }
     ensures value { Gives (λ r. (r.0, r.1)) result (specs.value_at start text.now) }
@@ -109,7 +108,7 @@ fn read_value(alloc: Global, start: usize, text: &[u8]) -> Result<(Word, usize),
     }
 }
 
-/// The assignment at the front of `text`, which stands at `at`; its name is to be the first `len` bytes.
+/// The assignment at the front of `text`, which is at `at`. Its name is to be the first `len` bytes.
 fn read_named(alloc: Global, at: usize, text: &[u8], len: usize) -> Result<Item, BareFault>
     requires fits { at + length text.now < 2 ^ 64 }
     requires name { len < length text.now }
@@ -130,7 +129,7 @@ fn read_named(alloc: Global, at: usize, text: &[u8], len: usize) -> Result<Item,
     })
 }
 
-/// The assignment at the front of `text`, which stands at `at`.
+/// The assignment at the front of `text`, which is at `at`.
 fn read_assignment(alloc: Global, at: usize, text: &[u8]) -> Result<Item, BareFault>
     requires { at + length text.now < 2 ^ 64 }
     ensures value { Gives (λ i. i) result (specs.assignment_at at text.now) }
@@ -145,7 +144,7 @@ fn read_assignment(alloc: Global, at: usize, text: &[u8]) -> Result<Item, BareFa
     }
 }
 
-/// The word at the front of `text`, which stands at `at`: a lone colon or an assignment.
+/// The word at the front of `text`, which is at `at`: a lone colon or an assignment.
 fn read_shell_word(alloc: Global, stage: Stage, at: usize, text: &[u8]) -> Result<Item, BareFault>
     requires { at + length text.now < 2 ^ 64 }
     ensures value { Gives (λ i. i) result (specs.shell_word_at stage at text.now) }
@@ -160,7 +159,7 @@ fn read_shell_word(alloc: Global, stage: Stage, at: usize, text: &[u8]) -> Resul
 }
 
 #[tactic(auto, unfolding(crate::specs::Reading::item_of))]
-/// What stands at the front of `text`, which stands at `at`.
+/// The item at the front of `text`, which is at `at`.
 pub(crate) fn read_item(
     alloc: Global,
     stage: Stage,

@@ -62,8 +62,14 @@ fn read_whole(alloc: Global, text: &[u8]) -> Result<Assignments, BareFault>
 /// `;`, outside quotes and comments. Each is empty, a lone `:`, or assignments `NAME=WORD` with spaces or tabs between
 /// them. A `#` at the start of a shell word begins a comment, up to the end of its line.
 ///
-/// The first fault from the left is answered: `UnknownStatement` where an assignment should begin and neither one nor a
-/// lone `:` does, `Shell` where the word that is assigned is refused.
+/// # Errors
+///
+/// Returns the first fault from the left. Its place counts the bytes of the text without its line continuations.
+///
+/// - [`BareFault::UnknownStatement`] if an assignment or a lone `:` should begin there and neither does.
+/// - [`BareFault::Shell`] if the word that is assigned is refused, as [`shellword::read_word_front`] refuses it.
+///
+/// Returns [`BareFault::OutOfMemory`] if memory runs out.
 pub fn read_statements(alloc: Global, text: &[u8]) -> Result<Assignments, BareFault>
     // The reading, as a function of the text.
     ensures exact { Gives (λ a. a) result (statements_of text.now) }

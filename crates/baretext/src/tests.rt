@@ -3,8 +3,8 @@ use deftable::{Bytes, Vars};
 use std::alloc::{AllocError, Global};
 use std::test::Fail;
 
-/// Each assignment with its value and a comma behind it, where the assignments before it were made; a fault as it is
-/// printed, behind a `!`.
+/// Each assignment with its value and a comma after it, once the assignments before it are made; a fault as it is
+/// printed, after a `!`.
 fn said(alloc: Global, text: &[u8]) -> Result<Bytes, AllocError> {
     let list = match read_statements(alloc, text) {
         Ok(list) => list,
@@ -122,7 +122,7 @@ fn continuations(rt: HostRuntime) -> Result<(), Fail> {
         // a quoted backslash quotes nothing
         ("a=\\\\\nb=2", "a=\\,b=2,"),
         ("a=\"\\\\\n2\"", "a=\\\n2,"),
-        // the place of what stands behind one does not change
+        // whether a word starts after one is as it is without it
         ("a=1 \\\n# c", "a=1,"),
         ("a=1\\\n# c", "!1 at 5"),
         ("a=1\\\n#c", "a=1#c,"),
