@@ -15,7 +15,7 @@ pub data IsVariable : List ℕ → List ℕ → List ℕ → Type 0 where
 -- ---- words
 
 -- a part in double quotes: a backslash and a byte that it quotes, a backslash before any other byte, a variable, a `$`
--- that is itself, or any other byte (POSIX shell, 2.2.3)
+-- that is itself, or any other byte (POSIX shell, 2.2.3; that a backslash stays before a newline is own)
 pub data IsDoublePart : List ℕ → Part → List ℕ → Type 0 where
   escaped : {b : ℕ} {rest : List ℕ} → escapes_in_double b ≡ true → IsDoublePart (backslash ∷ b ∷ rest) (Quoted b) rest
   kept_backslash : {rest : List ℕ} → begins escapes_in_double rest ≡ false → IsDoublePart (backslash ∷ rest) (Quoted backslash) rest
@@ -30,7 +30,7 @@ pub data AreDoubleParts : List ℕ → List Part → List ℕ → Type 0 where
 
 -- a part of a word, or parts in quotes: `'..'`, whose bytes are literal; `".."`; a backslash and the byte that it quotes;
 -- a backslash at the end, which is itself; a variable; a `$` that is itself; or any other byte that does not end a word
--- (POSIX shell, 2.2.1 to 2.2.3; the backslash at the end is own)
+-- (POSIX shell, 2.2.1 to 2.2.3; the backslash at the end, and that one quotes a newline, is own)
 pub data IsWordPart : List ℕ → List Part → List ℕ → Type 0 where
   single_quoted : {rest : List ℕ} (inside : List ℕ) → has_no single_quote inside ≡ true → IsWordPart (single_quote ∷ (inside ++ single_quote ∷ rest)) (map Quoted inside) rest
   double_quoted : {text rest : List ℕ} {parts : List Part} → AreDoubleParts text parts (double_quote ∷ rest) → IsWordPart (double_quote ∷ text) parts rest
