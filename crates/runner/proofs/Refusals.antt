@@ -1,5 +1,5 @@
 -- Refusals of the filter and of its parts.
-use Rattle.std.proofs.Common.{◌≡◌, ◌≢◌, ◌≤◌, ◌<◌, ◌↔◌, ℕ, List, Option, Some, None, Result, Ok, Err, ◌⊎◌, inl, inr, refl, sym, subst}
+use Rattle.std.proofs.Common.{◌≡◌, ◌≢◌, ◌≤◌, ◌<◌, ◌↔◌, ℕ, List, Option, Some, None, Result, Ok, Err, ◌⊎◌, inl, inr, refl, sym, subst, ◌∙◌}
 use Rattle.std.specs.Prelude.{IfOk, IfErr, IfSome, IsErrAnd}
 use Rattle.acargs.specs.declared.fault.ParseFault.{ParseFault}
 use Rattle.acargs.specs.declared.fault.ParseFault.TheVariants as parse_faults
@@ -14,7 +14,7 @@ use Rattle.plan.specs.declared.fault.PlanFault.TheVariants as plan_faults
 use Rattle.runner.specs.declared.fault.Fault.TheVariants.{Parse, Plan}
 use Rattle.runner.specs.declared.fault.FilterFault.{FilterFault}
 use Rattle.runner.specs.declared.fault.FilterFault.TheVariants.{Read, Write, Run, OutOfMemory}
-use Rattle.runner.specs.Filtered.{IsRun, IsFiltered, IsRefused, parse, not_run, read, write, memory, IsNotRun, too_long, missing, no_memory}
+use Rattle.runner.specs.Filtered.{IsRun, IsFiltered, IsInputFault, IsRefused, fault, unread, unwritten, memory, parse, not_run, no_memory_to_parse, IsNotRun, too_long, missing, no_memory}
 use Rattle.runner.specs.Outputs.{IsTemplateFault, is_missing, out_of_memory}
 use Rattle.runner.specs.Parted.{IsParted}
 
@@ -31,12 +31,12 @@ named parse_faults.OutOfMemory r other h = absurd (other refl)
 named f r other h = h
 
 pub parse_refused : {A : Type 0} (input source template : List ℕ) (f : ParseFault) (r : Result A FilterFault) → IsParted input source template → Fails f (source_of source) → (f ≢ parse_faults.OutOfMemory → IsSourceFault source f)
-    → IsErrAnd r (λ e. (f ≡ parse_faults.OutOfMemory → e ≡ OutOfMemory) × (f ≢ parse_faults.OutOfMemory → e ≡ Run (Parse f))) → IfErr r (IsRefused input)
+    → IsErrAnd r (λ e. (f ≡ parse_faults.OutOfMemory → e ≡ OutOfMemory) × (f ≢ parse_faults.OutOfMemory → e ≡ Run (Parse f))) → IfErr r (IsInputFault input)
 parse_refused input source template f (Ok x) parted exact bad h = absurd h
 parse_refused input source template f (Err e) parted exact bad h =
     elim (is_memory f) [
-      | inl is ↦ subst (IsRefused input) (sym (h.0 is)) memory
-      | inr other ↦ subst (IsRefused input) (sym (h.1 other)) (parse parted other (named f (source_of source) other exact) (bad other))
+      | inl is ↦ subst (IsInputFault input) (sym (h.0 is)) no_memory_to_parse
+      | inr other ↦ subst (IsInputFault input) (sym (h.1 other)) (parse parted other (named f (source_of source) other exact) (bad other))
     ]
 
 -- statements without a plan
@@ -59,15 +59,20 @@ pub run_found : {A : Type 0} (input source template : List ℕ) (s : Script) (r 
 run_found input source template s (Ok a) text status parted is h = record { source = source; template = template; parted = parted; statements = s; is_source = is; run = h }
 run_found input source template s (Err e) text status parted is h = tt
 
-pub not_run_refused : {A : Type 0} (input source template : List ℕ) (s : Script) (r : Result A FilterFault) → IsParted input source template → IsSource source s → IfErr r (IsNotRun s) → IfErr r (IsRefused input)
+pub not_run_refused : {A : Type 0} (input source template : List ℕ) (s : Script) (r : Result A FilterFault) → IsParted input source template → IsSource source s → IfErr r (IsNotRun s) → IfErr r (IsInputFault input)
 not_run_refused input source template s (Ok x) parted is h = tt
 not_run_refused input source template s (Err e) parted is h = not_run parted is h
 
-pub write_refused : (o : Option (List ℕ)) → IfSome o (λ input. IsRefused input Write)
-write_refused None = tt
-write_refused (Some input) = write
+-- the input is the text that was read
+pub write_refused : (o : Option (List ℕ)) (text items out : List ℕ) (status : ℕ) → text ≡ items → IfSome o (λ input. items ≡ input) → IsFiltered text out status → IfSome o (λ input. IsRefused input Write)
+write_refused None text items out status whole same is = tt
+write_refused (Some input) text items out status whole same is = subst (λ t. IsRefused t Write) (whole ∙ same) (unwritten is)
+
+pub input_refused : (o : Option (List ℕ)) (text items : List ℕ) (e : FilterFault) → text ≡ items → IfSome o (λ input. items ≡ input) → IsInputFault text e → IfSome o (λ input. IsRefused input e)
+input_refused None text items e whole same is = tt
+input_refused (Some input) text items e whole same is = subst (λ t. IsRefused t e) (whole ∙ same) (fault is)
 
 pub read_fault : (o : Option (List ℕ)) (e : FilterFault) → (e ≡ Read) ⊎ (e ≡ OutOfMemory) → IfSome o (λ input. IsRefused input e)
 read_fault None e h = tt
-read_fault (Some input) e (inl is) = subst (IsRefused input) (sym is) read
+read_fault (Some input) e (inl is) = subst (IsRefused input) (sym is) unread
 read_fault (Some input) e (inr is) = subst (IsRefused input) (sym is) memory

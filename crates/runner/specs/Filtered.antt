@@ -59,13 +59,18 @@ pub data IsNotRun (s : Script) : FilterFault → Type 0 where
   missing : {name : List ℕ} → weight s ≤ heaviest → IsMissing s name → IsNotRun s (Run (NoTemplate name))
   no_memory : IsNotRun s OutOfMemory
 
--- The input has no marker; or its source is at fault, and this is the fault that is named; or the source is right, and is
--- not run.
+-- What is wrong with an input: it has no marker; or its source is at fault, and this is the fault that is named; or the
+-- source is right, and is not run.
+pub data IsInputFault (input : List ℕ) : FilterFault → Type 0 where
+  usage : HasNoMarker input → IsInputFault input Usage
+  parse : {source template : List ℕ} {f : parse_fault.ParseFault} → IsParted input source template → f ≢ parse_faults.OutOfMemory → source_of source ≡ Err f → IsSourceFault source f → IsInputFault input (Run (Parse f))
+  not_run : {source template : List ℕ} {s : Script} {e : FilterFault} → IsParted input source template → IsSource source s → IsNotRun s e → IsInputFault input e
+  no_memory_to_parse : IsInputFault input OutOfMemory
+
+-- Why the filter gives no text: the input is at fault; or the text that answers it can't be written; or the input can't be
+-- read, of which a reader's contract has no word; or memory runs out.
 pub data IsRefused (input : List ℕ) : FilterFault → Type 0 where
-  usage : HasNoMarker input → IsRefused input Usage
-  parse : {source template : List ℕ} {f : parse_fault.ParseFault} → IsParted input source template → f ≢ parse_faults.OutOfMemory → source_of source ≡ Err f → IsSourceFault source f → IsRefused input (Run (Parse f))
-  not_run : {source template : List ℕ} {s : Script} {e : FilterFault} → IsParted input source template → IsSource source s → IsNotRun s e → IsRefused input e
-  -- what has nothing to do with the input
-  read : IsRefused input Read
-  write : IsRefused input Write
+  fault : {e : FilterFault} → IsInputFault input e → IsRefused input e
+  unwritten : {out : List ℕ} {status : ℕ} → IsFiltered input out status → IsRefused input Write
+  unread : IsRefused input Read
   memory : IsRefused input OutOfMemory

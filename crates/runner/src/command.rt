@@ -90,6 +90,8 @@ pub fn run<F: Files, R: Read, W: Write, E: Write>(
     // Without arguments, where the status is not that of a fault, it and what is written are those of the source's meaning.
     ensures written { words.now ≡ [] → (result ≡ 2) ⊎ IfSome (R.remaining input.old)
         (λ text. (out : List ℕ) × IsFiltered text out result × Appends (W.contents output.old) (W.contents output.new) out) }
+    // Without arguments, if the status is not that of a fault, nothing is written on standard error.
+    ensures quiet { words.now ≡ [] → (result ≡ 2) ⊎ (errors.new ≡ errors.old) }
     // The stand-in's status is 2 where memory runs out, and else its answer.
     ensures standin { calls_standin words.now ≡ true → (result ≡ 2) ⊎ IsAnswered (drop 1 words.now) result }
     ensures silent { calls_standin words.now ≡ true → result ≡ 0 → errors.new ≡ errors.old }
@@ -120,8 +122,9 @@ fn filtered<R: Read, W: Write, E: Write>(
     output: &mut W,
     errors: &mut E,
 ) -> u8
-    ensures { (result ≡ 2) ⊎ IfSome (R.remaining input.old)
+    ensures written { (result ≡ 2) ⊎ IfSome (R.remaining input.old)
         (λ text. (out : List ℕ) × IsFiltered text out result × Appends (W.contents output.old) (W.contents output.new) out) }
+    ensures quiet { (result ≡ 2) ⊎ (errors.new ≡ errors.old) }
 {
     match filter(alloc, input, output) {
         Ok(
@@ -130,7 +133,9 @@ fn filtered<R: Read, W: Write, E: Write>(
                 errors: said,
             },
         ) => {
-            let _ = errors.write_all(said.as_slice());
+            if !said.is_empty() {
+                let _ = errors.write_all(said.as_slice());
+            }
             status
         }
         Err(fault) => tell(errors, &fault),

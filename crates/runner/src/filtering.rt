@@ -8,7 +8,7 @@ ghost use Rattle.options.specs.declared.settings.Settings as settings;
 ghost use Rattle.tree.specs.Known.{after_all};
 ghost use Rattle.tree.specs.Script.{script_of};
 ghost use Rattle.runner.specs.declared.fault.FilterFault.{FilterFault};
-ghost use Rattle.runner.specs.Filtered.{IsRun, IsNotRun, IsFiltered, IsRefused, settings_of};
+ghost use Rattle.runner.specs.Filtered.{IsRun, IsNotRun, IsFiltered, IsInputFault, IsRefused, settings_of};
 ghost use Rattle.runner.specs.Outputs.{ArePresent, IsFileText, IsWritten, IsTemplateFault, files_of, names_of, is_other};
 
 use crate::fault::{Fault, FilterFault};
@@ -148,7 +148,7 @@ fn run_source(alloc: Global, source: &Source, template: &[u8]) -> Result<Written
 /// What the input's run writes, or why it isn't run.
 fn answer(alloc: Global, input: &[u8]) -> Result<Written, FilterFault>
     ensures found { IfOk result (λ a. IsFiltered input.now a.text.items a.status) }
-    ensures refused { IfErr result (IsRefused input.now) }
+    ensures refused { IfErr result (IsInputFault input.now) }
 {
     let Some(at) = marker_place(input) else {
         return Err(FilterFault::Usage);
@@ -176,7 +176,7 @@ pub fn filter<R: Read, W: Write>(
     ensures errors { IfOk result (λ f. f.errors.items ≡ []) }
     // A refusal but that of the writer leaves it as it was.
     ensures untouched { IfErr result (λ e. e ≢ FilterFault.Write → writer.new ≡ writer.old) }
-    // A refusal that is no matter of reading, writing and memory is the input's.
+    // A refusal is the input's, or the writer's of the text that answers it, or one of reading or of memory.
     ensures refused { IfErr result (λ e. IfSome (R.remaining reader.old) (λ input. IsRefused input e)) }
 {
     let input = read_input(alloc, reader)?;

@@ -8,7 +8,7 @@ ghost use Rattle.std.specs.Prelude.{◌⊎◌};
 
 use crate::fault::FilterFault;
 use std::alloc::Global;
-use std::io;
+use std::io::{self, ErrorKind};
 
 /// The most reads of an input.
 const MAX_READS: u32 = 65_536;
@@ -16,8 +16,11 @@ const MAX_READS: u32 = 65_536;
 /// The most bytes of one read.
 const READ_SIZE: usize = 4096;
 
-/// All that a reader gives, by at most 65,536 reads of at most 4,096 bytes. `Read` where a read fails, and where there is
-/// no end by then.
+/// Returns all that a reader gives, by at most 65,536 reads of at most 4,096 bytes, among them those that a signal
+/// interrupts, which are tried again.
+///
+/// # Errors
+/// `Read` if a read fails or there is no end by then; `OutOfMemory`.
 pub fn read_input<R: io::Read>(alloc: Global, reader: &mut R) -> Result<Vec<u8>, FilterFault>
     ensures ok { IfOk result (λ v. IfSome (R.remaining reader.old) (λ text. v.items ≡ text)) }
     ensures err { IfErr result (λ e. (e ≡ FilterFault.Read) ⊎ (e ≡ FilterFault.OutOfMemory)) }
@@ -25,13 +28,12 @@ pub fn read_input<R: io::Read>(alloc: Global, reader: &mut R) -> Result<Vec<u8>,
     let mut text = Vec::new(alloc);
     let mut piece = [0u8; READ_SIZE];
     for _ in 0..MAX_READS {
-        let Ok(n) = reader.read(&mut piece) else {
-            return Err(FilterFault::Read);
-        };
-        if n == 0 {
-            return Ok(text);
+        match reader.read(&mut piece) {
+            Ok(0) => return Ok(text),
+            Ok(n) => text.extend_from_slice(&piece[..n])?,
+            Err(e) if e.kind() == ErrorKind::Interrupted => {}
+            Err(_) => return Err(FilterFault::Read),
         }
-        text.extend_from_slice(&piece[..n])?;
     }
     Err(FilterFault::Read)
 }

@@ -1,4 +1,8 @@
 //! A plan run to its end, where nothing is started.
+//!
+//! This is not `proberun::run`, since a run that starts nothing needs no crew: the jobs that the machine asks first are
+//! refused at once, as they are by a crew that refuses every start. So its clause says what the run leaves with no word of
+//! a crew's account. The driver is for a crew with children, whose ends come in some order.
 
 ghost use Rattle.std.specs.Prelude.{◌≡◌, [], None, length, replicate, IfOk};
 ghost use Rattle.machine.specs.Standing.{Fits, run_at};

@@ -1,5 +1,5 @@
 use Rattle.std.proofs.lemmas.Result.{err_from_is_err_and}
-use Rattle.runner.proofs.Refusals.{read_fault, write_refused}
+use Rattle.runner.proofs.Refusals.{input_refused, read_fault, write_refused}
 use Rattle.runner.proofs.filtering.filter.Goals as goal
 
 pub returns-in_err-input-clause-refused : goal.returns-in_err-input-clause-refused
@@ -8,4 +8,9 @@ returns-in_err-input-clause-refused g c =
     rw (p.1, p.2) (read_fault _ _ c.in_err-input.ensures.err)
 
 pub returns-then-is_err-clause-refused : goal.returns-then-is_err-clause-refused
-returns-then-is_err-clause-refused g c = write_refused _
+returns-then-is_err-clause-refused g c = write_refused _ c.as_slice.result.now _ _ _ c.as_slice.ensures.value c.in_ok-input.ensures.ok c.in_ok-answer.ensures.found
+
+pub returns-in_err-answer-clause-refused : goal.returns-in_err-answer-clause-refused
+returns-in_err-answer-clause-refused g c =
+    let p = err_from_is_err_and c.from_residual-in_err-answer.result c.from_residual-in_err-answer.ensures.1 in
+    rw (p.1, p.2) (input_refused _ c.as_slice.result.now _ _ c.as_slice.ensures.value c.in_ok-input.ensures.ok c.in_err-answer.ensures.refused)
