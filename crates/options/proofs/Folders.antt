@@ -1,4 +1,4 @@
--- The folder of the source, one argument further.
+-- The directory of the source, one argument further.
 use Rattle.std.proofs.Common.{◌≡◌, ℕ, ◌+◌, ◌<◌, ◌≤◌, List, Option, length, drop, get_or, sym, ap, ◌∙◌}
 use Rattle.std.proofs.Math.ListN.{drop_of_length-le}
 use Rattle.options.proofs.Turns.{next_of}

@@ -1,17 +1,23 @@
 -- What holds of the definitions: the function of a command line and the relations that say what it gives are the same,
--- and a variable has the value of its last setter.
-use Rattle.std.proofs.Common.{◌≡◌, ◌↔◌, ℕ, ◌⊎◌, inl, inr, cond, ◌||◌, Bool, true, false, List, [], ◌∷◌, ◌++◌, fold, Option, Some, None, Result, Ok, Err, refl, sym, ap, subst, ◌∙◌}
+-- arguments have one reading, and a variable has the value of its last setter.
+use Rattle.std.proofs.Common.{◌≡◌, ◌↔◌, ℕ, ◌⊎◌, inl, inr, cond, if◌then◌else◌, ◌||◌, Bool, true, false, List, [], ◌∷◌, ◌++◌, map, fold, codes, Option, Some, None, Result, Ok, Err, refl, sym, ap, subst, ◌∙◌}
+use Rattle.std.specs.Prelude.{unwrap_or}
+use Rattle.std.specs.Option.{option_map}
 use Rattle.std.specs.Str.{bytes_eq}
 use Rattle.std.proofs.lemmas.Slice.Eq.{bytes_eq-Decides}
 use Rattle.std.proofs.lemmas.List.Sums.{fold-append}
 use Rattle.deftable.proofs.Tables.{value_of-with_entry}
 use Rattle.deftable.specs.NameList.{has_name}
-use Rattle.deftable.specs.Table.{value_of, names_of}
+use Rattle.deftable.specs.Table.{value_of, with_entry, names_of}
 use Rattle.options.proofs.Lines.{settings_given, fault_given, given_reads, Reads}
 use Rattle.options.specs.Arguments.{given}
 use Rattle.options.specs.CommandLine.{Setting, GivesSettings, IsFirstFault}
-use Rattle.options.specs.Opening.{opened_by, opening, IsOpening, of_arguments, of_options, IsOpeningFault, set_by, with_variable}
+use Rattle.options.specs.Opening.{opened_by, opening, IsOpening, of_arguments, of_options, IsOpeningFault, set_by, with_variable, with_unslashed, set_mark, with_marks, finished}
+use Rattle.options.specs.Directories.{directories, directory_names, variable_of}
 use Rattle.options.specs.Reading.{◌>>=◌}
+use Rattle.options.specs.Slashes.{without_slashes}
+use Rattle.options.specs.declared.directory.Directory.{Directory}
+use Rattle.options.specs.declared.directory.Directory.TheVariants.{Prefix, ExecPrefix, Bindir, Sbindir, Libexecdir, Libdir, Datarootdir, Datadir, Sysconfdir, Sharedstatedir, Localstatedir, Runstatedir, Includedir, Oldincludedir, Docdir, Infodir, Htmldir, Dvidir, Pdfdir, Psdir, Localedir, Mandir}
 use Rattle.options.specs.declared.fault.OptionFault.{OptionFault}
 use Rattle.options.specs.declared.settings.Settings.{Settings}
 
@@ -24,6 +30,25 @@ given_is_settings i arguments settings = (λ e. subst (Reads i arguments) e (giv
 -- and this fault if it is the first one
 pub given_is_fault : (i : ℕ) (arguments : List (List ℕ)) (fault : OptionFault) → (given None i arguments ≡ Err fault) ↔ IsFirstFault i arguments fault
 given_is_fault i arguments fault = (λ e. subst (Reads i arguments) e (given_reads i arguments), fault_given)
+
+-- arguments give one list of settings
+pub one_list : (i : ℕ) (arguments : List (List ℕ)) (a b : List Setting) → GivesSettings i arguments a → GivesSettings i arguments b → a ≡ b
+one_list i arguments a b h k = let first = settings_given h in let second = settings_given k in cc
+
+-- or have one first fault
+pub one_fault : (i : ℕ) (arguments : List (List ℕ)) (f g : OptionFault) → IsFirstFault i arguments f → IsFirstFault i arguments g → f ≡ g
+one_fault i arguments f g h k = let first = fault_given h in let second = fault_given k in cc
+
+-- never both
+pub never_both : (i : ℕ) (arguments : List (List ℕ)) (settings : List Setting) (f : OptionFault) → GivesSettings i arguments settings → IsFirstFault i arguments f → ⊥
+never_both i arguments settings f h k = let first = settings_given h in let second = fault_given k in absurd (cc)
+
+-- but one of the two
+pub one_of_both : (i : ℕ) (arguments : List (List ℕ)) → ((settings : List Setting) × GivesSettings i arguments settings) ⊎ ((f : OptionFault) × IsFirstFault i arguments f)
+one_of_both i arguments = at (given None i arguments) (given_reads i arguments) where
+  at : (g : Result (List Setting) OptionFault) → Reads i arguments g → ((settings : List Setting) × GivesSettings i arguments settings) ⊎ ((f : OptionFault) × IsFirstFault i arguments f)
+  at (Ok settings) h = inl (settings, h)
+  at (Err f) h = inr (f, h)
 
 -- ---- the opening
 
@@ -81,3 +106,128 @@ last_setter_counts before later name value h =
 pub unset_by_none : (entries : List (List ℕ × List ℕ)) (name : List ℕ) → has_name (names_of entries) name ≡ false → value_of (set_by entries) name ≡ None
 unfolding set_by value_of
 unset_by_none entries name h = kept entries [] name h
+
+-- ---- final slashes and marks
+
+-- a value without its final slashes, if this is the variable of the directory
+abbrev unslashed_at : List ℕ → Option (List ℕ) → Directory → Option (List ℕ)
+unslashed_at name value d = if bytes_eq name (variable_of d) then option_map without_slashes value else value
+
+unslashed_value : (vars : List (List ℕ × List ℕ)) (name : List ℕ) (d : Directory) → value_of (with_unslashed vars d) name ≡ unslashed_at name (value_of vars name) d
+unfolding with_unslashed
+unslashed_value vars name d = at (bytes_eq name (variable_of d)) refl (value_of vars (variable_of d)) refl where
+  at : (t : Bool) → bytes_eq name (variable_of d) ≡ t → (v : Option (List ℕ)) → value_of vars (variable_of d) ≡ v
+      → value_of (elim v as (λ v. List (List ℕ × List ℕ)) [ None ↦ vars | Some value ↦ with_entry vars (variable_of d) (without_slashes value) ]) name
+      ≡ (if t then option_map without_slashes (value_of vars name) else value_of vars name)
+  at true is None found = let here = ap (value_of vars) ((bytes_eq-Decides name (variable_of d)).0 is) ∙ found in here ∙ sym (ap (option_map without_slashes) here)
+  at true is (Some value) found =
+      let here = ap (value_of vars) ((bytes_eq-Decides name (variable_of d)).0 is) ∙ found in
+      value_of-with_entry vars (variable_of d) (without_slashes value) name
+      ∙ ap (λ t. cond t (Some (without_slashes value)) (value_of vars name)) is
+      ∙ sym (ap (option_map without_slashes) here)
+  at false is None found = refl
+  at false is (Some value) found =
+      value_of-with_entry vars (variable_of d) (without_slashes value) name ∙ ap (λ t. cond t (Some (without_slashes value)) (value_of vars name)) is
+
+all_unslashed : (ds : List Directory) (vars : List (List ℕ × List ℕ)) (name : List ℕ) → value_of (fold with_unslashed vars ds) name ≡ fold (unslashed_at name) (value_of vars name) ds
+all_unslashed [] vars name = refl
+all_unslashed (d ∷ ds) vars name = all_unslashed ds (with_unslashed vars d) name ∙ ap (λ v. fold (unslashed_at name) v ds) (unslashed_value vars name d)
+
+-- the name of a mark of a precious variable
+abbrev is_mark : List (List ℕ) → List ℕ → Bool
+is_mark [] name = false
+is_mark (x ∷ more) name = bytes_eq name (codes "ac_cv_env_" ++ x ++ codes "_set") || (bytes_eq name (codes "ac_cv_env_" ++ x ++ codes "_value") || is_mark more name)
+
+unmarked : (precious : List (List ℕ)) (vars : List (List ℕ × List ℕ)) (name : List ℕ) → is_mark precious name ≡ false → value_of (fold with_marks vars precious) name ≡ value_of vars name
+unfolding with_marks
+unmarked [] vars name h = refl
+unmarked (x ∷ more) vars name h =
+    at (bytes_eq name (codes "ac_cv_env_" ++ x ++ codes "_set")) refl (bytes_eq name (codes "ac_cv_env_" ++ x ++ codes "_value")) refl h (unmarked more (with_marks vars x) name) where
+      at : (t : Bool) → bytes_eq name (codes "ac_cv_env_" ++ x ++ codes "_set") ≡ t → (u : Bool) → bytes_eq name (codes "ac_cv_env_" ++ x ++ codes "_value") ≡ u
+          → (t || (u || is_mark more name)) ≡ false
+          → (is_mark more name ≡ false → value_of (fold with_marks (with_marks vars x) more) name ≡ value_of (with_marks vars x) name)
+          → value_of (fold with_marks (with_marks vars x) more) name ≡ value_of vars name
+      at true is u other h rest = absurd (cc)
+      at false is true other h rest = absurd (cc)
+      at false is false other h rest =
+          let set : List (List ℕ × List ℕ) = with_entry vars (codes "ac_cv_env_" ++ x ++ codes "_set") (set_mark (value_of vars x)) in
+          rest h
+          ∙ value_of-with_entry set (codes "ac_cv_env_" ++ x ++ codes "_value") (unwrap_or (value_of vars x) []) name
+          ∙ ap (λ t. cond t (Some (unwrap_or (value_of vars x) [])) (value_of set name)) other
+          ∙ value_of-with_entry vars (codes "ac_cv_env_" ++ x ++ codes "_set") (set_mark (value_of vars x)) name
+          ∙ ap (λ t. cond t (Some (set_mark (value_of vars x))) (value_of vars name)) is
+
+no_directory : (ds : List Directory) (name : List ℕ) (value : Option (List ℕ)) → has_name (map variable_of ds) name ≡ false → fold (unslashed_at name) value ds ≡ value
+unfolding has_name
+no_directory [] name value h = refl
+no_directory (d ∷ ds) name value h = at (bytes_eq name (variable_of d)) h (no_directory ds name) where
+  at : (t : Bool) → (t || has_name (map variable_of ds) name) ≡ false → ((v : Option (List ℕ)) → has_name (map variable_of ds) name ≡ false → fold (unslashed_at name) v ds ≡ v)
+      → fold (unslashed_at name) (if t then option_map without_slashes value else value) ds ≡ value
+  at true h rest = absurd (cc)
+  at false h rest = rest value h
+
+-- At the end a variable that is neither a directory nor a mark has the value of its last setter.
+pub other_finished : (precious : List (List ℕ)) (vars : List (List ℕ × List ℕ)) (name : List ℕ) → has_name directory_names name ≡ false → is_mark precious name ≡ false
+    → value_of (finished precious vars) name ≡ value_of vars name
+unfolding finished directory_names
+other_finished precious vars name h k =
+    unmarked precious (fold with_unslashed vars directories) name k ∙ all_unslashed directories vars name ∙ no_directory directories name (value_of vars name) h
+
+directory_mark : (precious : List (List ℕ)) (d : Directory) → is_mark precious (variable_of d) ≡ false
+unfolding variable_of
+directory_mark [] d = refl
+directory_mark (x ∷ more) Prefix = directory_mark more Prefix
+directory_mark (x ∷ more) ExecPrefix = directory_mark more ExecPrefix
+directory_mark (x ∷ more) Bindir = directory_mark more Bindir
+directory_mark (x ∷ more) Sbindir = directory_mark more Sbindir
+directory_mark (x ∷ more) Libexecdir = directory_mark more Libexecdir
+directory_mark (x ∷ more) Libdir = directory_mark more Libdir
+directory_mark (x ∷ more) Datarootdir = directory_mark more Datarootdir
+directory_mark (x ∷ more) Datadir = directory_mark more Datadir
+directory_mark (x ∷ more) Sysconfdir = directory_mark more Sysconfdir
+directory_mark (x ∷ more) Sharedstatedir = directory_mark more Sharedstatedir
+directory_mark (x ∷ more) Localstatedir = directory_mark more Localstatedir
+directory_mark (x ∷ more) Runstatedir = directory_mark more Runstatedir
+directory_mark (x ∷ more) Includedir = directory_mark more Includedir
+directory_mark (x ∷ more) Oldincludedir = directory_mark more Oldincludedir
+directory_mark (x ∷ more) Docdir = directory_mark more Docdir
+directory_mark (x ∷ more) Infodir = directory_mark more Infodir
+directory_mark (x ∷ more) Htmldir = directory_mark more Htmldir
+directory_mark (x ∷ more) Dvidir = directory_mark more Dvidir
+directory_mark (x ∷ more) Pdfdir = directory_mark more Pdfdir
+directory_mark (x ∷ more) Psdir = directory_mark more Psdir
+directory_mark (x ∷ more) Localedir = directory_mark more Localedir
+directory_mark (x ∷ more) Mandir = directory_mark more Mandir
+
+directory_unslashed : (vars : List (List ℕ × List ℕ)) (d : Directory) → fold (unslashed_at (variable_of d)) (value_of vars (variable_of d)) directories ≡ option_map without_slashes (value_of vars (variable_of d))
+unfolding variable_of directories
+directory_unslashed vars Prefix = refl
+directory_unslashed vars ExecPrefix = refl
+directory_unslashed vars Bindir = refl
+directory_unslashed vars Sbindir = refl
+directory_unslashed vars Libexecdir = refl
+directory_unslashed vars Libdir = refl
+directory_unslashed vars Datarootdir = refl
+directory_unslashed vars Datadir = refl
+directory_unslashed vars Sysconfdir = refl
+directory_unslashed vars Sharedstatedir = refl
+directory_unslashed vars Localstatedir = refl
+directory_unslashed vars Runstatedir = refl
+directory_unslashed vars Includedir = refl
+directory_unslashed vars Oldincludedir = refl
+directory_unslashed vars Docdir = refl
+directory_unslashed vars Infodir = refl
+directory_unslashed vars Htmldir = refl
+directory_unslashed vars Dvidir = refl
+directory_unslashed vars Pdfdir = refl
+directory_unslashed vars Psdir = refl
+directory_unslashed vars Localedir = refl
+directory_unslashed vars Mandir = refl
+
+-- A directory has the value of its last setter without its final slashes.
+pub directory_finished : (precious : List (List ℕ)) (vars : List (List ℕ × List ℕ)) (d : Directory)
+    → value_of (finished precious vars) (variable_of d) ≡ option_map without_slashes (value_of vars (variable_of d))
+unfolding finished
+directory_finished precious vars d =
+    unmarked precious (fold with_unslashed vars directories) (variable_of d) (directory_mark precious d)
+    ∙ all_unslashed directories vars (variable_of d) ∙ directory_unslashed vars d

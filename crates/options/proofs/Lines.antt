@@ -1,13 +1,12 @@
 -- What all arguments give, as a function and by its rule.
-use Rattle.std.proofs.Common.{◌≡◌, ℕ, ◌+◌, ◌⊎◌, inl, inr, List, [], ◌∷◌, ◌++◌, Option, Some, None, Result, Ok, Err, refl, sym, ap, subst, ◌∙◌, arith}
+use Rattle.std.proofs.Common.{◌≡◌, ℕ, ◌+◌, List, [], ◌∷◌, Option, Some, None, Result, Ok, Err, refl, sym, ap, subst, ◌∙◌, arith}
 use Rattle.options.proofs.Words.{Means, option_said, setting_said, misnamed_said, misassigned_said, said_means}
 use Rattle.options.specs.Arguments.{Said, Turns, Gives, Awaits, Chooses, Misnames, Assigns, Misassigns, Nothing, said_by, alone, awaited_by, and_then, given}
 use Rattle.options.specs.CommandLine as line
 use Rattle.options.specs.CommandLine.{Setting, valued, IsOption, GivesAlone, IsOther, IsMisnamed, IsMisassigned, IsAtFault, GivesSettings, IsFirstFault}
-use Rattle.options.specs.Reading.{◌>>=◌}
 use Rattle.options.specs.declared.argument.Target.{Target}
 use Rattle.options.specs.declared.fault.OptionFault.{OptionFault}
-use Rattle.options.specs.declared.fault.OptionFault.TheVariants.{Unknown, BadFeature, BadVariable, MissingValue}
+use Rattle.options.specs.declared.fault.OptionFault.TheVariants.{Unknown, MissingValue}
 
 -- ---- one argument
 

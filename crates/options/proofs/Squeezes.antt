@@ -3,20 +3,20 @@ use Rattle.std.proofs.Common.{◌≡◌, ℕ, ◌+◌, ◌<◌, ◌≤◌, Bool,
 use Rattle.std.proofs.lemmas.List.{drop_more, append-nil}
 use Rattle.std.proofs.Math.ListN.{drop_of_length-le}
 use Rattle.textcut.specs.Cuts.{is_blank}
-use Rattle.options.specs.HelpText.{squeezed_byte, squeezed_behind}
+use Rattle.options.specs.HelpText.{squeezed_byte, squeezed_after}
 
 pub squeezed_more : (total now next : List ℕ) (blank behind : Bool) (xs : List ℕ) (i d : ℕ) → i < length xs
     → next ≡ now ++ squeezed_byte blank (get_or xs i d) → behind ≡ is_blank (get_or xs i d)
-    → now ++ squeezed_behind blank (drop i xs) ≡ total → next ++ squeezed_behind behind (drop (i + 1) xs) ≡ total
-unfolding squeezed_behind
+    → now ++ squeezed_after blank (drop i xs) ≡ total → next ++ squeezed_after behind (drop (i + 1) xs) ≡ total
+unfolding squeezed_after
 squeezed_more total now next blank behind xs i d lt one is h =
-    let rest : List ℕ = squeezed_behind (is_blank (get_or xs i d)) (drop (i + 1) xs) in
-    ap (λ b. next ++ squeezed_behind b (drop (i + 1) xs)) is
+    let rest : List ℕ = squeezed_after (is_blank (get_or xs i d)) (drop (i + 1) xs) in
+    ap (λ b. next ++ squeezed_after b (drop (i + 1) xs)) is
     ∙ ap (λ t. t ++ rest) one ∙ append_assoc now (squeezed_byte blank (get_or xs i d)) rest
-    ∙ sym (ap (λ ys. now ++ squeezed_behind blank ys) (drop_more xs i d lt)) ∙ h
+    ∙ sym (ap (λ ys. now ++ squeezed_after blank ys) (drop_more xs i d lt)) ∙ h
 
 pub squeezed_end : (total now : List ℕ) (blank : Bool) (xs : List ℕ) (i : ℕ) → length xs ≤ i
-    → now ++ squeezed_behind blank (drop i xs) ≡ total → now ≡ total
-unfolding squeezed_behind
+    → now ++ squeezed_after blank (drop i xs) ≡ total → now ≡ total
+unfolding squeezed_after
 squeezed_end total now blank xs i le h =
-    sym (ap (λ ys. now ++ squeezed_behind blank ys) (drop_of_length-le xs le) ∙ append-nil now) ∙ h
+    sym (ap (λ ys. now ++ squeezed_after blank ys) (drop_of_length-le xs le) ∙ append-nil now) ∙ h

@@ -5,9 +5,8 @@ use Rattle.std.proofs.lemmas.List.{append-nil}
 use Rattle.std.proofs.lemmas.List.Sums.{fold-append}
 use Rattle.deftable.specs.ShellName.{is_shell_name_of}
 use Rattle.deftable.specs.Table.{with_entry}
-use Rattle.deftable.specs.declared.note.Note.{Note}
 use Rattle.acargs.specs.Feature.{option_variable}
-use Rattle.options.proofs.Lines.{alone_awaits, settings_given, given_reads, Reads}
+use Rattle.options.proofs.Lines.{alone_awaits, given_reads, Reads}
 use Rattle.options.proofs.Words.{option_said, setting_said}
 use Rattle.options.specs.Arguments.{Said, Turns, Gives, Awaits, Chooses, Misnames, Assigns, Misassigns, Nothing, said_by, alone, awaited_by, and_then, given}
 use Rattle.options.specs.CommandLine as line
@@ -21,7 +20,6 @@ use Rattle.options.specs.Stepwise.{with_environment, with_default, vars_before, 
 use Rattle.options.specs.Unrecognized.{notes_of}
 use Rattle.options.specs.declared.argument.Target.{Target}
 use Rattle.options.specs.declared.argument.Target.TheVariants.{Folder, Srcdir, CacheFile}
-use Rattle.options.specs.declared.argument.Switch.{Switch}
 use Rattle.options.specs.declared.argument.Switch.TheVariants.{ConfigCache, Quiet, NoCreate, Help, Version, Ignored}
 use Rattle.options.specs.declared.directory.Directory.{Directory}
 use Rattle.options.specs.declared.fault.OptionFault.{OptionFault}
@@ -137,34 +135,34 @@ word_steps features packages word more i r e step =
     ap (λ a. (elim a as (λ a. Result Reader OptionFault) [ Some t ↦ Ok (with_value t word (idle r)) | None ↦ with_said features packages (i + 1) (said_by word) r ])
     >>= λ next. with_arguments features packages (i + 1) next more) e
     ∙ at (awaited_by (said_by word)) refl where
-  alone_at : (first : Result Setting OptionFault) → ((first >>= λ setting. Ok (after features packages setting r)) >>= λ next. with_arguments features packages (i + 1) next more)
-      ≡ (and_then first (given None (i + 1) more) >>= λ settings. Ok (after_all features packages settings (idle r)))
-  alone_at (Ok setting) =
-      after_setting features packages more (i + 1) setting r e step
-      ∙ ap (λ q. and_then (Ok setting) (given None (i + 1) more) >>= λ settings. Ok (after_all features packages settings q)) (sym (idle_is r e))
-  alone_at (Err fault) = refl
+      alone_at : (first : Result Setting OptionFault) → ((first >>= λ setting. Ok (after features packages setting r)) >>= λ next. with_arguments features packages (i + 1) next more)
+          ≡ (and_then first (given None (i + 1) more) >>= λ settings. Ok (after_all features packages settings (idle r)))
+      alone_at (Ok setting) =
+          after_setting features packages more (i + 1) setting r e step
+          ∙ ap (λ q. and_then (Ok setting) (given None (i + 1) more) >>= λ settings. Ok (after_all features packages settings q)) (sym (idle_is r e))
+      alone_at (Err fault) = refl
 
-  at : (a : Option Target) → awaited_by (said_by word) ≡ a
-      → (with_said features packages (i + 1) (said_by word) r >>= λ next. with_arguments features packages (i + 1) next more)
-      ≡ ((elim a as (λ a. Result (List Setting) OptionFault) [
-        | Some target ↦ given (Some target) (i + 1) more
-        | None ↦ and_then (alone (i + 1) (said_by word)) (given None (i + 1) more)
-      ]) >>= λ settings. Ok (after_all features packages settings (idle r)))
-  at (Some target) is =
-      ap (λ q. q >>= λ next. with_arguments features packages (i + 1) next more) (awaits_is features packages (i + 1) (said_by word) target r is)
-      ∙ step (Some target) (i + 1) (record r { awaited = Some target }) refl
-  at None is =
-      ap (λ q. q >>= λ next. with_arguments features packages (i + 1) next more) (said_after features packages (i + 1) (said_by word) r is)
-      ∙ alone_at (alone (i + 1) (said_by word))
+      at : (a : Option Target) → awaited_by (said_by word) ≡ a
+          → (with_said features packages (i + 1) (said_by word) r >>= λ next. with_arguments features packages (i + 1) next more)
+          ≡ ((elim a as (λ a. Result (List Setting) OptionFault) [
+            | Some target ↦ given (Some target) (i + 1) more
+            | None ↦ and_then (alone (i + 1) (said_by word)) (given None (i + 1) more)
+          ]) >>= λ settings. Ok (after_all features packages settings (idle r)))
+      at (Some target) is =
+          ap (λ q. q >>= λ next. with_arguments features packages (i + 1) next more) (awaits_is features packages (i + 1) (said_by word) target r is)
+          ∙ step (Some target) (i + 1) (record r { awaited = Some target }) refl
+      at None is =
+          ap (λ q. q >>= λ next. with_arguments features packages (i + 1) next more) (said_after features packages (i + 1) (said_by word) r is)
+          ∙ alone_at (alone (i + 1) (said_by word))
 
 steps : (features packages arguments : List (List ℕ)) → Step features packages arguments
 steps features packages [] = end_steps features packages
 steps features packages (word ∷ more) =
     λ awaited i r e. at awaited i r e (steps features packages more) where
-  at : (awaited : Option Target) (i : ℕ) (r : Reader) → r.awaited ≡ awaited → Step features packages more
-      → with_arguments features packages i r (word ∷ more) ≡ (given awaited i (word ∷ more) >>= λ settings. Ok (after_all features packages settings (idle r)))
-  at None i r e step = word_steps features packages word more i r e step
-  at (Some target) i r e step = value_steps features packages target word more i r e step
+      at : (awaited : Option Target) (i : ℕ) (r : Reader) → r.awaited ≡ awaited → Step features packages more
+          → with_arguments features packages i r (word ∷ more) ≡ (given awaited i (word ∷ more) >>= λ settings. Ok (after_all features packages settings (idle r)))
+      at None i r e step = word_steps features packages word more i r e step
+      at (Some target) i r e step = value_steps features packages target word more i r e step
 
 -- ---- what all settings make of a reader
 
@@ -457,8 +455,8 @@ unfolding stepwise opening reader_before
 stepwise_is_opening features packages precious arguments environment =
     ap (λ q. q >>= settings_after precious arguments) (steps features packages arguments None 0 (reader_before environment) refl)
     ∙ at (given None 0 arguments) refl where
-  at : (g : Result (List Setting) OptionFault) → given None 0 arguments ≡ g
-      → ((g >>= λ settings. Ok (after_all features packages settings (idle (reader_before environment)))) >>= settings_after precious arguments)
-      ≡ (g >>= opened_by features packages precious environment)
-  at (Ok settings) e = settings_opened features packages precious arguments environment settings (subst (Reads 0 arguments) e (given_reads 0 arguments))
-  at (Err fault) e = refl
+      at : (g : Result (List Setting) OptionFault) → given None 0 arguments ≡ g
+          → ((g >>= λ settings. Ok (after_all features packages settings (idle (reader_before environment)))) >>= settings_after precious arguments)
+          ≡ (g >>= opened_by features packages precious environment)
+      at (Ok settings) e = settings_opened features packages precious arguments environment settings (subst (Reads 0 arguments) e (given_reads 0 arguments))
+      at (Err fault) e = refl

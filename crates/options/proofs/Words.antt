@@ -1,5 +1,5 @@
 -- What one argument says, as a function and by its rule.
-use Rattle.std.proofs.Common.{◌≡◌, ℕ, ◌⊎◌, inl, inr, Bool, true, false, ◌||◌, if◌then◌else◌, List, [], ◌∷◌, ◌++◌, append_assoc, Option, Some, None, Result, Ok, Err, codes, refl, sym, ap, subst, ◌∙◌}
+use Rattle.std.proofs.Common.{◌≡◌, ℕ, Bool, true, false, ◌||◌, if◌then◌else◌, List, [], ◌∷◌, ◌++◌, append_assoc, Option, Some, None, Ok, codes, refl, sym, ap, subst, ◌∙◌}
 use Rattle.std.specs.Prelude.{unwrap_or}
 use Rattle.std.specs.List.{find}
 use Rattle.std.specs.Option.{option_map}
@@ -20,7 +20,6 @@ use Rattle.options.specs.declared.argument.Target.{Target}
 use Rattle.options.specs.declared.argument.Target.TheVariants.{Folder, Srcdir, CacheFile}
 use Rattle.options.specs.declared.argument.Switch.{Switch}
 use Rattle.options.specs.declared.argument.Switch.TheVariants.{ConfigCache, Quiet, NoCreate, Help, Version, Ignored}
-use Rattle.options.specs.declared.fault.OptionFault.{OptionFault}
 
 -- ---- from the rule to the function
 
@@ -248,9 +247,9 @@ target_is : (key : List ℕ) (target : Target) → target_of key ≡ Some target
 unfolding target_of folder_of
 target_is key target = by_choice _ _ _ _ (λ t e. same_target key e (one_of (λ k. IsOption k Srcdir) key _ line.srcdir t))
     (by_choice _ _ _ _ (λ t e. same_target key e (one_of (λ k. IsOption k CacheFile) key _ line.cache_file t)) (at (rest_after (codes "--") key) refl)) where
-  at : (r : Option (List ℕ)) → rest_after (codes "--") key ≡ r → (elim r as (λ r. Option Target) [ Some option ↦ folder_named option | None ↦ None ]) ≡ Some target → IsOption key target
-  at None is h = absurd (cc)
-  at (Some option) is h = subst (λ k. IsOption k target) (sym (rest_is (codes "--") key option is)) (folder_is option target h)
+      at : (r : Option (List ℕ)) → rest_after (codes "--") key ≡ r → (elim r as (λ r. Option Target) [ Some option ↦ folder_named option | None ↦ None ]) ≡ Some target → IsOption key target
+      at None is h = absurd (cc)
+      at (Some option) is h = subst (λ k. IsOption k target) (sym (rest_is (codes "--") key option is)) (folder_is option target h)
 
 -- what the rule says of an argument that says this
 abbrev pub Means : ℕ → List ℕ → Said → Type 0

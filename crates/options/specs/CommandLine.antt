@@ -93,8 +93,8 @@ pub data GivesAlone (i : ℕ) : List ℕ → Setting → Type 0 where
   disabled : (kind : OptionKind) (name : List ℕ) → is_feature name ≡ true → GivesAlone i (disabling kind ++ name) (Choice i kind name (codes "no") (disabling kind ++ name))
   assignment : (name value : List ℕ) → is_shell_name_of name ≡ true → GivesAlone i (name ++ codes "=" ++ value) (Variable name value)
 
--- The argument is about a feature or a package, and the name can't be one: up to the first `=` where it is turned on, all
--- of the rest where it is turned off.
+-- The argument is about a feature or a package whose name can't be one. The name goes up to the first `=` if it is turned
+-- on, and is all of the rest if it is turned off.
 pub data IsMisnamed : List ℕ → Type 0 where
   enabled : (kind : OptionKind) (rest : List ℕ) → is_feature (key_of rest) ≡ false → IsMisnamed (enabling kind ++ rest)
   disabled : (kind : OptionKind) (rest : List ℕ) → is_feature rest ≡ false → IsMisnamed (disabling kind ++ rest)
@@ -119,8 +119,8 @@ pub data IsAtFault (i : ℕ) (word : List ℕ) : OptionFault → Type 0 where
 
 -- ---- all arguments
 
--- The arguments, where i were before them, give these settings, from the left. An option with no `=` takes the next
--- argument as its value, whatever that is.
+-- The arguments after i others give these settings, from the left. An option with no `=` takes the next argument as its
+-- value, whatever that is.
 pub data GivesSettings : ℕ → List (List ℕ) → List Setting → Type 0 where
   no_more : {i : ℕ} → GivesSettings i [] []
   one_word : {i : ℕ} {word : List ℕ} {setting : Setting} {more : List (List ℕ)} {settings : List Setting}
@@ -128,7 +128,7 @@ pub data GivesSettings : ℕ → List (List ℕ) → List Setting → Type 0 whe
   two_words : {i : ℕ} {option : List ℕ} {target : Target} {more : List (List ℕ)} {settings : List Setting}
       → IsOption option target → (value : List ℕ) → GivesSettings (i + 2) more settings → GivesSettings i (option ∷ value ∷ more) (valued target value ∷ settings)
 
--- The first fault of the arguments, where i were before them. All arguments before it give settings.
+-- The first fault of the arguments after i others. All arguments before it give settings.
 pub data IsFirstFault : ℕ → List (List ℕ) → OptionFault → Type 0 where
   at_once : {i : ℕ} {word : List ℕ} {more : List (List ℕ)} {fault : OptionFault} → IsAtFault (i + 1) word fault → IsFirstFault i (word ∷ more) fault
   no_value : {i : ℕ} {option : List ℕ} {target : Target} → IsOption option target → IsFirstFault i (option ∷ []) (MissingValue (i + 1))

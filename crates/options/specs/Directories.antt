@@ -1,5 +1,5 @@
 -- The directories of an installation (Autoconf's manual, "Installation Directory Variables"), with prefix and exec_prefix
--- in front of them: their variables, their options, and their values where nothing else is said. That a prefix is `NONE`
+-- in front of them: their variables, their options, and their defaults. That a prefix is `NONE`
 -- until the end of a run is own.
 use Rattle.std.specs.Prelude.{ℕ, List, [], ◌∷◌, map, Option, codes}
 use Rattle.std.specs.List.{find}
@@ -39,7 +39,7 @@ variable_of Psdir = codes "psdir"
 variable_of Localedir = codes "localedir"
 variable_of Mandir = codes "mandir"
 
--- its value where nothing else is said
+-- its default
 unfoldable pub default_of : Directory → List ℕ
 default_of Prefix = codes "NONE"
 default_of ExecPrefix = codes "NONE"

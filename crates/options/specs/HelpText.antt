@@ -6,25 +6,25 @@ use Rattle.textcut.specs.Cuts.{is_blank}
 use Rattle.acargs.specs.declared.help.Help.{Help}
 use Rattle.acargs.specs.declared.help.Help.TheVariants.{Entry, Text}
 
--- what is left of a byte where each run of blanks is made one space, and a blank stands in front of it or doesn't
+-- a byte of a text whose runs of blanks become one space each, after a blank or not
 abbrev pub squeezed_byte : Bool → ℕ → List ℕ
 squeezed_byte blank b = if is_blank b then (if blank then [] else 32 ∷ []) else b ∷ []
 
--- the text with each run of blanks made one space, where a blank stands in front of it or doesn't
-unfoldable pub squeezed_behind : Bool → List ℕ → List ℕ
-squeezed_behind blank [] = []
-squeezed_behind blank (b ∷ bs) = squeezed_byte blank b ++ squeezed_behind (is_blank b) bs
+-- the text with each run of blanks made one space, after a blank or not
+unfoldable pub squeezed_after : Bool → List ℕ → List ℕ
+squeezed_after blank [] = []
+squeezed_after blank (b ∷ bs) = squeezed_byte blank b ++ squeezed_after (is_blank b) bs
 
 -- the text with each run of blanks made one space, also at its ends
 abbrev pub squeezed : List ℕ → List ℕ
-squeezed text = squeezed_behind false text
+squeezed text = squeezed_after false text
 
 -- so many spaces
 abbrev pub spaces : ℕ → List ℕ
 spaces n = replicate n 32
 
--- what stands between a left text of so many bytes and the right text, which begins at column 27: spaces, on a line of
--- their own where the left text has more than 23 bytes
+-- what is between a left text of n bytes and the right text, which begins at column 27: spaces, after a newline if the
+-- left text has more than 23 bytes
 unfoldable pub gap : ℕ → List ℕ
 gap n = if nat_lt 23 n then codes "\n" ++ spaces 26 else spaces (24 - n)
 

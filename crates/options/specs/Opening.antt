@@ -14,8 +14,7 @@ use Rattle.options.specs.Reading.{◌>>=◌}
 use Rattle.options.specs.Slashes.{without_slashes}
 use Rattle.options.specs.Unrecognized.{notes_of}
 use Rattle.deftable.specs.declared.note.Note.{Note}
-use Rattle.options.specs.declared.argument.Switch.{Switch}
-use Rattle.options.specs.declared.argument.Switch.TheVariants.{ConfigCache, Quiet, NoCreate, Help, Version, Ignored}
+use Rattle.options.specs.declared.argument.Switch.TheVariants.{ConfigCache, Quiet, NoCreate, Help, Version}
 use Rattle.options.specs.declared.directory.Directory.{Directory}
 use Rattle.options.specs.declared.fault.OptionFault.{OptionFault}
 use Rattle.options.specs.declared.settings.Settings.{Settings}
@@ -27,7 +26,7 @@ abbrev pub last_of : {A : Type 0} → A → List A → A
 last_of otherwise [] = otherwise
 last_of otherwise (x ∷ xs) = last_of x xs
 
--- the cache of a name: none where the name is empty or `/dev/null`
+-- the cache of a name: none if the name is empty or `/dev/null`
 unfoldable pub cache_named : List ℕ → Option (List ℕ)
 cache_named name = if bytes_eq name [] || bytes_eq name (codes "/dev/null") then None else Some name
 
@@ -75,8 +74,8 @@ variables_in other = []
 abbrev pub default_entry : Directory → List ℕ × List ℕ
 default_entry directory = (variable_of directory, default_of directory)
 
--- What sets a variable, from first to last: the environment, where the name is a shell name; the directories, to their
--- defaults; and the settings.
+-- What sets a variable, from first to last: the entries of the environment whose names are shell names; the directories,
+-- to their defaults; and the settings.
 unfoldable pub setters : List (List ℕ × List ℕ) → List Setting → List (List ℕ × List ℕ)
 setters environment settings =
     filter (λ entry. is_shell_name_of entry.0) environment ++ map default_entry directories ++ flat_map variables_in settings
@@ -149,8 +148,8 @@ opened_by features packages precious environment settings =
     let vars : List (List ℕ × List ℕ) = set_by (setters environment settings) in
     notes_of (checking_in vars) (flat_map (undeclared_in features packages) settings) >>= λ notes. Ok (run_settings precious vars settings notes)
 
--- The settings of a command line and an environment, where the source declares these features, packages and precious
--- variables; or the first fault.
+-- What a run begins with, by a command line and an environment, if the source declares these features, packages and
+-- precious variables; or the first fault.
 unfoldable pub opening : List (List ℕ) → List (List ℕ) → List (List ℕ) → List (List ℕ) → List (List ℕ × List ℕ) → Result Settings OptionFault
 opening features packages precious arguments environment = given None 0 arguments >>= opened_by features packages precious environment
 

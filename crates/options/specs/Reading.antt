@@ -9,7 +9,7 @@ abbrev pub ◌>>=◌ : {A B : Type 0} → Result A OptionFault → (A → Result
 (Ok x) >>= f = f x
 (Err e) >>= f = Err e
 
--- The reading has this fault. Want of memory is no fault of what is read.
+-- The reading has this fault. Running out of memory is no fault of what is read.
 abbrev pub Fails : {A : Type 0} → OptionFault → Result A OptionFault → Type 0
 Fails OutOfMemory read = Unit {0}
 Fails fault read = read ≡ Err fault

@@ -1,5 +1,5 @@
 -- The opening of a run step by step, as the code reads it: what each argument makes of what was read before it.
-use Rattle.std.specs.Prelude.{ℕ, ◌+◌, true, false, List, [], ◌∷◌, ◌++◌, Option, Some, None, Result, Ok, Err, fold, codes, if◌then◌else◌}
+use Rattle.std.specs.Prelude.{ℕ, ◌+◌, true, false, List, [], ◌∷◌, ◌++◌, Some, None, Result, Ok, Err, fold, codes, if◌then◌else◌}
 use Rattle.deftable.specs.ShellName.{is_shell_name_of}
 use Rattle.deftable.specs.Table.{with_entry}
 use Rattle.acargs.specs.Feature.{option_variable}
@@ -27,7 +27,7 @@ use Rattle.options.specs.declared.settings.Settings.{Settings}
 unfoldable pub with_environment : List (List ℕ × List ℕ) → List ℕ × List ℕ → List (List ℕ × List ℕ)
 with_environment vars entry = if is_shell_name_of entry.0 then with_entry vars entry.0 entry.1 else vars
 
--- with a directory as it is where nothing else is said
+-- with a directory set to its default
 unfoldable pub with_default : List (List ℕ × List ℕ) → Directory → List (List ℕ × List ℕ)
 with_default vars directory = with_entry vars (variable_of directory) (default_of directory)
 
@@ -94,7 +94,7 @@ with_argument features packages i argument r = elim r.awaited [
 unfoldable pub at_end : ℕ → Reader → Result Reader OptionFault
 at_end i r = elim r.awaited [ Some target ↦ Err (MissingValue i) | None ↦ Ok r ]
 
--- after these arguments, where i were read before
+-- after these arguments, which follow i others
 unfoldable pub with_arguments : List (List ℕ) → List (List ℕ) → ℕ → Reader → List (List ℕ) → Result Reader OptionFault
 with_arguments features packages i r [] = at_end i r
 with_arguments features packages i r (argument ∷ more) =

@@ -8,24 +8,24 @@ use Rattle.deftable.specs.declared.note.Stream.TheVariants as stream
 use Rattle.options.specs.declared.fault.OptionFault.{OptionFault}
 use Rattle.options.specs.declared.fault.OptionFault.TheVariants.{FatalUnrecognized}
 
--- an option behind a comma and a blank
-unfoldable pub behind_comma : ℕ × List ℕ → List ℕ
-behind_comma option = codes ", " ++ option.1
+-- an option after a comma and a blank
+unfoldable pub after_comma : ℕ × List ℕ → List ℕ
+after_comma option = codes ", " ++ option.1
 
 -- the options, each with its place, with a comma and a blank between each two
 unfoldable pub listed : List (ℕ × List ℕ) → List ℕ
 listed [] = []
-listed (first ∷ more) = first.1 ++ flat_map behind_comma more
+listed (first ∷ more) = first.1 ++ flat_map after_comma more
 
--- what a user is told of them
+-- the warning about them
 unfoldable pub warning : List (ℕ × List ℕ) → Note
 warning unrecognized = record {
   stream = stream.Err;
   text = codes "configure: WARNING: unrecognized options: " ++ listed unrecognized ++ codes "\n";
 }
 
--- what is made of them, by the value of `enable_option_checking`, which is empty where it isn't set: nothing where there is
--- none or the value is `no`, a fault at the first where it is `fatal`, and else one warning
+-- The notes about them, by the value of `enable_option_checking`, which is empty if it isn't set: nothing if there is none
+-- or the value is `no`, a fault at the first if it is `fatal`, and otherwise one warning.
 unfoldable pub notes_of : List ℕ → List (ℕ × List ℕ) → Result (List Note) OptionFault
 notes_of checking [] = Ok []
 notes_of checking (first ∷ more) =

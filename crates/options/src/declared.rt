@@ -29,9 +29,12 @@ pub fn read_args(
     env: &[(Bytes, Bytes)],
 ) -> Result<Settings, OptionFault>
     ensures found { IfOk result (λ s. IsOpening source.now.features source.now.packages source.now.precious args.now env.now s) }
-    ensures only { (s : settings.Settings) → IsOpening source.now.features source.now.packages source.now.precious args.now env.now s → Gives (λ s. s) result (Ok s) }
-    ensures fault { IfErr result (λ f. f ≢ OutOfMemory → IsOpeningFault source.now.features source.now.packages source.now.precious args.now env.now f) }
-    ensures named { (f : faults.OptionFault) → IsOpeningFault source.now.features source.now.packages source.now.precious args.now env.now f → Gives (λ s. s) result (Err f) }
+    ensures only { (s : settings.Settings) → IsOpening source.now.features source.now.packages source.now.precious args.now env.now s
+        → Gives (λ s. s) result (Ok s) }
+    ensures fault { IfErr result (λ f. f ≢ OutOfMemory
+        → IsOpeningFault source.now.features source.now.packages source.now.precious args.now env.now f) }
+    ensures named { (f : faults.OptionFault) → IsOpeningFault source.now.features source.now.packages source.now.precious args.now env.now f
+        → Gives (λ s. s) result (Err f) }
     ensures exact { Gives (λ s. s) result (opening source.now.features source.now.packages source.now.precious args.now env.now) }
     ensures folder { IfOk result (λ s. s.srcdir ≡ srcdir_of args.now) }
 {

@@ -61,8 +61,7 @@ const DIRECTORIES: [Directory; 22] = [
     Directory::Mandir,
 ];
 
-/// All directories, each once, in their order: `prefix` and `exec_prefix`, and then those below them. What they are where
-/// a run opens is told by [`Directory::default_value`], their variables by [`Directory::variable`].
+/// Returns all directories, each once, in their order: `prefix` and `exec_prefix`, and then those below them.
 #[tactic(auto, unfolding(crate::specs::Directories::directories))]
 pub fn directories() -> &'static [Directory]
     ensures { result.now ≡ words.directories }
@@ -71,7 +70,7 @@ pub fn directories() -> &'static [Directory]
 }
 
 impl Directory {
-    /// The variable that holds the directory.
+    /// Returns the variable that holds the directory.
     #[tactic(auto, unfolding(crate::specs::Directories::variable_of))]
     pub fn variable(self) -> &'static [u8]
         ensures value { result.now ≡ words.variable_of self }
@@ -103,7 +102,7 @@ impl Directory {
         }
     }
 
-    /// The variable's value where neither an option nor an assignment sets it. Variables in it are not expanded.
+    /// Returns the value of the directory's variable if no argument sets it. Variables in it are not expanded.
     #[tactic(auto, unfolding(crate::specs::Directories::default_of))]
     pub fn default_value(self) -> &'static [u8]
         ensures { result.now ≡ words.default_of self }

@@ -22,8 +22,8 @@ pub enum OptionFault {
     /// The option of two words that the last argument begins.
     #[error("4 at {0}")]
     MissingValue(u64),
-    /// The first option about a feature or a package that the source does not declare, where `enable_option_checking` is
-    /// `fatal`; all others come before it.
+    /// The first option about a feature or a package that the source does not declare, if `enable_option_checking` is
+    /// `fatal`. All other faults come before it.
     #[error("5 at {0}")]
     FatalUnrecognized(u64),
     /// A growth of memory was refused.

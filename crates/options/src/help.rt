@@ -9,10 +9,10 @@ use deftable::Bytes;
 use std::alloc::{AllocError, Global};
 use textcut::is_blank;
 
-/// The most bytes of a left text that has the right text behind it on its line.
+/// The most bytes of a left text that has the right text on its line.
 const WIDEST_LEFT: usize = 23;
 
-/// Where the right text begins, behind the two spaces in front of the left text.
+/// The bytes that a left text is filled to.
 const LEFT_COLUMN: usize = 24;
 
 fn put_spaces(text: &mut Vec<u8>, n: usize) -> Result<(), AllocError>
@@ -24,7 +24,7 @@ fn put_spaces(text: &mut Vec<u8>, n: usize) -> Result<(), AllocError>
     Ok(())
 }
 
-/// Puts what stands between a left text of `n` bytes and the right text.
+/// Puts what is between a left text of `n` bytes and the right text.
 #[tactic(auto, unfolding(crate::specs::HelpText::gap))]
 fn put_gap(text: &mut Vec<u8>, n: usize) -> Result<(), AllocError>
     ensures { OnOk result (text.new.items ≡ text.old.items ++ words.gap n) }
@@ -36,7 +36,7 @@ fn put_gap(text: &mut Vec<u8>, n: usize) -> Result<(), AllocError>
     put_spaces(text, LEFT_COLUMN - n)
 }
 
-/// Puts what is left of a byte where each run of blanks is made one space; `blank` says whether a blank stands before it.
+/// Puts a byte of a text whose runs of blanks become one space each; `blank` says whether the byte before it is a blank.
 fn put_byte(text: &mut Vec<u8>, blank: bool, byte: u8) -> Result<(), AllocError>
     ensures { OnOk result (text.new.items ≡ text.old.items ++ words.squeezed_byte blank byte) }
 {
@@ -48,7 +48,7 @@ fn put_byte(text: &mut Vec<u8>, blank: bool, byte: u8) -> Result<(), AllocError>
     Ok(())
 }
 
-/// Puts a text with each run of blanks made one space.
+/// Puts a text whose runs of blanks become one space each.
 fn put_squeezed(text: &mut Vec<u8>, right: &[u8]) -> Result<(), AllocError>
     ensures { OnOk result (text.new.items ≡ text.old.items ++ words.squeezed right.now) }
 {
@@ -101,10 +101,14 @@ fn put_all(text: &mut Vec<u8>, entries: &[Help]) -> Result<(), AllocError>
     Ok(())
 }
 
-/// The help text: the usage, and what the source says of its options and variables, in its order (the layout is own).
+/// Returns the help text: the usage, and then the options and variables of the source, in its order (the layout is own).
 ///
-/// An option or variable has its text from column 27 on, on a line of its own where the option is longer than 23 bytes;
-/// lines are not wrapped. It fails only for want of memory.
+/// The text of an option or variable begins at column 27, on the next line if the option is longer than 23 bytes. Lines are
+/// not wrapped.
+///
+/// # Errors
+///
+/// Fails only if memory runs out.
 #[tactic(auto, unfolding(crate::specs::HelpText::help_text))]
 pub fn help_text_of(alloc: Global, entries: &HelpList) -> Result<Bytes, AllocError>
     ensures { IfOk result (λ text. text ≡ words.help_text entries.now) }

@@ -78,7 +78,7 @@ impl Reader {
         Ok(())
     }
 
-    /// Sets the variable of a feature or a package, and notes its option where the variable isn't declared.
+    /// Sets the variable of a feature or a package, and notes its option if the variable isn't declared.
     #[tactic(auto, unfolding(crate::specs::Stepwise::with_choice))]
     fn choose(
         &mut self,

@@ -24,11 +24,11 @@ pub struct Settings {
     /// The variables: the environment, the directories as they are by default, the arguments, and the marks of precious
     /// variables.
     pub vars: Vars,
-    /// The warning of options that the source doesn't declare, if there are any.
+    /// The warning about options that the source doesn't declare, if there are any.
     pub notes: Notes,
     /// The cache file, if one is to be read and written.
     pub cache_name: Option<Bytes>,
-    /// The folder of the source, without final slashes.
+    /// The directory of the source, without final slashes.
     pub srcdir: Bytes,
     /// Nothing is to be printed on standard output.
     pub quiet: bool,
@@ -40,7 +40,7 @@ pub struct Settings {
     pub version: bool,
 }
 
-/// The settings, once all arguments are read, with what is to be told.
+/// The settings after all arguments, with these notes.
 #[tactic(auto, unfolding(crate::specs::Stepwise::settings_with))]
 fn settings_with(
     alloc: Global,
@@ -67,7 +67,7 @@ fn settings_with(
     })
 }
 
-/// What is to be told of options that are not declared.
+/// The notes about options that are not declared.
 fn notes_after(alloc: Global, reader: &Reader) -> Result<Notes, OptionFault>
     ensures { Gives (λ notes. notes) result (notes_of (checking_in reader.now.vars) reader.now.unrecognized) }
 {
@@ -75,7 +75,7 @@ fn notes_after(alloc: Global, reader: &Reader) -> Result<Notes, OptionFault>
     notes_of(alloc, checking, &reader.unrecognized)
 }
 
-/// The settings, once all arguments are read.
+/// The settings after all arguments.
 fn settings_after(
     alloc: Global,
     precious: &SubstList,
@@ -126,9 +126,12 @@ pub fn read_args_of(
     env: &[(Bytes, Bytes)],
 ) -> Result<Settings, OptionFault>
     ensures found { IfOk result (λ s. IsOpening features.now packages.now precious.now args.now env.now s) }
-    ensures only { (s : settings.Settings) → IsOpening features.now packages.now precious.now args.now env.now s → Gives (λ s. s) result (Ok s) }
-    ensures fault { IfErr result (λ f. f ≢ OutOfMemory → IsOpeningFault features.now packages.now precious.now args.now env.now f) }
-    ensures named { (f : faults.OptionFault) → IsOpeningFault features.now packages.now precious.now args.now env.now f → Gives (λ s. s) result (Err f) }
+    ensures only { (s : settings.Settings) → IsOpening features.now packages.now precious.now args.now env.now s
+        → Gives (λ s. s) result (Ok s) }
+    ensures fault { IfErr result (λ f. f ≢ OutOfMemory
+        → IsOpeningFault features.now packages.now precious.now args.now env.now f) }
+    ensures named { (f : faults.OptionFault) → IsOpeningFault features.now packages.now precious.now args.now env.now f
+        → Gives (λ s. s) result (Err f) }
     ensures exact { Gives (λ s. s) result (opening features.now packages.now precious.now args.now env.now) }
     ensures folder { IfOk result (λ s. s.srcdir ≡ srcdir_of args.now) }
 {

@@ -1,4 +1,4 @@
-//! Slashes at the end of a folder's name.
+//! Slashes at the end of a directory's name.
 
 ghost use Rattle.std.specs.Prelude.{◌≡◌};
 ghost use Rattle.options.specs.Slashes as words;

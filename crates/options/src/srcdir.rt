@@ -71,9 +71,11 @@ fn srcdir_named(args: &[Bytes]) -> &[u8]
     srcdir
 }
 
-/// The folder of the source that the arguments of a command line name, without final slashes; `.` where they name none.
+/// Returns the directory of the source that the arguments of a command line name, without final slashes, or `.` if they
+/// name none.
 ///
-/// Arguments at fault are passed over, so the folder can be told before anything else is read. It takes no memory.
+/// Arguments at fault are passed over, so the directory is known before anything else is read. If the arguments are right,
+/// [`Settings::srcdir`](crate::Settings::srcdir) is the same.
 #[tactic(auto, unfolding(crate::specs::Srcdir::srcdir_of))]
 pub fn srcdir_of(args: &[Bytes]) -> &[u8]
     ensures { result.now ≡ words.srcdir_of args.now }

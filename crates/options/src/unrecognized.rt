@@ -33,7 +33,7 @@ impl Unrecognized {
         }
     }
 
-    /// Puts an option last. It fails only for want of memory.
+    /// Puts an option last.
     pub(crate) fn push(&mut self, i: u64, option: &[u8]) -> Result<(), AllocError>
         ensures { OnOk result (self.new ≡ self.old ++ (i, option.now) ∷ []) }
     {
@@ -54,7 +54,7 @@ impl Unrecognized {
         put_rest(text, rest)
     }
 
-    /// What a user is told of the options.
+    /// The warning about the options.
     #[tactic(auto, unfolding(crate::specs::Unrecognized::warning))]
     fn warning(&self, alloc: Global) -> Result<Note, AllocError>
         ensures { IfOk result (λ note. note ≡ words.warning self.now) }
@@ -77,27 +77,27 @@ impl Unrecognized {
     }
 }
 
-/// Each option behind a comma and a blank.
+/// Puts each option after a comma and a blank.
 fn put_rest(text: &mut Vec<u8>, options: &[(u64, Bytes)]) -> Result<(), AllocError>
-    ensures { OnOk result (text.new.items ≡ text.old.items ++ flat_map words.behind_comma options.now) }
+    ensures { OnOk result (text.new.items ≡ text.old.items ++ flat_map words.after_comma options.now) }
 {
     for option in options {
-        put_behind_comma(text, option)?;
+        put_after_comma(text, option)?;
     }
     Ok(())
 }
 
-#[tactic(auto, unfolding(crate::specs::Unrecognized::behind_comma))]
-fn put_behind_comma(text: &mut Vec<u8>, option: &(u64, Bytes)) -> Result<(), AllocError>
-    ensures { OnOk result (text.new.items ≡ text.old.items ++ words.behind_comma option.now) }
+#[tactic(auto, unfolding(crate::specs::Unrecognized::after_comma))]
+fn put_after_comma(text: &mut Vec<u8>, option: &(u64, Bytes)) -> Result<(), AllocError>
+    ensures { OnOk result (text.new.items ≡ text.old.items ++ words.after_comma option.now) }
 {
     text.extend_from_slice(b", ")?;
     text.extend_from_slice(option.1.as_slice())?;
     Ok(())
 }
 
-/// What is made of options that are not declared: nothing where there is none, or where the value of
-/// `enable_option_checking` is `no`; `FatalUnrecognized` at the first where it is `fatal`; and else one warning.
+/// Returns the notes about options that are not declared: nothing if there is none, or if the value of
+/// `enable_option_checking` is `no`; `FatalUnrecognized` at the first if it is `fatal`; and otherwise one warning.
 #[tactic(auto, unfolding(crate::specs::Unrecognized::notes_of))]
 pub(crate) fn notes_of(
     alloc: Global,
