@@ -45,19 +45,22 @@ sources_in other = []
 unfoldable pub source_directory : List Setting → List ℕ
 source_directory settings = without_slashes (last_of (codes ".") (flat_map sources_in settings))
 
--- the setting turns this on
+-- the setting is `--quiet`
 abbrev pub is_quiet : Setting → Bool
 is_quiet (Switched Quiet) = true
 is_quiet other = false
 
+-- the setting is `--no-create`
 abbrev pub is_no_create : Setting → Bool
 is_no_create (Switched NoCreate) = true
 is_no_create other = false
 
+-- the setting is `--help`
 abbrev pub is_help : Setting → Bool
 is_help (Switched Help) = true
 is_help other = false
 
+-- the setting is `--version`
 abbrev pub is_version : Setting → Bool
 is_version (Switched Version) = true
 is_version other = false
