@@ -1,13 +1,14 @@
 -- What a statement adds to a source's lists leaves them within their limits.
-use Rattle.std.proofs.Common.{◌≡◌, ℕ, ◌+◌, ◌≤◌, ◌<◌, Bool, true, false, ◌||◌, List, [], ◌∷◌, ◌++◌, length, Result, Ok, Err, refl, sym, subst, cond, ◌∙◌, arith}
+use Rattle.std.proofs.Common.{◌≡◌, ℕ, ◌+◌, ◌≤◌, ◌<◌, Bool, true, false, ◌||◌, List, [], ◌∷◌, ◌++◌, length, Result, Ok, Err, refl, sym, ap, subst, cond, ◌∙◌, arith}
 use Rattle.std.specs.Prelude.{codes, bytes_eq, nat_lt, not}
+use Rattle.std.specs.List.{list_any, IsDistinct}
 use Rattle.std.specs.Set.{is_member}
 use Rattle.std.proofs.lemmas.Bool.{ltb-true, leb-true}
 use Rattle.std.proofs.lemmas.List.{length-append}
 use Rattle.std.proofs.lemmas.Map.Made.{length-le_from_is_member}
 use Rattle.std.specs.Cmp.Lexicographic.{nat_list_eq_equiv}
 use Rattle.deftable.specs.NameList.{with_name, has_name, AreDistinct}
-use Rattle.deftable.proofs.Names.{has_name-list_any, has_name-with_name, has_name-[], with_name-known, with_name-new, AreDistinct-with_name, AreDistinct-[]}
+use Rattle.deftable.proofs.Names.{has_name-with_name, has_name-[], with_name-known, with_name-new, AreDistinct-with_name}
 use Rattle.textcut.specs.Cuts.{fields}
 use Rattle.m4quote.specs.Entry.{Span}
 use Rattle.acargs.specs.declared.fault.ParseFault.{ParseFault}
@@ -45,6 +46,15 @@ use Rattle.acmacros.specs.Searches.{growth, output_variable, optional_text, comp
 use Rattle.acmacros.specs.Tries.{tried_program, tries}
 
 -- ---- lists of names
+
+has_name-list_any : (ns : List (List ℕ)) (k : List ℕ) → has_name ns k ≡ list_any (λ n. bytes_eq k n) ns
+unfolding has_name
+has_name-list_any [] k = refl
+has_name-list_any (n ∷ ns) k = ap (λ b. bytes_eq k n || b) (has_name-list_any ns k)
+
+AreDistinct-[] : AreDistinct []
+unfolding IsDistinct
+AreDistinct-[] = tt
 
 -- every name of one list is one of the other
 abbrev IsPart : List (List ℕ) → List (List ℕ) → Type 0
@@ -108,8 +118,8 @@ room_for_five ns a b c d e room =
 pub precious_count : (c : scene.Scene) → IsWithinLimits c → length c.precious ≤ 1024
 precious_count c h =
     let few : length c.precious ≤ length c.substituted =
-        length-le_from_is_member nat_list_eq_equiv c.precious c.substituted h.distinct
-        (λ q e. sym (has_name-list_any c.substituted q) ∙ h.precious q (has_name-list_any c.precious q ∙ e)) in
+    length-le_from_is_member nat_list_eq_equiv c.precious c.substituted h.distinct
+    (λ q e. sym (has_name-list_any c.substituted q) ∙ h.precious q (has_name-list_any c.precious q ∙ e)) in
     omega (arith, few, h.substituted)
 
 -- ---- files

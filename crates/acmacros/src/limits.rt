@@ -18,5 +18,4 @@ pub fn lists_are_within_limits()
     ensures statement { (c : Scene) (m : PlainMacro) (at : ℕ) (args : List Span) (s : Plain) → plain_of c m at args ≡ Ok s → IsWithinLimits c → IsWithinLimits (after c s) }
     ensures question { (c : Scene) (m : QuestionMacro) (args : List Span) (q : Question) → question_of c m args ≡ Ok q → IsWithinLimits c → IsWithinLimits (after_question c q) }
     ensures precious { (c : Scene) → IsWithinLimits c → length c.precious ≤ 1024 }
-{
-}
+{}

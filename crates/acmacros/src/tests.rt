@@ -1,7 +1,8 @@
 //! An ordinary answer of each public call.
 
-use crate::macros::{ArgumentMacro, ChoiceMacro, Macro, Named, PlainMacro};
-use crate::macros::{look_up, macro_named, takes};
+use crate::macros::{
+    ArgumentMacro, ChoiceMacro, Macro, Named, PlainMacro, look_up, macro_named, takes,
+};
 use crate::rows::plain;
 use crate::scene::{Scene, Stage, as_statement, bare_fault, check_place, note};
 use crate::statement::Plain;
@@ -78,7 +79,10 @@ fn places(rt: HostRuntime) {
     let help = Named::Argument(ArgumentMacro::HelpString);
     let fault = Err(ParseFault::UnknownStatement(3));
     assert_eq!(rt; as_statement(Stage::Open, 3, help), fault);
-    assert_eq!(rt; as_statement(Stage::Open, 3, Named::Statement(files)), Ok(files));
+    assert_eq!(rt;
+        as_statement(Stage::Open, 3, Named::Statement(files)),
+        Ok(files)
+    );
 }
 
 #[test]

@@ -1,145 +1,63 @@
 //! AS_IF and AS_CASE, and the lists of statements in them.
 
-use crate::macro_tests::push_all;
-use crate::tests::{assert_count, assert_fault, source_with};
-use crate::{Case, ParseFault, Stmt, When, parse};
+use crate::table::{Form, assert_count, assert_fault, assert_rows, read, source_with};
+use crate::{ParseFault, parse};
 use m4quote::QuoteFault;
-use shellword::ShellFault;
 use std::alloc::{AllocError, Global};
-use std::process::Abort;
 use std::test::Fail;
-
-pub(crate) fn assert_fault_in(
-    rt: &impl Abort,
-    alloc: Global,
-    lines: &[u8],
-    fault: ParseFault,
-) -> Result<(), AllocError> {
-    let text = source_with(alloc, lines)?;
-    assert_fault(rt, alloc, &text, fault);
-    Ok(())
-}
-
-/// Each case: `t` for a test, `p` for patterns, `y` and `n` for answers, `*` for the default, and its statements in short.
-fn push_cases(out: &mut Vec<u8>, cases: &[Case]) -> Result<(), AllocError> {
-    for case in cases {
-        match &case.when {
-            When::Holds(_) => out.push(b't')?,
-            When::Matches(_) => out.push(b'p')?,
-            When::Yes => out.push(b'y')?,
-            When::No => out.push(b'n')?,
-            When::Always => out.push(b'*')?,
-        }
-        push_all(out, case.body.as_slice())?;
-        out.push(b'\n')?;
-    }
-    Ok(())
-}
-
-/// The cases of a source's second statement in short.
-pub(crate) fn said(alloc: Global, text: &[u8]) -> Result<Vec<u8>, Fail> {
-    let source = parse(alloc, text)?;
-    let mut out = Vec::new(alloc);
-    if let [_, Stmt::Choose { cases, .. }, ..] = source.statements.as_slice() {
-        push_cases(&mut out, cases.as_slice())?;
-    }
-    Ok(out)
-}
 
 #[test]
 fn choices(rt: HostRuntime) -> Result<(), Fail> {
-    let cases = [
-        (b"AS_IF([:],[a=1])".as_slice(), b"t a=1\n".as_slice()),
-        (b"AS_IF([:],[a=1],[b=2])", b"t a=1\n* b=2\n"),
-        (
-            b"AS_IF([test x = y],[a=1],[false],[b=2],[c=3])",
-            b"t a=1\nt b=2\n* c=3\n",
-        ),
-        // A default that is empty is none; one of a comment is one.
-        (b"AS_IF([:],[],[])", b"t\n"),
-        (b"AS_IF([:],[],[# c])", b"t\n*\n"),
-        (
-            b"AS_CASE([$a],[x|y*],[a=1 b=2],[z],[:],[c=3])",
-            b"p a=1 b=2\np\n* c=3\n",
-        ),
-        (b"AS_CASE([$a],[a=1])", b"* a=1\n"),
-        // A list within a list
-        (b"AS_IF([:],[a=1; AS_IF([:],[b=2]); c=3])", b"t a=1 ? c=3\n"),
-        // without quotes
-        (
-            b"AS_IF([:],a=1,AC_SUBST([b],[c])\nb=2)",
-            b"t a=1\n* @b=c b=2\n",
-        ),
-        (b"AS_IF([:],AS_IF([:],a=1))", b"t ?\n"),
-        // blanks and dropped lines round a quoted run
-        (b"AS_IF([:],[a=1] dnl x\n)", b"t a=1\n"),
-        (b"AS_IF([:],dnl x ]\n\t[a=1]\n)", b"t a=1\n"),
-    ];
-    for (lines, wanted) in cases {
-        let text = source_with(rt.alloc(), lines)?;
-        let read = said(rt.alloc(), &text)?;
-        assert!(rt; read.as_slice() == wanted, "{lines:?}: {read:?}");
-    }
-    Ok(())
+    let rows = b"\
+        AS_IF([:],[a=1]) => t a=1\n\0\
+        AS_IF([:],[a=1],[b=2]) => t a=1\n* b=2\n\0\
+        AS_IF([test x = y],[a=1],[false],[b=2],[c=3]) => t a=1\nt b=2\n* c=3\n\0\
+        // A default that is empty is none; one of a comment is one.\0\
+        AS_IF([:],[],[]) => t\n\0\
+        AS_IF([:],[],[# c]) => t\n*\n\0\
+        AS_CASE([$a],[x|y*],[a=1 b=2],[z],[:],[c=3]) => p a=1 b=2\np\n* c=3\n\0\
+        AS_CASE([$a],[a=1]) => * a=1\n\0\
+        // A list within a list\0\
+        AS_IF([:],[a=1; AS_IF([:],[b=2]); c=3]) => t a=1 ? c=3\n\0\
+        // without quotes\0\
+        AS_IF([:],a=1,AC_SUBST([b],[c])\nb=2) => t a=1\n* @b=c b=2\n\0\
+        AS_IF([:],AS_IF([:],a=1)) => t ?\n\0\
+        // blanks and dropped lines round a quoted run\0\
+        AS_IF([:],[a=1] dnl x\n) => t a=1\n\0\
+        AS_IF([:],dnl x ]\n\t[a=1]\n) => t a=1\n\0\
+    "
+        .as_slice();
+    assert_rows(&rt, rt.alloc(), Form::Cases, rows)
 }
 
 #[test]
 fn faults_of_choices(rt: HostRuntime) -> Result<(), Fail> {
-    let cases = [
-        (b"AS_IF".as_slice(), ParseFault::ArgCount(17)),
-        (b"AS_IF([:])", ParseFault::ArgCount(17)),
-        (b"AS_CASE([a])", ParseFault::ArgCount(17)),
-        (
-            b"AS_IF([test a -eq b],[])",
-            ParseFault::Shell(ShellFault::BadTest(0), 23),
-        ),
-        (
-            b"AS_IF([: && `],[])",
-            ParseFault::Shell(ShellFault::BadWord(5), 23),
-        ),
-        (
-            b"AS_CASE([`],[`],[])",
-            ParseFault::Shell(ShellFault::BadWord(0), 25),
-        ),
-        (
-            b"AS_CASE([a],[[[ab]]],[])",
-            ParseFault::Shell(ShellFault::BadPattern(0), 29),
-        ),
-        (
-            b"AS_CASE([a],[],[])",
-            ParseFault::Shell(ShellFault::BadPattern(0), 29),
-        ),
-        // The pairs are read in turn.
-        (b"AS_IF([:],[x],[`],[])", ParseFault::UnknownStatement(28)),
-        (
-            b"AS_IF([:],[],[`],[x],[])",
-            ParseFault::Shell(ShellFault::BadWord(0), 30),
-        ),
-        // What stands in the file's own list alone
-        (
-            b"AS_IF([:],[AC_CONFIG_FILES([a])])",
-            ParseFault::NotAtTop(28),
-        ),
-        (b"AS_IF([:],[AC_OUTPUT])", ParseFault::NotAtTop(28)),
-        (b"AS_IF([:],[AC_PREREQ([2])])", ParseFault::NotAtTop(28)),
-        (
-            b"AS_CASE([a],AC_CONFIG_SRCDIR([a]))",
-            ParseFault::NotAtTop(29),
-        ),
-        (b"AS_IF([:],[a=1\nAC_NOPE])", ParseFault::UnknownMacro(32)),
-        (
-            b"AS_IF([:],a=1,AC_SUBST([b]) b=2)",
-            ParseFault::UnknownStatement(31),
-        ),
-        // not one run, and brackets outside calls
-        (b"AS_IF([:],a=[1])", ParseFault::UnknownStatement(27)),
-        (b"AS_IF([:],[a=1][b=2])", ParseFault::UnknownStatement(27)),
-        (b"AS_IF([:],a=1 # ]\n)", ParseFault::UnknownStatement(27)),
-    ];
-    for (lines, fault) in cases {
-        assert_fault_in(&rt, rt.alloc(), lines, fault)?;
-    }
-    Ok(())
+    let rows = b"\
+        AS_IF => ArgCount(17)\0\
+        AS_IF([:]) => ArgCount(17)\0\
+        AS_CASE([a]) => ArgCount(17)\0\
+        AS_IF([test a -eq b],[]) => Shell(BadTest(0), 23)\0\
+        AS_IF([: && `],[]) => Shell(BadWord(5), 23)\0\
+        AS_CASE([`],[`],[]) => Shell(BadWord(0), 25)\0\
+        AS_CASE([a],[[[ab]]],[]) => Shell(BadPattern(0), 29)\0\
+        AS_CASE([a],[],[]) => Shell(BadPattern(0), 29)\0\
+        // The pairs are read in turn.\0\
+        AS_IF([:],[x],[`],[]) => UnknownStatement(28)\0\
+        AS_IF([:],[],[`],[x],[]) => Shell(BadWord(0), 30)\0\
+        // macros that the file's own list alone may hold\0\
+        AS_IF([:],[AC_CONFIG_FILES([a])]) => NotAtTop(28)\0\
+        AS_IF([:],[AC_OUTPUT]) => NotAtTop(28)\0\
+        AS_IF([:],[AC_PREREQ([2])]) => NotAtTop(28)\0\
+        AS_CASE([a],AC_CONFIG_SRCDIR([a])) => NotAtTop(29)\0\
+        AS_IF([:],[a=1\nAC_NOPE]) => UnknownMacro(32)\0\
+        AS_IF([:],a=1,AC_SUBST([b]) b=2) => UnknownStatement(31)\0\
+        // not one run, and brackets outside calls\0\
+        AS_IF([:],a=[1]) => UnknownStatement(27)\0\
+        AS_IF([:],[a=1][b=2]) => UnknownStatement(27)\0\
+        AS_IF([:],a=1 # ]\n) => UnknownStatement(27)\0\
+    "
+        .as_slice();
+    assert_rows(&rt, rt.alloc(), Form::Cases, rows)
 }
 
 #[test]
@@ -192,9 +110,8 @@ fn long_choices(rt: HostRuntime) -> Result<(), Fail> {
         lines.extend_from_slice(b",[b],[]")?;
     }
     lines.push(b')')?;
-    let text = source_with(rt.alloc(), &lines)?;
     // two bytes of each case: `p` and a newline
-    assert_eq!(rt; said(rt.alloc(), &text)?.len(), 120_000);
+    assert_eq!(rt; read(rt.alloc(), Form::Cases, &lines)?.len(), 120_000);
     let mut text = Vec::new(rt.alloc());
     for _i in 0..174_762 {
         text.extend_from_slice(b"AS_IF(")?;

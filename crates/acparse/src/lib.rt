@@ -26,4 +26,6 @@ mod option_tests;
 #[cfg(test)]
 mod probe_tests;
 #[cfg(test)]
+mod table;
+#[cfg(test)]
 mod tests;
