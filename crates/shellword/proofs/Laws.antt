@@ -20,7 +20,7 @@ use Rattle.shellword.proofs.TestReading.{test-read, read-test}
 use Rattle.shellword.proofs.PatternReading.{patterns-read, read-patterns, cut_found, alternatives-fault, uncut-fault}
 use Rattle.shellword.proofs.TestFaults.{joined-fault}
 use Rattle.shellword.specs.WordFaults.{IsBadWord, IsBadFront, IsBadHere, IsRefusal}
-use Rattle.shellword.specs.Gives.{Gives, Fails}
+use Rattle.shellword.specs.Gives.{Gives}
 use Rattle.shellword.proofs.WordFaults.{Fault, word-fault, word_front-fault, here-fault, cut-fault, word-bad, bad-word, front-bad, bad-front, here-bad, bad-here}
 
 pub word_reading : (text : List ℕ) (parts : List Part) → (word_of text ≡ Ok parts) ↔ IsWord text parts

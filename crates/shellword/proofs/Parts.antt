@@ -1,16 +1,14 @@
 -- The parts of words and here texts are what the reader's steps find.
-use Rattle.std.proofs.Common.{◌≡◌, ℕ, suc, ◌+◌, ◌<◌, ◌≤◌, Bool, true, false, not, ◌&&◌, ◌||◌, ◌==◌, cond, inl, inr, List, [], ◌∷◌, ◌++◌, length, map, take, drop, Option, Some, None, option_to_list, refl, sym, ap, subst, ◌∙◌, append_assoc, arith}
-use Rattle.std.specs.List.{list_all}
-use Rattle.std.proofs.lemmas.Bool.{eqb-true, and_parts, or_cases, cases_Bool}
+use Rattle.std.proofs.Common.{◌≡◌, ℕ, suc, ◌+◌, ◌<◌, ◌≤◌, Bool, true, false, not, ◌||◌, ◌==◌, inl, inr, List, [], ◌∷◌, ◌++◌, length, map, take, drop, Option, Some, None, option_to_list, refl, sym, ap, subst, ◌∙◌, arith}
+use Rattle.std.proofs.lemmas.Bool.{eqb-true, and_parts, or_cases}
 use Rattle.std.proofs.lemmas.List.{drop-drop, length-drop, take-append-drop}
 use Rattle.std.proofs.Math.Seq.{take-append_seam, drop-append_seam, drop-append-add}
-use Rattle.deftable.specs.ShellName.{continues_name, IsShellName}
 use Rattle.shellword.specs.declared.part.Part.{Part}
 use Rattle.shellword.specs.declared.part.Part.TheVariants.{Plain, Quoted, Variable}
 use Rattle.shellword.specs.declared.front.Context.{Context}
 use Rattle.shellword.specs.declared.front.Context.TheVariants.{Bare, Single, Double, Here}
 use Rattle.shellword.specs.declared.front.Front.{Front}
-use Rattle.shellword.specs.Text.{single_quote, double_quote, backslash, dollar, backquote, newline, open_brace, close_brace, name_len, expands_bare, expands_in_double, expands_here, escapes_in_double, escapes_here, begins, has_no, stands_alone, ends_word, word_ends}
+use Rattle.shellword.specs.Text.{single_quote, double_quote, backslash, dollar, backquote, newline, open_brace, close_brace, name_len, expands_here, escapes_here, has_no, stands_alone, word_ends}
 use Rattle.shellword.specs.Contexts.{is_special, escapes, escapes_front, escaped_part, byte_in, is_over, is_quoted}
 use Rattle.shellword.specs.Scan.{front}
 use Rattle.shellword.specs.Word as w

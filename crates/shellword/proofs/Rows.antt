@@ -3,11 +3,10 @@
 use Rattle.std.proofs.Common.{◌≡◌, ℕ, true, false, List, [], ◌∷◌, ◌++◌, Ok, Err, refl, codes}
 use Rattle.deftable.specs.Table.{value_of}
 use Rattle.shellword.specs.declared.fault.ShellFault.TheVariants.{BadWord, BadTest, BadPattern}
-use Rattle.shellword.specs.declared.part.Part.{Part}
 use Rattle.shellword.specs.declared.part.Part.TheVariants.{Plain, Quoted, Variable}
 use Rattle.shellword.specs.declared.element.Condition.TheVariants.{Nonempty, Equal}
 use Rattle.shellword.specs.declared.pattern.Piece.TheVariants.{AnyBytes, OneByte, Byte}
-use Rattle.shellword.specs.declared.token.Joint.TheVariants.{And, Or}
+use Rattle.shellword.specs.declared.token.Joint.TheVariants.{And}
 use Rattle.shellword.specs.Scan.{front_of, scan, word_of, word_front_of, here_of}
 use Rattle.shellword.specs.Cut.{token_at, tokens_of}
 use Rattle.shellword.specs.Element.{plainly, element_of}

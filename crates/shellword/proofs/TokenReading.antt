@@ -1,10 +1,7 @@
 -- The tokens of a text are what the reader cuts it into.
 use Rattle.std.proofs.Common.{◌≡◌, ℕ, zero, suc, ◌+◌, ◌-◌, ◌<◌, ◌≤◌, Bool, true, false, ◌||◌, ◌==◌, inl, inr, List, [], ◌∷◌, length, drop, Result, Ok, refl, sym, ap, subst, ◌∙◌, arith}
 use Rattle.std.proofs.lemmas.Bool.{eqb-true}
-use Rattle.std.proofs.lemmas.List.{length-drop}
 use Rattle.shellword.specs.declared.fault.ShellFault.{ShellFault}
-use Rattle.shellword.specs.declared.part.Part.{Part}
-use Rattle.shellword.specs.declared.front.Context.{Context}
 use Rattle.shellword.specs.declared.front.Context.TheVariants.{Bare}
 use Rattle.shellword.specs.declared.token.Joint.TheVariants.{And, Or}
 use Rattle.shellword.specs.declared.token.Token.{Token}
@@ -12,11 +9,9 @@ use Rattle.shellword.specs.declared.token.Token.TheVariants.{Word, Join, Bar}
 use Rattle.shellword.specs.Text.{is_space, newline, ampersand, bar, ends_word, begins_with}
 use Rattle.shellword.specs.Scan.{◌>>=◌, scan}
 use Rattle.shellword.specs.Cut.{ampersand_at, bar_at, token_at, tokens_of}
-use Rattle.shellword.specs.Word.{AreWordParts, BeginsAt}
-use Rattle.shellword.proofs.Parts.{word-run, run-word, word_runs}
+use Rattle.shellword.proofs.Parts.{run-word, word_runs}
 use Rattle.shellword.specs.Tokens.{IsToken, line_end, both, either, lone_bar, a_word, AreTokens, no_more, space, next}
 use Rattle.shellword.proofs.Outcome.{chosen, failed, ok_is, bind_ok}
-use Rattle.shellword.proofs.Fronts.{front-len}
 use Rattle.shellword.proofs.Words.{run-scan, scan-found, moved}
 use Rattle.shellword.proofs.Tokens.{tokens_space, tokens_token}
 

@@ -1,10 +1,8 @@
 -- Names of variables: the longest one at the front of a text.
-use Rattle.std.proofs.Common.{◌≡◌, ℕ, suc, ◌+◌, ◌<◌, Bool, true, false, cond, List, [], ◌∷◌, ◌++◌, length, take, drop, refl, sym, ap, subst, ◌∙◌, arith}
+use Rattle.std.proofs.Common.{◌≡◌, ℕ, suc, ◌+◌, ◌<◌, Bool, true, false, cond, List, [], ◌∷◌, ◌++◌, length, take, drop, refl, arith}
 use Rattle.std.specs.List.{prefix_len, list_all}
 use Rattle.std.proofs.lemmas.Bool.{and_parts}
-use Rattle.std.proofs.lemmas.List.{take-append-drop}
-use Rattle.std.proofs.Math.Seq.{take-append_seam, drop-append_seam}
-use Rattle.deftable.specs.ShellName.{starts_name, continues_name, is_shell_name_of, IsShellName}
+use Rattle.deftable.specs.ShellName.{starts_name, continues_name, IsShellName}
 use Rattle.shellword.specs.Text.{name_len, begins}
 
 -- ---- a name that no byte of a name follows is the longest one

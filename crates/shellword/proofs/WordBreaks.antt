@@ -1,17 +1,16 @@
 -- Where words and here texts are refused is where the reader's functions fail.
-use Rattle.std.proofs.Common.{◌≡◌, ℕ, zero, suc, ◌+◌, ◌-◌, ◌<◌, ◌≤◌, Bool, true, false, not, ◌&&◌, ◌||◌, ◌==◌, eqb, ltb, cond, ◌⊎◌, inl, inr, List, [], ◌∷◌, ◌++◌, length, take, drop, Option, Some, None, option_to_list, Result, Ok, Err, refl, sym, ap, subst, ◌∙◌, arith}
-use Rattle.std.proofs.lemmas.Bool.{eqb-true, ltb-true, cases_Bool}
+use Rattle.std.proofs.Common.{◌≡◌, ℕ, zero, suc, ◌+◌, ◌-◌, ◌≤◌, Bool, true, false, ◌&&◌, ◌==◌, ltb, ◌⊎◌, inl, inr, List, [], ◌∷◌, ◌++◌, length, take, drop, Option, option_to_list, Result, Ok, Err, refl, sym, ap, subst, ◌∙◌, arith}
+use Rattle.std.proofs.lemmas.Bool.{eqb-true, ltb-true}
 use Rattle.std.proofs.lemmas.List.{length-drop, append-nil}
 use Rattle.shellword.specs.declared.fault.ShellFault.{ShellFault}
 use Rattle.shellword.specs.declared.fault.ShellFault.TheVariants.{BadWord}
 use Rattle.shellword.specs.declared.part.Part.{Part}
-use Rattle.shellword.specs.declared.part.Part.TheVariants.{Quoted}
 use Rattle.shellword.specs.declared.front.Context.{Context}
 use Rattle.shellword.specs.declared.front.Context.TheVariants.{Bare, Single, Double, Here}
 use Rattle.shellword.specs.declared.front.Front.{Front}
-use Rattle.shellword.specs.Text.{single_quote, double_quote, backslash, dollar, backquote, open_brace, close_brace, name_len, has_no, stands_alone}
+use Rattle.shellword.specs.Text.{single_quote, double_quote, backslash, dollar, backquote, open_brace, name_len, has_no, stands_alone}
 use Rattle.shellword.specs.Contexts.{is_special, closes_brace, is_over, is_quoted}
-use Rattle.shellword.specs.Scan.{◌>>=◌, backslash_front, braced_front, dollar_front, quote_context, front_of, close, scan}
+use Rattle.shellword.specs.Scan.{◌>>=◌, braced_front, dollar_front, front_of, close, scan}
 use Rattle.shellword.specs.Word as w
 use Rattle.shellword.specs.Word.{IsVariable, AreDoubleParts, IsWordPart, IsHerePart}
 use Rattle.shellword.specs.WordFaults as refusals
@@ -19,7 +18,7 @@ use Rattle.shellword.specs.WordFaults.{BeginsRefused, command, expansion, WordBr
 use Rattle.shellword.proofs.Steps as s
 use Rattle.shellword.proofs.Steps.{IsFront, Breaks}
 use Rattle.shellword.proofs.Outcome.{chosen, passed, fault_is, bind_err}
-use Rattle.shellword.proofs.Fronts.{Begins, front-read, read-front, front-len, both, brace_there}
+use Rattle.shellword.proofs.Fronts.{front-read, read-front, front-len, both, brace_there}
 use Rattle.shellword.proofs.Parts.{Leads, PartOf, bare, single, double, here, Found, step_found, variable_leads, variable_is, braced_is, single_carry, double_carry, word_part_carry, here_part_carry}
 use Rattle.shellword.proofs.Parts as parts
 use Rattle.shellword.proofs.Runs.{with_parts, scan_failed, scan_front}

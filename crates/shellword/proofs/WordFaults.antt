@@ -1,5 +1,5 @@
 -- Which fault a text that is no word or here text has, and where.
-use Rattle.std.proofs.Common.{◌≡◌, ℕ, zero, suc, ◌+◌, ◌-◌, ◌≤◌, Bool, true, ◌&&◌, ltb, ◌==◌, cond, inl, inr, List, [], ◌∷◌, ◌++◌, length, drop, Result, Ok, Err, refl, sym, ap, ◌∙◌, arith}
+use Rattle.std.proofs.Common.{◌≡◌, ℕ, zero, suc, ◌+◌, ◌-◌, ◌≤◌, Bool, true, ◌==◌, cond, inl, inr, List, [], ◌∷◌, length, drop, Result, Ok, Err, refl, sym, ap, ◌∙◌, arith}
 use Rattle.std.specs.List.{list_all}
 use Rattle.shellword.specs.declared.fault.ShellFault.{ShellFault}
 use Rattle.shellword.specs.declared.fault.ShellFault.TheVariants.{BadWord}
@@ -7,14 +7,12 @@ use Rattle.shellword.specs.declared.part.Part.{Part}
 use Rattle.shellword.specs.declared.front.Context.{Context}
 use Rattle.shellword.specs.declared.front.Context.TheVariants.{Bare, Here}
 use Rattle.shellword.specs.declared.token.Token.TheVariants.{Word}
-use Rattle.shellword.specs.Text.{backslash, dollar, backquote, newline, ampersand, bar, open_brace, name_len, stands_alone, is_blank, is_space, begins_with, ends_word, word_ends, is_parted}
-use Rattle.shellword.specs.Contexts.{is_special, closes_brace, is_over, is_quoted}
-use Rattle.shellword.specs.Scan.{◌>>=◌, braced_front, dollar_front, front_of, close, scan, word_of, word_front_of, here_of}
+use Rattle.shellword.specs.Text.{newline, ampersand, bar, is_blank, is_space, begins_with, ends_word, word_ends, is_parted}
+use Rattle.shellword.specs.Scan.{◌>>=◌, scan, word_of, word_front_of, here_of}
 use Rattle.shellword.specs.Cut.{ampersand_at, bar_at, token_at, tokens_of}
 use Rattle.shellword.specs.Word.{AreWordParts, BeginsAt}
 use Rattle.shellword.specs.WordFaults.{WordBreaks, IsBadWord, word_breaks, goes_on, IsBadFront, front_breaks, operator, IsBadHere}
 use Rattle.shellword.proofs.Outcome.{chosen, passed, fault_is, bind_err}
-use Rattle.shellword.proofs.Fronts.{read-front, front-len}
 use Rattle.shellword.proofs.Words.{run-front, front-run}
 use Rattle.shellword.proofs.Parts.{word-run, run-word}
 use Rattle.shellword.proofs.WordBreaks.{BreaksAt, scan-breaks, breaks-scan, word-breaks, here-breaks, breaks-word, breaks-here}

@@ -1,5 +1,5 @@
 -- Which test a text is (POSIX shell, 2.9.2 and 2.9.3, and `test`).
-use Rattle.std.specs.Prelude.{◌≡◌, ℕ, false, List, [], ◌∷◌, ◌++◌, length, ◌≤◌, map, Some, IsTrue}
+use Rattle.std.specs.Prelude.{◌≡◌, ℕ, false, List, ◌∷◌, ◌++◌, length, ◌≤◌, map, Some, IsTrue}
 use Rattle.std.specs.List.{list_all}
 use Rattle.shellword.specs.declared.fault.ShellFault.{ShellFault}
 use Rattle.shellword.specs.declared.fault.ShellFault.TheVariants.{BadWord, BadTest, BadPattern, OutOfMemory}

@@ -1,6 +1,5 @@
 -- When a test holds (POSIX shell, 2.9.3, and `test`).
-use Rattle.std.specs.Prelude.{◌≡◌, ℕ, Bool, true, false, ◌&&◌, ◌||◌, not, List, [], ◌∷◌, ◌++◌, length, bytes_eq, ◌==◌, if◌then◌else◌, refl}
-use Rattle.std.proofs.Common.{ap, ◌∙◌}
+use Rattle.std.specs.Prelude.{ℕ, Bool, true, false, ◌&&◌, ◌||◌, not, List, length, bytes_eq, ◌==◌, if◌then◌else◌}
 use Rattle.shellword.specs.declared.element.Condition.{Condition}
 use Rattle.shellword.specs.declared.element.Condition.TheVariants.{True, False, Nonempty, Empty, Equal, Different}
 use Rattle.shellword.specs.declared.element.Element.{Element}
