@@ -1,9 +1,9 @@
 -- The quotes of bare text are those of shell words.
-use Rattle.std.proofs.Common.{◌≡◌, ℕ, Bool, true, false, not, ◌&&◌, ◌||◌, ◌==◌, inl, inr, List, [], ◌∷◌, ◌++◌, map, refl, sym, ap, subst, ◌∙◌, append_assoc}
+use Rattle.std.proofs.Common.{◌≡◌, ℕ, Bool, true, false, not, ◌&&◌, ◌==◌, inl, inr, List, [], ◌∷◌, ◌++◌, refl, sym, ap, subst, ◌∙◌, append_assoc}
 use Rattle.std.specs.List.{list_all}
 use Rattle.std.proofs.lemmas.Bool.{eqb-true, and_parts, cases_Bool}
 use Rattle.std.proofs.lemmas.List.{append-nil}
-use Rattle.deftable.specs.ShellName.{continues_name, IsShellName}
+use Rattle.deftable.specs.ShellName.{continues_name}
 use Rattle.shellword.specs.declared.part.Part.{Part}
 use Rattle.shellword.specs.Text.{single_quote, double_quote, backslash, newline, dollar, open_brace, close_brace, escapes_in_double, expands_in_double, expands_bare, begins, has_no, ends_word}
 use Rattle.shellword.specs.Word as w
