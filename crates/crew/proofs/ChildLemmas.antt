@@ -1,7 +1,7 @@
 -- Lemmas on what a real child is asked for and answers.
-use Rattle.std.proofs.Common.{◌≡◌, ◌≢◌, true, false, is_some, unwrap_or, fold, ℕ, zero, suc, ◌≤◌, ◌<◌, ◌⊎◌, ◌+◌, ◌-◌, List, [], ◌∷◌, ◌++◌, All, IsUtf8, length, take, refl, sym, ap, ◌∙◌, subst, arith, append_assoc, length-append, Option, Some, None, inl, inr, min, get_or, Result, Ok, Err, is_ok, OnOk, if◌then◌else◌}
+use Rattle.std.proofs.Common.{◌≡◌, ◌≢◌, true, false, is_some, unwrap_or, fold, ℕ, zero, suc, ◌≤◌, ◌<◌, ◌⊎◌, ◌+◌, ◌-◌, List, [], ◌∷◌, ◌++◌, IsUtf8, length, take, refl, sym, ap, ◌∙◌, subst, arith, length-append, Option, Some, None, inl, inr, min, get_or, Result, Ok, Err, is_ok, OnOk, if◌then◌else◌}
 use Rattle.std.proofs.Math.Seq.{take-append-add}
-use Rattle.std.proofs.lemmas.List.{append-nil, length-take, length-take-le, take_min, take_more}
+use Rattle.std.proofs.lemmas.List.{append-nil, length-take, length-take-le, take_min}
 use Rattle.std.proofs.lemmas.List.Elements.{All-get_or}
 use Rattle.std.proofs.lemmas.List.Sums.{fold-append}
 use Rattle.std.proofs.KnownBytes.{Consumes-trans}
@@ -12,7 +12,7 @@ use Rattle.crew.specs.declared.event.CrewEvent.{CrewEvent}
 use Rattle.crew.specs.declared.event.CrewEvent.TheVariants.{Started, Ended}
 use Rattle.crew.specs.declared.reply.Reply.{Reply}
 use Rattle.crew.specs.Sound.{ListsBusy}
-use Rattle.crew.specs.Launch.{Adds, AreCommand, Call, Wrote, Spawned, Failed, Run, Runs, failing, jobs_of, launch, run_after, run_of, writing}
+use Rattle.crew.specs.Launch.{Adds, AreCommand, Call, Spawned, Failed, Run, Runs, failing, jobs_of, launch, run_after, writing}
 
 -- what is kept of a piece
 pub kept_take : (text piece : List ℕ) → length text ≤ 65536 → text ++ take (min (65536 - length text) (length piece)) piece ≡ take 65536 (text ++ piece)

@@ -3,9 +3,9 @@ use Rattle.std.proofs.Common.{◌≡◌, ℕ, ◌<◌, ◌≤◌, Bool, true, fa
 use Rattle.std.specs.Bool.{IsTrue}
 use Rattle.std.proofs.Math.ListN.{get_or-map}
 use Rattle.std.proofs.lemmas.List.{length-map, get_or_default}
-use Rattle.std.specs.Prelude.{◌⊎◌, Result, Ok, Err, Option, Some, None, IfOk}
+use Rattle.std.specs.Prelude.{◌⊎◌, Result, Ok, Err, Option, Some, None, IfOk, IfSome}
 use Rattle.std.proofs.Common.{inl, inr}
-use Rattle.runner.specs.Standin.{IsBarred, IsFirstBarred, HasNoBarred, Answers, IsAnswered, lines_of, conftest_name, is_meeting, waiting, barred, passed, met, waited}
+use Rattle.runner.specs.Standin.{IsBarred, IsFirstBarred, HasNoBarred, Answers, IsAnswered, lines_of, list_name, conftest_name, conftest_of, is_meeting, waiting, barred, passed, met, waited}
 
 not_true : (b : Bool) → b ≡ false → IsTrue b → ⊥
 not_true b is t = cc
@@ -45,3 +45,32 @@ judged_status words list conftest name (Ok s) plain is unnamed refuses accepts c
   ];
 }
 judged_status words list conftest name (Err e) plain is unnamed refuses accepts cases = tt
+
+-- ---- the status on known texts
+
+pub met_known : {E : Type 0} (o : Option (List ℕ → List ℕ)) (words : List (List ℕ)) (list : List ℕ) (name : Option (List ℕ)) (r : Result ℕ E) → is_meeting list ≡ true → name ≡ conftest_name words → IfSome o (λ t. list ≡ t list_name)
+    → IfOk r (λ s. (s ≡ 0) ⊎ (s ≡ 1)) → IfOk r (λ s. s ≡ 1 → name ≡ Some waiting) → IfOk r (λ s. IfSome o (λ t. Answers words (t list_name) (conftest_of t (conftest_name words)) s))
+met_known o words list name (Err e) meeting is same cases waits = tt
+met_known None words list name (Ok s) meeting is same cases waits = tt
+met_known (Some t) words list name (Ok s) meeting is same cases waits =
+    let conftest = conftest_of t (conftest_name words) in
+    subst (λ l. Answers words l conftest s) same (elim cases [
+      | inl zero ↦ subst (Answers words list conftest) (sym zero) (met meeting)
+      | inr one ↦ subst (Answers words list conftest) (sym one) (waited meeting (sym is ∙ waits one))
+    ])
+
+pub judged_known : {E : Type 0} (o : Option (List ℕ → List ℕ)) (words : List (List ℕ)) (list conftest : List ℕ) (name : Option (List ℕ)) (r : Result ℕ E) → is_meeting list ≡ false → name ≡ conftest_name words → IfSome o (λ t. list ≡ t list_name) → IfSome o (λ t. conftest ≡ conftest_of t name)
+    → IfOk r (λ s. s ≡ 1 → (line : List ℕ) × IsFirstBarred list conftest line) → IfOk r (λ s. s ≡ 0 → HasNoBarred list conftest) → IfOk r (λ s. (s ≡ 0) ⊎ (s ≡ 1)) → IfOk r (λ s. IfSome o (λ t. Answers words (t list_name) (conftest_of t (conftest_name words)) s))
+judged_known o words list conftest name (Err e) plain is same text refuses accepts cases = tt
+judged_known None words list conftest name (Ok s) plain is same text refuses accepts cases = tt
+judged_known (Some t) words list conftest name (Ok s) plain is same text refuses accepts cases =
+    let answer : Answers words list conftest s = elim cases [
+      | inl zero ↦ subst (Answers words list conftest) (sym zero) (passed plain (accepts zero))
+      | inr one ↦ subst (Answers words list conftest) (sym one) (barred plain (refuses one).1)
+    ] in
+    subst (λ l. Answers words l (conftest_of t (conftest_name words)) s) same (subst (λ x. Answers words list x s) (text ∙ ap (conftest_of t) is) answer)
+
+-- what was read, seen as a slice
+pub known_slice : (o : Option (List ℕ → List ℕ)) (slice items : List ℕ) (of : (List ℕ → List ℕ) → List ℕ) → slice ≡ items → IfSome o (λ t. items ≡ of t) → IfSome o (λ t. slice ≡ of t)
+known_slice None slice items of whole is = tt
+known_slice (Some t) slice items of whole is = whole ∙ is

@@ -22,6 +22,15 @@ names_source word = ends_with nat_eq word (codes ".c")
 abbrev pub conftest_name : List (List ℕ) → Option (List ℕ)
 conftest_name words = find names_source (reverse words)
 
+-- the name of the list
+abbrev pub list_name : List ℕ
+list_name = codes "standin.txt"
+
+-- the conftest: the text of its name, and nothing if there is none
+abbrev pub conftest_of : (List ℕ → List ℕ) → Option (List ℕ) → List ℕ
+conftest_of texts None = []
+conftest_of texts (Some name) = texts name
+
 -- the list is no list, but asks children to meet
 abbrev pub is_meeting : List ℕ → Bool
 is_meeting list = bytes_eq (first_line list) (codes "!meet")

@@ -3,7 +3,7 @@
 //! `filter` is the whole way of a text through the engine: it reads a configure.ac, a line `%%` and a template, and
 //! writes the template filled (`filtering`). Its parts are `input` (reading, and the cut at `%%`), `running` (what a plan's
 //! run leaves), `outputs` (the table that templates are filled from). `standin` answers in a compiler's place, from the
-//! text of the conftest alone. `command` is what the program does with its arguments.
+//! text of the conftest alone, over the files of `texts`. `command` is what the program does with its arguments.
 //!
 //! Given `AC_INIT([demo],[1.0])`, `AC_CONFIG_FILES([out])`, `AC_OUTPUT`, `%%` and `@PACKAGE_NAME@`, a line each, it
 //! writes `demo` and a newline.
@@ -16,6 +16,7 @@ pub mod input;
 pub mod outputs;
 pub mod running;
 pub mod standin;
+mod texts;
 
 pub use fault::{Fault, FilterFault};
 pub use filtering::{Filtered, filter};

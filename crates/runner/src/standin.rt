@@ -8,15 +8,14 @@ ghost use Rattle.std.specs.Prelude.{◌≡◌, ◌↔◌, ◌⊎◌, ℕ, List, 
 ghost use Rattle.std.specs.Option.{option_copied};
 ghost use Rattle.std.specs.Io.KnownBytes.{Appends};
 ghost use Rattle.runner.specs.Standin as meant;
-ghost use Rattle.runner.specs.Standin.{conftest_name, is_meeting, waiting, IsBarred, IsFirstBarred, HasNoBarred, IsAnswered};
+ghost use Rattle.runner.specs.Standin.{conftest_name, conftest_of, is_meeting, list_name, waiting, Answers, IsBarred, IsFirstBarred, HasNoBarred, IsAnswered};
 
-use crate::fault::FilterFault;
-use crate::input::{line_len, read_input};
+use crate::input::line_len;
+use crate::texts::{Folder, Texts};
 use bstr::ByteSlice;
 use deftable::Bytes;
 use std::alloc::{AllocError, Global};
-use std::fs;
-use std::io::{ErrorKind, Write};
+use std::io::Write;
 use std::rt::Files;
 use textcut::parts;
 
@@ -54,12 +53,28 @@ pub fn standin<F: Files, E: Write>(
     // What it accepts is accepted in silence.
     ensures silent { IfOk result (λ status. status ≡ 0 → errors.new ≡ errors.old) }
 {
-    let list = file_text(alloc, files, LIST)?;
+    answered(alloc, &Folder::new(files), words, errors)
+}
+
+/// Answers from the texts of the files.
+fn answered<T: Texts, E: Write>(
+    alloc: Global,
+    texts: &T,
+    words: &[Bytes],
+    errors: &mut E,
+) -> Result<u8, AllocError>
+    ensures answer { IfOk result (IsAnswered words.now) }
+    // Where the files' texts are known, the status is the answer on the list's and the conftest's.
+    ensures known { IfOk result (λ status. IfSome (T.known texts.now)
+        (λ t. Answers words.now (t list_name) (conftest_of t (conftest_name words.now)) status)) }
+    ensures silent { IfOk result (λ status. status ≡ 0 → errors.new ≡ errors.old) }
+{
+    let list = texts.text(alloc, LIST)?;
     let name = name_of_conftest(words);
     if asks_to_meet(list.as_slice()) {
-        return meet(alloc, files, name);
+        return meet(alloc, texts, name);
     }
-    let conftest = text_of_conftest(alloc, files, name)?;
+    let conftest = text_of_conftest(alloc, texts, name)?;
     judge(alloc, list.as_slice(), conftest.as_slice(), errors)
 }
 
@@ -142,38 +157,22 @@ fn tell_line<E: Write>(errors: &mut E, line: &[u8]) -> std::io::Result<()>
 }
 
 /// What the conftest holds.
-fn text_of_conftest<F: Files>(
+fn text_of_conftest<T: Texts>(
     alloc: Global,
-    files: &F,
+    texts: &T,
     name: Option<&Bytes>,
 ) -> Result<Vec<u8>, AllocError>
-    ensures { IfOk result (λ text. option_copied name.entry ≡ None → text.items ≡ []) }
+    ensures unnamed { IfOk result (λ text. option_copied name.entry ≡ None → text.items ≡ []) }
+    ensures named { IfOk result (λ text. IfSome (T.known texts.now) (λ t. text.items ≡ conftest_of t (option_copied name.entry))) }
 {
     match name {
-        Some(name) => file_text(alloc, files, name.as_slice()),
+        Some(name) => texts.text(alloc, name.as_slice()),
         None => Ok(Vec::new(alloc)),
     }
 }
 
-/// What a file holds; nothing where it can't be read.
-fn file_text<F: Files>(alloc: Global, files: &F, name: &[u8]) -> Result<Vec<u8>, AllocError> {
-    let Ok(name) = std::str::from_utf8(name) else {
-        return Ok(Vec::new(alloc));
-    };
-    let mut file = match fs::open(files, name) {
-        Ok(file) => file,
-        Err(e) if e.kind() == ErrorKind::OutOfMemory => return Err(AllocError),
-        Err(_) => return Ok(Vec::new(alloc)),
-    };
-    match read_input(alloc, &mut file) {
-        Ok(text) => Ok(text),
-        Err(FilterFault::OutOfMemory) => Err(AllocError),
-        Err(_) => Ok(Vec::new(alloc)),
-    }
-}
-
 /// Makes the file that says that the conftest was seen; the one that waits then looks for the other's.
-fn meet<F: Files>(alloc: Global, files: &F, name: Option<&Bytes>) -> Result<u8, AllocError>
+fn meet<T: Texts>(alloc: Global, texts: &T, name: Option<&Bytes>) -> Result<u8, AllocError>
     ensures status { IfOk result (λ status. (status ≡ 0) ⊎ (status ≡ 1)) }
     ensures waited { IfOk result (λ status. status ≡ 1 → option_copied name.entry ≡ Some waiting) }
 {
@@ -181,27 +180,27 @@ fn meet<F: Files>(alloc: Global, files: &F, name: Option<&Bytes>) -> Result<u8, 
         return Ok(0);
     };
     let name = name.as_slice();
-    make_seen(alloc, files, name)?;
-    if name != WAITING || is_seen(files) {
+    make_seen(alloc, texts, name)?;
+    if name != WAITING || is_seen(texts) {
         return Ok(0);
     }
     Ok(1)
 }
 
 /// Makes the file that says that the conftest was seen, if that can be made.
-fn make_seen<F: Files>(alloc: Global, files: &F, name: &[u8]) -> Result<(), AllocError> {
+fn make_seen<T: Texts>(alloc: Global, texts: &T, name: &[u8]) -> Result<(), AllocError> {
     let Ok(name) = std::str::from_utf8(name) else {
         return Ok(());
     };
     let seen = format!(in alloc; "{name}.seen")?;
-    let _ = fs::write(files, seen.as_str(), b"");
+    texts.make(seen.as_str());
     Ok(())
 }
 
 /// Looks for the file that is waited for.
-fn is_seen<F: Files>(files: &F) -> bool {
+fn is_seen<T: Texts>(texts: &T) -> bool {
     for _ in 0..MOST_LOOKS {
-        if matches!(fs::exists(files, AWAITED), Ok(true)) {
+        if texts.is_there(AWAITED) {
             return true;
         }
     }

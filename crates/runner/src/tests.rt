@@ -279,20 +279,35 @@ fn a_template_that_is_not_there(rt: HostRuntime) -> Result<(), Fail> {
     Ok(())
 }
 
-/// Gives so many newlines, one in a read, and then its end.
-#[derive(Drop)]
+/// Is interrupted so many times, gives so many newlines, one in a read, and then its end, if it doesn't fail.
+#[derive(Clone, Copy)]
 struct Newlines {
+    interrupted: usize,
     left: usize,
+    fails: bool,
+}
+
+const fn giving(interrupted: usize, left: usize, fails: bool) -> Newlines {
+    Newlines {
+        interrupted,
+        left,
+        fails,
+    }
 }
 
 impl Read for Newlines {
     fn read(&mut self, buf: &mut [u8]) -> io::Result<usize> {
+        if self.interrupted > 0 {
+            self.interrupted -= 1;
+            return Err(io::Error::from(io::ErrorKind::Interrupted));
+        }
         match buf.first_mut() {
             Some(place) if self.left > 0 => {
                 *place = b'\n';
                 self.left -= 1;
                 Ok(1)
             }
+            _ if self.fails => Err(io::Error::from(io::ErrorKind::BrokenPipe)),
             _ => Ok(0),
         }
     }
@@ -322,11 +337,24 @@ impl Write for Broken {
 fn reads(rt: HostRuntime) {
     let (fault, _) = fault_of(rt.alloc(), &mut Broken);
     assert!(rt; matches!(fault, Some(FilterFault::Read)));
-    // The last of 65,536 reads may be the end.
-    let (fault, _) = fault_of(rt.alloc(), &mut Newlines { left: 65_535 });
-    assert!(rt; matches!(fault, Some(FilterFault::Usage)));
-    let (fault, _) = fault_of(rt.alloc(), &mut Newlines { left: 65_536 });
-    assert!(rt; matches!(fault, Some(FilterFault::Read)));
+    // The last of 65,536 reads may be the end. A read that is interrupted is one of them.
+    let cases = [
+        (giving(0, 65_535, false), false),
+        (giving(0, 65_536, false), true),
+        (giving(3, 65_532, false), false),
+        (giving(3, 65_533, false), true),
+        (giving(2, 5, true), true),
+    ];
+    for (i, (newlines, is_read)) in cases.iter().enumerate() {
+        let mut reader = *newlines;
+        let (fault, _) = fault_of(rt.alloc(), &mut reader);
+        let found = match fault {
+            Some(FilterFault::Read) => true,
+            Some(FilterFault::Usage) => false,
+            _ => !*is_read,
+        };
+        assert!(rt; found == *is_read, "case {i}");
+    }
 }
 
 #[test]

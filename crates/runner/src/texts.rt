@@ -1,0 +1,63 @@
+//! The files that the stand-in for a compiler reads and makes.
+
+ghost use Rattle.std.specs.Prelude.{◌≡◌, ℕ, List, Option, None, IfOk, IfSome};
+
+use crate::fault::FilterFault;
+use crate::input::read_input;
+use std::alloc::{AllocError, Global};
+use std::fs;
+use std::io::ErrorKind;
+use std::rt::Files;
+
+/// Gives the texts of files by their names.
+pub(crate) trait Texts {
+    // The text that is read under each name, where that is known.
+    ghost known: { Self → Option (List ℕ → List ℕ) } = { λ _. None };
+
+    // What a file holds; nothing if it can't be read. It fails only if memory runs out.
+    fn text(&self, alloc: Global, name: &[u8]) -> Result<Vec<u8>, AllocError>
+        ensures { IfOk result (λ v. IfSome (known self.now) (λ text. v.items ≡ text name.now)) };
+
+    // Makes a file that holds nothing, if that can be made.
+    fn make(&self, name: &str);
+
+    fn is_there(&self, name: &str) -> bool;
+}
+
+/// The files of a runtime.
+#[derive(Drop)]
+pub(crate) struct Folder<'a, F: Files> {
+    files: &'a F,
+}
+
+impl<'a, F: Files> Folder<'a, F> {
+    pub(crate) fn new(files: &'a F) -> Folder<'a, F> {
+        Folder { files }
+    }
+}
+
+impl<'a, F: Files> Texts for Folder<'a, F> {
+    fn text(&self, alloc: Global, name: &[u8]) -> Result<Vec<u8>, AllocError> {
+        let Ok(name) = std::str::from_utf8(name) else {
+            return Ok(Vec::new(alloc));
+        };
+        let mut file = match fs::open(self.files, name) {
+            Ok(file) => file,
+            Err(e) if e.kind() == ErrorKind::OutOfMemory => return Err(AllocError),
+            Err(_) => return Ok(Vec::new(alloc)),
+        };
+        match read_input(alloc, &mut file) {
+            Ok(text) => Ok(text),
+            Err(FilterFault::OutOfMemory) => Err(AllocError),
+            Err(_) => Ok(Vec::new(alloc)),
+        }
+    }
+
+    fn make(&self, name: &str) {
+        let _ = fs::write(self.files, name, b"");
+    }
+
+    fn is_there(&self, name: &str) -> bool {
+        matches!(fs::exists(self.files, name), Ok(true))
+    }
+}
