@@ -1,6 +1,6 @@
 //! The start and the end of a real child.
 
-ghost use Rattle.std.specs.Prelude.{◌≡◌, ◌≢◌, ◌⊎◌, [], ◌∷◌, None, IfNone, IfOk, IfSome, IsSome, MatchOption, OnSome, option_map, vec_items};
+ghost use Rattle.std.specs.Prelude.{◌≡◌, ◌⊎◌, [], ◌∷◌, None, IfNone, IfOk, IfSome, MatchOption, OnSome, option_map, vec_items};
 ghost use Rattle.std.specs.Bool.{OnFalse, OnTrue};
 ghost use Rattle.std.specs.Process.{child_status, command_args, command_program};
 ghost use Rattle.crew.specs.Ending as ending;
