@@ -56,7 +56,7 @@ path_prog c args = do
 abbrev pub growth : List (List ℕ) → List ℕ → ℕ
 growth names n = if has_name names n then 0 else 1
 
--- the list has room for the variables of the compiler: it has at most 1,024 names
+-- the list has room for the variables of the compiler: with them it has at most 1,024 names
 abbrev pub has_tool_room : List (List ℕ) → Bool
 has_tool_room names =
     nat_le (length names + growth names (codes "CC") + growth names (codes "CFLAGS") + growth names (codes "LDFLAGS")

@@ -6,7 +6,7 @@ use deftable::Bytes;
 use shellword::HereText;
 use std::marker::Model;
 
-/// Names of programs, in the order in which they are looked for. Contracts see the list of their texts.
+/// Names of programs, in the order of the search. Contracts see the list of their texts.
 #[derive(Debug, Drop)]
 pub struct ProgramNames {
     names: Vec<Bytes>,
@@ -36,7 +36,7 @@ impl ProgramNames {
     }
 }
 
-/// What is done with a program that is tried (manual, "Running the Compiler" and the sections behind it).
+/// What is done with a program that is tried (manual, "Running the Compiler" and the sections after it).
 #[derive(Clone, Copy, PartialEq, Eq, Debug)]
 pub enum Try {
     /// It is compiled.
@@ -49,10 +49,11 @@ pub enum Try {
     Run,
 }
 
-/// The text of a program that is tried. Default includes already stand in it.
+/// The text of a program that is tried. It has the default includes in place of each line AC_INCLUDES_DEFAULT of a prologue
+/// or of a whole text.
 #[derive(Debug, Drop)]
 pub enum Program {
-    /// AC_LANG_PROGRAM: what stands before `main`, and what stands in it.
+    /// AC_LANG_PROGRAM: the text before `main`, and the text of its body.
     Program { prologue: HereText, body: HereText },
     /// AC_LANG_SOURCE: the whole text.
     Source { text: HereText },

@@ -208,7 +208,12 @@ fn arg_var(alloc: Global, scene: &Scene, args: &[Arg<'_>]) -> Result<Plain, Pars
     Ok(Plain::ArgVar { name, help })
 }
 
-/// The statement of a macro with these arguments, whose name stands at `at`, behind what is known.
+/// Returns the statement of a macro with these arguments, in the scene of the statements before it. `at` is the place of
+/// the macro's name.
+///
+/// # Errors
+/// The fault of the first argument at fault. `TooMany` at the argument that names a variable too many, and at `at` if
+/// AC_PROG_CC adds too many.
 #[tactic(auto, unfolding(crate::specs::Rows::plain_of))]
 pub fn plain(
     alloc: Global,
@@ -270,7 +275,10 @@ fn given(
     })
 }
 
-/// What a macro with these arguments asks, behind what is known.
+/// Returns what a macro with these arguments asks, in the scene of the statements before it.
+///
+/// # Errors
+/// The fault of the first argument at fault, and `TooMany` at the argument that names an option too many.
 pub fn question(
     alloc: Global,
     scene: &Scene,

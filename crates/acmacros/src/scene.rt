@@ -1,4 +1,4 @@
-//! What the statements read so far leave to be known.
+//! What is known after the statements read so far.
 
 ghost use Rattle.std.specs.Prelude.{◌≡◌, OnOk};
 ghost use Rattle.deftable.specs.ShellName.{IsShellName};
@@ -18,23 +18,24 @@ pub enum Stage {
     Before,
     /// Between AC_INIT and AC_OUTPUT.
     Open,
-    /// Behind AC_OUTPUT.
+    /// After AC_OUTPUT.
     Ended,
 }
 
-/// What is known behind statements.
+/// What is known after statements.
 #[derive(Debug, Drop)]
 pub struct Scene {
     pub stage: Stage,
-    /// The output variables of AC_SUBST, each once, in the order of their first mention.
+    /// The output variables of AC_SUBST, AC_ARG_VAR, AC_CHECK_PROG, AC_CHECK_PROGS, AC_PATH_PROG and AC_PROG_CC, each once,
+    /// in the order of their first mention.
     pub substituted: SubstList,
-    /// The precious variables of AC_ARG_VAR, likewise.
+    /// The precious variables of AC_ARG_VAR and AC_PROG_CC, likewise.
     pub precious: SubstList,
     /// The variables of the features of AC_ARG_ENABLE, likewise.
     pub features: SubstList,
     /// The variables of the packages of AC_ARG_WITH, likewise.
     pub packages: SubstList,
-    /// What is said of options and variables, in order.
+    /// The help entries of AC_ARG_ENABLE, AC_ARG_WITH and AC_ARG_VAR, one for each call, in order.
     pub help: HelpList,
     /// The files to be made, in the order in which they are named.
     pub files: Outputs,
@@ -57,7 +58,7 @@ impl Scene {
     }
 }
 
-/// Notes a statement.
+/// Notes a statement: the scene becomes the one after it. It fails only for want of memory.
 #[tactic(auto, unfolding(crate::specs::Scene::after))]
 pub fn note(alloc: Global, scene: &mut Scene, statement: &Plain) -> Result<(), AllocError>
     ensures { OnOk result (scene.new ≡ scenes.after scene.old statement.now) }
@@ -121,7 +122,7 @@ fn note_tools(scene: &mut Scene) -> Result<(), AllocError>
     Ok(())
 }
 
-/// Notes what a statement asks.
+/// Notes what a statement asks: the scene becomes the one after the question. It fails only for want of memory.
 #[tactic(auto, unfolding(crate::specs::Scene::after_question))]
 pub fn note_question(
     alloc: Global,
@@ -157,7 +158,7 @@ fn is_init(m: Macro) -> bool
     m == Macro::Plain(PlainMacro::Init)
 }
 
-/// AC_INIT, and AC_PREREQ, which may stand before it.
+/// AC_INIT, and AC_PREREQ, which is allowed before it.
 fn may_begin(m: Macro) -> bool
     ensures { result ≡ scenes.may_begin m }
 {

@@ -21,7 +21,7 @@ use std::alloc::{AllocError, Global};
 /// The most names of a list of the source.
 const MAX_NAMES: usize = 1024;
 
-/// Whether a list of the source that has these names may take one more.
+/// Whether a list of the source has this name, or room for it.
 pub(crate) fn has_room(names: &SubstList, name: &Name) -> bool
     ensures { result ≡ rooms.has_room names.now name.now }
 {
@@ -127,7 +127,7 @@ fn has_tool_room(names: &SubstList) -> bool
         <= MAX_NAMES
 }
 
-/// The programs that are looked for where none are named.
+/// The compilers of an AC_PROG_CC that names none.
 fn usual_compilers(alloc: Global) -> Result<Vec<Bytes>, AllocError>
     ensures { IfOk result (λ v. v.items ≡ rows.usual_compilers) }
 {

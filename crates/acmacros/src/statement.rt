@@ -37,12 +37,12 @@ pub enum Plain {
         name: Name,
         value: Word,
     },
-    /// AC_DEFINE: a C identifier and what it stands for.
+    /// AC_DEFINE: a C identifier and its value.
     Define {
         name: Name,
         value: Bytes,
     },
-    /// AC_DEFINE_UNQUOTED: a C identifier and the text whose value it stands for.
+    /// AC_DEFINE_UNQUOTED: a C identifier and the here text that gives its value.
     DefineUnquoted {
         name: Name,
         value: HereText,
@@ -57,21 +57,21 @@ pub enum Plain {
         name: Name,
         help: Bytes,
     },
-    /// AC_CHECK_PROG: an output variable, the program that is looked for, and the values that the variable gets where it is
-    /// found and where it isn't.
+    /// AC_CHECK_PROG: an output variable, the program of the search, and the variable's values if the program is found and
+    /// if it isn't.
     CheckProg {
         variable: Name,
         program: Bytes,
         found: HereText,
         otherwise: Option<HereText>,
     },
-    /// AC_CHECK_PROGS: an output variable, which gets the name of the first program that is found.
+    /// AC_CHECK_PROGS: an output variable, which gets the name of the first program that is found, and its value if none is.
     CheckProgs {
         variable: Name,
         programs: ProgramNames,
         otherwise: Option<HereText>,
     },
-    /// AC_PATH_PROG: an output variable, which gets the full name of the program where it is found.
+    /// AC_PATH_PROG: an output variable, which gets the full name of the program if it is found, and its value if it isn't.
     PathProg {
         variable: Name,
         program: Bytes,

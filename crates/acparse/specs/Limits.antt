@@ -2,7 +2,7 @@
 use Rattle.std.specs.Prelude.{◌≤◌, length}
 use Rattle.acparse.specs.declared.source.Source.{Source}
 
--- Each list has at most 1,024 names or files. The help entries, one for each call that says something, have no limit.
+-- Each list has at most 1,024 names or files. The help entries, one for each call, have no limit of their own.
 pub record HasShortLists (s : Source) : Type 0 where
   pub substituted : length s.substituted ≤ 1024
   pub precious : length s.precious ≤ 1024

@@ -66,7 +66,8 @@ fn check_idle(alloc: Global, stage: Stage, at: usize, text: &[u8]) -> Result<(),
     }
 }
 
-/// Adds the statements of bare text at `at`, as far as the source is.
+/// Adds the statements of bare text at `at`: the assignments of its value, or none before AC_INIT and after AC_OUTPUT, where
+/// it says nothing.
 #[tactic(auto, unfolding(crate::specs::Bare::bare_of))]
 pub(crate) fn read_bare(
     alloc: Global,

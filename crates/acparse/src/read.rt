@@ -96,7 +96,7 @@ fn case_args<'a, 'b>(m: ChoiceMacro, args: &'b [Arg<'a>]) -> &'b [Arg<'a>]
     }
 }
 
-/// A case of these statements, where its argument is given.
+/// A case of these statements; none if its argument is not given and has no statement.
 fn case_if(when: When, given: bool, body: Vec<Stmt>) -> Option<Case>
     ensures { cases_of (option_to_list result) ≡ profile.case_if when given (script_of body.items) }
 {
@@ -109,7 +109,7 @@ fn case_if(when: When, given: bool, body: Vec<Stmt>) -> Option<Case>
     Some(Case { when, body })
 }
 
-/// The arguments behind those of the question.
+/// The arguments after those of the question.
 fn action_args<'a, 'b>(m: QuestionMacro, args: &'b [Arg<'a>]) -> &'b [Arg<'a>]
     ensures { map span result.now ≡ profile.action_args m (map span args.now) }
 {
@@ -119,7 +119,7 @@ fn action_args<'a, 'b>(m: QuestionMacro, args: &'b [Arg<'a>]) -> &'b [Arg<'a>]
     }
 }
 
-/// The arguments behind the first.
+/// The arguments after the first.
 fn behind_first<'a, 'b>(args: &'b [Arg<'a>]) -> &'b [Arg<'a>]
     ensures { map span result.now ≡ drop 1 (map span args.now) }
 {
@@ -147,7 +147,7 @@ fn both(alloc: Global, first: Option<Case>, other: Option<Case>) -> Result<Vec<C
     with_last(one, other)
 }
 
-/// The statements of a statement argument, in which `room` lists may stand in one another.
+/// The statements of a statement argument, which may hold `room` lists in one another, its own counted.
 #[cycle(list)]
 #[tactic(auto, unfolding(crate::specs::Profile::body_of))]
 fn read_body(
@@ -169,7 +169,7 @@ fn read_body(
     }
 }
 
-/// The last argument among cases, if nothing that decides stands before it.
+/// The default of a choice: the last argument, if it is left over after the pairs.
 #[cycle(list)]
 #[tactic(auto, unfolding(crate::specs::Profile::cases_in))]
 fn read_default(
@@ -280,7 +280,7 @@ fn read_question(
     Ok(choose(Subject::Asked(question), cases))
 }
 
-/// The statement of a call of a macro whose name stands at `at`.
+/// The statement of a call of a macro whose name is at `at`.
 #[cycle(list)]
 fn read_call(
     alloc: Global,
@@ -304,7 +304,7 @@ fn read_call(
     }
 }
 
-/// Adds the statements of an item between what stands before it and the items behind it.
+/// Adds the statements of an item between what is before it and the items after it.
 #[cycle(list)]
 fn read_item(
     alloc: Global,
@@ -330,8 +330,8 @@ fn read_item(
     }
 }
 
-/// The statements of a list's items; `top` says whether the list is the file's own, and `room` lists may stand in one
-/// another within it.
+/// The statements of a list's items. `top` says whether the list is the file's own, and `room` lists may be in one another
+/// within it.
 #[cycle(list)]
 pub(crate) fn read_statements(
     alloc: Global,

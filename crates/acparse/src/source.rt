@@ -24,16 +24,16 @@ use tree::Stmt;
 pub struct Source {
     /// The statements of the file's own list, in order.
     pub statements: Vec<Stmt>,
-    /// The output variables of AC_SUBST and AC_ARG_VAR, each once, in the order of their first mention, from cases that
-    /// are not taken too.
+    /// The output variables of AC_SUBST, AC_ARG_VAR, AC_CHECK_PROG, AC_CHECK_PROGS, AC_PATH_PROG and AC_PROG_CC, each once,
+    /// in the order of their first mention, also from cases that a run does not take.
     pub substituted: SubstList,
-    /// The precious variables of AC_ARG_VAR, likewise.
+    /// The precious variables of AC_ARG_VAR and AC_PROG_CC, likewise.
     pub precious: SubstList,
     /// The variables of the features that AC_ARG_ENABLE declares, `enable_NAME`, likewise.
     pub features: SubstList,
     /// The variables of the packages that AC_ARG_WITH declares, `with_NAME`, likewise.
     pub packages: SubstList,
-    /// What is said of options and variables, in order, one declared twice said twice.
+    /// The help entries of AC_ARG_ENABLE, AC_ARG_WITH and AC_ARG_VAR, one for each call, in order.
     pub help: HelpList,
     /// The files that AC_CONFIG_FILES names, in order, each name once.
     pub files: Outputs,
@@ -70,12 +70,16 @@ fn read_source(alloc: Global, text: &[u8]) -> Result<Source, ParseFault>
     }
 }
 
-/// The source that a configure.ac is. Besides want of memory a refusal is the first fault, with its place in bytes from
-/// the start of the file.
+/// Returns the source that a configure.ac is.
+///
+/// # Errors
+/// The first fault, with its place in bytes from the start of the file. `OutOfMemory` may come before any fault that is
+/// still to be found.
 pub fn parse(alloc: Global, text: &[u8]) -> Result<Source, ParseFault>
     // What is read is a source of the profile.
     ensures found { IfOk result (λ s. IsSource text.now (script_of s.statements.items)) }
-    // Its output variables are those that its statements name, in cases that are not taken too; so are its other lists.
+    // Its output variables are those that its statements name, also in cases that a run does not take; so are its other
+    // lists.
     ensures substituted { IfOk result (λ s. s.substituted ≡ (after_all start (script_of s.statements.items)).substituted) }
     ensures precious { IfOk result (λ s. s.precious ≡ (after_all start (script_of s.statements.items)).precious) }
     ensures features { IfOk result (λ s. s.features ≡ (after_all start (script_of s.statements.items)).features) }

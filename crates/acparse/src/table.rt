@@ -65,7 +65,7 @@ fn sides(row: &[u8]) -> Option<(&[u8], &[u8])> {
 }
 
 /// The first row that does not hold, with what is read; empty if each row holds.
-fn first_wrong(alloc: Global, form: Form, rows: &[u8]) -> Result<Vec<u8>, AllocError> {
+pub(crate) fn first_wrong(alloc: Global, form: Form, rows: &[u8]) -> Result<Vec<u8>, AllocError> {
     for row in textcut::parts(alloc, rows, 0)? {
         if let Some((lines, answer)) = sides(row) {
             let read = read(alloc, form, lines)?;

@@ -1,7 +1,9 @@
 //! Worked examples of whole sources, each answer found by hand from the rules.
 
 use super::*;
-use crate::table::{Form, assert_count, assert_fault, assert_rows, count_of, source_with};
+use crate::table::{
+    Form, assert_count, assert_fault, assert_rows, count_of, first_wrong, source_with,
+};
 use m4quote::QuoteFault;
 use std::alloc::{AllocError, Global};
 use std::test::Fail;
@@ -29,6 +31,14 @@ fn each_front_of_a_source(rt: HostRuntime) {
         let read = count_of(rt.alloc(), &text[..len]);
         assert!(rt; read == answer_of_front(len), "at {len}: {read:?}");
     }
+}
+
+#[test]
+fn a_row_that_does_not_hold(rt: HostRuntime) -> Result<(), Fail> {
+    let rows = b"// => 1\0x => NoInit\0x => 2\0x => 3\0".as_slice();
+    let wrong = first_wrong(rt.alloc(), Form::Source, rows)?;
+    assert_eq!(rt; wrong.as_slice(), b"x => 2: NoInit".as_slice());
+    Ok(())
 }
 
 #[test]

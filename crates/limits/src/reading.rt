@@ -25,13 +25,21 @@ fn statements(alloc: Global, lines: &[u8]) -> Result<usize, AllocError> {
 
 // ---- the text
 
+/// How many arguments an item has.
+fn arguments_of(item: &Item<'_>) -> usize {
+    match item {
+        Item::Call { args, .. } => args.len(),
+        Item::Bare { .. } => 0,
+    }
+}
+
 /// How many arguments a call of so many has.
 fn arguments(alloc: Global, count: usize) -> Result<usize, Fail> {
     let text = repeated(alloc, b"AC_X(", b"a,", count.saturating_sub(1), b"a)")?;
     let items = read_items(alloc, &text)?;
-    match items.as_slice() {
-        [Item::Call { args, .. }] => Ok(args.len()),
-        _ => Ok(0),
+    match items.first() {
+        Some(item) => Ok(arguments_of(item)),
+        None => Ok(0),
     }
 }
 
