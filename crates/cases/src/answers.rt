@@ -1,16 +1,16 @@
 //! What the engine makes of what a case gives, as text.
 
+use crate::engine::{help_of, put_fault_line, read_source, run_filter, srcdir_in};
 use crate::given::Given;
-use crate::pages::put_text;
+use crate::pages::{put_number, put_text};
 use crate::runs::{put_opening, put_run, put_variables};
 use crate::tree_words::{put_counts, put_lists, put_statements};
-use acparse::{ParseFault, Source, Stmt, parse};
-use options::{help_text, srcdir_of};
-use runner::{FilterFault, Filtered, command, filter};
+use acparse::{ParseFault, Source, Stmt};
+use runner::{FilterFault, Filtered};
 use std::alloc::{AllocError, Global};
 
 /// What a case may want to see.
-#[derive(Clone, Copy, PartialEq, Eq)]
+#[derive(Clone, Copy)]
 pub enum Kind {
     /// The tree of the source, or its fault.
     Parsed,
@@ -34,21 +34,28 @@ pub enum Kind {
     Ran,
 }
 
+/// The sections that are answers.
+const ANSWERS: [(&[u8], Kind); 10] = [
+    (b"parsed", Kind::Parsed),
+    (b"counted", Kind::Counted),
+    (b"fronts", Kind::Fronts),
+    (b"sources", Kind::Sources),
+    (b"filtered", Kind::Filtered),
+    (b"variables", Kind::Variables),
+    (b"opened", Kind::Opened),
+    (b"help", Kind::Help),
+    (b"srcdir", Kind::Srcdir),
+    (b"ran", Kind::Ran),
+];
+
 /// The answer that a section of this name is.
 pub fn kind_of(name: &[u8]) -> Option<Kind> {
-    match name {
-        b"parsed" => Some(Kind::Parsed),
-        b"counted" => Some(Kind::Counted),
-        b"fronts" => Some(Kind::Fronts),
-        b"sources" => Some(Kind::Sources),
-        b"filtered" => Some(Kind::Filtered),
-        b"variables" => Some(Kind::Variables),
-        b"opened" => Some(Kind::Opened),
-        b"help" => Some(Kind::Help),
-        b"srcdir" => Some(Kind::Srcdir),
-        b"ran" => Some(Kind::Ran),
-        _ => None,
+    for (answer, kind) in &ANSWERS {
+        if *answer == name {
+            return Some(*kind);
+        }
     }
+    None
 }
 
 impl Kind {
@@ -63,7 +70,7 @@ fn put_fault(alloc: Global, out: &mut Vec<u8>, fault: ParseFault) -> Result<(), 
     out.extend_from_slice(line.as_bytes())
 }
 
-/// The statements of a source, without those round the lines of a case.
+/// The statements of a source, without AC_INIT and AC_OUTPUT if the case gives the lines between them.
 fn own_statements(source: &Source, is_lines: bool) -> &[Stmt] {
     match source.statements.as_slice() {
         [_, own @ .., _] if is_lines => own,
@@ -95,7 +102,7 @@ fn put_read(
         Kind::Variables => put_variables(alloc, out, source),
         Kind::Opened => put_opening(alloc, out, given, source),
         Kind::Ran => put_run(alloc, out, given, source),
-        Kind::Help => out.extend_from_slice(help_text(alloc, source)?.as_slice()),
+        Kind::Help => out.extend_from_slice(help_of(alloc, source)?.as_slice()),
         Kind::Fronts | Kind::Sources | Kind::Filtered | Kind::Srcdir => Ok(()),
     }
 }
@@ -107,7 +114,7 @@ fn put_source(
     kind: Kind,
     given: &Given,
 ) -> Result<(), AllocError> {
-    match parse(alloc, given.source.as_slice()) {
+    match read_source(alloc, given.source.as_slice()) {
         Ok(source) => put_read(alloc, out, kind, given, &source),
         Err(fault) => put_fault(alloc, out, fault),
     }
@@ -115,11 +122,10 @@ fn put_source(
 
 /// The number of statements of a text, or its fault.
 fn put_front(alloc: Global, out: &mut Vec<u8>, text: &[u8]) -> Result<(), AllocError> {
-    match parse(alloc, text) {
+    match read_source(alloc, text) {
         Ok(source) => {
-            let count = source.statements.len();
-            let line = format!(in alloc; "{count} statements")?;
-            out.extend_from_slice(line.as_bytes())
+            put_number(alloc, out, source.statements.len() as u64)?;
+            out.extend_from_slice(b" statements")
         }
         Err(fault) => put_fault(alloc, out, fault),
     }
@@ -133,12 +139,12 @@ fn put_range(
     last: usize,
     answer: &[u8],
 ) -> Result<(), AllocError> {
-    let head = if first == last {
-        format!(in alloc; "{first}: ")?
-    } else {
-        format!(in alloc; "{first} to {last}: ")?
-    };
-    out.extend_from_slice(head.as_bytes())?;
+    put_number(alloc, out, first as u64)?;
+    if first != last {
+        out.extend_from_slice(b" to ")?;
+        put_number(alloc, out, last as u64)?;
+    }
+    out.extend_from_slice(b": ")?;
     out.extend_from_slice(answer)?;
     out.push(b'\n')?;
     Ok(())
@@ -162,22 +168,22 @@ fn put_fronts(alloc: Global, out: &mut Vec<u8>, text: &[u8]) -> Result<(), Alloc
 
 fn put_sources(alloc: Global, out: &mut Vec<u8>, text: &[u8]) -> Result<(), AllocError> {
     for len in 0..text.len() + 1 {
-        if parse(alloc, &text[..len]).is_ok() {
-            let line = format!(in alloc; "{len}\n")?;
-            out.extend_from_slice(line.as_bytes())?;
+        if read_source(alloc, &text[..len]).is_ok() {
+            put_number(alloc, out, len as u64)?;
+            out.push(b'\n')?;
         }
     }
     Ok(())
 }
 
-/// A fault as the program tells it, without its name in front and the newline behind it.
+/// The fault line, without the name of the program and the newline.
 fn put_filter_fault(
     alloc: Global,
     out: &mut Vec<u8>,
     fault: &FilterFault,
 ) -> Result<(), AllocError> {
     let mut line = Vec::new(alloc);
-    command::tell(&mut line, fault);
+    put_fault_line(&mut line, fault);
     let line = line.as_slice();
     let line = line.strip_prefix(b"acrun: ").unwrap_or(line);
     put_text(out, line.strip_suffix(b"\n").unwrap_or(line))
@@ -190,9 +196,7 @@ fn put_filtered_text(
     answer: &Filtered,
     written: &[u8],
 ) -> Result<(), AllocError> {
-    let status = answer.status;
-    let status = format!(in alloc; "{status}")?;
-    out.extend_from_slice(status.as_bytes())?;
+    put_number(alloc, out, u64::from(answer.status))?;
     if !answer.errors.is_empty() {
         out.push(b' ')?;
         put_text(out, answer.errors.as_slice())?;
@@ -205,9 +209,8 @@ fn put_filtered_text(
 }
 
 fn put_filtered(alloc: Global, out: &mut Vec<u8>, input: &[u8]) -> Result<(), AllocError> {
-    let mut reader = input;
     let mut written = Vec::new(alloc);
-    match filter(alloc, &mut reader, &mut written) {
+    match run_filter(alloc, input, &mut written) {
         Ok(answer) => put_filtered_text(alloc, out, &answer, written.as_slice()),
         Err(fault) => put_filter_fault(alloc, out, &fault),
     }
@@ -220,7 +223,7 @@ pub fn answer(alloc: Global, kind: Kind, given: &Given) -> Result<Vec<u8>, Alloc
         Kind::Fronts => put_fronts(alloc, &mut out, given.source.as_slice())?,
         Kind::Sources => put_sources(alloc, &mut out, given.source.as_slice())?,
         Kind::Filtered => put_filtered(alloc, &mut out, given.input.as_slice())?,
-        Kind::Srcdir => put_text(&mut out, srcdir_of(given.arguments.as_slice()))?,
+        Kind::Srcdir => put_text(&mut out, srcdir_in(given.arguments.as_slice()))?,
         _ => put_source(alloc, &mut out, kind, given)?,
     }
     Ok(out)

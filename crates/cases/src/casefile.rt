@@ -10,7 +10,7 @@ use std::alloc::{AllocError, Global};
 use textcut::parts;
 
 /// How the text of a section is written.
-#[derive(Clone, Copy, PartialEq, Eq)]
+#[derive(Clone, Copy)]
 enum Form {
     Plain,
     /// `--- NAME (escaped)`

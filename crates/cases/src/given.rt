@@ -7,7 +7,7 @@ use deftable::Bytes;
 use std::alloc::{AllocError, Global};
 use textcut::{fields, parts};
 
-/// The mark in a source whose offset is meant where an answer has it.
+/// The mark in a source, for whose offset an answer has it too.
 pub const MARK: u8 = b'^';
 
 #[derive(Drop)]
@@ -47,7 +47,7 @@ fn text_of(
     }
 }
 
-/// The source that lines are given for: AC_INIT before them, AC_OUTPUT behind them, and with a template its file.
+/// The source of these lines: AC_INIT before them, AC_OUTPUT after them, and with a template its file.
 pub fn source_of(alloc: Global, lines: &[u8], has_template: bool) -> Result<Vec<u8>, AllocError> {
     let mut source = Vec::from_slice(alloc, b"AC_INIT([x],[1])\n")?;
     if has_template {
@@ -69,7 +69,7 @@ fn input_of(alloc: Global, source: &[u8], template: &[u8]) -> Result<Vec<u8>, Al
     Ok(input)
 }
 
-/// A text without its first mark, and where that was.
+/// A text without its first mark, and the offset of that.
 fn without_mark(alloc: Global, text: Vec<u8>) -> Result<(Vec<u8>, Option<usize>), AllocError> {
     let (before, behind) = cut_at(text.as_slice(), MARK);
     if before.len() == text.len() {
@@ -137,7 +137,7 @@ fn source_in(
     }
 }
 
-/// A section's lines; none where the case has no such section.
+/// The lines of a section; none if there is no such section.
 fn lines_in(
     alloc: Global,
     defaults: &[Section],
@@ -166,7 +166,7 @@ fn replies_in(alloc: Global, defaults: &[Section], case: &Case) -> Result<Vec<Re
     }
 }
 
-/// The window, from 1 to 16; 1 where the case has none.
+/// The window; 1 if the case has none.
 fn window_in(alloc: Global, defaults: &[Section], case: &Case) -> Result<usize, AllocError> {
     match text_of(alloc, defaults, case, b"window")? {
         Some(text) => Ok(number_of(text.as_slice())),
@@ -187,7 +187,7 @@ fn marked(
     }
 }
 
-/// The source, the filter's input, and the offset of the mark in the input, or in the source where no input is given.
+/// The source, the filter's input, and the offset of the mark in the input, or in the source if no input is given.
 fn texts_in(
     alloc: Global,
     defaults: &[Section],

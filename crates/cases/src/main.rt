@@ -1,8 +1,8 @@
 //! Cases in files: what is to be read of a source, and what a run of it is to give.
 //!
 //! The arguments are names of files. `casefile` has their form, `given` what a case gives, and `answers` what the engine
-//! makes of it, in the words of `tree_words`, `plain_words` and `shell_words` for a tree, and of `runs` for what was run.
-//! A case differs where that is not what the file says. `data/README` says how to add a case.
+//! makes of it (`engine`), in the words of `tree_words`, `plain_words` and `shell_words` for a tree, and of `runs` for what
+//! was run. A case differs if that is not what the file says. `data/README` says how to add a case.
 //!
 //! It prints a line for each file, before it what was wanted and found of each case that differs, and exits with status 1
 //! if one does.
@@ -10,6 +10,7 @@
 
 mod answers;
 mod casefile;
+mod engine;
 mod given;
 mod pages;
 mod plain_words;

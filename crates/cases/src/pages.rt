@@ -11,18 +11,33 @@ fn put_hex(out: &mut Vec<u8>, byte: u8) -> Result<(), AllocError> {
     Ok(())
 }
 
-/// A byte: `\n`, `\t` and `\\` are written so, and `\xHH` any that is not printable.
-pub fn put_byte(out: &mut Vec<u8>, byte: u8) -> Result<(), AllocError> {
-    match byte {
-        b'\n' => out.extend_from_slice(b"\\n"),
-        b'\t' => out.extend_from_slice(b"\\t"),
-        b'\\' => out.extend_from_slice(b"\\\\"),
-        b' '..=b'~' => Ok(out.push(byte)?),
-        _ => {
-            out.extend_from_slice(b"\\x")?;
-            put_hex(out, byte)
-        }
+/// A byte that is written as an escape.
+fn put_escape(out: &mut Vec<u8>, byte: u8) -> Result<(), AllocError> {
+    if byte == b'\n' {
+        return out.extend_from_slice(b"\\n");
     }
+    if byte == b'\t' {
+        return out.extend_from_slice(b"\\t");
+    }
+    if byte == b'\\' {
+        return out.extend_from_slice(b"\\\\");
+    }
+    out.extend_from_slice(b"\\x")?;
+    put_hex(out, byte)
+}
+
+/// Whether a byte is written as it is.
+fn is_plain(byte: u8) -> bool {
+    byte >= b' ' && byte <= b'~' && byte != b'\\'
+}
+
+/// A byte: `\n`, `\t` and `\\` are written so, and `\xHH` any other that is not printable.
+pub fn put_byte(out: &mut Vec<u8>, byte: u8) -> Result<(), AllocError> {
+    if !is_plain(byte) {
+        return put_escape(out, byte);
+    }
+    out.push(byte)?;
+    Ok(())
 }
 
 pub fn put_text(out: &mut Vec<u8>, text: &[u8]) -> Result<(), AllocError> {
@@ -46,6 +61,12 @@ pub fn put_value(out: &mut Vec<u8>, name: &[u8], value: &[u8]) -> Result<(), All
     put_text(out, value)
 }
 
+/// A number in decimal digits.
+pub fn put_number(alloc: Global, out: &mut Vec<u8>, number: u64) -> Result<(), AllocError> {
+    let digits = format!(in alloc; "{number}")?;
+    out.extend_from_slice(digits.as_bytes())
+}
+
 /// A word, a blank, a number and a newline.
 pub fn put_count(
     alloc: Global,
@@ -53,9 +74,11 @@ pub fn put_count(
     word: &[u8],
     count: usize,
 ) -> Result<(), AllocError> {
-    let digits = format!(in alloc; " {count}\n")?;
     out.extend_from_slice(word)?;
-    out.extend_from_slice(digits.as_bytes())
+    out.push(b' ')?;
+    put_number(alloc, out, count as u64)?;
+    out.push(b'\n')?;
+    Ok(())
 }
 
 /// Two blanks for each level.

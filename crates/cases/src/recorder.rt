@@ -15,7 +15,7 @@ pub struct Recorder {
     pub lines: Vec<u8>,
 }
 
-/// A word of a command, in quotes where it has a blank.
+/// A word of a command, in quotes if it has a blank.
 fn put_command_word(out: &mut Vec<u8>, word: &[u8]) -> Result<(), AllocError> {
     if !word.contains(&b' ') {
         return put_text(out, word);

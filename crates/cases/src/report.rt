@@ -1,8 +1,9 @@
-//! What is told of a file of cases.
+//! The check of a file of cases, and its report.
 
 use crate::answers::{Kind, answer, kind_of};
 use crate::casefile::{Case, CaseFile, Section, read_cases};
 use crate::given::{Given, MARK, read_given};
+use crate::pages::put_number;
 use std::alloc::{AllocError, Global};
 
 #[derive(Drop)]
@@ -12,18 +13,24 @@ pub struct Report {
 }
 
 /// The sections that say what a case gives.
+const GIVEN: [&[u8]; 8] = [
+    b"source",
+    b"lines",
+    b"template",
+    b"input",
+    b"arguments",
+    b"environment",
+    b"replies",
+    b"window",
+];
+
 fn is_given(name: &[u8]) -> bool {
-    matches!(
-        name,
-        b"source"
-            | b"lines"
-            | b"template"
-            | b"input"
-            | b"arguments"
-            | b"environment"
-            | b"replies"
-            | b"window"
-    )
+    for given in &GIVEN {
+        if *given == name {
+            return true;
+        }
+    }
+    false
 }
 
 /// Whether an answer of the case has a mark.
@@ -44,11 +51,10 @@ fn with_offset(alloc: Global, text: &[u8], mark: Option<usize>) -> Result<Vec<u8
     let Some(offset) = mark else {
         return Vec::from_slice(alloc, text);
     };
-    let digits = format!(in alloc; "{offset}")?;
     let mut out = Vec::new(alloc);
     for byte in text {
         if *byte == MARK {
-            out.extend_from_slice(digits.as_bytes())?;
+            put_number(alloc, &mut out, offset as u64)?;
         } else {
             out.push(*byte)?;
         }
@@ -96,7 +102,7 @@ fn put_block(out: &mut Vec<u8>, word: &[u8], text: &[u8]) -> Result<(), AllocErr
     Ok(())
 }
 
-/// Whether an answer is what a section wants; if not, both are told.
+/// Whether an answer is what a section wants; if not, both are reported.
 fn check_answer(
     alloc: Global,
     out: &mut Vec<u8>,
@@ -168,19 +174,32 @@ fn check_cases(
     Ok(wrong)
 }
 
+/// The last line about a file.
+fn put_summary(
+    alloc: Global,
+    out: &mut Vec<u8>,
+    file: &[u8],
+    count: usize,
+    wrong: usize,
+) -> Result<(), AllocError> {
+    out.extend_from_slice(file)?;
+    out.extend_from_slice(b": ")?;
+    put_number(alloc, out, count as u64)?;
+    out.extend_from_slice(b" cases, ")?;
+    if wrong == 0 {
+        return out.extend_from_slice(b"all as they should be\n");
+    }
+    put_number(alloc, out, wrong as u64)?;
+    out.extend_from_slice(b" differ\n")
+}
+
 /// Checks the cases of a file, and says how many there are and how many differ.
 pub fn check_file(alloc: Global, file: &[u8], text: &[u8]) -> Result<Report, AllocError> {
     let cases = read_cases(alloc, text)?;
     let mut out = Vec::new(alloc);
     let wrong = check_cases(alloc, &mut out, file, &cases)?;
     let count = cases.cases.len();
-    let line = if wrong == 0 {
-        format!(in alloc; ": {count} cases, all as they should be\n")?
-    } else {
-        format!(in alloc; ": {count} cases, {wrong} differ\n")?
-    };
-    out.extend_from_slice(file)?;
-    out.extend_from_slice(line.as_bytes())?;
+    put_summary(alloc, &mut out, file, count, wrong)?;
     Ok(Report {
         text: out,
         is_right: wrong == 0,

@@ -1,14 +1,13 @@
 //! What a run begins with, what it does, and what it leaves.
 
+use crate::engine::{Ran, read_settings, read_source, run_source};
 use crate::given::{Given, source_of};
-use crate::pages::{put_bracketed, put_text, put_value};
-use crate::recorder::Recorder;
-use acparse::{Source, parse};
-use crew::{MemoryCrew, Order, Reply};
+use crate::pages::{put_bracketed, put_number, put_text, put_value};
+use acparse::Source;
 use deftable::{Bytes, Defs, Notes, Stream, Vars};
-use options::{OptionFault, Settings, read_args};
-use plan::{Plan, compile};
-use proberun::{Outcome, RunEnd, run};
+use options::{OptionFault, Settings};
+use plan::PlanFault;
+use proberun::Outcome;
 use std::alloc::{AllocError, Global};
 
 fn has_value(vars: &Vars, name: &[u8], value: &[u8]) -> bool {
@@ -72,7 +71,7 @@ fn put_notes(out: &mut Vec<u8>, notes: &Notes) -> Result<(), AllocError> {
     Ok(())
 }
 
-/// The settings beside variables: each where it is not as it is without arguments.
+/// The other settings: each that is not as it is without arguments.
 fn put_settings(out: &mut Vec<u8>, settings: &Settings) -> Result<(), AllocError> {
     if let Some(name) = &settings.cache_name {
         put_named(out, b"cache", name.as_slice())?;
@@ -98,7 +97,7 @@ fn put_option_fault(
 
 /// The variables of a run without arguments and environment.
 fn plain_vars(alloc: Global, source: &Source) -> Result<Vars, AllocError> {
-    match read_args(alloc, source, &[], &[]) {
+    match read_settings(alloc, source, &[], &[]) {
         Ok(settings) => Ok(settings.vars),
         Err(_) => Err(AllocError),
     }
@@ -111,6 +110,26 @@ pub fn put_variables(alloc: Global, out: &mut Vec<u8>, source: &Source) -> Resul
     put_changes(alloc, out, &vars, &none, &none)
 }
 
+fn settings_of(alloc: Global, given: &Given, source: &Source) -> Result<Settings, OptionFault> {
+    read_settings(
+        alloc,
+        source,
+        given.arguments.as_slice(),
+        given.environment.as_slice(),
+    )
+}
+
+fn put_all_settings(
+    alloc: Global,
+    out: &mut Vec<u8>,
+    source: &Source,
+    settings: &Settings,
+) -> Result<(), AllocError> {
+    let usual = plain_vars(alloc, source)?;
+    put_changes(alloc, out, &settings.vars, &usual, &usual)?;
+    put_settings(out, settings)
+}
+
 /// What a run begins with that it doesn't without arguments and environment, or the fault of the arguments.
 pub fn put_opening(
     alloc: Global,
@@ -118,64 +137,30 @@ pub fn put_opening(
     given: &Given,
     source: &Source,
 ) -> Result<(), AllocError> {
-    match read_args(
-        alloc,
-        source,
-        given.arguments.as_slice(),
-        given.environment.as_slice(),
-    ) {
-        Ok(settings) => {
-            let usual = plain_vars(alloc, source)?;
-            put_changes(alloc, out, &settings.vars, &usual, &usual)?;
-            put_settings(out, &settings)
-        }
+    match settings_of(alloc, given, source) {
+        Ok(settings) => put_all_settings(alloc, out, source, &settings),
         Err(fault) => put_option_fault(alloc, out, fault),
     }
 }
 
-fn opened_vars(alloc: Global, given: &Given, source: &Source) -> Result<Vars, AllocError> {
-    match read_args(
-        alloc,
-        source,
-        given.arguments.as_slice(),
-        given.environment.as_slice(),
-    ) {
-        Ok(settings) => Ok(settings.vars),
-        Err(_) => plain_vars(alloc, source),
-    }
-}
-
-fn copied(alloc: Global, replies: &[Reply]) -> Result<Vec<Reply>, AllocError> {
-    let mut all = Vec::new(alloc);
-    for reply in replies {
-        all.push(reply.copy(alloc)?)?;
-    }
-    Ok(all)
-}
-
-/// What a plan leaves over a crew of these replies, and what the crew did.
-fn run_plan(
+fn put_status(
     alloc: Global,
-    plan: &Plan,
-    vars: Vars,
-    replies: &[Reply],
-    window: usize,
-) -> Result<(RunEnd, Vec<u8>), AllocError> {
-    let replies = copied(alloc, replies)?;
-    let crew = MemoryCrew::new(alloc, replies, Order::Oldest)?;
-    let lines = Vec::new(alloc);
-    let mut recorder = Recorder { crew, lines };
-    let end = run(alloc, plan, vars, &mut recorder, window.max(1).min(16))?;
-    Ok((end, recorder.lines))
+    out: &mut Vec<u8>,
+    word: &[u8],
+    number: u64,
+) -> Result<(), AllocError> {
+    out.extend_from_slice(word)?;
+    put_number(alloc, out, number)?;
+    out.push(b'\n')?;
+    Ok(())
 }
 
 fn put_outcome(alloc: Global, out: &mut Vec<u8>, outcome: Outcome) -> Result<(), AllocError> {
-    let line = match outcome {
-        Outcome::Completed => format!(in alloc; "completed\n")?,
-        Outcome::Stopped(status) => format!(in alloc; "stopped {status}\n")?,
-        Outcome::CutShort(number) => format!(in alloc; "cut {number}\n")?,
-    };
-    out.extend_from_slice(line.as_bytes())
+    match outcome {
+        Outcome::Completed => out.extend_from_slice(b"completed\n"),
+        Outcome::Stopped(status) => put_status(alloc, out, b"stopped ", u64::from(status)),
+        Outcome::CutShort(number) => put_status(alloc, out, b"cut ", number),
+    }
 }
 
 fn has_definition(defs: &Defs, name: &[u8], value: &[u8]) -> bool {
@@ -200,21 +185,85 @@ fn put_definitions(out: &mut Vec<u8>, defs: &Defs, usual: &Defs) -> Result<(), A
     Ok(())
 }
 
-/// What the source round the lines of a case leaves by itself; nothing where the case has a whole source.
-fn usual_end(alloc: Global, given: &Given) -> Result<(Vars, Defs), AllocError> {
-    let nothing = (Vars::new(alloc), Defs::new(alloc));
-    if !given.is_lines {
-        return Ok(nothing);
+/// What a run leaves that it neither has before nor `usual` leaves.
+fn put_left(
+    alloc: Global,
+    out: &mut Vec<u8>,
+    left: &Ran,
+    before: &Vars,
+    usual: Option<&Ran>,
+) -> Result<(), AllocError> {
+    match usual {
+        Some(usual) => {
+            put_changes(alloc, out, &left.end.vars, before, &usual.end.vars)?;
+            put_definitions(out, &left.end.defs, &usual.end.defs)
+        }
+        None => {
+            put_changes(alloc, out, &left.end.vars, before, before)?;
+            put_definitions(out, &left.end.defs, &Defs::new(alloc))
+        }
     }
-    let Ok(source) = parse(alloc, source_of(alloc, b"", false)?.as_slice()) else {
-        return Ok(nothing);
-    };
-    let Ok(plan) = compile(alloc, &source) else {
-        return Ok(nothing);
-    };
-    let vars = opened_vars(alloc, given, &source)?;
-    let (end, _) = run_plan(alloc, &plan, vars, &[], 1)?;
-    Ok((end.vars, end.defs))
+}
+
+/// The variables that a run begins with. The arguments are not at fault.
+fn opened_vars(alloc: Global, given: &Given, source: &Source) -> Result<Vars, AllocError> {
+    match settings_of(alloc, given, source) {
+        Ok(settings) => Ok(settings.vars),
+        Err(_) => Err(AllocError),
+    }
+}
+
+fn ran_if_short(alloc: Global, given: &Given, source: &Source) -> Result<Option<Ran>, AllocError> {
+    let vars = opened_vars(alloc, given, source)?;
+    match run_source(alloc, source, vars, given) {
+        Ok(ran) => Ok(Some(ran)),
+        Err(_) => Ok(None),
+    }
+}
+
+/// What AC_INIT and AC_OUTPUT leave by themselves, if the case gives the lines between them.
+fn usual_end(alloc: Global, given: &Given) -> Result<Option<Ran>, AllocError> {
+    if !given.is_lines {
+        return Ok(None);
+    }
+    let text = source_of(alloc, b"", false)?;
+    match read_source(alloc, text.as_slice()) {
+        Ok(source) => ran_if_short(alloc, given, &source),
+        Err(_) => Ok(None),
+    }
+}
+
+fn put_ran(
+    alloc: Global,
+    out: &mut Vec<u8>,
+    given: &Given,
+    source: &Source,
+    ran: &Ran,
+) -> Result<(), AllocError> {
+    put_outcome(alloc, out, ran.end.outcome)?;
+    out.extend_from_slice(ran.calls.as_slice())?;
+    let before = opened_vars(alloc, given, source)?;
+    let usual = usual_end(alloc, given)?;
+    put_left(alloc, out, ran, &before, usual.as_ref())
+}
+
+fn put_plan_fault(alloc: Global, out: &mut Vec<u8>, fault: &PlanFault) -> Result<(), AllocError> {
+    let line = format!(in alloc; "plan {fault}")?;
+    out.extend_from_slice(line.as_bytes())
+}
+
+/// What a run from these variables does and leaves, or the fault of its plan.
+fn put_run_from(
+    alloc: Global,
+    out: &mut Vec<u8>,
+    given: &Given,
+    source: &Source,
+    vars: Vars,
+) -> Result<(), AllocError> {
+    match run_source(alloc, source, vars, given) {
+        Ok(ran) => put_ran(alloc, out, given, source, &ran),
+        Err(fault) => put_plan_fault(alloc, out, &fault),
+    }
 }
 
 /// What a run does and leaves: its outcome, the starts and ends of children, the variables that it changed, and the
@@ -225,19 +274,8 @@ pub fn put_run(
     given: &Given,
     source: &Source,
 ) -> Result<(), AllocError> {
-    let plan = match compile(alloc, source) {
-        Ok(plan) => plan,
-        Err(fault) => {
-            let line = format!(in alloc; "plan {fault}")?;
-            return out.extend_from_slice(line.as_bytes());
-        }
-    };
-    let vars = opened_vars(alloc, given, source)?;
-    let (end, lines) = run_plan(alloc, &plan, vars, given.replies.as_slice(), given.window)?;
-    put_outcome(alloc, out, end.outcome)?;
-    out.extend_from_slice(lines.as_slice())?;
-    let before = opened_vars(alloc, given, source)?;
-    let (usual_vars, usual_defs) = usual_end(alloc, given)?;
-    put_changes(alloc, out, &end.vars, &before, &usual_vars)?;
-    put_definitions(out, &end.defs, &usual_defs)
+    match settings_of(alloc, given, source) {
+        Ok(settings) => put_run_from(alloc, out, given, source, settings.vars),
+        Err(fault) => put_option_fault(alloc, out, fault),
+    }
 }

@@ -26,7 +26,7 @@ fn put_part(out: &mut Vec<u8>, part: &Part) -> Result<(), AllocError> {
     }
 }
 
-/// The parts of a word, with quotes round what is quoted.
+/// The parts of a word; what is quoted is in single quotes.
 fn put_parts(out: &mut Vec<u8>, parts: &[Part]) -> Result<(), AllocError> {
     let mut quoted = false;
     for part in parts {

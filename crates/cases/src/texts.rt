@@ -31,7 +31,7 @@ fn put_number(out: &mut Vec<u8>, number: usize) -> Result<(), AllocError> {
     Ok(())
 }
 
-/// What a byte after a backslash stands for.
+/// Puts what a byte after a backslash means.
 fn put_escape(out: &mut Vec<u8>, byte: u8, number: usize) -> Result<Place, AllocError> {
     match byte {
         b'x' => return Ok(Place::High),
@@ -88,7 +88,7 @@ pub fn number_of(text: &[u8]) -> usize {
     number
 }
 
-/// A text before its first byte of this value, and behind it; the whole and nothing where there is none.
+/// A text before and after its first byte of this value; if it has none, the whole text and nothing.
 pub fn cut_at(text: &[u8], byte: u8) -> (&[u8], &[u8]) {
     let len = text.iter().take_while(|b| **b != byte).count();
     let len = len.min(text.len());

@@ -1,0 +1,92 @@
+//! The calls of the engine, each in a function without a contract: what is proved of them is not needed here, and would make
+//! each function that calls them slow to check.
+
+use crate::given::Given;
+use crate::recorder::Recorder;
+use acparse::{ParseFault, Source, parse};
+use crew::{MemoryCrew, Order, Reply};
+use deftable::{Bytes, Vars};
+use options::{OptionFault, Settings, help_text, read_args, srcdir_of};
+use plan::{Plan, PlanFault, compile};
+use proberun::{RunEnd, run};
+use runner::{FilterFault, Filtered, command, filter};
+use std::alloc::{AllocError, Global};
+
+pub fn read_source(alloc: Global, text: &[u8]) -> Result<Source, ParseFault> {
+    parse(alloc, text)
+}
+
+pub fn read_settings(
+    alloc: Global,
+    source: &Source,
+    arguments: &[Bytes],
+    environment: &[(Bytes, Bytes)],
+) -> Result<Settings, OptionFault> {
+    read_args(alloc, source, arguments, environment)
+}
+
+pub fn help_of(alloc: Global, source: &Source) -> Result<Bytes, AllocError> {
+    help_text(alloc, source)
+}
+
+pub fn srcdir_in(arguments: &[Bytes]) -> &[u8] {
+    srcdir_of(arguments)
+}
+
+/// What the filter answers, and what it writes to `written`.
+pub fn run_filter(
+    alloc: Global,
+    mut input: &[u8],
+    written: &mut Vec<u8>,
+) -> Result<Filtered, FilterFault> {
+    filter(alloc, &mut input, written)
+}
+
+/// The fault line.
+pub fn put_fault_line(out: &mut Vec<u8>, fault: &FilterFault) {
+    command::tell(out, fault);
+}
+
+/// What a run leaves, and what its crew did.
+#[derive(Drop)]
+pub struct Ran {
+    pub end: RunEnd,
+    pub calls: Vec<u8>,
+}
+
+fn copied(alloc: Global, replies: &[Reply]) -> Result<Vec<Reply>, AllocError> {
+    let mut all = Vec::new(alloc);
+    for reply in replies {
+        all.push(reply.copy(alloc)?)?;
+    }
+    Ok(all)
+}
+
+fn run_plan(
+    alloc: Global,
+    plan: &Plan,
+    vars: Vars,
+    replies: &[Reply],
+    window: usize,
+) -> Result<Ran, AllocError> {
+    let replies = copied(alloc, replies)?;
+    let crew = MemoryCrew::new(alloc, replies, Order::Oldest)?;
+    let lines = Vec::new(alloc);
+    let mut recorder = Recorder { crew, lines };
+    let end = run(alloc, plan, vars, &mut recorder, window.max(1).min(16))?;
+    Ok(Ran {
+        end,
+        calls: recorder.lines,
+    })
+}
+
+/// Runs a source from these variables over a crew of the case's replies.
+pub fn run_source(
+    alloc: Global,
+    source: &Source,
+    vars: Vars,
+    given: &Given,
+) -> Result<Ran, PlanFault> {
+    let plan = compile(alloc, source)?;
+    Ok(run_plan(alloc, &plan, vars, given.replies.as_slice(), given.window)?)
+}
