@@ -1,14 +1,10 @@
 -- Statement arguments: their items one after another, and their bytes.
-use Rattle.std.proofs.Common.{◌≡◌, ℕ, zero, suc, ◌+◌, ◌-◌, ◌<◌, ◌≤◌, ◌^◌, Bool, true, false, cond, List, [], ◌∷◌, length, drop, take, get_or, map, Option, Some, None, ◌&&◌, refl, sym, ap, ◌∙◌, subst, arith}
-use Rattle.std.specs.Prelude.{◌==◌, All, nat_lt}
+use Rattle.std.proofs.Common.{◌≡◌, ℕ, ◌+◌, ◌<◌, Bool, true, false, cond, List, [], ◌∷◌, length, drop, Option, Some, None, sym, ap, subst, arith}
 use Rattle.std.proofs.lemmas.List.{drop_more}
 use Rattle.std.proofs.lemmas.List.Elements.{All-head, All-tail}
-use Rattle.std.proofs.Math.ListN.{drop_of_length-le}
-use Rattle.m4quote.specs.declared.item.Arg.{Arg}
-use Rattle.m4quote.specs.declared.item.Item.{Item}
-use Rattle.m4quote.specs.Entry.{Span, Entry, call, bare, span, view, views}
+use Rattle.m4quote.specs.Entry.{Span, Entry, call, bare}
 use Rattle.m4quote.specs.Parts.{IsPart, IsItemOf, ArePartsOf}
-use Rattle.acargs.specs.Inside.{depth_behind, closes_at_end, are_blank, only_text, brackets, less_arguments, less_calls}
+use Rattle.acargs.specs.Inside.{closes_at_end, are_blank, only_text}
 use Rattle.acargs.specs.Texts.{is_all_blank}
 
 -- ---- bytes

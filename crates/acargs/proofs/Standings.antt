@@ -1,23 +1,22 @@
 -- What a statement argument stands for, as a function and as a relation.
-use Rattle.std.proofs.Common.{◌≡◌, ◌↔◌, ◌⊎◌, inl, inr, ℕ, zero, suc, ◌+◌, ◌-◌, ◌<◌, ◌≤◌, Bool, true, false, cond, List, [], ◌∷◌, ◌++◌, length, take, drop, get_or, Option, Some, None, Result, Ok, Err, refl, sym, ap, subst, ◌∙◌, arith}
+use Rattle.std.proofs.Common.{◌≡◌, ◌↔◌, ◌⊎◌, inl, inr, ℕ, suc, ◌+◌, ◌-◌, Bool, true, false, cond, List, [], ◌∷◌, ◌++◌, length, drop, get_or, Option, Some, None, Result, Ok, Err, refl, sym, ap, subst, ◌∙◌, arith}
 use Rattle.std.specs.Prelude.{Any}
 use Rattle.std.proofs.lemmas.List.{get_or-drop, get_or-take, length-append}
 use Rattle.std.proofs.lemmas.List.Folds.{list_all-append}
-use Rattle.std.proofs.lemmas.List.Elements.{All-head, All-tail}
 use Rattle.std.proofs.Math.Seq.{drop-append_seam}
 use Rattle.textcut.specs.Cuts.{is_blank}
 use Rattle.m4quote.specs.declared.fault.QuoteFault.{QuoteFault}
 use Rattle.m4quote.specs.declared.fault.QuoteFault.TheVariants as quote
 use Rattle.m4quote.specs.Entry.{Span, Entry, call, bare}
 use Rattle.m4quote.specs.Faults.{IsFirstFault}
-use Rattle.m4quote.specs.Parts.{IsPart, IsItemOf, ArePartsOf}
+use Rattle.m4quote.specs.Parts.{ArePartsOf}
 use Rattle.m4quote.specs.Scan.{outcome}
 use Rattle.m4quote.specs.Spelling.{IsSpelling}
 use Rattle.m4quote.proofs.Laws.{outcome_is_spelling, outcome_is_fault, spelling_parts, fault_is_not_memory}
 use Rattle.acargs.specs.declared.fault.ParseFault.{ParseFault}
 use Rattle.acargs.specs.declared.fault.ParseFault.TheVariants.{UnknownStatement, Quote}
 use Rattle.acargs.specs.Inside.{inside, items_of, inside_of, only_text, run_inside, or_itself, is_unquoted, are_blank}
-use Rattle.acargs.specs.Reading.{◌>>=◌, quoted, quote_fault}
+use Rattle.acargs.specs.Reading.{quoted, quote_fault}
 use Rattle.acargs.specs.Texts.{is_all_blank, is_bracket}
 use Rattle.acargs.specs.Standing.{IsRun, IsAllBut, IsInCall, HasBracketsInCallsAlone, StandsFor, run, itself}
 use Rattle.acargs.proofs.Binds.{bind_ok, bind_err, ok_is, err_is}

@@ -4,7 +4,7 @@
 -- round it, among the items of the run's inside. Quadrigraphs are replaced later, in what is read there. If AS_HELP_STRING is
 -- called, nothing else may be there but blanks and `dnl` lines, and the help is an entry. If it isn't called, or the items
 -- can't be read, the help is the argument's used text. (Own: Autoconf expands AS_HELP_STRING wherever it finds it.)
-use Rattle.std.specs.Prelude.{◌≡◌, ℕ, Bool, true, false, ◌&&◌, ◌||◌, ◌==◌, List, [], ◌∷◌, length, Option, Some, None, Result, Ok, Err, codes, if◌then◌else◌}
+use Rattle.std.specs.Prelude.{ℕ, Bool, true, false, ◌&&◌, ◌||◌, ◌==◌, List, [], ◌∷◌, length, Option, Some, None, Result, Ok, Err, codes, if◌then◌else◌}
 use Rattle.std.specs.Str.{bytes_eq}
 use Rattle.m4quote.specs.Entry.{Span, Entry, call, bare}
 use Rattle.acargs.specs.declared.fault.ParseFault.{ParseFault}

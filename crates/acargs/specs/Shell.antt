@@ -1,6 +1,6 @@
 -- Arguments that are shell text (POSIX shell, 2.2 to 2.6, 2.7.4, 2.9.4.3; `test` by the number of its words). Faults have
 -- the place of the argument.
-use Rattle.std.specs.Prelude.{ℕ, List, Result}
+use Rattle.std.specs.Prelude.{List, Result}
 use Rattle.m4quote.specs.Entry.{Span}
 use Rattle.shellword.specs.Pattern.{patterns_of}
 use Rattle.shellword.specs.Scan.{word_of, here_of}

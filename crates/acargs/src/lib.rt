@@ -5,7 +5,7 @@
 //! to the fault that a user is told. Read `fault` first, then `arguments`, then the forms in any order: `numbers` (versions,
 //! statuses and languages), `shell` (words, tests and patterns), `output` and `outputs` (lists of outputs), `feature`
 //! (options), `program` (programs and texts that are compiled). `inside` comes next (arguments that hold statements or one
-//! call), then `help` and `helping` (help arguments). `idle` and `stand` are about the text round calls.
+//! call), then `help` and `helping` (help arguments). `idle` and `stand` are about the text round calls, and `facts` has a law.
 //!
 //! An argument `[ demo ]` that is read as a title is `demo`; read as a line it is ` demo `.
 #![tactic(auto)]

@@ -1,4 +1,3 @@
-use Rattle.std.proofs.Common.{◌^◌}
 use Rattle.m4quote.specs.Entry.{views}
 use Rattle.acargs.proofs.InsideLemmas.{placed}
 use Rattle.acargs.proofs.inside.inside.Goals as goal
