@@ -2,14 +2,13 @@
 -- "Generating Sources").
 use Rattle.std.specs.Prelude.{ℕ, ◌==◌, List, length, Option, Some, None, Result, Ok, Err, nat_le, codes}
 use Rattle.m4quote.specs.Entry.{Span}
-use Rattle.m4quote.specs.Scan.{outcome}
 use Rattle.acargs.specs.declared.fault.ParseFault.{ParseFault}
 use Rattle.acargs.specs.declared.fault.ParseFault.TheVariants.{UnknownStatement, ArgCount}
 use Rattle.acargs.specs.Arguments.{arg_at}
 use Rattle.acargs.specs.Help.{Called, sole_call}
-use Rattle.acargs.specs.Inside.{inside}
+use Rattle.acargs.specs.Inside.{call_items}
 use Rattle.acargs.specs.Programs.{source_text}
-use Rattle.acargs.specs.Reading.{◌>>=◌, quoted, wants}
+use Rattle.acargs.specs.Reading.{◌>>=◌, wants}
 use Rattle.acargs.specs.Shell.{here_text}
 use Rattle.acmacros.specs.declared.program.Program.{Program}
 use Rattle.acmacros.specs.declared.program.Program.TheVariants as made
@@ -41,8 +40,7 @@ called at None None = Err (UnknownStatement at)
 -- an argument that is a program: one of the two calls alone, quoted or not, with blanks and `dnl` lines round it
 unfoldable pub tried_program : Span → Result Program ParseFault
 tried_program arg = do
-  a ← inside arg
-  items ← quoted (outcome a.at a.text)
+  items ← call_items arg
   called arg.at (sole_call (codes "AC_LANG_PROGRAM") items) (sole_call (codes "AC_LANG_SOURCE") items)
 
 -- AC_COMPILE_IFELSE(program, ..) and its like

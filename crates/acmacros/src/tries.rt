@@ -9,12 +9,11 @@ use crate::program::{Program, Try};
 use crate::statement::Question;
 use acargs::ParseFault;
 use acargs::arguments::arg_at;
-use acargs::fault::quote_fault;
 use acargs::helping::sole_call;
-use acargs::inside::inside;
+use acargs::inside::call_items;
 use acargs::program::source_text;
 use acargs::shell::here_text;
-use m4quote::{Arg, read_items_at};
+use m4quote::Arg;
 use std::alloc::Global;
 
 #[tactic(auto, unfolding(crate::specs::Tries::lang_program))]
@@ -45,11 +44,7 @@ fn lang_source(alloc: Global, args: &[Arg<'_>], at: usize) -> Result<Program, Pa
 fn tried_program(alloc: Global, arg: Arg<'_>) -> Result<Program, ParseFault>
     ensures { Gives (λ p. p) result (rows.tried_program (span arg.entry)) }
 {
-    let inner = inside(alloc, arg)?;
-    let items = match read_items_at(alloc, inner.text, inner.at) {
-        Ok(items) => items,
-        Err(fault) => return Err(quote_fault(fault)),
-    };
+    let items = call_items(alloc, arg)?;
     if let Some((args, at)) = sole_call(b"AC_LANG_PROGRAM", &items) {
         return lang_program(alloc, args, at);
     }
