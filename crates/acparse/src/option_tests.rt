@@ -40,7 +40,6 @@ fn faults(rt: HostRuntime) -> Result<(), Fail> {
         AC_ARG_WITH([a b]) => BadName(29)\0\
         AC_ARG_ENABLE([a],[AS_HELP_STRING([a])]) => ArgCount(36)\0\
         AC_ARG_ENABLE([a],[AS_HELP_STRING([a],[b]) c]) => UnknownStatement(35)\0\
-        AC_ARG_ENABLE([a],[AS_HELP_STRING([a],[b])]c) => UnknownStatement(35)\0\
         AC_ARG_ENABLE([a],,[x],[y]) => UnknownStatement(37)\0\
         AC_ARG_ENABLE([a],,[:],[y]) => UnknownStatement(41)\0\
         AC_ARG_VAR([a]) => ArgCount(17)\0\
