@@ -1,17 +1,15 @@
 -- What a statement adds to a source's lists leaves them within their limits.
-use Rattle.std.proofs.Common.{◌≡◌, ℕ, ◌+◌, ◌≤◌, ◌<◌, Bool, true, false, ◌||◌, List, [], ◌∷◌, ◌++◌, length, Result, Ok, Err, refl, sym, ap, subst, cond, ◌∙◌, arith}
+use Rattle.std.proofs.Common.{◌≡◌, ℕ, ◌+◌, ◌≤◌, ◌<◌, Bool, true, false, ◌||◌, List, [], ◌∷◌, ◌++◌, length, Ok, refl, sym, ap, subst, cond, ◌∙◌, arith}
 use Rattle.std.specs.Prelude.{codes, bytes_eq, nat_lt, not}
 use Rattle.std.specs.List.{list_any, IsDistinct}
-use Rattle.std.specs.Set.{is_member}
 use Rattle.std.proofs.lemmas.Bool.{ltb-true, leb-true}
 use Rattle.std.proofs.lemmas.List.{length-append}
 use Rattle.std.proofs.lemmas.Map.Made.{length-le_from_is_member}
 use Rattle.std.specs.Cmp.Lexicographic.{nat_list_eq_equiv}
 use Rattle.deftable.specs.NameList.{with_name, has_name, AreDistinct}
-use Rattle.deftable.proofs.Names.{has_name-with_name, has_name-[], with_name-known, with_name-new, AreDistinct-with_name}
+use Rattle.deftable.proofs.Names.{has_name-with_name, with_name-known, with_name-new, AreDistinct-with_name}
 use Rattle.textcut.specs.Cuts.{fields}
 use Rattle.m4quote.specs.Entry.{Span}
-use Rattle.acargs.specs.declared.fault.ParseFault.{ParseFault}
 use Rattle.acargs.specs.declared.fault.ParseFault.TheVariants.{BadName, TooMany}
 use Rattle.acargs.specs.declared.output.Output.{Output}
 use Rattle.acargs.specs.declared.feature.OptionKind.{OptionKind}
@@ -35,9 +33,9 @@ use Rattle.acargs.specs.declared.help.Help.{Help}
 use Rattle.acmacros.specs.declared.program.Try.{Try}
 use Rattle.acmacros.specs.declared.scene.Scene as scene
 use Rattle.acmacros.specs.declared.statement.Plain.{Plain}
-use Rattle.acmacros.specs.declared.statement.Plain.TheVariants.{Init, Accepted, ConfigFiles, Assign, Subst, SubstValue, Define, DefineUnquoted, Error, ArgVar, CheckProg, CheckProgs, PathProg, ProgCc, Output as An_output}
+use Rattle.acmacros.specs.declared.statement.Plain.TheVariants.{Subst, SubstValue, Define, DefineUnquoted}
 use Rattle.acmacros.specs.declared.statement.Question.{Question}
-use Rattle.acmacros.specs.declared.statement.Question.TheVariants.{Given, Tries}
+use Rattle.acmacros.specs.declared.statement.Question.TheVariants.{Given}
 use Rattle.acmacros.specs.Limits.{IsWithinLimits}
 use Rattle.acmacros.specs.Room.{has_room}
 use Rattle.acmacros.specs.Rows.{plain_of, init, tarname, prereq, lang, config_files, subst as subst_row, subst_of, defined, define, unquoted_of, unquoted, define_unquoted, msg_error, arg_var, question_of, given, declared}
