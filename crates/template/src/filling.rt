@@ -1,4 +1,4 @@
-// Hops from `@` to `@`.
+// Filling, from one `@` to the next. What is copied is written in runs, not stretch by stretch.
 ghost use Rattle.std.specs.Prelude.{◌≡◌, ℕ, ◌+◌, ◌-◌, ◌^◌, ◌<◌, ◌≤◌, Some, None, true, List, length, slice_range, IfSome, IfNone, IfOk};
 ghost use Rattle.deftable.specs.Table.{value_of};
 ghost use Rattle.template.specs.Fill.{Fills, filled};
@@ -9,8 +9,8 @@ use crate::table::Table;
 use deftable::Bytes;
 use std::alloc::{AllocError, Global};
 
-// What is held so far is written at the latest once it is so long, while a processor's cache still has it.
-const MOST_HELD: usize = 16384;
+// What is held is written once it is so long, while the processor's nearest cache has it.
+const MOST_HELD: usize = 512;
 
 // How far a filling has come: what is before `start` is written, and the text from there up to `last` is to be copied. An `@`
 // at `last` is open if it may begin a key.
@@ -33,8 +33,9 @@ impl Held {
 
 /// The template `text` with the keys of `table` filled in.
 ///
-/// It fails only for want of memory. Its time is that of reading the text once, of writing the values, and of one look
-/// into the table for each two `@` with a shell name between them that is no longer than the longest key.
+/// It fails only for want of memory. Its time is that of reading the text once, of writing what is made, and of at most one
+/// look into the table for each two `@` that are next to one another, have no more bytes between them than the longest key,
+/// and are let through by the table's sieve. It reserves as many bytes as the text has, and more where what is made is longer.
 pub fn fill(alloc: Global, text: &[u8], table: &Table) -> Result<Vec<u8>, AllocError>
     ensures found { IfOk result (λ v. Fills table.now text.now v.items) }
     ensures exact { IfOk result (λ v. v.items ≡ filled table.now text.now) }

@@ -1,0 +1,64 @@
+#!/usr/bin/env python3
+"""Prints how tables and templates do in time and memory, as ratios. Run it at any place: python3 bench/run.py
+
+It makes a repository of its own in a temporary folder, from the proved crates deftable and template and from bench/src,
+proves and builds the program there with rt, and measures it. It needs rt and no network.
+"""
+import os
+import pathlib
+import shutil
+import subprocess
+import tempfile
+
+ROOT = pathlib.Path(__file__).resolve().parent.parent
+RUNS = 5
+
+
+def build(folder):
+    """Proves and builds the program in the folder, and returns its path."""
+    crates = folder / "crates"
+    for name in ("deftable", "template"):
+        shutil.copytree(ROOT / "crates" / name, crates / name, ignore=shutil.ignore_patterns("must-fail"))
+    shutil.copytree(ROOT / "bench" / "src", crates / "tables_bench" / "src")
+    lines = [line for line in (ROOT / "crates.txt").read_text().splitlines() if line.startswith(("deftable:", "template:"))]
+    (folder / "crates.txt").write_text("\n".join(lines + ["tables_bench: template deftable", ""]))
+    (folder / "HANDLES").write_text("Handles allowed: none.\n")
+    here = crates / "tables_bench"
+    done = subprocess.run(["rt", "run", "--", "work", "definitions", "1"], cwd=here, stdin=subprocess.DEVNULL, capture_output=True, text=True)
+    program = here / "out" / "tables_bench"
+    if done.returncode or not program.exists():
+        raise SystemExit(done.stdout + done.stderr)
+    return program
+
+
+def measured(*command):
+    """Runs the command, and returns its output, its user time in seconds and its peak of memory in kilobytes."""
+    reading, writing = os.pipe()
+    child = os.posix_spawn(command[0], [str(word) for word in command], {}, file_actions=[(os.POSIX_SPAWN_DUP2, writing, 1)])
+    os.close(writing)
+    with os.fdopen(reading) as pipe:
+        output = pipe.read()
+    _, status, used = os.wait4(child, 0)
+    if status:
+        raise SystemExit(f"{command}: status {status}")
+    return output, used.ru_utime, used.ru_maxrss
+
+
+def main():
+    with tempfile.TemporaryDirectory() as folder:
+        program = build(pathlib.Path(folder))
+        print("user time of twice the work, as a multiple of that of once:")
+        for name, count in (("definitions", 45_000), ("variables", 60_000), ("names", 60_000)):
+            once = min(measured(program, "work", name, count)[1] for _ in range(RUNS))
+            twice = min(measured(program, "work", name, 2 * count)[1] for _ in range(RUNS))
+            print(f"  {name}: {count} in {once:.3f} s, {2 * count} in {twice:.3f} s: {twice / max(once, 1e-6):.2f}")
+        print("time to fill a template of 50,000,000 bytes, as a multiple of that of a copy, in hundredths:")
+        print("  " + measured(program)[0].strip().replace("\n", "\n  "))
+        print("peak of memory, as a multiple of template and filled text together:")
+        for name in ("plain", "few", "keys", "@A", "empty"):
+            output, _, peak = measured(program, "peak", name)
+            template, filled = (int(word) for word in output.split())
+            print(f"  {name}: {template} to {filled} bytes, peak {peak} kB: {1024 * peak / (template + filled):.2f}")
+
+
+main()
