@@ -1,7 +1,7 @@
 #!/usr/bin/env python3
-"""Prints how tables and templates do in time and memory, as ratios. Run it at any place: python3 bench/run.py
+"""Prints how tables and templates do in time and memory, as ratios. Run it at any place: python3 bench/tables.py
 
-It makes a repository of its own in a temporary folder, from the proved crates deftable and template and from bench/src,
+It makes a repository of its own in a temporary folder, from the proved crates deftable and template and from bench/tables.rt.txt,
 proves and builds the program there with rt, and measures it. It needs rt and no network.
 """
 import os
@@ -19,7 +19,8 @@ def build(folder):
     crates = folder / "crates"
     for name in ("deftable", "template"):
         shutil.copytree(ROOT / "crates" / name, crates / name, ignore=shutil.ignore_patterns("must-fail"))
-    shutil.copytree(ROOT / "bench" / "src", crates / "tables_bench" / "src")
+    (crates / "tables_bench" / "src").mkdir(parents=True)
+    shutil.copyfile(ROOT / "bench" / "tables.rt.txt", crates / "tables_bench" / "src" / "main.rt")
     lines = [line for line in (ROOT / "crates.txt").read_text().splitlines() if line.startswith(("deftable:", "template:"))]
     (folder / "crates.txt").write_text("\n".join(lines + ["tables_bench: template deftable", ""]))
     (folder / "HANDLES").write_text("Handles allowed: none.\n")
