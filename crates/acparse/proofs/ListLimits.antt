@@ -1,5 +1,5 @@
 -- Statements leave the lists of a source within their limits.
-use Rattle.std.proofs.Common.{◌≡◌, ℕ, ◌≤◌, zero, suc, Bool, true, false, List, Result, Ok, Err, length, refl, sym, subst}
+use Rattle.std.proofs.Common.{◌≡◌, ℕ, zero, suc, Bool, true, false, List, Result, Ok, Err, refl, sym, subst}
 use Rattle.std.specs.Prelude.{IfOk}
 use Rattle.m4quote.specs.Entry.{Span, Entry}
 use Rattle.acargs.specs.declared.fault.ParseFault.{ParseFault}
@@ -20,10 +20,9 @@ use Rattle.tree.specs.declared.tree.Subject.TheVariants.{Nothing, Word}
 use Rattle.tree.specs.declared.tree.When.{When}
 use Rattle.tree.specs.declared.tree.When.TheVariants.{Always}
 use Rattle.tree.specs.Known.{after_all, after_cases, after_subject}
-use Rattle.tree.specs.Script.{Script, Done, Then, Choice, Cases, joined, followed, script_of}
+use Rattle.tree.specs.Script.{Script, Done, Then, Choice, Cases, script_of}
 use Rattle.tree.proofs.ScriptLemmas.{after_joined, after_followed}
 use Rattle.acparse.specs.declared.source.Source.{Source}
-use Rattle.acparse.specs.Bare.{assigned}
 use Rattle.acparse.specs.Limits.{HasShortLists}
 use Rattle.acparse.specs.Profile.{source_of, subject_of, case_if}
 use Rattle.acparse.specs.Source.{IsSource}
