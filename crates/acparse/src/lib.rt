@@ -18,14 +18,4 @@ pub use source::{Source, parse};
 pub use tree::{Case, Stmt, Subject, When};
 
 #[cfg(test)]
-mod choice_tests;
-#[cfg(test)]
-mod macro_tests;
-#[cfg(test)]
-mod option_tests;
-#[cfg(test)]
-mod probe_tests;
-#[cfg(test)]
-mod table;
-#[cfg(test)]
 mod tests;

@@ -1,15 +1,11 @@
-//! Worked examples, each answer found by hand from the rules.
+//! Streams that fail, and the words of the program. The crate `cases` has what the filter writes and which faults it names.
 
 ghost use Rattle.std.specs.Io.{WritesAtMost};
 
 use super::*;
-use crate::running::run_alone;
 use acargs::ParseFault;
-use acparse::parse;
-use deftable::{Bytes, Vars};
-use plan::compile;
-use proberun::RunEnd;
-use std::alloc::{AllocError, Global};
+use deftable::Bytes;
+use std::alloc::Global;
 use std::env::{Env, FillError};
 use std::io::{self, Read, Write};
 use std::process::Abort;
@@ -21,202 +17,12 @@ const DEMO: &[u8] =
 
 #[test]
 fn the_first_file(rt: HostRuntime) -> Result<(), Fail> {
-    let cases = [
-        (DEMO, b"demo 1.0 @nope@\n".as_slice()),
-        // no file
-        (b"AC_INIT([x],[1])\nAC_OUTPUT\n%%\n@PACKAGE_NAME@\n", b""),
-        // the marker as the last line
-        (b"AC_INIT([x],[1])AC_CONFIG_FILES([f])AC_OUTPUT\n%%", b""),
-        // The first marker parts, and lines that hold more don't.
-        (
-            b"# %%\nAC_INIT([x],[1])AC_DEFINE([A],[],[\n%%%\n %%\n%% \n%\n])AC_CONFIG_FILES([f])AC_OUTPUT\n%%\n\n%%\na@",
-            b"\n%%\na@",
-        ),
-        // The values are not filled again.
-        (
-            b"AC_INIT([@PACKAGE_URL@],[@])AC_CONFIG_FILES([f])AC_OUTPUT\n%%\n@PACKAGE_NAME@@PACKAGE_VERSION@x@",
-            b"@PACKAGE_URL@@x@",
-        ),
-        // all output variables
-        (
-            b"AC_INIT([GNU Demo],[1.0],[bugs],[],[u\"])AC_CONFIG_FILES([f])AC_OUTPUT\n%%\n@PACKAGE_NAME@ @PACKAGE_TARNAME@ @PACKAGE_VERSION@ @PACKAGE_STRING@ @PACKAGE_BUGREPORT@ @PACKAGE_URL@",
-            b"GNU Demo demo 1.0 GNU Demo 1.0 bugs u\"",
-        ),
-        // two files of one template
-        (
-            b"AC_INIT([x],[1])AC_CONFIG_FILES([a:t b:t])AC_OUTPUT\n%%\n@PACKAGE_NAME@\0",
-            b"x\0",
-        ),
-    ];
-    for (input, wanted) in cases {
-        let mut reader = input;
-        let mut written = Vec::from_slice(rt.alloc(), b"> ")?;
-        let answer = filter(rt.alloc(), &mut reader, &mut written)?;
-        assert_eq!(rt; answer.status, 0);
-        assert!(rt; answer.errors.is_empty());
-        let whole = written.as_slice();
-        assert!(rt;
-            whole.strip_prefix(b"> ") == Some(wanted),
-            "{input:?}: {whole:?}"
-        );
-    }
-    Ok(())
-}
-
-/// Runs these lines between AC_INIT and AC_OUTPUT, with this template, and asserts the status and what is written.
-fn assert_run(
-    rt: &impl Abort,
-    alloc: Global,
-    lines: &[u8],
-    template: &[u8],
-    status: u8,
-    wanted: &[u8],
-) -> Result<(), Fail> {
-    let mut input = Vec::from_slice(alloc, b"AC_INIT([demo],[1.0])\nAC_CONFIG_FILES([f])\n")?;
-    input.extend_from_slice(lines)?;
-    input.extend_from_slice(b"\nAC_OUTPUT\n%%\n")?;
-    input.extend_from_slice(template)?;
-    let mut reader = input.as_slice();
-    let mut written = Vec::new(alloc);
-    let answer = filter(alloc, &mut reader, &mut written)?;
-    assert!(rt; answer.status == status, "{lines:?}: {answer:?}");
-    assert!(rt; written.as_slice() == wanted, "{lines:?}: {written:?}");
-    Ok(())
-}
-
-#[test]
-fn runs(rt: HostRuntime) -> Result<(), Fail> {
-    let cases = [
-        (
-            b"a=yes\nAS_IF([test \"x$a\" = xyes && test -n \"$b\"],[r=1],[r=2])\nAC_SUBST([r])".as_slice(),
-            b"@r@".as_slice(),
-            0,
-            b"2".as_slice(),
-        ),
-        (
-            b"AS_CASE([ab],[a*],[r=1],[ab],[r=2])\nAC_SUBST([r])",
-            b"@r@",
-            0,
-            b"1",
-        ),
-        // a variable of a case that is not taken
-        (
-            b"AS_IF([test x = y],[AC_SUBST([Q],[1])])",
-            b"<@Q@@R@>",
-            0,
-            b"<@R@>",
-        ),
-        // Assignments of one statement are made from the left.
-        (b"a=x b=$a\nAC_SUBST([b])", b"@b@", 0, b"x"),
-        (b"a='$b'; AC_SUBST([a])", b"@a@", 0, b"$b"),
-        (b"AC_SUBST([a], [\"x y\"])\na=${a}z", b"@a@", 0, b"x yz"),
-        // directories, which are settled at the end, and where the file stands
-        (
-            b"",
-            b"@bindir@ @top_builddir@|@srcdir@ @LIBS@|@configure_input@",
-            0,
-            b"${exec_prefix}/bin .|. |f.  Generated from f.in by configure.",
-        ),
-        (
-            b"AC_SUBST([P],[\"$prefix\"])",
-            b"@P@ @prefix@ @exec_prefix@",
-            0,
-            b"NONE /usr/local ${prefix}",
-        ),
-        // An option that is not given, and precious variables
-        (
-            b"AC_ARG_ENABLE([x],[h],[r=1],[r=2])AC_ARG_WITH([y],,[s=1])\nAC_SUBST([r])AC_SUBST([s])",
-            b"@r@@s@@withval@",
-            0,
-            b"2@withval@",
-        ),
-        (
-            b"AC_ARG_VAR([CC],[c])\nAS_IF([test \"x$ac_cv_env_CC_set\" = x],[CC=cc])",
-            b"@CC@",
-            0,
-            b"cc",
-        ),
-        (
-            b"enable_x=yes\nAC_ARG_ENABLE([x],[h],[r=$enableval],[r=2])AC_SUBST([r])",
-            b"@r@",
-            0,
-            b"yes",
-        ),
-        // Nothing is started: a run that needs a child is cut, and one that lacks a compiler is stopped.
-        (
-            b"CC=cc\nAC_COMPILE_IFELSE([AC_LANG_PROGRAM([],[])],[r=1],[r=2])",
-            b"x",
-            3,
-            b"",
-        ),
-        (
-            b"AC_PROG_CC\nAC_LINK_IFELSE([AC_LANG_PROGRAM([],[])])",
-            b"x",
-            1,
-            b"",
-        ),
-        (b"PATH=/x\nAC_PATH_PROG([P],[p])", b"x", 3, b""),
-        (
-            b"AC_PROG_CC\nAC_SUBST([ac_cv_prog_CC])",
-            b"<@CC@@ac_cv_prog_CC@>",
-            0,
-            b"<>",
-        ),
-        (b"P=q\nAC_CHECK_PROG([P],[p],[x])", b"@P@", 0, b"q"),
-        (b"AC_CHECK_PROGS([P],[p q],[none])", b"@P@", 0, b"none"),
-        (
-            b"ac_cv_prog_P=seen\nAC_CHECK_PROG([P],[p],[x])",
-            b"@P@",
-            0,
-            b"seen",
-        ),
-        // Errors stop a run with their status.
-        (b"AC_MSG_ERROR([no])", b"x", 1, b""),
-        (b"AS_IF([:],[AC_MSG_ERROR([no],[7])])", b"x", 7, b""),
-        (b"AS_IF([false],[AC_MSG_ERROR([no],[7])])", b"x", 0, b"x"),
-    ];
-    for (lines, template, status, wanted) in cases {
-        assert_run(&rt, rt.alloc(), lines, template, status, wanted)?;
-    }
-    Ok(())
-}
-
-/// The example of docs/language.md, which has every macro that is read and needs no child.
-const LANGUAGE: &[u8] =
-    b"AC_PREREQ([2.69])\nAC_INIT([GNU Hello], [2.12], [bug-hello@gnu.org])\nAC_CONFIG_SRCDIR([src/hello.c])\nAC_CONFIG_AUX_DIR([build-aux])\nAC_CONFIG_MACRO_DIR([m4])\nAC_CONFIG_MACRO_DIRS([m4 lib/m4])\nAC_LANG([C])\nAC_CONFIG_FILES([version])\n\nfeatures=none level=2   # two assignments, from the left\nAC_SUBST([features])\nAC_SUBST([CFLAGS], [\"-O$level -Wall\"])\nAS_IF([test \"x$features\" = xnone], [kind=plain],\n      [test -n \"$features\" && test \"$level\" != 0], [kind=rich],\n      [AC_MSG_ERROR([no features at all], [77])])\nAC_SUBST([kind])\nAS_CASE([$CFLAGS],\n  [*-O0* | *-Og*], [optimised=no],\n  [*-O?*],         [optimised=yes],\n  [optimised=unknown])\nAC_SUBST([optimised])\nAC_ARG_ENABLE([colour], [AS_HELP_STRING([--disable-colour], [greet in plain text])],\n  [], [enable_colour=yes])\nAC_SUBST([enable_colour])\nAC_ARG_WITH([greeting], [AS_HELP_STRING([--with-greeting=TEXT], [what is said])],\n  [greeting=$withval], [greeting=hello])\nAC_SUBST([greeting])\nAC_ARG_VAR([CFLAGS], [flags of the C compiler])\nAC_DEFINE([HAVE_HELLO])\nAC_DEFINE([GREETING], [\"hello, world\"], [What is said.])\nAC_DEFINE_UNQUOTED([KIND], [\"$kind\"], [What kind of hello.])\nAC_OUTPUT\n%%\n@PACKAGE_TARNAME@ @PACKAGE_VERSION@: @kind@, optimised: @optimised@ (@CFLAGS@), @greeting@ in @bindir@\n";
-
-#[test]
-fn the_example_of_the_language(rt: HostRuntime) -> Result<(), Fail> {
-    let mut reader = LANGUAGE;
-    let mut written = Vec::new(rt.alloc());
+    let mut reader = DEMO;
+    let mut written = Vec::from_slice(rt.alloc(), b"> ")?;
     let answer = filter(rt.alloc(), &mut reader, &mut written)?;
     assert_eq!(rt; answer.status, 0);
-    assert_eq!(rt;
-        written.as_slice(),
-        b"hello 2.12: plain, optimised: yes (-O2 -Wall), hello in ${exec_prefix}/bin\n".as_slice()
-    );
-    Ok(())
-}
-
-/// So many assignments between AC_INIT and AC_OUTPUT.
-fn assignments(alloc: Global, count: usize) -> Result<Vec<u8>, AllocError> {
-    let mut input = Vec::from_slice(alloc, b"AC_INIT([x],[1])\n")?;
-    for _ in 0..count {
-        input.extend_from_slice(b"a=1\n")?;
-    }
-    input.extend_from_slice(b"AC_OUTPUT\n%%\n")?;
-    Ok(input)
-}
-
-#[test]
-fn the_longest_source(rt: HostRuntime) -> Result<(), Fail> {
-    let input = assignments(rt.alloc(), 65_533)?;
-    let mut reader = input.as_slice();
-    let (fault, _) = fault_of(rt.alloc(), &mut reader);
-    assert!(rt; fault.is_none());
-    let input = assignments(rt.alloc(), 65_534)?;
-    let mut reader = input.as_slice();
-    assert_line(&rt, rt.alloc(), &mut reader, b"acrun: plan 1\n");
+    assert!(rt; answer.errors.is_empty());
+    assert_eq!(rt; written.as_slice(), b"> demo 1.0 @nope@\n".as_slice());
     Ok(())
 }
 
@@ -225,58 +31,6 @@ fn fault_of<R: Read>(alloc: Global, reader: &mut R) -> (Option<FilterFault>, usi
     let mut written = Vec::new(alloc);
     let fault = filter(alloc, reader, &mut written).err();
     (fault, written.len())
-}
-
-#[test]
-fn inputs_without_a_marker(rt: HostRuntime) {
-    for input in [
-        b"".as_slice(),
-        b"%",
-        b"%%%\n",
-        b" %%\n%% \n%%\r\n",
-        b"AC_INIT([x],[1])\nAC_OUTPUT\n",
-    ] {
-        let mut reader = input;
-        let (fault, written) = fault_of(rt.alloc(), &mut reader);
-        assert!(rt; matches!(fault, Some(FilterFault::Usage)), "{input:?}");
-        assert_eq!(rt; written, 0);
-    }
-}
-
-#[test]
-fn sources_at_fault(rt: HostRuntime) {
-    let cases = [
-        (b"%%\n".as_slice(), ParseFault::NoInit),
-        (b"AC_INIT([x],[1])\n%%\nAC_OUTPUT\n", ParseFault::NoOutput),
-        (b"AC_INIT([x],[1])\nx\n%%", ParseFault::UnknownStatement(16)),
-        // The source is told before the templates.
-        (
-            b"AC_INIT([x],[1])\nAC_CONFIG_FILES([a b])\n%%\n",
-            ParseFault::NoOutput,
-        ),
-    ];
-    for (input, wanted) in cases {
-        let mut reader = input;
-        let (fault, written) = fault_of(rt.alloc(), &mut reader);
-        assert_eq!(rt; written, 0);
-        let found = match fault {
-            Some(FilterFault::Run(Fault::Parse(found))) => Some(found),
-            _ => None,
-        };
-        assert!(rt; found == Some(wanted), "{input:?}: {found:?}");
-    }
-}
-
-#[test]
-fn a_template_that_is_not_there(rt: HostRuntime) -> Result<(), Fail> {
-    let mut reader = b"AC_INIT([x],[1])AC_CONFIG_FILES([a:t b:t c:u d])AC_OUTPUT\n%%\n".as_slice();
-    let (fault, written) = fault_of(rt.alloc(), &mut reader);
-    assert_eq!(rt; written, 0);
-    let Some(FilterFault::Run(Fault::NoTemplate(name))) = fault else {
-        return Err(Fail::from("no template is missing"));
-    };
-    assert_eq!(rt; name.as_slice(), b"u".as_slice());
-    Ok(())
 }
 
 /// Is interrupted so many times, gives so many newlines, one in a read, and then its end, if it doesn't fail.
@@ -371,52 +125,6 @@ fn a_writer_that_fails(rt: HostRuntime) {
             Err(FilterFault::Run(Fault::Parse(ParseFault::NoInit)))
         )
     );
-}
-
-/// A name and its value on a line.
-fn put_line(text: &mut Vec<u8>, name: &[u8], value: &[u8]) -> Result<(), AllocError> {
-    text.extend_from_slice(name)?;
-    text.push(b'=')?;
-    text.extend_from_slice(value)?;
-    text.push(b'\n')?;
-    Ok(())
-}
-
-#[test]
-fn what_a_source_leaves(rt: HostRuntime) -> Result<(), Fail> {
-    let text =
-        b"AC_INIT([a\"b\\],[1],[bugs])AC_DEFINE([X],[1])AC_DEFINE([PACKAGE_URL],[0])AC_DEFINE([Y],[2])AC_DEFINE([X],[\"3\"])AC_OUTPUT";
-    let source = parse(rt.alloc(), text)?;
-    let plan = compile(rt.alloc(), &source)?;
-    let RunEnd { vars, defs, .. } = run_alone(rt.alloc(), &plan, Vars::new(rt.alloc()))?;
-    let mut found = Vec::new(rt.alloc());
-    for i in 0..vars.len() {
-        let (name, value) = vars.at(i);
-        put_line(&mut found, name, value)?;
-    }
-    found.push(b'\n')?;
-    for i in 0..defs.len() {
-        let (name, value) = defs.at(i);
-        put_line(&mut found, name, value)?;
-    }
-    let wanted = b"PACKAGE_NAME=a\"b\\
-PACKAGE_TARNAME=a-b-
-PACKAGE_VERSION=1
-PACKAGE_STRING=a\"b\\ 1
-PACKAGE_BUGREPORT=bugs
-PACKAGE_URL=
-
-PACKAGE_NAME=\"a\\\"b\\\\\"
-PACKAGE_TARNAME=\"a-b-\"
-PACKAGE_VERSION=\"1\"
-PACKAGE_STRING=\"a\\\"b\\\\ 1\"
-PACKAGE_BUGREPORT=\"bugs\"
-PACKAGE_URL=0
-X=\"3\"
-Y=2
-";
-    assert_eq!(rt; found.as_slice(), wanted.as_slice());
-    Ok(())
 }
 
 /// A process with these arguments.
@@ -525,94 +233,11 @@ fn arguments_that_are_not_known(rt: HostRuntime) -> Result<(), Fail> {
 }
 
 #[test]
-fn lines_of_faults(rt: HostRuntime) {
-    let cases = [
-        (b"".as_slice(), b"acrun: usage\n".as_slice()),
-        (b"%%\n", b"acrun: parse 8\n"),
-        (b"AC_INIT([x],[1])\n%%\n", b"acrun: parse 9\n"),
-        (b"AC_INIT([x\n%%\n", b"acrun: parse 1.1 at 8\n"),
-        (b"AC_INIT([x],[1]\n%%\n", b"acrun: parse 1.2 at 7\n"),
-        (b"]\n%%\n", b"acrun: parse 1.3 at 0\n"),
-        (b"#\0\n%%\n", b"acrun: parse 1.4 at 1\n"),
-        (
-            b"AC_INIT([x],[1])\nAC_NOPE\nAC_OUTPUT\n%%\n",
-            b"acrun: parse 2 at 17\n",
-        ),
-        (b"AC_INIT([x],[1])\nx\n%%\n", b"acrun: parse 3 at 16\n"),
-        (b"AC_INIT([x])\n%%\n", b"acrun: parse 4 at 0\n"),
-        (
-            b"AC_INIT([x],[1])\nAC_CONFIG_FILES([a a])\nAC_OUTPUT\n%%\n",
-            b"acrun: parse 5 at 33\n",
-        ),
-        (
-            b"AC_INIT([x],[1])\nAC_CONFIG_FILES([/a])\nAC_OUTPUT\n%%\n",
-            b"acrun: parse 5 at 33\n",
-        ),
-        (
-            b"AC_INIT([x],[1])\nAC_INIT([x],[1])\n%%\n",
-            b"acrun: parse 7 at 17\n",
-        ),
-        (
-            b"AC_INIT([x],[1])\na=`b`\n%%\n",
-            b"acrun: parse 6.1 at 16\n",
-        ),
-        (
-            b"AC_INIT([x],[1])\nAS_IF([test a -eq b],[])\n%%\n",
-            b"acrun: parse 6.2 at 23\n",
-        ),
-        (
-            b"AC_INIT([x],[1])\nAS_CASE([a],[(],[])\n%%\n",
-            b"acrun: parse 6.3 at 29\n",
-        ),
-        (
-            b"AC_INIT([x],[1])\nAS_IF([:],[AC_CONFIG_FILES([f])])\n%%\n",
-            b"acrun: parse 7 at 28\n",
-        ),
-        (b"AC_PREREQ([2.72])\n%%\n", b"acrun: parse 14 at 10\n"),
-        (
-            b"AC_INIT([x],[1])\nAC_OUTPUT\nAC_OUTPUT\n%%\n",
-            b"acrun: parse 10 at 27\n",
-        ),
-        (
-            b"AC_INIT([x],[1])\nAC_CONFIG_FILES([a b])\nAC_OUTPUT\n%%\n",
-            b"acrun: template b.in\n",
-        ),
-    ];
-    for (input, line) in cases {
-        let mut reader = input;
-        assert_line(&rt, rt.alloc(), &mut reader, line);
-    }
+fn an_input_that_cannot_be_read(rt: HostRuntime) {
     assert_line(
         &rt,
         rt.alloc(),
         &mut Broken,
         b"acrun: file standard input\n",
     );
-}
-
-/// So many bytes, and then a line that is the marker.
-fn input_of(alloc: Global, count: usize, byte: u8) -> Result<Vec<u8>, AllocError> {
-    let mut input = Vec::new(alloc);
-    for _ in 0..count {
-        input.push(byte)?;
-    }
-    input.extend_from_slice(b"\n%%\n")?;
-    Ok(input)
-}
-
-#[test]
-fn inputs_past_a_limit(rt: HostRuntime) -> Result<(), Fail> {
-    let cases = [
-        (64, b'[', b"acrun: parse 1.1 at 0\n".as_slice()),
-        (65, b'[', b"acrun: parse 1.6\n"),
-        // The newline before the marker is a byte of the source.
-        (1_048_575, b' ', b"acrun: parse 8\n"),
-        (1_048_576, b' ', b"acrun: parse 1.5\n"),
-    ];
-    for (count, byte, line) in cases {
-        let input = input_of(rt.alloc(), count, byte)?;
-        let mut reader = input.as_slice();
-        assert_line(&rt, rt.alloc(), &mut reader, line);
-    }
-    Ok(())
 }
