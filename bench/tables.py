@@ -1,8 +1,8 @@
 #!/usr/bin/env python3
-"""Prints how tables and templates do in time and memory, as ratios. Run it at any place: python3 bench/tables.py
+"""Prints how tables and templates do in time and memory, as ratios: python3 bench/tables.py
 
-It makes a repository of its own in a temporary folder, from the proved crates deftable and template and from bench/tables.rt.txt,
-proves and builds the program there with rt, and measures it. It needs rt and no network.
+It makes a repository in a temporary folder, of the crates deftable and template and of bench/tables.rt.txt, proves and builds the
+program there with rt, and measures it. It needs rt and no network.
 """
 import os
 import pathlib

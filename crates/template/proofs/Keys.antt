@@ -3,8 +3,7 @@ use Rattle.std.proofs.Common.{◌≡◌, ℕ, ◌<◌, ◌≤◌, List, [], ◌�
 use Rattle.std.specs.Prelude.{bytes_eq}
 use Rattle.std.specs.List.{AllByRecursion}
 use Rattle.std.proofs.lemmas.Slice.Eq.{bytes_eq-Decides}
-use Rattle.deftable.specs.ShellName.{IsShellName}
-use Rattle.deftable.specs.Table.{value_of, with_entry, names_of, HasShellNames}
+use Rattle.deftable.specs.Table.{value_of, with_entry, names_of}
 use Rattle.deftable.proofs.Tables.{All-with_entry, HasShellNames-with_entry, HasShellNames-[]}
 use Rattle.template.specs.Keys.{AreUpTo, AllPass, Passes, longest_of}
 

@@ -1,5 +1,5 @@
 -- Which text a filled template is: stretch by stretch, and by the relation.
-use Rattle.std.proofs.Common.{◌≡◌, ℕ, zero, suc, List, [], ◌∷◌, ◌++◌, Bool, true, false, cond, ◌&&◌, length, drop, take, get_or, ◌<◌, ◌≤◌, append_assoc, arith, length-take, refl, sym, ◌∙◌, ap, subst, Option, Some, None, eqb-true, append-nil}
+use Rattle.std.proofs.Common.{◌≡◌, ℕ, zero, suc, List, [], ◌∷◌, ◌++◌, Bool, true, false, cond, ◌&&◌, length, drop, take, get_or, ◌<◌, ◌≤◌, arith, length-take, refl, sym, ◌∙◌, ap, subst, Option, Some, None, eqb-true, append-nil}
 use Rattle.std.specs.Prelude.{◌==◌, bytes_eq, option_map, option_and_then}
 use Rattle.std.specs.Option.{option_map_or}
 use Rattle.std.specs.List.{list_all}

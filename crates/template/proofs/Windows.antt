@@ -1,5 +1,5 @@
 -- What the windows on a text say of the `@` in it.
-use Rattle.std.proofs.Common.{◌≡◌, ◌≢◌, ◌↔◌, ℕ, suc, ◌+◌, ◌-◌, ◌<◌, ◌≤◌, List, [], ◌∷◌, ◌++◌, Bool, true, false, cond, eqb, map, length, drop, take, get_or, length-take, length-drop, add-one, arith, refl, sym, ◌∙◌, ap, subst, eqb-true, eq-eqb}
+use Rattle.std.proofs.Common.{◌≡◌, ◌≢◌, ◌↔◌, ℕ, suc, ◌+◌, ◌-◌, ◌<◌, ◌≤◌, List, [], ◌∷◌, ◌++◌, Bool, true, false, cond, eqb, map, length, drop, take, get_or, length-take, add-one, arith, refl, sym, ◌∙◌, ap, subst, eqb-true, eq-eqb}
 use borrow.Author.Tests.{ltb-true, ltb-false}
 use Rattle.std.specs.Prelude.{ltb, slice_range, Option, Some, None, IfSome, IfNone}
 use Rattle.std.specs.Int.{bit_at}

@@ -18,12 +18,12 @@ pub record HasNextAt (text : List ℕ) (from at : ℕ) : Type 0 where
   pub clean : HasNoAt (slice_range text from at)
   pub there : HasAt text at
 
--- how far the text has been read: an open `@` has been
+-- how far the text has been read: an open `@` at the last place is read
 abbrev pub read_to : ℕ → Bool → ℕ
 read_to last opened = if opened then last + 1 else last
 
--- A filling has come to a place, where an `@` may be open, which begins a key or not: what is written, then the text from
--- `start` up to that place as it is, and then the rest filled, is the whole filled.
+-- A filling has come to the place `last`, at which an open `@` may be: what is written, then the text from `start` up to
+-- `last` as it is, and then the rest filled, is the whole filled (own).
 pub record HasComeTo (es : List (List ℕ × List ℕ)) (text made : List ℕ) (start last : ℕ) (opened : Bool) : Type 0 where
   pub ordered : start ≤ last
   pub within : read_to last opened ≤ length text

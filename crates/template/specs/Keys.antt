@@ -8,12 +8,12 @@ use Rattle.deftable.specs.Table.{names_of}
 abbrev pub AreUpTo : ℕ → List (List ℕ × List ℕ) → Type 0
 AreUpTo n es = AllByRecursion (λ k. length k ≤ n) (names_of es)
 
--- the number of bytes of the longest key, or 0 where there is none
+-- the number of bytes of the longest key, or 0 if there is none (own)
 unfoldable pub longest_of : List (List ℕ × List ℕ) → ℕ
 longest_of [] = 0
 longest_of (e ∷ es) = max (length e.0) (longest_of es)
 
--- a text's row in a sieve, by its first byte
+-- a text's row in the sieve, by its first byte (own)
 abbrev pub row_of : List ℕ → ℕ
 row_of k = slice_index k 0 % 64
 

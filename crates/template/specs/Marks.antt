@@ -1,5 +1,5 @@
--- What a window on a text says of the `@` in it.
-use Rattle.std.specs.Prelude.{◌≡◌, ◌↔◌, ℕ, ◌+◌, ◌<◌, ◌≤◌, List, length, slice_index}
+-- What a window on a text says of each `@` in it.
+use Rattle.std.specs.Prelude.{◌≡◌, ℕ, ◌+◌, ◌<◌, ◌≤◌, List, length, slice_index}
 use Rattle.std.specs.Int.{bit_at}
 use Rattle.template.specs.Fill.{at_sign}
 
@@ -7,8 +7,8 @@ use Rattle.template.specs.Fill.{at_sign}
 abbrev pub IsClear : List ℕ → ℕ → ℕ → Type 0
 IsClear text i j = (k : ℕ) → i ≤ k → k < j → ¬ (slice_index text k ≡ at_sign)
 
--- The window begins at `base` and ends at `end`, no `@` is from `from` up to it, and of its bits those are set that mark an `@`
--- from `from` on.
+-- A window on the text from `base` up to `end` (own): no `@` is between `from` and its beginning, and bit k of `marks` is set
+-- exactly if an `@` is at `base + k` in it, not before `from`.
 pub record IsWindow (text : List ℕ) (base end marks from : ℕ) : Type 0 where
   pub reached : from ≤ end
   pub ordered : base ≤ end

@@ -27,15 +27,19 @@ impl Held {
         requires { self.last < 2 ^ 64 - 1 }
         ensures { result ≡ read_to self.last self.opened }
     {
-        if self.opened { self.last + 1 } else { self.last }
+        if self.opened {
+            self.last + 1
+        } else {
+            self.last
+        }
     }
 }
 
 /// The template `text` with the keys of `table` filled in.
 ///
 /// It fails only for want of memory. Its time is that of reading the text once, of writing what is made, and of at most one
-/// look into the table for each two `@` that are next to one another, have no more bytes between them than the longest key,
-/// and are let through by the table's sieve. It reserves as many bytes as the text has, and more where what is made is longer.
+/// look into the table for each two neighbouring `@`, only if what is between them is no longer than the longest key. It
+/// reserves as many bytes as the text has, and more if what is made is longer.
 pub fn fill(alloc: Global, text: &[u8], table: &Table) -> Result<Vec<u8>, AllocError>
     ensures found { IfOk result (λ v. Fills table.now text.now v.items) }
     ensures exact { IfOk result (λ v. v.items ≡ filled table.now text.now) }
@@ -65,7 +69,7 @@ pub fn has_one_filled_text(text: &[u8], table: &Table)
     let _ = table.longest_key();
 }
 
-// Goes on to the next `@`: writes the value of the key that ends there, or holds what is read to be copied.
+// Goes on to the next `@`: writes the value of the key that ends there, or holds the text up to it.
 fn step(
     made: &mut Vec<u8>,
     text: &[u8],

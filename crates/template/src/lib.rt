@@ -3,9 +3,9 @@
 //! [`fill`] writes the value of a key where `@KEY@` stands and copies all else. A value is not read again, so a value may
 //! hold an `@` or the name of another key. `specs/Fill.antt` says which text a filled template is, twice: as a relation by
 //! cases on the template's front, and as the one text that stands in that relation. Read `table`, then `filling`; its
-//! [`has_one_filled_text`] says that the two are the same. `signs` finds the `@` of a text, and `sieve` tells most texts that
-//! are no key without a look-up. `placing` has the variables that each output file has of its
-//! own: where it stands and what it is made from; `specs/Place.antt` says which they are.
+//! [`has_one_filled_text`] says that the two are the same. `signs` finds each `@` of a text, and `sieve` rules out most texts
+//! that are no key before they are looked up. `placing` has the variables that each output file has of its own: where it
+//! stands and what it is made from; `specs/Place.antt` says which they are.
 //!
 //! ```text
 //! let mut table = Table::new(alloc);

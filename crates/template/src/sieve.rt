@@ -1,11 +1,12 @@
-// What no key can be, seen without a look-up.
+// Which texts may be keys, without a look-up.
 ghost use Rattle.std.specs.Prelude.{◌≡◌, ℕ, List, [], ◌+◌, ◌<◌, ◌↔◌, ◌%◌, IsTrue};
 ghost use Rattle.template.specs.Keys.{Passes};
 ghost use Rattle.template.specs.Keys as keys;
 
 use std::marker::Model;
 
-// A set of texts that may let others through too: a bit for each first byte, and for each last byte and length together.
+// Lets through each text that was added, and few others: it has a bit for the first byte of a text together with its last byte
+// and its length.
 #[derive(Debug, Drop)]
 pub(crate) struct Sieve {
     rows: [u64; 64],

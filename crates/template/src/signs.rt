@@ -1,4 +1,4 @@
-// Where the `@` of a text are, one after another.
+// The places of each `@` of a text, one after another.
 ghost use Rattle.std.specs.Prelude.{◌≡◌, ◌≢◌, ◌↔◌, ℕ, ◌+◌, ◌<◌, ◌≤◌, length, IfSome, IfNone, slice_index, drop};
 ghost use Rattle.std.specs.Int.{bit_at};
 ghost use Rattle.template.specs.Hops.{HasNoAt, HasNextAt};
@@ -10,7 +10,7 @@ use std::simd::prelude::*;
 // How many bytes are looked at together.
 const WIDTH: usize = 64;
 
-// The `@` of the text from `base` up to `end` that are still to be given: bit k of `marks` is set if one is at `base + k`.
+// A part of the text, from `base` up to `end`: bit k of `marks` is set if an `@` that is still to be found is at `base + k`.
 #[derive(Clone, Copy, Debug)]
 pub(crate) struct Window {
     pub(crate) base: usize,
@@ -31,7 +31,7 @@ impl Window {
     }
 }
 
-// The place of the first `@` from `from` on, and the window to find the next one in.
+// Returns the place of the first `@` from `from` on, and the window in which the next one is looked for.
 #[inline(always)]
 pub(crate) fn next_sign(text: &[u8], window: Window, from: usize) -> Option<(usize, Window)>
     requires { IsWindow text.now window.base window.end window.marks from }
@@ -55,7 +55,7 @@ pub(crate) fn next_sign(text: &[u8], window: Window, from: usize) -> Option<(usi
     Some((window.base + bit, later))
 }
 
-// The same where too few bytes are left for a window.
+// The same, if too few bytes are left for a window.
 fn last_sign(text: &[u8], from: usize) -> Option<(usize, Window)>
     requires { from ≤ length text.now }
     ensures found { IfSome result (λ p. HasNextAt text.now from p.0) }

@@ -40,6 +40,27 @@ fn fills(rt: HostRuntime) -> Result<(), Fail> {
     Ok(())
 }
 
+// Longer than the windows that are looked at and than the runs that are held, with an `@` at each place of a window.
+#[test]
+fn long_templates(rt: HostRuntime) -> Result<(), Fail> {
+    let table = table_of(rt.alloc(), b"v")?;
+    let mut text = Vec::new(rt.alloc());
+    let mut want = Vec::new(rt.alloc());
+    for i in 0..200 {
+        text.extend_from_slice(b"some text @A@ and @nope@@@ ")?;
+        want.extend_from_slice(b"some text 1 and @nope@@@ ")?;
+        if i % 50 == 0 {
+            for _j in 0..300 {
+                text.extend_from_slice(b"plain ")?;
+                want.extend_from_slice(b"plain ")?;
+            }
+        }
+    }
+    let made = fill(rt.alloc(), text.as_slice(), &table)?;
+    assert!(rt; made.as_slice() == want.as_slice());
+    Ok(())
+}
+
 #[test]
 fn values_are_not_read_again(rt: HostRuntime) -> Result<(), Fail> {
     let table = table_of(rt.alloc(), b"@VAR@")?;

@@ -1,4 +1,4 @@
-use Rattle.std.proofs.Common.{◌≡◌, ◌↔◌, ◌≤◌, ℕ, length, take, get_or, eqb, sym, subst, arith, w8}
+use Rattle.std.proofs.Common.{◌≡◌, ◌↔◌, take, get_or, eqb, sym, subst, arith, w8}
 use Rattle.std.specs.Int.{bit_at}
 use Rattle.std.proofs.lemmas.List.{length-take-le}
 use Rattle.std.proofs.lemmas.Simd.{bitmask_splat}

@@ -1,4 +1,4 @@
-use Rattle.std.proofs.Common.{ap, subst, sym, ◌∙◌}
+use Rattle.std.proofs.Common.{subst, sym}
 use Rattle.template.specs.Hops.{HasNextAt}
 use Rattle.template.specs.Marks.{IsWindow}
 use Rattle.template.proofs.Windows.{slides, none_after, next_after, next_in, IfSome-weaker, IfNone-weaker}

@@ -1,4 +1,4 @@
-use Rattle.std.proofs.Common.{◌≡◌, ◌<◌, ◌*◌, ◌%◌, ◌^◌, length, arith, subst, sym}
+use Rattle.std.proofs.Common.{◌*◌, ◌%◌, ◌^◌, arith, subst, sym}
 use Rattle.template.specs.Keys.{Passes}
 use Rattle.template.proofs.Sieves.{Passes-added, Passes-kept}
 use Rattle.template.proofs.sieve.Sieve.add.Goals as goal

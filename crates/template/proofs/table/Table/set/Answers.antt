@@ -1,5 +1,5 @@
-use Rattle.std.proofs.Common.{◌≡◌, sym, ap, ◌∙◌, subst, max, length}
-use Rattle.deftable.specs.Table.{with_entry, HasShellNames}
+use Rattle.std.proofs.Common.{sym, ap, ◌∙◌, subst, max, length}
+use Rattle.deftable.specs.Table.{HasShellNames}
 use Rattle.deftable.proofs.Tables.{HasShellNames-with_entry}
 use Rattle.template.specs.Keys.{AllPass, longest_of}
 use Rattle.template.proofs.Keys.{longest_of-with_entry, AllPass-with_entry}
