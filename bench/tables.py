@@ -11,7 +11,7 @@ import subprocess
 import tempfile
 
 ROOT = pathlib.Path(__file__).resolve().parent.parent
-RUNS = 5
+RUNS = 12
 
 
 def build(folder):
@@ -48,10 +48,10 @@ def measured(*command):
 def main():
     with tempfile.TemporaryDirectory() as folder:
         program = build(pathlib.Path(folder))
-        print("user time of twice the work, as a multiple of that of once:")
+        print("user time of ten tables of twice as many names, as a multiple of that of once as many:")
         for name, count in (("definitions", 45_000), ("variables", 60_000), ("names", 60_000)):
-            once = min(measured(program, "work", name, count)[1] for _ in range(RUNS))
-            twice = min(measured(program, "work", name, 2 * count)[1] for _ in range(RUNS))
+            pairs = [[measured(program, "work", name, size)[1] for size in (count, 2 * count)] for _ in range(RUNS)]
+            once, twice = (min(times) for times in zip(*pairs))
             print(f"  {name}: {count} in {once:.3f} s, {2 * count} in {twice:.3f} s: {twice / max(once, 1e-6):.2f}")
         print("time to fill a template of 50,000,000 bytes, as a multiple of that of a copy, in hundredths:")
         print("  " + measured(program)[0].strip().replace("\n", "\n  "))
