@@ -1,4 +1,4 @@
--- What the end of a real child answers.
+-- What the end of a real child answers (own).
 use Rattle.std.specs.Prelude.{◌≡◌, ◌⊎◌, ℕ, ℤ, ◌≤◌, List, length, take, unsigned_abs, Option, Some, None, Result, Ok, Err}
 use Rattle.std.specs.Process.{exit_code}
 use Rattle.std.specs.Io.KnownBytes.{Consumes, IsAtEnd}
@@ -6,6 +6,7 @@ use Rattle.std.specs.declared.process.status.ExitStatus.{ExitStatus}
 use Rattle.crew.specs.declared.reply.Reply.{Reply}
 use Rattle.crew.specs.declared.reply.Reply.TheVariants.{Answer, StartRefused, EndRefused}
 
+-- an exit code as a number, and 256 if there is none
 abbrev pub number_of : Option ℤ → ℕ
 number_of (Some code) = unsigned_abs code
 number_of None = 256

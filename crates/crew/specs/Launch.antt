@@ -1,4 +1,4 @@
--- What a crew of real children asks of the system.
+-- What a crew of real children asks of the system (own).
 use Rattle.std.specs.Prelude.{◌≡◌, ℕ, List, [], ◌∷◌, ◌++◌, All, IsUtf8, Option, Some, None, ⊤, fold}
 use Rattle.conftest.specs.declared.job.Job.{Job}
 use Rattle.crew.specs.declared.event.CrewEvent.{CrewEvent}
@@ -40,6 +40,7 @@ pub record Run : Type 0 where
   pub file : Option (List ℕ × List ℕ)
   pub jobs : List Job
 
+-- a command takes the file that was written just before, if one was, whether it starts or not
 abbrev pub run_after : Run → Call → Run
 run_after run (Wrote name text) = record { file = Some (name, text); jobs = run.jobs }
 run_after run (Spawned words) = record { file = None; jobs = run.jobs ++ record { words = words; file = run.file } ∷ [] }

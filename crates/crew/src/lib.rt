@@ -15,9 +15,9 @@
 //! `event` and `calls`, which has the trait. [`MemoryCrew`] answers from a list, in an order that its maker chooses;
 //! `specs/Scripted.antt` says what each call of it does.
 //!
-//! [`ProcessCrew`] starts real children. `launcher` is where it meets the system, in two calls of one line each that are
-//! tested; all else is proved for every launcher. `specs/Launch.antt` says what is asked of the system for a job, and
-//! `specs/Ending.antt` what the end of a child answers; `children` keeps the account over `child` and `diagnostics`.
+//! [`ProcessCrew`] starts real children. `launcher` is where it writes files and starts commands, in two short calls that
+//! tests alone hold; what is asked of them is proved for every launcher. `specs/Launch.antt` says what that is for a job,
+//! and `specs/Ending.antt` what the end of a child answers; `children` keeps the account over `child` and `diagnostics`.
 #![tactic(auto)]
 
 mod calls;
