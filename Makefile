@@ -23,6 +23,13 @@ ifeq ($(filter -j% --jobs%,$(MAKEFLAGS)),)
 MAKEFLAGS += --jobs=$(shell nproc)
 endif
 
+left := $(filter-out $(patsubst out/%.proved,%,$(wildcard out/*.proved)),$(needed))
+ifneq ($(left),)
+ifneq ($(filter-out check,$(or $(MAKECMDGOALS),all)),)
+$(info Proving $(words $(left)) crates, each as soon as those that it uses are proved. All of them take about 15 minutes on four processors.)
+endif
+endif
+
 .PHONY: all demo compile check install
 
 all: $(acrun)
