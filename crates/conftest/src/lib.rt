@@ -30,6 +30,3 @@ pub use sources::{
     second_type_source, type_source,
 };
 pub use words::Words;
-
-#[cfg(test)]
-mod tests;

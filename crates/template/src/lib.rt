@@ -19,8 +19,6 @@ pub mod placing;
 mod sieve;
 mod signs;
 pub mod table;
-#[cfg(test)]
-mod tests;
 
 pub use filling::{fill, has_one_filled_text};
 pub use placing::{Place, configure_input, place_vars};

@@ -1,0 +1,19 @@
+//! Tests of the crates that hold and cut texts: deftable, textcut, m4quote, conftest and template.
+//!
+//! They have what no clause says: an ordinary answer of each call, with ample memory; worked examples, each answer found by
+//! hand from the rules; and printed text. An example is a row of a table, which `rows` reads. What calls a crate stands in
+//! functions without a contract, so the proof of a test sees no contract of that crate.
+#![tactic(auto)]
+
+#[cfg(test)]
+mod cuts;
+#[cfg(test)]
+mod jobs;
+#[cfg(test)]
+mod quoting;
+#[cfg(test)]
+mod rows;
+#[cfg(test)]
+mod tables;
+#[cfg(test)]
+mod templates;
