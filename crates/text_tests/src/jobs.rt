@@ -63,11 +63,13 @@ fn words_of(alloc: Global, assignments: &[u8], number: u64) -> Result<Vec<u8>, A
     Ok(out)
 }
 
-// A value is parted at blanks, and quotes in it are not read. Without a compiler there is no job, and CPP preprocesses alone.
+/// Variables, and what compiles, links and preprocesses.
 const WORDS: &[u8] = b"
 CC=cc;CFLAGS=-O;LIBS=-lm => cc|-c|-O|conftest.c|~cc|-o|conftest|-O|conftest.c|-lm|~cc|-E|conftest.c|
 CC=cc;CPP=cpp => cc|-c|conftest.c|~cc|-o|conftest|conftest.c|~cpp|conftest.c|
+// A value is parted at blanks, and quotes in it are not read.
 CC= ccache\tcc~;CPP= \t;CFLAGS=-O -g;CPPFLAGS='-D A';LDFLAGS=-L. -s;LIBS=-la -lb => ccache|cc|-c|-O|-g|'-D|A'|conftest.c|~ccache|cc|-o|conftest|-O|-g|'-D|A'|-L.|-s|conftest.c|-la|-lb|~ccache|cc|-E|'-D|A'|conftest.c|
+// Without a compiler there is no such job, but CPP preprocesses alone.
 CFLAGS=-O => 1~1~1
 CC= ~ => 1~1~1
 CC= ~;CPP=cpp => 1~1~cpp|conftest.c|

@@ -66,28 +66,32 @@ fn items_of(alloc: Global, text: &[u8]) -> Result<Vec<u8>, AllocError> {
 
 const ITEMS: &[u8] = b"
 AC_X([a], [b] # it, (~) => AC_X at 0 ('[a]' at 5) ('[b] # it, (~' at 10);
+// Commas in quotes, inner parentheses and `dnl` lines are ordinary, and an empty argument is one.
 m4_x((a,b), [c,d],dnl e,f~,) => m4_x at 0 ('(a,b)' at 5) ('[c,d]' at 12) ('dnl e,f~' at 18) ('' at 27);
+// A blank parts a name from the parenthesis.
 m4_x(,)AC_Y()AC_Z () => m4_x at 0 ('' at 5) ('' at 6);AC_Y at 7 ('' at 12);AC_Z at 13;' ()' at 17;
+// A dropped line parts bare text.
 a[,]b dnl x~c AC_Y d => 'a[,]b ' at 0;'c ' at 12;AC_Y at 14;' d' at 18;
+// A name in quotes, in a comment or inside a word is none.
 [AC_X] # AC_X~xAC_X [dnl]~ => '[AC_X] # AC_X~xAC_X [dnl]~' at 0;
 AC_INIT([x],[1] => 2 at 7
 ] => 3 at 0
 [a[b] => 1 at 0
+// The outermost parenthesis is the call's.
 (AC_X(( => 2 at 5
+// An open quote is named before an open parenthesis.
 AC_X([a => 1 at 5
+// What only the end shows doesn't come before a NUL, and what stands behind a NUL never does.
 [\0 => 4 at 1
 a\0] => 4 at 1
 ]\0 => 3 at 0
 # \0 => 4 at 2
+// A bracket in a comment or a `dnl` line is none; behind it one is.
 # ]~] => 3 at 4
 dnl ]~] => 3 at 6
 xdnl ]~ => 3 at 5
 ";
 
-// Commas in quotes, inner parentheses and `dnl` lines are ordinary in an argument, and an empty argument is one. A blank parts
-// a name from the parenthesis. A name in quotes, in a comment or inside a word is none. Of the faults, the outermost
-// parenthesis is the call's, and an open quote is named before it. What only the end shows doesn't come before a NUL, and
-// what stands behind a NUL never does. A bracket in a comment or a `dnl` line is none; behind it one is.
 #[test]
 fn items_and_faults(rt: HostRuntime) -> Result<(), Fail> {
     for row in &rows(rt.alloc(), ITEMS)? {
@@ -187,6 +191,7 @@ const USED: &[u8] = b"
 [a dnl b~]c => 'a c'
 a[b => 1 at 1
 a]b => 3 at 1
+// The comment that the second reading meets hides a bracket from it.
 a[#[~]] => 3 at 0
 ";
 
@@ -197,7 +202,6 @@ fn used_of(alloc: Global, arg: &[u8]) -> Result<Vec<u8>, AllocError> {
     }
 }
 
-// In the last row the comment that the second reading meets hides a bracket from it.
 #[test]
 fn used_texts(rt: HostRuntime) -> Result<(), Fail> {
     for row in &rows(rt.alloc(), USED)? {
@@ -209,6 +213,7 @@ fn used_texts(rt: HostRuntime) -> Result<(), Fail> {
 
 const VALUES: &[u8] = b"
 a[b[c]]@%:@ dnl x~y => 'ab[c]# y'
+// What a quadrigraph leaves is not read again.
 @@&t@<:@ => '@<:@'
 [] => ''
 a[ => 1 at 1
@@ -222,7 +227,6 @@ fn value_of(alloc: Global, text: &[u8]) -> Result<Vec<u8>, AllocError> {
     }
 }
 
-// What a quadrigraph leaves is not read again.
 #[test]
 fn values_of_bare_text(rt: HostRuntime) -> Result<(), Fail> {
     for row in &rows(rt.alloc(), VALUES)? {

@@ -1,7 +1,8 @@
 //! Tables of worked examples.
 //!
 //! A table is a text with a line for each example: what is given, ` => `, and what is wanted. In a row `~` stands for a
-//! newline, and an empty line is no row. An answer that may be empty or end in a blank is shown in single quotes.
+//! newline. An empty line and one that begins with `//` are no rows. An answer that may be empty or end in a blank is
+//! shown in single quotes.
 
 use std::alloc::{AllocError, Global};
 use std::process::Abort;
@@ -58,7 +59,7 @@ fn row_of(alloc: Global, line: &[u8]) -> Result<Row, AllocError> {
 pub fn rows(alloc: Global, table: &[u8]) -> Result<Vec<Row>, AllocError> {
     let mut all = Vec::new(alloc);
     for line in table.split(|byte| *byte == b'\n') {
-        if !line.is_empty() {
+        if !line.is_empty() && !line.starts_with(b"//") {
             all.push(row_of(alloc, line)?)?;
         }
     }
@@ -89,7 +90,7 @@ fn is_row(row: Option<&Row>, given: &[u8], wanted: &[u8]) -> bool {
 
 #[test]
 fn a_table_has_a_row_for_each_line(rt: HostRuntime) -> Result<(), Fail> {
-    let all = rows(rt.alloc(), b"\na~ => b => c\n =>  ~\n")?;
+    let all = rows(rt.alloc(), b"\n// a => b\na~ => b => c\n =>  ~\n")?;
     assert_eq!(rt; all.len(), 2);
     assert!(rt; is_row(all.first(), b"a\n", b"b => c"));
     assert!(rt; is_row(all.last(), b"", b" \n"));
