@@ -1,6 +1,6 @@
 //! textcut: texts cut at blanks and separators.
 
-use crate::rows::{put_quoted, quoted, rows};
+use crate::rows::{check, put_quoted, quoted};
 use std::alloc::{AllocError, Global};
 use std::test::Fail;
 use textcut::{fields, is_blank, parts, trim};
@@ -37,11 +37,7 @@ fn trimmed(alloc: Global, text: &[u8]) -> Result<Vec<u8>, AllocError> {
 
 #[test]
 fn both_ends_are_trimmed(rt: HostRuntime) -> Result<(), Fail> {
-    for row in &rows(rt.alloc(), TRIMMED)? {
-        let found = trimmed(rt.alloc(), row.given.as_slice())?;
-        row.check(&rt, found.as_slice());
-    }
-    Ok(())
+    check(&rt, rt.alloc(), TRIMMED, &trimmed)
 }
 
 /// Each of these in quotes.
@@ -67,11 +63,7 @@ fn fields_of(alloc: Global, text: &[u8]) -> Result<Vec<u8>, AllocError> {
 
 #[test]
 fn fields_are_between_blanks(rt: HostRuntime) -> Result<(), Fail> {
-    for row in &rows(rt.alloc(), FIELDS)? {
-        let found = fields_of(rt.alloc(), row.given.as_slice())?;
-        row.check(&rt, found.as_slice());
-    }
-    Ok(())
+    check(&rt, rt.alloc(), FIELDS, &fields_of)
 }
 
 /// The separator, and then the text.
@@ -92,9 +84,5 @@ fn parts_of(alloc: Global, given: &[u8]) -> Result<Vec<u8>, AllocError> {
 
 #[test]
 fn parts_are_between_separators(rt: HostRuntime) -> Result<(), Fail> {
-    for row in &rows(rt.alloc(), PARTS)? {
-        let found = parts_of(rt.alloc(), row.given.as_slice())?;
-        row.check(&rt, found.as_slice());
-    }
-    Ok(())
+    check(&rt, rt.alloc(), PARTS, &parts_of)
 }

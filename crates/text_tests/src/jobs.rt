@@ -1,65 +1,73 @@
 //! conftest: the jobs that a run asks for, and the programs that tests try.
 
-use crate::rows::{cut, rows};
+use crate::rows::{check, cut, put_each};
+use crate::tables::{changed, defined};
 use conftest::{
     Job, JobFault, Words, compile_job, declaration_source, default_includes, function_source,
     header_source, link_job, path_job, preproc_job, program_source, run_job, second_type_source,
     type_source,
 };
-use deftable::{Bytes, Defs, Vars, is_shell_name};
+use deftable::{Bytes, Defs, Vars};
 use std::alloc::{AllocError, Global};
 use std::test::Fail;
-use textcut::parts;
 
-/// Puts each word with a bar after it.
-fn put_words(out: &mut Vec<u8>, words: &[Bytes]) -> Result<(), AllocError> {
-    for word in words {
-        out.extend_from_slice(word.as_slice())?;
-        out.push(b'|')?;
-    }
+fn put_fault(alloc: Global, out: &mut Vec<u8>, fault: JobFault) -> Result<(), AllocError> {
+    let shown = format!(in alloc; "{fault}")?;
+    out.extend_from_slice(shown.as_bytes())?;
     Ok(())
 }
 
 /// The words of a job, or the number of what is wrong.
-fn put_job(alloc: Global, out: &mut Vec<u8>, job: Result<Job, JobFault>) -> Result<(), AllocError> {
+fn put_words(
+    alloc: Global,
+    out: &mut Vec<u8>,
+    job: Result<Job, JobFault>,
+) -> Result<(), AllocError> {
     match job {
-        Ok(job) => put_words(out, job.words.as_slice()),
-        Err(fault) => {
-            let shown = format!(in alloc; "{fault}")?;
-            out.extend_from_slice(shown.as_bytes())?;
-            Ok(())
-        }
+        Ok(job) => put_each(out, job.words.as_slice()),
+        Err(fault) => put_fault(alloc, out, fault),
     }
 }
 
-/// The variables that assignments set, with a semicolon between them.
-fn vars_of(alloc: Global, assignments: &[u8]) -> Result<Vars, AllocError> {
-    let mut vars = Vars::new(alloc);
-    for assignment in &parts(alloc, assignments, b';')? {
-        let (name, value) = cut(assignment, b"=");
-        vars.set(name, value)?;
-    }
-    Ok(vars)
+fn put_compiled(
+    alloc: Global,
+    out: &mut Vec<u8>,
+    vars: &Vars,
+    number: u64,
+) -> Result<(), AllocError> {
+    let defs = Defs::new(alloc);
+    put_words(alloc, out, compile_job(alloc, vars, &defs, b"x", number))
+}
+
+fn put_linked(
+    alloc: Global,
+    out: &mut Vec<u8>,
+    vars: &Vars,
+    number: u64,
+) -> Result<(), AllocError> {
+    let defs = Defs::new(alloc);
+    put_words(alloc, out, link_job(alloc, vars, &defs, b"x", number))
+}
+
+fn put_preprocessed(
+    alloc: Global,
+    out: &mut Vec<u8>,
+    vars: &Vars,
+    number: u64,
+) -> Result<(), AllocError> {
+    let defs = Defs::new(alloc);
+    put_words(alloc, out, preproc_job(alloc, vars, &defs, b"x", number))
 }
 
 /// The words that compile, link and preprocess under these variables, a line for each.
 fn words_of(alloc: Global, assignments: &[u8], number: u64) -> Result<Vec<u8>, AllocError> {
-    let vars = vars_of(alloc, assignments)?;
-    let defs = Defs::new(alloc);
+    let vars = changed(alloc, assignments)?;
     let mut out = Vec::new(alloc);
-    put_job(
-        alloc,
-        &mut out,
-        compile_job(alloc, &vars, &defs, b"x", number),
-    )?;
+    put_compiled(alloc, &mut out, &vars, number)?;
     out.push(b'\n')?;
-    put_job(alloc, &mut out, link_job(alloc, &vars, &defs, b"x", number))?;
+    put_linked(alloc, &mut out, &vars, number)?;
     out.push(b'\n')?;
-    put_job(
-        alloc,
-        &mut out,
-        preproc_job(alloc, &vars, &defs, b"x", number),
-    )?;
+    put_preprocessed(alloc, &mut out, &vars, number)?;
     Ok(out)
 }
 
@@ -75,13 +83,13 @@ CC= ~ => 1~1~1
 CC= ~;CPP=cpp => 1~1~cpp|conftest.c|
 ";
 
+fn words_of_0(alloc: Global, assignments: &[u8]) -> Result<Vec<u8>, AllocError> {
+    words_of(alloc, assignments, 0)
+}
+
 #[test]
 fn words_of_a_compiler(rt: HostRuntime) -> Result<(), Fail> {
-    for row in &rows(rt.alloc(), WORDS)? {
-        let found = words_of(rt.alloc(), row.given.as_slice(), 0)?;
-        row.check(&rt, found.as_slice());
-    }
-    Ok(())
+    check(&rt, rt.alloc(), WORDS, &words_of_0)
 }
 
 const WORDS_OF_12: &[u8] = b"
@@ -89,19 +97,19 @@ CC=cc => cc|-c|conftest12.c|~cc|-o|conftest12|conftest12.c|~cc|-E|conftest12.c|
 CC= ccache\tcc~;CPP= \t;CFLAGS=-O -g;CPPFLAGS='-D A';LDFLAGS=-L. -s;LIBS=-la -lb => ccache|cc|-c|-O|-g|'-D|A'|conftest12.c|~ccache|cc|-o|conftest12|-O|-g|'-D|A'|-L.|-s|conftest12.c|-la|-lb|~ccache|cc|-E|'-D|A'|conftest12.c|
 ";
 
+fn words_of_12(alloc: Global, assignments: &[u8]) -> Result<Vec<u8>, AllocError> {
+    words_of(alloc, assignments, 12)
+}
+
 #[test]
 fn words_of_a_numbered_job(rt: HostRuntime) -> Result<(), Fail> {
-    for row in &rows(rt.alloc(), WORDS_OF_12)? {
-        let found = words_of(rt.alloc(), row.given.as_slice(), 12)?;
-        row.check(&rt, found.as_slice());
-    }
-    Ok(())
+    check(&rt, rt.alloc(), WORDS_OF_12, &words_of_12)
 }
 
 /// The words of a job, and on further lines the name and the text of its file.
 fn shown(alloc: Global, job: &Job) -> Result<Vec<u8>, AllocError> {
     let mut out = Vec::new(alloc);
-    put_words(&mut out, job.words.as_slice())?;
+    put_each(&mut out, job.words.as_slice())?;
     if let Some((name, text)) = &job.file {
         out.push(b'\n')?;
         out.extend_from_slice(name.as_slice())?;
@@ -136,31 +144,32 @@ fn jobs_without_a_file(rt: HostRuntime) -> Result<(), Fail> {
     Ok(())
 }
 
-/// Definitions, with a semicolon between them.
-fn defs_of(alloc: Global, definitions: &[u8]) -> Result<Defs, AllocError> {
-    let mut defs = Defs::new(alloc);
-    for definition in &parts(alloc, definitions, b';')? {
-        let (name, value) = cut(definition, b"=");
-        if is_shell_name(name) {
-            defs.define(name, value)?;
+/// A job's copy, or the number of what is wrong.
+fn shown_copy(alloc: Global, job: Result<Job, JobFault>) -> Result<Vec<u8>, AllocError> {
+    match job {
+        Ok(job) => shown(alloc, &job.copy(alloc)?),
+        Err(fault) => {
+            let mut out = Vec::new(alloc);
+            put_fault(alloc, &mut out, fault)?;
+            Ok(out)
         }
     }
-    Ok(defs)
 }
 
-/// A copy of the job of the compiler `cc` that has number 1.
-fn copied_job(alloc: Global, definitions: &[u8], source: &[u8]) -> Result<Job, JobFault> {
-    let vars = vars_of(alloc, b"CC=cc")?;
-    let defs = defs_of(alloc, definitions)?;
-    let job = compile_job(alloc, &vars, &defs, source, 1)?;
-    let copy = job.copy(alloc)?;
-    Ok(copy)
+fn shown_compiled(
+    alloc: Global,
+    vars: &Vars,
+    defs: &Defs,
+    source: &[u8],
+) -> Result<Vec<u8>, AllocError> {
+    shown_copy(alloc, compile_job(alloc, vars, defs, source, 1))
 }
 
-fn compiled(alloc: Global, definitions: &[u8], source: &[u8]) -> Result<Vec<u8>, JobFault> {
-    let job = copied_job(alloc, definitions, source)?;
-    let found = shown(alloc, &job)?;
-    Ok(found)
+/// What the compiler `cc` is asked for job 1.
+fn compiled(alloc: Global, definitions: &[u8], source: &[u8]) -> Result<Vec<u8>, AllocError> {
+    let vars = changed(alloc, b"CC=cc")?;
+    let defs = defined(alloc, definitions)?;
+    shown_compiled(alloc, &vars, &defs, source)
 }
 
 /// The definitions of a source that says its name and version.
@@ -184,17 +193,16 @@ conftest1.c
 #include <sys/stat.h>
 ";
 
-fn header_test(alloc: Global) -> Result<Vec<u8>, JobFault> {
+fn is_demo_test(alloc: Global) -> Result<bool, AllocError> {
     let source = header_source(alloc, default_includes(), b"sys/stat.h")?;
     let found = compiled(alloc, DEMO, source.as_slice())?;
-    Ok(found)
+    Ok(found.as_slice() == DEMO_TEST)
 }
 
 // A header test of the first entry of a list, for a source that has said its name and version.
 #[test]
 fn a_header_test(rt: HostRuntime) -> Result<(), Fail> {
-    let found = header_test(rt.alloc())?;
-    assert!(rt; found.as_slice() == DEMO_TEST);
+    assert!(rt; is_demo_test(rt.alloc())?);
     Ok(())
 }
 
@@ -204,13 +212,13 @@ int x; => cc|-c|conftest1.c|~conftest1.c~/* confdefs.h */~int x;~
  => cc|-c|conftest1.c|~conftest1.c~/* confdefs.h */~~
 ";
 
+fn without_definitions(alloc: Global, source: &[u8]) -> Result<Vec<u8>, AllocError> {
+    compiled(alloc, b"", source)
+}
+
 #[test]
 fn a_source_is_ended_by_a_newline(rt: HostRuntime) -> Result<(), Fail> {
-    for row in &rows(rt.alloc(), ENDED)? {
-        let found = compiled(rt.alloc(), b"", row.given.as_slice())?;
-        row.check(&rt, found.as_slice());
-    }
-    Ok(())
+    check(&rt, rt.alloc(), ENDED, &without_definitions)
 }
 
 /// The kind of a source, its front, and a name or a body.
@@ -235,19 +243,16 @@ fn source_of(alloc: Global, kind: &[u8], front: &[u8], name: &[u8]) -> Result<By
     }
 }
 
-fn source_in(alloc: Global, given: &[u8]) -> Result<Bytes, AllocError> {
+fn source_in(alloc: Global, given: &[u8]) -> Result<Vec<u8>, AllocError> {
     let (kind, rest) = cut(given, b",");
     let (front, name) = cut(rest, b",");
-    source_of(alloc, kind, front, name)
+    let source = source_of(alloc, kind, front, name)?;
+    Ok(source.into_vec())
 }
 
 #[test]
 fn sources(rt: HostRuntime) -> Result<(), Fail> {
-    for row in &rows(rt.alloc(), SOURCES)? {
-        let found = source_in(rt.alloc(), row.given.as_slice())?;
-        row.check(&rt, found.as_slice());
-    }
-    Ok(())
+    check(&rt, rt.alloc(), SOURCES, &source_in)
 }
 
 /// A word of a vector, one behind it, and a copy of both.
@@ -262,7 +267,7 @@ fn some_words(alloc: Global) -> Result<Words, AllocError> {
 fn has_some_words(alloc: Global) -> Result<bool, AllocError> {
     let words = some_words(alloc)?;
     let mut out = Vec::new(alloc);
-    put_words(&mut out, words.as_slice())?;
+    put_each(&mut out, words.as_slice())?;
     Ok(out.as_slice() == b"cc|-c|".as_slice() && Words::new(alloc).as_slice().is_empty())
 }
 

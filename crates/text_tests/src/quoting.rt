@@ -1,6 +1,6 @@
 //! m4quote: a source as items, and what arguments and bare text mean.
 
-use crate::rows::{put_quoted, quoted, rows};
+use crate::rows::{check, put_quoted, quoted};
 use m4quote::{
     Arg, Item, QuoteFault, bare_value, cpp_name, read_items, read_items_at, sh_name, used_text,
 };
@@ -94,11 +94,7 @@ xdnl ]~ => 3 at 5
 
 #[test]
 fn items_and_faults(rt: HostRuntime) -> Result<(), Fail> {
-    for row in &rows(rt.alloc(), ITEMS)? {
-        let found = items_of(rt.alloc(), row.given.as_slice())?;
-        row.check(&rt, found.as_slice());
-    }
-    Ok(())
+    check(&rt, rt.alloc(), ITEMS, &items_of)
 }
 
 fn items_at_100(alloc: Global, text: &[u8]) -> Result<Vec<u8>, AllocError> {
@@ -118,11 +114,7 @@ a\0 => 4 at 101
 
 #[test]
 fn places_are_those_of_the_file(rt: HostRuntime) -> Result<(), Fail> {
-    for row in &rows(rt.alloc(), ITEMS_AT_100)? {
-        let found = items_at_100(rt.alloc(), row.given.as_slice())?;
-        row.check(&rt, found.as_slice());
-    }
-    Ok(())
+    check(&rt, rt.alloc(), ITEMS_AT_100, &items_at_100)
 }
 
 /// Each front of a call with two arguments and one without a parenthesis: its fault, or how many items it has.
@@ -176,11 +168,7 @@ fn count_of(alloc: Global, text: &[u8]) -> Result<Vec<u8>, AllocError> {
 
 #[test]
 fn each_front_of_a_source(rt: HostRuntime) -> Result<(), Fail> {
-    for row in &rows(rt.alloc(), FRONTS)? {
-        let found = count_of(rt.alloc(), row.given.as_slice())?;
-        row.check(&rt, found.as_slice());
-    }
-    Ok(())
+    check(&rt, rt.alloc(), FRONTS, &count_of)
 }
 
 const USED: &[u8] = b"
@@ -204,11 +192,7 @@ fn used_of(alloc: Global, arg: &[u8]) -> Result<Vec<u8>, AllocError> {
 
 #[test]
 fn used_texts(rt: HostRuntime) -> Result<(), Fail> {
-    for row in &rows(rt.alloc(), USED)? {
-        let found = used_of(rt.alloc(), row.given.as_slice())?;
-        row.check(&rt, found.as_slice());
-    }
-    Ok(())
+    check(&rt, rt.alloc(), USED, &used_of)
 }
 
 const VALUES: &[u8] = b"
@@ -229,11 +213,7 @@ fn value_of(alloc: Global, text: &[u8]) -> Result<Vec<u8>, AllocError> {
 
 #[test]
 fn values_of_bare_text(rt: HostRuntime) -> Result<(), Fail> {
-    for row in &rows(rt.alloc(), VALUES)? {
-        let found = value_of(rt.alloc(), row.given.as_slice())?;
-        row.check(&rt, found.as_slice());
-    }
-    Ok(())
+    check(&rt, rt.alloc(), VALUES, &value_of)
 }
 
 /// The text as a part of a shell variable's name, and as one of a preprocessor symbol.
@@ -252,11 +232,7 @@ fn names_of(alloc: Global, text: &[u8]) -> Result<Vec<u8>, AllocError> {
 
 #[test]
 fn names(rt: HostRuntime) -> Result<(), Fail> {
-    for row in &rows(rt.alloc(), NAMES)? {
-        let found = names_of(rt.alloc(), row.given.as_slice())?;
-        row.check(&rt, found.as_slice());
-    }
-    Ok(())
+    check(&rt, rt.alloc(), NAMES, &names_of)
 }
 
 fn is_shown(alloc: Global, fault: QuoteFault, wanted: &[u8]) -> Result<bool, AllocError> {

@@ -4,15 +4,17 @@
 //! newline. An empty line and one that begins with `//` are no rows. An answer that may be empty or end in a blank is
 //! shown in single quotes.
 
+use deftable::Bytes;
 use std::alloc::{AllocError, Global};
 use std::process::Abort;
 use std::str;
 use std::test::Fail;
+use textcut::parts;
 
 #[derive(Drop)]
-pub struct Row {
-    pub given: Vec<u8>,
-    pub wanted: Vec<u8>,
+struct Row {
+    given: Vec<u8>,
+    wanted: Vec<u8>,
 }
 
 /// A text as far as it can be printed.
@@ -20,13 +22,11 @@ fn printed(text: &[u8]) -> &str {
     str::from_utf8(text).unwrap_or("bytes that are no UTF-8")
 }
 
-impl Row {
-    /// Ends the test unless this is what is wanted.
-    pub fn check(&self, rt: &impl Abort, found: &[u8]) {
-        let given = printed(self.given.as_slice());
-        let shown = printed(found);
-        assert!(rt; found == self.wanted.as_slice(), "{given} => {shown}");
-    }
+/// Ends the test unless this is what the row wants.
+fn check_row(rt: &impl Abort, row: &Row, found: &[u8]) {
+    let given = printed(row.given.as_slice());
+    let shown = printed(found);
+    assert!(rt; found == row.wanted.as_slice(), "{given} => {shown}");
 }
 
 /// A text before its first piece of this form and after it; the whole text and nothing if it has none.
@@ -56,7 +56,7 @@ fn row_of(alloc: Global, line: &[u8]) -> Result<Row, AllocError> {
 }
 
 /// The rows of a table.
-pub fn rows(alloc: Global, table: &[u8]) -> Result<Vec<Row>, AllocError> {
+fn rows(alloc: Global, table: &[u8]) -> Result<Vec<Row>, AllocError> {
     let mut all = Vec::new(alloc);
     for line in table.split(|byte| *byte == b'\n') {
         if !line.is_empty() && !line.starts_with(b"//") {
@@ -64,6 +64,36 @@ pub fn rows(alloc: Global, table: &[u8]) -> Result<Vec<Row>, AllocError> {
         }
     }
     Ok(all)
+}
+
+/// Ends the test unless each row of the table is answered as it wants.
+pub fn check<F: Fn(Global, &[u8]) -> Result<Vec<u8>, AllocError>>(
+    rt: &impl Abort,
+    alloc: Global,
+    table: &[u8],
+    answer: &F,
+) -> Result<(), Fail>
+    requires { F.IsAlwaysCallable answer.now }
+{
+    for row in &rows(alloc, table)? {
+        let found = answer(alloc, row.given.as_slice())?;
+        check_row(rt, row, found.as_slice());
+    }
+    Ok(())
+}
+
+/// The pieces of a text between separators.
+pub fn pieces(alloc: Global, text: &[u8], separator: u8) -> Result<Vec<&[u8]>, AllocError> {
+    parts(alloc, text, separator)
+}
+
+/// Puts each text with a bar after it.
+pub fn put_each(out: &mut Vec<u8>, texts: &[Bytes]) -> Result<(), AllocError> {
+    for text in texts {
+        out.extend_from_slice(text.as_slice())?;
+        out.push(b'|')?;
+    }
+    Ok(())
 }
 
 /// Puts a text in single quotes.

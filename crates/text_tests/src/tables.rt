@@ -1,12 +1,11 @@
 //! deftable: byte texts, and the tables that hold them by name.
 
-use crate::rows::{cut, rows};
+use crate::rows::{check, cut, pieces, put_each};
 use deftable::{Bytes, Defs, Name, Note, Notes, Stream, SubstList, Vars, is_shell_name};
 use std::alloc::{AllocError, Global};
 use std::cmp::Ordering;
 use std::hash::{DefaultHasher, Hash, Hasher};
 use std::test::Fail;
-use textcut::parts;
 
 fn hash_of(text: &Bytes) -> u64 {
     let mut state = DefaultHasher::new();
@@ -68,27 +67,26 @@ a  => none
 ";
 
 /// Whether a text has the form of a name, and whether it becomes one.
-fn name_of(alloc: Global, text: &[u8]) -> Result<&'static [u8], AllocError> {
+fn name_of(alloc: Global, text: &[u8]) -> Result<Vec<u8>, AllocError> {
     let has_form = is_shell_name(text);
     let name = Name::new(Bytes::from_slice(alloc, text)?);
     let is_kept = match &name {
         Some(name) => name.as_slice() == text,
         None => false,
     };
-    Ok(match (has_form, is_kept) {
-        (true, true) => b"a name",
-        (false, false) => b"none",
-        _ => b"one of both",
-    })
+    let shown = if has_form && is_kept {
+        b"a name".as_slice()
+    } else if has_form || name.is_some() {
+        b"one of both".as_slice()
+    } else {
+        b"none".as_slice()
+    };
+    Vec::from_slice(alloc, shown)
 }
 
 #[test]
 fn shell_names(rt: HostRuntime) -> Result<(), Fail> {
-    for row in &rows(rt.alloc(), SHELL_NAMES)? {
-        let found = name_of(rt.alloc(), row.given.as_slice())?;
-        row.check(&rt, found);
-    }
-    Ok(())
+    check(&rt, rt.alloc(), SHELL_NAMES, &name_of)
 }
 
 fn put_entry(out: &mut Vec<u8>, name: &[u8], value: &[u8]) -> Result<(), AllocError> {
@@ -109,9 +107,10 @@ fn change(vars: &mut Vars, step: &[u8]) -> Result<(), AllocError> {
     vars.set(name, value)
 }
 
-fn changed(alloc: Global, steps: &[u8]) -> Result<Vars, AllocError> {
+/// The variables after steps with semicolons between them.
+pub fn changed(alloc: Global, steps: &[u8]) -> Result<Vars, AllocError> {
     let mut vars = Vars::new(alloc);
-    for step in &parts(alloc, steps, b';')? {
+    for step in &pieces(alloc, steps, b';')? {
         change(&mut vars, step)?;
     }
     Ok(vars)
@@ -138,11 +137,7 @@ CC=cc;LIBS=;!CC;CC=gcc => LIBS=;CC=gcc;
 
 #[test]
 fn variables(rt: HostRuntime) -> Result<(), Fail> {
-    for row in &rows(rt.alloc(), VARIABLES)? {
-        let found = vars_after(rt.alloc(), row.given.as_slice())?;
-        row.check(&rt, found.as_slice());
-    }
-    Ok(())
+    check(&rt, rt.alloc(), VARIABLES, &vars_after)
 }
 
 /// Whether a value is this one, or not there.
@@ -176,14 +171,19 @@ fn values_of_variables(rt: HostRuntime) -> Result<(), Fail> {
     Ok(())
 }
 
+fn define(defs: &mut Defs, definition: &[u8]) -> Result<(), AllocError> {
+    let (name, value) = cut(definition, b"=");
+    if is_shell_name(name) {
+        defs.define(name, value)?;
+    }
+    Ok(())
+}
+
 /// The definitions of `NAME=VALUE;NAME=VALUE`.
-fn defined(alloc: Global, definitions: &[u8]) -> Result<Defs, AllocError> {
+pub fn defined(alloc: Global, definitions: &[u8]) -> Result<Defs, AllocError> {
     let mut defs = Defs::new(alloc);
-    for definition in &parts(alloc, definitions, b';')? {
-        let (name, value) = cut(definition, b"=");
-        if is_shell_name(name) {
-            defs.define(name, value)?;
-        }
+    for definition in &pieces(alloc, definitions, b';')? {
+        define(&mut defs, definition)?;
     }
     Ok(defs)
 }
@@ -216,21 +216,23 @@ fn has_definition(
 #[test]
 fn definitions_keep_their_places(rt: HostRuntime) -> Result<(), Fail> {
     let alloc = rt.alloc();
-    for row in &rows(alloc, DEFINITIONS)? {
-        let found = defs_after(alloc, row.given.as_slice())?;
-        row.check(&rt, found.as_slice());
-    }
+    check(&rt, alloc, DEFINITIONS, &defs_after)?;
     assert!(rt; has_definition(alloc, b"A=1;B=;A=2", b"A", Some(b"2"))?);
     assert!(rt; has_definition(alloc, b"A=1;B=;A=2", b"C", None)?);
     Ok(())
 }
 
+fn add(list: &mut SubstList, name: &[u8]) -> Result<(), AllocError> {
+    if is_shell_name(name) {
+        list.add(name)?;
+    }
+    Ok(())
+}
+
 fn listed(alloc: Global, names: &[u8]) -> Result<SubstList, AllocError> {
     let mut list = SubstList::new(alloc);
-    for name in &parts(alloc, names, b' ')? {
-        if is_shell_name(name) {
-            list.add(name)?;
-        }
+    for name in &pieces(alloc, names, b' ')? {
+        add(&mut list, name)?;
     }
     Ok(list)
 }
@@ -238,10 +240,7 @@ fn listed(alloc: Global, names: &[u8]) -> Result<SubstList, AllocError> {
 fn names_after(alloc: Global, names: &[u8]) -> Result<Vec<u8>, AllocError> {
     let list = listed(alloc, names)?;
     let mut out = Vec::new(alloc);
-    for name in list.names() {
-        out.extend_from_slice(name.as_slice())?;
-        out.push(b' ')?;
-    }
+    put_each(&mut out, list.names())?;
     Ok(out)
 }
 
@@ -254,7 +253,7 @@ fn has_listed(alloc: Global, names: &[u8], name: &[u8]) -> Result<bool, AllocErr
 fn a_name_is_listed_once(rt: HostRuntime) -> Result<(), Fail> {
     let alloc = rt.alloc();
     let names = names_after(alloc, b"CC LIBS CC")?;
-    assert_eq!(rt; names.as_slice(), b"CC LIBS ".as_slice());
+    assert_eq!(rt; names.as_slice(), b"CC|LIBS|".as_slice());
     assert!(rt; has_listed(alloc, b"CC LIBS CC", b"LIBS")?);
     assert!(rt; !has_listed(alloc, b"CC LIBS CC", b"LIB")?);
     Ok(())

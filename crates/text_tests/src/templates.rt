@@ -1,16 +1,24 @@
 //! template: templates that are filled, and the variables of each output file.
 
-use crate::rows::{cut, quoted, rows};
+use crate::rows::{check, cut, quoted};
+use deftable::is_shell_name;
 use std::alloc::{AllocError, Global};
 use std::test::Fail;
 use template::{Place, Table, configure_input, fill, has_one_filled_text, place_vars};
 
+fn add(table: &mut Table, key: &[u8], value: &[u8]) -> Result<(), AllocError> {
+    if is_shell_name(key) {
+        table.set(key, value)?;
+    }
+    Ok(())
+}
+
 fn table_of(alloc: Global, value: &[u8]) -> Result<Table, AllocError> {
     let mut table = Table::new(alloc);
-    table.set(b"VAR", b"old")?;
-    table.set(b"A", b"1")?;
-    table.set(b"B", b"")?;
-    table.set(b"VAR", value)?;
+    add(&mut table, b"VAR", b"old")?;
+    add(&mut table, b"A", b"1")?;
+    add(&mut table, b"B", b"")?;
+    add(&mut table, b"VAR", value)?;
     Ok(table)
 }
 
@@ -46,13 +54,13 @@ A@ => 'A@'
 @VARIABLE@\0@VA@ => '@VARIABLE@\0@VA@'
 ";
 
+fn filled_with_v(alloc: Global, text: &[u8]) -> Result<Vec<u8>, AllocError> {
+    filled_in_quotes(alloc, text, b"v")
+}
+
 #[test]
 fn templates_are_filled(rt: HostRuntime) -> Result<(), Fail> {
-    for row in &rows(rt.alloc(), FILLED)? {
-        let found = filled_in_quotes(rt.alloc(), row.given.as_slice(), b"v")?;
-        row.check(&rt, found.as_slice());
-    }
-    Ok(())
+    check(&rt, rt.alloc(), FILLED, &filled_with_v)
 }
 
 /// The value of VAR, and then the template.
@@ -61,14 +69,14 @@ const NOT_READ_AGAIN: &[u8] = b"
 @A @VAR@@ => '@A@'
 ";
 
+fn filled_with(alloc: Global, given: &[u8]) -> Result<Vec<u8>, AllocError> {
+    let (value, text) = cut(given, b" ");
+    filled_in_quotes(alloc, text, value)
+}
+
 #[test]
 fn values_are_not_read_again(rt: HostRuntime) -> Result<(), Fail> {
-    for row in &rows(rt.alloc(), NOT_READ_AGAIN)? {
-        let (value, text) = cut(row.given.as_slice(), b" ");
-        let found = filled_in_quotes(rt.alloc(), text, value)?;
-        row.check(&rt, found.as_slice());
-    }
-    Ok(())
+    check(&rt, rt.alloc(), NOT_READ_AGAIN, &filled_with)
 }
 
 /// The piece 200 times, and a long plain text after each fiftieth one from the first on.
@@ -127,10 +135,7 @@ fn longest_key(alloc: Global) -> Result<usize, AllocError> {
 
 #[test]
 fn keys(rt: HostRuntime) -> Result<(), Fail> {
-    for row in &rows(rt.alloc(), KEYS)? {
-        let found = value_of(rt.alloc(), row.given.as_slice())?;
-        row.check(&rt, found.as_slice());
-    }
+    check(&rt, rt.alloc(), KEYS, &value_of)?;
     assert_eq!(rt; longest_key(rt.alloc())?, 3);
     Ok(())
 }
@@ -163,11 +168,7 @@ fn place_of(alloc: Global, given: &[u8]) -> Result<Vec<u8>, AllocError> {
 
 #[test]
 fn places(rt: HostRuntime) -> Result<(), Fail> {
-    for row in &rows(rt.alloc(), PLACES)? {
-        let found = place_of(rt.alloc(), row.given.as_slice())?;
-        row.check(&rt, found.as_slice());
-    }
-    Ok(())
+    check(&rt, rt.alloc(), PLACES, &place_of)
 }
 
 /// The file and its template.
@@ -183,9 +184,5 @@ fn made_from(alloc: Global, given: &[u8]) -> Result<Vec<u8>, AllocError> {
 
 #[test]
 fn what_files_are_made_from(rt: HostRuntime) -> Result<(), Fail> {
-    for row in &rows(rt.alloc(), MADE_FROM)? {
-        let found = made_from(rt.alloc(), row.given.as_slice())?;
-        row.check(&rt, found.as_slice());
-    }
-    Ok(())
+    check(&rt, rt.alloc(), MADE_FROM, &made_from)
 }
