@@ -59,16 +59,24 @@ fn put_preprocessed(
     put_words(alloc, out, preproc_job(alloc, vars, &defs, b"x", number))
 }
 
-/// The words that compile, link and preprocess under these variables, a line for each.
+/// The words that compile, link and preprocess, a line for each.
+fn put_lines(alloc: Global, out: &mut Vec<u8>, vars: &Vars, number: u64) -> Result<(), AllocError> {
+    put_compiled(alloc, out, vars, number)?;
+    out.push(b'\n')?;
+    put_linked(alloc, out, vars, number)?;
+    out.push(b'\n')?;
+    put_preprocessed(alloc, out, vars, number)
+}
+
+fn words_under(alloc: Global, vars: &Vars, number: u64) -> Result<Vec<u8>, AllocError> {
+    let mut out = Vec::new(alloc);
+    put_lines(alloc, &mut out, vars, number)?;
+    Ok(out)
+}
+
 fn words_of(alloc: Global, assignments: &[u8], number: u64) -> Result<Vec<u8>, AllocError> {
     let vars = changed(alloc, assignments)?;
-    let mut out = Vec::new(alloc);
-    put_compiled(alloc, &mut out, &vars, number)?;
-    out.push(b'\n')?;
-    put_linked(alloc, &mut out, &vars, number)?;
-    out.push(b'\n')?;
-    put_preprocessed(alloc, &mut out, &vars, number)?;
-    Ok(out)
+    words_under(alloc, &vars, number)
 }
 
 /// Variables, and what compiles, links and preprocesses.
@@ -165,11 +173,20 @@ fn shown_compiled(
     shown_copy(alloc, compile_job(alloc, vars, defs, source, 1))
 }
 
+fn compiled_under(
+    alloc: Global,
+    vars: &Vars,
+    definitions: &[u8],
+    source: &[u8],
+) -> Result<Vec<u8>, AllocError> {
+    let defs = defined(alloc, definitions)?;
+    shown_compiled(alloc, vars, &defs, source)
+}
+
 /// What the compiler `cc` is asked for job 1.
 fn compiled(alloc: Global, definitions: &[u8], source: &[u8]) -> Result<Vec<u8>, AllocError> {
     let vars = changed(alloc, b"CC=cc")?;
-    let defs = defined(alloc, definitions)?;
-    shown_compiled(alloc, &vars, &defs, source)
+    compiled_under(alloc, &vars, definitions, source)
 }
 
 /// The definitions of a source that says its name and version.

@@ -13,12 +13,16 @@ fn add(table: &mut Table, key: &[u8], value: &[u8]) -> Result<(), AllocError> {
     Ok(())
 }
 
+fn add_all(table: &mut Table, value: &[u8]) -> Result<(), AllocError> {
+    add(table, b"VAR", b"old")?;
+    add(table, b"A", b"1")?;
+    add(table, b"B", b"")?;
+    add(table, b"VAR", value)
+}
+
 fn table_of(alloc: Global, value: &[u8]) -> Result<Table, AllocError> {
     let mut table = Table::new(alloc);
-    add(&mut table, b"VAR", b"old")?;
-    add(&mut table, b"A", b"1")?;
-    add(&mut table, b"B", b"")?;
-    add(&mut table, b"VAR", value)?;
+    add_all(&mut table, value)?;
     Ok(table)
 }
 
