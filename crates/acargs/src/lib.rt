@@ -31,6 +31,3 @@ pub use fault::ParseFault;
 pub use feature::OptionKind;
 pub use help::{Help, HelpList};
 pub use output::{Output, Outputs};
-
-#[cfg(test)]
-mod tests;

@@ -26,6 +26,3 @@ pub use macros::{ArgumentMacro, ChoiceMacro, Macro, Named, PlainMacro, QuestionM
 pub use program::{Program, ProgramNames, Try};
 pub use scene::{Scene, Stage};
 pub use statement::{Plain, Question};
-
-#[cfg(test)]
-mod tests;

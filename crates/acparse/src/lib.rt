@@ -16,6 +16,3 @@ pub use acargs::{Help, HelpList, Output, Outputs, ParseFault};
 pub use acmacros::{Plain, Question};
 pub use source::{Source, parse};
 pub use tree::{Case, Stmt, Subject, When};
-
-#[cfg(test)]
-mod tests;

@@ -31,6 +31,3 @@ pub use readings::{
     faults_are_exact, faults_are_placed, one_reading, quotes_are_of_words, readings_are_exact,
 };
 pub use statements::read_statements;
-
-#[cfg(test)]
-mod tests;

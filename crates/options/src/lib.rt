@@ -29,8 +29,6 @@ mod reader;
 mod settings;
 mod slashes;
 mod srcdir;
-#[cfg(test)]
-mod tests;
 mod unrecognized;
 
 pub use declared::{help_text, read_args};

@@ -53,6 +53,3 @@ pub use readings::{
 pub use test::{Test, read_test};
 pub use token::Joint;
 pub use word::{Word, read_word, read_word_front};
-
-#[cfg(test)]
-mod tests;

@@ -1,0 +1,390 @@
+//! The table of macros, their readers, and what is known after them.
+
+use crate::rows::{Call, differences, printed, put_number, put_text, yes_or_no};
+use acargs::{Help, ParseFault};
+use acmacros::macros::{look_up, macro_named, takes};
+use acmacros::rows::{plain, question};
+use acmacros::scene::{as_statement, bare_fault, check_place, note, note_question};
+use acmacros::{
+    ArgumentMacro, Macro, Named, Plain, PlainMacro, Program, ProgramNames, Question, Scene, Stage,
+    Try,
+};
+use deftable::{Bytes, SubstList};
+use m4quote::{Arg, Item, read_items};
+use std::alloc::{AllocError, Global};
+use std::test::Fail;
+
+// ---- the table
+
+/// The most bytes of a source: so many arguments are any number of them.
+const LONGEST_SOURCE: usize = 1_048_576;
+
+fn put_named(alloc: Global, out: &mut Vec<u8>, named: Named) -> Result<(), AllocError> {
+    let text = format!(in alloc; "{named:?}")?;
+    out.extend_from_slice(text.as_bytes())
+}
+
+/// What a name names; and of a statement, how many arguments it takes, and whether it is the file's own list's alone.
+struct Names;
+
+impl Call for Names {
+    fn answer(&self, alloc: Global, name: &[u8]) -> Result<Vec<u8>, AllocError> {
+        let mut out = Vec::new(alloc);
+        let Some(named) = macro_named(name) else {
+            return Ok(out);
+        };
+        put_named(alloc, &mut out, named)?;
+        if let Named::Statement(m) = named {
+            let row = look_up(m);
+            out.push(b' ')?;
+            put_number(alloc, &mut out, row.least)?;
+            out.extend_from_slice(b" to ")?;
+            if row.most >= LONGEST_SOURCE {
+                out.extend_from_slice(b"any number")?;
+            } else {
+                put_number(alloc, &mut out, row.most)?;
+            }
+            if row.top {
+                out.extend_from_slice(b" at top")?;
+            }
+        }
+        Ok(out)
+    }
+}
+
+/// By the table of docs/language.md.
+const TABLE_ROWS: &str = r#"
+AC_SUBST => Statement(Plain(Subst)) 1 to 2
+AC_CONFIG_FILES => Statement(Plain(ConfigFiles)) 1 to 1 at top
+AC_INIT => Statement(Plain(Init)) 2 to 5 at top
+AS_CASE => Statement(Choice(Case)) 2 to any number
+AC_ARG_WITH => Statement(Question(Given(Package))) 1 to 4
+AC_LINK_IFELSE => Statement(Question(Tries(Link))) 1 to 3
+AC_RUN_IFELSE => Statement(Question(Tries(Run))) 1 to 4
+AC_LANG_SOURCE => Argument(LangSource)
+AC_NOPE =>
+"#;
+
+#[test]
+fn the_table(rt: HostRuntime) -> Result<(), Fail> {
+    let found = differences(rt.alloc(), &Names, TABLE_ROWS)?;
+    assert_eq!(rt; found.as_str(), "");
+    Ok(())
+}
+
+/// Whether the macro that a text calls takes its arguments; nothing if the text begins with no call of a macro.
+fn takes_its_own(alloc: Global, items: &[Item<'_>]) -> Result<Option<bool>, AllocError> {
+    let Some(Item::Call { name, args, .. }) = items.first() else {
+        return Ok(None);
+    };
+    let Some(named) = macro_named(name) else {
+        return Ok(None);
+    };
+    Ok(Some(takes(alloc, named, args.as_slice())?))
+}
+
+/// Whether a call has arguments that its macro takes.
+struct TakenArguments;
+
+impl Call for TakenArguments {
+    fn answer(&self, alloc: Global, text: &[u8]) -> Result<Vec<u8>, AllocError> {
+        let items = match read_items(alloc, text) {
+            Ok(items) => items,
+            Err(fault) => return printed(alloc, &fault),
+        };
+        match takes_its_own(alloc, &items)? {
+            Some(is_so) => yes_or_no(alloc, is_so),
+            None => Vec::from_slice(alloc, b"no call"),
+        }
+    }
+}
+
+const TAKES_ROWS: &str = r#"
+AC_OUTPUT => yes
+AC_OUTPUT() => yes
+AC_OUTPUT([]) => yes
+AC_OUTPUT([[]]) => yes
+AC_OUTPUT([@&t@]) => yes
+AC_OUTPUT([ ]) => no
+AC_OUTPUT([x]) => no
+// an argument whose quotes are at fault is not empty
+AC_OUTPUT([#[^J]]) => no
+AC_OUTPUT(,) => no
+AS_HELP_STRING(,) => yes
+AS_HELP_STRING => no
+"#;
+
+#[test]
+fn arguments(rt: HostRuntime) -> Result<(), Fail> {
+    let found = differences(rt.alloc(), &TakenArguments, TAKES_ROWS)?;
+    assert_eq!(rt; found.as_str(), "");
+    Ok(())
+}
+
+// ---- places
+
+#[test]
+fn places(rt: HostRuntime) {
+    let files = Macro::Plain(PlainMacro::ConfigFiles);
+    assert_eq!(rt; check_place(true, Stage::Open, files, 3), Ok(()));
+    assert_eq!(rt;
+        check_place(false, Stage::Open, files, 3),
+        Err(ParseFault::NotAtTop(3))
+    );
+    assert_eq!(rt;
+        check_place(true, Stage::Before, files, 3),
+        Err(ParseFault::NoInit)
+    );
+    assert_eq!(rt; bare_fault(Stage::Ended, 3), ParseFault::AfterOutput(3));
+    let help = Named::Argument(ArgumentMacro::HelpString);
+    let fault = Err(ParseFault::UnknownStatement(3));
+    assert_eq!(rt; as_statement(Stage::Open, 3, help), fault);
+    assert_eq!(rt;
+        as_statement(Stage::Open, 3, Named::Statement(files)),
+        Ok(files)
+    );
+}
+
+// ---- readers
+
+/// Puts a word and the names of a list, unless the list is empty.
+fn put_names(out: &mut Vec<u8>, word: &[u8], names: &SubstList) -> Result<(), AllocError> {
+    if names.names().is_empty() {
+        return Ok(());
+    }
+    out.extend_from_slice(word)?;
+    for name in names.names() {
+        put_text(out, name.as_slice())?;
+    }
+    Ok(())
+}
+
+fn put_help(out: &mut Vec<u8>, help: &[Help]) -> Result<(), AllocError> {
+    for entry in help {
+        out.extend_from_slice(b" help")?;
+        match entry {
+            Help::Entry { left, right } => {
+                put_text(out, left.as_slice())?;
+                put_text(out, right.as_slice())?;
+            }
+            Help::Text { text } => put_text(out, text.as_slice())?,
+        }
+    }
+    Ok(())
+}
+
+/// Puts what is known.
+fn put_scene(out: &mut Vec<u8>, scene: &Scene) -> Result<(), AllocError> {
+    out.extend_from_slice(match scene.stage {
+        Stage::Before => b"before".as_slice(),
+        Stage::Open => b"open",
+        Stage::Ended => b"ended",
+    })?;
+    put_names(out, b" substituted", &scene.substituted)?;
+    put_names(out, b" precious", &scene.precious)?;
+    put_names(out, b" features", &scene.features)?;
+    put_names(out, b" packages", &scene.packages)?;
+    put_help(out, scene.help.as_slice())?;
+    for file in scene.files.as_slice() {
+        out.extend_from_slice(b" file")?;
+        put_text(out, file.name.as_slice())?;
+        put_text(out, file.template.as_slice())?;
+    }
+    Ok(())
+}
+
+/// The word for a statement, as its variant is called.
+fn word_of(statement: &Plain) -> &'static [u8] {
+    match statement {
+        Plain::Init { .. } => b"Init",
+        Plain::Accepted => b"Accepted",
+        Plain::ConfigFiles { .. } => b"ConfigFiles",
+        Plain::Assign { .. } => b"Assign",
+        Plain::Subst { .. } => b"Subst",
+        Plain::SubstValue { .. } => b"SubstValue",
+        Plain::Define { .. } => b"Define",
+        Plain::DefineUnquoted { .. } => b"DefineUnquoted",
+        Plain::Error { .. } => b"Error",
+        Plain::ArgVar { .. } => b"ArgVar",
+        Plain::CheckProg { .. } => b"CheckProg",
+        Plain::CheckProgs { .. } => b"CheckProgs",
+        Plain::PathProg { .. } => b"PathProg",
+        Plain::ProgCc { .. } => b"ProgCc",
+        Plain::Output => b"Output",
+    }
+}
+
+/// Puts the programs of a search.
+fn put_programs(out: &mut Vec<u8>, statement: &Plain) -> Result<(), AllocError> {
+    if let Plain::CheckProgs { programs, .. } | Plain::ProgCc { programs } = statement {
+        for program in programs.as_slice() {
+            put_text(out, program.as_slice())?;
+        }
+    }
+    Ok(())
+}
+
+fn put_plain(
+    alloc: Global,
+    out: &mut Vec<u8>,
+    scene: &mut Scene,
+    statement: &Plain,
+) -> Result<(), AllocError> {
+    out.extend_from_slice(word_of(statement))?;
+    put_programs(out, statement)?;
+    out.push(b' ')?;
+    note(alloc, scene, statement)?;
+    put_scene(out, scene)
+}
+
+/// Puts what a question asks.
+fn put_asked(out: &mut Vec<u8>, asked: &Question) -> Result<(), AllocError> {
+    match asked {
+        Question::Given { variable, .. } => put_text(out, variable.as_slice()),
+        Question::Tries { kind, program } => {
+            out.extend_from_slice(match kind {
+                Try::Compile => b"compile".as_slice(),
+                Try::Link => b"link",
+                Try::Preproc => b"preprocess",
+                Try::Run => b"run",
+            })?;
+            out.extend_from_slice(match program {
+                Program::Program { .. } => b" a program",
+                Program::Source { .. } => b" a source",
+            })
+        }
+    }
+}
+
+fn put_question(
+    alloc: Global,
+    out: &mut Vec<u8>,
+    scene: &mut Scene,
+    asked: &Question,
+) -> Result<(), AllocError> {
+    put_asked(out, asked)?;
+    out.push(b' ')?;
+    note_question(alloc, scene, asked)?;
+    put_scene(out, scene)
+}
+
+/// What a call is read as, and what is known after it.
+fn read_call(
+    alloc: Global,
+    out: &mut Vec<u8>,
+    m: Macro,
+    at: usize,
+    args: &[Arg<'_>],
+) -> Result<(), ParseFault> {
+    let mut scene = Scene::new(alloc);
+    if m != Macro::Plain(PlainMacro::Init) {
+        scene.stage = Stage::Open;
+    }
+    match m {
+        Macro::Plain(m) => {
+            let statement = plain(alloc, &scene, m, at, args)?;
+            put_plain(alloc, out, &mut scene, &statement)?;
+        }
+        Macro::Question(m) => {
+            let asked = question(alloc, &scene, m, args)?;
+            put_question(alloc, out, &mut scene, &asked)?;
+        }
+        Macro::Choice(_) => out.extend_from_slice(b"a choice")?,
+    }
+    Ok(())
+}
+
+/// What the first call of a text is read as, if it is a statement.
+fn read_first(alloc: Global, out: &mut Vec<u8>, items: &[Item<'_>]) -> Result<(), ParseFault> {
+    let Some(Item::Call { name, args, at }) = items.first() else {
+        return Ok(());
+    };
+    if let Some(Named::Statement(m)) = macro_named(name) {
+        read_call(alloc, out, m, *at, args.as_slice())?;
+    }
+    Ok(())
+}
+
+/// What a call is read as, and what is known after it; or its fault.
+struct ReadCalls;
+
+impl Call for ReadCalls {
+    fn answer(&self, alloc: Global, text: &[u8]) -> Result<Vec<u8>, AllocError> {
+        let items = match read_items(alloc, text) {
+            Ok(items) => items,
+            Err(fault) => return printed(alloc, &fault),
+        };
+        let mut out = Vec::new(alloc);
+        match read_first(alloc, &mut out, &items) {
+            Ok(()) => Ok(out),
+            Err(fault) => printed(alloc, &fault),
+        }
+    }
+}
+
+const READER_ROWS: &str = r#"
+AC_INIT([x],[1]) => Init open
+AC_LANG([C]) => Accepted open
+AC_CONFIG_FILES([a b:c]) => ConfigFiles open file[a][a.in] file[b][c]
+AC_SUBST([a]) => Subst open substituted[a]
+AC_SUBST([a],[b]) => SubstValue open substituted[a]
+AC_DEFINE([A]) => Define open
+AC_DEFINE_UNQUOTED([A],[$a]) => DefineUnquoted open
+AC_MSG_ERROR([no]) => Error open
+AC_ARG_VAR([CC],[a compiler]) => ArgVar open substituted[CC] precious[CC] help[CC][a compiler]
+AC_CHECK_PROG([P],[p],[yes]) => CheckProg open substituted[P]
+AC_CHECK_PROGS([P],[p q]) => CheckProgs[p][q] open substituted[P]
+AC_PATH_PROG([P],[p]) => PathProg open substituted[P]
+AC_PROG_CC => ProgCc[gcc][cc] open substituted[CC][CFLAGS][LDFLAGS][LIBS][CPPFLAGS] precious[CC][CFLAGS][LDFLAGS][LIBS][CPPFLAGS]
+AC_OUTPUT => Output ended
+AC_ARG_ENABLE([a-b],[AS_HELP_STRING([--enable-a-b],[c])]) => [enable_a_b] open features[enable_a_b] help[--enable-a-b][c]
+AC_ARG_WITH([x],[as it is]) => [with_x] open packages[with_x] help[as it is]
+AC_RUN_IFELSE([AC_LANG_SOURCE([x])]) => run a source open
+AC_LINK_IFELSE([AC_LANG_PROGRAM]) => link a program open
+// at fault
+AC_SUBST([a-b]) => 5 at 9
+AC_ARG_WITH([]) => 5 at 12
+"#;
+
+#[test]
+fn readers(rt: HostRuntime) -> Result<(), Fail> {
+    let found = differences(rt.alloc(), &ReadCalls, READER_ROWS)?;
+    assert_eq!(rt; found.as_str(), "");
+    Ok(())
+}
+
+/// The stage of a scene that nothing is known in, and its lists.
+fn first_scene(alloc: Global) -> Result<Vec<u8>, AllocError> {
+    let mut out = Vec::new(alloc);
+    put_scene(&mut out, &Scene::new(alloc))?;
+    Ok(out)
+}
+
+#[test]
+fn the_first_scene(rt: HostRuntime) -> Result<(), Fail> {
+    assert!(rt; first_scene(rt.alloc())?.as_slice() == b"before".as_slice());
+    Ok(())
+}
+
+/// The names of a search of two programs.
+fn two_programs(alloc: Global) -> Result<ProgramNames, AllocError> {
+    let mut names = Vec::new(alloc);
+    names.push(Bytes::from_slice(alloc, b"gcc")?)?;
+    names.push(Bytes::from_slice(alloc, b"cc")?)?;
+    Ok(ProgramNames::from_vec(names))
+}
+
+fn joined(alloc: Global, names: &ProgramNames) -> Result<Vec<u8>, AllocError> {
+    let mut out = Vec::new(alloc);
+    for name in names.as_slice() {
+        put_text(&mut out, name.as_slice())?;
+    }
+    Ok(out)
+}
+
+#[test]
+fn names_of_programs(rt: HostRuntime) -> Result<(), Fail> {
+    let names = two_programs(rt.alloc())?;
+    assert!(rt; joined(rt.alloc(), &names)?.as_slice() == b"[gcc][cc]".as_slice());
+    Ok(())
+}
