@@ -26,26 +26,23 @@ fn read_settings(
     read_args(alloc, source, arguments, environment)
 }
 
-/// What a source declares.
-#[derive(Drop)]
-struct Declared {
-    features: SubstList,
-    packages: SubstList,
-    precious: SubstList,
-}
-
+/// The settings for a source that declares the feature `a-b`, the package `x` and the precious variable CC.
 fn read_settings_of(
     alloc: Global,
-    declared: &Declared,
     arguments: &[Bytes],
     environment: &[(Bytes, Bytes)],
 ) -> Result<Settings, OptionFault> {
-    let Declared {
-        features,
-        packages,
-        precious,
-    } = declared;
-    read_args_of(alloc, features, packages, precious, arguments, environment)
+    let features = list_of(alloc, b"enable_a_b")?;
+    let packages = list_of(alloc, b"with_x")?;
+    let precious = list_of(alloc, b"CC")?;
+    read_args_of(
+        alloc,
+        &features,
+        &packages,
+        &precious,
+        arguments,
+        environment,
+    )
 }
 
 // ---- settings
@@ -135,22 +132,16 @@ fn list_of(alloc: Global, name: &[u8]) -> Result<SubstList, AllocError> {
 }
 
 /// The settings of a command line, over the lists of what a source declares.
-#[derive(Drop)]
-struct OfLists {
-    declared: Declared,
-}
+struct OfLists;
 
 impl Call for OfLists {
     fn answer(&self, alloc: Global, line: &[u8]) -> Result<Vec<u8>, AllocError> {
         let arguments = arguments_of(alloc, line)?;
         let environment = environment(alloc)?;
-        let settings = read_settings_of(
+        told(
             alloc,
-            &self.declared,
-            arguments.as_slice(),
-            environment.as_slice(),
-        );
-        told(alloc, settings)
+            read_settings_of(alloc, arguments.as_slice(), environment.as_slice()),
+        )
     }
 }
 
@@ -169,16 +160,7 @@ const OF_LIST_ROWS: &str = r#"
 
 #[test]
 fn settings_of_lists(rt: HostRuntime) -> Result<(), Fail> {
-    let alloc = rt.alloc();
-    let features = list_of(alloc, b"enable_a_b")?;
-    let packages = list_of(alloc, b"with_x")?;
-    let precious = list_of(alloc, b"CC")?;
-    let declared = Declared {
-        features,
-        packages,
-        precious,
-    };
-    let found = differences(alloc, &OfLists { declared }, OF_LIST_ROWS)?;
+    let found = differences(rt.alloc(), &OfLists, OF_LIST_ROWS)?;
     assert_eq!(rt; found.as_str(), "");
     Ok(())
 }
@@ -188,19 +170,32 @@ AC_ARG_ENABLE([a-b],[AS_HELP_STRING([--disable-a-b],[leave x out])])
 AC_OUTPUT
 ";
 
-/// The settings of a command line, over that source.
-#[derive(Drop)]
-struct OfSource {
-    source: Source,
+/// Puts the settings of a command line over that source, or a fault.
+fn put_settings_of_source(
+    alloc: Global,
+    out: &mut Vec<u8>,
+    source: &Source,
+    line: &[u8],
+) -> Result<(), AllocError> {
+    let arguments = arguments_of(alloc, line)?;
+    let found = told(
+        alloc,
+        read_settings(alloc, source, arguments.as_slice(), &[]),
+    )?;
+    out.extend_from_slice(found.as_slice())
 }
+
+/// The settings of a command line, over that source.
+struct OfSource;
 
 impl Call for OfSource {
     fn answer(&self, alloc: Global, line: &[u8]) -> Result<Vec<u8>, AllocError> {
-        let arguments = arguments_of(alloc, line)?;
-        told(
-            alloc,
-            read_settings(alloc, &self.source, arguments.as_slice(), &[]),
-        )
+        let mut out = Vec::new(alloc);
+        match read_source(alloc, SOURCE) {
+            Ok(source) => put_settings_of_source(alloc, &mut out, &source, line)?,
+            Err(fault) => return printed(alloc, &fault),
+        }
+        Ok(out)
     }
 }
 
@@ -211,8 +206,7 @@ const OF_SOURCE_ROWS: &str = r#"
 
 #[test]
 fn settings_of_a_source(rt: HostRuntime) -> Result<(), Fail> {
-    let source = read_source(rt.alloc(), SOURCE)?;
-    let found = differences(rt.alloc(), &OfSource { source }, OF_SOURCE_ROWS)?;
+    let found = differences(rt.alloc(), &OfSource, OF_SOURCE_ROWS)?;
     assert_eq!(rt; found.as_str(), "");
     Ok(())
 }

@@ -3,7 +3,8 @@
 use crate::rows::{Call, bracketed, cut_at, differences, printed, put_number, put_text, yes_or_no};
 use deftable::Vars;
 use shellword::{
-    Part, Patterns, Piece, Word, read_here, read_patterns, read_test, read_word, read_word_front,
+    Element, Joint, Part, Patterns, Piece, Word, read_here, read_patterns, read_test, read_word,
+    read_word_front,
 };
 use std::alloc::{AllocError, Global};
 use std::test::Fail;
@@ -22,15 +23,13 @@ fn variables(alloc: Global) -> Result<Vars, AllocError> {
 // ---- words
 
 /// The value of a word, or its fault.
-#[derive(Drop)]
-struct WordValues {
-    vars: Vars,
-}
+struct WordValues;
 
 impl Call for WordValues {
     fn answer(&self, alloc: Global, text: &[u8]) -> Result<Vec<u8>, AllocError> {
+        let vars = variables(alloc)?;
         match read_word(alloc, text) {
-            Ok(word) => bracketed(alloc, word.value(alloc, &self.vars)?.as_slice()),
+            Ok(word) => bracketed(alloc, word.value(alloc, &vars)?.as_slice()),
             Err(fault) => printed(alloc, &fault),
         }
     }
@@ -104,26 +103,23 @@ a b => 1 at 1
 
 #[test]
 fn words(rt: HostRuntime) -> Result<(), Fail> {
-    let vars = variables(rt.alloc())?;
-    let found = differences(rt.alloc(), &WordValues { vars }, WORD_ROWS)?;
+    let found = differences(rt.alloc(), &WordValues, WORD_ROWS)?;
     assert_eq!(rt; found.as_str(), "");
     Ok(())
 }
 
 /// The length of the word at the front, and its value.
-#[derive(Drop)]
-struct FrontValues {
-    vars: Vars,
-}
+struct FrontValues;
 
 impl Call for FrontValues {
     fn answer(&self, alloc: Global, text: &[u8]) -> Result<Vec<u8>, AllocError> {
+        let vars = variables(alloc)?;
         match read_word_front(alloc, text) {
             Ok((word, len)) => {
                 let mut out = Vec::new(alloc);
                 put_number(alloc, &mut out, len)?;
                 out.push(b' ')?;
-                put_text(&mut out, word.value(alloc, &self.vars)?.as_slice())?;
+                put_text(&mut out, word.value(alloc, &vars)?.as_slice())?;
                 Ok(out)
             }
             Err(fault) => printed(alloc, &fault),
@@ -145,22 +141,19 @@ a ( => 1 [a]
 
 #[test]
 fn fronts(rt: HostRuntime) -> Result<(), Fail> {
-    let vars = variables(rt.alloc())?;
-    let found = differences(rt.alloc(), &FrontValues { vars }, FRONT_ROWS)?;
+    let found = differences(rt.alloc(), &FrontValues, FRONT_ROWS)?;
     assert_eq!(rt; found.as_str(), "");
     Ok(())
 }
 
 /// The value of a here text, or its fault.
-#[derive(Drop)]
-struct HereValues {
-    vars: Vars,
-}
+struct HereValues;
 
 impl Call for HereValues {
     fn answer(&self, alloc: Global, text: &[u8]) -> Result<Vec<u8>, AllocError> {
+        let vars = variables(alloc)?;
         match read_here(alloc, text) {
-            Ok(here) => bracketed(alloc, here.value(alloc, &self.vars)?.as_slice()),
+            Ok(here) => bracketed(alloc, here.value(alloc, &vars)?.as_slice()),
             Err(fault) => printed(alloc, &fault),
         }
     }
@@ -179,8 +172,7 @@ ${a-x} => 1 at 0
 
 #[test]
 fn here_texts(rt: HostRuntime) -> Result<(), Fail> {
-    let vars = variables(rt.alloc())?;
-    let found = differences(rt.alloc(), &HereValues { vars }, HERE_TEXT_ROWS)?;
+    let found = differences(rt.alloc(), &HereValues, HERE_TEXT_ROWS)?;
     assert_eq!(rt; found.as_str(), "");
     Ok(())
 }
@@ -251,15 +243,13 @@ fn word_without_parts(rt: HostRuntime) -> Result<(), Fail> {
 // ---- tests
 
 /// Whether a test holds, or its fault.
-#[derive(Drop)]
-struct Truths {
-    vars: Vars,
-}
+struct Truths;
 
 impl Call for Truths {
     fn answer(&self, alloc: Global, text: &[u8]) -> Result<Vec<u8>, AllocError> {
+        let vars = variables(alloc)?;
         match read_test(alloc, text) {
-            Ok(test) => yes_or_no(alloc, test.holds(alloc, &self.vars)?),
+            Ok(test) => yes_or_no(alloc, test.holds(alloc, &vars)?),
             Err(fault) => printed(alloc, &fault),
         }
     }
@@ -317,30 +307,21 @@ test x > y => 1 at 7
 
 #[test]
 fn tests(rt: HostRuntime) -> Result<(), Fail> {
-    let vars = variables(rt.alloc())?;
-    let found = differences(rt.alloc(), &Truths { vars }, TEST_ROWS)?;
+    let found = differences(rt.alloc(), &Truths, TEST_ROWS)?;
     assert_eq!(rt; found.as_str(), "");
     Ok(())
 }
 
 /// For each element of a test its joint, and whether it and its condition hold.
-#[derive(Drop)]
-struct ElementTruths {
-    vars: Vars,
-}
+struct ElementTruths;
 
-impl ElementTruths {
-    fn put(
-        &self,
-        alloc: Global,
-        out: &mut Vec<u8>,
-        element: &shellword::Element,
-    ) -> Result<(), AllocError> {
-        out.extend_from_slice(yes_or_no(alloc, element.holds(alloc, &self.vars)?)?.as_slice())?;
-        out.push(b'/')?;
-        let condition = element.condition.holds(alloc, &self.vars)?;
-        out.extend_from_slice(yes_or_no(alloc, condition)?.as_slice())
-    }
+/// Puts whether an element and its condition hold.
+fn put_element(alloc: Global, out: &mut Vec<u8>, element: &Element) -> Result<(), AllocError> {
+    let vars = variables(alloc)?;
+    out.extend_from_slice(yes_or_no(alloc, element.holds(alloc, &vars)?)?.as_slice())?;
+    out.push(b'/')?;
+    let condition = element.condition.holds(alloc, &vars)?;
+    out.extend_from_slice(yes_or_no(alloc, condition)?.as_slice())
 }
 
 impl Call for ElementTruths {
@@ -351,14 +332,14 @@ impl Call for ElementTruths {
         };
         let mut out = Vec::new(alloc);
         let (first, rest) = test.elements();
-        self.put(alloc, &mut out, first)?;
+        put_element(alloc, &mut out, first)?;
         for next in rest {
             let word = match next.0 {
-                shellword::Joint::And => b" and ".as_slice(),
-                shellword::Joint::Or => b" or ",
+                Joint::And => b" and ".as_slice(),
+                Joint::Or => b" or ",
             };
             out.extend_from_slice(word)?;
-            self.put(alloc, &mut out, &next.1)?;
+            put_element(alloc, &mut out, &next.1)?;
         }
         Ok(out)
     }
@@ -371,8 +352,7 @@ true => yes/yes
 
 #[test]
 fn elements(rt: HostRuntime) -> Result<(), Fail> {
-    let vars = variables(rt.alloc())?;
-    let found = differences(rt.alloc(), &ElementTruths { vars }, ELEMENT_ROWS)?;
+    let found = differences(rt.alloc(), &ElementTruths, ELEMENT_ROWS)?;
     assert_eq!(rt; found.as_str(), "");
     Ok(())
 }
