@@ -6,7 +6,7 @@ use acmacros::macros::{look_up, macro_named, takes};
 use acmacros::rows::{plain, question};
 use acmacros::scene::{as_statement, bare_fault, check_place, note, note_question};
 use acmacros::{
-    ArgumentMacro, Macro, Named, Plain, PlainMacro, Program, ProgramNames, Question, Scene, Stage,
+    Macro, Named, Plain, PlainMacro, Program, ProgramNames, Question, QuestionMacro, Scene, Stage,
     Try,
 };
 use deftable::{Bytes, SubstList};
@@ -123,26 +123,68 @@ fn arguments(rt: HostRuntime) -> Result<(), Fail> {
 
 // ---- places
 
+/// Where a call stands: in the file's own list or in another, or before AC_INIT or after AC_OUTPUT.
+enum Place {
+    Top,
+    Inside,
+    Before,
+    After,
+}
+
+impl Place {
+    fn stage(&self) -> Stage {
+        match self {
+            Place::Top | Place::Inside => Stage::Open,
+            Place::Before => Stage::Before,
+            Place::After => Stage::Ended,
+        }
+    }
+}
+
+/// Whether a call of this name, or a word that names no macro, may stand there.
+fn allowed(place: &Place, name: &[u8]) -> Result<(), ParseFault> {
+    let Some(named) = macro_named(name) else {
+        return Err(bare_fault(place.stage(), 3));
+    };
+    let m = as_statement(place.stage(), 3, named)?;
+    check_place(!matches!(place, Place::Inside), place.stage(), m, 3)
+}
+
+impl Call for Place {
+    fn answer(&self, alloc: Global, name: &[u8]) -> Result<Vec<u8>, AllocError> {
+        match allowed(self, name) {
+            Ok(()) => Vec::from_slice(alloc, b"allowed"),
+            Err(fault) => printed(alloc, &fault),
+        }
+    }
+}
+
 #[test]
-fn places(rt: HostRuntime) {
-    let files = Macro::Plain(PlainMacro::ConfigFiles);
-    assert_eq!(rt; check_place(true, Stage::Open, files, 3), Ok(()));
-    assert_eq!(rt;
-        check_place(false, Stage::Open, files, 3),
-        Err(ParseFault::NotAtTop(3))
-    );
-    assert_eq!(rt;
-        check_place(true, Stage::Before, files, 3),
-        Err(ParseFault::NoInit)
-    );
-    assert_eq!(rt; bare_fault(Stage::Ended, 3), ParseFault::AfterOutput(3));
-    let help = Named::Argument(ArgumentMacro::HelpString);
-    let fault = Err(ParseFault::UnknownStatement(3));
-    assert_eq!(rt; as_statement(Stage::Open, 3, help), fault);
-    assert_eq!(rt;
-        as_statement(Stage::Open, 3, Named::Statement(files)),
-        Ok(files)
-    );
+fn calls_in_the_file(rt: HostRuntime) -> Result<(), Fail> {
+    let rows =
+        "AC_CONFIG_FILES => allowed\nAC_INIT => 7 at 3\nAS_HELP_STRING => 3 at 3\na => 3 at 3";
+    let found = differences(rt.alloc(), &Place::Top, rows)?;
+    assert_eq!(rt; found.as_str(), "");
+    Ok(())
+}
+
+#[test]
+fn calls_in_arguments(rt: HostRuntime) -> Result<(), Fail> {
+    let rows = "AC_CONFIG_FILES => 7 at 3\nAC_SUBST => allowed";
+    let found = differences(rt.alloc(), &Place::Inside, rows)?;
+    assert_eq!(rt; found.as_str(), "");
+    Ok(())
+}
+
+#[test]
+fn calls_at_the_ends(rt: HostRuntime) -> Result<(), Fail> {
+    let rows = "AC_CONFIG_FILES => 8\nAC_INIT => allowed\nAC_PREREQ => allowed\na => 8";
+    let found = differences(rt.alloc(), &Place::Before, rows)?;
+    assert_eq!(rt; found.as_str(), "");
+    let rows = "AC_SUBST => 10 at 3\nAS_HELP_STRING => 10 at 3\na => 10 at 3";
+    let found = differences(rt.alloc(), &Place::After, rows)?;
+    assert_eq!(rt; found.as_str(), "");
+    Ok(())
 }
 
 // ---- readers
@@ -224,19 +266,6 @@ fn put_programs(out: &mut Vec<u8>, statement: &Plain) -> Result<(), AllocError> 
     Ok(())
 }
 
-fn put_plain(
-    alloc: Global,
-    out: &mut Vec<u8>,
-    scene: &mut Scene,
-    statement: &Plain,
-) -> Result<(), AllocError> {
-    out.extend_from_slice(word_of(statement))?;
-    put_programs(out, statement)?;
-    out.push(b' ')?;
-    note(alloc, scene, statement)?;
-    put_scene(out, scene)
-}
-
 /// Puts what a question asks.
 fn put_asked(out: &mut Vec<u8>, asked: &Question) -> Result<(), AllocError> {
     match asked {
@@ -256,53 +285,96 @@ fn put_asked(out: &mut Vec<u8>, asked: &Question) -> Result<(), AllocError> {
     }
 }
 
-fn put_question(
-    alloc: Global,
-    out: &mut Vec<u8>,
-    scene: &mut Scene,
-    asked: &Question,
-) -> Result<(), AllocError> {
-    put_asked(out, asked)?;
-    out.push(b' ')?;
-    note_question(alloc, scene, asked)?;
-    put_scene(out, scene)
-}
+// The calls, in functions without their contracts.
 
-/// What a call is read as, and what is known after it.
-fn read_call(
+fn read_plain(
     alloc: Global,
-    out: &mut Vec<u8>,
-    m: Macro,
+    scene: &Scene,
+    m: PlainMacro,
     at: usize,
     args: &[Arg<'_>],
-) -> Result<(), ParseFault> {
+) -> Result<Plain, ParseFault> {
+    plain(alloc, scene, m, at, args)
+}
+
+fn note_plain(alloc: Global, scene: &mut Scene, statement: &Plain) -> Result<(), AllocError> {
+    note(alloc, scene, statement)
+}
+
+fn read_question(
+    alloc: Global,
+    scene: &Scene,
+    m: QuestionMacro,
+    args: &[Arg<'_>],
+) -> Result<Question, ParseFault> {
+    question(alloc, scene, m, args)
+}
+
+fn note_asked(alloc: Global, scene: &mut Scene, asked: &Question) -> Result<(), AllocError> {
+    note_question(alloc, scene, asked)
+}
+
+/// What is known where the first call after AC_INIT stands.
+fn open_scene(alloc: Global) -> Scene {
     let mut scene = Scene::new(alloc);
-    if m != Macro::Plain(PlainMacro::Init) {
-        scene.stage = Stage::Open;
+    scene.stage = Stage::Open;
+    scene
+}
+
+/// A statement, and what is known after it.
+fn told_plain(alloc: Global, mut scene: Scene, statement: &Plain) -> Result<Vec<u8>, AllocError> {
+    let mut out = Vec::from_slice(alloc, word_of(statement))?;
+    put_programs(&mut out, statement)?;
+    out.push(b' ')?;
+    note_plain(alloc, &mut scene, statement)?;
+    put_scene(&mut out, &scene)?;
+    Ok(out)
+}
+
+/// A question, and what is known after it.
+fn told_question(alloc: Global, mut scene: Scene, asked: &Question) -> Result<Vec<u8>, AllocError> {
+    let mut out = Vec::new(alloc);
+    put_asked(&mut out, asked)?;
+    out.push(b' ')?;
+    note_asked(alloc, &mut scene, asked)?;
+    put_scene(&mut out, &scene)?;
+    Ok(out)
+}
+
+fn plain_call(
+    alloc: Global,
+    m: PlainMacro,
+    at: usize,
+    args: &[Arg<'_>],
+) -> Result<Vec<u8>, AllocError> {
+    let scene = match m {
+        PlainMacro::Init => Scene::new(alloc),
+        _ => open_scene(alloc),
+    };
+    match read_plain(alloc, &scene, m, at, args) {
+        Ok(statement) => told_plain(alloc, scene, &statement),
+        Err(fault) => printed(alloc, &fault),
     }
-    match m {
-        Macro::Plain(m) => {
-            let statement = plain(alloc, &scene, m, at, args)?;
-            put_plain(alloc, out, &mut scene, &statement)?;
-        }
-        Macro::Question(m) => {
-            let asked = question(alloc, &scene, m, args)?;
-            put_question(alloc, out, &mut scene, &asked)?;
-        }
-        Macro::Choice(_) => out.extend_from_slice(b"a choice")?,
+}
+
+fn question_call(alloc: Global, m: QuestionMacro, args: &[Arg<'_>]) -> Result<Vec<u8>, AllocError> {
+    let scene = open_scene(alloc);
+    match read_question(alloc, &scene, m, args) {
+        Ok(asked) => told_question(alloc, scene, &asked),
+        Err(fault) => printed(alloc, &fault),
     }
-    Ok(())
 }
 
 /// What the first call of a text is read as, if it is a statement.
-fn read_first(alloc: Global, out: &mut Vec<u8>, items: &[Item<'_>]) -> Result<(), ParseFault> {
+fn first_call(alloc: Global, items: &[Item<'_>]) -> Result<Vec<u8>, AllocError> {
     let Some(Item::Call { name, args, at }) = items.first() else {
-        return Ok(());
+        return Vec::from_slice(alloc, b"no call");
     };
-    if let Some(Named::Statement(m)) = macro_named(name) {
-        read_call(alloc, out, m, *at, args.as_slice())?;
+    match macro_named(name) {
+        Some(Named::Statement(Macro::Plain(m))) => plain_call(alloc, m, *at, args.as_slice()),
+        Some(Named::Statement(Macro::Question(m))) => question_call(alloc, m, args.as_slice()),
+        _ => Vec::from_slice(alloc, b"another macro"),
     }
-    Ok(())
 }
 
 /// What a call is read as, and what is known after it; or its fault.
@@ -310,13 +382,8 @@ struct ReadCalls;
 
 impl Call for ReadCalls {
     fn answer(&self, alloc: Global, text: &[u8]) -> Result<Vec<u8>, AllocError> {
-        let items = match read_items(alloc, text) {
-            Ok(items) => items,
-            Err(fault) => return printed(alloc, &fault),
-        };
-        let mut out = Vec::new(alloc);
-        match read_first(alloc, &mut out, &items) {
-            Ok(()) => Ok(out),
+        match read_items(alloc, text) {
+            Ok(items) => first_call(alloc, &items),
             Err(fault) => printed(alloc, &fault),
         }
     }
