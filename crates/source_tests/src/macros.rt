@@ -1,15 +1,16 @@
-//! The table of macros, their readers, and what is known after them.
+//! The table of macros and their readers. What is known after a statement, `note` and `note_question`, shows in the lists
+//! of a source (`sources`): their contracts would make each function that calls them slow to prove.
 
 use crate::rows::{Call, differences, printed, put_number, put_text, yes_or_no};
-use acargs::{Help, ParseFault};
+use acargs::ParseFault;
 use acmacros::macros::{look_up, macro_named, takes};
 use acmacros::rows::{plain, question};
-use acmacros::scene::{as_statement, bare_fault, check_place, note, note_question};
+use acmacros::scene::{as_statement, bare_fault, check_place};
 use acmacros::{
     Macro, Named, Plain, PlainMacro, Program, ProgramNames, Question, QuestionMacro, Scene, Stage,
     Try,
 };
-use deftable::{Bytes, SubstList};
+use deftable::Bytes;
 use m4quote::{Arg, Item, read_items};
 use std::alloc::{AllocError, Global};
 use std::test::Fail;
@@ -189,52 +190,6 @@ fn calls_at_the_ends(rt: HostRuntime) -> Result<(), Fail> {
 
 // ---- readers
 
-/// Puts a word and the names of a list, unless the list is empty.
-fn put_names(out: &mut Vec<u8>, word: &[u8], names: &SubstList) -> Result<(), AllocError> {
-    if names.names().is_empty() {
-        return Ok(());
-    }
-    out.extend_from_slice(word)?;
-    for name in names.names() {
-        put_text(out, name.as_slice())?;
-    }
-    Ok(())
-}
-
-fn put_help(out: &mut Vec<u8>, help: &[Help]) -> Result<(), AllocError> {
-    for entry in help {
-        out.extend_from_slice(b" help")?;
-        match entry {
-            Help::Entry { left, right } => {
-                put_text(out, left.as_slice())?;
-                put_text(out, right.as_slice())?;
-            }
-            Help::Text { text } => put_text(out, text.as_slice())?,
-        }
-    }
-    Ok(())
-}
-
-/// Puts what is known.
-fn put_scene(out: &mut Vec<u8>, scene: &Scene) -> Result<(), AllocError> {
-    out.extend_from_slice(match scene.stage {
-        Stage::Before => b"before".as_slice(),
-        Stage::Open => b"open",
-        Stage::Ended => b"ended",
-    })?;
-    put_names(out, b" substituted", &scene.substituted)?;
-    put_names(out, b" precious", &scene.precious)?;
-    put_names(out, b" features", &scene.features)?;
-    put_names(out, b" packages", &scene.packages)?;
-    put_help(out, scene.help.as_slice())?;
-    for file in scene.files.as_slice() {
-        out.extend_from_slice(b" file")?;
-        put_text(out, file.name.as_slice())?;
-        put_text(out, file.template.as_slice())?;
-    }
-    Ok(())
-}
-
 /// The word for a statement, as its variant is called.
 fn word_of(statement: &Plain) -> &'static [u8] {
     match statement {
@@ -297,10 +252,6 @@ fn read_plain(
     plain(alloc, scene, m, at, args)
 }
 
-fn note_plain(alloc: Global, scene: &mut Scene, statement: &Plain) -> Result<(), AllocError> {
-    note(alloc, scene, statement)
-}
-
 fn read_question(
     alloc: Global,
     scene: &Scene,
@@ -310,10 +261,6 @@ fn read_question(
     question(alloc, scene, m, args)
 }
 
-fn note_asked(alloc: Global, scene: &mut Scene, asked: &Question) -> Result<(), AllocError> {
-    note_question(alloc, scene, asked)
-}
-
 /// What is known where the first call after AC_INIT stands.
 fn open_scene(alloc: Global) -> Scene {
     let mut scene = Scene::new(alloc);
@@ -321,23 +268,16 @@ fn open_scene(alloc: Global) -> Scene {
     scene
 }
 
-/// A statement, and what is known after it.
-fn told_plain(alloc: Global, mut scene: Scene, statement: &Plain) -> Result<Vec<u8>, AllocError> {
+/// The word for a statement, and the programs that it looks for.
+fn told_plain(alloc: Global, statement: &Plain) -> Result<Vec<u8>, AllocError> {
     let mut out = Vec::from_slice(alloc, word_of(statement))?;
     put_programs(&mut out, statement)?;
-    out.push(b' ')?;
-    note_plain(alloc, &mut scene, statement)?;
-    put_scene(&mut out, &scene)?;
     Ok(out)
 }
 
-/// A question, and what is known after it.
-fn told_question(alloc: Global, mut scene: Scene, asked: &Question) -> Result<Vec<u8>, AllocError> {
+fn told_question(alloc: Global, asked: &Question) -> Result<Vec<u8>, AllocError> {
     let mut out = Vec::new(alloc);
     put_asked(&mut out, asked)?;
-    out.push(b' ')?;
-    note_asked(alloc, &mut scene, asked)?;
-    put_scene(&mut out, &scene)?;
     Ok(out)
 }
 
@@ -352,7 +292,7 @@ fn plain_call(
         _ => open_scene(alloc),
     };
     match read_plain(alloc, &scene, m, at, args) {
-        Ok(statement) => told_plain(alloc, scene, &statement),
+        Ok(statement) => told_plain(alloc, &statement),
         Err(fault) => printed(alloc, &fault),
     }
 }
@@ -360,7 +300,7 @@ fn plain_call(
 fn question_call(alloc: Global, m: QuestionMacro, args: &[Arg<'_>]) -> Result<Vec<u8>, AllocError> {
     let scene = open_scene(alloc);
     match read_question(alloc, &scene, m, args) {
-        Ok(asked) => told_question(alloc, scene, &asked),
+        Ok(asked) => told_question(alloc, &asked),
         Err(fault) => printed(alloc, &fault),
     }
 }
@@ -377,7 +317,7 @@ fn first_call(alloc: Global, items: &[Item<'_>]) -> Result<Vec<u8>, AllocError> 
     }
 }
 
-/// What a call is read as, and what is known after it; or its fault.
+/// What a call is read as, or its fault.
 struct ReadCalls;
 
 impl Call for ReadCalls {
@@ -390,24 +330,24 @@ impl Call for ReadCalls {
 }
 
 const READER_ROWS: &str = r#"
-AC_INIT([x],[1]) => Init open
-AC_LANG([C]) => Accepted open
-AC_CONFIG_FILES([a b:c]) => ConfigFiles open file[a][a.in] file[b][c]
-AC_SUBST([a]) => Subst open substituted[a]
-AC_SUBST([a],[b]) => SubstValue open substituted[a]
-AC_DEFINE([A]) => Define open
-AC_DEFINE_UNQUOTED([A],[$a]) => DefineUnquoted open
-AC_MSG_ERROR([no]) => Error open
-AC_ARG_VAR([CC],[a compiler]) => ArgVar open substituted[CC] precious[CC] help[CC][a compiler]
-AC_CHECK_PROG([P],[p],[yes]) => CheckProg open substituted[P]
-AC_CHECK_PROGS([P],[p q]) => CheckProgs[p][q] open substituted[P]
-AC_PATH_PROG([P],[p]) => PathProg open substituted[P]
-AC_PROG_CC => ProgCc[gcc][cc] open substituted[CC][CFLAGS][LDFLAGS][LIBS][CPPFLAGS] precious[CC][CFLAGS][LDFLAGS][LIBS][CPPFLAGS]
-AC_OUTPUT => Output ended
-AC_ARG_ENABLE([a-b],[AS_HELP_STRING([--enable-a-b],[c])]) => [enable_a_b] open features[enable_a_b] help[--enable-a-b][c]
-AC_ARG_WITH([x],[as it is]) => [with_x] open packages[with_x] help[as it is]
-AC_RUN_IFELSE([AC_LANG_SOURCE([x])]) => run a source open
-AC_LINK_IFELSE([AC_LANG_PROGRAM]) => link a program open
+AC_INIT([x],[1]) => Init
+AC_LANG([C]) => Accepted
+AC_CONFIG_FILES([a b:c]) => ConfigFiles
+AC_SUBST([a]) => Subst
+AC_SUBST([a],[b]) => SubstValue
+AC_DEFINE([A]) => Define
+AC_DEFINE_UNQUOTED([A],[$a]) => DefineUnquoted
+AC_MSG_ERROR([no]) => Error
+AC_ARG_VAR([CC],[a compiler]) => ArgVar
+AC_CHECK_PROG([P],[p],[yes]) => CheckProg
+AC_CHECK_PROGS([P],[p q]) => CheckProgs[p][q]
+AC_PATH_PROG([P],[p]) => PathProg
+AC_PROG_CC => ProgCc[gcc][cc]
+AC_OUTPUT => Output
+AC_ARG_ENABLE([a-b],[AS_HELP_STRING([--enable-a-b],[c])]) => [enable_a_b]
+AC_ARG_WITH([x],[as it is]) => [with_x]
+AC_RUN_IFELSE([AC_LANG_SOURCE([x])]) => run a source
+AC_LINK_IFELSE([AC_LANG_PROGRAM]) => link a program
 // at fault
 AC_SUBST([a-b]) => 5 at 9
 AC_ARG_WITH([]) => 5 at 12
@@ -420,17 +360,21 @@ fn readers(rt: HostRuntime) -> Result<(), Fail> {
     Ok(())
 }
 
-/// The stage of a scene that nothing is known in, and its lists.
-fn first_scene(alloc: Global) -> Result<Vec<u8>, AllocError> {
-    let mut out = Vec::new(alloc);
-    put_scene(&mut out, &Scene::new(alloc))?;
-    Ok(out)
+/// Whether nothing is known, and AC_INIT is still to come.
+fn is_first(scene: &Scene) -> bool {
+    scene.stage == Stage::Before
+        && scene.substituted.names().is_empty()
+        && scene.precious.names().is_empty()
+        && scene.features.names().is_empty()
+        && scene.packages.names().is_empty()
+        && scene.help.as_slice().is_empty()
+        && scene.files.is_empty()
 }
 
 #[test]
-fn the_first_scene(rt: HostRuntime) -> Result<(), Fail> {
-    assert!(rt; first_scene(rt.alloc())?.as_slice() == b"before".as_slice());
-    Ok(())
+fn the_first_scene(rt: HostRuntime) {
+    let scene = Scene::new(rt.alloc());
+    assert!(rt; is_first(&scene));
 }
 
 /// The names of a search of two programs.

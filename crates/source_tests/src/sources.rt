@@ -71,6 +71,7 @@ impl Call for SourceLists {
 const SOURCE_ROWS: &str = r#"
 AC_INIT([x],[1])^JAC_CONFIG_FILES([a b:t])^JAC_SUBST([v],[1])^JAC_ARG_ENABLE([x],[AS_HELP_STRING([--enable-x],[range @<:@0,1)])],[AC_SUBST([w])])^JAC_OUTPUT^J => 5;[v][w];;[enable_x];;[--enable-x]:[range [0,1)];[a]:[a.in][b]:[t]
 AC_INIT([x],[1])AC_ARG_WITH([y],[z])AC_ARG_VAR([CC],[c])AC_OUTPUT => 4;[CC];[CC];;[with_y];[z][CC]:[c];
+AC_INIT([x],[1])AC_CHECK_PROG([P],[p],[yes])AC_CHECK_PROGS([Q],[p q])AC_PATH_PROG([R],[p])AC_SUBST([S])AC_PROG_CC AC_OUTPUT => 7;[P][Q][R][S][CC][CFLAGS][LDFLAGS][LIBS][CPPFLAGS];[CC][CFLAGS][LDFLAGS][LIBS][CPPFLAGS];;;;
 // at fault
 AC_INIT([x],[1] => 1.2 at 7
  => 8
