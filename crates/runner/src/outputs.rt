@@ -1,10 +1,11 @@
 //! The table that a template is filled from.
 
-ghost use Rattle.std.specs.Prelude.{◌≡◌, OnOk, IfOk, [], map, unwrap_or};
+ghost use Rattle.std.specs.Prelude.{◌≡◌, OnOk, IfOk, [], codes, map, unwrap_or};
 ghost use Rattle.deftable.specs.NameList.{AreShellNames};
 ghost use Rattle.deftable.specs.ShellName.{IsShellName};
 ghost use Rattle.deftable.specs.Table.{value_of, with_entry};
 ghost use Rattle.options.specs.Directories.{variable_of};
+ghost use Rattle.template.specs.Place.{configure_input_of, place_of};
 ghost use Rattle.runner.specs.Outputs as words;
 
 use acparse::Output;
@@ -30,19 +31,19 @@ fn add(table: &mut Table, vars: &Vars, name: &[u8]) -> Result<(), AllocError>
     table.set(name, value(vars, name))
 }
 
-/// The six output variables of AC_INIT with their values.
+/// Adds the six output variables of AC_INIT with their values.
 #[tactic(auto, unfolding(crate::specs::Outputs::package_variables))]
-fn package_variables(alloc: Global, vars: &Vars) -> Result<Table, AllocError>
-    ensures { IfOk result (λ t. t ≡ words.package_variables vars.now) }
+fn add_package(table: &mut Table, vars: &Vars) -> Result<(), AllocError>
+    requires { table.old ≡ [] }
+    ensures { OnOk result (table.new ≡ words.package_variables vars.now) }
 {
-    let mut table = Table::new(alloc);
-    add(&mut table, vars, b"PACKAGE_NAME")?;
-    add(&mut table, vars, b"PACKAGE_TARNAME")?;
-    add(&mut table, vars, b"PACKAGE_VERSION")?;
-    add(&mut table, vars, b"PACKAGE_STRING")?;
-    add(&mut table, vars, b"PACKAGE_BUGREPORT")?;
-    add(&mut table, vars, b"PACKAGE_URL")?;
-    Ok(table)
+    add(table, vars, b"PACKAGE_NAME")?;
+    add(table, vars, b"PACKAGE_TARNAME")?;
+    add(table, vars, b"PACKAGE_VERSION")?;
+    add(table, vars, b"PACKAGE_STRING")?;
+    add(table, vars, b"PACKAGE_BUGREPORT")?;
+    add(table, vars, b"PACKAGE_URL")?;
+    Ok(())
 }
 
 /// Adds the source's own output variables with their values.
@@ -70,25 +71,34 @@ fn add_directories(
     Ok(())
 }
 
-/// The output variables that every source has, with their values.
+/// Adds the output variables that every source has, with their values.
 #[tactic(auto, unfolding(crate::specs::Outputs::preset_variables, options::specs::Directories::directory_names))]
-fn preset_variables(alloc: Global, vars: &Vars) -> Result<Table, AllocError>
-    ensures { IfOk result (λ t. t ≡ words.preset_variables vars.now) }
+fn add_preset(table: &mut Table, vars: &Vars) -> Result<(), AllocError>
+    requires { table.old ≡ [] }
+    ensures { OnOk result (table.new ≡ words.preset_variables vars.now) }
 {
-    let mut table = package_variables(alloc, vars)?;
-    add_directories(&mut table, vars, directories())?;
-    add(&mut table, vars, b"LIBS")?;
-    Ok(table)
+    add_package(table, vars)?;
+    add_directories(table, vars, directories())?;
+    add(table, vars, b"LIBS")
+}
+
+/// Adds the output variables that every source has, and those of these names.
+#[tactic(auto, unfolding(crate::specs::Outputs::output_variables))]
+fn add_outputs(table: &mut Table, vars: &Vars, names: &SubstList) -> Result<(), AllocError>
+    requires { table.old ≡ [] }
+    ensures { OnOk result (table.new ≡ words.output_variables vars.now names.now) }
+{
+    add_preset(table, vars)?;
+    add_all(table, vars, names.names())
 }
 
 /// The output variables with their values, which are empty where they are unset: those that every source has, and those
 /// of these names.
-#[tactic(auto, unfolding(crate::specs::Outputs::output_variables))]
 pub fn output_variables(alloc: Global, vars: &Vars, names: &SubstList) -> Result<Table, AllocError>
     ensures { IfOk result (λ t. t ≡ words.output_variables vars.now names.now) }
 {
-    let mut table = preset_variables(alloc, vars)?;
-    add_all(&mut table, vars, names.names())?;
+    let mut table = Table::new(alloc);
+    add_outputs(&mut table, vars, names)?;
     Ok(table)
 }
 
@@ -101,6 +111,23 @@ fn add_place(table: &mut Table, place: &Place) -> Result<(), AllocError>
     table.set(b"top_srcdir", place.top_srcdir.as_slice())?;
     table.set(b"builddir", place.builddir.as_slice())?;
     table.set(b"top_builddir", place.top_builddir.as_slice())
+}
+
+/// Adds what a file and its template are called.
+fn add_input(alloc: Global, table: &mut Table, file: &Output) -> Result<(), AllocError>
+    ensures { OnOk result (table.new ≡ with_entry table.old (codes "configure_input") (configure_input_of file.now.name file.now.template)) }
+{
+    let input = configure_input(alloc, file.name.as_slice(), file.template.as_slice())?;
+    table.set(b"configure_input", input.as_slice())
+}
+
+/// Adds what is a file's own.
+fn add_own(alloc: Global, table: &mut Table, file: &Output, srcdir: &[u8]) -> Result<(), AllocError>
+    ensures { OnOk result (table.new ≡ words.with_place (with_entry table.old (codes "configure_input") (configure_input_of file.now.name file.now.template)) (place_of file.now.name srcdir.now)) }
+{
+    add_input(alloc, table, file)?;
+    let place = place_vars(alloc, file.name.as_slice(), srcdir)?;
+    add_place(table, &place)
 }
 
 /// What a file's template is filled with: the output variables with their values, and what is the file's own, which wins.
@@ -116,9 +143,6 @@ pub fn file_table(
     ensures { IfOk result (λ t. t ≡ words.file_table vars.now names.now file.now srcdir.now) }
 {
     let mut table = output_variables(alloc, vars, names)?;
-    let input = configure_input(alloc, file.name.as_slice(), file.template.as_slice())?;
-    table.set(b"configure_input", input.as_slice())?;
-    let place = place_vars(alloc, file.name.as_slice(), srcdir)?;
-    add_place(&mut table, &place)?;
+    add_own(alloc, &mut table, file, srcdir)?;
     Ok(table)
 }

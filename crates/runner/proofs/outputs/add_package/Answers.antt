@@ -1,7 +1,7 @@
 use Rattle.std.proofs.Common.{ap, ◌∙◌}
 use Rattle.std.specs.Prelude.{codes}
 use Rattle.runner.specs.Outputs.{package_variables, with_variable}
-use Rattle.runner.proofs.outputs.package_variables.Goals as goal
+use Rattle.runner.proofs.outputs.add_package.Goals as goal
 
 pub returns : goal.returns
 unfolding package_variables
@@ -12,4 +12,4 @@ returns c =
     c.in_ok-add-4.ensures ∙ ap (λ t. with_variable v t (codes "PACKAGE_STRING")) (
     c.in_ok-add-3.ensures ∙ ap (λ t. with_variable v t (codes "PACKAGE_VERSION")) (
     c.in_ok-add-2.ensures ∙ ap (λ t. with_variable v t (codes "PACKAGE_TARNAME")) (
-    c.in_ok-add.ensures ∙ ap (λ t. with_variable v t (codes "PACKAGE_NAME")) c.new-table.ensures)))))
+    c.in_ok-add.ensures ∙ ap (λ t. with_variable v t (codes "PACKAGE_NAME")) c.requires)))))
