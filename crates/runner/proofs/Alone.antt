@@ -15,7 +15,7 @@ use Rattle.machine.specs.declared.machine.RunEnd.{RunEnd}
 use Rattle.machine.specs.declared.machine.Turn.{Turn}
 use Rattle.machine.specs.declared.machine.Turn.TheVariants as turn
 use Rattle.machine.specs.declared.wait.Wait.TheVariants as waits
-use Rattle.meaning.specs.Play.{play, all_jobs}
+use Rattle.meaning.specs.Play.{play}
 use Rattle.meaning.specs.State.{State, How, Goes_on, Completed, Stopped, Cut, Run, Ends, Asks, no_choice}
 use Rattle.plan.specs.Walk.{Instruction, walk}
 use Rattle.proberun.specs.Ran.{outcome_from}

@@ -5,6 +5,8 @@ ghost use Rattle.std.specs.Option.{option_copied};
 ghost use Rattle.std.specs.Io.KnownBytes.{Appends};
 ghost use Rattle.acmacros.specs.Scene.{start};
 ghost use Rattle.options.specs.declared.settings.Settings as settings;
+ghost use Rattle.plan.specs.Walk.{DoesWhat};
+ghost use Rattle.plan.specs.Weight.{heaviest, weight};
 ghost use Rattle.tree.specs.Known.{after_all};
 ghost use Rattle.tree.specs.Script.{script_of};
 ghost use Rattle.runner.specs.declared.fault.FilterFault.{FilterFault};
@@ -18,7 +20,7 @@ use crate::running::{run_alone, status_of as exit_status};
 use acparse::{Output, Source, parse};
 use deftable::Vars;
 use options::read_args;
-use plan::compile;
+use plan::{Plan, compile};
 use proberun::{Outcome, RunEnd};
 use std::alloc::{AllocError, Global};
 use std::io::{Read, Write};
@@ -124,7 +126,34 @@ fn opening(alloc: Global, source: &Source) -> Result<Vars, AllocError>
     }
 }
 
-/// Runs a source, without arguments and environment, and with each start of a child refused.
+/// Runs the plan of a source, without arguments and environment, and with each start of a child refused.
+fn run_plan(
+    alloc: Global,
+    source: &Source,
+    template: &[u8],
+    plan: &Plan<'_>,
+) -> Result<Written, FilterFault>
+    requires files { source.now.files ≡ files_of (script_of source.now.statements.items) }
+    requires names { source.now.substituted ≡ names_of (script_of source.now.statements.items) }
+    requires features { source.now.features ≡ (after_all start (script_of source.now.statements.items)).features }
+    requires packages { source.now.packages ≡ (after_all start (script_of source.now.statements.items)).packages }
+    requires precious { source.now.precious ≡ (after_all start (script_of source.now.statements.items)).precious }
+    requires fits { weight (script_of source.now.statements.items) ≤ heaviest }
+    requires meaning { DoesWhat plan.now (script_of source.now.statements.items) }
+    ensures run { IfOk result (λ a. IsRun (script_of source.now.statements.items) template.now a.text.items a.status) }
+    ensures refused { IfErr result (IsNotRun (script_of source.now.statements.items)) }
+{
+    check_templates(alloc, source)?;
+    let vars = opening(alloc, source)?;
+    let end = run_alone(alloc, plan, vars)?;
+    let text = text_of(alloc, source, template, &end)?;
+    Ok(Written {
+        text,
+        status: exit_status(end.outcome),
+    })
+}
+
+/// Runs a source in this way.
 fn run_source(alloc: Global, source: &Source, template: &[u8]) -> Result<Written, FilterFault>
     requires files { source.now.files ≡ files_of (script_of source.now.statements.items) }
     requires names { source.now.substituted ≡ names_of (script_of source.now.statements.items) }
@@ -135,14 +164,7 @@ fn run_source(alloc: Global, source: &Source, template: &[u8]) -> Result<Written
     ensures refused { IfErr result (IsNotRun (script_of source.now.statements.items)) }
 {
     let plan = compile(alloc, source)?;
-    let vars = opening(alloc, source)?;
-    check_templates(alloc, source)?;
-    let end = run_alone(alloc, &plan, vars)?;
-    let text = text_of(alloc, source, template, &end)?;
-    Ok(Written {
-        text,
-        status: exit_status(end.outcome),
-    })
+    run_plan(alloc, source, template, &plan)
 }
 
 /// What the input's run writes, or why it isn't run.
