@@ -1,7 +1,8 @@
 -- The folders of a path.
-use Rattle.std.proofs.Common.{◌≡◌, ℕ, zero, suc, ◌+◌, ◌-◌, ◌≤◌, ◌==◌, Bool, true, false, cond, List, [], ◌∷◌, length, map, take, get_or, Bor, Option, None, refl, sym, ap, ◌∙◌, subst, arith}
+use Rattle.std.proofs.Common.{◌≡◌, ℕ, zero, suc, ◌+◌, ◌-◌, ◌≤◌, ◌==◌, Bool, true, false, cond, List, [], ◌∷◌, length, map, take, get_or, Bor, Option, None, Result, Ok, Err, IfOk, refl, sym, ap, ◌∙◌, subst, arith}
 use Rattle.std.specs.Prelude.{codes, not, ◌||◌, option_map}
 use Rattle.std.proofs.lemmas.List.{length-map, take-map}
+use Rattle.std.specs.declared.alloc.AllocError.{AllocError}
 use Rattle.textcut.specs.Cuts.{parts}
 use Rattle.deftable.specs.Table.{value_of}
 use Rattle.shellword.specs.declared.part.Part.{Part}
@@ -12,7 +13,7 @@ use Rattle.meaning.specs.State.{State, Scope, Run, Ends, Goes_on, then_run}
 use Rattle.meaning.specs.Meaning.{effect, check_prog, path_prog, has_value, is_full_name, looks}
 use Rattle.plan.specs.Walk.{own_effect}
 use Rattle.machine.specs.declared.flow.Flow.{Flow}
-use Rattle.machine.specs.Flows.{Leads}
+use Rattle.machine.specs.Flows.{Leads, asks_now}
 use Rattle.meaning.specs.Search.{Search, ends_empty, without_last_empty, folder_of, folders_of, value_or_empty, searched, looked_up, cached_search, program_test}
 
 -- the last part
@@ -62,6 +63,25 @@ looks_test variable program always own wanted st is has yes_wanted =
 -- a flow that leads on a run leads on an equal one
 pub led : (f : Flow) (about : Scope) (st : State) (run run' : Run) → run ≡ run' → Leads f (λ next. then_run run (next 0 about)) about st → Leads f (λ next. then_run run' (next 0 about)) about st
 led f about st run run' e h = subst (λ r. Leads f (λ next. then_run r (next 0 about)) about st) e h
+
+pub few_ok : (r : Result Flow AllocError) (n m : ℕ) → n ≤ m → IfOk r (λ f. asks_now f ≤ n) → IfOk r (λ f. asks_now f ≤ m)
+few_ok (Ok f) n m le h = omega (arith, le, h)
+few_ok (Err e) n m le h = h
+
+-- a folder is tried, and the others are left
+pub asked_in : (r : Result Flow AllocError) (s : Search) (folder : List ℕ) (rest left : List (List ℕ)) (st : State) → left ≡ folder ∷ rest
+    → IfOk r (λ f. (about : Scope) (now : State) → Leads f (λ next. then_run (searched s (folder ∷ rest) now) (next 0 about)) about now)
+    → IfOk r (λ f. (about : Scope) → Leads f (λ next. then_run (searched s left st) (next 0 about)) about st)
+asked_in (Ok f) s folder rest left st e h = λ about. led f about st _ _ (ap (λ l. searched s l st) (sym e)) (h about st)
+asked_in (Err x) s folder rest left st e h = h
+
+-- what holds for every choice holds for this one
+pub for_scope : (r : Result Flow AllocError) (run : Scope → (ℕ → Scope → State → Run) → Run) (about : Scope) (st : State) → IfOk r (λ f. (a : Scope) → Leads f (run a) a st) → IfOk r (λ f. Leads f (run about) about st)
+for_scope (Ok f) run about st h = h about
+for_scope (Err x) run about st h = h
+
+pub led_ok : (r : Result Flow AllocError) (st : State) (run run' : Run) → run ≡ run' → IfOk r (λ f. (about : Scope) → Leads f (λ next. then_run run (next 0 about)) about st) → IfOk r (λ f. (about : Scope) → Leads f (λ next. then_run run' (next 0 about)) about st)
+led_ok r st run run' e h = subst (λ x. IfOk r (λ f. (about : Scope) → Leads f (λ next. then_run x (next 0 about)) about st)) e h
 
 pub check_effect : (statement : plain.Plain) (variable program : List ℕ) (f : List Part) (o : Option (List Part)) (seen found : List ℕ) (otherwise : Option (List ℕ)) (st : State)
     → statement ≡ CheckProg variable program f o → seen ≡ variable → found ≡ word_value f st.vars → otherwise ≡ option_map (λ t. word_value t st.vars) o

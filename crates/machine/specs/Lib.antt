@@ -1,3 +1,4 @@
+pub mod Copies
 pub mod Waits
 pub mod Flows
 pub mod Standing

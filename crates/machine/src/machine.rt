@@ -163,11 +163,7 @@ impl Machine {
         requires { IsSome (outcome_of self.phase) }
         ensures { IfSome (outcome_of self.phase) (λ outcome. result ≡ record { outcome = outcome; vars = self.state.vars; defs = self.state.defs }) }
     {
-        let outcome = match self.phase {
-            Phase::Stopped(status) => Outcome::Stopped(status),
-            Phase::Cut(number) => Outcome::CutShort(number),
-            _ => Outcome::Completed,
-        };
+        let outcome = outcome_at(self.phase);
         let (vars, defs) = self.store.into_parts();
         RunEnd {
             outcome,
@@ -224,6 +220,34 @@ impl Machine {
         )
     }
 
+    // Holds these jobs, with a place for each reply.
+    fn hold(&mut self, jobs: Vec<Job>, replies: Vec<Option<Reply>>)
+        ensures { self.new ≡ record self.old { jobs = jobs.items; replies = replies.items } }
+    {
+        self.jobs = jobs;
+        self.replies = replies;
+    }
+
+    // Waits for the replies.
+    fn wait_for(&mut self, wait: Wait)
+        ensures { self.new ≡ record self.old { phase = Phase.Asking; wait = wait } }
+    {
+        self.wait = wait;
+        self.phase = Phase::Asking;
+    }
+
+    // Asks a job, and waits for its reply.
+    fn ask(&mut self, job: Job, wait: Wait) -> Result<Option<Turn>, AllocError>
+        ensures turn { IfOk result (λ turn. turn ≡ Some Turn.Ask) }
+        ensures moved { OnOk result (self.new ≡ record self.old { phase = Phase.Asking; wait = wait; jobs = job ∷ []; replies = None ∷ [] }) }
+        ensures err { OnErr result (self.new ≡ self.old) }
+    {
+        let (jobs, replies) = one_job(self.alloc, job)?;
+        self.hold(jobs, replies);
+        self.wait_for(wait);
+        Ok(Some(Turn::Ask))
+    }
+
     // Goes where a step leads. It is a turn unless there are steps to do.
     fn arrive(&mut self, flow: Flow) -> Result<Option<Turn>, AllocError>
         requires room { self.old.place + (1 + passed flow) < 2 ^ 64 }
@@ -236,14 +260,7 @@ impl Machine {
                 self.place += 1 + more;
                 Ok(None)
             }
-            Flow::Ask { job, wait } => {
-                let (jobs, replies) = one_job(self.alloc, job)?;
-                self.jobs = jobs;
-                self.replies = replies;
-                self.wait = wait;
-                self.phase = Phase::Asking;
-                Ok(Some(Turn::Ask))
-            }
+            Flow::Ask { job, wait } => self.ask(job, wait),
             Flow::Complete => {
                 self.phase = Phase::Completed;
                 Ok(Some(Turn::Done))
@@ -299,6 +316,17 @@ impl Machine {
             Some(turn) => Ok(turn),
             None => self.go_on(steps),
         }
+    }
+}
+
+// The outcome of a run that is at its end.
+fn outcome_at(phase: Phase) -> Outcome
+    ensures { IfSome (outcome_of phase) (λ outcome. result ≡ outcome) }
+{
+    match phase {
+        Phase::Stopped(status) => Outcome::Stopped(status),
+        Phase::Cut(number) => Outcome::CutShort(number),
+        _ => Outcome::Completed,
     }
 }
 

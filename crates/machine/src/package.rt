@@ -1,6 +1,6 @@
 //! What AC_INIT says of a package.
 
-ghost use Rattle.std.specs.Prelude.{◌≡◌, OnOk, IfOk};
+ghost use Rattle.std.specs.Prelude.{◌≡◌, OnOk, IfOk, codes};
 ghost use Rattle.deftable.specs.ShellName.{IsShellName};
 ghost use Rattle.meaning.specs.Package as packages;
 
@@ -30,8 +30,20 @@ fn set_package(
 {
     let literal = literal(alloc, value)?;
     store.set(name, value)?;
-    store.define(name, literal.as_slice())?;
-    Ok(())
+    store.define(name, literal.as_slice())
+}
+
+/// Sets the package's title and version as one variable.
+fn set_package_string(
+    alloc: Global,
+    store: &mut Store,
+    title: &[u8],
+    version: &[u8],
+) -> Result<(), AllocError>
+    ensures { OnOk result (store.new ≡ packages.with_package store.old (codes "PACKAGE_STRING") (packages.package_string title.now version.now)) }
+{
+    let string = package_string(alloc, title, version)?;
+    set_package(alloc, store, b"PACKAGE_STRING", string.as_slice())
 }
 
 /// AC_INIT: the package's six variables and definitions.
@@ -47,12 +59,10 @@ pub(crate) fn initialise(
 ) -> Result<(), AllocError>
     ensures { OnOk result (store.new ≡ packages.initialised title.now version.now bug.now tarname.now url.now store.old) }
 {
-    let string = package_string(alloc, title, version)?;
     set_package(alloc, store, b"PACKAGE_NAME", title)?;
     set_package(alloc, store, b"PACKAGE_TARNAME", tarname)?;
     set_package(alloc, store, b"PACKAGE_VERSION", version)?;
-    set_package(alloc, store, b"PACKAGE_STRING", string.as_slice())?;
+    set_package_string(alloc, store, title, version)?;
     set_package(alloc, store, b"PACKAGE_BUGREPORT", bug)?;
-    set_package(alloc, store, b"PACKAGE_URL", url)?;
-    Ok(())
+    set_package(alloc, store, b"PACKAGE_URL", url)
 }

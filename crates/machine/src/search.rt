@@ -1,14 +1,16 @@
 //! Searches of programs along PATH.
 
-ghost use Rattle.std.specs.Prelude.{◌≡◌, ◌≤◌, ◌++◌, ◌∷◌, [], IfOk, OnOk, IfSome, IfNone, length, option_map, codes, map, take};
-ghost use Rattle.meaning.specs.State.{Scope, then_run};
+ghost use Rattle.std.specs.Prelude.{◌≡◌, ◌≤◌, ◌+◌, ◌++◌, ◌∷◌, [], Some, IfOk, OnOk, IfSome, IfNone, if◌then◌else◌, length, option_map, codes, map, take};
+ghost use Rattle.conftest.specs.Probe.{path_of};
+ghost use Rattle.meaning.specs.State.{Ends, Goes_on, Scope, State, then_run};
 ghost use Rattle.meaning.specs.Search.{ends_empty, folder_of, folders_of, program_test, searched, settled_as, value_or_empty, without_last_empty};
 ghost use Rattle.machine.specs.Flows.{Heeds, Leads, asks_now, passed};
+ghost use Rattle.machine.specs.declared.flow.Flow.TheVariants.{Pass};
 
 use crate::flow::Flow;
 use crate::store::Store;
 use crate::wait::Wait;
-use conftest::path_job;
+use conftest::{Job, path_job};
 use deftable::Bytes;
 use std::alloc::{AllocError, Global};
 use std::marker::Model;
@@ -154,6 +156,42 @@ fn file_in(alloc: Global, folder: &Bytes, program: &Bytes) -> Result<Bytes, Allo
     Ok(Bytes::from_vec(file))
 }
 
+/// Ends a search with this value, and goes on with the next step.
+pub(crate) fn end_search(
+    store: &mut Store,
+    search: &Search,
+    value: Option<&Bytes>,
+) -> Result<Flow, AllocError>
+    ensures passes { IfOk result (λ flow. flow ≡ Pass 0) }
+    ensures settles { OnOk result (store.new ≡ settled_as search.now (option_map (λ v. v.now) value.entry) store.old) }
+{
+    settle(store, search, value)?;
+    Ok(Flow::Pass { more: 0 })
+}
+
+/// A program's name within a folder, and the job that looks for it there.
+fn try_in(alloc: Global, folder: &Bytes, program: &Bytes) -> Result<(Bytes, Job), AllocError>
+    ensures { IfOk result (λ r. (r.0 ≡ folder.now ++ program.now) × (r.1 ≡ path_of (folder.now ++ program.now))) }
+{
+    let file = file_in(alloc, folder, program)?;
+    let job = path_job(alloc, file.as_slice())?;
+    Ok((file, job))
+}
+
+/// Asks whether this folder has the program. The folders behind it are left.
+fn ask_in(alloc: Global, folder: &Bytes, search: Search, left: Folders) -> Result<Flow, AllocError>
+    ensures within { IfOk result (λ flow. passed flow ≤ 0) }
+    ensures asks { IfOk result (λ flow. asks_now flow ≤ 1 + length left) }
+    ensures heeds { IfOk result (λ flow. Heeds flow [] 0) }
+    ensures leads { IfOk result (λ flow. (about : Scope) (st : State) → Leads flow (λ next. then_run (searched search (folder.now ∷ left) st) (next 0 about)) about st) }
+{
+    let (file, job) = try_in(alloc, folder, &search.program)?;
+    Ok(Flow::Ask {
+        job,
+        wait: Wait::Folder { search, file, left },
+    })
+}
+
 /// Looks for the program in the folders that are left.
 pub(crate) fn look_on(
     alloc: Global,
@@ -166,16 +204,18 @@ pub(crate) fn look_on(
     ensures heeds { IfOk result (λ flow. Heeds flow [] 0) }
     ensures leads { IfOk result (λ flow. (about : Scope) → Leads flow (λ next. then_run (searched search left store.old) (next 0 about)) about store.new) }
 {
-    let Some(folder) = left.take_first() else {
-        settle(store, &search, search.otherwise.as_ref())?;
-        return Ok(Flow::Pass { more: 0 });
-    };
-    let file = file_in(alloc, &folder, &search.program)?;
-    let job = path_job(alloc, file.as_slice())?;
-    Ok(Flow::Ask {
-        job,
-        wait: Wait::Folder { search, file, left },
-    })
+    match left.take_first() {
+        Some(folder) => ask_in(alloc, &folder, search, left),
+        None => end_search(store, &search, search.otherwise.as_ref()),
+    }
+}
+
+/// The folders of PATH.
+fn path_folders(alloc: Global, store: &Store) -> Result<Folders, AllocError>
+    ensures { IfOk result (λ f. f ≡ folders_of (value_or_empty store.now (codes "PATH"))) }
+{
+    let path = store.value_or_empty(alloc, b"PATH")?;
+    Folders::of(alloc, path.as_slice())
 }
 
 /// Looks for the program in the folders of PATH.
@@ -185,10 +225,34 @@ fn search_path(alloc: Global, store: &mut Store, search: Search) -> Result<Flow,
     ensures heeds { IfOk result (λ flow. Heeds flow [] 0) }
     ensures leads { IfOk result (λ flow. (about : Scope) → Leads flow (λ next. then_run (searched search (folders_of (value_or_empty store.old (codes "PATH"))) store.old) (next 0 about)) about store.new) }
 {
-    let path = store.value_or_empty(alloc, b"PATH")?;
-    let folders = Folders::of(alloc, path.as_slice())?;
-    let flow = look_on(alloc, store, search, folders)?;
-    Ok(flow)
+    let folders = path_folders(alloc, store)?;
+    look_on(alloc, store, search, folders)
+}
+
+/// Ends a search with the value that its variable has of its own.
+fn settle_own(alloc: Global, store: &mut Store, search: &Search) -> Result<(), AllocError>
+    ensures { OnOk result (store.new ≡ settled_as search.now (Some (value_or_empty store.old search.now.variable)) store.old) }
+{
+    let value = store.value_or_empty(alloc, search.variable.as_slice())?;
+    settle(store, search, Some(&value))
+}
+
+/// Ends a search that needs no child, if it is one: its name is set, or its variable has a value that counts (`own`).
+fn settle_known(
+    alloc: Global,
+    store: &mut Store,
+    search: &Search,
+    own: bool,
+) -> Result<bool, AllocError>
+    ensures { IfOk result (λ known. program_test search.now own store.old ≡ if known then Ends Goes_on store.new else searched search.now (folders_of (value_or_empty store.new (codes "PATH"))) store.new) }
+{
+    if store.copy_value(alloc, search.name.as_slice(), search.variable.as_slice())? {
+        return Ok(true);
+    }
+    if own {
+        settle_own(alloc, store, search)?;
+    }
+    Ok(own)
 }
 
 /// A cached search. A name that is set is not looked for, nor is one whose variable has a value that counts (`own`).
@@ -203,16 +267,9 @@ pub(crate) fn look_for(
     ensures heeds { IfOk result (λ flow. Heeds flow [] 0) }
     ensures leads { IfOk result (λ flow. (about : Scope) → Leads flow (λ next. then_run (program_test search own store.old) (next 0 about)) about store.new) }
 {
-    let cached = store.value_of(alloc, search.name.as_slice())?;
-    if let Some(value) = cached {
-        store.set(search.variable.as_slice(), value.as_slice())?;
+    let known = settle_known(alloc, store, &search, own)?;
+    if known {
         return Ok(Flow::Pass { more: 0 });
     }
-    if own {
-        let value = store.value_or_empty(alloc, search.variable.as_slice())?;
-        settle(store, &search, Some(&value))?;
-        return Ok(Flow::Pass { more: 0 });
-    }
-    let flow = search_path(alloc, store, search)?;
-    Ok(flow)
+    search_path(alloc, store, search)
 }

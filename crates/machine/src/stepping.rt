@@ -1,22 +1,26 @@
 //! One step, and what the replies to its jobs lead to.
 
-ghost use Rattle.std.specs.Prelude.{◌≡◌, unwrap_or, ◌≤◌, ◌<◌, ◌+◌, ◌^◌, ◌++◌, ◌||◌, not, [], IfOk, OnOk, Some, if◌then◌else◌, length, option_map};
+ghost use Rattle.std.specs.Prelude.{◌≡◌, unwrap_or, ◌≤◌, ◌<◌, ◌+◌, ◌^◌, ◌++◌, ◌||◌, not, [], IfOk, IsOk, OnOk, Some, if◌then◌else◌, length, option_map};
 ghost use Rattle.crew.specs.declared.reply.Reply.TheVariants.{StartRefused};
+ghost use Rattle.deftable.specs.ShellName.{IsShellName};
+ghost use Rattle.deftable.specs.Table as tables;
 ghost use Rattle.meaning.specs.Asking.{only_reply, success};
-ghost use Rattle.meaning.specs.Meaning.{asked, begun, check_prog, defaulted, has_value, is_full_name, is_taken, looks, path_prog, value_name};
+ghost use Rattle.meaning.specs.Meaning.{asked, begun, check_prog, defaulted, has_value, is_full_name, is_taken, looks, path_prog, value_name, with_definition, with_prefixes};
+ghost use Rattle.meaning.specs.Meaning as meanings;
 ghost use Rattle.meaning.specs.State.{Ends, Goes_on, Scope, answered, then_run};
-ghost use Rattle.meaning.specs.Search.{program_test, searched, settled_as, value_or_empty};
+ghost use Rattle.meaning.specs.Search.{program_test, searched, settled_as, value_or_empty, with_variable};
 ghost use Rattle.meaning.specs.Tries.{text_of, tried};
 ghost use Rattle.shellword.specs.Value.{word_value};
 ghost use Rattle.plan.specs.Inside.{asks_about, asks_by, asks_of, asks_to_try, reach};
 ghost use Rattle.plan.specs.Walk.{act, own_effect, shown};
 ghost use Rattle.machine.specs.Flows.{Heeds, Leads, asks_now, passed};
+ghost use Rattle.machine.specs.declared.flow.Flow.TheVariants.{Complete, Pass};
 ghost use Rattle.machine.specs.Waits.{first_refused, given, refused_here, resumed, told, waits_for};
 
 use crate::flow::Flow;
 use crate::package::initialise;
 use crate::scope::About;
-use crate::search::{Folders, Search, look_for, look_on, settle};
+use crate::search::{Folders, Search, end_search, look_for, look_on};
 use crate::store::Store;
 use crate::wait::Wait;
 use acargs::OptionKind;
@@ -25,7 +29,7 @@ use conftest::run_job;
 use crew::Reply;
 use deftable::Bytes;
 use plan::Step;
-use shellword::HereText;
+use shellword::{HereText, Word};
 use std::alloc::{AllocError, Global};
 use tree::{Subject, When};
 
@@ -52,6 +56,21 @@ fn prefixed(alloc: Global, prefix: &[u8], name: &[u8]) -> Result<Bytes, AllocErr
     Ok(Bytes::from_vec(text))
 }
 
+/// A variable's name, the name that is cached for it, and the program's name.
+fn search_names(
+    alloc: Global,
+    prefix: &[u8],
+    variable: &[u8],
+    program: &Bytes,
+) -> Result<(Bytes, Bytes, Bytes), AllocError>
+    ensures { IfOk result (λ r. (r.0 ≡ variable.now) × (r.1 ≡ prefix.now ++ variable.now) × (r.2 ≡ program.now)) }
+{
+    let name = prefixed(alloc, prefix, variable)?;
+    let variable = Bytes::from_slice(alloc, variable)?;
+    let program = program.copy(alloc)?;
+    Ok((variable, name, program))
+}
+
 /// The search of AC_CHECK_PROG.
 fn check_prog(
     alloc: Global,
@@ -62,10 +81,11 @@ fn check_prog(
 ) -> Result<Search, AllocError>
     ensures { IfOk result (λ s. s ≡ check_prog variable.now program.now found otherwise) }
 {
+    let (variable, name, program) = search_names(alloc, b"ac_cv_prog_", variable, program)?;
     Ok(Search {
-        variable: Bytes::from_slice(alloc, variable)?,
-        name: prefixed(alloc, b"ac_cv_prog_", variable)?,
-        program: program.copy(alloc)?,
+        variable,
+        name,
+        program,
         found: Some(found),
         otherwise,
     })
@@ -80,10 +100,11 @@ fn path_prog(
 ) -> Result<Search, AllocError>
     ensures { IfOk result (λ s. s ≡ path_prog variable.now program.now otherwise) }
 {
+    let (variable, name, program) = search_names(alloc, b"ac_cv_path_", variable, program)?;
     Ok(Search {
-        variable: Bytes::from_slice(alloc, variable)?,
-        name: prefixed(alloc, b"ac_cv_path_", variable)?,
-        program: program.copy(alloc)?,
+        variable,
+        name,
+        program,
         found: None,
         otherwise,
     })
@@ -128,6 +149,82 @@ fn find_program(
     Ok(flow)
 }
 
+/// Looks for the program of AC_CHECK_PROG.
+fn check_for(
+    alloc: Global,
+    store: &mut Store,
+    variable: &[u8],
+    program: &Bytes,
+    found: &HereText,
+    otherwise: &Option<HereText>,
+) -> Result<Flow, AllocError>
+    ensures within { IfOk result (λ flow. passed flow ≤ 0) }
+    ensures asks { IfOk result (λ flow. asks_now flow ≤ 65536) }
+    ensures heeds { IfOk result (λ flow. Heeds flow [] 0) }
+    ensures leads { IfOk result (λ flow. (about : Scope) → Leads flow (λ next. then_run (program_test (check_prog variable.now program.now (word_value found.now store.old.vars) (option_map (λ t. word_value t store.old.vars) otherwise.now)) (has_value store.old variable.now) store.old) (next 0 about)) about store.new) }
+{
+    let found = store.here_text(alloc, found)?;
+    let otherwise = value_of(alloc, store, otherwise)?;
+    check_program(alloc, store, variable, program, found, otherwise)
+}
+
+/// Looks for the program of AC_PATH_PROG.
+fn find_for(
+    alloc: Global,
+    store: &mut Store,
+    variable: &[u8],
+    program: &Bytes,
+    otherwise: &Option<HereText>,
+) -> Result<Flow, AllocError>
+    ensures within { IfOk result (λ flow. passed flow ≤ 0) }
+    ensures asks { IfOk result (λ flow. asks_now flow ≤ 65536) }
+    ensures heeds { IfOk result (λ flow. Heeds flow [] 0) }
+    ensures leads { IfOk result (λ flow. (about : Scope) → Leads flow (λ next. then_run (program_test (path_prog variable.now program.now (option_map (λ t. word_value t store.old.vars) otherwise.now)) (is_full_name (value_or_empty store.old variable.now)) store.old) (next 0 about)) about store.new) }
+{
+    let otherwise = value_of(alloc, store, otherwise)?;
+    find_program(alloc, store, variable, program, otherwise)
+}
+
+/// Sets a variable to the value of a word.
+fn assign(alloc: Global, store: &mut Store, name: &[u8], value: &Word) -> Result<(), AllocError>
+    ensures { OnOk result (store.new ≡ with_variable name.now (word_value value.now store.old.vars) store.old) }
+{
+    let value = store.word(alloc, value)?;
+    store.set(name, value.as_slice())
+}
+
+/// Defines a name as the value of a text.
+fn define_value(
+    alloc: Global,
+    store: &mut Store,
+    name: &[u8],
+    value: &HereText,
+) -> Result<(), AllocError>
+    requires { IsShellName name.now }
+    ensures { OnOk result (store.new ≡ with_definition name.now (word_value value.now store.old.vars) store.old) }
+{
+    let value = store.here_text(alloc, value)?;
+    store.define(name, value.as_slice())
+}
+
+/// Completes the run, with its prefixes settled.
+fn complete(store: &mut Store) -> Result<Flow, AllocError>
+    ensures completes { IfOk result (λ flow. flow ≡ Complete) }
+    ensures settles { OnOk result (store.new ≡ with_prefixes store.old) }
+{
+    store.settle_prefixes()?;
+    Ok(Flow::Complete)
+}
+
+/// Goes on with the next step once this is done.
+fn pass(done: Result<(), AllocError>) -> Result<Flow, AllocError>
+    ensures passes { IfOk result (λ flow. flow ≡ Pass 0) }
+    ensures done { OnOk result (IsOk done) }
+{
+    done?;
+    Ok(Flow::Pass { more: 0 })
+}
+
 /// Does what a statement does in its own step.
 #[tactic(auto, unfolding(meaning::specs::Meaning::effect))]
 fn execute(alloc: Global, store: &mut Store, statement: &Plain) -> Result<Flow, AllocError>
@@ -143,59 +240,42 @@ fn execute(alloc: Global, store: &mut Store, statement: &Plain) -> Result<Flow, 
             bug,
             tarname,
             url,
-        } => {
-            initialise(
-                alloc,
-                store,
-                title.as_slice(),
-                version.as_slice(),
-                bug.as_slice(),
-                tarname.as_slice(),
-                url.as_slice(),
-            )?;
-        }
+        } => pass(initialise(
+            alloc,
+            store,
+            title.as_slice(),
+            version.as_slice(),
+            bug.as_slice(),
+            tarname.as_slice(),
+            url.as_slice(),
+        )),
         Plain::Accepted
         | Plain::ConfigFiles { .. }
         | Plain::Subst { .. }
         | Plain::ArgVar { .. }
         | Plain::CheckProgs { .. }
-        | Plain::ProgCc { .. } => {}
+        | Plain::ProgCc { .. } => Ok(Flow::Pass { more: 0 }),
         Plain::Assign { name, value } | Plain::SubstValue { name, value } => {
-            let value = store.word(alloc, value)?;
-            store.set(name.as_slice(), value.as_slice())?;
+            pass(assign(alloc, store, name.as_slice(), value))
         }
-        Plain::Define { name, value } => store.define(name.as_slice(), value.as_slice())?,
+        Plain::Define { name, value } => pass(store.define(name.as_slice(), value.as_slice())),
         Plain::DefineUnquoted { name, value } => {
-            let value = store.here_text(alloc, value)?;
-            store.define(name.as_slice(), value.as_slice())?;
+            pass(define_value(alloc, store, name.as_slice(), value))
         }
-        Plain::Error { status, .. } => return Ok(Flow::Stop { status: *status }),
+        Plain::Error { status, .. } => Ok(Flow::Stop { status: *status }),
         Plain::CheckProg {
             variable,
             program,
             found,
             otherwise,
-        } => {
-            let found = store.here_text(alloc, found)?;
-            let otherwise = value_of(alloc, store, otherwise)?;
-            let flow = check_program(alloc, store, variable.as_slice(), program, found, otherwise)?;
-            return Ok(flow);
-        }
+        } => check_for(alloc, store, variable.as_slice(), program, found, otherwise),
         Plain::PathProg {
             variable,
             program,
             otherwise,
-        } => {
-            let otherwise = value_of(alloc, store, otherwise)?;
-            let flow = find_program(alloc, store, variable.as_slice(), program, otherwise)?;
-            return Ok(flow);
-        }
-        Plain::Output => {
-            store.settle_prefixes()?;
-            return Ok(Flow::Complete);
-        }
+        } => find_for(alloc, store, variable.as_slice(), program, otherwise),
+        Plain::Output => complete(store),
     }
-    Ok(Flow::Pass { more: 0 })
 }
 
 /// Whether a program of a list is looked for.
@@ -278,7 +358,23 @@ fn try_program(
     Ok(Flow::Ask { job, wait })
 }
 
-/// Asks what a choice is about. An option is given where its variable is set; its value is kept then.
+/// Asks whether an option is given: its variable is set, and its value is kept then.
+fn ask_given(
+    alloc: Global,
+    store: &mut Store,
+    about: &mut About,
+    kind: OptionKind,
+    variable: &[u8],
+) -> Result<Flow, AllocError>
+    ensures passes { IfOk result (λ flow. flow ≡ Pass 0) }
+    ensures leads { IfOk result (λ flow. Leads flow (λ next. meanings.given (tables.value_of store.old.vars variable.now) kind store.old (next 0)) about.new store.new) }
+{
+    let is_given = store.copy_value(alloc, variable, value_name(kind))?;
+    *about = About::answer(alloc, is_given);
+    Ok(Flow::Pass { more: 0 })
+}
+
+/// Asks what a choice is about.
 fn ask(
     alloc: Global,
     store: &mut Store,
@@ -292,16 +388,7 @@ fn ask(
 {
     match question {
         Question::Given { kind, variable, .. } => {
-            let value = match store.get(variable.as_slice()) {
-                Some(value) => value.copy(alloc)?,
-                None => {
-                    *about = About::answer(alloc, false);
-                    return Ok(Flow::Pass { more: 0 });
-                }
-            };
-            store.set(value_name(*kind), value.as_slice())?;
-            *about = About::answer(alloc, true);
-            Ok(Flow::Pass { more: 0 })
+            ask_given(alloc, store, about, *kind, variable.as_slice())
         }
         Question::Tries { kind, program } => {
             let flow = try_program(alloc, store, *kind, program)?;
@@ -348,6 +435,22 @@ fn is_taken(alloc: Global, store: &Store, when: &When, about: &About) -> Result<
     }
 }
 
+/// Passes so many steps unless a case is taken.
+fn skip_unless(
+    alloc: Global,
+    store: &Store,
+    when: &When,
+    about: &About,
+    steps: usize,
+) -> Result<Flow, AllocError>
+    ensures { IfOk result (λ flow. flow ≡ Pass (if is_taken when.now about.now store.now.vars then 0 else steps)) }
+{
+    if is_taken(alloc, store, when, about)? {
+        return Ok(Flow::Pass { more: 0 });
+    }
+    Ok(Flow::Pass { more: steps })
+}
+
 /// One step.
 pub(crate) fn do_step(
     alloc: Global,
@@ -361,30 +464,15 @@ pub(crate) fn do_step(
     ensures leads { IfOk result (λ flow. Leads flow (λ next. act (shown step.now) next about.old store.old) about.new store.new) }
 {
     match step {
-        Step::Do(statement) => {
-            let flow = execute(alloc, store, statement)?;
-            Ok(flow)
-        }
+        Step::Do(statement) => execute(alloc, store, statement),
         Step::Look {
             variable,
             program,
             always,
-        } => {
-            let flow = look(alloc, store, variable, program, *always)?;
-            Ok(flow)
-        }
-        Step::Default { variable, value } => {
-            set_default(alloc, store, variable, value)?;
-            Ok(Flow::Pass { more: 0 })
-        }
+        } => look(alloc, store, variable, program, *always),
+        Step::Default { variable, value } => pass(set_default(alloc, store, variable, value)),
         Step::Subject(subject) => begin(alloc, store, about, subject),
-        Step::SkipUnless { when, steps } => {
-            if is_taken(alloc, store, when, about)? {
-                Ok(Flow::Pass { more: 0 })
-            } else {
-                Ok(Flow::Pass { more: *steps })
-            }
-        }
+        Step::SkipUnless { when, steps } => skip_unless(alloc, store, when, about, *steps),
         Step::Skip { steps } => Ok(Flow::Pass { more: *steps }),
     }
 }
@@ -417,8 +505,7 @@ fn tell_search(
         return look_on(alloc, store, search, left);
     }
     let value = search.found.as_ref().unwrap_or(&file);
-    settle(store, &search, Some(value))?;
-    Ok(Flow::Pass { more: 0 })
+    end_search(store, &search, Some(value))
 }
 
 /// Goes on with whether the child succeeded.

@@ -9,6 +9,7 @@ ghost use Rattle.meaning.specs.Meaning.{has_value, is_full_name, is_slash, is_un
 ghost use Rattle.meaning.specs.Search.{value_or_empty, with_variable};
 ghost use Rattle.meaning.specs.Tries.{first_probe, text_of};
 ghost use Rattle.conftest.specs.Probe.{job_of};
+ghost use Rattle.machine.specs.Copies.{Copied};
 
 use acmacros::{Program, Try};
 use conftest::{Job, JobFault, compile_job, link_job, preproc_job, program_source};
@@ -75,6 +76,22 @@ impl Store {
             Some(value) => value.copy(alloc),
             None => Ok(Bytes::new(alloc)),
         }
+    }
+
+    /// Gives a variable the value of another, if that is set. Tells whether it is.
+    pub(crate) fn copy_value(
+        &mut self,
+        alloc: Global,
+        from: &[u8],
+        to: &[u8],
+    ) -> Result<bool, AllocError>
+        ensures { IfOk result (λ b. Copied (value_of self.old.vars from.now) to.now b self.old self.new) }
+    {
+        let Some(value) = self.value_of(alloc, from)? else {
+            return Ok(false);
+        };
+        self.set(to, value.as_slice())?;
+        Ok(true)
     }
 
     /// Whether a variable is set to something.

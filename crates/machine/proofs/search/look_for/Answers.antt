@@ -1,9 +1,12 @@
-use Rattle.std.proofs.Common.{sym, ap, ◌∙◌}
-use Rattle.deftable.specs.Table.{value_of}
-use Rattle.machine.proofs.Searches.{led, not_cached}
+use Rattle.std.proofs.Common.{sym, ap, ◌∙◌, cond}
+use Rattle.std.specs.Prelude.{codes}
+use Rattle.meaning.specs.State.{Ends, Goes_on}
+use Rattle.meaning.specs.Search.{folders_of, searched, value_or_empty}
+use Rattle.machine.proofs.Searches.{led_ok}
 use Rattle.machine.proofs.search.look_for.Goals as goal
 
 pub returns-clause-leads : goal.returns-clause-leads
-returns-clause-leads c = λ about.
-    let name = c.as_slice.ensures ∙ ap (λ s. s.name) c.search.view_is in
-    led _ about _ _ _ (not_cached c.args.search c.args.own c.args.store.now (sym (ap (value_of c.args.store.now.vars) name) ∙ sym c.in_ok-cached.ensures ∙ c.in_default.is) c.if-own.false) (c.in_ok-flow.ensures.leads about)
+returns-clause-leads c =
+    let st = c.settle_known.new.store in
+    let left = searched c.args.search (folders_of (value_or_empty st (codes "PATH"))) st in
+    led_ok _ _ _ _ (sym (c.in_ok-known.ensures ∙ ap (λ b. cond b (Ends Goes_on st) left) c.if-known.false)) c.search_path.ensures.leads
