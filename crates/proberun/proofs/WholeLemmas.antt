@@ -1,6 +1,6 @@
 -- The machine and the crew, from group to group.
-use Rattle.std.proofs.Common.{◌≡◌, ℕ, ◌+◌, ◌≤◌, List, [], ◌++◌, ◌∷◌, length, map, take, drop, Option, Some, None, refl, sym, ap, ◌∙◌, subst, arith}
-use Rattle.std.specs.Prelude.{IfSome}
+use Rattle.std.proofs.Common.{◌≡◌, ℕ, ◌+◌, ◌≤◌, List, [], ◌∷◌, length, map, Option, Some, None, refl, sym, ap, ◌∙◌, subst, arith}
+use Rattle.std.specs.Prelude.{IsSome}
 use Rattle.std.proofs.lemmas.List.{append-nil}
 use Rattle.std.proofs.lemmas.List.Sums.{fold-append}
 use Rattle.crew.specs.declared.reply.Reply.{Reply}
@@ -20,7 +20,7 @@ use Rattle.machine.specs.Waits.{given, first_refused, resumed}
 use Rattle.machine.specs.Standing.{Standing, run_in, run_at, left_in, run_left, Shows, CutsAt, Refusals, Holds, Fits, fits_in, asks_in, asks_left, Turned, outcome_of}
 use Rattle.proberun.specs.Serving.{Served, failed_count}
 use Rattle.proberun.specs.Ran.{Ran, outcome_from}
-use Rattle.proberun.specs.Progress.{Progress, Heeded, Moving}
+use Rattle.proberun.specs.Progress.{Progress, Heeded, Moving, Leaves}
 use Rattle.proberun.proofs.RunLemmas.{progress_begins, progress_same, progress_heard, progress_group, length-replies, answered_both, refused_behind, no_failures}
 
 -- a machine that is ready for its next turn
@@ -147,10 +147,6 @@ place_by (turn.Cut number) m all h moving r =
     let n : length h.earlier + at.0 ≡ number = omega (arith, h.count, at.2) in
     ap first_refused h.whole ∙ refused_behind h.earlier (given m.replies) at.0 h.answered at.1 ∙ ap Some n
 
--- an end, with what the machine leaves there
-abbrev Leaves : Phase → Standing → RunEnd → Type 0
-Leaves p m end = IfSome (outcome_of p) (λ o. end ≡ record { outcome = o; vars = m.state.vars; defs = m.state.defs })
-
 abbrev state_in : RunEnd → State
 state_in end = record { vars = end.vars; defs = end.defs }
 
@@ -209,15 +205,9 @@ ends w plan run before now old m t end ne turned moving p leaves =
 pub all_landed : (w : ℕ) (run left : Run) (asked : ℕ) (latest : List Reply) (before now : Account) → Progress w run left asked latest before now → in_flight now.events ≡ in_flight before.events
 all_landed w run left asked latest before now p = ap in_flight p.events ∙ fold-append flying_after 0 before.events p.since ∙ p.landed (in_flight before.events)
 
--- a slice that was lent whole comes back
-drop_whole : {A : Type 0} (xs : List A) → drop (length xs) xs ≡ []
-drop_whole [] = refl
-drop_whole (x ∷ xs) = drop_whole xs
-
-take_whole : {A : Type 0} (xs : List A) → take (length xs) xs ≡ xs
-take_whole [] = refl
-take_whole (x ∷ xs) = ap (λ l. x ∷ l) (take_whole xs)
-
-pub came_back : {A : Type 0} (n : ℕ) (new old : List A) → length new ≡ length old → n ≡ length old → take n (new ++ drop (length new) old) ≡ new
-came_back n new old same n_is =
-    ap (λ k. take n (new ++ drop k old)) same ∙ ap (λ l. take n (new ++ l)) (drop_whole old) ∙ ap (take n) (append-nil new) ∙ ap (λ k. take k new) (n_is ∙ sym same) ∙ take_whole new
+-- a turn that asks nothing is at an end
+pub at_end : (plan : List Instruction) (t : Turn) (old m : Standing) → (t ≡ turn.Ask → ⊥) → Turned plan t old m → IsSome (outcome_of m.phase)
+at_end plan turn.Ask old m ne h = absurd (ne refl)
+at_end plan turn.Done old m ne h = subst IsSome (sym h.outcome) refl
+at_end plan (turn.Stopped status) old m ne h = subst IsSome (sym h.outcome) refl
+at_end plan (turn.Cut number) old m ne h = subst IsSome (sym h.outcome) refl

@@ -1,13 +1,16 @@
 -- How far a run over a crew has come, between two groups of jobs.
-use Rattle.std.specs.Prelude.{◌≡◌, ℕ, ◌+◌, List, ◌++◌, length, fold, None}
+use Rattle.std.specs.Prelude.{◌≡◌, ℕ, ◌+◌, List, [], ◌++◌, length, fold, None, IfSome}
 use Rattle.conftest.specs.declared.job.Job.{Job}
 use Rattle.crew.specs.declared.reply.Reply.{Reply}
 use Rattle.crew.specs.declared.event.CrewEvent.{CrewEvent}
 use Rattle.crew.specs.Events.{Account, IsIdle, replies_in, flying_after}
-use Rattle.meaning.specs.State.{Run}
+use Rattle.meaning.specs.State.{Run, State, no_choice}
 use Rattle.meaning.specs.Play.{play, after, all_jobs}
 use Rattle.machine.specs.declared.machine.Phase.{Phase}
 use Rattle.machine.specs.declared.machine.Phase.TheVariants as phase
+use Rattle.machine.specs.declared.machine.RunEnd.{RunEnd}
+use Rattle.machine.specs.declared.wait.Wait.TheVariants as waits
+use Rattle.machine.specs.Standing.{Standing, outcome_of}
 use Rattle.machine.specs.Waits.{first_refused}
 use Rattle.proberun.specs.Starts.{StartsAre, TakesLeast, Fills, EndsGroup, failures_in}
 
@@ -38,3 +41,11 @@ abbrev pub Moving : Phase → Type 0
 Moving phase.Going = Unit {0}
 Moving phase.Asking = Unit {0}
 Moving p = ⊥
+
+-- a machine before its first step, in this state
+abbrev pub before_steps : State → Standing
+before_steps st = record { phase = phase.Going; place = 0; scope = no_choice; state = st; wait = waits.Nothing; before = 0; jobs = []; replies = [] }
+
+-- what a machine leaves in a phase that is an end
+abbrev pub Leaves : Phase → Standing → RunEnd → Type 0
+Leaves p m end = IfSome (outcome_of p) (λ o. end ≡ record { outcome = o; vars = m.state.vars; defs = m.state.defs })

@@ -1,11 +1,15 @@
 //! A whole run.
 
-ghost use Rattle.std.specs.Prelude.{◌≡◌, ◌+◌, ◌^◌, ◌≤◌, [], IfOk};
+ghost use Rattle.std.specs.Prelude.{◌≡◌, ◌+◌, ◌^◌, ◌≤◌, [], IfOk, IsSome, OnOk, length};
 ghost use Rattle.crew.specs.Events.{IsIdle, in_flight};
+ghost use Rattle.machine.specs.Standing.{outcome_of};
+ghost use Rattle.machine.specs.declared.machine.RunEnd.{RunEnd};
 ghost use Rattle.meaning.specs.State.{no_choice};
 ghost use Rattle.plan.specs.Inside.{asks_after};
 ghost use Rattle.plan.specs.Walk.{walk};
+ghost use Rattle.proberun.specs.Progress.{Leaves, before_steps};
 ghost use Rattle.proberun.specs.Ran.{Ran};
+ghost use Rattle.proberun.specs.Serving.{AllFree};
 
 use crate::queue::Queue;
 use crate::serving::serve;
@@ -21,6 +25,61 @@ fn bound(plan: &Plan)
     ensures { asks_after plan.now 0 ≤ 2 ^ 36 }
 {
     let _steps = plan.steps();
+}
+
+// Runs a machine that is before its first step, group by group, up to the end of its run.
+fn run_groups<C: Crew>(
+    alloc: Global,
+    plan: &Plan,
+    machine: &mut Machine,
+    crew: &mut C,
+    slots: &mut [Option<usize>],
+) -> Result<(), AllocError>
+    requires first { machine.old ≡ before_steps machine.old.state }
+    requires free { AllFree slots.old }
+    requires some { 1 ≤ length slots.old }
+    requires few { length slots.old ≤ 16 }
+    requires idle { IsIdle (C.account crew.old).events }
+    requires attempts { (C.account crew.old).attempts + 2 ^ 36 ≤ 2 ^ 62 }
+    requires failures { (C.account crew.old).failures + 256 ≤ 2 ^ 62 }
+    ensures idle { IsIdle (C.account crew.new).events }
+    ensures landed { in_flight (C.account crew.new).events ≡ in_flight (C.account crew.old).events }
+    ensures ended { OnOk result (IsSome (outcome_of machine.new.phase)) }
+    ensures ran { OnOk result ((end : RunEnd) → Leaves machine.new.phase machine.new end → Ran (length slots.old) (walk plan.now 0 no_choice machine.old.state) (C.account crew.old) (C.account crew.new) end) }
+{
+    bound(plan);
+    'groups: loop {
+        match machine.advance(plan)? {
+            Turn::Ask => {
+                let jobs = Queue::copied(alloc, machine.asked())?;
+                serve(machine, crew, slots, jobs);
+            }
+            _ => return Ok(()),
+        }
+    }
+}
+
+// Runs a plan in these slots, which are free.
+fn run_in<C: Crew>(
+    alloc: Global,
+    plan: &Plan,
+    vars: Vars,
+    crew: &mut C,
+    slots: &mut [Option<usize>],
+) -> Result<RunEnd, AllocError>
+    requires free { AllFree slots.old }
+    requires some { 1 ≤ length slots.old }
+    requires few { length slots.old ≤ 16 }
+    requires idle { IsIdle (C.account crew.old).events }
+    requires attempts { (C.account crew.old).attempts + 2 ^ 36 ≤ 2 ^ 62 }
+    requires failures { (C.account crew.old).failures + 256 ≤ 2 ^ 62 }
+    ensures idle { IsIdle (C.account crew.new).events }
+    ensures landed { in_flight (C.account crew.new).events ≡ in_flight (C.account crew.old).events }
+    ensures ran { IfOk result (λ end. Ran (length slots.old) (walk plan.now 0 no_choice (record { vars = vars; defs = [] })) (C.account crew.old) (C.account crew.new) end) }
+{
+    let mut machine = Machine::new(alloc, plan, vars);
+    run_groups(alloc, plan, &mut machine, crew, slots)?;
+    Ok(machine.end())
 }
 
 /// Runs a plan over a crew, with these variables and no definitions before it, at most `window` children at once.
@@ -43,16 +102,6 @@ pub fn run<C: Crew>(
     ensures landed { in_flight (C.account crew.new).events ≡ in_flight (C.account crew.old).events }
     ensures ran { IfOk result (λ end. Ran window (walk plan.now 0 no_choice (record { vars = vars; defs = [] })) (C.account crew.old) (C.account crew.new) end) }
 {
-    bound(plan);
     let mut slots = free_slots(alloc, window)?;
-    let mut machine = Machine::new(alloc, plan, vars);
-    'groups: loop {
-        match machine.advance(plan)? {
-            Turn::Ask => {
-                let jobs = Queue::copied(alloc, machine.asked())?;
-                serve(&mut machine, crew, slots.as_mut_slice(), jobs);
-            }
-            _ => return Ok(machine.end()),
-        }
-    }
+    run_in(alloc, plan, vars, crew, slots.as_mut_slice())
 }
