@@ -1,5 +1,6 @@
 -- Lemmas on what a real child is asked for and answers.
 use Rattle.std.proofs.Common.{◌≡◌, ◌≢◌, true, false, is_some, unwrap_or, fold, ℕ, zero, suc, ◌≤◌, ◌<◌, ◌⊎◌, ◌+◌, ◌-◌, List, [], ◌∷◌, ◌++◌, IsUtf8, length, take, refl, sym, ap, ◌∙◌, subst, arith, length-append, Option, Some, None, inl, inr, min, get_or, Result, Ok, Err, is_ok, OnOk, if◌then◌else◌}
+use Rattle.std.specs.Prelude.{All}
 use Rattle.std.proofs.Math.Seq.{take-append-add}
 use Rattle.std.proofs.lemmas.List.{append-nil, length-take, length-take-le, take_min}
 use Rattle.std.proofs.lemmas.List.Elements.{All-get_or}
@@ -12,7 +13,7 @@ use Rattle.crew.specs.declared.event.CrewEvent.{CrewEvent}
 use Rattle.crew.specs.declared.event.CrewEvent.TheVariants.{Started, Ended}
 use Rattle.crew.specs.declared.reply.Reply.{Reply}
 use Rattle.crew.specs.Sound.{ListsBusy}
-use Rattle.crew.specs.Launch.{Adds, AreCommand, Call, Spawned, Failed, Run, Runs, failing, jobs_of, launch, run_after, writing}
+use Rattle.crew.specs.Launch.{Adds, Call, Spawned, Failed, Run, Runs, failing, jobs_of, launch, run_after, writing}
 
 -- what is kept of a piece
 pub kept_take : (text piece : List ℕ) → length text ≤ 65536 → text ++ take (min (65536 - length text) (length piece)) piece ≡ take 65536 (text ++ piece)
@@ -71,10 +72,8 @@ keeps_same None = tt
 keeps_same (Some xs) = refl
 
 -- words of which one is no UTF-8
-pub no_command : (words arguments : List (List ℕ)) (program word : List ℕ) (i : ℕ) → words ≡ program ∷ arguments → word ≡ get_or arguments i word → i < length arguments → ¬ (IsUtf8 word) → ¬ (AreCommand words)
-no_command words arguments program word i is here inside bad good =
-    let both : AreCommand (program ∷ arguments) = subst AreCommand is good in
-    bad (subst IsUtf8 (sym here) (All-get_or IsUtf8 arguments i word inside both.1))
+pub not_all : (words : List (List ℕ)) (word : List ℕ) (i : ℕ) → word ≡ get_or words i word → i < length words → ¬ (IsUtf8 word) → ¬ (All IsUtf8 words)
+not_all words word i here inside bad good = bad (subst IsUtf8 (sym here) (All-get_or IsUtf8 words i word inside good))
 
 pub kept_on : {E : Type 0} (r : Result (Unit {0}) E) (text new full all : List ℕ) → new ≡ (if is_ok r then full else text) → full ≡ all → OnOk r (new ≡ all)
 kept_on (Ok u) text new full all is same = is ∙ same

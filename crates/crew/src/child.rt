@@ -1,11 +1,11 @@
 //! The start and the end of a real child.
 
-ghost use Rattle.std.specs.Prelude.{◌≡◌, ◌⊎◌, [], ◌∷◌, None, IfNone, IfOk, IfSome, MatchOption, OnSome, option_map, vec_items};
+ghost use Rattle.std.specs.Prelude.{◌≡◌, ◌⊎◌, [], ◌∷◌, ◌++◌, None, All, IfNone, IfOk, IfSome, IsSome, IsUtf8, option_map, vec_items};
 ghost use Rattle.std.specs.Bool.{OnFalse, OnTrue};
 ghost use Rattle.std.specs.Process.{child_status, command_args, command_program};
 ghost use Rattle.crew.specs.Ending as ending;
 ghost use Rattle.crew.specs.Ending.{Answers, IsKept, status_number};
-ghost use Rattle.crew.specs.Launch.{Adds, AreCommand, failing, launch, writing};
+ghost use Rattle.crew.specs.Launch.{Adds, AreCommand, Failed, Spawned, failing, launch, writing};
 
 use crate::diagnostics::diagnostics;
 use crate::launcher::Launcher;
@@ -16,21 +16,63 @@ use std::alloc::{AllocError, Global};
 use std::io;
 use std::process::{Child, Command, ExitStatus, OpenProcess};
 
-// Starts the child after its conftest is written.
-pub(crate) fn started<L: Launcher>(
+// Starts the child after its conftest is written, and leaves it in a place of its own.
+pub(crate) fn is_started<L: Launcher>(
     launcher: &mut L,
     alloc: Global,
     job: &Job,
-) -> Option<Child<L::Process>>
-    ensures taken { OnSome result (Adds (L.calls launcher.old) (L.calls launcher.new) (launch job.now)) }
-    ensures refused { IfNone result (Adds (L.calls launcher.old) (L.calls launcher.new) []
+    child: &mut Option<Child<L::Process>>,
+) -> bool
+    ensures taken { OnTrue result (Adds (L.calls launcher.old) (L.calls launcher.new) (launch job.now)) }
+    ensures child { OnTrue result (IsSome child.new) }
+    ensures refused { OnFalse result (Adds (L.calls launcher.old) (L.calls launcher.new) []
         ⊎ Adds (L.calls launcher.old) (L.calls launcher.new) (failing job.now)) }
 {
-    let mut command = command_of(alloc, job.words.as_slice()).ok()??;
-    if !is_written(launcher, &job.file) {
-        return None;
+    let Some((program, arguments)) = program_of(job.words.as_slice()) else {
+        return false;
+    };
+    let Ok(mut command) = Command::new(alloc, program) else {
+        return false;
+    };
+    is_run(launcher, &mut command, arguments, &job.file, child)
+}
+
+// Starts a command that has no argument yet, after it is given these and the conftest is written.
+fn is_run<L: Launcher>(
+    launcher: &mut L,
+    command: &mut Command,
+    arguments: &[Bytes],
+    file: &Option<(Bytes, Bytes)>,
+    child: &mut Option<Child<L::Process>>,
+) -> bool
+    requires { command_args command.old ≡ [] }
+    ensures taken { OnTrue result (Adds (L.calls launcher.old) (L.calls launcher.new)
+        (writing file.now ++ Spawned (command_program command.old ∷ arguments.now) ∷ [])) }
+    ensures child { OnTrue result (IsSome child.new) }
+    ensures refused { OnFalse result (Adds (L.calls launcher.old) (L.calls launcher.new) []
+        ⊎ Adds (L.calls launcher.old) (L.calls launcher.new) (writing file.now ++ Failed ∷ [])) }
+{
+    let Ok(true) = put_arguments(command, arguments) else {
+        return false;
+    };
+    if !is_written(launcher, file) {
+        return false;
     }
-    launcher.spawn(&mut command).ok()
+    is_spawned(launcher, command, child)
+}
+
+fn is_spawned<L: Launcher>(
+    launcher: &mut L,
+    command: &mut Command,
+    child: &mut Option<Child<L::Process>>,
+) -> bool
+    ensures taken { OnTrue result (Adds (L.calls launcher.old) (L.calls launcher.new)
+        (Spawned (command_program command.old ∷ command_args command.old) ∷ [])) }
+    ensures child { OnTrue result (IsSome child.new) }
+    ensures refused { OnFalse result (Adds (L.calls launcher.old) (L.calls launcher.new) (Failed ∷ [])) }
+{
+    *child = launcher.spawn(command).ok();
+    child.is_some()
 }
 
 // Writes the conftest, if there is one.
@@ -47,25 +89,32 @@ fn is_written<L: Launcher>(launcher: &mut L, file: &Option<(Bytes, Bytes)>) -> b
     }
 }
 
-// The command of the words, or `None` if there is no word or one is no UTF-8.
-fn command_of(alloc: Global, words: &[Bytes]) -> Result<Option<Command>, AllocError>
-    ensures { IfOk result (λ c. MatchOption c (¬ (AreCommand words.now))
-        (λ command. command_program command ∷ command_args command ≡ words.now)) }
+// The program and the arguments, or `None` if there is no word or the program is no UTF-8.
+fn program_of(words: &[Bytes]) -> Option<(&str, &[Bytes])>
+    ensures words { IfSome result (λ p. p.0.now ∷ p.1.now ≡ words.now) }
+    ensures fault { IfNone result (¬ (AreCommand words.now)) }
 {
-    let Some((program, arguments)) = words.split_first() else {
-        return Ok(None);
-    };
-    let Ok(program) = std::str::from_utf8(program.as_slice()) else {
-        return Ok(None);
-    };
-    let mut command = Command::new(alloc, program)?;
+    let (program, arguments) = words.split_first()?;
+    match std::str::from_utf8(program.as_slice()) {
+        Ok(program) => Some((program, arguments)),
+        Err(_) => None,
+    }
+}
+
+// Gives a command its arguments, up to the first that is no UTF-8, and tells whether all are.
+fn put_arguments(command: &mut Command, arguments: &[Bytes]) -> Result<bool, AllocError>
+    requires { command_args command.old ≡ [] }
+    ensures words { IfOk result (λ all. OnTrue all
+        ((command_program command.new ≡ command_program command.old) × (command_args command.new ≡ arguments.now))) }
+    ensures fault { IfOk result (λ all. OnFalse all (¬ (All IsUtf8 arguments.now))) }
+{
     for argument in arguments {
         let Ok(argument) = std::str::from_utf8(argument.as_slice()) else {
-            return Ok(None);
+            return Ok(false);
         };
         command.arg(argument)?;
     }
-    Ok(Some(command))
+    Ok(true)
 }
 
 // Reads what the child writes on standard error, and waits for it whatever that gave.

@@ -1,15 +1,15 @@
 //! A crew of children, over what starts them.
 
-ghost use Rattle.std.specs.Prelude.{◌≡◌, ◌≢◌, ◌+◌, ◌^◌, ◌<◌, ◌≤◌, [], ◌∷◌, ◌++◌, true, false, IfOk, All, length, vec_capacity};
-ghost use Rattle.std.specs.Bool.{OnTrue};
+ghost use Rattle.std.specs.Prelude.{◌≡◌, ◌≢◌, ◌⊎◌, ◌+◌, ◌^◌, ◌<◌, ◌≤◌, [], ◌∷◌, ◌++◌, true, false, IfOk, IsSome, All, length, vec_capacity, vec_len};
+ghost use Rattle.std.specs.Bool.{OnFalse, OnTrue};
 ghost use Rattle.std.specs.VecDeque.{deque_capacity};
 ghost use Rattle.crew.specs.Events.{IsSomeBusy, busy, failure_of, slots_in_flight};
-ghost use Rattle.crew.specs.Launch.{Runs};
+ghost use Rattle.crew.specs.Launch.{Adds, Runs, failing, launch};
 ghost use Rattle.crew.specs.declared.reply.Reply.TheVariants.{StartRefused};
 ghost use Rattle.crew.specs.declared.event.CrewEvent.TheVariants.{Started, Ended};
 
 use crate::calls::Crew;
-use crate::child::{ended, started};
+use crate::child::{ended, is_started};
 use crate::event::{CrewEvent, Refused};
 use crate::failures::{failures_after, refusal};
 use crate::launcher::Launcher;
@@ -19,7 +19,7 @@ use conftest::Job;
 use std::alloc::{AllocError, Global};
 use std::collections::VecDeque;
 use std::marker::Model;
-use std::process::Child;
+use std::process::{Child, OpenProcess};
 
 const SLOTS: usize = 16;
 
@@ -60,10 +60,7 @@ impl<L: Launcher + Drop> Children<L> {
         requires { Runs (L.calls launcher) [] }
         ensures { IfOk result (λ c. c ≡ record { events = []; attempts = 0; failures = 0 }) }
     {
-        let mut children = Vec::with_capacity(alloc, SLOTS)?;
-        for _ in 0..SLOTS {
-            children.push(None)?;
-        }
+        let children = no_children(alloc)?;
         Ok(Children {
             launcher,
             alloc,
@@ -81,23 +78,19 @@ impl<L: Launcher + Drop> Crew for Children<L> {
 
     fn start(&mut self, slot: usize, job: Job) -> Result<(), Refused> {
         self.attempts += 1;
-        let number = self.attempts;
-        let Ok(kept) = job.copy(self.alloc) else {
-            return Err(refusal(&mut self.failures));
-        };
-        if !make_room(&mut self.events, &mut self.slots) {
+        let child = &mut self.children[slot];
+        if !is_launched(
+            &mut self.launcher,
+            self.alloc,
+            &mut self.events,
+            &mut self.slots,
+            &job,
+            child,
+        ) {
             return Err(refusal(&mut self.failures));
         }
-        let Some(child) = started(&mut self.launcher, self.alloc, &job) else {
-            return Err(refusal(&mut self.failures));
-        };
-        self.children[slot] = Some(child);
-        let start = CrewEvent::Started {
-            slot,
-            job: kept,
-            number,
-        };
-        put(&mut self.events, start);
+        let number = self.attempts;
+        put(&mut self.events, CrewEvent::Started { slot, job, number });
         put_slot(&mut self.slots, slot);
         Ok(())
     }
@@ -113,11 +106,7 @@ impl<L: Launcher + Drop> Crew for Children<L> {
         ensures oldest { slots_in_flight self.old.events ≡ result.0 ∷ slots_in_flight self.new.events }
     {
         let slot = oldest(&mut self.slots);
-        let reply = match self.children[slot].take() {
-            Some(mut child) => ended(self.alloc, &mut child),
-            None => Reply::EndRefused,
-        };
-        let (reply, kept) = doubled(self.alloc, reply);
+        let (reply, kept) = end_of(self.alloc, self.children[slot].take());
         self.failures = failures_after(&reply, self.failures);
         let end = CrewEvent::Ended {
             slot,
@@ -126,6 +115,28 @@ impl<L: Launcher + Drop> Crew for Children<L> {
         };
         put(&mut self.events, end);
         (slot, reply)
+    }
+}
+
+// As many places as there are slots, and no child in them.
+fn no_children<P: OpenProcess + Drop>(alloc: Global) -> Result<Vec<Option<Child<P>>>, AllocError>
+    ensures { IfOk result (λ v. vec_len v ≡ 16) }
+{
+    let mut children = Vec::with_capacity(alloc, SLOTS)?;
+    for _ in 0..SLOTS {
+        children.push(None)?;
+    }
+    Ok(children)
+}
+
+// The reply of a child after its end, and a copy of the reply.
+fn end_of<P: OpenProcess + Drop>(alloc: Global, child: Option<Child<P>>) -> (Reply, Reply)
+    ensures same { result.1 ≡ result.0 }
+    ensures answer { result.0 ≢ StartRefused }
+{
+    match child {
+        Some(mut child) => doubled(alloc, ended(alloc, &mut child)),
+        None => (Reply::EndRefused, Reply::EndRefused),
     }
 }
 
@@ -139,6 +150,31 @@ fn doubled(alloc: Global, reply: Reply) -> (Reply, Reply)
         Ok(kept) => (reply, kept),
         Err(_) => (Reply::EndRefused, Reply::EndRefused),
     }
+}
+
+// Makes room for the records of a start, and starts the child.
+fn is_launched<L: Launcher>(
+    launcher: &mut L,
+    alloc: Global,
+    events: &mut Vec<CrewEvent>,
+    slots: &mut VecDeque<usize>,
+    job: &Job,
+    child: &mut Option<Child<L::Process>>,
+) -> bool
+    ensures taken { OnTrue result (Adds (L.calls launcher.old) (L.calls launcher.new) (launch job.now)) }
+    ensures child { OnTrue result (IsSome child.new) }
+    ensures refused { OnFalse result (Adds (L.calls launcher.old) (L.calls launcher.new) []
+        ⊎ Adds (L.calls launcher.old) (L.calls launcher.new) (failing job.now)) }
+    ensures events { events.new.items ≡ events.old.items }
+    ensures slots { slots.new.items ≡ slots.old.items }
+    ensures grown { vec_capacity events.old ≤ vec_capacity events.new }
+    ensures room { OnTrue result (length events.new.items + length slots.new.items + 2 ≤ vec_capacity events.new) }
+    ensures slot { OnTrue result (length slots.new.items < deque_capacity slots.new) }
+{
+    if !make_room(events, slots) {
+        return false;
+    }
+    is_started(launcher, alloc, job, child)
 }
 
 // Room for the event of a start, and for the ends of its child and of those in flight.

@@ -1,6 +1,6 @@
 //! A crew whose replies are a list.
 
-ghost use Rattle.std.specs.Prelude.{◌≡◌, ◌≢◌, ◌+◌, ◌^◌, ◌<◌, ◌≤◌, [], ◌∷◌, ◌++◌, true, false, IfOk, IfSome, IfNone, OnOk, OnErr, is_ok, length, reverse, MatchOption};
+ghost use Rattle.std.specs.Prelude.{◌≡◌, ◌≢◌, ◌+◌, ◌*◌, ◌^◌, ◌<◌, ◌≤◌, [], ◌∷◌, ◌++◌, true, false, IfOk, IfSome, IfNone, OnOk, OnErr, is_ok, length, reverse, vec_capacity, MatchOption};
 ghost use Rattle.crew.specs.Events.{busy, IsSomeBusy, failure_of};
 ghost use Rattle.crew.specs.declared.event.CrewEvent.TheVariants.{Started, Ended};
 ghost use Rattle.crew.specs.Scripted.{after_start, after_next, ending, is_taken, is_start_refused};
@@ -63,14 +63,8 @@ impl MemoryCrew {
           order = order;
         }) }
     {
-        let count = replies.len();
-        let Some(twice) = count.checked_mul(2) else {
-            return Err(AllocError);
-        };
         let (replies, copies) = reversed_twice(alloc, replies)?;
-        let children = Vec::with_capacity(alloc, count)?;
-        let events = Vec::with_capacity(alloc, twice)?;
-        let listed = Vec::with_capacity(alloc, twice)?;
+        let (children, events, listed) = with_room(alloc, replies.len())?;
         Ok(MemoryCrew {
             replies,
             copies,
@@ -89,6 +83,24 @@ impl MemoryCrew {
     {
         self.listed.as_slice()
     }
+}
+
+// Empty lists of the children of so many starts, of what happens to them, and of the calls.
+fn with_room(
+    alloc: Global,
+    count: usize,
+) -> Result<(Vec<Flight>, Vec<CrewEvent>, Vec<Event>), AllocError>
+    ensures children { IfOk result (λ r. (r.0.items ≡ []) × (count ≤ vec_capacity r.0)) }
+    ensures events { IfOk result (λ r. (r.1.items ≡ []) × (2 * count ≤ vec_capacity r.1)) }
+    ensures listed { IfOk result (λ r. (r.2.items ≡ []) × (2 * count ≤ vec_capacity r.2)) }
+{
+    let Some(twice) = count.checked_mul(2) else {
+        return Err(AllocError);
+    };
+    let children = Vec::with_capacity(alloc, count)?;
+    let events = Vec::with_capacity(alloc, twice)?;
+    let listed = Vec::with_capacity(alloc, twice)?;
+    Ok((children, events, listed))
 }
 
 // The replies from the last to the first, and each a second time.
