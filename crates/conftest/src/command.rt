@@ -1,6 +1,6 @@
 //! The words of a compiler's command.
 
-ghost use Rattle.std.specs.Prelude.{◌≡◌, ◌++◌, [], IfOk, OnOk, codes, unwrap_or};
+ghost use Rattle.std.specs.Prelude.{◌≡◌, ◌++◌, [], ◌∷◌, IfOk, OnOk, codes, unwrap_or};
 ghost use Rattle.conftest.specs.Probe as probe;
 ghost use Rattle.deftable.specs.Table.{value_of};
 
@@ -68,59 +68,68 @@ fn push_flags(alloc: Global, words: &mut Words, vars: &Vars) -> Result<(), Alloc
     push_value(alloc, words, vars, b"CPPFLAGS")
 }
 
-// The compiler's words, and those behind them of a compile job.
-#[tactic(auto, unfolding(crate::specs::Probe::compile_words))]
-pub(crate) fn compile_words(
-    alloc: Global,
-    mut words: Words,
-    vars: &Vars,
-    number: u64,
-) -> Result<Words, AllocError>
-    requires { words ≡ probe.words_of vars.now (codes "CC") }
-    ensures { IfOk result (λ w. w ≡ probe.compile_words number vars.now) }
+// Puts the name of the file that a compiler reads last.
+fn push_file(alloc: Global, words: &mut Words, number: u64) -> Result<(), AllocError>
+    ensures { OnOk result (words.new ≡ words.old ++ probe.file_name number ∷ []) }
 {
     let file = file_name(alloc, number)?;
-    words.push(b"-c")?;
-    push_flags(alloc, &mut words, vars)?;
-    words.push(file.as_slice())?;
-    Ok(words)
+    words.push(file.as_slice())
 }
 
-// The compiler's words, and those behind them of a link job.
-#[tactic(auto, unfolding(crate::specs::Probe::link_words))]
-pub(crate) fn link_words(
-    alloc: Global,
-    mut words: Words,
-    vars: &Vars,
-    number: u64,
-) -> Result<Words, AllocError>
-    requires { words ≡ probe.words_of vars.now (codes "CC") }
-    ensures { IfOk result (λ w. w ≡ probe.link_words number vars.now) }
+// Puts the name of the program that a link makes last.
+fn push_out(alloc: Global, words: &mut Words, number: u64) -> Result<(), AllocError>
+    ensures { OnOk result (words.new ≡ words.old ++ probe.out_name number ∷ []) }
 {
     let out = out_name(alloc, number)?;
-    let file = file_name(alloc, number)?;
-    words.push(b"-o")?;
-    words.push(out.as_slice())?;
-    push_flags(alloc, &mut words, vars)?;
-    push_value(alloc, &mut words, vars, b"LDFLAGS")?;
-    words.push(file.as_slice())?;
-    push_value(alloc, &mut words, vars, b"LIBS")?;
-    Ok(words)
+    words.push(out.as_slice())
 }
 
-// The preprocessor's words, and those behind them.
-#[tactic(auto, unfolding(crate::specs::Probe::preprocess_words))]
-pub(crate) fn preprocess_words(
+// Puts what the compiler is told in a compile job behind its own words.
+#[tactic(auto, unfolding(crate::specs::Probe::compile_words))]
+pub(crate) fn push_compile_words(
     alloc: Global,
-    mut words: Words,
+    words: &mut Words,
     vars: &Vars,
     number: u64,
-) -> Result<Words, AllocError>
-    requires { words ≡ probe.preprocessor vars.now }
-    ensures { IfOk result (λ w. w ≡ probe.preprocess_words number vars.now) }
+) -> Result<(), AllocError>
+    requires { words.old ≡ probe.words_of vars.now (codes "CC") }
+    ensures { OnOk result (words.new ≡ probe.compile_words number vars.now) }
 {
-    let file = file_name(alloc, number)?;
-    push_value(alloc, &mut words, vars, b"CPPFLAGS")?;
-    words.push(file.as_slice())?;
-    Ok(words)
+    words.push(b"-c")?;
+    push_flags(alloc, words, vars)?;
+    push_file(alloc, words, number)
+}
+
+// Puts what the compiler is told in a link job behind its own words.
+#[tactic(auto, unfolding(crate::specs::Probe::link_words))]
+pub(crate) fn push_link_words(
+    alloc: Global,
+    words: &mut Words,
+    vars: &Vars,
+    number: u64,
+) -> Result<(), AllocError>
+    requires { words.old ≡ probe.words_of vars.now (codes "CC") }
+    ensures { OnOk result (words.new ≡ probe.link_words number vars.now) }
+{
+    words.push(b"-o")?;
+    push_out(alloc, words, number)?;
+    push_flags(alloc, words, vars)?;
+    push_value(alloc, words, vars, b"LDFLAGS")?;
+    push_file(alloc, words, number)?;
+    push_value(alloc, words, vars, b"LIBS")
+}
+
+// Puts what the preprocessor is told behind its own words.
+#[tactic(auto, unfolding(crate::specs::Probe::preprocess_words))]
+pub(crate) fn push_preprocess_words(
+    alloc: Global,
+    words: &mut Words,
+    vars: &Vars,
+    number: u64,
+) -> Result<(), AllocError>
+    requires { words.old ≡ probe.preprocessor vars.now }
+    ensures { OnOk result (words.new ≡ probe.preprocess_words number vars.now) }
+{
+    push_value(alloc, words, vars, b"CPPFLAGS")?;
+    push_file(alloc, words, number)
 }

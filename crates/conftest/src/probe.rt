@@ -1,10 +1,13 @@
 //! The jobs.
 
-ghost use Rattle.std.specs.Prelude.{◌≡◌, ◌≢◌, Some, None, IfOk, IsErrOf};
+ghost use Rattle.std.specs.Prelude.{◌≡◌, ◌≢◌, [], ◌++◌, Some, None, IfOk, IsErrOf, OnOk, codes};
+ghost use Rattle.conftest.specs.Probe as probe;
 ghost use Rattle.conftest.specs.Probe.{job_of, Compile, Link, Preprocess, Run, Find, run_of, path_of, file_name, conftest_text};
 ghost use Rattle.conftest.specs.declared.fault.JobFault.TheVariants.{NoCompiler};
 
-use crate::command::{compile_words, compiler, link_words, preprocess_words, preprocessor};
+use crate::command::{
+    compiler, preprocessor, push_compile_words, push_link_words, push_preprocess_words,
+};
 use crate::fault::JobFault;
 use crate::job::Job;
 use crate::text::{self, conftest_text, file_name};
@@ -27,11 +30,11 @@ pub fn compile_job(
     ensures job { IfOk result (λ job. job_of (Compile source.now) number vars.now defs.now ≡ Some job) }
     ensures fault { IsErrOf result NoCompiler → job_of (Compile source.now) number vars.now defs.now ≡ None }
 {
-    let compiler = compiler(alloc, vars)?;
-    if compiler.as_slice().is_empty() {
+    let mut words = compiler(alloc, vars)?;
+    if words.as_slice().is_empty() {
         return Err(JobFault::NoCompiler);
     }
-    let words = compile_words(alloc, compiler, vars, number)?;
+    push_compile_words(alloc, &mut words, vars, number)?;
     let job = with_conftest(alloc, words, defs, source, number)?;
     Ok(job)
 }
@@ -51,11 +54,11 @@ pub fn link_job(
     ensures job { IfOk result (λ job. job_of (Link source.now) number vars.now defs.now ≡ Some job) }
     ensures fault { IsErrOf result NoCompiler → job_of (Link source.now) number vars.now defs.now ≡ None }
 {
-    let compiler = compiler(alloc, vars)?;
-    if compiler.as_slice().is_empty() {
+    let mut words = compiler(alloc, vars)?;
+    if words.as_slice().is_empty() {
         return Err(JobFault::NoCompiler);
     }
-    let words = link_words(alloc, compiler, vars, number)?;
+    push_link_words(alloc, &mut words, vars, number)?;
     let job = with_conftest(alloc, words, defs, source, number)?;
     Ok(job)
 }
@@ -73,11 +76,11 @@ pub fn preproc_job(
     ensures job { IfOk result (λ job. job_of (Preprocess source.now) number vars.now defs.now ≡ Some job) }
     ensures fault { IsErrOf result NoCompiler → job_of (Preprocess source.now) number vars.now defs.now ≡ None }
 {
-    let preprocessor = preprocessor(alloc, vars)?;
-    if preprocessor.as_slice().is_empty() {
+    let mut words = preprocessor(alloc, vars)?;
+    if words.as_slice().is_empty() {
         return Err(JobFault::NoCompiler);
     }
-    let words = preprocess_words(alloc, preprocessor, vars, number)?;
+    push_preprocess_words(alloc, &mut words, vars, number)?;
     let job = with_conftest(alloc, words, defs, source, number)?;
     Ok(job)
 }
@@ -87,26 +90,43 @@ pub fn preproc_job(
 pub fn run_job(alloc: Global, number: u64) -> Result<Job, AllocError>
     ensures { IfOk result (λ job. job ≡ run_of number) }
 {
-    let out = text::out_name(alloc, number)?;
-    let mut program = Vec::from_slice(alloc, b"./")?;
-    program.extend_from_slice(out.as_slice())?;
+    let program = program_path(alloc, number)?;
     let mut words = Words::new(alloc);
     words.push(program.as_slice())?;
     Ok(Job { words, file: None })
 }
 
+// The path of the program that a link job makes.
+fn program_path(alloc: Global, number: u64) -> Result<Vec<u8>, AllocError>
+    ensures { IfOk result (λ path. path.items ≡ codes "./" ++ probe.out_name number) }
+{
+    let out = text::out_name(alloc, number)?;
+    let mut path = Vec::from_slice(alloc, b"./")?;
+    path.extend_from_slice(out.as_slice())?;
+    Ok(path)
+}
+
 /// Succeeds where `file` is a file that may be run: a shell tests it, as POSIX's `test` does (own).
-#[tactic(auto, unfolding(crate::specs::Probe::path_of, crate::specs::Probe::path_words))]
+#[tactic(auto, unfolding(crate::specs::Probe::path_of))]
 pub fn path_job(alloc: Global, file: &[u8]) -> Result<Job, AllocError>
     ensures { IfOk result (λ job. job ≡ path_of file.now) }
 {
     let mut words = Words::new(alloc);
+    push_path_words(&mut words, file)?;
+    Ok(Job { words, file: None })
+}
+
+// The words of a shell's command line.
+#[tactic(auto, unfolding(crate::specs::Probe::path_words))]
+fn push_path_words(words: &mut Words, file: &[u8]) -> Result<(), AllocError>
+    requires { words.old ≡ [] }
+    ensures { OnOk result (words.new ≡ probe.path_words file.now) }
+{
     words.push(b"sh")?;
     words.push(b"-c")?;
     words.push(b"test -f \"$1\" && test -x \"$1\"")?;
     words.push(b"sh")?;
-    words.push(file)?;
-    Ok(Job { words, file: None })
+    words.push(file)
 }
 
 fn with_conftest(

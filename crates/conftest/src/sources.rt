@@ -49,11 +49,7 @@ pub fn header_source(alloc: Global, includes: &[u8], header: &[u8]) -> Result<By
 pub fn function_source(alloc: Global, name: &[u8]) -> Result<Bytes, AllocError>
     ensures { IfOk result (λ text. text ≡ sources.function_source name.now) }
 {
-    let mut prologue = Vec::from_slice(alloc, b"#undef ")?;
-    prologue.extend_from_slice(name)?;
-    prologue.extend_from_slice(b"\nchar ")?;
-    prologue.extend_from_slice(name)?;
-    prologue.extend_from_slice(b" (void);")?;
+    let prologue = around_twice(alloc, b"#undef ", name, b"\nchar ", b" (void);")?;
     let body = around(alloc, b"return ", name, b" ();")?;
     program_source(alloc, prologue.as_slice(), body.as_slice())
 }
@@ -63,11 +59,7 @@ pub fn function_source(alloc: Global, name: &[u8]) -> Result<Bytes, AllocError>
 pub fn declaration_source(alloc: Global, includes: &[u8], name: &[u8]) -> Result<Bytes, AllocError>
     ensures { IfOk result (λ text. text ≡ sources.declaration_source includes.now name.now) }
 {
-    let mut body = Vec::from_slice(alloc, b"#ifndef ")?;
-    body.extend_from_slice(name)?;
-    body.extend_from_slice(b"\n  (void) ")?;
-    body.extend_from_slice(name)?;
-    body.extend_from_slice(b";\n#endif")?;
+    let body = around_twice(alloc, b"#ifndef ", name, b"\n  (void) ", b";\n#endif")?;
     program_source(alloc, includes, body.as_slice())
 }
 
@@ -94,6 +86,22 @@ fn around(alloc: Global, front: &[u8], text: &[u8], back: &[u8]) -> Result<Vec<u
     ensures { IfOk result (λ v. v.items ≡ front.now ++ text.now ++ back.now) }
 {
     let mut all = Vec::from_slice(alloc, front)?;
+    all.extend_from_slice(text)?;
+    all.extend_from_slice(back)?;
+    Ok(all)
+}
+
+// The text twice, with others before it, between and after.
+fn around_twice(
+    alloc: Global,
+    front: &[u8],
+    text: &[u8],
+    between: &[u8],
+    back: &[u8],
+) -> Result<Vec<u8>, AllocError>
+    ensures { IfOk result (λ v. v.items ≡ front.now ++ text.now ++ between.now ++ text.now ++ back.now) }
+{
+    let mut all = around(alloc, front, text, between)?;
     all.extend_from_slice(text)?;
     all.extend_from_slice(back)?;
     Ok(all)
