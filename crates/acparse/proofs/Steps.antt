@@ -7,21 +7,28 @@ use Rattle.m4quote.specs.declared.item.Arg.{Arg}
 use Rattle.m4quote.specs.declared.item.Item.{Item}
 use Rattle.m4quote.specs.Entry.{Span, Entry, span, view, views, call, bare}
 use Rattle.acargs.specs.declared.fault.ParseFault.{ParseFault}
+use Rattle.acargs.specs.declared.fault.ParseFault.TheVariants.{OutOfMemory}
 use Rattle.acargs.specs.declared.stand.Edge.{Edge}
 use Rattle.acargs.specs.Reading.{◌>>=◌, Fails, Gives}
 use Rattle.acargs.specs.Stand.{edge_of, no_edge}
 use Rattle.acargs.proofs.Binds.{bind_ok, ok_is, fails_bind, fails_along}
 use Rattle.acmacros.specs.declared.macros.ChoiceMacro.{ChoiceMacro}
 use Rattle.acmacros.specs.declared.macros.Macro.{Macro}
+use Rattle.acmacros.specs.declared.macros.QuestionMacro.{QuestionMacro}
 use Rattle.acmacros.specs.declared.scene.Scene as scene
+use Rattle.acmacros.specs.declared.statement.Question.{Question}
+use Rattle.acmacros.specs.Rows.{question_of}
+use Rattle.acmacros.specs.Scene.{after_question}
 use Rattle.tree.specs.declared.tree.Case as case
 use Rattle.tree.specs.declared.tree.Stmt.{Stmt}
+use Rattle.tree.specs.declared.tree.Subject.TheVariants.{Asked}
 use Rattle.tree.specs.declared.tree.When.{When}
+use Rattle.tree.specs.declared.tree.When.TheVariants.{Yes, No}
 use Rattle.tree.specs.Known.{after_all, after_cases}
-use Rattle.tree.specs.Script.{Script, Cases, No_case, Case, joined, followed, script_of, cases_of}
+use Rattle.tree.specs.Script.{Script, Done, Choice, Cases, No_case, Case, joined, followed, script_of, cases_of}
 use Rattle.tree.proofs.ScriptLemmas.{script_push, joined_done, joined_assoc, after_joined, cases_push, followed_assoc, after_followed}
 use Rattle.acparse.specs.Bare.{bare_of}
-use Rattle.acparse.specs.Profile.{Bodies, Adds, behind, when_of, cases_in, items_of, item_of, call_of, checked}
+use Rattle.acparse.specs.Profile.{Bodies, Adds, behind, when_of, case_of, cases_in, action_in, action_args, answers_in, asked_of, items_of, item_of, call_of, checked}
 use Rattle.acparse.proofs.Texts.{bare_known, fails_inside}
 
 -- ---- items
@@ -164,16 +171,30 @@ pub cases_fail : (e : ParseFault) (bodies : Bodies) (m : ChoiceMacro) (before c 
     → Choices bodies m before c out all here → Fails e (cases_in bodies m c here) → Fails e (cases_in bodies m before all)
 cases_fail e bodies m before c out all here i h = fails_along e _ _ i.value (fails_bind e _ _ h)
 
-pub when_fails : (e : ParseFault) (bodies : Bodies) (m : ChoiceMacro) (c : scene.Scene) (here more : List Span) (w a : Span) → here ≡ w ∷ a ∷ more → Fails e (when_of m w) → Fails e (cases_in bodies m c here)
-unfolding cases_in
-when_fails e bodies m c here more w a is h = fails_along e _ _ (sym (ap (cases_in bodies m c) is)) (fails_bind e _ _ h)
+case_parts : (w x : When) (a b : Script) → Case w a No_case ≡ Case x b No_case → (w ≡ x) × (a ≡ b)
+case_parts w x a b e = (cc, cc)
 
-pub body_fails : (e : ParseFault) (bodies : Bodies) (m : ChoiceMacro) (c : scene.Scene) (here more : List Span) (w a : Span) (when : When) → here ≡ w ∷ a ∷ more → when_of m w ≡ Ok when → Fails e (bodies c a)
-    → Fails e (cases_in bodies m c here)
-unfolding cases_in
-body_fails e bodies m c here more w a when is ok h =
+pub case_is : (bodies : Bodies) (m : ChoiceMacro) (c : scene.Scene) (w a : Span) (x : case.Case) → case_of bodies m c w a ≡ Ok (cases_of (x ∷ []))
+    → (when_of m w ≡ Ok x.when) × (bodies c a ≡ Ok (script_of x.body.items))
+unfolding case_of
+case_is bodies m c w a x e =
+    let one = bind_ok (when_of m w) _ _ e in
+    let two = bind_ok (bodies c a) _ _ one.2 in
+    let p = case_parts one.0 x.when two.0 (script_of x.body.items) (ok_is _ _ two.2) in
+    (one.1 ∙ ap (λ (k : When). Ok k) p.0, two.1 ∙ ap (λ (k : Script). Ok k) p.1)
+
+bound_fails : {A B C D : Type 0} (e : ParseFault) (r : Result A ParseFault) (s : Result B ParseFault) (f : A → B → C) (g : A → B → Result D ParseFault)
+    → Fails e (r >>= λ x. s >>= λ y. Ok (f x y)) → Fails e (r >>= λ x. s >>= g x)
+bound_fails OutOfMemory r s f g h = tt
+bound_fails e (Err d) s f g h = cc
+bound_fails e (Ok x) (Err d) f g h = cc
+bound_fails e (Ok x) (Ok y) f g h = absurd cc
+
+pub case_fails : (e : ParseFault) (bodies : Bodies) (m : ChoiceMacro) (c : scene.Scene) (here more : List Span) (w a : Span) → here ≡ w ∷ a ∷ more → Fails e (case_of bodies m c w a) → Fails e (cases_in bodies m c here)
+unfolding cases_in case_of
+case_fails e bodies m c here more w a is h =
     fails_along e _ _ (sym (ap (cases_in bodies m c) is))
-    (fails_along e _ _ (ap (λ r. r >>= λ when. bodies c a >>= λ body. cases_in bodies m (after_all c body) more >>= λ others. Ok (Case when body others)) (sym ok)) (fails_bind e _ _ h))
+    (bound_fails e (when_of m w) (bodies c a) (λ when body. Case when body No_case) (λ when body. cases_in bodies m (after_all c body) more >>= λ others. Ok (Case when body others)) h)
 
 -- at the end a default is pushed, or none
 pub cases_done : (bodies : Bodies) (m : ChoiceMacro) (before c : scene.Scene) (cases : List case.Case) (last : Option case.Case) (all here seen : List Span)
@@ -185,3 +206,23 @@ pub default_known : (before c c' : scene.Scene) (cases : List case.Case) (last :
     → c' ≡ after_cases before (followed (cases_of cases) (cases_of (option_to_list last)))
 default_known before c c' cases last k h =
     h ∙ ap (λ x. after_cases x (cases_of (option_to_list last))) (sym k) ∙ sym (after_followed (cases_of cases) (cases_of (option_to_list last)) before)
+
+-- ---- questions
+
+one_action : (q : Question) (first : Cases) (other : Result Cases ParseFault)
+    → (other >>= λ o. Ok (Choice (Asked q) (followed first o) Done)) ≡ ((other >>= λ o. Ok (followed first o)) >>= λ cases. Ok (Choice (Asked q) cases Done))
+one_action q first (Ok o) = refl
+one_action q first (Err f) = refl
+
+two_actions : (q : Question) (first : Result Cases ParseFault) (other : Cases → Result Cases ParseFault)
+    → (first >>= λ f. other f >>= λ o. Ok (Choice (Asked q) (followed f o) Done)) ≡ ((first >>= λ f. other f >>= λ o. Ok (followed f o)) >>= λ cases. Ok (Choice (Asked q) cases Done))
+two_actions q (Ok f) other = one_action q f (other f)
+two_actions q (Err f) other = refl
+
+-- a question that is read, and then its answers
+pub asked_is : (bodies : Bodies) (m : QuestionMacro) (c : scene.Scene) (args : List Span) (q : Question) → question_of c m args ≡ Ok q
+    → asked_of bodies m c args ≡ (answers_in bodies (after_question c q) (action_args m args) >>= λ cases. Ok (Choice (Asked q) cases Done))
+unfolding asked_of answers_in
+asked_is bodies m c args q is =
+    ap (λ r. r >>= λ q. action_in bodies Yes (after_question c q) (action_args m args) >>= λ first. action_in bodies No (after_cases (after_question c q) first) (drop 1 (action_args m args)) >>= λ other. Ok (Choice (Asked q) (followed first other) Done)) is
+    ∙ two_actions q (action_in bodies Yes (after_question c q) (action_args m args)) (λ first. action_in bodies No (after_cases (after_question c q) first) (drop 1 (action_args m args)))

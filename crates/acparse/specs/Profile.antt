@@ -84,6 +84,13 @@ cases_in bodies m c (w ∷ a ∷ more) = do
   others ← cases_in bodies m (after_all c body) more
   Ok (Case when body others)
 
+-- a case of what decides and a statement argument
+unfoldable pub case_of : Bodies → ChoiceMacro → scene.Scene → Span → Span → Result Cases ParseFault
+case_of bodies m c w a = do
+  when ← when_of m w
+  body ← bodies c a
+  Ok (Case when body No_case)
+
 -- AS_IF(test, statements, [test, statements].., [default]), AS_CASE(word, patterns, statements, .., [default])
 unfoldable pub choice_of : Bodies → ChoiceMacro → scene.Scene → List Span → Result Script ParseFault
 choice_of bodies m c args = do
@@ -102,6 +109,18 @@ action_args (Tries kind) args = drop 1 args
 unfoldable pub action_in : Bodies → When → scene.Scene → List Span → Result Cases ParseFault
 action_in bodies when c [] = Ok No_case
 action_in bodies when c (a ∷ more) = bodies c a >>= λ body. Ok (case_if when (is_given a) body)
+
+-- what decides for the case of an answer
+abbrev pub answer : Bool → When
+answer true = Yes
+answer false = No
+
+-- the first two of these arguments, as far as they are there: the case for yes and that for no
+unfoldable pub answers_in : Bodies → scene.Scene → List Span → Result Cases ParseFault
+answers_in bodies c args = do
+  first ← action_in bodies Yes c args
+  other ← action_in bodies No (after_cases c first) (drop 1 args)
+  Ok (followed first other)
 
 -- AC_ARG_ENABLE(feature, help, [for yes], [for no]), and AC_ARG_WITH alike; AC_COMPILE_IFELSE(program, [for yes], [for no]),
 -- and its like

@@ -6,7 +6,10 @@ ghost use Rattle.acargs.specs.Reading.{Gives, Fails};
 ghost use Rattle.acargs.specs.Stand.{no_edge};
 ghost use Rattle.acparse.specs.Profile as profile;
 ghost use Rattle.acparse.specs.Profile.{Adds};
+ghost use Rattle.acmacros.specs.declared.macros.Macro.TheVariants.{Plain};
 ghost use Rattle.acmacros.specs.declared.scene.Scene as scenes;
+ghost use Rattle.acmacros.specs.Rows.{question_of};
+ghost use Rattle.acmacros.specs.Scene.{after_question};
 ghost use Rattle.tree.specs.Known.{after_all, after_cases, after_subject};
 ghost use Rattle.tree.specs.Script.{script_of, cases_of, followed, Done};
 
@@ -20,7 +23,7 @@ use acargs::stand::{Edge, NO_EDGE, edge_of, is_statement};
 use acmacros::macros::{macro_named, takes};
 use acmacros::rows::{plain, question};
 use acmacros::scene::{as_statement, check_place, note, note_question};
-use acmacros::{ChoiceMacro, Macro, QuestionMacro, Scene, Stage};
+use acmacros::{ChoiceMacro, Macro, PlainMacro, Question, QuestionMacro, Scene, Stage};
 use m4quote::{Arg, Item, read_items_at};
 use std::alloc::{AllocError, Global};
 use tree::{Case, Stmt, Subject, When, choose};
@@ -193,6 +196,24 @@ fn read_default(
     }
 }
 
+/// The case of what decides and a statement argument.
+#[cycle(list)]
+#[tactic(auto, unfolding(crate::specs::Profile::case_of))]
+fn read_case(
+    alloc: Global,
+    room: u8,
+    scene: &mut Scene,
+    m: ChoiceMacro,
+    condition: Arg<'_>,
+    arg: Arg<'_>,
+) -> Result<Case, ParseFault>
+    ensures value { Gives (λ k. cases_of (k ∷ [])) result (profile.case_of (profile.body_of room) m scene.old (span condition.entry) (span arg.entry)) }
+    ensures after { IfOk result (λ k. scene.new ≡ after_all scene.old (script_of k.body.items)) }
+{
+    let when = when(alloc, m, condition)?;
+    read_body(alloc, room, scene, arg).map(|body| Case { when, body })
+}
+
 /// The cases of arguments.
 #[cycle(list)]
 fn read_cases(
@@ -208,9 +229,8 @@ fn read_cases(
     let mut cases = Vec::new(alloc);
     let mut i = 0;
     while i + 1 < args.len() {
-        let when = when(alloc, m, args[i])?;
-        let body = read_body(alloc, room, scene, args[i + 1])?;
-        cases.push(Case { when, body })?;
+        let case = read_case(alloc, room, scene, m, args[i], args[i + 1])?;
+        cases.push(case)?;
         i += 2;
     }
     let last = read_default(alloc, room, scene, m, &args[i..])?;
@@ -231,8 +251,14 @@ fn read_choice(
     ensures after { IfOk result (λ s. scene.new ≡ after_all scene.old (script_of (s ∷ []))) }
 {
     let subject = subject(alloc, m, args)?;
-    let cases = read_cases(alloc, room, scene, m, case_args(m, args))?;
-    Ok(choose(subject, cases))
+    read_cases(alloc, room, scene, m, case_args(m, args)).map(|cases| choose(subject, cases))
+}
+
+/// What decides for the case of an answer.
+fn answer(yes: bool) -> When
+    ensures { result ≡ profile.answer yes }
+{
+    if yes { When::Yes } else { When::No }
 }
 
 /// The case that the first of the arguments is, if there is one.
@@ -242,20 +268,50 @@ fn read_action(
     alloc: Global,
     room: u8,
     scene: &mut Scene,
-    when: When,
+    yes: bool,
     args: &[Arg<'_>],
 ) -> Result<Option<Case>, ParseFault>
-    ensures value { Gives (λ o. cases_of (option_to_list o)) result (profile.action_in (profile.body_of room) when scene.old (map span args.now)) }
+    ensures value { Gives (λ o. cases_of (option_to_list o)) result (profile.action_in (profile.body_of room) (profile.answer yes) scene.old (map span args.now)) }
     ensures after { IfOk result (λ o. scene.new ≡ after_cases scene.old (cases_of (option_to_list o))) }
 {
     match args {
         [] => Ok(None),
         [first, ..] => {
             let given = is_given(alloc, *first)?;
-            let body = read_body(alloc, room, scene, *first)?;
-            Ok(case_if(when, given, body))
+            read_body(alloc, room, scene, *first).map(|body| case_if(answer(yes), given, body))
         }
     }
+}
+
+/// The cases for yes and for no, as far as they are there.
+#[cycle(list)]
+#[tactic(auto, unfolding(crate::specs::Profile::answers_in))]
+fn read_answers(
+    alloc: Global,
+    room: u8,
+    scene: &mut Scene,
+    args: &[Arg<'_>],
+) -> Result<Vec<Case>, ParseFault>
+    ensures value { Gives (λ v. cases_of v.items) result (profile.answers_in (profile.body_of room) scene.old (map span args.now)) }
+    ensures after { IfOk result (λ v. scene.new ≡ after_cases scene.old (cases_of v.items)) }
+{
+    let first = read_action(alloc, room, scene, true, args)?;
+    let read = read_action(alloc, room, scene, false, behind_first(args));
+    read.and_then(|other| Ok(both(alloc, first, other)?))
+}
+
+/// What a macro asks.
+fn ask(
+    alloc: Global,
+    scene: &mut Scene,
+    m: QuestionMacro,
+    args: &[Arg<'_>],
+) -> Result<Question, ParseFault>
+    ensures value { Gives (λ q. q) result (question_of scene.old m (map span args.now)) }
+    ensures after { IfOk result (λ q. scene.new ≡ after_question scene.old q) }
+{
+    let question = question(alloc, scene, m, args)?;
+    Ok(note_question(alloc, scene, &question).map(|()| question)?)
 }
 
 /// AC_ARG_ENABLE, AC_COMPILE_IFELSE, or another macro that asks.
@@ -271,13 +327,26 @@ fn read_question(
     ensures value { Gives (λ s. script_of (s ∷ [])) result (profile.asked_of (profile.body_of room) m scene.old (map span args.now)) }
     ensures after { IfOk result (λ s. scene.new ≡ after_all scene.old (script_of (s ∷ []))) }
 {
-    let question = question(alloc, scene, m, args)?;
-    note_question(alloc, scene, &question)?;
-    let actions = action_args(m, args);
-    let first = read_action(alloc, room, scene, When::Yes, actions)?;
-    let other = read_action(alloc, room, scene, When::No, behind_first(actions))?;
-    let cases = both(alloc, first, other)?;
-    Ok(choose(Subject::Asked(question), cases))
+    let question = ask(alloc, scene, m, args)?;
+    read_answers(alloc, room, scene, action_args(m, args)).map(|cases| choose(
+        Subject::Asked(question),
+        cases,
+    ))
+}
+
+/// A statement without statements in it.
+fn read_plain(
+    alloc: Global,
+    scene: &mut Scene,
+    m: PlainMacro,
+    at: usize,
+    args: &[Arg<'_>],
+) -> Result<Stmt, ParseFault>
+    ensures value { Gives (λ s. script_of (s ∷ [])) result (profile.call_of (profile.body_of 0) scene.old (Plain m) at (map span args.now)) }
+    ensures after { IfOk result (λ s. scene.new ≡ after_all scene.old (script_of (s ∷ []))) }
+{
+    let s = plain(alloc, scene, m, at, args)?;
+    Ok(note(alloc, scene, &s).map(|()| Stmt::Plain(s))?)
 }
 
 /// The statement of a call of a macro whose name is at `at`.
@@ -294,11 +363,7 @@ fn read_call(
     ensures after { IfOk result (λ s. scene.new ≡ after_all scene.old (script_of (s ∷ []))) }
 {
     match m {
-        Macro::Plain(m) => {
-            let s = plain(alloc, scene, m, at, args)?;
-            note(alloc, scene, &s)?;
-            Ok(Stmt::Plain(s))
-        }
+        Macro::Plain(m) => read_plain(alloc, scene, m, at, args),
         Macro::Choice(m) => read_choice(alloc, room, scene, m, args),
         Macro::Question(m) => read_question(alloc, room, scene, m, args),
     }

@@ -5,7 +5,7 @@ ghost use Rattle.acargs.specs.declared.fault.ParseFault.TheVariants.{OutOfMemory
 ghost use Rattle.acargs.specs.Reading.{Gives};
 ghost use Rattle.acmacros.specs.Scene.{start};
 ghost use Rattle.tree.specs.Known.{after_all};
-ghost use Rattle.acparse.specs.Profile.{source_of};
+ghost use Rattle.acparse.specs.Profile.{ended, source_of};
 ghost use Rattle.tree.specs.Script.{Script, script_of};
 ghost use Rattle.acparse.specs.Source.{IsSource, IsSourceFault};
 ghost use Rattle.acparse.specs.Limits.{HasShortLists};
@@ -39,7 +39,33 @@ pub struct Source {
     pub files: Outputs,
 }
 
+/// Checks that a source may end here.
+fn check_end(scene: &Scene) -> Result<(), ParseFault>
+    ensures { (s : Script) → Gives (λ _. s) result (ended scene.now.stage s) }
+{
+    match scene.stage {
+        Stage::Before => Err(ParseFault::NoInit),
+        Stage::Open => Err(ParseFault::NoOutput),
+        Stage::Ended => Ok(()),
+    }
+}
+
+/// The statements of a whole source. The scene becomes the one after them.
 #[tactic(auto, unfolding(crate::specs::Profile::source_of))]
+fn read_whole(alloc: Global, scene: &mut Scene, text: &[u8]) -> Result<Vec<Stmt>, ParseFault>
+    requires { scene.now ≡ start }
+    ensures value { Gives (λ v. script_of v.items) result (source_of text.now) }
+    ensures after { IfOk result (λ v. scene.new ≡ after_all start (script_of v.items)) }
+{
+    let items = match read_items(alloc, text) {
+        Ok(items) => items,
+        Err(fault) => return Err(quote_fault(fault)),
+    };
+    let statements = read_statements(alloc, true, 31, scene, &items)?;
+    check_end(scene)?;
+    Ok(statements)
+}
+
 fn read_source(alloc: Global, text: &[u8]) -> Result<Source, ParseFault>
     ensures exact { Gives (λ s. script_of s.statements.items) result (source_of text.now) }
     ensures files { IfOk result (λ s. s.files ≡ (after_all start (script_of s.statements.items)).files) }
@@ -49,25 +75,17 @@ fn read_source(alloc: Global, text: &[u8]) -> Result<Source, ParseFault>
     ensures packages { IfOk result (λ s. s.packages ≡ (after_all start (script_of s.statements.items)).packages) }
     ensures help { IfOk result (λ s. s.help ≡ (after_all start (script_of s.statements.items)).help) }
 {
-    let items = match read_items(alloc, text) {
-        Ok(items) => items,
-        Err(fault) => return Err(quote_fault(fault)),
-    };
     let mut scene = Scene::new(alloc);
-    let statements = read_statements(alloc, true, 31, &mut scene, &items)?;
-    match scene.stage {
-        Stage::Before => Err(ParseFault::NoInit),
-        Stage::Open => Err(ParseFault::NoOutput),
-        Stage::Ended => Ok(Source {
-            statements,
-            substituted: scene.substituted,
-            precious: scene.precious,
-            features: scene.features,
-            packages: scene.packages,
-            help: scene.help,
-            files: scene.files,
-        }),
-    }
+    let read = read_whole(alloc, &mut scene, text);
+    read.map(|statements| Source {
+        statements,
+        substituted: scene.substituted,
+        precious: scene.precious,
+        features: scene.features,
+        packages: scene.packages,
+        help: scene.help,
+        files: scene.files,
+    })
 }
 
 /// Returns the source that a configure.ac is.

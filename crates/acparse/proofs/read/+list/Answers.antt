@@ -1,10 +1,10 @@
-use Rattle.std.proofs.Common.{map, ◌+◌, arith, ap, sym, ◌∙◌, Ok}
+use Rattle.std.proofs.Common.{rules, map, ◌+◌, arith, ap, sym, ◌∙◌, Ok}
 use Rattle.tree.specs.Known.{after_cases}
 use Rattle.tree.specs.Script.{Cases}
 use Rattle.std.proofs.lemmas.Result.{err_from_is_err_and}
 use Rattle.std.proofs.Math.ListN.{drop_of_length-le}
 use Rattle.m4quote.specs.Entry.{span, view, views}
-use Rattle.acparse.proofs.Steps.{views_drop, slice_from, call_adds, bare_adds, spans_drop, spans_front, items_step, items_stop, items_done, cases_step, cases_fail, when_fails, body_fails, cases_done, default_known}
+use Rattle.acparse.proofs.Steps.{views_drop, slice_from, call_adds, bare_adds, spans_drop, items_step, items_stop, items_done, cases_step, cases_fail, case_is, case_fails, cases_done, default_known, asked_is}
 use Rattle.acparse.proofs.read.+list.Goals as goal
 
 -- ---- items
@@ -35,23 +35,18 @@ read_item-returns-in_ok-push-in-Call t c =
 
 pub read_cases-loop-i-preserved : goal.read_cases-loop-i-preserved
 read_cases-loop-i-preserved t c =
-    let args = c.args.args.now in (
+    let args = c.args.args.now in
+    let read = case_is _ _ _ _ _ c.in_ok-case.case c.in_ok-case.ensures.value in (
       omega arith,
       cases_step _ _ _ _ _ _ _ _ _ _ _ _ _ (spans_drop args c.loop-i.i _ _ c.loop-i-test.true c.index-args-i.is c.index-args-i-in-loop-i.is)
-          c.loop-i.invariant.1 c.in_ok-when.ensures c.in_ok-body.ensures.value c.in_ok-body.ensures.after c.in_ok-push.ensures.items,
+          c.loop-i.invariant.1 read.0 read.1 c.in_ok-case.ensures.after c.in_ok-push.ensures.items,
     )
 
-pub read_cases-returns-in_err-when-clause-value : goal.read_cases-returns-in_err-when-clause-value
-read_cases-returns-in_err-when-clause-value t c =
+pub read_cases-returns-in_err-case-clause-value : goal.read_cases-returns-in_err-case-clause-value
+read_cases-returns-in_err-case-clause-value t c =
     let p = err_from_is_err_and c.from_residual.result c.from_residual.ensures.1 in
-    rw (p.1, p.2) (cases_fail c.in_err-when.field-0.0 _ _ _ _ _ _ _ c.loop-i.invariant.1
-    (when_fails _ _ _ _ _ _ _ _ (spans_front c.args.args.now c.loop-i.i _ c.loop-i-test.true c.index-args-i.is) c.in_err-when.ensures))
-
-pub read_cases-returns-in_err-body-clause-value : goal.read_cases-returns-in_err-body-clause-value
-read_cases-returns-in_err-body-clause-value t c =
-    let p = err_from_is_err_and c.from_residual-in_err-body.result c.from_residual-in_err-body.ensures.1 in
-    rw (p.1, p.2) (cases_fail c.in_err-body.field-0.0 _ _ _ _ _ _ _ c.loop-i.invariant.1
-    (body_fails _ _ _ _ _ _ _ _ c.in_ok-when.when (spans_drop c.args.args.now c.loop-i.i _ _ c.loop-i-test.true c.index-args-i.is c.index-args-i-in-loop-i.is) c.in_ok-when.ensures c.in_err-body.ensures.value))
+    rw (p.1, p.2) (cases_fail c.in_err-case.field-0.0 _ _ _ _ _ _ _ c.loop-i.invariant.1
+    (case_fails _ _ _ _ _ _ _ _ (spans_drop c.args.args.now c.loop-i.i _ _ c.loop-i-test.true c.index-args-i.is c.index-args-i-in-loop-i.is) c.in_err-case.ensures.value))
 
 pub read_cases-returns-clause-value : goal.read_cases-returns-clause-value
 read_cases-returns-clause-value t c =
@@ -62,3 +57,8 @@ pub read_cases-returns-clause-after : goal.read_cases-returns-clause-after
 read_cases-returns-clause-after t c =
     default_known _ _ _ c.loop-i.cases.items c.in_ok-last.last c.loop-i.invariant.1.known c.in_ok-last.ensures.after
     ∙ ap (after_cases c.args.scene.now) (sym c.in_ok-with_last.ensures)
+
+-- ---- questions
+
+pub read_question-returns-clause-value : goal.read_question-returns-clause-value
+read_question-returns-clause-value t c = rw (asked_is _ _ _ _ _ c.in_ok-question.ensures.value) (search rules)

@@ -11,6 +11,9 @@ decreases-read_body l = 8 * l.room
 abbrev pub decreases-read_default : goal.decreases-read_default
 decreases-read_default l = 8 * l.room + 1
 
+abbrev pub decreases-read_case : goal.decreases-read_case
+decreases-read_case l = 8 * l.room + 1
+
 abbrev pub decreases-read_cases : goal.decreases-read_cases
 decreases-read_cases l = 8 * l.room + 2
 
@@ -19,6 +22,9 @@ decreases-read_choice l = 8 * l.room + 3
 
 abbrev pub decreases-read_action : goal.decreases-read_action
 decreases-read_action l = 8 * l.room + 1
+
+abbrev pub decreases-read_answers : goal.decreases-read_answers
+decreases-read_answers l = 8 * l.room + 2
 
 abbrev pub decreases-read_question : goal.decreases-read_question
 decreases-read_question l = 8 * l.room + 3
