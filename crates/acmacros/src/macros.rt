@@ -1,6 +1,7 @@
 //! The table of macros.
 
 ghost use Rattle.std.specs.Prelude.{◌≡◌, map, length, IfOk};
+ghost use Rattle.std.specs.Str.{bytes_eq};
 ghost use Rattle.m4quote.specs.Entry.{span};
 ghost use Rattle.acmacros.specs.Table as table;
 
@@ -78,28 +79,35 @@ pub enum Named {
     Argument(ArgumentMacro),
 }
 
+/// Whether a name is this one.
+fn is(name: &[u8], known: &[u8]) -> bool
+    ensures { result ≡ bytes_eq name.now known.now }
+{
+    name == known
+}
+
 /// Macros that say what a source is and what it makes.
 #[tactic(auto, unfolding(crate::specs::Table::setting_named))]
 fn setting_named(name: &[u8]) -> Option<Macro>
     ensures { result ≡ table.setting_named name.now }
 {
-    if name == b"AC_INIT".as_slice() {
+    if is(name, b"AC_INIT") {
         Some(Macro::Plain(PlainMacro::Init))
-    } else if name == b"AC_PREREQ".as_slice() {
+    } else if is(name, b"AC_PREREQ") {
         Some(Macro::Plain(PlainMacro::Prereq))
-    } else if name == b"AC_CONFIG_SRCDIR".as_slice() {
+    } else if is(name, b"AC_CONFIG_SRCDIR") {
         Some(Macro::Plain(PlainMacro::Ignored))
-    } else if name == b"AC_CONFIG_AUX_DIR".as_slice() {
+    } else if is(name, b"AC_CONFIG_AUX_DIR") {
         Some(Macro::Plain(PlainMacro::Ignored))
-    } else if name == b"AC_CONFIG_MACRO_DIR".as_slice() {
+    } else if is(name, b"AC_CONFIG_MACRO_DIR") {
         Some(Macro::Plain(PlainMacro::Ignored))
-    } else if name == b"AC_CONFIG_MACRO_DIRS".as_slice() {
+    } else if is(name, b"AC_CONFIG_MACRO_DIRS") {
         Some(Macro::Plain(PlainMacro::Ignored))
-    } else if name == b"AC_LANG".as_slice() {
+    } else if is(name, b"AC_LANG") {
         Some(Macro::Plain(PlainMacro::Lang))
-    } else if name == b"AC_CONFIG_FILES".as_slice() {
+    } else if is(name, b"AC_CONFIG_FILES") {
         Some(Macro::Plain(PlainMacro::ConfigFiles))
-    } else if name == b"AC_OUTPUT".as_slice() {
+    } else if is(name, b"AC_OUTPUT") {
         Some(Macro::Plain(PlainMacro::Output))
     } else {
         None
@@ -111,17 +119,17 @@ fn setting_named(name: &[u8]) -> Option<Macro>
 fn action_named(name: &[u8]) -> Option<Macro>
     ensures { result ≡ table.action_named name.now }
 {
-    if name == b"AC_SUBST".as_slice() {
+    if is(name, b"AC_SUBST") {
         Some(Macro::Plain(PlainMacro::Subst))
-    } else if name == b"AC_DEFINE".as_slice() {
+    } else if is(name, b"AC_DEFINE") {
         Some(Macro::Plain(PlainMacro::Define))
-    } else if name == b"AC_DEFINE_UNQUOTED".as_slice() {
+    } else if is(name, b"AC_DEFINE_UNQUOTED") {
         Some(Macro::Plain(PlainMacro::DefineUnquoted))
-    } else if name == b"AC_MSG_ERROR".as_slice() {
+    } else if is(name, b"AC_MSG_ERROR") {
         Some(Macro::Plain(PlainMacro::MsgError))
-    } else if name == b"AS_IF".as_slice() {
+    } else if is(name, b"AS_IF") {
         Some(Macro::Choice(ChoiceMacro::If))
-    } else if name == b"AS_CASE".as_slice() {
+    } else if is(name, b"AS_CASE") {
         Some(Macro::Choice(ChoiceMacro::Case))
     } else {
         None
@@ -133,11 +141,11 @@ fn action_named(name: &[u8]) -> Option<Macro>
 fn option_named(name: &[u8]) -> Option<Macro>
     ensures { result ≡ table.option_named name.now }
 {
-    if name == b"AC_ARG_ENABLE".as_slice() {
+    if is(name, b"AC_ARG_ENABLE") {
         Some(Macro::Question(QuestionMacro::Given(OptionKind::Feature)))
-    } else if name == b"AC_ARG_WITH".as_slice() {
+    } else if is(name, b"AC_ARG_WITH") {
         Some(Macro::Question(QuestionMacro::Given(OptionKind::Package)))
-    } else if name == b"AC_ARG_VAR".as_slice() {
+    } else if is(name, b"AC_ARG_VAR") {
         Some(Macro::Plain(PlainMacro::ArgVar))
     } else {
         None
@@ -149,13 +157,13 @@ fn option_named(name: &[u8]) -> Option<Macro>
 fn search_named(name: &[u8]) -> Option<Macro>
     ensures { result ≡ table.search_named name.now }
 {
-    if name == b"AC_PROG_CC".as_slice() {
+    if is(name, b"AC_PROG_CC") {
         Some(Macro::Plain(PlainMacro::ProgCc))
-    } else if name == b"AC_CHECK_PROG".as_slice() {
+    } else if is(name, b"AC_CHECK_PROG") {
         Some(Macro::Plain(PlainMacro::CheckProg))
-    } else if name == b"AC_CHECK_PROGS".as_slice() {
+    } else if is(name, b"AC_CHECK_PROGS") {
         Some(Macro::Plain(PlainMacro::CheckProgs))
-    } else if name == b"AC_PATH_PROG".as_slice() {
+    } else if is(name, b"AC_PATH_PROG") {
         Some(Macro::Plain(PlainMacro::PathProg))
     } else {
         None
@@ -167,13 +175,13 @@ fn search_named(name: &[u8]) -> Option<Macro>
 fn try_named(name: &[u8]) -> Option<Macro>
     ensures { result ≡ table.try_named name.now }
 {
-    if name == b"AC_COMPILE_IFELSE".as_slice() {
+    if is(name, b"AC_COMPILE_IFELSE") {
         Some(Macro::Question(QuestionMacro::Tries(Try::Compile)))
-    } else if name == b"AC_LINK_IFELSE".as_slice() {
+    } else if is(name, b"AC_LINK_IFELSE") {
         Some(Macro::Question(QuestionMacro::Tries(Try::Link)))
-    } else if name == b"AC_PREPROC_IFELSE".as_slice() {
+    } else if is(name, b"AC_PREPROC_IFELSE") {
         Some(Macro::Question(QuestionMacro::Tries(Try::Preproc)))
-    } else if name == b"AC_RUN_IFELSE".as_slice() {
+    } else if is(name, b"AC_RUN_IFELSE") {
         Some(Macro::Question(QuestionMacro::Tries(Try::Run)))
     } else {
         None
@@ -185,11 +193,11 @@ fn try_named(name: &[u8]) -> Option<Macro>
 fn argument_named(name: &[u8]) -> Option<ArgumentMacro>
     ensures { result ≡ table.argument_named name.now }
 {
-    if name == b"AS_HELP_STRING".as_slice() {
+    if is(name, b"AS_HELP_STRING") {
         Some(ArgumentMacro::HelpString)
-    } else if name == b"AC_LANG_PROGRAM".as_slice() {
+    } else if is(name, b"AC_LANG_PROGRAM") {
         Some(ArgumentMacro::LangProgram)
-    } else if name == b"AC_LANG_SOURCE".as_slice() {
+    } else if is(name, b"AC_LANG_SOURCE") {
         Some(ArgumentMacro::LangSource)
     } else {
         None

@@ -65,20 +65,22 @@ pub fn note(alloc: Global, scene: &mut Scene, statement: &Plain) -> Result<(), A
 {
     match statement {
         Plain::Init { .. } => scene.stage = Stage::Open,
-        Plain::ConfigFiles { outputs } => scene.files.push_copies(alloc, outputs.as_slice())?,
+        Plain::ConfigFiles { outputs } => {
+            return scene.files.push_copies(alloc, outputs.as_slice());
+        }
         Plain::Subst { name } | Plain::SubstValue { name, .. } => {
-            scene.substituted.add(name.as_slice())?
+            return scene.substituted.add(name.as_slice());
         }
         Plain::CheckProg { variable, .. }
         | Plain::CheckProgs { variable, .. }
-        | Plain::PathProg { variable, .. } => scene.substituted.add(variable.as_slice())?,
-        Plain::ProgCc { .. } => note_tools(scene)?,
+        | Plain::PathProg { variable, .. } => return scene.substituted.add(variable.as_slice()),
+        Plain::ProgCc { .. } => return note_tools(scene),
         Plain::Accepted
         | Plain::Assign { .. }
         | Plain::Define { .. }
         | Plain::DefineUnquoted { .. }
         | Plain::Error { .. } => {}
-        Plain::ArgVar { name, help } => note_variable(alloc, scene, name, help)?,
+        Plain::ArgVar { name, help } => return note_variable(alloc, scene, name, help),
         Plain::Output => scene.stage = Stage::Ended,
     }
     Ok(())
