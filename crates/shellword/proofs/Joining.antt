@@ -1,5 +1,5 @@
 -- Tokens joined to a test, one after the other.
-use Rattle.std.proofs.Common.{◌≡◌, ℕ, ◌<◌, true, false, List, [], ◌∷◌, ◌++◌, length, Option, Some, Result, Ok, Err, refl, sym, ap, ◌∙◌, arith}
+use Rattle.std.proofs.Common.{◌≡◌, ℕ, ◌<◌, List, [], ◌∷◌, ◌++◌, length, Option, Some, Result, Ok, Err, refl, sym, ap, ◌∙◌, arith, if◌then◌else◌}
 use Rattle.std.specs.List.{list_all}
 use Rattle.shellword.specs.declared.fault.ShellFault.{ShellFault}
 use Rattle.shellword.specs.declared.fault.ShellFault.TheVariants.{BadTest}
@@ -32,19 +32,12 @@ module _ (before : Option (Joined × Joint)) (words : List (List Part)) (at : �
   unfolding joining
   on_newline e none = sym (ap (joining before words at) is ∙ ap (λ (x : Token). joining before words at (x ∷ rest)) e ∙ ap (λ (ws : List (List Part)). joining before ws at (Newline ∷ rest)) none ∙ sym (ap (λ (ws : List (List Part)). joining before ws at rest) none)) ∙ so_far
 
-pub last_newline : (before : Option (Joined × Joint)) (words : List (List Part)) (at : ℕ) (tokens rest : List Token) (t : Token) (total : Result Joined ShellFault) → tokens ≡ t ∷ rest → joining before words at tokens ≡ total
-    → t ≡ Newline → 0 < length words → list_all is_newline rest ≡ true → total ≡ ended before words at
+pub on_line_end : (before : Option (Joined × Joint)) (words : List (List Part)) (at : ℕ) (tokens rest : List Token) (t : Token) (total : Result Joined ShellFault) → tokens ≡ t ∷ rest → joining before words at tokens ≡ total
+    → t ≡ Newline → 0 < length words → total ≡ (if list_all is_newline rest then ended before words at else Err (BadTest at))
 unfolding joining
-last_newline before [] at tokens rest t total is so_far e some all = absurd (omega arith)
-last_newline before (w ∷ ws) at tokens rest t total is so_far e some all =
-    sym so_far ∙ ap (joining before (w ∷ ws) at) is ∙ ap (λ (x : Token). joining before (w ∷ ws) at (x ∷ rest)) e ∙ rw all refl
-
-pub early_newline : (before : Option (Joined × Joint)) (words : List (List Part)) (at : ℕ) (tokens rest : List Token) (t : Token) (total : Result Joined ShellFault) → tokens ≡ t ∷ rest → joining before words at tokens ≡ total
-    → t ≡ Newline → 0 < length words → list_all is_newline rest ≡ false → total ≡ Err (BadTest at)
-unfolding joining
-early_newline before [] at tokens rest t total is so_far e some all = absurd (omega arith)
-early_newline before (w ∷ ws) at tokens rest t total is so_far e some all =
-    sym so_far ∙ ap (joining before (w ∷ ws) at) is ∙ ap (λ (x : Token). joining before (w ∷ ws) at (x ∷ rest)) e ∙ rw all refl
+on_line_end before [] at tokens rest t total is so_far e some = absurd (omega arith)
+on_line_end before (w ∷ ws) at tokens rest t total is so_far e some =
+    sym so_far ∙ ap (joining before (w ∷ ws) at) is ∙ ap (λ (x : Token). joining before (w ∷ ws) at (x ∷ rest)) e
 
 pub at_end : (before : Option (Joined × Joint)) (words : List (List Part)) (at : ℕ) (tokens : List Token) (total : Result Joined ShellFault) → tokens ≡ [] → joining before words at tokens ≡ total → total ≡ ended before words at
 unfolding joining

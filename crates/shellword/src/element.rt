@@ -1,6 +1,6 @@
 //! The elements of a test.
 
-ghost use Rattle.std.specs.Prelude.{◌≡◌, ◌∷◌, [], List, false, option_map, bytes_eq, IfOk};
+ghost use Rattle.std.specs.Prelude.{◌≡◌, ◌==◌, ◌∷◌, [], List, false, length, option_map, bytes_eq, IfOk};
 ghost use Rattle.shellword.specs.Element.{part_is, word_is, negated, negated_if, one_word, two_words, three_words, four_words, condition_of, constant_of, command_of, element_of};
 ghost use Rattle.shellword.specs.Value.{word_value};
 ghost use Rattle.shellword.specs.Truth.{condition_truth, element_truth};
@@ -71,12 +71,20 @@ impl Condition {
         match self {
             Condition::True => Ok(true),
             Condition::False => Ok(false),
-            Condition::Nonempty(word) => Ok(!word.value(alloc, vars)?.is_empty()),
-            Condition::Empty(word) => Ok(word.value(alloc, vars)?.is_empty()),
+            Condition::Nonempty(word) => Ok(!is_empty(alloc, word, vars)?),
+            Condition::Empty(word) => is_empty(alloc, word, vars),
             Condition::Equal(left, right) => are_equal(alloc, left, right, vars),
             Condition::Different(left, right) => Ok(!are_equal(alloc, left, right, vars)?),
         }
     }
+}
+
+/// Whether the value of a word is empty.
+fn is_empty(alloc: Global, word: &Word, vars: &Vars) -> Result<bool, AllocError>
+    ensures { IfOk result (λ b. b ≡ (length (word_value word.now vars.now) == 0)) }
+{
+    let value = word.value(alloc, vars)?;
+    Ok(value.is_empty())
 }
 
 /// Whether two words have one value.

@@ -1,15 +1,15 @@
 //! Tests: elements joined by `&&` and `||`.
 
-ghost use Rattle.std.specs.Prelude.{◌≡◌, ◌≢◌, ◌≤◌, ◌∷◌, [], ◌++◌, ℕ, List, None, Ok, take, length, IfOk, IfErr};
+ghost use Rattle.std.specs.Prelude.{◌≡◌, ◌≢◌, ◌≤◌, ◌∷◌, [], ◌++◌, ℕ, List, None, Ok, Err, take, length, IfOk, IfErr, if◌then◌else◌};
 ghost use Rattle.std.specs.List.{list_all};
 ghost use Rattle.shellword.specs.Faults.{IsTestFault};
 ghost use Rattle.shellword.specs.Gives.{Gives};
-ghost use Rattle.shellword.specs.Joining.{ended, joining, test_of};
+ghost use Rattle.shellword.specs.Joining.{with_element, ended, joining, test_of};
 ghost use Rattle.shellword.specs.Nested.{nested};
 ghost use Rattle.shellword.specs.Test.{IsTest, IsFaultOfTest};
 ghost use Rattle.shellword.specs.Tokens.{is_newline};
 ghost use Rattle.shellword.specs.Truth.{Joined, single, joined, joint_truth, truth};
-ghost use Rattle.shellword.specs.declared.fault.ShellFault.TheVariants.{OutOfMemory};
+ghost use Rattle.shellword.specs.declared.fault.ShellFault.TheVariants.{BadTest, OutOfMemory};
 
 use crate::element::{Element, element_of};
 use crate::fault::ShellFault;
@@ -19,6 +19,7 @@ use deftable::Vars;
 use std::alloc::{AllocError, Global};
 use std::collections::VecDeque;
 use std::marker::Model;
+use std::mem;
 
 /// A test that was read: contracts see an element, or a test joined with one element more.
 #[derive(Debug, Drop)]
@@ -104,27 +105,41 @@ impl Test {
     }
 }
 
-/// The test up to the end of an element of these words, which begins at `at`.
-fn end_element(
+/// A test, or one that `before` holds with its joint, joined with an element.
+fn with_element(
     alloc: Global,
     before: Option<(Test, Joint)>,
-    words: VecDeque<Word>,
-    at: usize,
+    element: Element,
 ) -> Result<Test, ShellFault>
-    ensures value { Gives (λ t. t) result (ended before words.items at) }
-    ensures fault { IfErr result (IsTestFault at) }
+    ensures ok { IfOk result (λ t. t ≡ with_element before element) }
+    ensures err { IfErr result (λ e. e ≡ OutOfMemory) }
 {
-    let Some(element) = element_of(words) else {
-        return Err(ShellFault::BadTest(at));
-    };
     match before {
         None => Ok(Test::single(alloc, element)),
         Some((test, joint)) => test.joined(joint, element),
     }
 }
 
-fn are_newlines(mut tokens: VecDeque<Token>) -> bool
-    ensures { result ≡ list_all is_newline tokens.items }
+/// The test up to the end of an element of these words, which begins at `at`. Takes the words and what is before them.
+fn end_element(
+    alloc: Global,
+    before: &mut Option<(Test, Joint)>,
+    words: &mut VecDeque<Word>,
+    at: usize,
+) -> Result<Test, ShellFault>
+    ensures value { Gives (λ t. t) result (ended before.old words.old.items at) }
+    ensures fault { IfErr result (IsTestFault at) }
+    ensures taken { words.new.items ≡ [] }
+{
+    let words = mem::replace(words, VecDeque::new(alloc));
+    match element_of(words) {
+        Some(element) => with_element(alloc, before.take(), element),
+        None => Err(ShellFault::BadTest(at)),
+    }
+}
+
+fn are_newlines(tokens: &mut VecDeque<Token>) -> bool
+    ensures { result ≡ list_all is_newline tokens.old.items }
 {
     while let Some(token) = tokens.pop_front() {
         match token {
@@ -135,12 +150,32 @@ fn are_newlines(mut tokens: VecDeque<Token>) -> bool
     true
 }
 
-/// The test that the tokens of a text are.
-fn join_tokens(alloc: Global, mut tokens: VecDeque<Token>) -> Result<Test, ShellFault>
-    ensures value { Gives (λ t. t) result (joining None [] 0 tokens.items) }
+/// The test up to the newline after these words, if it is the end: newlines alone may be after it.
+fn end_line(
+    alloc: Global,
+    before: &mut Option<(Test, Joint)>,
+    words: &mut VecDeque<Word>,
+    at: usize,
+    tokens: &mut VecDeque<Token>,
+) -> Result<Test, ShellFault>
+    ensures value { Gives (λ t. t) result (if list_all is_newline tokens.old.items then ended before.old words.old.items at else Err (BadTest at)) }
 {
-    let mut before: Option<(Test, Joint)> = None;
-    let mut words = VecDeque::new(alloc);
+    if are_newlines(tokens) {
+        end_element(alloc, before, words, at)
+    } else {
+        Err(ShellFault::BadTest(at))
+    }
+}
+
+/// The test that tokens are, after what `before` holds and the words of an element that begins at 0. Takes them all.
+fn join_all(
+    alloc: Global,
+    before: &mut Option<(Test, Joint)>,
+    words: &mut VecDeque<Word>,
+    tokens: &mut VecDeque<Token>,
+) -> Result<Test, ShellFault>
+    ensures value { Gives (λ t. t) result (joining before.old words.old.items 0 tokens.old.items) }
+{
     let mut at = 0;
     while let Some(token) = tokens.pop_front() {
         match token {
@@ -149,22 +184,25 @@ fn join_tokens(alloc: Global, mut tokens: VecDeque<Token>) -> Result<Test, Shell
             }
             Token::Join(joint, behind) => {
                 let test = end_element(alloc, before, words, at)?;
-                before = Some((test, joint));
-                words = VecDeque::new(alloc);
+                *before = Some((test, joint));
                 at = behind;
             }
             // No text of a test has one: `tests_have_no_bars`.
             Token::Bar(_) => return Err(ShellFault::BadTest(at)),
             Token::Newline if words.is_empty() => {}
-            Token::Newline => {
-                if are_newlines(tokens) {
-                    return end_element(alloc, before, words, at);
-                }
-                return Err(ShellFault::BadTest(at));
-            }
+            Token::Newline => return end_line(alloc, before, words, at, tokens),
         }
     }
     end_element(alloc, before, words, at)
+}
+
+/// The test that the tokens of a text are.
+fn join_tokens(alloc: Global, mut tokens: VecDeque<Token>) -> Result<Test, ShellFault>
+    ensures value { Gives (λ t. t) result (joining None [] 0 tokens.items) }
+{
+    let mut before = None;
+    let mut words = VecDeque::new(alloc);
+    join_all(alloc, &mut before, &mut words, &mut tokens)
 }
 
 #[tactic(auto, unfolding(crate::specs::Joining::test_of))]

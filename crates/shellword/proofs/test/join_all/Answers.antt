@@ -3,8 +3,8 @@ use Rattle.std.proofs.lemmas.Result.{err_from_is_err_and}
 use Rattle.std.proofs.lemmas.Bool.{eqb-true, eqb-false}
 use Rattle.shellword.proofs.Elements.{none_left}
 use Rattle.shellword.proofs.Outcome.{fails_along, given_by}
-use Rattle.shellword.proofs.Joining.{on_word, on_join_failed, on_join, on_bar, on_newline, last_newline, early_newline, at_end}
-use Rattle.shellword.proofs.test.join_tokens.Goals as goal
+use Rattle.shellword.proofs.Joining.{on_word, on_join_failed, on_join, on_bar, on_newline, on_line_end, at_end}
+use Rattle.shellword.proofs.test.join_all.Goals as goal
 
 pub loop-token-preserved-in-Continue-1 : goal.loop-token-preserved-in-Continue-1
 loop-token-preserved-in-Continue-1 c =
@@ -19,7 +19,7 @@ returns-in_err-test-in-Join c =
 
 pub loop-token-preserved-in-Join : goal.loop-token-preserved-in-Join
 loop-token-preserved-in-Join c =
-    on_join c.loop-token.before c.loop-token.words.items c.loop-token.at c.loop-token.tokens.items c.pop_front.new.self.items c.in-Some.token _ c.in-Some.ensures.items c.loop-token.invariant c.in-Join.joint c.in-Join.behind c.in_ok-test-in-Join.test c.new-words-in-Join.result.items c.in-Join.is c.in_ok-test-in-Join.ensures.value c.new-words-in-Join.ensures.items
+    on_join c.loop-token.before c.loop-token.words.items c.loop-token.at c.loop-token.tokens.items c.pop_front.new.self.items c.in-Some.token _ c.in-Some.ensures.items c.loop-token.invariant c.in-Join.joint c.in-Join.behind c.in_ok-test-in-Join.test c.end_element.new.words.items c.in-Join.is c.in_ok-test-in-Join.ensures.value c.in_ok-test-in-Join.ensures.taken
 
 pub returns-in-Bar : goal.returns-in-Bar
 returns-in-Bar c = record {
@@ -32,20 +32,12 @@ loop-token-preserved c =
     let none : length c.loop-token.words.items ≡ 0 = omega (arith, n, c.loop-token.words.ok) in
     on_newline c.loop-token.before c.loop-token.words.items c.loop-token.at c.loop-token.tokens.items c.pop_front.new.self.items c.in-Some.token _ c.in-Some.ensures.items c.loop-token.invariant c.in-Newline.is (none_left c.loop-token.words.items none)
 
-pub returns-then-are_newlines : goal.returns-then-are_newlines
-returns-then-are_newlines c =
-    let n = eqb-false _ 0 (sym c.if-is_empty.ensures) in
-    let some : 0 < length c.loop-token.words.items = omega (arith, n, c.loop-token.words.ok) in
-    record {
-      value = given_by (λ t. t) c.end_element-then-are_newlines.result _ _ (last_newline c.loop-token.before c.loop-token.words.items c.loop-token.at c.loop-token.tokens.items c.pop_front.new.self.items c.in-Some.token _ c.in-Some.ensures.items c.loop-token.invariant c.in-Newline-2.is some (sym c.if-are_newlines.ensures)) c.end_element-then-are_newlines.ensures.value;
-    }
-
 pub returns-in-Newline-2 : goal.returns-in-Newline-2
 returns-in-Newline-2 c =
     let n = eqb-false _ 0 (sym c.if-is_empty.ensures) in
     let some : 0 < length c.loop-token.words.items = omega (arith, n, c.loop-token.words.ok) in
     record {
-      value = early_newline c.loop-token.before c.loop-token.words.items c.loop-token.at c.loop-token.tokens.items c.pop_front.new.self.items c.in-Some.token _ c.in-Some.ensures.items c.loop-token.invariant c.in-Newline-2.is some (sym c.if-are_newlines.ensures);
+      value = given_by (λ t. t) c.end_line.result _ _ (on_line_end c.loop-token.before c.loop-token.words.items c.loop-token.at c.loop-token.tokens.items c.pop_front.new.self.items c.in-Some.token _ c.in-Some.ensures.items c.loop-token.invariant c.in-Newline-2.is some) c.end_line.ensures.value;
     }
 
 pub returns : goal.returns
