@@ -35,8 +35,6 @@ mod order;
 mod process;
 mod reply;
 mod room;
-#[cfg(test)]
-mod tests;
 
 pub use calls::Crew;
 pub use event::{CrewEvent, Event, Refused};

@@ -33,6 +33,3 @@ mod store;
 mod wait;
 
 pub use machine::{Machine, Outcome, Phase, RunEnd, Turn};
-
-#[cfg(test)]
-mod tests;

@@ -30,6 +30,3 @@ mod weight;
 pub use compiling::{compile, compile_statements};
 pub use fault::PlanFault;
 pub use step::{Plan, Step};
-
-#[cfg(test)]
-mod tests;

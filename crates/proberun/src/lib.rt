@@ -26,6 +26,3 @@ mod slots;
 pub use agreeing::runs_agree;
 pub use machine::{Machine, Outcome, RunEnd, Turn};
 pub use running::run;
-
-#[cfg(test)]
-mod tests;

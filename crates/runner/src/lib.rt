@@ -20,10 +20,3 @@ mod texts;
 
 pub use fault::{Fault, FilterFault};
 pub use filtering::{Filtered, filter};
-
-#[cfg(test)]
-mod probe_tests;
-#[cfg(test)]
-mod standin_tests;
-#[cfg(test)]
-mod tests;

@@ -1,7 +1,7 @@
 use Rattle.std.proofs.Common.{◌≡◌, ℕ, ◌+◌, ◌≤◌, false}
 use Rattle.crew.specs.Events.{busy}
-use Rattle.crew.proofs.FlightLemmas.{Flies}
-use Rattle.crew.proofs.tests.run_all.Given as goal
+use Rattle.run_tests.proofs.FlightLemmas.{Flies}
+use Rattle.run_tests.proofs.crews.ends_of.Given as goal
 
 abbrev pub invariant-starts : goal.invariant-starts
 invariant-starts g l =

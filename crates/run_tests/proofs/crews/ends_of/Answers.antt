@@ -1,14 +1,14 @@
 use Rattle.std.proofs.Common.{◌≡◌, ◌+◌, ◌-◌, ◌<◌, ◌∙◌, arith}
-use Rattle.crew.proofs.FlightLemmas.{flies_start, flies_some, flies_end, free_after, failure_most}
-use Rattle.crew.proofs.tests.run_all.Goals as goal
+use Rattle.run_tests.proofs.FlightLemmas.{flies_start, flies_some, flies_end, free_after, failure_most}
+use Rattle.run_tests.proofs.crews.ends_of.Goals as goal
 
 pub starts-preserved : goal.starts-preserved
 starts-preserved g c =
     let before = (g.C.Crew.account c.starts.crew).events in
     let after = (g.C.Crew.account c.start.new.self).events in
     record {
-      flies = flies_start c.starts.slot before after c.starts.slot c.in_ok-job.job _ c.starts.invariant.flies (c.starts.invariant.free c.starts.slot (omega arith)) c.in_ok-start.ensures.taken;
-      free = free_after before after c.starts.slot c.in_ok-job.job _ c.starts.invariant.free c.in_ok-start.ensures.taken;
+      flies = flies_start c.starts.slot before after c.starts.slot c.in_ok-one.one _ c.starts.invariant.flies (c.starts.invariant.free c.starts.slot (omega arith)) c.in_ok-start.ensures.taken;
+      free = free_after before after c.starts.slot c.in_ok-one.one _ c.starts.invariant.free c.in_ok-start.ensures.taken;
       attempts = omega (arith, c.start.ensures.number, c.starts.invariant.attempts);
       failures = c.in_ok-start.ensures.taken_count ∙ c.starts.invariant.failures;
     }

@@ -1,6 +1,6 @@
 use Rattle.std.proofs.Common.{◌≡◌, ℕ, ◌≤◌, false}
 use Rattle.crew.specs.Events.{busy}
-use Rattle.crew.proofs.tests.taken.Given as goal
+use Rattle.run_tests.proofs.crews.taken.Given as goal
 
 abbrev pub invariant-starts : goal.invariant-starts
 invariant-starts g l =
