@@ -22,8 +22,6 @@
 
 mod calls;
 mod child;
-#[cfg(test)]
-mod child_tests;
 mod children;
 mod diagnostics;
 mod event;

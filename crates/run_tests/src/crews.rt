@@ -14,7 +14,7 @@ use std::test::Fail;
 use textcut::{fields, parts};
 
 /// A job of these words, with commas between them, and no conftest.
-fn job_of(alloc: Global, text: &[u8]) -> Result<Job, AllocError> {
+pub fn job_of(alloc: Global, text: &[u8]) -> Result<Job, AllocError> {
     let mut words = Words::new(alloc);
     if !text.is_empty() {
         for word in &parts(alloc, text, b',')? {
@@ -25,7 +25,7 @@ fn job_of(alloc: Global, text: &[u8]) -> Result<Job, AllocError> {
 }
 
 /// Starts a job so many times, in the slots from 0 on, and gives the ends in their order.
-fn ends_of<C: Crew>(
+pub fn ends_of<C: Crew>(
     alloc: Global,
     crew: &mut C,
     count: usize,
@@ -205,12 +205,19 @@ fn a_child_that_lives_on(rt: HostRuntime) -> Result<(), Fail> {
     Ok(())
 }
 
-/// What the only child said.
-fn text_of(ends: Vec<(usize, Reply)>) -> Result<Bytes, Fail> {
-    let mut ends = ends;
+/// The reply of the only end.
+pub fn only_reply(mut ends: Vec<(usize, Reply)>) -> Result<Reply, Fail> {
     match ends.pop() {
-        Some((_, Reply::Answer { text, .. })) => Ok(text),
-        _ => Err(Fail::new("refused")),
+        Some((_, reply)) => Ok(reply),
+        None => Err(Fail::new("no end")),
+    }
+}
+
+/// What a child said.
+fn text_of(reply: Reply) -> Result<Bytes, Fail> {
+    match reply {
+        Reply::Answer { text, .. } => Ok(text),
+        Reply::StartRefused | Reply::EndRefused => Err(Fail::new("refused")),
     }
 }
 
@@ -218,7 +225,7 @@ fn text_of(ends: Vec<(usize, Reply)>) -> Result<Bytes, Fail> {
 #[test]
 fn a_child_that_writes_without_end(rt: HostRuntime) -> Result<(), Fail> {
     let job = job_of(rt.alloc(), b"sh,-c,yes abcdefg | head -c 8388608 >&2")?;
-    let text = text_of(children(&rt, 1, &job)?)?;
+    let text = text_of(only_reply(children(&rt, 1, &job)?)?)?;
     assert_eq!(rt; text.len(), 65_536);
     assert!(rt; text.as_slice().starts_with(b"abcdefg\nabcdefg\n"));
     assert!(rt; text.as_slice().ends_with(b"abcdefg\nabcdefg\n"));

@@ -1,12 +1,14 @@
 //! Tests of the crates that run a source: real children, streams that fail, and an ordinary answer of each call.
 //!
 //! No clause can say that memory is left, what the system answers, or how a fault is printed. `crews` has crews in memory and
-//! real children, `plans` what a source weighs and its steps, `machines` a machine that a test answers, `runs` whole runs,
+//! real children, `broken_children` those whose pipe or end fails, `plans` what a source weighs and its steps, `machines` a machine that a test answers, `runs` whole runs,
 //! `commands` the filter and the program's commands over streams that fail, and `stand_ins` the stand-in for a compiler, as a
 //! child too. `texts` reads the rows of a test, `engine` calls what has long contracts, and `folders` gives a test a folder of
 //! its own.
 #![tactic(auto)]
 
+#[cfg(test)]
+mod broken_children;
 #[cfg(test)]
 mod commands;
 #[cfg(test)]
