@@ -1,8 +1,8 @@
 //! Children whose pipe or end fails where a test says so.
 
-use crate::crews::{ends_of, job_of, only_reply};
+use crate::crews::{ends_in, job_of, only_reply};
 use crate::texts::{number_of, part, put_number, rows};
-use crew::{ProcessCrew, Reply};
+use crew::Reply;
 use std::alloc::{AllocError, Allocator, Global};
 use std::cell::Cell;
 use std::fs::{Metadata, OpenOptions};
@@ -189,8 +189,7 @@ fn put_answer(alloc: Global, out: &mut Vec<u8>, reply: &Reply) -> Result<(), All
 /// The reply to the only job of a crew over this system.
 fn reply_of(alloc: Global, system: System<'_>) -> Result<Reply, Fail> {
     let job = job_of(alloc, b"true")?;
-    let mut crew = ProcessCrew::new(system, alloc)?;
-    only_reply(ends_of(alloc, &mut crew, 1, &job)?)
+    only_reply(ends_in(alloc, system, 1, &job)?)
 }
 
 /// What the end of a row's child answers: its pipe and its status; and how often it was waited for.

@@ -144,14 +144,17 @@ fn reads(rt: HostRuntime) -> Result<(), Fail> {
     Ok(())
 }
 
+/// What the filter answers on a text where nothing can be written.
+fn answer_to_none(alloc: Global, mut text: &[u8]) -> Result<Vec<u8>, AllocError> {
+    answer(alloc, &mut text, &mut Broken)
+}
+
 #[test]
 fn a_writer_that_fails(rt: HostRuntime) -> Result<(), Fail> {
-    let mut reader = DEMO;
-    let found = answer(rt.alloc(), &mut reader, &mut Broken)?;
+    let found = answer_to_none(rt.alloc(), DEMO)?;
     assert_eq!(rt; found.as_slice(), b"file standard output".as_slice());
     // What isn't right is told first.
-    let mut reader = b"%%".as_slice();
-    let found = answer(rt.alloc(), &mut reader, &mut Broken)?;
+    let found = answer_to_none(rt.alloc(), b"%%")?;
     assert_eq!(rt; found.as_slice(), b"parse 8".as_slice());
     Ok(())
 }

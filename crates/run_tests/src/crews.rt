@@ -10,6 +10,8 @@ use crew::{Crew, Event, MemoryCrew, Order, ProcessCrew, Reply, SlotList};
 use deftable::Bytes;
 use std::alloc::{AllocError, Global};
 use std::fs;
+use std::process::Processes;
+use std::rt::Files;
 use std::test::Fail;
 use textcut::{fields, parts};
 
@@ -25,7 +27,7 @@ pub fn job_of(alloc: Global, text: &[u8]) -> Result<Job, AllocError> {
 }
 
 /// Starts a job so many times, in the slots from 0 on, and gives the ends in their order.
-pub fn ends_of<C: Crew>(
+fn ends_of<C: Crew>(
     alloc: Global,
     crew: &mut C,
     count: usize,
@@ -165,10 +167,20 @@ fn a_list_refuses(rt: HostRuntime) -> Result<(), Fail> {
 
 // ---- real children
 
-/// The ends of so many children.
+/// The ends of so many children of a system.
+pub fn ends_in<R: Files + Processes + Drop>(
+    alloc: Global,
+    rt: R,
+    count: usize,
+    job: &Job,
+) -> Result<Vec<(usize, Reply)>, Fail> {
+    let mut crew = ProcessCrew::new(rt, alloc)?;
+    ends_of(alloc, &mut crew, count.min(16), job)
+}
+
+/// The ends of so many real children.
 fn children(rt: &HostRuntime, count: usize, job: &Job) -> Result<Vec<(usize, Reply)>, Fail> {
-    let mut crew = ProcessCrew::new(rt.clone()?, rt.alloc())?;
-    ends_of(rt.alloc(), &mut crew, count.min(16), job)
+    ends_in(rt.alloc(), rt.clone()?, count, job)
 }
 
 /// The end of one child.
@@ -298,9 +310,18 @@ fn a_conftest_of_a_mebibyte(rt: HostRuntime) -> Result<(), Fail> {
     leave(&rt, "large_conftest")
 }
 
+/// Whether the start of a job is refused.
+fn is_refused_by<R: Files + Processes + Drop>(
+    alloc: Global,
+    rt: R,
+    job: &Job,
+) -> Result<bool, AllocError> {
+    let mut crew = ProcessCrew::new(rt, alloc)?;
+    Ok(taken(alloc, &mut crew, 1, job)? == 0)
+}
+
 fn is_refused(rt: &HostRuntime, job: &Job) -> Result<bool, Fail> {
-    let mut crew = ProcessCrew::new(rt.clone()?, rt.alloc())?;
-    Ok(taken(rt.alloc(), &mut crew, 1, job)? == 0)
+    Ok(is_refused_by(rt.alloc(), rt.clone()?, job)?)
 }
 
 #[test]

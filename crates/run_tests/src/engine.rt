@@ -1,13 +1,17 @@
 //! Calls of the engine, each in a function without a contract: what is proved of them is not needed here, and would make each
 //! function that calls them slow to check.
 
+ghost use Rattle.std.specs.Prelude.{◌≡◌, ◌≤◌, []};
+
 use crate::texts::put_number;
 use acparse::{ParseFault, Source, Stmt, parse};
-use crew::{Event, MemoryCrew, Order, ProcessCrew, Reply};
+use crew::{Crew, Event, MemoryCrew, Order, ProcessCrew, Reply};
 use deftable::Vars;
 use plan::{Plan, PlanFault, compile, compile_statements};
 use proberun::{Outcome, RunEnd, run};
 use std::alloc::{AllocError, Global};
+use std::process::Processes;
+use std::rt::Files;
 use std::test::Fail;
 
 fn parsed(alloc: Global, text: &[u8]) -> Result<Source, ParseFault> {
@@ -30,6 +34,21 @@ pub fn plan_of_statements(alloc: Global, statements: &[Stmt]) -> Result<Plan<'_>
     compile_statements(alloc, statements)
 }
 
+/// What a run over a crew that has done nothing leaves.
+fn run_over<C: Crew>(
+    alloc: Global,
+    plan: &Plan,
+    vars: Vars,
+    crew: &mut C,
+    window: usize,
+) -> Result<RunEnd, AllocError>
+    requires some { 1 ≤ window }
+    requires few { window ≤ 16 }
+    requires fresh { C.account crew.old ≡ record { events = []; attempts = 0; failures = 0 } }
+{
+    run(alloc, plan, vars, crew, window)
+}
+
 /// What a run over a crew in memory leaves, and what the crew did.
 pub fn run_in_memory(
     alloc: Global,
@@ -39,16 +58,20 @@ pub fn run_in_memory(
     window: usize,
 ) -> Result<(RunEnd, Vec<Event>), AllocError> {
     let mut crew = MemoryCrew::new(alloc, replies, Order::Oldest)?;
-    let end = run(alloc, plan, vars, &mut crew, window.max(1).min(16))?;
+    let end = run_over(alloc, plan, vars, &mut crew, window.max(1).min(16))?;
     let events = Vec::from_slice(alloc, crew.events())?;
     Ok((end, events))
 }
 
 /// What a run over real children leaves.
-pub fn run_in_processes(rt: &HostRuntime, plan: &Plan, vars: Vars) -> Result<RunEnd, Fail> {
-    let mut crew = ProcessCrew::new(rt.clone()?, rt.alloc())?;
-    let end = run(rt.alloc(), plan, vars, &mut crew, 1)?;
-    Ok(end)
+pub fn run_in_processes<R: Files + Processes + Drop>(
+    alloc: Global,
+    rt: R,
+    plan: &Plan,
+    vars: Vars,
+) -> Result<RunEnd, AllocError> {
+    let mut crew = ProcessCrew::new(rt, alloc)?;
+    run_over(alloc, plan, vars, &mut crew, 1)
 }
 
 fn put_outcome(alloc: Global, out: &mut Vec<u8>, outcome: Outcome) -> Result<(), AllocError> {

@@ -47,7 +47,7 @@ fn over_a_crew_in_memory(rt: HostRuntime) -> Result<(), Fail> {
 fn left_by_children(rt: &HostRuntime, lines: &[u8]) -> Result<Vec<u8>, Fail> {
     let source = read(rt.alloc(), lines)?;
     let plan = plan_of(rt.alloc(), &source)?;
-    let end = run_in_processes(rt, &plan, Vars::new(rt.alloc()))?;
+    let end = run_in_processes(rt.alloc(), rt.clone()?, &plan, Vars::new(rt.alloc()))?;
     Ok(end_text(rt.alloc(), &end)?)
 }
 

@@ -4,7 +4,7 @@ use crate::commands::{done, status_of};
 use crate::crews::child;
 use crate::folders::{enter, leave};
 use crate::texts::{part, rows, words_of};
-use conftest::{Job, compile_job, default_includes, header_source};
+use conftest::{Job, JobFault, compile_job, default_includes, header_source};
 use deftable::{Bytes, Defs, Vars};
 use runner::command;
 use runner::standin::standin;
@@ -223,14 +223,20 @@ fn played(rt: &HostRuntime) -> Result<String, Fail> {
     Ok(command)
 }
 
+fn header_program(alloc: Global, header: &[u8]) -> Result<Bytes, AllocError> {
+    header_source(alloc, default_includes(), header)
+}
+
+fn job_of(alloc: Global, vars: &Vars, source: &[u8]) -> Result<Job, JobFault> {
+    compile_job(alloc, vars, &Defs::new(alloc), source, 1)
+}
+
 /// The job of a header test with this compiler.
 fn header_job(alloc: Global, compiler: &[u8], header: &[u8]) -> Result<Job, Fail> {
     let mut vars = Vars::new(alloc);
     vars.set(b"CC", compiler)?;
-    let defs = Defs::new(alloc);
-    let source = header_source(alloc, default_includes(), header)?;
-    let job = compile_job(alloc, &vars, &defs, source.as_slice(), 1)?;
-    Ok(job)
+    let source = header_program(alloc, header)?;
+    Ok(job_of(alloc, &vars, source.as_slice())?)
 }
 
 #[test]
