@@ -239,17 +239,27 @@ fn header_job(alloc: Global, compiler: &[u8], header: &[u8]) -> Result<Job, Fail
     Ok(job_of(alloc, &vars, source.as_slice())?)
 }
 
+/// The end of the child that tests a header with this compiler.
+fn tested(rt: &HostRuntime, compiler: &[u8], header: &[u8]) -> Result<Vec<u8>, Fail> {
+    let job = header_job(rt.alloc(), compiler, header)?;
+    child(rt, &job)
+}
+
+/// The ends of two header tests with this compiler, whose list has the first one.
+fn two_tested(rt: &HostRuntime, compiler: &[u8]) -> Result<Vec<u8>, Fail> {
+    enter(rt, "a_child_of_a_crew")?;
+    fs::write(rt, "player.sh", PLAYER)?;
+    fs::write(rt, "standin.txt", b"sys/stat.h\n")?;
+    let mut ends = tested(rt, compiler, b"sys/stat.h")?;
+    ends.extend_from_slice(tested(rt, compiler, b"unistd.h")?.as_slice())?;
+    leave(rt, "a_child_of_a_crew")?;
+    Ok(ends)
+}
+
 #[test]
 fn a_child_of_a_crew(rt: HostRuntime) -> Result<(), Fail> {
     let compiler = played(&rt)?;
-    enter(&rt, "a_child_of_a_crew")?;
-    fs::write(&rt, "player.sh", PLAYER)?;
-    fs::write(&rt, "standin.txt", b"sys/stat.h\n")?;
-    for row in &rows(rt.alloc(), b"sys/stat.h| 0:1:sys/stat.h\n;unistd.h| 0:0:")? {
-        let header = part(rt.alloc(), row, 0)?;
-        let job = header_job(rt.alloc(), compiler.as_bytes(), header.as_slice())?;
-        let found = child(&rt, &job)?;
-        assert_eq!(rt; found.as_slice(), part(rt.alloc(), row, 1)?.as_slice());
-    }
-    leave(&rt, "a_child_of_a_crew")
+    let found = two_tested(&rt, compiler.as_bytes())?;
+    assert_eq!(rt; found.as_slice(), b" 0:1:sys/stat.h\n 0:0:".as_slice());
+    Ok(())
 }
