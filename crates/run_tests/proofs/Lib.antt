@@ -1,2 +1,1 @@
 pub mod FlightLemmas
-pub mod MachineLemmas

@@ -62,12 +62,7 @@ fn end_of(mut machine: Machine, plan: &Plan) -> Result<RunEnd, Fail>
 }
 
 /// What a plan of one job leaves.
-fn walked(
-    alloc: Global,
-    plan: &Plan,
-    vars: Vars,
-    status: Option<u32>,
-) -> Result<RunEnd, Fail> {
+fn walked(alloc: Global, plan: &Plan, vars: Vars, status: Option<u32>) -> Result<RunEnd, Fail> {
     let mut machine = Machine::new(alloc, plan, vars);
     if answer(alloc, &mut machine, plan, status)? != 1 {
         return Err(Fail::new("not one job is asked"));

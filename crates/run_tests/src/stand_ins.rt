@@ -77,27 +77,40 @@ standin,bad.c,none.c|0;\
 standin,bad.c,\xff.c|0;\
 standin,bad.c,a\0.c|0";
 
+fn write_sources(rt: &HostRuntime) -> Result<(), Fail> {
+    fs::write(rt, "bad.c", b"bad")?;
+    fs::write(rt, "good.c", b"good")?;
+    fs::write(rt, "bad.o", b"bad")?;
+    fs::write(rt, ".c", b"bad")?;
+    Ok(())
+}
+
 #[test]
 fn the_last_name_of_a_source(rt: HostRuntime) -> Result<(), Fail> {
     enter(&rt, "the_last_name_of_a_source")?;
     fs::write(&rt, "standin.txt", b"bad\n")?;
-    fs::write(&rt, "bad.c", b"bad")?;
-    fs::write(&rt, "good.c", b"good")?;
-    fs::write(&rt, "bad.o", b"bad")?;
-    fs::write(&rt, ".c", b"bad")?;
+    write_sources(&rt)?;
     assert_eq!(rt; wrong_rows(&rt, NAMES)?.as_slice(), b"".as_slice());
-    // a list that can't be read
-    fs::remove_file(&rt, "standin.txt")?;
-    assert_eq!(rt;
-        wrong_rows(&rt, b"standin,bad.c|0")?.as_slice(),
-        b"".as_slice()
-    );
-    fs::create_dir(&rt, "standin.txt")?;
-    assert_eq!(rt;
-        wrong_rows(&rt, b"standin,bad.c|0")?.as_slice(),
-        b"".as_slice()
-    );
     leave(&rt, "the_last_name_of_a_source")
+}
+
+#[test]
+fn no_list(rt: HostRuntime) -> Result<(), Fail> {
+    enter(&rt, "no_list")?;
+    write_sources(&rt)?;
+    let row = b"standin,bad.c|0";
+    assert_eq!(rt; wrong_rows(&rt, row)?.as_slice(), b"".as_slice());
+    leave(&rt, "no_list")
+}
+
+#[test]
+fn a_list_that_cannot_be_read(rt: HostRuntime) -> Result<(), Fail> {
+    enter(&rt, "a_list_that_cannot_be_read")?;
+    write_sources(&rt)?;
+    fs::create_dir(&rt, "standin.txt")?;
+    let row = b"standin,bad.c|0";
+    assert_eq!(rt; wrong_rows(&rt, row)?.as_slice(), b"".as_slice());
+    leave(&rt, "a_list_that_cannot_be_read")
 }
 
 // The first conftest waits, and doesn't see the second until that was made.
@@ -116,14 +129,18 @@ fn children_that_meet(rt: HostRuntime) -> Result<(), Fail> {
     assert_eq!(rt; wrong_rows(&rt, MEETING)?.as_slice(), b"".as_slice());
     assert!(rt; fs::exists(&rt, "conftest3.c.seen")?);
     assert!(rt; fs::exists(&rt, "conftest1.c.seen")?);
-    // without a newline, and where the file can't be made
-    fs::write(&rt, "standin.txt", b"!meet")?;
-    assert_eq!(rt;
-        wrong_rows(&rt, b"standin,no/folder/conftest1.c|0")?.as_slice(),
-        b"".as_slice()
-    );
-    assert!(rt; !fs::exists(&rt, "no")?);
     leave(&rt, "children_that_meet")
+}
+
+// The list has no newline.
+#[test]
+fn a_meeting_in_no_folder(rt: HostRuntime) -> Result<(), Fail> {
+    enter(&rt, "a_meeting_in_no_folder")?;
+    fs::write(&rt, "standin.txt", b"!meet")?;
+    let row = b"standin,no/folder/conftest1.c|0";
+    assert_eq!(rt; wrong_rows(&rt, row)?.as_slice(), b"".as_slice());
+    assert!(rt; !fs::exists(&rt, "no")?);
+    leave(&rt, "a_meeting_in_no_folder")
 }
 
 /// 1,048,576 bytes, and then a text.
