@@ -20,10 +20,25 @@ one_more at before outputs field = do
   _ ← wants (nat_lt (length before + length outputs) 1024) (TooMany at)
   Ok (outputs ++ output_in field ∷ [])
 
+-- What an output must be to be one more behind these, in the order of the faults.
+unfoldable pub wanted : ℕ → List Output → List Output → Output → Result (Unit {0}) ParseFault
+wanted at before outputs output = do
+  _ ← wants (is_path output.name) (BadName at)
+  _ ← wants (is_path output.template) (BadName at)
+  _ ← wants (not (has_output before output.name)) (BadName at)
+  _ ← wants (not (has_output outputs output.name)) (BadName at)
+  wants (nat_lt (length before + length outputs) 1024) (TooMany at)
+
 -- The outputs, and those of fields more.
 unfoldable pub with_fields : ℕ → List Output → List Output → List (List ℕ) → Result (List Output) ParseFault
 with_fields at before outputs [] = Ok outputs
 with_fields at before outputs (field ∷ more) = one_more at before outputs field >>= λ first. with_fields at before first more
+
+-- The outputs that a text lists, behind those of the source before it.
+abbrev pub outputs_in : ℕ → List Output → List ℕ → Result (List Output) ParseFault
+outputs_in at before t = do
+  _ ← wants (nat_lt 0 (length (fields t))) (BadName at)
+  with_fields at before [] (fields t)
 
 -- The outputs of an argument, behind those of the source before it.
 unfoldable pub outputs : List Output → Span → Result (List Output) ParseFault

@@ -31,6 +31,13 @@ program arg = do
   _ ← wants (is_program t) (BadName arg.at)
   Ok t
 
+-- the programs that a text at the place `at` lists between blanks, of which there is at least one
+abbrev pub programs_in : ℕ → List ℕ → Result (List (List ℕ)) ParseFault
+programs_in at t = do
+  _ ← wants (nat_lt 0 (length (fields t))) (BadName at)
+  _ ← wants (list_all is_program (fields t)) (BadName at)
+  Ok (fields t)
+
 -- the programs that an argument lists between blanks, of which there is at least one
 unfoldable pub programs : Span → Result (List (List ℕ)) ParseFault
 programs arg = do

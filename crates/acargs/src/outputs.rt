@@ -7,7 +7,7 @@ ghost use Rattle.acargs.specs.Reading.{Gives};
 
 use crate::arguments::text;
 use crate::fault::ParseFault;
-use crate::output::{Outputs, is_path, output_in};
+use crate::output::{Output, Outputs, is_path, output_in};
 use m4quote::Arg;
 use std::alloc::Global;
 use textcut::fields;
@@ -15,18 +15,17 @@ use textcut::fields;
 /// The most outputs of a source.
 const MAX_OUTPUTS: usize = 1024;
 
-/// Adds the output of a field, behind the outputs of the source before it.
-#[tactic(auto, unfolding(crate::specs::Outputs::one_more))]
-fn add_output(
+/// Refuses an output that can't be one more behind these.
+#[tactic(auto, unfolding(crate::specs::Outputs::wanted))]
+fn check_output(
     alloc: Global,
     at: usize,
     before: &Outputs,
-    outputs: &mut Outputs,
-    field: &[u8],
+    outputs: &Outputs,
+    output: &Output,
 ) -> Result<(), ParseFault>
-    ensures { Gives (λ _. outputs.new) result (specs.one_more at before.now outputs.old field.now) }
+    ensures { Gives (λ _. tt) result (specs.wanted at before.now outputs.now output.now) }
 {
-    let output = output_in(alloc, field)?;
     if !is_path(alloc, output.name.as_slice())? {
         return Err(ParseFault::BadName(at));
     }
@@ -42,6 +41,21 @@ fn add_output(
     if before.len().saturating_add(outputs.len()) >= MAX_OUTPUTS {
         return Err(ParseFault::TooMany(at));
     }
+    Ok(())
+}
+
+/// Adds the output of a field, behind the outputs of the source before it.
+fn add_output(
+    alloc: Global,
+    at: usize,
+    before: &Outputs,
+    outputs: &mut Outputs,
+    field: &[u8],
+) -> Result<(), ParseFault>
+    ensures { Gives (λ _. outputs.new) result (specs.one_more at before.now outputs.old field.now) }
+{
+    let output = output_in(alloc, field)?;
+    check_output(alloc, at, before, outputs, &output)?;
     outputs.push(output)?;
     Ok(())
 }
@@ -62,6 +76,24 @@ fn add_fields(
     Ok(())
 }
 
+/// The outputs that a text at `at` lists between blanks, behind those of the source before it.
+fn outputs_in(
+    alloc: Global,
+    at: usize,
+    before: &Outputs,
+    text: &[u8],
+) -> Result<Outputs, ParseFault>
+    ensures { Gives (λ o. o) result (specs.outputs_in at before.now text.now) }
+{
+    let fields = fields(alloc, text)?;
+    if fields.is_empty() {
+        return Err(ParseFault::BadName(at));
+    }
+    let mut outputs = Outputs::new(alloc);
+    add_fields(alloc, at, before, &mut outputs, fields.as_slice())?;
+    Ok(outputs)
+}
+
 /// The outputs that an argument lists between blanks, each `NAME` or `NAME:TEMPLATE`; without a template it is
 /// `NAME.in` (Autoconf's manual, "Configuration Files"). `before` are the outputs of the source before them.
 ///
@@ -72,11 +104,5 @@ pub fn outputs(alloc: Global, before: &Outputs, arg: Arg<'_>) -> Result<Outputs,
     ensures { Gives (λ o. o) result (specs.outputs before.now (span arg.entry)) }
 {
     let text = text(alloc, arg)?;
-    let fields = fields(alloc, text.as_slice())?;
-    if fields.is_empty() {
-        return Err(ParseFault::BadName(arg.at));
-    }
-    let mut outputs = Outputs::new(alloc);
-    add_fields(alloc, arg.at, before, &mut outputs, fields.as_slice())?;
-    Ok(outputs)
+    outputs_in(alloc, arg.at, before, text.as_slice())
 }

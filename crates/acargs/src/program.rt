@@ -77,21 +77,29 @@ pub fn program(alloc: Global, arg: Arg<'_>) -> Result<Bytes, ParseFault>
     Ok(text)
 }
 
+/// The programs that a text at `at` lists between blanks.
+#[tactic(auto, using(crate::proofs::Lists::mapped_and_counted))]
+fn programs_in(alloc: Global, text: &[u8], at: usize) -> Result<Vec<Bytes>, ParseFault>
+    ensures { Gives (λ v. v.items) result (words.programs_in at text.now) }
+{
+    let names = fields(alloc, text)?;
+    if names.is_empty() {
+        return Err(ParseFault::BadName(at));
+    }
+    if !lists_programs(alloc, text)? {
+        return Err(ParseFault::BadName(at));
+    }
+    Ok(copies(alloc, names.as_slice())?)
+}
+
 /// The programs that an argument lists between blanks; `BadName` at the argument where there is none, or one that is no
 /// name.
-#[tactic(auto, unfolding(crate::specs::Programs::programs), using(crate::proofs::Lists::mapped_and_counted))]
+#[tactic(auto, unfolding(crate::specs::Programs::programs))]
 pub fn programs(alloc: Global, arg: Arg<'_>) -> Result<Vec<Bytes>, ParseFault>
     ensures { Gives (λ v. v.items) result (words.programs (span arg.entry)) }
 {
     let text = text(alloc, arg)?;
-    let names = fields(alloc, text.as_slice())?;
-    if names.is_empty() {
-        return Err(ParseFault::BadName(arg.at));
-    }
-    if !lists_programs(alloc, text.as_slice())? {
-        return Err(ParseFault::BadName(arg.at));
-    }
-    Ok(copies(alloc, names.as_slice())?)
+    programs_in(alloc, text.as_slice(), arg.at)
 }
 
 /// Whether a line holds AC_INCLUDES_DEFAULT alone, blanks aside.
