@@ -42,7 +42,4 @@ outputs_in at before t = do
 
 -- The outputs of an argument, behind those of the source before it.
 unfoldable pub outputs : List Output → Span → Result (List Output) ParseFault
-outputs before arg = do
-  t ← text arg
-  _ ← wants (nat_lt 0 (length (fields t))) (BadName arg.at)
-  with_fields arg.at before [] (fields t)
+outputs before arg = text arg >>= outputs_in arg.at before

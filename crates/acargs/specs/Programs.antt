@@ -40,11 +40,7 @@ programs_in at t = do
 
 -- the programs that an argument lists between blanks, of which there is at least one
 unfoldable pub programs : Span → Result (List (List ℕ)) ParseFault
-programs arg = do
-  t ← text arg
-  _ ← wants (nat_lt 0 (length (fields t))) (BadName arg.at)
-  _ ← wants (list_all is_program (fields t)) (BadName arg.at)
-  Ok (fields t)
+programs arg = text arg >>= programs_in arg.at
 
 -- ---- texts that are compiled
 
