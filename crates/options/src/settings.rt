@@ -1,7 +1,7 @@
 //! The settings of a run.
 
-ghost use Rattle.std.specs.Prelude.{◌≡◌, ◌≢◌, Ok, Err, IfOk, IfErr};
-ghost use Rattle.options.specs.Opening.{checking_in, opening, IsOpening, IsOpeningFault};
+ghost use Rattle.std.specs.Prelude.{◌≡◌, ◌≢◌, Ok, Err, IfOk, IfErr, OnOk};
+ghost use Rattle.options.specs.Opening.{checking_in, finished, opening, IsOpening, IsOpeningFault};
 ghost use Rattle.options.specs.Reading.{Gives};
 ghost use Rattle.options.specs.Srcdir.{srcdir_of};
 ghost use Rattle.options.specs.Stepwise as words;
@@ -40,31 +40,59 @@ pub struct Settings {
     pub version: bool,
 }
 
+/// The settings after all arguments, of variables that are finished.
+fn settings_of(reader: Reader, notes: Notes, srcdir: Bytes) -> Settings
+    ensures { result ≡ record { vars = reader.vars; notes = notes; cache_name = reader.cache_name; srcdir = srcdir; quiet = reader.quiet; no_create = reader.no_create; help = reader.help; version = reader.version } }
+{
+    let Reader {
+        vars,
+        cache_name,
+        quiet,
+        no_create,
+        help,
+        version,
+        ..
+    } = reader;
+    Settings {
+        vars,
+        notes,
+        cache_name,
+        srcdir,
+        quiet,
+        no_create,
+        help,
+        version,
+    }
+}
+
+/// Finishes the variables, and returns the directory of the source.
+fn finish(
+    alloc: Global,
+    precious: &SubstList,
+    args: &[Bytes],
+    vars: &mut Vars,
+) -> Result<Bytes, AllocError>
+    ensures vars { OnOk result (vars.new ≡ finished precious.now vars.old) }
+    ensures folder { IfOk result (λ srcdir. srcdir ≡ srcdir_of args.now) }
+{
+    finish_vars(alloc, vars, precious.names())?;
+    Bytes::from_slice(alloc, srcdir_of(args))
+}
+
 /// The settings after all arguments, with these notes.
 #[tactic(auto, unfolding(crate::specs::Stepwise::settings_with))]
 fn settings_with(
     alloc: Global,
     precious: &SubstList,
     args: &[Bytes],
-    reader: Reader,
+    mut reader: Reader,
     notes: Notes,
 ) -> Result<Settings, AllocError>
     ensures exact { IfOk result (λ s. s ≡ words.settings_with precious.now args.now reader notes) }
     ensures folder { IfOk result (λ s. s.srcdir ≡ srcdir_of args.now) }
 {
-    let srcdir = Bytes::from_slice(alloc, srcdir_of(args))?;
-    let mut vars = reader.vars;
-    finish_vars(alloc, &mut vars, precious.names())?;
-    Ok(Settings {
-        vars,
-        notes,
-        cache_name: reader.cache_name,
-        srcdir,
-        quiet: reader.quiet,
-        no_create: reader.no_create,
-        help: reader.help,
-        version: reader.version,
-    })
+    let srcdir = finish(alloc, precious, args, &mut reader.vars)?;
+    Ok(settings_of(reader, notes, srcdir))
 }
 
 /// The notes about options that are not declared.
