@@ -1,9 +1,10 @@
 //! What an argument of a command line says.
 
-ghost use Rattle.std.specs.Prelude.{◌≡◌, ◌<◌, ◌==◌, length, position, option_map, IfSome};
+ghost use Rattle.std.specs.Prelude.{◌≡◌, ◌<◌, ◌==◌, ◌||◌, Some, None, length, position, option_map, codes, bytes_eq, if◌then◌else◌, IfSome};
 ghost use Rattle.options.specs.Arguments as words;
 ghost use Rattle.options.specs.CommandLine as lines;
 ghost use Rattle.options.specs.Said.{said_of};
+ghost use Rattle.options.specs.declared.argument.Switch.TheVariants.{Help, Version, Ignored};
 
 use crate::directory::{Directory, directory_named};
 use acargs::OptionKind;
@@ -104,6 +105,27 @@ fn rest_after<'a>(front: &[u8], text: &'a [u8]) -> Option<&'a [u8]>
     text.strip_prefix(front)
 }
 
+/// The option without a value that an argument is, of those that ask for a text or do nothing.
+fn other_switch_of(argument: &[u8]) -> Option<Switch>
+    ensures { result ≡ (if bytes_eq argument.now (codes "-h") || bytes_eq argument.now (codes "--help") then Some Help
+        else (if bytes_eq argument.now (codes "-V") || bytes_eq argument.now (codes "--version") then Some Version
+        else (if bytes_eq argument.now (codes "-v") || bytes_eq argument.now (codes "--verbose") || bytes_eq argument.now (codes "--no-recursion") then Some Ignored
+        else None))) }
+{
+    if argument == b"-h".as_slice() || argument == b"--help".as_slice() {
+        Some(Switch::Help)
+    } else if argument == b"-V".as_slice() || argument == b"--version".as_slice() {
+        Some(Switch::Version)
+    } else if argument == b"-v".as_slice()
+        || argument == b"--verbose".as_slice()
+        || argument == b"--no-recursion".as_slice()
+    {
+        Some(Switch::Ignored)
+    } else {
+        None
+    }
+}
+
 /// The option without a value that an argument is.
 #[tactic(auto, unfolding(crate::specs::Arguments::switch_of))]
 fn switch_of(argument: &[u8]) -> Option<Switch>
@@ -118,17 +140,8 @@ fn switch_of(argument: &[u8]) -> Option<Switch>
         Some(Switch::Quiet)
     } else if argument == b"-n".as_slice() || argument == b"--no-create".as_slice() {
         Some(Switch::NoCreate)
-    } else if argument == b"-h".as_slice() || argument == b"--help".as_slice() {
-        Some(Switch::Help)
-    } else if argument == b"-V".as_slice() || argument == b"--version".as_slice() {
-        Some(Switch::Version)
-    } else if argument == b"-v".as_slice()
-        || argument == b"--verbose".as_slice()
-        || argument == b"--no-recursion".as_slice()
-    {
-        Some(Switch::Ignored)
     } else {
-        None
+        other_switch_of(argument)
     }
 }
 
