@@ -21,8 +21,8 @@ unfoldable pub here_text : Span → Result (List Part) ParseFault
 here_text arg = text arg >>= λ t. shell_at arg.at (here_of t)
 
 -- a used text that is a test
-unfoldable pub test : Span → Result Joined ParseFault
-test arg = text arg >>= λ t. shell_at arg.at (test_of t)
+unfoldable pub shell_test : Span → Result Joined ParseFault
+shell_test arg = text arg >>= λ t. shell_at arg.at (test_of t)
 
 -- a used text that is a list of patterns
 unfoldable pub patterns : Span → Result (List (List Piece)) ParseFault

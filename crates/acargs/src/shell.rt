@@ -36,9 +36,9 @@ pub fn here_text(alloc: Global, arg: Arg<'_>) -> Result<HereText, ParseFault>
 }
 
 /// The test that a used text is.
-#[tactic(auto, unfolding(crate::specs::Shell::test))]
+#[tactic(auto, unfolding(crate::specs::Shell::shell_test))]
 pub fn test(alloc: Global, arg: Arg<'_>) -> Result<Test, ParseFault>
-    ensures { Gives (λ t. t) result (forms.test (span arg.entry)) }
+    ensures { Gives (λ t. t) result (forms.shell_test (span arg.entry)) }
 {
     let text = text(alloc, arg)?;
     match read_test(alloc, text.as_slice()) {

@@ -9,7 +9,7 @@ use Rattle.acargs.specs.declared.stand.Edge.{Edge}
 use Rattle.acargs.specs.Arguments.{arg_at, is_given}
 use Rattle.acargs.specs.Inside.{inside}
 use Rattle.acargs.specs.Reading.{◌>>=◌, wants, quoted}
-use Rattle.acargs.specs.Shell.{word, test, patterns}
+use Rattle.acargs.specs.Shell.{word, shell_test, patterns}
 use Rattle.acargs.specs.Stand.{edge_of, no_edge, is_statement}
 use Rattle.acmacros.specs.declared.macros.ChoiceMacro.{ChoiceMacro}
 use Rattle.acmacros.specs.declared.macros.ChoiceMacro.TheVariants.{If, Case as As_case}
@@ -51,7 +51,7 @@ behind front read = read >>= λ s. Ok (joined front s)
 
 -- what decides for a case: the test of AS_IF, the patterns of AS_CASE
 unfoldable pub when_of : ChoiceMacro → Span → Result When ParseFault
-when_of If arg = test arg >>= λ t. Ok (Holds t)
+when_of If arg = shell_test arg >>= λ t. Ok (Holds t)
 when_of As_case arg = patterns arg >>= λ p. Ok (Matches p)
 
 -- the subject: the word of AS_CASE, and nothing for AS_IF
