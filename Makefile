@@ -26,7 +26,7 @@ endif
 left := $(filter-out $(patsubst out/%.proved,%,$(wildcard out/*.proved)),$(needed))
 ifneq ($(left),)
 ifneq ($(filter-out check,$(or $(MAKECMDGOALS),all)),)
-$(info Proving $(words $(left)) crates, each as soon as those that it uses are proved. All of them take about 15 minutes on four processors.)
+$(info Proving $(words $(left)) crates, each as soon as those that it uses are proved. All of them take 15 to 30 minutes on four processors.)
 endif
 endif
 
