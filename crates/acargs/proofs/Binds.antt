@@ -1,4 +1,4 @@
--- What steps that succeed or fail say of their parts.
+-- What a sequence of readings that succeeds or fails implies for its parts.
 use Rattle.std.proofs.Common.{◌≡◌, Bool, true, false, Result, Ok, Err, ◌⊎◌, inl, inr, refl, ap, sym, ◌∙◌}
 use Rattle.acargs.specs.declared.fault.ParseFault.{ParseFault}
 use Rattle.acargs.specs.declared.fault.ParseFault.TheVariants.{OutOfMemory}
@@ -32,7 +32,7 @@ pub wants_err : (b : Bool) (g f : ParseFault) → wants b g ≡ Err f → (b ≡
 wants_err true g f e = absurd cc
 wants_err false g f e = (refl, cc)
 
--- ---- faults of readings
+-- ---- errors of readings
 
 pub fails_bind : {A B : Type 0} (e : ParseFault) (r : Result A ParseFault) (f : A → Result B ParseFault) → Fails e r → Fails e (r >>= f)
 fails_bind OutOfMemory r f h = tt

@@ -1,4 +1,4 @@
--- A fault of quoting has its place in the source.
+-- An error of quoting has its offset in the source.
 use Rattle.std.proofs.Common.{ℕ, ◌+◌, ◌<◌, ◌^◌, List, length, arith}
 use Rattle.m4quote.specs.declared.fault.QuoteFault.{QuoteFault}
 use Rattle.m4quote.specs.declared.fault.QuoteFault.TheVariants.{UnclosedQuote, UnclosedParen, StrayClose, Nul, TooLarge, TooDeep, OutOfMemory}

@@ -4,10 +4,10 @@ use Rattle.std.specs.Prelude.{not, ◌&&◌, ◌||◌, ◌==◌}
 use Rattle.std.specs.Char.{is_ascii_alphanumeric}
 use Rattle.std.specs.List.{list_all}
 use Rattle.deftable.specs.ShellName.{is_shell_name_of, continues_name}
-use Rattle.acargs.specs.declared.feature.OptionKind.{OptionKind}
-use Rattle.acargs.specs.declared.feature.OptionKind.TheVariants.{Feature, Package}
-use Rattle.acargs.specs.Feature.{is_feature_byte, is_feature, variable_byte, option_variable}
-use Rattle.acargs.specs.Texts.{is_empty}
+use Rattle.syntax.specs.declared.feature.OptionKind.{OptionKind}
+use Rattle.syntax.specs.declared.feature.OptionKind.TheVariants.{Feature, Package}
+use Rattle.syntax.specs.Feature.{is_feature_byte, is_feature, variable_byte, option_variable}
+use Rattle.syntax.specs.Texts.{is_empty}
 
 bits : (a d p o u : Bool) → (d || p || o) ≡ false → (a || d || p || o || u) ≡ true → (a || u) ≡ true
 bits true d p o u e h = refl
@@ -41,7 +41,7 @@ variable_is_name : (kind : OptionKind) (name : List ℕ) → list_all is_feature
 variable_is_name Feature name h = all_continue name h
 variable_is_name Package name h = all_continue name h
 
--- no feature is without a variable
+-- Every feature has a variable.
 pub has_variable : {A : Type 0} (kind : OptionKind) (name variable : List ℕ) → is_feature name ≡ true → variable ≡ option_variable kind name → is_shell_name_of variable ≡ false → A
 has_variable kind name variable f v n = absurd (wrong (is_shell_name_of (option_variable kind name)) (variable_is_name kind name (both (not (is_empty name)) (list_all is_feature_byte name) f).1) (ap is_shell_name_of (sym v) ∙ n))
   where

@@ -12,9 +12,9 @@ use Rattle.acargs.specs.Texts.{is_all_blank}
 pub closes_stop : (i : ℕ) (text : List ℕ) → i < length text → closes_at_end 0 (drop i text) ≡ false
 closes_stop i text lt = ap (closes_at_end 0) (drop_more text i 0 lt)
 
--- ---- places
+-- ---- offsets
 
--- the text that is found is a part of the whole
+-- The text that is found is in the whole text.
 pub part_of : (base : ℕ) (text : List ℕ) (items : List Entry) (s : Span) → ArePartsOf base text items → only_text items ≡ Some s → IsPart base text s.at s.text
 part_of base text [] s parts e = absurd cc
 part_of base text (call name args at ∷ items) s parts e = absurd cc
@@ -31,6 +31,6 @@ part_of base text (bare t at ∷ items) s parts e =
     by false true rest h = here h
     by false false rest h = absurd cc
 
--- so it has a place that can be named
+-- Its offset fits in 64 bits.
 pub placed : (base n : ℕ) (text : List ℕ) (items : List Entry) (s : Span) → base + length text < n → ArePartsOf base text items → only_text items ≡ Some s → s.at + length s.text < n
 placed base n text items s fits parts e = let p = part_of base text items s parts e in omega (arith, p.begins, p.ends)

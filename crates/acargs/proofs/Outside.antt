@@ -1,4 +1,4 @@
--- All brackets of a text are in its calls where it has as many as their arguments have together.
+-- All brackets of a text are in its calls if it has as many as the arguments of its calls have together.
 use Rattle.std.proofs.Common.{◌≡◌, ℕ, zero, suc, ◌+◌, ◌-◌, ◌<◌, ◌≤◌, Bool, true, false, cond, eqb, eq-eqb, ◌⊎◌, inl, inr, List, [], ◌∷◌, ◌++◌, length, get_or, take, drop, refl, sym, ap, subst, ◌∙◌, arith}
 use Rattle.std.specs.Prelude.{Any, filter}
 use Rattle.std.proofs.lemmas.List.{length-append, length-drop, length-take-le, get_or-drop, get_or-take, drop-drop, take-append-drop}
@@ -39,7 +39,7 @@ brackets-append a b = ap length (filter-append is_bracket a b) ∙ length-append
 brackets-parts : (n : ℕ) (text : List ℕ) → brackets text ≡ brackets (take n text) + brackets (drop n text)
 brackets-parts n text = ap brackets (sym (take-append-drop n text)) ∙ brackets-append (take n text) (drop n text)
 
--- no bracket, none to count
+-- No bracket, none to count.
 none_counted : (text : List ℕ) → ((k : ℕ) → k < length text → is_bracket (get_or text k 0) ≡ true → ⊥) → brackets text ≡ 0
 none_counted [] h = refl
 none_counted (b ∷ bs) h =
@@ -60,7 +60,7 @@ none_there (b ∷ bs) z k lt is =
     later zero lt is other rest = let e : true ≡ false = sym is ∙ other in cc
     later (suc k) lt is other rest = rest k (omega (arith, lt)) is
 
--- how many brackets arguments have
+-- How many brackets arguments have.
 abbrev pub in_arguments : List Span → ℕ
 in_arguments [] = 0
 in_arguments (a ∷ args) = brackets a.text + in_arguments args
@@ -87,7 +87,8 @@ less_calls-is n (item ∷ items) = less_calls-is (less_item n item) items ∙ ap
 
 -- ---- arguments
 
--- the first m bytes have as many brackets as the arguments, each of them is in an argument, and arguments are in these bytes
+-- The first m bytes have as many brackets as the arguments, each of them is in an argument, and the arguments are in
+-- these bytes.
 record Covers (at : ℕ) (text : List ℕ) (args : List Span) (m : ℕ) : Type 0 where
   pub fits : m ≤ length text
   pub count : brackets (take m text) ≡ in_arguments args
@@ -101,7 +102,7 @@ blank_no_bracket b blank bracket =
       | inr other ↦ (let closes : eqb b 93 ≡ true = rw other at bracket in let e : false ≡ true = sym (ap is_blank (eqb-true b 93 closes)) ∙ blank in cc)
     ]
 
--- an argument after its blanks, and the byte that ends it
+-- An argument after its blanks, and the byte that ends it.
 module _ (at n c : ℕ) (text after : List ℕ) (inside : IsInside 63 false (drop (blank_len text) text) n) (ends : drop (blank_len text + n) text ≡ c ∷ after) (plain : is_bracket c ≡ false) where
   one_fits : length text ≡ blank_len text + n + suc (length after)
   one_fits = length_is 0 at n c text after inside ends
@@ -124,7 +125,7 @@ module _ (at n c : ℕ) (text after : List ℕ) (inside : IsInside 63 false (dro
           let same : get_or (take (blank_len text) text) k 0 ≡ get_or text k 0 = get_or-take (blank_len text) text k 0 low in
           blank_no_bracket (get_or text k 0) (prefix_len_passes is_blank text k 0 low) (ap is_bracket (sym same) ∙ is)
 
-  -- a bracket before the end of the argument is in it
+  -- A bracket before the end of the argument is in it.
   one_found : (k : ℕ) → k < blank_len text + n + 1 → is_bracket (get_or text k 0) ≡ true → HasByteAt (at + k) (argument_of at text n)
   one_found k lt is =
       let past : k < blank_len text → ⊥ = λ low. blank_no_bracket (get_or text k 0) (prefix_len_passes is_blank text k 0 low) is in
@@ -179,26 +180,26 @@ arguments-cover (more {at} {n} {m} {text} {after} {args} inside ends later) =
 
 -- ---- items
 
--- what is known of a text and the items that it spells
+-- The counts of a text and of the items that it spells.
 record Counts (at : ℕ) (text : List ℕ) (items : List Entry) : Type 0 where
   low : (p : ℕ) → Any (IsInCall p) items → at ≤ p
   less : in_calls items ≤ brackets text
   to : brackets text ≤ in_calls items → HasBracketsInCallsAlone at text items
   from : HasBracketsInCallsAlone at text items → brackets text ≤ in_calls items
 
--- the rest of a text has its brackets in calls, after n bytes
+-- After n bytes, the rest of a text has its brackets in calls.
 behind_alone : (at n : ℕ) (text : List ℕ) (items : List Entry) → n ≤ length text → HasBracketsInCallsAlone at text items → HasBracketsInCallsAlone (at + n) (drop n text) items
 behind_alone at n text items fits alone = λ k lt is.
     (let there : Any (IsInCall (at + (n + k))) items = alone (n + k) (omega (arith, lt, length-drop n text)) (ap is_bracket (sym (get_or-drop n text k 0)) ∙ is) in
     subst (λ p. Any (IsInCall p) items) (let e : at + (n + k) ≡ at + n + k = omega arith in e) there)
 
--- the same from the rest on
+-- The same from the rest on.
 before_alone : (at n k : ℕ) (text : List ℕ) (items : List Entry) → n ≤ k → k < length text → is_bracket (get_or text k 0) ≡ true → HasBracketsInCallsAlone (at + n) (drop n text) items → Any (IsInCall (at + k)) items
 before_alone at n k text items high lt is alone =
     let byte : get_or (drop n text) (k - n) 0 ≡ get_or text k 0 = get_or-drop n text (k - n) 0 ∙ ap (λ m. get_or text m 0) (let e : n + (k - n) ≡ k = omega arith in e) in
     subst (λ p. Any (IsInCall p) items) (let e : at + n + (k - n) ≡ at + k = omega arith in e) (alone (k - n) (omega (arith, length-drop n text)) (ap is_bracket byte ∙ is))
 
--- n bytes more before it, which are in no call
+-- N bytes more before it, which are in no call.
 longer : (at n : ℕ) (text : List ℕ) (items : List Entry) → n ≤ length text → Counts (at + n) (drop n text) items → Counts at text items
 longer at n text items fits rest =
     let parts = brackets-parts n text in
@@ -218,7 +219,7 @@ longer at n text items fits rest =
           omega (arith, parts, none, rest.from (behind_alone at n text items fits alone)));
     }
 
--- a call before them, whose arguments are in the first m bytes
+-- A call before them, whose arguments are in the first m bytes.
 with_call : (at m : ℕ) (text name : List ℕ) (args : List Span) (place : ℕ) (items : List Entry) → Covers at text args m → Counts (at + m) (drop m text) items → Counts at text (call name args place ∷ items)
 with_call at m text name args place items first rest =
     let parts = brackets-parts m text in
@@ -242,7 +243,7 @@ with_call at m text name args place items first rest =
           omega (arith, parts, first.count, rest.from later));
     }
 
--- lists that have the same calls
+-- Lists that have the same calls.
 record Same (a b : List Entry) : Type 0 where
   count : in_calls a ≡ in_calls b
   to : (p : ℕ) → Any (IsInCall p) a → Any (IsInCall p) b
@@ -259,7 +260,7 @@ same-Counts at text a b same h = record {
 same : (items : List Entry) → Same items items
 same items = record { count = refl; to = λ p h. h; from = λ p h. h }
 
--- an item without arguments
+-- An item without arguments.
 more_plain : (item : Entry) (items : List Entry) → in_item item ≡ 0 → ((p : ℕ) → IsInCall p item → ⊥) → Same items (item ∷ items)
 more_plain item items none apart = record {
   count = omega (arith, none);

@@ -1,4 +1,4 @@
--- One quoted run: the counter of open brackets says what Balanced says.
+-- One quoted run: the counter of open brackets agrees with `Balanced`.
 use Rattle.std.proofs.Common.{◌≡◌, ℕ, zero, suc, ◌+◌, ◌-◌, ◌≤◌, Bool, true, false, cond, eqb, ne_eqb, ◌⊎◌, inl, inr, List, [], ◌∷◌, ◌++◌, length, take, drop, reverse, Option, Some, None, Result, Ok, refl, sym, ap, subst, ◌∙◌, append_assoc, arith}
 use Rattle.std.specs.Prelude.{nat_lt}
 use Rattle.std.proofs.lemmas.Bool.{eqb-true, lt-ltb}
@@ -29,7 +29,7 @@ some s = Some s
 abbrev missing : Option Span
 missing = None
 
--- the span that is found
+-- The span that is found.
 found_is : (s t : Span) → some s ≡ some t → s ≡ t
 found_is s t e = cc
 
@@ -98,7 +98,7 @@ closes-closing depth total n (b ∷ bs) le h =
         rw (ne_eqb (suc (suc d)) 1 (λ e. omega (arith, e)))
         (ap (λ k. closing 0 total k (n + 1) bs) less ∙ later d (omega arith) h ∙ along bs)
 
--- a run has a balanced inside
+-- A run has a balanced inside.
 abbrev pub Inside : List ℕ → Type 0
 Inside text = (room : ℕ) × (inside : List ℕ) × Balanced room inside × (text ≡ 91 ∷ (inside ++ 93 ∷ []))
 
@@ -193,7 +193,7 @@ body-is : (t : List ℕ) → body t ≡ trimmed t
 unfolding trimmed
 body-is t = ap (λ (s : List ℕ). reverse (front_trimmed (reverse (front_trimmed s)))) (drop_blanks t) ∙ ap (λ (s : List ℕ). reverse (front_trimmed (reverse s))) (front_again t)
 
--- the text is blanks, what `trimmed` leaves, and blanks
+-- The text is blanks, what `trimmed` leaves, and blanks.
 trimmed_parts : (t : List ℕ) → (after : List ℕ) × (is_all_blank after ≡ true) × (t ≡ take (blank_len t) t ++ (trimmed t ++ after))
 unfolding trimmed
 trimmed_parts t =
@@ -202,7 +202,7 @@ trimmed_parts t =
     sym (reverse-reverse (front_trimmed t)) ∙ ap reverse back.2 ∙ reverse-append back.0 (front_trimmed (reverse (front_trimmed t))) in
     (reverse back.0, all_blank-reverse back.0 back.1, sym (take-append-drop (blank_len t) t) ∙ ap (λ (s : List ℕ). take (blank_len t) t ++ s) (drop_blanks t ∙ front))
 
--- blanks round a text that begins and ends with other bytes
+-- Blanks around a text that begins and ends with other bytes.
 trimmed_between : (before after inside : List ℕ) → is_all_blank before ≡ true → is_all_blank after ≡ true → trimmed (before ++ 91 ∷ (inside ++ 93 ∷ after)) ≡ 91 ∷ (inside ++ 93 ∷ [])
 unfolding trimmed
 trimmed_between before after inside h k =
@@ -215,7 +215,7 @@ trimmed_between before after inside h k =
     ∙ ap front_trimmed turned ∙ front_stops 93 (reverse (91 ∷ inside)) refl ∙ sym turned in
     ap (λ (t : List ℕ). reverse (front_trimmed (reverse t))) front ∙ ap reverse back ∙ reverse-reverse core
 
--- ---- a run with blanks round it
+-- ---- a run with blanks around it
 
 inner : (text inside : List ℕ) → text ≡ 91 ∷ (inside ++ 93 ∷ []) → take (length text - 2) (drop 1 text) ≡ inside
 inner text inside is =

@@ -1,4 +1,4 @@
--- What a statement argument stands for, as a function and as a relation.
+-- What a statement argument denotes, as a function and as a relation.
 use Rattle.std.proofs.Common.{◌≡◌, ◌↔◌, ◌⊎◌, inl, inr, ℕ, suc, ◌+◌, ◌-◌, Bool, true, false, cond, List, [], ◌∷◌, ◌++◌, length, drop, get_or, Option, Some, None, Result, Ok, Err, refl, sym, ap, subst, ◌∙◌, arith}
 use Rattle.std.specs.Prelude.{Any}
 use Rattle.std.proofs.lemmas.List.{get_or-drop, get_or-take, length-append}
@@ -66,7 +66,7 @@ run_not_blank : (s inside : Span) → IsRun s inside → is_all_blank s.text ≡
 run_not_blank s inside r =
     ap is_all_blank r.parts ∙ list_all-append is_blank r.before _ ∙ rw r.blank_before refl
 
--- it has a call beside it never
+-- No call is beside it.
 no_call_in_blank : (p : ℕ) (items : List Entry) → are_blank items ≡ true → Any (IsInCall p) items → ⊥
 no_call_in_blank p [] blank h = none_of (IsInCall p) h
 no_call_in_blank p (call name args at ∷ items) blank h = absurd cc
@@ -94,7 +94,7 @@ no_call_beside p (bare u to ∷ before) after t at h k any =
           ])
     ]
 
--- a run's bracket is in no call
+-- A run's bracket is in no call.
 run_alone : (base : ℕ) (text : List ℕ) (items : List Entry) (s inside : Span) → ArePartsOf base text items → only_text items ≡ Some s → IsRun s inside → HasBracketsInCallsAlone base text items → ⊥
 run_alone base text items s inside parts only r alone =
     let all = only-IsAllBut items s only in
@@ -127,7 +127,7 @@ quoted_is quote.TooLarge apart = refl
 quoted_is quote.TooDeep apart = refl
 quoted_is quote.OutOfMemory apart = absurd (apart refl)
 
--- which text is inside
+-- Which text is inside.
 run_of : (o : Option Span) (t : Span) → inside_of o ≡ Some t → (s : Span) × (o ≡ Some s) × (run_inside s ≡ Some t)
 run_of None t e = absurd cc
 run_of (Some s) t e = (s, refl, e)

@@ -1,6 +1,5 @@
--- Arguments of calls: what each form of argument stands for, or its fault (Autoconf's manual, "The Autoconf
--- Language"; the forms themselves are the profile's own). Faults have the place of the argument, those of quoting
--- their own place.
+-- The forms of arguments of calls: the value of each, or its error (Autoconf's manual, "The Autoconf Language"; the
+-- forms themselves are own). Errors have the offset of the argument; those of quoting have their own offset.
 use Rattle.std.specs.Prelude.{ℕ, Bool, true, not, List, [], Result, Ok, Err, slice_index_or}
 use Rattle.m4quote.specs.Entry.{Span}
 use Rattle.m4quote.specs.Scan.{used}
@@ -10,45 +9,47 @@ use Rattle.textcut.specs.Cuts.{trimmed}
 use Rattle.acargs.specs.declared.fault.ParseFault.{ParseFault}
 use Rattle.acargs.specs.declared.fault.ParseFault.TheVariants.{BadName}
 use Rattle.acargs.specs.Reading.{◌>>=◌, quoted_at, wants}
-use Rattle.acargs.specs.Texts.{is_empty, is_line}
+use Rattle.syntax.specs.Texts.{is_empty}
+use Rattle.acargs.specs.Texts.{is_line}
 
--- the argument at i; an absent one is like an empty one
+-- The argument at i, or an empty one at offset 0 if there is none. (own)
 abbrev pub arg_at : List Span → ℕ → Span
 arg_at args i = slice_index_or args i (record { text = []; at = 0 })
 
--- an argument's used text
+-- An argument's used text. (Autoconf's manual, "The Autoconf Language")
 abbrev pub text : Span → Result (List ℕ) ParseFault
 text arg = quoted_at arg.at (used arg.text)
 
--- a used text without the blanks at its ends
+-- The used text without the blanks at its ends. (own)
 unfoldable pub bare_text : Span → Result (List ℕ) ParseFault
 bare_text arg = text arg >>= λ t. Ok (trimmed t)
 
--- a shell name or a C identifier: they have one form
+-- A shell name or a C identifier, which have the same form. (POSIX, "Name")
 unfoldable pub name : Span → Result (List ℕ) ParseFault
 name arg = do
   t ← bare_text arg
   _ ← wants (is_shell_name_of t) (BadName arg.at)
   Ok t
 
--- a text on one line, without the blanks at its ends
+-- A text on one line, without the blanks at its ends. (own)
 unfoldable pub title : Span → Result (List ℕ) ParseFault
 title arg = do
   t ← bare_text arg
   _ ← wants (is_line t) (BadName arg.at)
   Ok t
 
--- a text on one line, verbatim
+-- A text on one line, with the blanks at its ends. (own)
 unfoldable pub line : Span → Result (List ℕ) ParseFault
 line arg = do
   t ← text arg
   _ ← wants (is_line t) (BadName arg.at)
   Ok t
 
+-- The reading gives a text that is not empty, or fails. (own)
 abbrev pub says_something : Result (List ℕ) QuoteFault → Bool
 says_something (Ok t) = not (is_empty t)
 says_something (Err f) = true
 
--- the argument is given: its used text is not empty, or it has none because its quotes are at fault
+-- The argument is given: its used text is not empty, or its quotes have an error. (own)
 unfoldable pub is_given : Span → Bool
 is_given arg = says_something (used arg.text)

@@ -1,5 +1,5 @@
--- The text that a statement argument stands for, and the items among which a call is looked for, as functions of the argument.
--- `Standing` has the rules, and the contract of `inside_laws` says that the two agree. All of this is own.
+-- The text that a statement argument denotes, and the items of an argument that holds one call, as functions of the
+-- argument. `Standing` has the rules, and the contract of `inside_laws` says that the two agree. All of this is own.
 use Rattle.std.specs.Prelude.{ℕ, ◌+◌, ◌-◌, Bool, true, false, ◌&&◌, ◌==◌, List, [], ◌∷◌, length, take, drop, filter, Option, Some, None, Result, Ok, Err, nat_lt, if◌then◌else◌}
 use Rattle.std.specs.List.{prefix_len}
 use Rattle.m4quote.specs.Entry.{Span, Entry, call, bare}
@@ -12,27 +12,27 @@ use Rattle.acargs.specs.Texts.{is_all_blank, is_bracket}
 
 -- ---- one quoted run
 
--- how many brackets are open behind a byte
+-- How many brackets are open after a byte.
 abbrev pub depth_behind : ℕ → ℕ → ℕ
 depth_behind depth b = if b == 91 then depth + 1 else (if b == 93 then depth - 1 else depth)
 
--- the brackets that are open are all closed at the end, and not before
+-- The open brackets are all closed by the last byte, and not earlier.
 abbrev pub closes_at_end : ℕ → List ℕ → Bool
 closes_at_end depth [] = depth == 0
 closes_at_end depth (b ∷ bs) = nat_lt 0 depth && closes_at_end (depth_behind depth b) bs
 
--- the text is one quoted run
+-- The text is one quoted run.
 abbrev pub is_run : List ℕ → Bool
 is_run [] = false
 is_run (b ∷ bs) = (b == 91) && closes_at_end 1 bs
 
--- items that say nothing but blanks
+-- The items are blank text alone.
 abbrev pub are_blank : List Entry → Bool
 are_blank [] = true
 are_blank (call name args at ∷ items) = false
 are_blank (bare text at ∷ items) = is_all_blank text && are_blank items
 
--- the one bare text that is not blank, where no call and no other such text stands beside it
+-- The one bare text that is not blank, if all other items are blank text.
 abbrev pub only_text : List Entry → Option Span
 only_text [] = None
 only_text (call name args at ∷ items) = None
@@ -40,60 +40,63 @@ only_text (bare text at ∷ items) =
     if is_all_blank text then only_text items
     else (if are_blank items then Some (record { text = text; at = at }) else None)
 
--- the blanks at the front
+-- The number of blanks at the front.
 abbrev pub blank_len : List ℕ → ℕ
 blank_len text = prefix_len is_blank text
 
--- the text behind those, without the blanks at its end
+-- The text after those, without the blanks at its end.
 abbrev pub body : List ℕ → List ℕ
 body text = trimmed (drop (blank_len text) text)
 
--- what a bare text stands for that is a quoted run with blanks round it
+-- The inside of a bare text that is one quoted run with blanks around it.
 abbrev pub run_inside : Span → Option Span
 run_inside s =
     if is_run (body s.text)
     then Some (record { text = take (length (body s.text) - 2) (drop 1 (body s.text)); at = s.at + blank_len s.text + 1 })
     else None
 
+-- The inside of the text, if there is one.
 abbrev pub inside_of : Option Span → Option Span
 inside_of None = None
 inside_of (Some s) = run_inside s
 
 -- ---- brackets outside calls
 
+-- The number of brackets in a text.
 abbrev pub brackets : List ℕ → ℕ
 brackets text = length (filter is_bracket text)
 
--- so many brackets, less those in arguments
+-- n, less the number of brackets in the arguments.
 abbrev pub less_arguments : ℕ → List Span → ℕ
 less_arguments n [] = n
 less_arguments n (a ∷ args) = less_arguments (n - brackets a.text) args
 
--- so many brackets, less those in the arguments of a call
+-- n, less the number of brackets in the arguments of the item, if it is a call.
 abbrev pub less_item : ℕ → Entry → ℕ
 less_item n (call name args at) = less_arguments n args
 less_item n (bare text at) = n
 
--- the same of all items
+-- n, less the number of brackets in the arguments of all calls.
 abbrev pub less_calls : ℕ → List Entry → ℕ
 less_calls n [] = n
 less_calls n (item ∷ items) = less_calls (less_item n item) items
 
--- all brackets of the text stand in its calls
+-- All brackets of the text are in the arguments of its calls.
 abbrev pub is_unquoted : List ℕ → List Entry → Bool
 is_unquoted text items = less_calls (brackets text) items == 0
 
 -- ---- the argument
 
--- the items that a text spells
+-- The items of a text.
 abbrev pub items_of : Span → Result (List Entry) ParseFault
 items_of s = quoted (outcome s.at s.text)
 
+-- The inside if there is one, else the argument itself if its brackets are all in calls.
 abbrev pub or_itself : Span → List Entry → Option Span → Result Span ParseFault
 or_itself arg items (Some s) = Ok s
 or_itself arg items None = if is_unquoted arg.text items then Ok arg else Err (UnknownStatement arg.at)
 
--- the text that a statement argument stands for
+-- The text that a statement argument denotes.
 unfoldable pub inside : Span → Result Span ParseFault
 inside arg = do
   items ← items_of arg
@@ -101,13 +104,13 @@ inside arg = do
 
 -- ---- a call that may be quoted or not
 
--- the items of the run's inside, or the argument's own
+-- The items of the run's inside if there is one, else the argument's own.
 abbrev pub items_of_run : List Entry → Option Span → Result (List Entry) ParseFault
 items_of_run items None = Ok items
 items_of_run items (Some s) = items_of s
 
--- The items among which a call is looked for that may be quoted or not: those of the inside, if the argument is one quoted
--- run with blanks and `dnl` lines round it, else the argument's own. Here brackets may be anywhere. (own)
+-- The items of an argument that holds one call, quoted or not: those of the inside, if the argument is one quoted run
+-- with blanks and `dnl` lines around it, else the argument's own. Brackets may be anywhere. (own)
 unfoldable pub call_items : Span → Result (List Entry) ParseFault
 call_items arg = do
   items ← items_of arg

@@ -2,7 +2,7 @@ pub mod Fault
 pub mod Reading
 pub mod Texts
 pub mod Arguments
-pub mod Output
+pub mod Path
 pub mod Outputs
 pub mod Idle
 pub mod Stand

@@ -4,42 +4,41 @@ use Rattle.m4quote.specs.Entry.{Span}
 use Rattle.textcut.specs.Cuts.{fields}
 use Rattle.acargs.specs.declared.fault.ParseFault.{ParseFault}
 use Rattle.acargs.specs.declared.fault.ParseFault.TheVariants.{BadName, TooMany}
-use Rattle.acargs.specs.declared.output.Output.{Output}
+use Rattle.syntax.specs.declared.output.Output.{Output}
 use Rattle.acargs.specs.Arguments.{text}
-use Rattle.acargs.specs.Output.{is_path, output_in, has_output}
+use Rattle.syntax.specs.Output.{has_output}
+use Rattle.acargs.specs.Path.{is_path, output_in}
 use Rattle.acargs.specs.Reading.{◌>>=◌, wants}
 
--- The outputs of an argument, and the one of a field more, behind those of the source before it: its name and its
--- template are paths, and no output has the name yet. A source has at most 1,024.
-unfoldable pub one_more : ℕ → List Output → List Output → List ℕ → Result (List Output) ParseFault
-one_more at before outputs field = do
-  _ ← wants (is_path (output_in field).name) (BadName at)
-  _ ← wants (is_path (output_in field).template) (BadName at)
-  _ ← wants (not (has_output before (output_in field).name)) (BadName at)
-  _ ← wants (not (has_output outputs (output_in field).name)) (BadName at)
-  _ ← wants (nat_lt (length before + length outputs) 1024) (TooMany at)
-  Ok (outputs ++ output_in field ∷ [])
-
--- What an output must be to be one more behind these, in the order of the faults.
-unfoldable pub wanted : ℕ → List Output → List Output → Output → Result (Unit {0}) ParseFault
-wanted at before outputs output = do
+-- What an output must be to be one more of an argument, in the order of the faults: its name and its template are paths, and
+-- no output has the name yet. `own` are the outputs of its kind before the argument, which has listed `outputs` so far; there
+-- are at most 1,024 of a kind. `other` are those of other kinds, which share their names.
+unfoldable pub wanted : ℕ → List Output → List Output → List Output → Output → Result (Unit {0}) ParseFault
+wanted at own other outputs output = do
   _ ← wants (is_path output.name) (BadName at)
   _ ← wants (is_path output.template) (BadName at)
-  _ ← wants (not (has_output before output.name)) (BadName at)
+  _ ← wants (not (has_output own output.name)) (BadName at)
+  _ ← wants (not (has_output other output.name)) (BadName at)
   _ ← wants (not (has_output outputs output.name)) (BadName at)
-  wants (nat_lt (length before + length outputs) 1024) (TooMany at)
+  wants (nat_lt (length own + length outputs) 1024) (TooMany at)
 
--- The outputs, and those of fields more.
-unfoldable pub with_fields : ℕ → List Output → List Output → List (List ℕ) → Result (List Output) ParseFault
-with_fields at before outputs [] = Ok outputs
-with_fields at before outputs (field ∷ more) = one_more at before outputs field >>= λ first. with_fields at before first more
+-- The outputs of an argument, and the one of one more field.
+unfoldable pub one_more : ℕ → List Output → List Output → List Output → List ℕ → Result (List Output) ParseFault
+one_more at own other outputs field = do
+  _ ← wanted at own other outputs (output_in field)
+  Ok (outputs ++ output_in field ∷ [])
 
--- The outputs that a text lists, behind those of the source before it.
-abbrev pub outputs_in : ℕ → List Output → List ℕ → Result (List Output) ParseFault
-outputs_in at before t = do
+-- The outputs, and those of more fields.
+unfoldable pub with_fields : ℕ → List Output → List Output → List Output → List (List ℕ) → Result (List Output) ParseFault
+with_fields at own other outputs [] = Ok outputs
+with_fields at own other outputs (field ∷ more) = one_more at own other outputs field >>= λ first. with_fields at own other first more
+
+-- The outputs that a text lists.
+abbrev pub outputs_in : ℕ → List Output → List Output → List ℕ → Result (List Output) ParseFault
+outputs_in at own other t = do
   _ ← wants (nat_lt 0 (length (fields t))) (BadName at)
-  with_fields at before [] (fields t)
+  with_fields at own other [] (fields t)
 
--- The outputs of an argument, behind those of the source before it.
-unfoldable pub outputs : List Output → Span → Result (List Output) ParseFault
-outputs before arg = text arg >>= outputs_in arg.at before
+-- The outputs of an argument, after those of its kind and of other kinds.
+unfoldable pub outputs : List Output → List Output → Span → Result (List Output) ParseFault
+outputs own other arg = text arg >>= outputs_in arg.at own other

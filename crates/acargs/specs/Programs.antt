@@ -1,9 +1,9 @@
--- Arguments of tests: names of programs, and the texts of programs that are compiled (Autoconf's manual, "Generic
+-- Arguments of checks: names of programs, and the texts of programs that are compiled (Autoconf's manual, "Generic
 -- Programs" and "Generating Sources"; which bytes a program's name may have is own).
 use Rattle.std.specs.Prelude.{ℕ, Bool, not, ◌&&◌, ◌||◌, ◌==◌, List, [], ◌∷◌, ◌++◌, length, Result, Ok, nat_lt, codes, if◌then◌else◌}
 use Rattle.std.specs.List.{list_all}
 use Rattle.std.specs.Str.{bytes_eq}
-use Rattle.conftest.specs.Sources.{default_includes}
+use Rattle.csource.specs.Sources.{default_includes}
 use Rattle.m4quote.specs.Entry.{Span}
 use Rattle.shellword.specs.Scan.{here_of}
 use Rattle.shellword.specs.declared.part.Part.{Part}
@@ -12,59 +12,59 @@ use Rattle.acargs.specs.declared.fault.ParseFault.{ParseFault}
 use Rattle.acargs.specs.declared.fault.ParseFault.TheVariants.{BadName}
 use Rattle.acargs.specs.Arguments.{text, bare_text}
 use Rattle.acargs.specs.Reading.{◌>>=◌, shell_at, wants}
-use Rattle.acargs.specs.Texts.{is_empty}
+use Rattle.syntax.specs.Texts.{is_empty}
 
 -- ---- names of programs
 
--- no blank, `$`, backslash or backquote
+-- No blank, `$`, backslash or backquote. (own)
 abbrev pub is_program_byte : ℕ → Bool
 is_program_byte b = not (is_blank b || b == 36 || b == 92 || b == 96)
 
--- a text that can name a program
+-- A text that can name a program. (own)
 unfoldable pub is_program : List ℕ → Bool
 is_program name = not (is_empty name) && list_all is_program_byte name
 
--- a program
+-- The name of a program. (own)
 unfoldable pub program : Span → Result (List ℕ) ParseFault
 program arg = do
   t ← bare_text arg
   _ ← wants (is_program t) (BadName arg.at)
   Ok t
 
--- the programs that a text at the place `at` lists between blanks, of which there is at least one
+-- The programs that a text at offset `at` lists between blanks, at least one. (own)
 abbrev pub programs_in : ℕ → List ℕ → Result (List (List ℕ)) ParseFault
 programs_in at t = do
   _ ← wants (nat_lt 0 (length (fields t))) (BadName at)
   _ ← wants (list_all is_program (fields t)) (BadName at)
   Ok (fields t)
 
--- the programs that an argument lists between blanks, of which there is at least one
+-- The programs that an argument lists between blanks, at least one. (own)
 unfoldable pub programs : Span → Result (List (List ℕ)) ParseFault
 programs arg = text arg >>= programs_in arg.at
 
 -- ---- texts that are compiled
 
--- a line that holds AC_INCLUDES_DEFAULT alone, blanks aside
+-- A line that is AC_INCLUDES_DEFAULT alone, with blanks around it or none. (own)
 abbrev pub is_default_line : List ℕ → Bool
 is_default_line line = bytes_eq (trimmed line) (codes "AC_INCLUDES_DEFAULT")
 
--- the newline of a line, which the last one has not
+-- The newline of a line, which the last one doesn't have. (own)
 abbrev pub newline_if : Bool → List ℕ
 newline_if is_last = if is_last then [] else 10 ∷ []
 
--- a line with its newline, or the default includes in its place
+-- A line with its newline, or the default includes in its place. (Autoconf's manual, "Generating Sources")
 abbrev pub line_or_includes : Bool → List ℕ → List ℕ
 line_or_includes is_last line = if is_default_line line then default_includes else line ++ newline_if is_last
 
--- the lines, one after another
+-- The lines, one after another. (own)
 abbrev pub lines_with_includes : List (List ℕ) → List ℕ
 lines_with_includes [] = []
 lines_with_includes (line ∷ more) = line_or_includes (length more == 0) line ++ lines_with_includes more
 
--- the text with the default includes where they are called for
+-- The text with the default includes in the place of each line that is AC_INCLUDES_DEFAULT. (own)
 unfoldable pub with_includes : List ℕ → List ℕ
 with_includes t = lines_with_includes (parts 10 t)
 
--- a used text as here text, with the default includes where they are called for
+-- The used text as here text, with the default includes in it. (Autoconf's manual, "Generating Sources")
 unfoldable pub source_text : Span → Result (List Part) ParseFault
 source_text arg = text arg >>= λ t. shell_at arg.at (here_of (with_includes t))

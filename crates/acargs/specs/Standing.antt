@@ -1,5 +1,5 @@
--- What a statement argument stands for: one quoted run with blanks and `dnl` lines round it stands for its inside, and a text
--- with no bracket outside its calls stands for itself (own; where quotes are left out, Autoconf would expand the calls
+-- What a statement argument denotes: one quoted run with blanks and `dnl` lines around it denotes its inside, and a
+-- text with no bracket outside its calls denotes itself (own; if quotes are left out, Autoconf would expand the calls
 -- first, to the same statements). These are the rules; `Inside` has the same as functions.
 use Rattle.std.specs.Prelude.{◌≡◌, ℕ, ◌+◌, ◌<◌, ◌≤◌, true, List, ◌∷◌, ◌++◌, length, slice_index, Any}
 use Rattle.m4quote.specs.Entry.{Span, Entry, call, bare}
@@ -10,8 +10,8 @@ use Rattle.acargs.specs.Inside.{are_blank}
 
 -- ---- one quoted run
 
--- The text is one quoted run with blanks round it, and this is the run's inside at its offset (GNU M4's manual, "Quoted
--- strings"; any number of brackets may be open).
+-- The text is one quoted run with blanks around it, and this is the run's inside at its offset. (GNU M4's manual,
+-- "Quoted strings"; any number of brackets may be open)
 pub record IsRun (text inside : Span) : Type 0 where
   pub before : List ℕ
   pub after : List ℕ
@@ -22,7 +22,7 @@ pub record IsRun (text inside : Span) : Type 0 where
   pub balanced : Balanced room inside.text
   pub offset : inside.at ≡ text.at + length before + 1
 
--- the items are this bare text, and blanks besides (own)
+-- The items are this bare text, and blanks beside it. (own)
 pub record IsAllBut (items : List Entry) (text : Span) : Type 0 where
   pub before : List Entry
   pub after : List Entry
@@ -32,23 +32,23 @@ pub record IsAllBut (items : List Entry) (text : Span) : Type 0 where
 
 -- ---- brackets and calls
 
--- the argument has a byte at this offset (own)
+-- The argument has a byte at this offset. (own)
 abbrev pub HasByteAt : ℕ → Span → Type 0
 HasByteAt place arg = (arg.at ≤ place) × (place < arg.at + length arg.text)
 
--- the item is a call, and one of its arguments has (own)
+-- The item is a call, and one of its arguments has a byte at this offset. (own)
 abbrev pub IsInCall : ℕ → Entry → Type 0
 IsInCall place (call name args at) = Any (HasByteAt place) args
 IsInCall place (bare text at) = ⊥
 
--- each bracket of a text at `at` is in an argument of one of its calls, so none is in bare text, a comment between calls or
--- a dropped `dnl` line (own)
+-- Each bracket of a text at `at` is in an argument of one of its calls, so none is in bare text, a comment between
+-- calls or a dropped `dnl` line. (own)
 abbrev pub HasBracketsInCallsAlone : ℕ → List ℕ → List Entry → Type 0
 HasBracketsInCallsAlone at text items = (k : ℕ) → k < length text → is_bracket (slice_index text k) ≡ true → Any (IsInCall (at + k)) items
 
 -- ---- the argument
 
--- a statement argument stands for this text (own)
+-- A statement argument denotes this text. (own)
 pub data StandsFor (arg : Span) : Span → Type 0 where
   run : {items : List Entry} {text inside : Span} → IsSpelling arg.at arg.text items → IsAllBut items text → IsRun text inside → StandsFor arg inside
   itself : {items : List Entry} → IsSpelling arg.at arg.text items → HasBracketsInCallsAlone arg.at arg.text items → StandsFor arg arg

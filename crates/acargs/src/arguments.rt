@@ -1,4 +1,4 @@
-//! Readers of arguments, each for one form.
+//! Readers of arguments, one for each form.
 
 ghost use Rattle.std.specs.Prelude.{◌≡◌, ◌+◌, ◌≤◌, length, map, Ok, Err, IfOk, IfErr, ℕ, List, []};
 ghost use Rattle.m4quote.specs.Entry.{span};
@@ -12,7 +12,7 @@ use m4quote::{Arg, QuoteFault, used_text};
 use std::alloc::{AllocError, Global};
 use textcut::{is_blank, trim};
 
-/// The argument at `i`. An absent one is like an empty one, at place 0.
+/// Returns the argument at `i`, or an empty one at offset 0 if there is none.
 pub fn arg_at<'a>(args: &[Arg<'a>], i: usize) -> Arg<'a>
     ensures { span result ≡ forms.arg_at (map span args.now) i }
 {
@@ -23,7 +23,8 @@ pub fn arg_at<'a>(args: &[Arg<'a>], i: usize) -> Arg<'a>
     }
 }
 
-/// The used text of an argument, verbatim.
+/// Returns the used text of an argument: its quotes are removed and its quadrigraphs replaced (Autoconf's manual, "The
+/// Autoconf Language").
 pub fn text(alloc: Global, arg: Arg<'_>) -> Result<Bytes, ParseFault>
     ensures { Gives (λ t. t) result (forms.text (span arg.entry)) }
 {
@@ -33,8 +34,8 @@ pub fn text(alloc: Global, arg: Arg<'_>) -> Result<Bytes, ParseFault>
     }
 }
 
-/// Whether an argument says something: an absent one, and one whose used text is empty, says nothing. One whose quotes
-/// are at fault counts as given.
+/// Returns whether an argument is given. An absent argument, and one whose used text is empty, are not. One with an error in
+/// its quotes is.
 #[tactic(auto, unfolding(crate::specs::Arguments::is_given))]
 pub fn is_given(alloc: Global, arg: Arg<'_>) -> Result<bool, AllocError>
     ensures { IfOk result (λ b. b ≡ forms.is_given (span arg.entry)) }
@@ -46,7 +47,7 @@ pub fn is_given(alloc: Global, arg: Arg<'_>) -> Result<bool, AllocError>
     }
 }
 
-/// The used text of an argument without the blanks at its ends.
+/// Returns the used text of an argument without the blanks at its ends.
 #[tactic(auto, unfolding(crate::specs::Arguments::bare_text))]
 pub(crate) fn bare_text(alloc: Global, arg: Arg<'_>) -> Result<Bytes, ParseFault>
     ensures { Gives (λ t. t) result (forms.bare_text (span arg.entry)) }
@@ -55,7 +56,11 @@ pub(crate) fn bare_text(alloc: Global, arg: Arg<'_>) -> Result<Bytes, ParseFault
     Ok(Bytes::from_slice(alloc, trim(text.as_slice()))?)
 }
 
-/// A shell name or a C identifier, which have one form; `BadName` at the argument otherwise.
+/// Returns a shell name or a C identifier, which have the same form (POSIX, "Name").
+///
+/// # Errors
+///
+/// - `BadName` at the argument, if the text without the blanks at its ends is no name.
 #[tactic(auto, unfolding(crate::specs::Arguments::name))]
 pub fn name(alloc: Global, arg: Arg<'_>) -> Result<Name, ParseFault>
     ensures { Gives (λ n. n) result (forms.name (span arg.entry)) }
@@ -67,7 +72,11 @@ pub fn name(alloc: Global, arg: Arg<'_>) -> Result<Name, ParseFault>
     }
 }
 
-/// A text on one line, without the blanks at its ends; `BadName` at the argument where it holds a newline.
+/// Returns a text on one line, without the blanks at its ends (own).
+///
+/// # Errors
+///
+/// - `BadName` at the argument, if the text has a newline between other bytes.
 #[tactic(auto, unfolding(crate::specs::Arguments::title))]
 pub fn title(alloc: Global, arg: Arg<'_>) -> Result<Bytes, ParseFault>
     ensures { Gives (λ t. t) result (forms.title (span arg.entry)) }
@@ -79,7 +88,11 @@ pub fn title(alloc: Global, arg: Arg<'_>) -> Result<Bytes, ParseFault>
     Ok(text)
 }
 
-/// A text on one line, verbatim; `BadName` at the argument where it holds a newline.
+/// Returns a text on one line, with the blanks at its ends (own).
+///
+/// # Errors
+///
+/// - `BadName` at the argument, if the text has a newline.
 #[tactic(auto, unfolding(crate::specs::Arguments::line))]
 pub fn line(alloc: Global, arg: Arg<'_>) -> Result<Bytes, ParseFault>
     ensures { Gives (λ t. t) result (forms.line (span arg.entry)) }
@@ -91,14 +104,14 @@ pub fn line(alloc: Global, arg: Arg<'_>) -> Result<Bytes, ParseFault>
     Ok(text)
 }
 
-/// Text without a newline.
+/// Returns whether the text has no newline.
 fn is_line(text: &[u8]) -> bool
     ensures { result ≡ texts.is_line text.now }
 {
     text.iter().all(|byte| *byte != b'\n')
 }
 
-/// Text of blanks alone: spaces, tabs and newlines.
+/// Returns whether the text has blanks alone: spaces, tabs and newlines.
 pub(crate) fn is_all_blank(text: &[u8]) -> bool
     ensures { result ≡ texts.is_all_blank text.now }
 {

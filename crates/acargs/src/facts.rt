@@ -9,9 +9,9 @@ ghost use Rattle.acargs.specs.declared.fault.ParseFault.TheVariants.{UnknownStat
 ghost use Rattle.acargs.specs.Inside.{inside};
 ghost use Rattle.acargs.specs.Standing.{StandsFor};
 
-/// What a statement argument stands for, as a function and as the relation that says what it is.
+/// `inside` as a function agrees with `StandsFor`, the relation that states the rules.
 pub fn inside_laws()
     ensures text { (arg s : Span) → (inside arg ≡ Ok s) ↔ StandsFor arg s }
-    // If it stands for nothing, its quotes are at fault, or it is an unknown statement at its offset.
+    // If `inside` fails, the argument's quotes have an error, or the error is an unknown statement at its offset.
     ensures fault { (arg : Span) (f : ParseFault) → inside arg ≡ Err f → ((q : QuoteFault) × IsFirstFault arg.at arg.text q × (f ≡ Quote q)) ⊎ (f ≡ UnknownStatement arg.at) }
 {}

@@ -10,26 +10,26 @@ use shellword::ShellFault;
 use std::alloc::{AllocError, AllocFailed};
 use thiserror::Error;
 
-/// What is wrong with a source: the first fault, in the order of reading, and its place as a count of bytes from the
-/// start of the file. It prints as its number and place.
+/// What is wrong with a source: the first error, in the order of reading, and its offset in bytes from the start of the
+/// file. It prints as its number and offset.
 #[derive(Clone, Copy, Debug, PartialEq, Eq, Error)]
 pub enum ParseFault {
-    /// Quotes, parentheses, NULs or the size.
+    /// Quotes, parentheses, a NUL byte, the nesting or the size of the source.
     #[error("1.{0}")]
     Quote(QuoteFault),
-    /// A macro that is none of the profile's.
+    /// A macro that the table of macros doesn't have.
     #[error("2 at {0}")]
     UnknownMacro(usize),
-    /// Other text than statements.
+    /// Text that is not a statement.
     #[error("3 at {0}")]
     UnknownStatement(usize),
     /// A macro with too few or too many arguments.
     #[error("4 at {0}")]
     ArgCount(usize),
-    /// A name or another text that has not the form wanted.
+    /// A name or another text that doesn't have the form its argument needs.
     #[error("5 at {0}")]
     BadName(usize),
-    /// Shell text: a word, a test or a list of patterns that is not read.
+    /// Shell text: a word, a test or a list of patterns outside the subset that is read.
     #[error("6.{} at {}", shell_kind(.0), .1)]
     Shell(ShellFault, usize),
     /// A macro that is allowed only at top level, or a second AC_INIT.
@@ -41,19 +41,19 @@ pub enum ParseFault {
     /// The source ends without AC_OUTPUT.
     #[error("9")]
     NoOutput,
-    /// Something other than blanks and comments behind AC_OUTPUT.
+    /// Something other than blanks and comments after AC_OUTPUT.
     #[error("10 at {0}")]
     AfterOutput(usize),
-    /// More lists of statements in one another than there may be.
+    /// Statement lists that nest too deep.
     #[error("12 at {0}")]
     TooDeep(usize),
     /// More entries than a list may have.
     #[error("13 at {0}")]
     TooMany(usize),
-    /// A version of Autoconf that is newer than the one that this engine goes by.
+    /// A version of Autoconf that is newer than 2.71, the version that this engine follows.
     #[error("14 at {0}")]
     NewerVersion(usize),
-    /// A growth of memory was refused.
+    /// Memory ran out.
     #[error("memory")]
     OutOfMemory,
 }
@@ -74,7 +74,7 @@ impl<T: Drop> From<AllocFailed<T>> for ParseFault {
     }
 }
 
-/// The number of a fault of shell text; its place in the text is not told.
+/// Returns the number of an error of shell text. Its offset in the text is not reported.
 fn shell_kind(fault: &ShellFault) -> u8 {
     match fault {
         ShellFault::BadWord(_) => 1,
@@ -83,7 +83,7 @@ fn shell_kind(fault: &ShellFault) -> u8 {
     }
 }
 
-/// A fault of shell text, in the text that begins at `at` in the source.
+/// Returns an error of shell text as an error of the source, at `at`, the offset of the argument.
 pub fn shell_fault(at: usize, fault: ShellFault) -> ParseFault
     ensures { result ≡ shell_fault at fault }
 {
@@ -93,7 +93,7 @@ pub fn shell_fault(at: usize, fault: ShellFault) -> ParseFault
     }
 }
 
-/// A fault of quoting in the source.
+/// Returns an error of quoting as an error of the source.
 pub fn quote_fault(fault: QuoteFault) -> ParseFault
     ensures { result ≡ quote_fault fault }
 {
@@ -103,7 +103,7 @@ pub fn quote_fault(fault: QuoteFault) -> ParseFault
     }
 }
 
-/// Returns the fault of a text at offset `base` with its offset in the source.
+/// Returns the error of a text that begins at `base`, with its offset in the source.
 pub(crate) fn moved_by(base: usize, fault: QuoteFault) -> QuoteFault
     requires { IsWithin base fault }
     ensures { result ≡ moved base fault }

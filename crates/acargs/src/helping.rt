@@ -1,4 +1,4 @@
-//! Help arguments.
+//! Help arguments (Autoconf's manual, "Making Your Help Strings Look Pretty").
 
 ghost use Rattle.std.specs.Prelude.{◌≡◌, MatchOption, None, Some, map};
 ghost use Rattle.m4quote.specs.Entry.{span, views};
@@ -7,10 +7,10 @@ ghost use Rattle.acargs.specs.Reading.{Gives};
 
 use crate::arguments::{arg_at, is_all_blank, text};
 use crate::fault::ParseFault;
-use crate::help::Help;
 use crate::inside::{are_blank, call_items};
 use m4quote::{Arg, Item};
 use std::alloc::Global;
+use syntax::Help;
 
 /// The macro that a help argument may call.
 const HELP_STRING: &[u8] = b"AS_HELP_STRING";
@@ -41,7 +41,7 @@ pub fn sole_call<'a, 'b>(name: &[u8], items: &'b [Item<'a>]) -> Option<(&'b [Arg
     None
 }
 
-/// Whether one of the items calls this name.
+/// Returns whether one of the items is a call of `name`.
 fn has_call(name: &[u8], items: &[Item<'_>]) -> bool
     ensures { result ≡ words.has_call name.now (views items.now) }
 {
@@ -55,7 +55,7 @@ fn has_call(name: &[u8], items: &[Item<'_>]) -> bool
     false
 }
 
-/// AS_HELP_STRING with these arguments, whose name stands at `at`.
+/// Reads the arguments of an AS_HELP_STRING whose name is at `at`.
 #[tactic(auto, unfolding(crate::specs::Help::help_string))]
 fn help_string(alloc: Global, args: &[Arg<'_>], at: usize) -> Result<Help, ParseFault>
     ensures { Gives (λ h. h) result (words.help_string (map span args.now) at) }
@@ -75,7 +75,7 @@ fn own_text(alloc: Global, arg: Arg<'_>) -> Result<Help, ParseFault>
     Ok(Help::Text { text })
 }
 
-/// The help of an argument in which these items are found.
+/// Reads the help of an argument that has these items.
 fn help_among(alloc: Global, arg: Arg<'_>, items: &[Item<'_>]) -> Result<Help, ParseFault>
     ensures { Gives (λ h. h) result (words.help_by (span arg.entry) (words.has_call words.help_string_name (views items.now)) (words.sole_call words.help_string_name (views items.now))) }
 {
@@ -88,14 +88,13 @@ fn help_among(alloc: Global, arg: Arg<'_>, items: &[Item<'_>]) -> Result<Help, P
     own_text(alloc, arg)
 }
 
-/// Returns what a help argument says. If AS_HELP_STRING is called among its items (`call_items`), that is the entry that the
-/// call makes; else it is the argument's used text.
+/// Returns the help that an argument gives. If AS_HELP_STRING is called among its items (`call_items`), it is the entry
+/// that the call makes; else it is the argument's used text.
 ///
 /// # Errors
 ///
-/// - `UnknownStatement` at the argument, if it calls AS_HELP_STRING and holds something else than blanks and `dnl` lines.
-/// - `ArgCount` at the name AS_HELP_STRING, if that has not two arguments.
-/// - The faults of the used texts.
+/// - `UnknownStatement` at the argument, if it calls AS_HELP_STRING and has anything else but blanks and `dnl` lines.
+/// - `ArgCount` at the name AS_HELP_STRING, if the call doesn't have two arguments.
 #[tactic(auto, unfolding(crate::specs::Help::help))]
 pub fn help(alloc: Global, arg: Arg<'_>) -> Result<Help, ParseFault>
     ensures { Gives (λ h. h) result (words.help (span arg.entry)) }

@@ -1,4 +1,4 @@
-//! Bare text that says nothing.
+//! Bare text that has no effect: blanks and comments.
 
 ghost use Rattle.std.specs.Prelude.{◌≡◌, false, IfOk};
 ghost use Rattle.acargs.specs.Idle as words;
@@ -7,7 +7,7 @@ use m4quote::{QuoteFault, bare_value};
 use std::alloc::{AllocError, Global};
 use textcut::is_blank;
 
-/// Whether a comment has begun, behind a byte that says nothing.
+/// Returns whether a comment is open after this byte, or `None` if the byte is neither a blank nor in a comment.
 fn behind_byte(in_comment: bool, byte: u8) -> Option<bool>
     ensures { result ≡ words.behind_byte in_comment byte }
 {
@@ -22,7 +22,7 @@ fn behind_byte(in_comment: bool, byte: u8) -> Option<bool>
     }
 }
 
-/// Whether a value of bare text has blanks and comments alone.
+/// Returns whether a value of bare text has blanks and comments alone.
 fn is_idle_value(value: &[u8]) -> bool
     ensures { result ≡ words.is_idle_from false value.now }
 {
@@ -36,7 +36,8 @@ fn is_idle_value(value: &[u8]) -> bool
     true
 }
 
-/// Whether bare text says nothing: its value has blanks and comments alone.
+/// Returns whether bare text has no effect: its value has blanks and comments alone (POSIX, Shell Command Language, "Token
+/// Recognition"). If its quotes have an error, it doesn't count as such.
 #[tactic(auto, unfolding(crate::specs::Idle::is_idle))]
 pub fn is_idle(alloc: Global, text: &[u8]) -> Result<bool, AllocError>
     ensures { IfOk result (λ b. b ≡ words.is_idle text.now) }

@@ -14,7 +14,7 @@ use m4quote::{Arg, Item, read_items_at};
 use std::alloc::Global;
 use textcut::{is_blank, trim};
 
-/// How many brackets are open behind a byte.
+/// Returns how many brackets are open after this byte.
 fn depth_behind(depth: usize, byte: u8) -> usize
     requires { depth + 1 < 2 ^ 64 }
     ensures { result ≡ words.depth_behind depth byte }
@@ -26,7 +26,7 @@ fn depth_behind(depth: usize, byte: u8) -> usize
     }
 }
 
-/// Whether the one bracket that is open before the text is closed at its end, and not before.
+/// Returns whether the one bracket that is open before the text is closed by its last byte, and not earlier.
 fn closes_at_end(text: &[u8]) -> bool
     ensures { result ≡ words.closes_at_end 1 text.now }
 {
@@ -49,7 +49,7 @@ fn is_run(text: &[u8]) -> bool
     }
 }
 
-/// Whether items say nothing but blanks.
+/// Returns whether the items are blank text alone.
 pub(crate) fn are_blank(items: &[Item<'_>]) -> bool
     ensures { result ≡ words.are_blank (views items.now) }
 {
@@ -66,7 +66,7 @@ pub(crate) fn are_blank(items: &[Item<'_>]) -> bool
     true
 }
 
-/// The one bare text that is not blank, where no call and no other such text stands beside it.
+/// If exactly one item is not blank text, and it is bare text, returns it with its offset.
 fn only_text<'a>(items: &[Item<'a>]) -> Option<(&'a [u8], usize)>
     ensures { MatchOption result (words.only_text (views items.now) ≡ None) (λ r. words.only_text (views items.now) ≡ Some (record { text = r.0.now; at = r.1 })) }
 {
@@ -86,7 +86,7 @@ fn only_text<'a>(items: &[Item<'a>]) -> Option<(&'a [u8], usize)>
     None
 }
 
-/// The blanks at the front.
+/// Returns the number of blanks at the front.
 fn blank_len(text: &[u8]) -> usize
     ensures value { result ≡ words.blank_len text.now }
     ensures within { result ≤ length text.now }
@@ -94,7 +94,7 @@ fn blank_len(text: &[u8]) -> usize
     text.iter().take_while(|byte| is_blank(**byte)).count()
 }
 
-/// What a bare text stands for that is a quoted run with blanks round it.
+/// If the bare text is one quoted run with blanks around it, returns the inside of the run.
 fn run_inside<'a>(text: &'a [u8], at: usize) -> Option<Arg<'a>>
     requires { at + length text.now < 2 ^ 64 }
     ensures { MatchOption result (words.run_inside (record { text = text.now; at = at }) ≡ None) (λ r. words.run_inside (record { text = text.now; at = at }) ≡ Some (span r)) }
@@ -122,7 +122,7 @@ fn brackets(text: &[u8]) -> usize
     text.iter().filter(|byte| is_bracket(**byte)).count()
 }
 
-/// So many brackets, less those in arguments.
+/// Returns `count` less the number of brackets in the arguments.
 fn less_arguments(count: usize, args: &[Arg<'_>]) -> usize
     ensures { result ≡ words.less_arguments count (map span args.now) }
 {
@@ -133,7 +133,7 @@ fn less_arguments(count: usize, args: &[Arg<'_>]) -> usize
     left
 }
 
-/// So many brackets, less those in the arguments of a call.
+/// Returns `count` less the number of brackets in the arguments of the item, if it is a call.
 fn less_item(count: usize, item: &Item<'_>) -> usize
     ensures { result ≡ words.less_item count (view item.now) }
 {
@@ -143,7 +143,7 @@ fn less_item(count: usize, item: &Item<'_>) -> usize
     }
 }
 
-/// The same of all items.
+/// Returns `count` less the number of brackets in the arguments of all calls.
 fn less_calls(count: usize, items: &[Item<'_>]) -> usize
     ensures { result ≡ words.less_calls count (views items.now) }
 {
@@ -154,14 +154,14 @@ fn less_calls(count: usize, items: &[Item<'_>]) -> usize
     left
 }
 
-/// Whether all brackets of the text stand in its calls.
+/// Returns whether all brackets of the text are in the arguments of its calls.
 fn is_unquoted(text: &[u8], items: &[Item<'_>]) -> bool
     ensures { result ≡ words.is_unquoted text.now (views items.now) }
 {
     less_calls(brackets(text), items) == 0
 }
 
-/// The items that an argument spells.
+/// Reads the items of an argument.
 fn items_of<'a>(alloc: Global, arg: Arg<'a>) -> Result<Vec<Item<'a>>, ParseFault>
     ensures value { Gives (λ v. views v.items) result (words.items_of (span arg.entry)) }
     ensures parts { IfOk result (λ v. ArePartsOf arg.entry.at arg.entry.text.now (views v.items)) }
@@ -172,7 +172,7 @@ fn items_of<'a>(alloc: Global, arg: Arg<'a>) -> Result<Vec<Item<'a>>, ParseFault
     }
 }
 
-/// The inside of the one quoted run that items are.
+/// If the items are one quoted run with blanks around it, returns the inside of the run.
 fn only_run<'a>(items: &[Item<'a>]) -> Option<Arg<'a>>
     requires { (s : Span) → words.only_text (views items.now) ≡ Some s → s.at + length s.text < 2 ^ 64 }
     ensures { MatchOption result (words.inside_of (words.only_text (views items.now)) ≡ None) (λ r. words.inside_of (words.only_text (views items.now)) ≡ Some (span r)) }
@@ -183,13 +183,13 @@ fn only_run<'a>(items: &[Item<'a>]) -> Option<Arg<'a>>
     }
 }
 
-/// Returns the text that a statement argument stands for: the inside of one quoted run with blanks and `dnl` lines round it,
-/// or the argument itself if no bracket is outside its calls. `inside_laws` says so in the words of `specs/Standing`.
+/// Returns the statements that an argument denotes, as a text: the inside of one quoted run with blanks and `dnl` lines
+/// around it, or the argument itself if no bracket is outside its calls. `inside_laws` states this in the words of
+/// `specs/Standing` (own).
 ///
 /// # Errors
 ///
-/// - The fault of the argument's quotes.
-/// - `UnknownStatement` at the argument, if it stands for neither.
+/// - `UnknownStatement` at the argument, if it has neither form.
 #[tactic(auto, unfolding(crate::specs::Inside::inside))]
 pub fn inside<'a>(alloc: Global, arg: Arg<'a>) -> Result<Arg<'a>, ParseFault>
     ensures { Gives span result (words.inside (span arg.entry)) }
@@ -204,9 +204,9 @@ pub fn inside<'a>(alloc: Global, arg: Arg<'a>) -> Result<Arg<'a>, ParseFault>
     Ok(arg)
 }
 
-/// Returns the items among which a call is looked for that an argument may hold quoted or not: those of the inside, if the
-/// argument is one quoted run with blanks and `dnl` lines round it, else the argument's own. Unlike in `inside`, brackets may
-/// be anywhere.
+/// Returns the items of an argument that holds one call, quoted or not: those of the inside, if the argument is one
+/// quoted run with blanks and `dnl` lines around it, else the argument's own. Unlike in `inside`, brackets may be
+/// anywhere (own).
 #[tactic(auto, unfolding(crate::specs::Inside::call_items))]
 pub fn call_items<'a>(alloc: Global, arg: Arg<'a>) -> Result<Vec<Item<'a>>, ParseFault>
     ensures { Gives (λ v. views v.items) result (words.call_items (span arg.entry)) }

@@ -26,7 +26,7 @@ fn is_number(text: &[u8]) -> bool
     !text.is_empty() && are_digits(text)
 }
 
-/// A number and one digit more, where 1,000 stands for all numbers from there on.
+/// Returns a number with one digit appended. 1,000 represents every number from 1,000 on.
 fn digit_more(number: u32, byte: u8) -> u32
     ensures { result ≡ forms.digit_more number byte }
 {
@@ -47,7 +47,7 @@ fn are_numbers(parts: &[&[u8]]) -> bool
     parts.iter().all(|part| is_number(part))
 }
 
-/// The number at `i` of a version, 0 where it has none.
+/// Returns the number at `i` of a version, or 0 if it has none there.
 fn version_number(numbers: &[&[u8]], i: usize) -> u32
     ensures { result ≡ forms.version_number (map (λ p. p.now) numbers.now) i }
 {
@@ -73,7 +73,7 @@ fn is_version(numbers: &[&[u8]]) -> bool
     are_numbers(numbers) && numbers.len() <= 3
 }
 
-/// Numbers that are a version, which is not over 2.71.
+/// Checks that the numbers are a version, and that it is at most 2.71.
 #[tactic(auto, unfolding(crate::specs::Numbers::version_of))]
 fn check_version(at: usize, numbers: &[&[u8]]) -> Result<(), ParseFault>
     ensures { Gives (λ x. x) result (forms.version_of at (map (λ p. p.now) numbers.now)) }
@@ -87,8 +87,13 @@ fn check_version(at: usize, numbers: &[&[u8]]) -> Result<(), ParseFault>
     Ok(())
 }
 
-/// The version that AC_PREREQ wants: one to three numbers with dots, `BadName` otherwise; one that is over 2.71 is
-/// `NewerVersion`. A number that is not there counts as 0.
+/// Checks the version that AC_PREREQ requires: one to three numbers with dots between them. An absent number counts as
+/// 0 (Autoconf's manual, "Versioning").
+///
+/// # Errors
+///
+/// - `BadName` at the argument, if the text has another form.
+/// - `NewerVersion` at the argument, if the version is newer than 2.71.
 #[tactic(auto, unfolding(crate::specs::Numbers::version))]
 pub fn version(alloc: Global, arg: Arg<'_>) -> Result<(), ParseFault>
     ensures { Gives (λ x. x) result (forms.version (span arg.entry)) }
@@ -98,7 +103,11 @@ pub fn version(alloc: Global, arg: Arg<'_>) -> Result<(), ParseFault>
     check_version(arg.at, numbers.as_slice())
 }
 
-/// An exit status from 1 to 255, 1 where the text is empty; `BadName` otherwise.
+/// Returns an exit status from 1 to 255, or 1 if the text is empty (own).
+///
+/// # Errors
+///
+/// - `BadName` at the argument, if the text is any other.
 #[tactic(auto, unfolding(crate::specs::Numbers::status))]
 pub fn status(alloc: Global, arg: Arg<'_>) -> Result<u8, ParseFault>
     ensures { Gives (λ n. n) result (forms.status (span arg.entry)) }
@@ -114,7 +123,11 @@ pub fn status(alloc: Global, arg: Arg<'_>) -> Result<u8, ParseFault>
     Ok(status as u8)
 }
 
-/// The name of the one language that is read, C; `BadName` otherwise.
+/// Checks the name of a language. C is the only one that is read (own).
+///
+/// # Errors
+///
+/// - `BadName` at the argument, if the text is another.
 #[tactic(auto, unfolding(crate::specs::Numbers::language))]
 pub fn language(alloc: Global, arg: Arg<'_>) -> Result<(), ParseFault>
     ensures { Gives (λ x. x) result (forms.language (span arg.entry)) }

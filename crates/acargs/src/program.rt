@@ -1,4 +1,4 @@
-//! Arguments of tests: names of programs, and the texts of programs that are compiled.
+//! Arguments of checks: names of programs, and the texts of programs that are compiled.
 
 ghost use Rattle.std.specs.Prelude.{◌≡◌, ◌++◌, map, IfOk, OnOk};
 ghost use Rattle.std.specs.List.{list_all};
@@ -9,14 +9,14 @@ ghost use Rattle.acargs.specs.Reading.{Gives};
 
 use crate::arguments::{bare_text, text};
 use crate::fault::{ParseFault, shell_fault};
-use conftest::default_includes;
+use csource::default_includes;
 use deftable::Bytes;
 use m4quote::Arg;
 use shellword::{HereText, read_here};
 use std::alloc::{AllocError, Global};
 use textcut::{fields, is_blank, parts, trim};
 
-/// Copies of names.
+/// Copies the names.
 fn copies(alloc: Global, names: &[&[u8]]) -> Result<Vec<Bytes>, AllocError>
     ensures { IfOk result (λ v. v.items ≡ map (λ n. n.now) names.now) }
 {
@@ -55,7 +55,7 @@ fn are_programs(names: &[&[u8]]) -> bool
     names.iter().all(|name| is_program(name))
 }
 
-/// Whether a text lists programs alone between blanks.
+/// Returns whether every field of a text is the name of a program.
 #[tactic(auto, using(crate::proofs::Lists::mapped))]
 fn lists_programs(alloc: Global, text: &[u8]) -> Result<bool, AllocError>
     ensures { IfOk result (λ b. b ≡ list_all words.is_program (fields text.now)) }
@@ -64,8 +64,12 @@ fn lists_programs(alloc: Global, text: &[u8]) -> Result<bool, AllocError>
     Ok(are_programs(names.as_slice()))
 }
 
-/// The name of a program: a text that is not empty and has no blank, `$`, backslash and backquote (own); `BadName` at the
-/// argument otherwise.
+/// Returns the name of a program, without the blanks at its ends: a text that is not empty and has no blank, `$`,
+/// backslash and backquote (own).
+///
+/// # Errors
+///
+/// - `BadName` at the argument, if the text is any other.
 #[tactic(auto, unfolding(crate::specs::Programs::program))]
 pub fn program(alloc: Global, arg: Arg<'_>) -> Result<Bytes, ParseFault>
     ensures { Gives (λ t. t) result (words.program (span arg.entry)) }
@@ -77,7 +81,7 @@ pub fn program(alloc: Global, arg: Arg<'_>) -> Result<Bytes, ParseFault>
     Ok(text)
 }
 
-/// The programs that a text at `at` lists between blanks.
+/// Returns the programs that a text at `at` lists between blanks.
 #[tactic(auto, using(crate::proofs::Lists::mapped_and_counted))]
 fn programs_in(alloc: Global, text: &[u8], at: usize) -> Result<Vec<Bytes>, ParseFault>
     ensures { Gives (λ v. v.items) result (words.programs_in at text.now) }
@@ -92,8 +96,11 @@ fn programs_in(alloc: Global, text: &[u8], at: usize) -> Result<Vec<Bytes>, Pars
     Ok(copies(alloc, names.as_slice())?)
 }
 
-/// The programs that an argument lists between blanks; `BadName` at the argument where there is none, or one that is no
-/// name.
+/// Returns the programs that an argument lists between blanks.
+///
+/// # Errors
+///
+/// - `BadName` at the argument, if it lists none, or if one of them is no name of a program.
 #[tactic(auto, unfolding(crate::specs::Programs::programs))]
 pub fn programs(alloc: Global, arg: Arg<'_>) -> Result<Vec<Bytes>, ParseFault>
     ensures { Gives (λ v. v.items) result (words.programs (span arg.entry)) }
@@ -102,14 +109,15 @@ pub fn programs(alloc: Global, arg: Arg<'_>) -> Result<Vec<Bytes>, ParseFault>
     programs_in(alloc, text.as_slice(), arg.at)
 }
 
-/// Whether a line holds AC_INCLUDES_DEFAULT alone, blanks aside.
+/// Returns whether a line is AC_INCLUDES_DEFAULT alone, with blanks around it or none.
 fn is_default_line(line: &[u8]) -> bool
     ensures { result ≡ words.is_default_line line.now }
 {
     trim(line) == b"AC_INCLUDES_DEFAULT".as_slice()
 }
 
-/// Puts a line, with a newline unless it is the last, or the default includes in its place.
+/// Appends a line, with a newline unless it is the last. A line that is AC_INCLUDES_DEFAULT becomes the default
+/// includes.
 fn put_line(out: &mut Vec<u8>, line: &[u8], is_last: bool) -> Result<(), AllocError>
     ensures { OnOk result (out.new.items ≡ out.old.items ++ words.line_or_includes is_last line.now) }
 {
@@ -123,7 +131,7 @@ fn put_line(out: &mut Vec<u8>, line: &[u8], is_last: bool) -> Result<(), AllocEr
     Ok(())
 }
 
-/// The text with the default includes where they are called for.
+/// Returns the text with the default includes in the place of each line that is AC_INCLUDES_DEFAULT.
 #[tactic(auto, unfolding(crate::specs::Programs::with_includes))]
 fn with_includes(alloc: Global, text: &[u8]) -> Result<Vec<u8>, AllocError>
     ensures { IfOk result (λ v. v.items ≡ words.with_includes text.now) }
@@ -136,8 +144,12 @@ fn with_includes(alloc: Global, text: &[u8]) -> Result<Vec<u8>, AllocError>
     Ok(out)
 }
 
-/// The text of a program that is compiled, or a part of one, as here text (Autoconf's manual, "Generating Sources"): a
-/// line that holds AC_INCLUDES_DEFAULT alone stands for the default includes.
+/// Returns the text of a program that is compiled, or a fragment of one, as here text. A line that is
+/// AC_INCLUDES_DEFAULT alone becomes the default includes (Autoconf's manual, "Generating Sources").
+///
+/// # Errors
+///
+/// - `Shell` at the argument, if the text can't be read as here text.
 #[tactic(auto, unfolding(crate::specs::Programs::source_text))]
 pub fn source_text(alloc: Global, arg: Arg<'_>) -> Result<HereText, ParseFault>
     ensures { Gives (λ h. h) result (words.source_text (span arg.entry)) }

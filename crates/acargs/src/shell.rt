@@ -1,4 +1,4 @@
-//! Readers of arguments that are shell text. A fault is placed at the argument.
+//! Readers of arguments that are shell text. If the used text can't be read, the error is `Shell` at the argument.
 
 ghost use Rattle.std.specs.Prelude.{◌≡◌};
 ghost use Rattle.m4quote.specs.Entry.{span};
@@ -11,7 +11,7 @@ use m4quote::Arg;
 use shellword::{HereText, Patterns, Test, Word, read_here, read_patterns, read_test, read_word};
 use std::alloc::Global;
 
-/// The word that a used text is.
+/// Returns the used text as one word (POSIX, Shell Command Language, "Word Expansions").
 #[tactic(auto, unfolding(crate::specs::Shell::word))]
 pub fn word(alloc: Global, arg: Arg<'_>) -> Result<Word, ParseFault>
     ensures { Gives (λ w. w) result (forms.word (span arg.entry)) }
@@ -23,7 +23,7 @@ pub fn word(alloc: Global, arg: Arg<'_>) -> Result<Word, ParseFault>
     }
 }
 
-/// The here text that a used text is.
+/// Returns the used text as here text (POSIX, Shell Command Language, "Here-Document").
 #[tactic(auto, unfolding(crate::specs::Shell::here_text))]
 pub fn here_text(alloc: Global, arg: Arg<'_>) -> Result<HereText, ParseFault>
     ensures { Gives (λ h. h) result (forms.here_text (span arg.entry)) }
@@ -35,7 +35,7 @@ pub fn here_text(alloc: Global, arg: Arg<'_>) -> Result<HereText, ParseFault>
     }
 }
 
-/// The test that a used text is.
+/// Returns the used text as a test (POSIX, `test`).
 #[tactic(auto, unfolding(crate::specs::Shell::shell_test))]
 pub fn test(alloc: Global, arg: Arg<'_>) -> Result<Test, ParseFault>
     ensures { Gives (λ t. t) result (forms.shell_test (span arg.entry)) }
@@ -47,7 +47,7 @@ pub fn test(alloc: Global, arg: Arg<'_>) -> Result<Test, ParseFault>
     }
 }
 
-/// The list of patterns that a used text is.
+/// Returns the used text as a list of patterns (POSIX, Shell Command Language, "Case Conditional Construct").
 #[tactic(auto, unfolding(crate::specs::Shell::patterns))]
 pub fn patterns(alloc: Global, arg: Arg<'_>) -> Result<Patterns, ParseFault>
     ensures { Gives (λ p. p) result (forms.patterns (span arg.entry)) }

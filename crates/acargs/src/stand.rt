@@ -1,4 +1,4 @@
-//! Where a call stands as a statement.
+//! Which calls are statements, by the text around them.
 
 ghost use Rattle.std.specs.Prelude.{◌≡◌, ◌≤◌, map, length, reverse};
 ghost use Rattle.std.specs.List.{prefix_len};
@@ -14,7 +14,7 @@ fn is_space(byte: u8) -> bool
     byte == b' ' || byte == b'\t'
 }
 
-/// The spaces and tabs at the front.
+/// Returns the number of spaces and tabs at the front.
 fn space_len(text: &[u8]) -> usize
     ensures value { result ≡ prefix_len words.is_space text.now }
     ensures within { result ≤ length text.now }
@@ -22,7 +22,7 @@ fn space_len(text: &[u8]) -> usize
     text.iter().take_while(|byte| is_space(**byte)).count()
 }
 
-/// The spaces and tabs at the end.
+/// Returns the number of spaces and tabs at the end.
 fn end_space_len(text: &[u8]) -> usize
     ensures value { result ≡ prefix_len words.is_space (reverse text.now) }
     ensures within { result ≤ length text.now }
@@ -33,7 +33,7 @@ fn end_space_len(text: &[u8]) -> usize
         .count()
 }
 
-/// Spaces and tabs aside, the text begins with a newline, `;` or `#`, or is empty.
+/// Returns whether the text, after its leading spaces and tabs, begins with a newline, `;` or `#`, or is empty.
 fn begins_line(text: &[u8]) -> bool
     ensures { result ≡ words.begins_line text.now }
 {
@@ -41,7 +41,7 @@ fn begins_line(text: &[u8]) -> bool
     n == text.len() || matches!(text[n], b'\n' | b';' | b'#')
 }
 
-/// Spaces and tabs aside, the text ends in a newline or `;`, or is empty.
+/// Returns whether the text, before its trailing spaces and tabs, ends with a newline or `;`, or is empty.
 fn ends_line(text: &[u8]) -> bool
     ensures { result ≡ words.ends_line text.now }
 {
@@ -49,24 +49,24 @@ fn ends_line(text: &[u8]) -> bool
     n == text.len() || matches!(text[text.len() - 1 - n], b'\n' | b';')
 }
 
-/// What an item is to a call behind it.
+/// What precedes a call.
 #[derive(Clone, Copy, Debug, PartialEq, Eq)]
 pub struct Edge {
-    /// Where bare text begins, and its length.
+    /// The offset of the bare text, and its length; 0 if the item is a call.
     pub at: usize,
     pub len: usize,
-    /// Whether a call may stand right behind it.
+    /// Whether a call may directly follow.
     pub free: bool,
 }
 
-/// What stands before the first item: nothing.
+/// What precedes the first item: nothing.
 pub const NO_EDGE: Edge = Edge {
     at: 0,
     len: 0,
     free: true,
 };
 
-/// What an item is to a call behind it.
+/// Returns what the item is to a call that follows it.
 pub fn edge_of(item: &Item<'_>) -> Edge
     ensures { result ≡ words.edge_of (view item.now) }
 {
@@ -80,14 +80,14 @@ pub fn edge_of(item: &Item<'_>) -> Edge
     }
 }
 
-/// Whether bare text goes up to a place.
+/// Returns whether the bare text extends to offset `at`, with no dropped line between.
 fn reaches(edge: Edge, at: usize) -> bool
     ensures { result ≡ words.reaches edge at }
 {
     at.saturating_sub(edge.at) == edge.len
 }
 
-/// Whether a call goes up to a place.
+/// Returns whether a call extends to offset `to`, with no dropped line between.
 fn call_reaches(name: &[u8], args: &[Arg<'_>], at: usize, to: usize) -> bool
     ensures { result ≡ words.call_reaches name.now (map span args.now) at to }
 {
@@ -97,7 +97,7 @@ fn call_reaches(name: &[u8], args: &[Arg<'_>], at: usize, to: usize) -> bool
     }
 }
 
-/// Whether a call may stand before these items.
+/// Returns whether a statement may be followed by these items.
 fn is_free_behind(name: &[u8], args: &[Arg<'_>], at: usize, items: &[Item<'_>]) -> bool
     ensures { result ≡ words.is_free_behind name.now (map span args.now) at (views items.now) }
 {
@@ -112,7 +112,8 @@ fn is_free_behind(name: &[u8], args: &[Arg<'_>], at: usize, items: &[Item<'_>]) 
     }
 }
 
-/// Whether a call between what stands before it and the items behind it stands as a statement does.
+/// Returns whether a call is a statement: it is on a line of its own, or `;` separates it from what precedes and follows it
+/// (own).
 #[tactic(auto, unfolding(crate::specs::Stand::is_statement))]
 pub fn is_statement(
     edge: Edge,

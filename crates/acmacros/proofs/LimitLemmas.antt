@@ -1,4 +1,4 @@
--- What a statement adds to a source's lists leaves them within their limits.
+-- The names that a statement adds to a source's lists leave them within their limits.
 use Rattle.std.proofs.Common.{◌≡◌, ℕ, ◌+◌, ◌≤◌, ◌<◌, Bool, true, false, ◌||◌, List, [], ◌∷◌, ◌++◌, length, Ok, refl, sym, ap, subst, cond, ◌∙◌, arith}
 use Rattle.std.specs.Prelude.{codes, bytes_eq, nat_lt, not}
 use Rattle.std.specs.List.{list_any, IsDistinct}
@@ -11,35 +11,36 @@ use Rattle.deftable.proofs.Names.{has_name-with_name, with_name-known, with_name
 use Rattle.textcut.specs.Cuts.{fields}
 use Rattle.m4quote.specs.Entry.{Span}
 use Rattle.acargs.specs.declared.fault.ParseFault.TheVariants.{BadName, TooMany}
-use Rattle.acargs.specs.declared.output.Output.{Output}
-use Rattle.acargs.specs.declared.feature.OptionKind.{OptionKind}
-use Rattle.acargs.specs.declared.feature.OptionKind.TheVariants.{Feature, Package}
+use Rattle.syntax.specs.declared.output.Output.{Output}
+use Rattle.syntax.specs.declared.feature.OptionKind.{OptionKind}
+use Rattle.syntax.specs.declared.feature.OptionKind.TheVariants.{Feature, Package}
 use Rattle.acargs.specs.Arguments.{arg_at, is_given, line, name, text, title}
 use Rattle.acargs.specs.Feature.{feature_variable}
 use Rattle.acargs.specs.Help.{help}
 use Rattle.acargs.specs.Numbers.{language, status, version}
-use Rattle.acargs.specs.Output.{is_path, output_in, has_output}
+use Rattle.syntax.specs.Output.{has_output}
+use Rattle.acargs.specs.Path.{is_path, output_in}
 use Rattle.acargs.specs.Programs.{program, programs}
 use Rattle.acargs.specs.Reading.{◌>>=◌, wants}
 use Rattle.acargs.specs.Shell.{word, here_text}
-use Rattle.acargs.specs.Texts.{is_empty}
-use Rattle.acargs.specs.Outputs.{outputs, with_fields, one_more}
+use Rattle.syntax.specs.Texts.{is_empty}
+use Rattle.acargs.specs.Outputs.{outputs, with_fields, one_more, wanted}
 use Rattle.acargs.proofs.Binds.{bind_ok, ok_is, wants_ok}
 use Rattle.acmacros.specs.declared.macros.PlainMacro.{PlainMacro}
 use Rattle.acmacros.specs.declared.macros.PlainMacro.TheVariants as macro
 use Rattle.acmacros.specs.declared.macros.QuestionMacro.{QuestionMacro}
 use Rattle.acmacros.specs.declared.macros.QuestionMacro.TheVariants as questions
-use Rattle.acargs.specs.declared.help.Help.{Help}
-use Rattle.acmacros.specs.declared.program.Try.{Try}
-use Rattle.acmacros.specs.declared.scene.Scene as scene
-use Rattle.acmacros.specs.declared.statement.Plain.{Plain}
-use Rattle.acmacros.specs.declared.statement.Plain.TheVariants.{Subst, SubstValue, Define, DefineUnquoted}
-use Rattle.acmacros.specs.declared.statement.Question.{Question}
-use Rattle.acmacros.specs.declared.statement.Question.TheVariants.{Given}
-use Rattle.acmacros.specs.Limits.{IsWithinLimits}
+use Rattle.syntax.specs.declared.help.Help.{Help}
+use Rattle.syntax.specs.declared.program.Try.{Try}
+use Rattle.syntax.specs.declared.declarations.Declarations as declarations
+use Rattle.syntax.specs.declared.statement.Plain.{Plain}
+use Rattle.syntax.specs.declared.statement.Plain.TheVariants.{Subst, SubstValue, Define, DefineUnquoted}
+use Rattle.syntax.specs.declared.statement.Question.{Question}
+use Rattle.syntax.specs.declared.statement.Question.TheVariants.{Given}
+use Rattle.syntax.specs.Limits.{IsWithinLimits}
 use Rattle.acmacros.specs.Room.{has_room}
-use Rattle.acmacros.specs.Rows.{plain_of, init, tarname, prereq, lang, config_files, subst as subst_row, subst_of, defined, define, unquoted_of, unquoted, define_unquoted, msg_error, arg_var, question_of, given, declared}
-use Rattle.acmacros.specs.Scene.{start, after, after_question, with_tool}
+use Rattle.acmacros.specs.Rows.{plain_of, init, tarname, prereq, lang, config_files, subst as subst_row, subst_of, defined, define, unquoted_of, unquoted, define_unquoted, msg_error, arg_var, question_of, given, options_of}
+use Rattle.syntax.specs.Lists.{start, after, after_question, with_tool}
 use Rattle.acmacros.specs.Searches.{growth, output_variable, optional_text, compilers, check_prog, check_progs, path_prog, prog_cc}
 use Rattle.acmacros.specs.Tries.{tried_program, tries}
 
@@ -54,7 +55,7 @@ AreDistinct-[] : AreDistinct []
 unfolding IsDistinct
 AreDistinct-[] = tt
 
--- every name of one list is one of the other
+-- Every name of one list is in the other.
 abbrev IsPart : List (List ℕ) → List (List ℕ) → Type 0
 IsPart p s = (n : List ℕ) → has_name p n ≡ true → has_name s n ≡ true
 
@@ -79,7 +80,7 @@ length-with_name ns n = by (has_name ns n) refl
     by true e = rw (with_name-known ns n e) (omega arith)
     by false e = rw (with_name-new ns n e) (length-append ns (n ∷ []))
 
--- a name that is there before is there after
+-- A name that is in the list before is in it after.
 growth_falls : (ns : List (List ℕ)) (k q : List ℕ) → growth (with_name ns k) q ≤ growth ns q
 growth_falls ns k q = subst (λ (b : Bool). cond b 0 1 ≤ growth ns q) (sym (has_name-with_name ns k q)) (by (bytes_eq q k) (has_name ns q))
   where
@@ -112,8 +113,8 @@ room_for_five ns a b c d e room =
         → b1 ≤ b → c1 ≤ c → c2 ≤ c1 → d1 ≤ d → d2 ≤ d1 → d3 ≤ d2 → e1 ≤ e → e2 ≤ e1 → e3 ≤ e2 → e4 ≤ e3 → l + a + b + c + d + e ≤ 1024 → l5 ≤ 1024
     falling l l1 l2 l3 l4 l5 a b b1 c c1 c2 d d1 d2 d3 e e1 e2 e3 e4 h1 h2 h3 h4 h5 i1 i2 i3 i4 i5 i6 i7 i8 i9 i10 room = omega arith
 
--- there are at most as many precious variables as output variables
-pub precious_count : (c : scene.Scene) → IsWithinLimits c → length c.precious ≤ 1024
+-- There are at most as many precious variables as output variables.
+pub precious_count : (c : declarations.Declarations) → IsWithinLimits c → length c.precious ≤ 1024
 precious_count c h =
     let few : length c.precious ≤ length c.substituted =
     length-le_from_is_member nat_list_eq_equiv c.precious c.substituted h.distinct
@@ -122,40 +123,41 @@ precious_count c h =
 
 -- ---- files
 
-one_more_fits : (at : ℕ) (before outs o : List Output) (field : List ℕ) → one_more at before outs field ≡ Ok o → length before + length o ≤ 1024
-unfolding one_more
-one_more_fits at before outs o field e =
+one_more_fits : (at : ℕ) (own other outs o : List Output) (field : List ℕ) → one_more at own other outs field ≡ Ok o → length own + length o ≤ 1024
+unfolding one_more wanted
+one_more_fits at own other outs o field e =
     let one = output_in field in
-    let a = bind_ok (wants (is_path one.name) (BadName at)) _ _ e in
+    let w = bind_ok (wanted at own other outs one) _ _ e in
+    let a = bind_ok (wants (is_path one.name) (BadName at)) _ _ w.1 in
     let b = bind_ok (wants (is_path one.template) (BadName at)) _ _ a.2 in
-    let c = bind_ok (wants (not (has_output before one.name)) (BadName at)) _ _ b.2 in
-    let d = bind_ok (wants (not (has_output outs one.name)) (BadName at)) _ _ c.2 in
-    let f = bind_ok (wants (nat_lt (length before + length outs) 1024) (TooMany at)) _ _ d.2 in
-    let room : length before + length outs < 1024 = ltb-true _ _ (wants_ok _ _ _ f.1) in
-    let longer : length before + length (outs ++ output_in field ∷ []) ≤ 1024 = rw length-append (omega (arith, room)) in
-    subst (λ (o : List Output). length before + length o ≤ 1024) (ok_is _ o f.2) longer
+    let c = bind_ok (wants (not (has_output own one.name)) (BadName at)) _ _ b.2 in
+    let d = bind_ok (wants (not (has_output other one.name)) (BadName at)) _ _ c.2 in
+    let f = bind_ok (wants (not (has_output outs one.name)) (BadName at)) _ _ d.2 in
+    let room : length own + length outs < 1024 = ltb-true _ _ (wants_ok _ _ _ f.2) in
+    let longer : length own + length (outs ++ output_in field ∷ []) ≤ 1024 = rw length-append (omega (arith, room)) in
+    subst (λ (o : List Output). length own + length o ≤ 1024) (ok_is _ o w.2) longer
 
-fields_fit : (at : ℕ) (before outs o : List Output) (list : List (List ℕ)) → length before + length outs ≤ 1024 → with_fields at before outs list ≡ Ok o → length before + length o ≤ 1024
+fields_fit : (at : ℕ) (own other outs o : List Output) (list : List (List ℕ)) → length own + length outs ≤ 1024 → with_fields at own other outs list ≡ Ok o → length own + length o ≤ 1024
 unfolding with_fields
-fields_fit at before outs o [] h e = subst (λ (o : List Output). length before + length o ≤ 1024) (ok_is _ o e) h
-fields_fit at before outs o (field ∷ more) h e =
+fields_fit at own other outs o [] h e = subst (λ (o : List Output). length own + length o ≤ 1024) (ok_is _ o e) h
+fields_fit at own other outs o (field ∷ more) h e =
     let a = bind_ok _ _ _ e in
-    fields_fit at before a.0 o more (one_more_fits at before outs a.0 field a.1) a.2
+    fields_fit at own other a.0 o more (one_more_fits at own other outs a.0 field a.1) a.2
 
-outputs_fit : (before o : List Output) (arg : Span) → length before ≤ 1024 → outputs before arg ≡ Ok o → length before + length o ≤ 1024
+outputs_fit : (own other o : List Output) (arg : Span) → length own ≤ 1024 → outputs own other arg ≡ Ok o → length own + length o ≤ 1024
 unfolding outputs
-outputs_fit before o arg h e =
+outputs_fit own other o arg h e =
     let a = bind_ok (text arg) _ _ e in
     let b = bind_ok (wants (nat_lt 0 (length (fields a.0))) (BadName arg.at)) _ _ a.2 in
-    fields_fit arg.at before [] o (fields a.0) (omega (arith, h)) b.2
+    fields_fit arg.at own other [] o (fields a.0) (omega (arith, h)) b.2
 
 -- ---- statements
 
-abbrev Keeps : scene.Scene → Plain → Type 0
+abbrev Keeps : declarations.Declarations → Plain → Type 0
 Keeps c s = IsWithinLimits (after c s)
 
--- one output variable more
-variable_fits : (c : scene.Scene) (n : List ℕ) → has_room c.substituted n ≡ true → IsWithinLimits c → IsWithinLimits (record c { substituted = with_name c.substituted n })
+-- One output variable is appended.
+variable_fits : (c : declarations.Declarations) (n : List ℕ) → has_room c.substituted n ≡ true → IsWithinLimits c → IsWithinLimits (record c { substituted = with_name c.substituted n })
 variable_fits c n room h = record {
   substituted = room_for c.substituted n room h.substituted;
   distinct = h.distinct;
@@ -163,9 +165,10 @@ variable_fits c n room h = record {
   features = h.features;
   packages = h.packages;
   files = h.files;
+  headers = h.headers;
 }
 
-init_keeps : (c : scene.Scene) (args : List Span) (s : Plain) → init args ≡ Ok s → IsWithinLimits c → Keeps c s
+init_keeps : (c : declarations.Declarations) (args : List Span) (s : Plain) → init args ≡ Ok s → IsWithinLimits c → Keeps c s
 unfolding init after
 init_keeps c args s e h =
     let a = bind_ok (title (arg_at args 0)) _ _ e in
@@ -174,25 +177,25 @@ init_keeps c args s e h =
     let f = bind_ok (tarname (arg_at args 3) a.0) _ _ d.2 in
     let g = bind_ok (title (arg_at args 4)) _ _ f.2 in
     subst (Keeps c) (ok_is _ s g.2)
-    (record { substituted = h.substituted; distinct = h.distinct; precious = h.precious; features = h.features; packages = h.packages; files = h.files })
+    (record { substituted = h.substituted; distinct = h.distinct; precious = h.precious; features = h.features; packages = h.packages; files = h.files; headers = h.headers })
 
-prereq_keeps : (c : scene.Scene) (args : List Span) (s : Plain) → prereq args ≡ Ok s → IsWithinLimits c → Keeps c s
+prereq_keeps : (c : declarations.Declarations) (args : List Span) (s : Plain) → prereq args ≡ Ok s → IsWithinLimits c → Keeps c s
 unfolding prereq after
 prereq_keeps c args s e h = let a = bind_ok (version (arg_at args 0)) _ _ e in subst (Keeps c) (ok_is _ s a.2) h
 
-lang_keeps : (c : scene.Scene) (args : List Span) (s : Plain) → lang args ≡ Ok s → IsWithinLimits c → Keeps c s
+lang_keeps : (c : declarations.Declarations) (args : List Span) (s : Plain) → lang args ≡ Ok s → IsWithinLimits c → Keeps c s
 unfolding lang after
 lang_keeps c args s e h = let a = bind_ok (language (arg_at args 0)) _ _ e in subst (Keeps c) (ok_is _ s a.2) h
 
-files_keep : (c : scene.Scene) (args : List Span) (s : Plain) → config_files c args ≡ Ok s → IsWithinLimits c → Keeps c s
+files_keep : (c : declarations.Declarations) (args : List Span) (s : Plain) → config_files c args ≡ Ok s → IsWithinLimits c → Keeps c s
 unfolding config_files after
 files_keep c args s e h =
-    let a = bind_ok (outputs c.files (arg_at args 0)) _ _ e in
-    let fit : length c.files + length a.0 ≤ 1024 = outputs_fit c.files a.0 (arg_at args 0) h.files a.1 in
+    let a = bind_ok (outputs c.files c.headers (arg_at args 0)) _ _ e in
+    let fit : length c.files + length a.0 ≤ 1024 = outputs_fit c.files c.headers a.0 (arg_at args 0) h.files a.1 in
     subst (Keeps c) (ok_is _ s a.2)
-    (record { substituted = h.substituted; distinct = h.distinct; precious = h.precious; features = h.features; packages = h.packages; files = rw (length-append c.files a.0) fit })
+    (record { substituted = h.substituted; distinct = h.distinct; precious = h.precious; features = h.features; packages = h.packages; files = rw (length-append c.files a.0) fit; headers = h.headers })
 
-subst_of_keeps : (c : scene.Scene) (n : List ℕ) (arg : Span) (s : Plain) → has_room c.substituted n ≡ true → subst_of n arg ≡ Ok s → IsWithinLimits c → Keeps c s
+subst_of_keeps : (c : declarations.Declarations) (n : List ℕ) (arg : Span) (s : Plain) → has_room c.substituted n ≡ true → subst_of n arg ≡ Ok s → IsWithinLimits c → Keeps c s
 unfolding subst_of after
 subst_of_keeps c n arg s room e h =
     elim (is_given arg) as (λ b. cond b (word arg >>= λ w. Ok (SubstValue n w)) (Ok (Subst n)) ≡ Ok s → Keeps c s) [
@@ -200,21 +203,21 @@ subst_of_keeps c n arg s room e h =
       | false ↦ λ e. subst (Keeps c) (ok_is _ s e) (variable_fits c n room h)
     ] e
 
-subst_keeps : (c : scene.Scene) (args : List Span) (s : Plain) → subst_row c args ≡ Ok s → IsWithinLimits c → Keeps c s
+subst_keeps : (c : declarations.Declarations) (args : List Span) (s : Plain) → subst_row c args ≡ Ok s → IsWithinLimits c → Keeps c s
 unfolding subst_row
 subst_keeps c args s e h =
     let n = bind_ok (name (arg_at args 0)) _ _ e in
     let w = bind_ok _ _ _ n.2 in
     subst_of_keeps c n.0 (arg_at args 1) s (wants_ok _ _ _ w.1) w.2 h
 
-define_keeps : (c : scene.Scene) (args : List Span) (s : Plain) → define args ≡ Ok s → IsWithinLimits c → Keeps c s
+define_keeps : (c : declarations.Declarations) (args : List Span) (s : Plain) → define args ≡ Ok s → IsWithinLimits c → Keeps c s
 unfolding define after
 define_keeps c args s e h =
     let n = bind_ok (name (arg_at args 0)) _ _ e in
     let v = bind_ok (defined args) _ _ n.2 in
     subst (Keeps c) (ok_is _ s v.2) h
 
-unquoted_of_keeps : (c : scene.Scene) (n t : List ℕ) (arg : Span) (s : Plain) → unquoted_of n t arg ≡ Ok s → IsWithinLimits c → Keeps c s
+unquoted_of_keeps : (c : declarations.Declarations) (n t : List ℕ) (arg : Span) (s : Plain) → unquoted_of n t arg ≡ Ok s → IsWithinLimits c → Keeps c s
 unfolding unquoted_of after
 unquoted_of_keeps c n t arg s e h =
     elim (is_empty t) as (λ b. cond b (Ok (Define n (codes "/**/"))) (here_text arg >>= λ h. Ok (DefineUnquoted n h)) ≡ Ok s → Keeps c s) [
@@ -222,7 +225,7 @@ unquoted_of_keeps c n t arg s e h =
       | false ↦ λ e. let w = bind_ok (here_text arg) _ _ e in subst (Keeps c) (ok_is _ s w.2) h
     ] e
 
-unquoted_keeps : (c : scene.Scene) (n : List ℕ) (args : List Span) (s : Plain) → unquoted n args ≡ Ok s → IsWithinLimits c → Keeps c s
+unquoted_keeps : (c : declarations.Declarations) (n : List ℕ) (args : List Span) (s : Plain) → unquoted n args ≡ Ok s → IsWithinLimits c → Keeps c s
 unfolding unquoted after
 unquoted_keeps c n args s e h =
     elim (nat_lt (length args) 2) as (λ b. cond b (Ok (Define n (codes "1"))) (line (arg_at args 1) >>= λ t. unquoted_of n t (arg_at args 1)) ≡ Ok s → Keeps c s) [
@@ -230,18 +233,18 @@ unquoted_keeps c n args s e h =
       | false ↦ λ e. let w = bind_ok (line (arg_at args 1)) _ _ e in unquoted_of_keeps c n w.0 (arg_at args 1) s w.2 h
     ] e
 
-define_unquoted_keeps : (c : scene.Scene) (args : List Span) (s : Plain) → define_unquoted args ≡ Ok s → IsWithinLimits c → Keeps c s
+define_unquoted_keeps : (c : declarations.Declarations) (args : List Span) (s : Plain) → define_unquoted args ≡ Ok s → IsWithinLimits c → Keeps c s
 unfolding define_unquoted
 define_unquoted_keeps c args s e h = let n = bind_ok (name (arg_at args 0)) _ _ e in unquoted_keeps c n.0 args s n.2 h
 
-error_keeps : (c : scene.Scene) (args : List Span) (s : Plain) → msg_error args ≡ Ok s → IsWithinLimits c → Keeps c s
+error_keeps : (c : declarations.Declarations) (args : List Span) (s : Plain) → msg_error args ≡ Ok s → IsWithinLimits c → Keeps c s
 unfolding msg_error after
 error_keeps c args s e h =
     let n = bind_ok (here_text (arg_at args 0)) _ _ e in
     let v = bind_ok (status (arg_at args 1)) _ _ n.2 in
     subst (Keeps c) (ok_is _ s v.2) h
 
-arg_var_keeps : (c : scene.Scene) (args : List Span) (s : Plain) → arg_var c args ≡ Ok s → IsWithinLimits c → Keeps c s
+arg_var_keeps : (c : declarations.Declarations) (args : List Span) (s : Plain) → arg_var c args ≡ Ok s → IsWithinLimits c → Keeps c s
 unfolding arg_var after
 arg_var_keeps c args s e h =
     let n = bind_ok (name (arg_at args 0)) _ _ e in
@@ -255,17 +258,18 @@ arg_var_keeps c args s e h =
       features = h.features;
       packages = h.packages;
       files = h.files;
+      headers = h.headers;
     })
 
--- an output variable that a search names
-variable_room : (c : scene.Scene) (arg : Span) (v : List ℕ) → output_variable c arg ≡ Ok v → has_room c.substituted v ≡ true
+-- The output variable that a search names.
+variable_room : (c : declarations.Declarations) (arg : Span) (v : List ℕ) → output_variable c arg ≡ Ok v → has_room c.substituted v ≡ true
 unfolding output_variable
 variable_room c arg v e =
     let n = bind_ok (name arg) _ _ e in
     let w = bind_ok _ _ _ n.2 in
     subst (λ (v : List ℕ). has_room c.substituted v ≡ true) (ok_is _ v w.2) (wants_ok _ _ _ w.1)
 
-check_prog_keeps : (c : scene.Scene) (args : List Span) (s : Plain) → check_prog c args ≡ Ok s → IsWithinLimits c → Keeps c s
+check_prog_keeps : (c : declarations.Declarations) (args : List Span) (s : Plain) → check_prog c args ≡ Ok s → IsWithinLimits c → Keeps c s
 unfolding check_prog after
 check_prog_keeps c args s e h =
     let v = bind_ok (output_variable c (arg_at args 0)) _ _ e in
@@ -274,7 +278,7 @@ check_prog_keeps c args s e h =
     let o = bind_ok (optional_text (arg_at args 3)) _ _ f.2 in
     subst (Keeps c) (ok_is _ s o.2) (variable_fits c v.0 (variable_room c (arg_at args 0) v.0 v.1) h)
 
-check_progs_keeps : (c : scene.Scene) (args : List Span) (s : Plain) → check_progs c args ≡ Ok s → IsWithinLimits c → Keeps c s
+check_progs_keeps : (c : declarations.Declarations) (args : List Span) (s : Plain) → check_progs c args ≡ Ok s → IsWithinLimits c → Keeps c s
 unfolding check_progs after
 check_progs_keeps c args s e h =
     let v = bind_ok (output_variable c (arg_at args 0)) _ _ e in
@@ -282,7 +286,7 @@ check_progs_keeps c args s e h =
     let o = bind_ok (optional_text (arg_at args 2)) _ _ p.2 in
     subst (Keeps c) (ok_is _ s o.2) (variable_fits c v.0 (variable_room c (arg_at args 0) v.0 v.1) h)
 
-path_prog_keeps : (c : scene.Scene) (args : List Span) (s : Plain) → path_prog c args ≡ Ok s → IsWithinLimits c → Keeps c s
+path_prog_keeps : (c : declarations.Declarations) (args : List Span) (s : Plain) → path_prog c args ≡ Ok s → IsWithinLimits c → Keeps c s
 unfolding path_prog after
 path_prog_keeps c args s e h =
     let v = bind_ok (output_variable c (arg_at args 0)) _ _ e in
@@ -290,7 +294,7 @@ path_prog_keeps c args s e h =
     let o = bind_ok (optional_text (arg_at args 2)) _ _ p.2 in
     subst (Keeps c) (ok_is _ s o.2) (variable_fits c v.0 (variable_room c (arg_at args 0) v.0 v.1) h)
 
-prog_cc_keeps : (c : scene.Scene) (at : ℕ) (args : List Span) (s : Plain) → prog_cc c at args ≡ Ok s → IsWithinLimits c → Keeps c s
+prog_cc_keeps : (c : declarations.Declarations) (at : ℕ) (args : List Span) (s : Plain) → prog_cc c at args ≡ Ok s → IsWithinLimits c → Keeps c s
 unfolding prog_cc after
 prog_cc_keeps c at args s e h =
     let w = bind_ok _ _ _ e in
@@ -307,9 +311,10 @@ prog_cc_keeps c at args s e h =
       features = h.features;
       packages = h.packages;
       files = h.files;
+      headers = h.headers;
     }
 
-pub plain_keeps : (c : scene.Scene) (m : PlainMacro) (at : ℕ) (args : List Span) (s : Plain) → plain_of c m at args ≡ Ok s → IsWithinLimits c → Keeps c s
+pub plain_keeps : (c : declarations.Declarations) (m : PlainMacro) (at : ℕ) (args : List Span) (s : Plain) → plain_of c m at args ≡ Ok s → IsWithinLimits c → Keeps c s
 unfolding plain_of after
 plain_keeps c macro.Init at args s e h = init_keeps c args s e h
 plain_keeps c macro.Prereq at args s e h = prereq_keeps c args s e h
@@ -327,14 +332,14 @@ plain_keeps c macro.CheckProgs at args s e h = check_progs_keeps c args s e h
 plain_keeps c macro.PathProg at args s e h = path_prog_keeps c args s e h
 plain_keeps c macro.Output at args s e h =
     subst (Keeps c) (ok_is _ s e)
-    (record { substituted = h.substituted; distinct = h.distinct; precious = h.precious; features = h.features; packages = h.packages; files = h.files })
+    (record { substituted = h.substituted; distinct = h.distinct; precious = h.precious; features = h.features; packages = h.packages; files = h.files; headers = h.headers })
 
 -- ---- questions
 
-abbrev KeepsAsked : scene.Scene → Question → Type 0
+abbrev KeepsAsked : declarations.Declarations → Question → Type 0
 KeepsAsked c q = IsWithinLimits (after_question c q)
 
-given_keeps : (c : scene.Scene) (kind : OptionKind) (args : List Span) (q : Question) → given c kind args ≡ Ok q → IsWithinLimits c → KeepsAsked c q
+given_keeps : (c : declarations.Declarations) (kind : OptionKind) (args : List Span) (q : Question) → given c kind args ≡ Ok q → IsWithinLimits c → KeepsAsked c q
 unfolding given after_question
 given_keeps c kind args q e h =
     let v = bind_ok (feature_variable kind (arg_at args 0)) _ _ e in
@@ -342,17 +347,17 @@ given_keeps c kind args q e h =
     let p = bind_ok (help (arg_at args 1)) _ _ w.2 in
     subst (KeepsAsked c) (ok_is _ q p.2) (by kind v.0 p.0 (wants_ok _ _ _ w.1))
   where
-    by : (kind : OptionKind) (v : List ℕ) (p : Help) → has_room (declared c kind) v ≡ true → KeepsAsked c (Given kind v p)
-    by Feature v p room = record { substituted = h.substituted; distinct = h.distinct; precious = h.precious; features = room_for c.features v room h.features; packages = h.packages; files = h.files }
-    by Package v p room = record { substituted = h.substituted; distinct = h.distinct; precious = h.precious; features = h.features; packages = room_for c.packages v room h.packages; files = h.files }
+    by : (kind : OptionKind) (v : List ℕ) (p : Help) → has_room (options_of c kind) v ≡ true → KeepsAsked c (Given kind v p)
+    by Feature v p room = record { substituted = h.substituted; distinct = h.distinct; precious = h.precious; features = room_for c.features v room h.features; packages = h.packages; files = h.files; headers = h.headers }
+    by Package v p room = record { substituted = h.substituted; distinct = h.distinct; precious = h.precious; features = h.features; packages = room_for c.packages v room h.packages; files = h.files; headers = h.headers }
 
-tries_keep : (c : scene.Scene) (kind : Try) (args : List Span) (q : Question) → tries kind args ≡ Ok q → IsWithinLimits c → KeepsAsked c q
+tries_keep : (c : declarations.Declarations) (kind : Try) (args : List Span) (q : Question) → tries kind args ≡ Ok q → IsWithinLimits c → KeepsAsked c q
 unfolding tries after_question
 tries_keep c kind args q e h = let p = bind_ok (tried_program (arg_at args 0)) _ _ e in subst (KeepsAsked c) (ok_is _ q p.2) h
 
-pub question_keeps : (c : scene.Scene) (m : QuestionMacro) (args : List Span) (q : Question) → question_of c m args ≡ Ok q → IsWithinLimits c → KeepsAsked c q
+pub question_keeps : (c : declarations.Declarations) (m : QuestionMacro) (args : List Span) (q : Question) → question_of c m args ≡ Ok q → IsWithinLimits c → KeepsAsked c q
 question_keeps c (questions.Given kind) args q e h = given_keeps c kind args q e h
 question_keeps c (questions.Tries kind) args q e h = tries_keep c kind args q e h
 
 pub start_fits : IsWithinLimits start
-start_fits = record { substituted = omega arith; distinct = AreDistinct-[]; precious = λ n e. e; features = omega arith; packages = omega arith; files = omega arith }
+start_fits = record { substituted = omega arith; distinct = AreDistinct-[]; precious = λ n e. e; features = omega arith; packages = omega arith; files = omega arith; headers = omega arith }

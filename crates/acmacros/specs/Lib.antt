@@ -4,5 +4,4 @@ pub mod Room
 pub mod Searches
 pub mod Tries
 pub mod Rows
-pub mod Scene
-pub mod Limits
+pub mod Placement

@@ -2,6 +2,6 @@
 use Rattle.std.specs.Prelude.{ℕ, Bool, ◌||◌, List, length, nat_lt}
 use Rattle.deftable.specs.NameList.{has_name}
 
--- the list has this name, or may take one more
+-- The list has this name, or room for one more. (own)
 abbrev pub has_room : List (List ℕ) → List ℕ → Bool
 has_room names n = has_name names n || nat_lt (length names) 1024

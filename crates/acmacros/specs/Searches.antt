@@ -1,4 +1,4 @@
--- Rows of macros that look for programs (Autoconf's manual, "Generic Programs" and "C Compiler").
+-- Readers of macros that look for programs (Autoconf's manual, "Generic Programs" and "C Compiler").
 use Rattle.std.specs.Prelude.{ℕ, ◌+◌, Bool, List, [], ◌∷◌, length, Option, Some, None, Result, Ok, nat_le, codes, if◌then◌else◌}
 use Rattle.deftable.specs.NameList.{has_name}
 use Rattle.m4quote.specs.Entry.{Span}
@@ -9,24 +9,24 @@ use Rattle.acargs.specs.Arguments.{arg_at, name, is_given}
 use Rattle.acargs.specs.Programs.{program, programs}
 use Rattle.acargs.specs.Reading.{◌>>=◌, wants}
 use Rattle.acargs.specs.Shell.{here_text}
-use Rattle.acmacros.specs.declared.scene.Scene as scene
-use Rattle.acmacros.specs.declared.statement.Plain.{Plain}
-use Rattle.acmacros.specs.declared.statement.Plain.TheVariants.{CheckProg, CheckProgs, PathProg, ProgCc}
+use Rattle.syntax.specs.declared.declarations.Declarations as declarations
+use Rattle.syntax.specs.declared.statement.Plain.{Plain}
+use Rattle.syntax.specs.declared.statement.Plain.TheVariants.{CheckProg, CheckProgs, PathProg, ProgCc}
 use Rattle.acmacros.specs.Room.{has_room}
 
--- an output variable, behind those of the source before it
-unfoldable pub output_variable : scene.Scene → Span → Result (List ℕ) ParseFault
+-- The name of an output variable, given the earlier ones of the source. (own)
+unfoldable pub output_variable : declarations.Declarations → Span → Result (List ℕ) ParseFault
 output_variable c arg = do
   n ← name arg
   _ ← wants (has_room c.substituted n) (TooMany arg.at)
   Ok n
 
--- a value, if it is given
+-- A value, if the argument is given. (own)
 unfoldable pub optional_text : Span → Result (Option (List Part)) ParseFault
 optional_text arg = if is_given arg then (here_text arg >>= λ h. Ok (Some h)) else Ok None
 
--- AC_CHECK_PROG(variable, program, value if found, [value if not found])
-unfoldable pub check_prog : scene.Scene → List Span → Result Plain ParseFault
+-- AC_CHECK_PROG(variable, program, value if found, [value if not found]). (Autoconf's manual, "Generic Programs")
+unfoldable pub check_prog : declarations.Declarations → List Span → Result Plain ParseFault
 check_prog c args = do
   v ← output_variable c (arg_at args 0)
   p ← program (arg_at args 1)
@@ -34,16 +34,16 @@ check_prog c args = do
   other ← optional_text (arg_at args 3)
   Ok (CheckProg v p found other)
 
--- AC_CHECK_PROGS(variable, programs, [value if none is found])
-unfoldable pub check_progs : scene.Scene → List Span → Result Plain ParseFault
+-- AC_CHECK_PROGS(variable, programs, [value if none is found]). (Autoconf's manual, "Generic Programs")
+unfoldable pub check_progs : declarations.Declarations → List Span → Result Plain ParseFault
 check_progs c args = do
   v ← output_variable c (arg_at args 0)
   list ← programs (arg_at args 1)
   other ← optional_text (arg_at args 2)
   Ok (CheckProgs v list other)
 
--- AC_PATH_PROG(variable, program, [value if not found])
-unfoldable pub path_prog : scene.Scene → List Span → Result Plain ParseFault
+-- AC_PATH_PROG(variable, program, [value if not found]). (Autoconf's manual, "Generic Programs")
+unfoldable pub path_prog : declarations.Declarations → List Span → Result Plain ParseFault
 path_prog c args = do
   v ← output_variable c (arg_at args 0)
   p ← program (arg_at args 1)
@@ -52,26 +52,26 @@ path_prog c args = do
 
 -- ---- compilers
 
--- how many names a list of names grows by with this one
+-- 1 if the name is new to the list, else 0. (own)
 abbrev pub growth : List (List ℕ) → List ℕ → ℕ
 growth names n = if has_name names n then 0 else 1
 
--- the list has room for the variables of the compiler: with them it has at most 1,024 names
+-- The list has room for the variables of the compiler: with them it has at most 1,024 names. (own)
 abbrev pub has_tool_room : List (List ℕ) → Bool
 has_tool_room names =
     nat_le (length names + growth names (codes "CC") + growth names (codes "CFLAGS") + growth names (codes "LDFLAGS")
     + growth names (codes "LIBS") + growth names (codes "CPPFLAGS")) 1024
 
--- the programs that are looked for where none are named (which they are is own)
+-- The compilers of an AC_PROG_CC that names none. (own)
 abbrev pub usual_compilers : List (List ℕ)
 usual_compilers = codes "gcc" ∷ codes "cc" ∷ []
 
--- compilers to be looked for
+-- The compilers that the argument lists, or the usual ones. (Autoconf's manual, "C Compiler")
 unfoldable pub compilers : Span → Result (List (List ℕ)) ParseFault
 compilers arg = if is_given arg then programs arg else Ok usual_compilers
 
--- AC_PROG_CC([compilers]), whose name stands at this place
-unfoldable pub prog_cc : scene.Scene → ℕ → List Span → Result Plain ParseFault
+-- AC_PROG_CC([compilers]), with its name at this offset. (Autoconf's manual, "C Compiler")
+unfoldable pub prog_cc : declarations.Declarations → ℕ → List Span → Result Plain ParseFault
 prog_cc c at args = do
   _ ← wants (has_tool_room c.substituted) (TooMany at)
   list ← compilers (arg_at args 0)

@@ -1,4 +1,4 @@
--- Rows of macros that try programs, and the programs that they try (Autoconf's manual, "Running the Compiler" and
+-- Readers of macros that try programs, and of the programs that they try (Autoconf's manual, "Running the Compiler" and
 -- "Generating Sources").
 use Rattle.std.specs.Prelude.{ℕ, ◌==◌, List, length, Option, Some, None, Result, Ok, Err, nat_le, codes}
 use Rattle.m4quote.specs.Entry.{Span}
@@ -10,13 +10,13 @@ use Rattle.acargs.specs.Inside.{call_items}
 use Rattle.acargs.specs.Programs.{source_text}
 use Rattle.acargs.specs.Reading.{◌>>=◌, wants}
 use Rattle.acargs.specs.Shell.{here_text}
-use Rattle.acmacros.specs.declared.program.Program.{Program}
-use Rattle.acmacros.specs.declared.program.Program.TheVariants as made
-use Rattle.acmacros.specs.declared.program.Try.{Try}
-use Rattle.acmacros.specs.declared.statement.Question.{Question}
-use Rattle.acmacros.specs.declared.statement.Question.TheVariants.{Tries}
+use Rattle.syntax.specs.declared.program.Program.{Program}
+use Rattle.syntax.specs.declared.program.Program.TheVariants as made
+use Rattle.syntax.specs.declared.program.Try.{Try}
+use Rattle.syntax.specs.declared.statement.Question.{Question}
+use Rattle.syntax.specs.declared.statement.Question.TheVariants.{Tries}
 
--- AC_LANG_PROGRAM([prologue], [body]), whose name stands at this place
+-- AC_LANG_PROGRAM([prologue], [body]), with its name at this offset. (Autoconf's manual, "Generating Sources")
 unfoldable pub lang_program : List Span → ℕ → Result Program ParseFault
 lang_program args at = do
   _ ← wants (nat_le (length args) 2) (ArgCount at)
@@ -24,26 +24,27 @@ lang_program args at = do
   body ← here_text (arg_at args 1)
   Ok (made.Program prologue body)
 
--- AC_LANG_SOURCE(text), whose name stands at this place
+-- AC_LANG_SOURCE(text), with its name at this offset. (Autoconf's manual, "Generating Sources")
 unfoldable pub lang_source : List Span → ℕ → Result Program ParseFault
 lang_source args at = do
   _ ← wants (length args == 1) (ArgCount at)
   t ← source_text (arg_at args 0)
   Ok (made.Source t)
 
--- the program that one of the two calls says, for an argument at this place
+-- The program of one of the two calls, in an argument at this offset. (own)
 abbrev pub called : ℕ → Option Called → Option Called → Result Program ParseFault
 called at (Some c) other = lang_program c.args c.at
 called at None (Some c) = lang_source c.args c.at
 called at None None = Err (UnknownStatement at)
 
--- an argument that is a program: one of the two calls alone, quoted or not, with blanks and `dnl` lines round it
+-- The program of an argument: one of the two calls alone, quoted or not, with blanks and `dnl` lines around it. (own)
 unfoldable pub tried_program : Span → Result Program ParseFault
 tried_program arg = do
   items ← call_items arg
   called arg.at (sole_call (codes "AC_LANG_PROGRAM") items) (sole_call (codes "AC_LANG_SOURCE") items)
 
--- AC_COMPILE_IFELSE(program, ..) and its like
+-- AC_COMPILE_IFELSE(program, ..), AC_LINK_IFELSE, AC_PREPROC_IFELSE and AC_RUN_IFELSE. (Autoconf's manual, "Running the
+-- Compiler")
 unfoldable pub tries : Try → List Span → Result Question ParseFault
 tries kind args = do
   p ← tried_program (arg_at args 0)

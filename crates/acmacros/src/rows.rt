@@ -1,4 +1,4 @@
-//! A reader for each macro, of its arguments from the left.
+//! A reader for each macro, which reads its arguments from the left.
 
 ghost use Rattle.std.specs.Prelude.{◌≡◌, ◌||◌, ◌==◌, length, map, Ok, Err, IfOk, ◌<◌, nat_lt};
 ghost use Rattle.m4quote.specs.Entry.{span};
@@ -7,20 +7,19 @@ ghost use Rattle.acmacros.specs.PackageName as package_names;
 ghost use Rattle.acmacros.specs.Rows as rows;
 
 use crate::macros::{PlainMacro, QuestionMacro};
-use crate::scene::Scene;
 use crate::searches::{check_prog, check_progs, has_room, path_prog, prog_cc};
-use crate::statement::{Plain, Question};
 use crate::tries::tries;
+use acargs::ParseFault;
 use acargs::arguments::{arg_at, is_given, line, name, text, title};
 use acargs::feature::feature_variable;
 use acargs::helping::help;
 use acargs::numbers::{language, status, version};
 use acargs::outputs::outputs;
 use acargs::shell::{here_text, word};
-use acargs::{Name, OptionKind, ParseFault};
-use deftable::{Bytes, SubstList};
+use deftable::{Bytes, Name, SubstList};
 use m4quote::Arg;
 use std::alloc::{AllocError, Global};
+use syntax::{Declarations, OptionKind, Plain, Question};
 
 fn tar_byte(byte: u8) -> u8
     ensures { result ≡ package_names.tar_byte byte }
@@ -32,6 +31,7 @@ fn tar_byte(byte: u8) -> u8
     }
 }
 
+/// Returns the title without `GNU ` at its front.
 fn without_gnu(title: &[u8]) -> &[u8]
     ensures { result.now ≡ package_names.without_gnu title.now }
 {
@@ -42,7 +42,7 @@ fn without_gnu(title: &[u8]) -> &[u8]
     }
 }
 
-/// The name of a package's archive, made of the package's name.
+/// Returns the name of the archive that is derived from the package's name.
 #[tactic(auto, unfolding(crate::specs::PackageName::tar_name))]
 fn tar_name(alloc: Global, title: &[u8]) -> Result<Bytes, AllocError>
     ensures { IfOk result (λ v. v ≡ package_names.tar_name title.now) }
@@ -54,6 +54,7 @@ fn tar_name(alloc: Global, title: &[u8]) -> Result<Bytes, AllocError>
     Ok(Bytes::from_vec(name))
 }
 
+/// Reads the name of the package's archive. If it is empty, it is derived from the package's name.
 #[tactic(auto, unfolding(crate::specs::Rows::tarname))]
 fn tarname(alloc: Global, arg: Arg<'_>, package_name: &Bytes) -> Result<Bytes, ParseFault>
     ensures { Gives (λ t. t) result (rows.tarname (span arg.entry) package_name.now) }
@@ -65,6 +66,7 @@ fn tarname(alloc: Global, arg: Arg<'_>, package_name: &Bytes) -> Result<Bytes, P
     Ok(text)
 }
 
+/// AC_INIT(package, version, [bug-report], [tarname], [url])
 #[tactic(auto, unfolding(crate::specs::Rows::init))]
 fn init(alloc: Global, args: &[Arg<'_>]) -> Result<Plain, ParseFault>
     ensures { Gives (λ s. s) result (rows.init (map span args.now)) }
@@ -83,6 +85,7 @@ fn init(alloc: Global, args: &[Arg<'_>]) -> Result<Plain, ParseFault>
     })
 }
 
+/// AC_PREREQ(version)
 #[tactic(auto, unfolding(crate::specs::Rows::prereq))]
 fn prereq(alloc: Global, args: &[Arg<'_>]) -> Result<Plain, ParseFault>
     ensures { Gives (λ s. s) result (rows.prereq (map span args.now)) }
@@ -91,6 +94,7 @@ fn prereq(alloc: Global, args: &[Arg<'_>]) -> Result<Plain, ParseFault>
     Ok(Plain::Accepted)
 }
 
+/// AC_LANG(language)
 #[tactic(auto, unfolding(crate::specs::Rows::lang))]
 fn lang(alloc: Global, args: &[Arg<'_>]) -> Result<Plain, ParseFault>
     ensures { Gives (λ s. s) result (rows.lang (map span args.now)) }
@@ -99,14 +103,16 @@ fn lang(alloc: Global, args: &[Arg<'_>]) -> Result<Plain, ParseFault>
     Ok(Plain::Accepted)
 }
 
+/// AC_CONFIG_FILES(list)
 #[tactic(auto, unfolding(crate::specs::Rows::config_files))]
-fn config_files(alloc: Global, scene: &Scene, args: &[Arg<'_>]) -> Result<Plain, ParseFault>
-    ensures { Gives (λ s. s) result (rows.config_files scene.now (map span args.now)) }
+fn config_files(alloc: Global, known: &Declarations, args: &[Arg<'_>]) -> Result<Plain, ParseFault>
+    ensures { Gives (λ s. s) result (rows.config_files known.now (map span args.now)) }
 {
-    let outputs = outputs(alloc, &scene.files, arg_at(args, 0))?;
+    let outputs = outputs(alloc, &known.files, &known.headers, arg_at(args, 0))?;
     Ok(Plain::ConfigFiles { outputs })
 }
 
+/// Reads the value of a variable that AC_SUBST names, if the argument is given.
 #[tactic(auto, unfolding(crate::specs::Rows::subst_of))]
 fn subst_of(alloc: Global, name: Name, arg: Arg<'_>) -> Result<Plain, ParseFault>
     ensures { Gives (λ s. s) result (rows.subst_of name (span arg.entry)) }
@@ -119,18 +125,20 @@ fn subst_of(alloc: Global, name: Name, arg: Arg<'_>) -> Result<Plain, ParseFault
     }
 }
 
+/// AC_SUBST(variable, [value])
 #[tactic(auto, unfolding(crate::specs::Rows::subst))]
-fn subst(alloc: Global, scene: &Scene, args: &[Arg<'_>]) -> Result<Plain, ParseFault>
-    ensures { Gives (λ s. s) result (rows.subst scene.now (map span args.now)) }
+fn subst(alloc: Global, known: &Declarations, args: &[Arg<'_>]) -> Result<Plain, ParseFault>
+    ensures { Gives (λ s. s) result (rows.subst known.now (map span args.now)) }
 {
     let arg = arg_at(args, 0);
     let name = name(alloc, arg)?;
-    if !has_room(&scene.substituted, &name) {
+    if !has_room(&known.substituted, &name) {
         return Err(ParseFault::TooMany(arg.at));
     }
     subst_of(alloc, name, arg_at(args, 1))
 }
 
+/// Reads the value that AC_DEFINE defines: `1` if the argument is absent, `/**/` if it is empty.
 #[tactic(auto, unfolding(crate::specs::Rows::defined))]
 fn defined(alloc: Global, args: &[Arg<'_>]) -> Result<Bytes, ParseFault>
     ensures { Gives (λ t. t) result (rows.defined (map span args.now)) }
@@ -145,6 +153,7 @@ fn defined(alloc: Global, args: &[Arg<'_>]) -> Result<Bytes, ParseFault>
     Ok(text)
 }
 
+/// AC_DEFINE(variable, [value], [description]). The description is not read.
 #[tactic(auto, unfolding(crate::specs::Rows::define))]
 fn define(alloc: Global, args: &[Arg<'_>]) -> Result<Plain, ParseFault>
     ensures { Gives (λ s. s) result (rows.define (map span args.now)) }
@@ -154,6 +163,7 @@ fn define(alloc: Global, args: &[Arg<'_>]) -> Result<Plain, ParseFault>
     Ok(Plain::Define { name, value })
 }
 
+/// Reads the value that AC_DEFINE_UNQUOTED defines: `/**/` if its text is empty.
 #[tactic(auto, unfolding(crate::specs::Rows::unquoted_of))]
 fn unquoted_of(alloc: Global, name: Name, text: Bytes, arg: Arg<'_>) -> Result<Plain, ParseFault>
     ensures { Gives (λ s. s) result (rows.unquoted_of name text (span arg.entry)) }
@@ -166,6 +176,7 @@ fn unquoted_of(alloc: Global, name: Name, text: Bytes, arg: Arg<'_>) -> Result<P
     Ok(Plain::DefineUnquoted { name, value })
 }
 
+/// Reads the value that AC_DEFINE_UNQUOTED defines: `1` if the argument is absent.
 #[tactic(auto, unfolding(crate::specs::Rows::unquoted))]
 fn unquoted(alloc: Global, name: Name, args: &[Arg<'_>]) -> Result<Plain, ParseFault>
     ensures { Gives (λ s. s) result (rows.unquoted name (map span args.now)) }
@@ -178,6 +189,7 @@ fn unquoted(alloc: Global, name: Name, args: &[Arg<'_>]) -> Result<Plain, ParseF
     unquoted_of(alloc, name, text, arg_at(args, 1))
 }
 
+/// AC_DEFINE_UNQUOTED(variable, [value], [description]). The description is not read.
 #[tactic(auto, unfolding(crate::specs::Rows::define_unquoted))]
 fn define_unquoted(alloc: Global, args: &[Arg<'_>]) -> Result<Plain, ParseFault>
     ensures { Gives (λ s. s) result (rows.define_unquoted (map span args.now)) }
@@ -186,6 +198,7 @@ fn define_unquoted(alloc: Global, args: &[Arg<'_>]) -> Result<Plain, ParseFault>
     unquoted(alloc, name, args)
 }
 
+/// AC_MSG_ERROR(message, [status])
 #[tactic(auto, unfolding(crate::specs::Rows::msg_error))]
 fn msg_error(alloc: Global, args: &[Arg<'_>]) -> Result<Plain, ParseFault>
     ensures { Gives (λ s. s) result (rows.msg_error (map span args.now)) }
@@ -195,76 +208,80 @@ fn msg_error(alloc: Global, args: &[Arg<'_>]) -> Result<Plain, ParseFault>
     Ok(Plain::Error { message, status })
 }
 
+/// AC_ARG_VAR(variable, help)
 #[tactic(auto, unfolding(crate::specs::Rows::arg_var))]
-fn arg_var(alloc: Global, scene: &Scene, args: &[Arg<'_>]) -> Result<Plain, ParseFault>
-    ensures { Gives (λ s. s) result (rows.arg_var scene.now (map span args.now)) }
+fn arg_var(alloc: Global, known: &Declarations, args: &[Arg<'_>]) -> Result<Plain, ParseFault>
+    ensures { Gives (λ s. s) result (rows.arg_var known.now (map span args.now)) }
 {
     let arg = arg_at(args, 0);
     let name = name(alloc, arg)?;
-    if !has_room(&scene.substituted, &name) {
+    if !has_room(&known.substituted, &name) {
         return Err(ParseFault::TooMany(arg.at));
     }
     let help = text(alloc, arg_at(args, 1))?;
     Ok(Plain::ArgVar { name, help })
 }
 
-/// Returns the statement of a macro with these arguments, in the scene of the statements before it. `at` is the place of
-/// the macro's name.
+/// Returns the statement of a call with these arguments, given what the statements before it declare. `at` is the
+/// offset of the macro's name.
 ///
 /// # Errors
-/// The fault of the first argument at fault. `TooMany` at the argument that names a variable too many, and at `at` if
-/// AC_PROG_CC adds too many.
+///
+/// - The error of the first argument that has one.
+/// - `TooMany` at the argument, if it names one variable or output more than a source may have.
+/// - `TooMany` at `at`, if AC_PROG_CC adds more variables than a source may have.
 #[tactic(auto, unfolding(crate::specs::Rows::plain_of))]
 pub fn plain(
     alloc: Global,
-    scene: &Scene,
+    known: &Declarations,
     m: PlainMacro,
     at: usize,
     args: &[Arg<'_>],
 ) -> Result<Plain, ParseFault>
-    ensures { Gives (λ s. s) result (rows.plain_of scene.now m at (map span args.now)) }
+    ensures { Gives (λ s. s) result (rows.plain_of known.now m at (map span args.now)) }
 {
     match m {
         PlainMacro::Init => init(alloc, args),
         PlainMacro::Prereq => prereq(alloc, args),
         PlainMacro::Ignored => Ok(Plain::Accepted),
         PlainMacro::Lang => lang(alloc, args),
-        PlainMacro::ConfigFiles => config_files(alloc, scene, args),
-        PlainMacro::Subst => subst(alloc, scene, args),
+        PlainMacro::ConfigFiles => config_files(alloc, known, args),
+        PlainMacro::Subst => subst(alloc, known, args),
         PlainMacro::Define => define(alloc, args),
         PlainMacro::DefineUnquoted => define_unquoted(alloc, args),
         PlainMacro::MsgError => msg_error(alloc, args),
-        PlainMacro::ArgVar => arg_var(alloc, scene, args),
-        PlainMacro::ProgCc => prog_cc(alloc, scene, at, args),
-        PlainMacro::CheckProg => check_prog(alloc, scene, args),
-        PlainMacro::CheckProgs => check_progs(alloc, scene, args),
-        PlainMacro::PathProg => path_prog(alloc, scene, args),
+        PlainMacro::ArgVar => arg_var(alloc, known, args),
+        PlainMacro::ProgCc => prog_cc(alloc, known, at, args),
+        PlainMacro::CheckProg => check_prog(alloc, known, args),
+        PlainMacro::CheckProgs => check_progs(alloc, known, args),
+        PlainMacro::PathProg => path_prog(alloc, known, args),
         PlainMacro::Output => Ok(Plain::Output),
     }
 }
 
-/// The variables of the options of a kind.
-fn declared(scene: &Scene, kind: OptionKind) -> &SubstList
-    ensures { result.now ≡ rows.declared scene.now kind }
+/// Returns the variables of the declared options of a kind.
+fn options_of(known: &Declarations, kind: OptionKind) -> &SubstList
+    ensures { result.now ≡ rows.options_of known.now kind }
 {
     match kind {
-        OptionKind::Feature => &scene.features,
-        OptionKind::Package => &scene.packages,
+        OptionKind::Feature => &known.features,
+        OptionKind::Package => &known.packages,
     }
 }
 
+/// AC_ARG_ENABLE(feature, help, ..) and AC_ARG_WITH(package, help, ..)
 #[tactic(auto, unfolding(crate::specs::Rows::given))]
 fn given(
     alloc: Global,
-    scene: &Scene,
+    known: &Declarations,
     kind: OptionKind,
     args: &[Arg<'_>],
 ) -> Result<Question, ParseFault>
-    ensures { Gives (λ q. q) result (rows.given scene.now kind (map span args.now)) }
+    ensures { Gives (λ q. q) result (rows.given known.now kind (map span args.now)) }
 {
     let arg = arg_at(args, 0);
     let variable = feature_variable(alloc, kind, arg)?;
-    if !has_room(declared(scene, kind), &variable) {
+    if !has_room(options_of(known, kind), &variable) {
         return Err(ParseFault::TooMany(arg.at));
     }
     let help = help(alloc, arg_at(args, 1))?;
@@ -275,20 +292,22 @@ fn given(
     })
 }
 
-/// Returns what a macro with these arguments asks, in the scene of the statements before it.
+/// Returns the question of a call with these arguments, given what the statements before it declare.
 ///
 /// # Errors
-/// The fault of the first argument at fault, and `TooMany` at the argument that names an option too many.
+///
+/// - The error of the first argument that has one.
+/// - `TooMany` at the first argument, if it names one option more than a source may have.
 pub fn question(
     alloc: Global,
-    scene: &Scene,
+    known: &Declarations,
     m: QuestionMacro,
     args: &[Arg<'_>],
 ) -> Result<Question, ParseFault>
-    ensures { Gives (λ q. q) result (rows.question_of scene.now m (map span args.now)) }
+    ensures { Gives (λ q. q) result (rows.question_of known.now m (map span args.now)) }
 {
     match m {
-        QuestionMacro::Given(kind) => given(alloc, scene, kind, args),
+        QuestionMacro::Given(kind) => given(alloc, known, kind, args),
         QuestionMacro::Tries(kind) => tries(alloc, kind, args),
     }
 }

@@ -1,4 +1,4 @@
-//! Readers of macros that look for programs.
+//! Readers of macros that look for programs (Autoconf's manual, "Generic Programs" and "C Compiler").
 
 ghost use Rattle.std.specs.Prelude.{◌≡◌, map, IfOk};
 ghost use Rattle.m4quote.specs.Entry.{span};
@@ -6,39 +6,39 @@ ghost use Rattle.acargs.specs.Reading.{Gives};
 ghost use Rattle.acmacros.specs.Room as rooms;
 ghost use Rattle.acmacros.specs.Searches as rows;
 
-use crate::program::ProgramNames;
-use crate::scene::Scene;
-use crate::statement::Plain;
+use acargs::ParseFault;
 use acargs::arguments::{arg_at, is_given, name};
 use acargs::program::{program, programs};
 use acargs::shell::here_text;
-use acargs::{Name, ParseFault};
-use deftable::{Bytes, SubstList};
+use deftable::{Bytes, Name, SubstList};
 use m4quote::Arg;
 use shellword::HereText;
 use std::alloc::{AllocError, Global};
+use syntax::{Declarations, Plain, ProgramNames};
 
-/// The most names of a list of the source.
+/// The largest number of names in a list of the source (own).
 const MAX_NAMES: usize = 1024;
 
-/// Whether a list of the source has this name, or room for it.
+/// Returns whether a list of the source has this name, or room for it.
 pub(crate) fn has_room(names: &SubstList, name: &Name) -> bool
     ensures { result ≡ rooms.has_room names.now name.now }
 {
     names.has(name.as_slice()) || names.names().len() < MAX_NAMES
 }
 
+/// Reads the name of an output variable.
 #[tactic(auto, unfolding(crate::specs::Searches::output_variable))]
-fn output_variable(alloc: Global, scene: &Scene, arg: Arg<'_>) -> Result<Name, ParseFault>
-    ensures { Gives (λ n. n) result (rows.output_variable scene.now (span arg.entry)) }
+fn output_variable(alloc: Global, known: &Declarations, arg: Arg<'_>) -> Result<Name, ParseFault>
+    ensures { Gives (λ n. n) result (rows.output_variable known.now (span arg.entry)) }
 {
     let name = name(alloc, arg)?;
-    if !has_room(&scene.substituted, &name) {
+    if !has_room(&known.substituted, &name) {
         return Err(ParseFault::TooMany(arg.at));
     }
     Ok(name)
 }
 
+/// Reads a value, if the argument is given.
 #[tactic(auto, unfolding(crate::specs::Searches::optional_text))]
 fn optional_text(alloc: Global, arg: Arg<'_>) -> Result<Option<HereText>, ParseFault>
     ensures { Gives (λ t. t) result (rows.optional_text (span arg.entry)) }
@@ -51,15 +51,16 @@ fn optional_text(alloc: Global, arg: Arg<'_>) -> Result<Option<HereText>, ParseF
     }
 }
 
+/// AC_CHECK_PROG(variable, program, value if found, [value if not found])
 #[tactic(auto, unfolding(crate::specs::Searches::check_prog))]
 pub(crate) fn check_prog(
     alloc: Global,
-    scene: &Scene,
+    known: &Declarations,
     args: &[Arg<'_>],
 ) -> Result<Plain, ParseFault>
-    ensures { Gives (λ s. s) result (rows.check_prog scene.now (map span args.now)) }
+    ensures { Gives (λ s. s) result (rows.check_prog known.now (map span args.now)) }
 {
-    let variable = output_variable(alloc, scene, arg_at(args, 0))?;
+    let variable = output_variable(alloc, known, arg_at(args, 0))?;
     let program = program(alloc, arg_at(args, 1))?;
     let found = here_text(alloc, arg_at(args, 2))?;
     let otherwise = optional_text(alloc, arg_at(args, 3))?;
@@ -71,15 +72,16 @@ pub(crate) fn check_prog(
     })
 }
 
+/// AC_CHECK_PROGS(variable, programs, [value if none is found])
 #[tactic(auto, unfolding(crate::specs::Searches::check_progs))]
 pub(crate) fn check_progs(
     alloc: Global,
-    scene: &Scene,
+    known: &Declarations,
     args: &[Arg<'_>],
 ) -> Result<Plain, ParseFault>
-    ensures { Gives (λ s. s) result (rows.check_progs scene.now (map span args.now)) }
+    ensures { Gives (λ s. s) result (rows.check_progs known.now (map span args.now)) }
 {
-    let variable = output_variable(alloc, scene, arg_at(args, 0))?;
+    let variable = output_variable(alloc, known, arg_at(args, 0))?;
     let names = programs(alloc, arg_at(args, 1))?;
     let otherwise = optional_text(alloc, arg_at(args, 2))?;
     Ok(Plain::CheckProgs {
@@ -89,11 +91,16 @@ pub(crate) fn check_progs(
     })
 }
 
+/// AC_PATH_PROG(variable, program, [value if not found])
 #[tactic(auto, unfolding(crate::specs::Searches::path_prog))]
-pub(crate) fn path_prog(alloc: Global, scene: &Scene, args: &[Arg<'_>]) -> Result<Plain, ParseFault>
-    ensures { Gives (λ s. s) result (rows.path_prog scene.now (map span args.now)) }
+pub(crate) fn path_prog(
+    alloc: Global,
+    known: &Declarations,
+    args: &[Arg<'_>],
+) -> Result<Plain, ParseFault>
+    ensures { Gives (λ s. s) result (rows.path_prog known.now (map span args.now)) }
 {
-    let variable = output_variable(alloc, scene, arg_at(args, 0))?;
+    let variable = output_variable(alloc, known, arg_at(args, 0))?;
     let program = program(alloc, arg_at(args, 1))?;
     let otherwise = optional_text(alloc, arg_at(args, 2))?;
     Ok(Plain::PathProg {
@@ -103,14 +110,14 @@ pub(crate) fn path_prog(alloc: Global, scene: &Scene, args: &[Arg<'_>]) -> Resul
     })
 }
 
-/// How many names a list of names grows by with this one.
+/// Returns 1 if the name is new to the list, else 0.
 fn growth(names: &SubstList, name: &[u8]) -> usize
     ensures { result ≡ rows.growth names.now name.now }
 {
     if names.has(name) { 0 } else { 1 }
 }
 
-/// Whether a list of the source has room for the variables of the compiler.
+/// Returns whether a list of the source has room for the five variables of the compiler.
 fn has_tool_room(names: &SubstList) -> bool
     ensures { result ≡ rows.has_tool_room names.now }
 {
@@ -127,7 +134,7 @@ fn has_tool_room(names: &SubstList) -> bool
         <= MAX_NAMES
 }
 
-/// The compilers of an AC_PROG_CC that names none.
+/// Returns the compilers of an AC_PROG_CC that names none.
 fn usual_compilers(alloc: Global) -> Result<Vec<Bytes>, AllocError>
     ensures { IfOk result (λ v. v.items ≡ rows.usual_compilers) }
 {
@@ -137,6 +144,7 @@ fn usual_compilers(alloc: Global) -> Result<Vec<Bytes>, AllocError>
     Ok(names)
 }
 
+/// Reads the compilers of AC_PROG_CC.
 #[tactic(auto, unfolding(crate::specs::Searches::compilers))]
 fn compilers(alloc: Global, arg: Arg<'_>) -> Result<Vec<Bytes>, ParseFault>
     ensures { Gives (λ v. v.items) result (rows.compilers (span arg.entry)) }
@@ -148,16 +156,17 @@ fn compilers(alloc: Global, arg: Arg<'_>) -> Result<Vec<Bytes>, ParseFault>
     }
 }
 
+/// AC_PROG_CC([compilers]). `at` is the offset of the name.
 #[tactic(auto, unfolding(crate::specs::Searches::prog_cc))]
 pub(crate) fn prog_cc(
     alloc: Global,
-    scene: &Scene,
+    known: &Declarations,
     at: usize,
     args: &[Arg<'_>],
 ) -> Result<Plain, ParseFault>
-    ensures { Gives (λ s. s) result (rows.prog_cc scene.now at (map span args.now)) }
+    ensures { Gives (λ s. s) result (rows.prog_cc known.now at (map span args.now)) }
 {
-    if !has_tool_room(&scene.substituted) {
+    if !has_tool_room(&known.substituted) {
         return Err(ParseFault::TooMany(at));
     }
     let names = compilers(alloc, arg_at(args, 0))?;

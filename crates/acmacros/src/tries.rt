@@ -1,12 +1,10 @@
-//! Readers of macros that try programs.
+//! Readers of macros that try programs (Autoconf's manual, "Running the Compiler" and "Generating Sources").
 
 ghost use Rattle.std.specs.Prelude.{◌≡◌, map};
 ghost use Rattle.m4quote.specs.Entry.{span};
 ghost use Rattle.acargs.specs.Reading.{Gives};
 ghost use Rattle.acmacros.specs.Tries as rows;
 
-use crate::program::{Program, Try};
-use crate::statement::Question;
 use acargs::ParseFault;
 use acargs::arguments::arg_at;
 use acargs::helping::sole_call;
@@ -15,7 +13,9 @@ use acargs::program::source_text;
 use acargs::shell::here_text;
 use m4quote::Arg;
 use std::alloc::Global;
+use syntax::{Program, Question, Try};
 
+/// AC_LANG_PROGRAM([prologue], [body]). `at` is the offset of the name.
 #[tactic(auto, unfolding(crate::specs::Tries::lang_program))]
 fn lang_program(alloc: Global, args: &[Arg<'_>], at: usize) -> Result<Program, ParseFault>
     ensures { Gives (λ p. p) result (rows.lang_program (map span args.now) at) }
@@ -28,6 +28,7 @@ fn lang_program(alloc: Global, args: &[Arg<'_>], at: usize) -> Result<Program, P
     Ok(Program::Program { prologue, body })
 }
 
+/// AC_LANG_SOURCE(text). `at` is the offset of the name.
 #[tactic(auto, unfolding(crate::specs::Tries::lang_source))]
 fn lang_source(alloc: Global, args: &[Arg<'_>], at: usize) -> Result<Program, ParseFault>
     ensures { Gives (λ p. p) result (rows.lang_source (map span args.now) at) }
@@ -39,7 +40,7 @@ fn lang_source(alloc: Global, args: &[Arg<'_>], at: usize) -> Result<Program, Pa
     Ok(Program::Source { text })
 }
 
-/// The program that an argument is: AC_LANG_PROGRAM or AC_LANG_SOURCE alone.
+/// Reads the program of an argument that is one call of AC_LANG_PROGRAM or AC_LANG_SOURCE.
 #[tactic(auto, unfolding(crate::specs::Tries::tried_program))]
 fn tried_program(alloc: Global, arg: Arg<'_>) -> Result<Program, ParseFault>
     ensures { Gives (λ p. p) result (rows.tried_program (span arg.entry)) }
@@ -54,6 +55,7 @@ fn tried_program(alloc: Global, arg: Arg<'_>) -> Result<Program, ParseFault>
     }
 }
 
+/// AC_COMPILE_IFELSE(program, ..), AC_LINK_IFELSE, AC_PREPROC_IFELSE and AC_RUN_IFELSE.
 #[tactic(auto, unfolding(crate::specs::Tries::tries))]
 pub(crate) fn tries(alloc: Global, kind: Try, args: &[Arg<'_>]) -> Result<Question, ParseFault>
     ensures { Gives (λ q. q) result (rows.tries kind (map span args.now)) }

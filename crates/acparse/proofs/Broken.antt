@@ -1,4 +1,4 @@
--- A fault that is read is one, and all before it is right.
+-- An error that is reported is one, and everything before it is right.
 use Rattle.std.proofs.Common.{◌≡◌, ℕ, zero, suc, Bool, false, List, [], ◌∷◌, drop, Option, Some, None, Result, Ok, Err, refl, ap, sym, subst, inl, inr, ◌∙◌}
 use Rattle.m4quote.specs.Entry.{Span, Entry, call, bare}
 use Rattle.m4quote.specs.declared.fault.QuoteFault.{QuoteFault}
@@ -16,31 +16,33 @@ use Rattle.acmacros.specs.declared.macros.Macro.TheVariants.{Plain, Choice as A_
 use Rattle.acmacros.specs.declared.macros.Named.{Named}
 use Rattle.acmacros.specs.declared.macros.Named.TheVariants.{Statement, Argument}
 use Rattle.acmacros.specs.declared.macros.QuestionMacro.{QuestionMacro}
-use Rattle.acmacros.specs.Scene.{after_question, as_statement, bare_fault}
-use Rattle.tree.specs.declared.tree.When.{When}
-use Rattle.tree.specs.declared.tree.When.TheVariants.{Yes, No, Always}
-use Rattle.acmacros.specs.declared.scene.Scene as scene
-use Rattle.acmacros.specs.declared.scene.Stage.{Stage}
-use Rattle.acmacros.specs.Table.{macro_named}
+use Rattle.syntax.specs.Lists.{after_question}
+use Rattle.acmacros.specs.Placement.{as_statement, bare_fault}
+use Rattle.syntax.specs.declared.tree.When.{When}
+use Rattle.syntax.specs.declared.tree.When.TheVariants.{Yes, No, Always}
+use Rattle.syntax.specs.declared.declarations.Declarations as declarations
+use Rattle.syntax.specs.declared.declarations.Stage.{Stage}
+use Rattle.acmacros.specs.Table.{row_named}
+use Rattle.acmacros.specs.declared.table.Row.{Row}
 use Rattle.m4quote.proofs.Laws.{outcome_is_spelling, outcome_is_fault}
 use Rattle.m4quote.specs.Scan.{outcome}
-use Rattle.tree.specs.Known.{after_all, after_cases}
-use Rattle.tree.specs.Script.{Script, Cases}
+use Rattle.syntax.specs.Lists.{after_all, after_cases}
+use Rattle.syntax.specs.Script.{Script, Cases}
 use Rattle.acparse.specs.Breaks.{WithinBreaks, MayNotStand, unknown, other_arguments, in_arguments_alone, not_here, in_text, CasesBreak, in_condition, in_body, behind_case, in_default, ActionBreaks, in_action, ItemBreaks, other_text, may_not_stand, argument, in_subject, in_cases, in_question, in_yes, in_no, Breaks, here, behind, TextBreaks, no_items, in_items, IsBroken}
 use Rattle.acparse.specs.Profile.{Bodies, body_of, items_of, item_of, call_of, checked, known, case_args, case_if, cases_in, choice_of, action_in, action_args, asked_of}
 use Rattle.acparse.specs.Statements.{Within, MayStand, IsBody}
-use Rattle.acparse.proofs.Found.{Reads, known_some, some, is_of_statement, may_stand, action_found, item_found, body_found, quoted_ok}
+use Rattle.acparse.proofs.Found.{Reads, known_some, is_of_statement, may_stand, action_found, item_found, body_found, quoted_ok}
 
--- each fault of a statement argument that is read is one
+-- Each error of a statement argument that is reported is one.
 abbrev pub Faults : Bodies → WithinBreaks → Type 0
-Faults bodies Broken = (c : scene.Scene) (arg : Span) (f : ParseFault) → bodies c arg ≡ Err f → Broken c arg f
+Faults bodies Broken = (c : declarations.Declarations) (arg : Span) (f : ParseFault) → bodies c arg ≡ Err f → Broken c arg f
 
 pub quoted_err : {A : Type 0} (r : Result A QuoteFault) (f : ParseFault) → quoted r ≡ Err f → (q : QuoteFault) × (r ≡ Err q) × (f ≡ quote_fault q)
 quoted_err (Ok y) f e = absurd cc
 quoted_err {A = A} (Err q) f e = (q, refl, sym (err_is {A = A} _ f e))
 
-known_none : (at : ℕ) (o : Option Named) (f : ParseFault) → known at o ≡ Err f → (o ≡ None) × (f ≡ UnknownMacro at)
-known_none at None f e = (refl, sym (err_is {A = Named} _ f e))
+known_none : (at : ℕ) (o : Option Row) (f : ParseFault) → known at o ≡ Err f → (o ≡ None) × (f ≡ UnknownMacro at)
+known_none at None f e = (refl, sym (err_is {A = Row} _ f e))
 known_none at (Some m) f e = absurd cc
 
 is_of_arguments : (stage : Stage) (at : ℕ) (named : Named) (f : ParseFault) → as_statement stage at named ≡ Err f → (m : ArgumentMacro) × (named ≡ Argument m) × (f ≡ bare_fault stage at)
@@ -53,17 +55,18 @@ unfolding checked
 may_not_stand_by top stage edge name args at next f e =
     let P : ParseFault → Type 0 = MayNotStand top stage edge name args at next in
     elim (bind_err _ _ _ e) [
-      | inl h ↦ let k = known_none at (macro_named name) f h in subst P (sym k.1) (unknown k.0)
+      | inl h ↦ let k = known_none at (row_named name) f h in subst P (sym k.1) (unknown k.0)
       | inr m ↦ elim (bind_err _ _ _ m.2) [
         | inl h ↦ let n = wants_err _ _ _ h in subst P (sym n.1) (other_arguments (known_some _ _ _ m.1) n.0)
         | inr n ↦ elim (bind_err _ _ _ n.2) [
-          | inl h ↦ let a = is_of_arguments stage at m.0 f h in subst P (sym a.2) (in_arguments_alone (known_some _ _ _ m.1 ∙ ap some a.1))
+          | inl h ↦ let a = is_of_arguments stage at m.0.named f h in subst P (sym a.2) (in_arguments_alone (known_some _ _ _ m.1) a.1)
           | inr s ↦
-              let is : macro_named name ≡ Some (Statement s.0) = known_some _ _ _ m.1 ∙ ap some (is_of_statement stage at m.0 s.0 s.1) in
+              let is : row_named name ≡ Some m.0 = known_some _ _ _ m.1 in
+              let named : m.0.named ≡ Statement s.0 = is_of_statement stage at m.0.named s.0 s.1 in
               elim (bind_err _ _ _ s.2) [
-                | inl h ↦ not_here is h
+                | inl h ↦ not_here is named h
                 | inr p ↦ elim (bind_err _ _ _ p.2) [
-                  | inl h ↦ let w = wants_err _ _ _ h in subst P (sym w.1) (in_text is w.0)
+                  | inl h ↦ let w = wants_err _ _ _ h in subst P (sym w.1) (in_text is named w.0)
                   | inr q ↦ absurd (no_macro s.0 q.2)
                 ]
               ]
@@ -80,7 +83,7 @@ no_end s f e = cc
 no_cases_end : (s : Cases) (f : ParseFault) → (let r : Result Cases ParseFault = Ok s in r) ≡ Err f → ⊥
 no_cases_end s f e = cc
 
-cases_break : (bodies : Bodies) (Inside : Within) (Broken : WithinBreaks) (ok : Reads bodies Inside) (bad : Faults bodies Broken) (m : ChoiceMacro) (args : List Span) (c : scene.Scene) (f : ParseFault)
+cases_break : (bodies : Bodies) (Inside : Within) (Broken : WithinBreaks) (ok : Reads bodies Inside) (bad : Faults bodies Broken) (m : ChoiceMacro) (args : List Span) (c : declarations.Declarations) (f : ParseFault)
     → cases_in bodies m c args ≡ Err f → CasesBreak Inside Broken m c args f
 unfolding cases_in
 cases_break bodies Inside Broken ok bad m [] c f e = absurd (no_cases_end _ f e)
@@ -101,7 +104,7 @@ cases_break bodies Inside Broken ok bad m (w ∷ a ∷ more) c f e =
       ]
     ]
 
-action_breaks : (bodies : Bodies) (Broken : WithinBreaks) (bad : Faults bodies Broken) (when : When) (args : List Span) (c : scene.Scene) (f : ParseFault) → action_in bodies when c args ≡ Err f → ActionBreaks Broken c args f
+action_breaks : (bodies : Bodies) (Broken : WithinBreaks) (bad : Faults bodies Broken) (when : When) (args : List Span) (c : declarations.Declarations) (f : ParseFault) → action_in bodies when c args ≡ Err f → ActionBreaks Broken c args f
 unfolding action_in
 action_breaks bodies Broken bad when [] c f e = absurd (no_cases_end _ f e)
 action_breaks bodies Broken bad when (a ∷ more) c f e =
@@ -110,7 +113,7 @@ action_breaks bodies Broken bad when (a ∷ more) c f e =
       | inr x ↦ absurd (no_cases_end _ f x.2)
     ]
 
-item_breaks : (top : Bool) (bodies : Bodies) (Inside : Within) (Broken : WithinBreaks) (ok : Reads bodies Inside) (bad : Faults bodies Broken) (c : scene.Scene) (edge : Edge) (item : Entry) (next : List Entry) (f : ParseFault)
+item_breaks : (top : Bool) (bodies : Bodies) (Inside : Within) (Broken : WithinBreaks) (ok : Reads bodies Inside) (bad : Faults bodies Broken) (c : declarations.Declarations) (edge : Edge) (item : Entry) (next : List Entry) (f : ParseFault)
     → item_of top bodies c edge item next ≡ Err f → ItemBreaks top Inside Broken c edge item next f
 unfolding choice_of asked_of
 item_breaks top bodies Inside Broken ok bad c edge (bare text at) next f e = other_text e
@@ -154,7 +157,7 @@ item_breaks top bodies Inside Broken ok bad c edge (call name args at) next f e 
     call_breaks (A_choice m) stands e = choice_breaks m stands e
     call_breaks (A_question m) stands e = question_breaks m stands e
 
-pub items_break : (top : Bool) (bodies : Bodies) (Inside : Within) (Broken : WithinBreaks) (ok : Reads bodies Inside) (bad : Faults bodies Broken) (items : List Entry) (c : scene.Scene) (edge : Edge) (f : ParseFault)
+pub items_break : (top : Bool) (bodies : Bodies) (Inside : Within) (Broken : WithinBreaks) (ok : Reads bodies Inside) (bad : Faults bodies Broken) (items : List Entry) (c : declarations.Declarations) (edge : Edge) (f : ParseFault)
     → items_of top bodies c edge items ≡ Err f → Breaks top Inside Broken c edge items f
 unfolding items_of
 items_break top bodies Inside Broken ok bad [] c edge f e = absurd (no_end _ f e)
@@ -167,7 +170,7 @@ items_break top bodies Inside Broken ok bad (item ∷ items) c edge f e =
       ]
     ]
 
--- a fault of a statement argument
+-- An error of a statement argument.
 pub body_breaks : (room : ℕ) → Faults (body_of room) (IsBroken room)
 unfolding body_of
 body_breaks zero c arg f e = sym (err_is {A = Script} _ f e)

@@ -1,4 +1,4 @@
--- What is read is so.
+-- The statements that are read are those of the source.
 use Rattle.std.proofs.Common.{◌≡◌, ℕ, zero, suc, Bool, true, false, List, [], ◌∷◌, drop, Option, Some, None, Result, Ok, Err, refl, ap, subst, ◌∙◌}
 use Rattle.m4quote.specs.Entry.{Span, Entry, call, bare}
 use Rattle.m4quote.specs.declared.fault.QuoteFault.{QuoteFault}
@@ -13,13 +13,15 @@ use Rattle.acmacros.specs.declared.macros.Macro.TheVariants.{Plain, Choice as A_
 use Rattle.acmacros.specs.declared.macros.Named.{Named}
 use Rattle.acmacros.specs.declared.macros.Named.TheVariants.{Statement, Argument}
 use Rattle.acmacros.specs.declared.macros.QuestionMacro.{QuestionMacro}
-use Rattle.acmacros.specs.Scene.{after_question, as_statement}
-use Rattle.acmacros.specs.Table.{macro_named, takes}
-use Rattle.tree.specs.declared.tree.When.{When}
-use Rattle.tree.specs.declared.tree.When.TheVariants.{Yes, No, Always}
-use Rattle.acmacros.specs.declared.scene.Scene as scene
-use Rattle.acmacros.specs.declared.scene.Stage.{Stage}
-use Rattle.acmacros.specs.declared.scene.Stage.TheVariants.{Before, Open, Ended}
+use Rattle.syntax.specs.Lists.{after_question}
+use Rattle.acmacros.specs.Placement.{as_statement}
+use Rattle.acmacros.specs.Table.{row_named}
+use Rattle.acmacros.specs.declared.table.Row.{Row}
+use Rattle.syntax.specs.declared.tree.When.{When}
+use Rattle.syntax.specs.declared.tree.When.TheVariants.{Yes, No, Always}
+use Rattle.syntax.specs.declared.declarations.Declarations as declarations
+use Rattle.syntax.specs.declared.declarations.Stage.{Stage}
+use Rattle.syntax.specs.declared.declarations.Stage.TheVariants.{Before, Open, Ended}
 use Rattle.m4quote.specs.Scan.{outcome, bare_value_of}
 use Rattle.m4quote.proofs.Laws.{outcome_is_spelling, bare_value_is_value}
 use Rattle.baretext.proofs.Laws.{read-text}
@@ -27,30 +29,27 @@ use Rattle.baretext.specs.Reading.{statements_of}
 use Rattle.baretext.specs.declared.fault.BareFault.{BareFault}
 use Rattle.acargs.specs.declared.fault.ParseFault.{ParseFault}
 use Rattle.acargs.specs.Arguments.{is_given}
-use Rattle.tree.specs.Known.{after_all, after_cases}
-use Rattle.tree.specs.Script.{Script, Done, Cases, No_case}
+use Rattle.syntax.specs.Lists.{after_all, after_cases}
+use Rattle.syntax.specs.Script.{Script, Done, Cases, No_case}
 use Rattle.acparse.specs.Bare.{bare_at, assigned, of_value, idle_or, bare_of}
 use Rattle.acparse.specs.Profile.{action_in, asked_of, action_args, Bodies, body_of, items_of, item_of, call_of, checked, known, case_args, case_if, cases_in, choice_of}
 use Rattle.acparse.specs.Statements.{Within, MayStand, IsBare, before, ended, assignments, AreCases, no_more, default, pair, IsAction, absent, there, IsItem, bare_text, plain_call, choice, question, AreStatements, none, one, IsBody}
 
--- each statement argument that is read is so
+-- The statements that are read from each statement argument are its own.
 abbrev pub Reads : Bodies → Within → Type 0
-Reads bodies Inside = (c : scene.Scene) (arg : Span) (s : Script) → bodies c arg ≡ Ok s → Inside c arg s
+Reads bodies Inside = (c : declarations.Declarations) (arg : Span) (s : Script) → bodies c arg ≡ Ok s → Inside c arg s
 
 pub quoted_ok : {A : Type 0} (r : Result A QuoteFault) (x : A) → quoted r ≡ Ok x → r ≡ Ok x
 quoted_ok (Ok y) x e = cc
 quoted_ok (Err f) x e = absurd cc
 
-pub known_some : (at : ℕ) (o : Option Named) (m : Named) → known at o ≡ Ok m → o ≡ Some m
+pub known_some : (at : ℕ) (o : Option Row) (m : Row) → known at o ≡ Ok m → o ≡ Some m
 known_some at None m e = absurd cc
 known_some at (Some k) m e = cc
 
 pub is_of_statement : (stage : Stage) (at : ℕ) (named : Named) (m : Macro) → as_statement stage at named ≡ Ok m → named ≡ Statement m
 is_of_statement stage at (Statement k) m e = cc
 is_of_statement stage at (Argument k) m e = absurd cc
-
-abbrev pub some : Named → Option Named
-some m = Some m
 
 pub may_stand : (top : Bool) (stage : Stage) (edge : Edge) (name : List ℕ) (args : List Span) (at : ℕ) (next : List Entry) (m : Macro)
     → checked top stage edge name args at next ≡ Ok m → MayStand top stage edge name args at next m
@@ -61,11 +60,12 @@ may_stand top stage edge name args at next m e =
     let s = bind_ok _ _ _ n.2 in
     let p = bind_ok _ _ _ s.2 in
     let q = bind_ok _ _ _ p.2 in
-    let is : k.0 ≡ Statement s.0 = is_of_statement stage at k.0 s.0 s.1 in
     subst (MayStand top stage edge name args at next) (ok_is s.0 m q.2)
     (record {
-      known = known_some at (macro_named name) k.0 k.1 ∙ ap some is;
-      taken = subst (λ (n : Named). takes n args ≡ true) is (wants_ok _ _ _ n.1);
+      row = k.0;
+      known = known_some at (row_named name) k.0 k.1;
+      named = is_of_statement stage at k.0.named s.0 s.1;
+      taken = wants_ok _ _ _ n.1;
       in_place = p.1;
       parted = wants_ok _ _ _ q.1;
     })
@@ -91,7 +91,7 @@ bare_found Before at text s e = idle_found Before text _ s (is_idle text) before
 bare_found Open at text s e = value_found at text (bare_value_of text) s refl e
 bare_found Ended at text s e = idle_found Ended text _ s (is_idle text) ended refl e
 
-pub cases_found : (bodies : Bodies) (Inside : Within) (ok : Reads bodies Inside) (m : ChoiceMacro) (args : List Span) (c : scene.Scene) (cases : Cases) → cases_in bodies m c args ≡ Ok cases → AreCases Inside m c args cases
+pub cases_found : (bodies : Bodies) (Inside : Within) (ok : Reads bodies Inside) (m : ChoiceMacro) (args : List Span) (c : declarations.Declarations) (cases : Cases) → cases_in bodies m c args ≡ Ok cases → AreCases Inside m c args cases
 unfolding cases_in
 cases_found bodies Inside ok m [] c cases e = subst (AreCases Inside m c []) (ok_is No_case cases e) no_more
 cases_found bodies Inside ok m (b ∷ []) c cases e =
@@ -104,14 +104,14 @@ cases_found bodies Inside ok m (w ∷ a ∷ more) c cases e =
     subst (AreCases Inside m c (w ∷ a ∷ more)) (ok_is _ cases z.2)
     (pair x.1 (ok c a y.0 y.1) (cases_found bodies Inside ok m more (after_all c y.0) z.0 z.1))
 
-pub action_found : (bodies : Bodies) (Inside : Within) (ok : Reads bodies Inside) (when : When) (args : List Span) (c : scene.Scene) (cases : Cases) → action_in bodies when c args ≡ Ok cases → IsAction Inside when c args cases
+pub action_found : (bodies : Bodies) (Inside : Within) (ok : Reads bodies Inside) (when : When) (args : List Span) (c : declarations.Declarations) (cases : Cases) → action_in bodies when c args ≡ Ok cases → IsAction Inside when c args cases
 unfolding action_in
 action_found bodies Inside ok when [] c cases e = subst (IsAction Inside when c []) (ok_is No_case cases e) absent
 action_found bodies Inside ok when (a ∷ more) c cases e =
     let x = bind_ok (bodies c a) (λ body. Ok (case_if when (is_given a) body)) cases e in
     subst (IsAction Inside when c (a ∷ more)) (ok_is _ cases x.2) (there (ok c a x.0 x.1))
 
-pub item_found : (top : Bool) (bodies : Bodies) (Inside : Within) (ok : Reads bodies Inside) (c : scene.Scene) (edge : Edge) (item : Entry) (next : List Entry) (s : Script)
+pub item_found : (top : Bool) (bodies : Bodies) (Inside : Within) (ok : Reads bodies Inside) (c : declarations.Declarations) (edge : Edge) (item : Entry) (next : List Entry) (s : Script)
     → item_of top bodies c edge item next ≡ Ok s → IsItem top Inside c edge item next s
 unfolding choice_of asked_of
 item_found top bodies Inside ok c edge (bare text at) next s e = bare_text (bare_found c.stage at text s e)
@@ -140,7 +140,7 @@ item_found top bodies Inside ok c edge (call name args at) next s e =
     call_found (A_choice m) stands e = choice_found m stands e
     call_found (A_question m) stands e = question_found m stands e
 
-pub items_found : (top : Bool) (bodies : Bodies) (Inside : Within) (ok : Reads bodies Inside) (items : List Entry) (c : scene.Scene) (edge : Edge) (s : Script)
+pub items_found : (top : Bool) (bodies : Bodies) (Inside : Within) (ok : Reads bodies Inside) (items : List Entry) (c : declarations.Declarations) (edge : Edge) (s : Script)
     → items_of top bodies c edge items ≡ Ok s → AreStatements top Inside c edge items s
 unfolding items_of
 items_found top bodies Inside ok [] c edge s e = subst (AreStatements top Inside c edge []) (ok_is Done s e) none
@@ -150,7 +150,7 @@ items_found top bodies Inside ok (item ∷ items) c edge s e =
     subst (AreStatements top Inside c edge (item ∷ items)) (ok_is _ s r.2)
     (one (item_found top bodies Inside ok c edge item items f.0 f.1) (items_found top bodies Inside ok items (after_all c f.0) (edge_of item) r.0 r.1))
 
--- a statement argument that is read is one
+-- The statements that are read from a statement argument are its own.
 pub body_found : (room : ℕ) → Reads (body_of room) (IsBody room)
 unfolding body_of
 body_found zero c arg s e = absurd cc

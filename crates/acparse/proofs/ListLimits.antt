@@ -10,68 +10,67 @@ use Rattle.acargs.specs.Shell.{word}
 use Rattle.acargs.proofs.Binds.{bind_ok, ok_is}
 use Rattle.acmacros.specs.declared.macros.ChoiceMacro.{ChoiceMacro}
 use Rattle.acmacros.specs.declared.macros.ChoiceMacro.TheVariants.{If, Case as As_case}
-use Rattle.acmacros.specs.declared.scene.Scene as scene
-use Rattle.acmacros.specs.declared.scene.Stage.{Stage}
-use Rattle.acmacros.specs.Limits.{IsWithinLimits}
-use Rattle.acmacros.specs.Scene.{start, after_question}
+use Rattle.syntax.specs.declared.declarations.Declarations as declarations
+use Rattle.syntax.specs.declared.declarations.Stage.{Stage}
+use Rattle.syntax.specs.Limits.{IsWithinLimits, HasShortLists}
+use Rattle.syntax.specs.Lists.{start, after_question}
 use Rattle.acmacros.proofs.LimitLemmas.{plain_keeps, question_keeps, precious_count, start_fits}
-use Rattle.tree.specs.declared.tree.Subject.{Subject}
-use Rattle.tree.specs.declared.tree.Subject.TheVariants.{Nothing, Word}
-use Rattle.tree.specs.declared.tree.When.{When}
-use Rattle.tree.specs.declared.tree.When.TheVariants.{Always}
-use Rattle.tree.specs.Known.{after_all, after_cases, after_subject}
-use Rattle.tree.specs.Script.{Script, Done, Then, Choice, Cases, script_of}
-use Rattle.tree.proofs.ScriptLemmas.{after_joined, after_followed}
-use Rattle.acparse.specs.declared.source.Source.{Source}
-use Rattle.acparse.specs.Limits.{HasShortLists}
+use Rattle.syntax.specs.declared.tree.Subject.{Subject}
+use Rattle.syntax.specs.declared.tree.Subject.TheVariants.{Nothing, Word}
+use Rattle.syntax.specs.declared.tree.When.{When}
+use Rattle.syntax.specs.declared.tree.When.TheVariants.{Always}
+use Rattle.syntax.specs.Lists.{after_all, after_cases, after_subject, lists_of}
+use Rattle.syntax.specs.declared.tree.Stmt.{Stmt}
+use Rattle.syntax.specs.Script.{Script, Done, Then, Choice, Cases, script_of}
+use Rattle.syntax.proofs.ScriptLemmas.{after_joined, after_followed}
 use Rattle.acparse.specs.Profile.{source_of, subject_of, case_if}
 use Rattle.acparse.specs.Source.{IsSource}
 use Rattle.acparse.specs.Statements.{Within, IsBare, before, ended, assignments, AreCases, no_more, default, pair, IsAction, absent, there, IsItem, bare_text, plain_call, choice, question, AreStatements, none, one, IsBody}
 use Rattle.acparse.proofs.Texts.{assigned_known}
 use Rattle.acparse.proofs.Whole.{source_found}
 
--- each statement argument leaves them so
+-- Each statement argument leaves them within their limits.
 abbrev Keeps : Within → Type 0
-Keeps Inside = (c : scene.Scene) (arg : Span) (s : Script) → Inside c arg s → IsWithinLimits c → IsWithinLimits (after_all c s)
+Keeps Inside = (c : declarations.Declarations) (arg : Span) (s : Script) → Inside c arg s → IsWithinLimits c → IsWithinLimits (after_all c s)
 
-bare_keeps : {stage : Stage} {text : List ℕ} {s : Script} (c : scene.Scene) → IsBare stage text s → IsWithinLimits c → IsWithinLimits (after_all c s)
+bare_keeps : {stage : Stage} {text : List ℕ} {s : Script} (c : declarations.Declarations) → IsBare stage text s → IsWithinLimits c → IsWithinLimits (after_all c s)
 bare_keeps c (before is) h = h
 bare_keeps c (ended is) h = h
 bare_keeps c (assignments {list = list} v l) h = subst IsWithinLimits (sym (assigned_known list c)) h
 
-case_keeps : (when : When) (given : Bool) (body : Script) (c : scene.Scene) → IsWithinLimits (after_all c body) → IsWithinLimits (after_cases c (case_if when given body))
+case_keeps : (when : When) (given : Bool) (body : Script) (c : declarations.Declarations) → IsWithinLimits (after_all c body) → IsWithinLimits (after_cases c (case_if when given body))
 case_keeps when true body c h = h
 case_keeps when false Done c h = h
 case_keeps when false (Then s rest) c h = h
 case_keeps when false (Choice subject cases rest) c h = h
 
-cases_keep : (Inside : Within) (keeps : Keeps Inside) (m : ChoiceMacro) {c : scene.Scene} {args : List Span} {cases : Cases} → AreCases Inside m c args cases → IsWithinLimits c → IsWithinLimits (after_cases c cases)
+cases_keep : (Inside : Within) (keeps : Keeps Inside) (m : ChoiceMacro) {c : declarations.Declarations} {args : List Span} {cases : Cases} → AreCases Inside m c args cases → IsWithinLimits c → IsWithinLimits (after_cases c cases)
 cases_keep Inside keeps m no_more h = h
 cases_keep Inside keeps m (default {c = c} {arg = arg} {body = body} i) h = case_keeps Always (is_given arg) body c (keeps c arg body i h)
 cases_keep Inside keeps m (pair w i more) h = cases_keep Inside keeps m more (keeps _ _ _ i h)
 
-action_keeps : (Inside : Within) (keeps : Keeps Inside) (when : When) {c : scene.Scene} {args : List Span} {cases : Cases} → IsAction Inside when c args cases → IsWithinLimits c → IsWithinLimits (after_cases c cases)
+action_keeps : (Inside : Within) (keeps : Keeps Inside) (when : When) {c : declarations.Declarations} {args : List Span} {cases : Cases} → IsAction Inside when c args cases → IsWithinLimits c → IsWithinLimits (after_cases c cases)
 action_keeps Inside keeps when absent h = h
 action_keeps Inside keeps when (there {c = c} {arg = arg} {body = body} i) h = case_keeps when (is_given arg) body c (keeps c arg body i h)
 
-subject_known : (m : ChoiceMacro) (args : List Span) (subject : Subject) (c : scene.Scene) → subject_of m args ≡ Ok subject → after_subject c subject ≡ c
+subject_known : (m : ChoiceMacro) (args : List Span) (subject : Subject) (c : declarations.Declarations) → subject_of m args ≡ Ok subject → after_subject c subject ≡ c
 unfolding subject_of
 subject_known If args subject c e = subst (λ (s : Subject). after_subject c s ≡ c) (ok_is Nothing subject e) refl
 subject_known As_case args subject c e =
     let w = bind_ok (word (arg_at args 0)) _ _ e in
     subst (λ (s : Subject). after_subject c s ≡ c) (ok_is (Word w.0) subject w.2) refl
 
-item_keeps : (top : Bool) (Inside : Within) (keeps : Keeps Inside) (c : scene.Scene) (edge : Edge) {item : Entry} {next : List Entry} {s : Script}
+item_keeps : (top : Bool) (Inside : Within) (keeps : Keeps Inside) (c : declarations.Declarations) (edge : Edge) {item : Entry} {next : List Entry} {s : Script}
     → IsItem top Inside c edge item next s → IsWithinLimits c → IsWithinLimits (after_all c s)
 item_keeps top Inside keeps c edge (bare_text i) h = bare_keeps c i h
 item_keeps top Inside keeps c edge (plain_call stands p) h = plain_keeps c _ _ _ _ p h
 item_keeps top Inside keeps c edge (choice {m = m} {subject = subject} {cases = cases} stands p i) h =
-    subst (λ (d : scene.Scene). IsWithinLimits (after_cases d cases)) (sym (subject_known m _ subject c p)) (cases_keep Inside keeps m i h)
+    subst (λ (d : declarations.Declarations). IsWithinLimits (after_cases d cases)) (sym (subject_known m _ subject c p)) (cases_keep Inside keeps m i h)
 item_keeps top Inside keeps c edge (question {q = q} {first = first} {other = other} stands p f o) h =
     subst IsWithinLimits (sym (after_followed first other (after_question c q)))
     (action_keeps Inside keeps _ o (action_keeps Inside keeps _ f (question_keeps c _ _ q p h)))
 
-items_keep : (top : Bool) (Inside : Within) (keeps : Keeps Inside) {c : scene.Scene} {edge : Edge} {items : List Entry} {s : Script}
+items_keep : (top : Bool) (Inside : Within) (keeps : Keeps Inside) {c : declarations.Declarations} {edge : Edge} {items : List Entry} {s : Script}
     → AreStatements top Inside c edge items s → IsWithinLimits c → IsWithinLimits (after_all c s)
 items_keep top Inside keeps none h = h
 items_keep top Inside keeps (one {c = c} {first = first} {rest = rest} i more) h =
@@ -81,25 +80,19 @@ body_keeps : (room : ℕ) → Keeps (IsBody room)
 body_keeps zero c arg s i h = absurd i
 body_keeps (suc room) c arg s i h = items_keep false (IsBody room) (body_keeps room) i.2.2 h
 
--- the lists of a source
+-- The lists of a source.
 pub source_fits : (text : List ℕ) (s : Script) → IsSource text s → IsWithinLimits (after_all start s)
 source_fits text s is = items_keep true (IsBody 31) (body_keeps 31) is.list.statements start_fits
 
-pub lists_fit : (text : List ℕ) (r : Result Source ParseFault) → Gives (λ s. script_of s.statements.items) r (source_of text)
-    → IfOk r (λ s. s.substituted ≡ (after_all start (script_of s.statements.items)).substituted)
-    → IfOk r (λ s. s.precious ≡ (after_all start (script_of s.statements.items)).precious)
-    → IfOk r (λ s. s.features ≡ (after_all start (script_of s.statements.items)).features)
-    → IfOk r (λ s. s.packages ≡ (after_all start (script_of s.statements.items)).packages)
-    → IfOk r (λ s. s.files ≡ (after_all start (script_of s.statements.items)).files)
-    → IfOk r HasShortLists
-lists_fit text (Ok s) is substituted precious features packages files =
-    let c = after_all start (script_of s.statements.items) in
-    let h : IsWithinLimits c = source_fits text (script_of s.statements.items) (source_found text (script_of s.statements.items) is) in
+pub lists_fit : (text : List ℕ) (r : Result (List Stmt) ParseFault) → Gives script_of r (source_of text) → IfOk r (λ s. HasShortLists (lists_of (script_of s)))
+lists_fit text (Ok s) is =
+    let h : IsWithinLimits (lists_of (script_of s)) = source_fits text (script_of s) (source_found text (script_of s) is) in
     record {
-      substituted = rw substituted h.substituted;
-      precious = rw precious (precious_count c h);
-      features = rw features h.features;
-      packages = rw packages h.packages;
-      files = rw files h.files;
+      substituted = h.substituted;
+      precious = precious_count (lists_of (script_of s)) h;
+      features = h.features;
+      packages = h.packages;
+      files = h.files;
+      headers = h.headers;
     }
-lists_fit text (Err f) is substituted precious features packages files = tt
+lists_fit text (Err f) is = tt

@@ -1,4 +1,4 @@
--- What is so is read.
+-- The statements of a source are read.
 use Rattle.std.proofs.Common.{◌≡◌, ℕ, zero, suc, Bool, false, List, Ok, refl, ap, ◌∙◌}
 use Rattle.m4quote.specs.Entry.{Span, Entry}
 use Rattle.m4quote.proofs.Laws.{outcome_is_spelling, bare_value_is_value}
@@ -8,27 +8,27 @@ use Rattle.acargs.specs.Reading.{quoted}
 use Rattle.acargs.proofs.Binds.{then_ok, wants_true}
 use Rattle.acmacros.specs.declared.macros.ChoiceMacro.{ChoiceMacro}
 use Rattle.acmacros.specs.declared.macros.Macro.{Macro}
-use Rattle.acmacros.specs.declared.macros.Named.TheVariants.{Statement}
-use Rattle.acmacros.specs.declared.scene.Scene as scene
-use Rattle.acmacros.specs.declared.scene.Stage.{Stage}
-use Rattle.acmacros.specs.declared.scene.Stage.TheVariants.{Before, Ended}
-use Rattle.acmacros.specs.Scene.{bare_fault}
-use Rattle.tree.specs.declared.tree.When.{When}
-use Rattle.tree.specs.Script.{Script, Cases}
+use Rattle.syntax.specs.declared.declarations.Declarations as declarations
+use Rattle.syntax.specs.declared.declarations.Stage.{Stage}
+use Rattle.syntax.specs.declared.declarations.Stage.TheVariants.{Before, Ended}
+use Rattle.acmacros.specs.Placement.{bare_fault, as_statement}
+use Rattle.syntax.specs.declared.tree.When.{When}
+use Rattle.syntax.specs.Script.{Script, Cases}
 use Rattle.acparse.specs.Bare.{bare_at, of_value, idle_or, bare_of}
 use Rattle.acparse.specs.Profile.{Bodies, body_of, items_of, item_of, checked, known, cases_in, choice_of, action_in, asked_of}
 use Rattle.acparse.specs.Statements.{Within, MayStand, IsBare, before, ended, assignments, AreCases, no_more, default, pair, IsAction, absent, there, IsItem, bare_text, plain_call, choice, question, AreStatements, none, one, IsBody}
 
--- each statement argument that is so is read
+-- The statements of each statement argument are read.
 abbrev pub Gets : Bodies → Within → Type 0
-Gets bodies Inside = (c : scene.Scene) (arg : Span) (s : Script) → Inside c arg s → bodies c arg ≡ Ok s
+Gets bodies Inside = (c : declarations.Declarations) (arg : Span) (s : Script) → Inside c arg s → bodies c arg ≡ Ok s
 
 pub is_checked : (top : Bool) (stage : Stage) (edge : Edge) (name : List ℕ) (args : List Span) (at : ℕ) (next : List Entry) (m : Macro)
     → MayStand top stage edge name args at next m → checked top stage edge name args at next ≡ Ok m
 unfolding checked
 is_checked top stage edge name args at next m h =
-    then_ok _ _ (Statement m) _ (ap (known at) h.known)
-    (then_ok _ _ tt _ (wants_true _ _ h.taken) (then_ok _ _ tt _ h.in_place (then_ok _ _ tt _ (wants_true _ _ h.parted) refl)))
+    then_ok _ _ h.row _ (ap (known at) h.known)
+    (then_ok _ _ tt _ (wants_true _ _ h.taken)
+    (then_ok _ _ m _ (ap (as_statement stage at) h.named) (then_ok _ _ tt _ h.in_place (then_ok _ _ tt _ (wants_true _ _ h.parted) refl))))
 
 bare_only : {stage : Stage} (at : ℕ) {text : List ℕ} {s : Script} → IsBare stage text s → bare_of stage at text ≡ Ok s
 unfolding bare_of
@@ -37,18 +37,18 @@ bare_only at (ended is) = ap (λ b. idle_or b (bare_fault Ended at)) is
 bare_only at (assignments {text = text} {value = value} {list = list} v l) =
     ap (of_value at) ((bare_value_is_value text value).1 v) ∙ then_ok _ _ list _ (ap (bare_at at) (text-read value list l)) refl
 
-cases_only : (bodies : Bodies) (Inside : Within) (ok : Gets bodies Inside) (m : ChoiceMacro) {c : scene.Scene} {args : List Span} {cases : Cases} → AreCases Inside m c args cases → cases_in bodies m c args ≡ Ok cases
+cases_only : (bodies : Bodies) (Inside : Within) (ok : Gets bodies Inside) (m : ChoiceMacro) {c : declarations.Declarations} {args : List Span} {cases : Cases} → AreCases Inside m c args cases → cases_in bodies m c args ≡ Ok cases
 unfolding cases_in
 cases_only bodies Inside ok m no_more = refl
 cases_only bodies Inside ok m (default h) = then_ok _ _ _ _ (ok _ _ _ h) refl
 cases_only bodies Inside ok m (pair w h more) = then_ok _ _ _ _ w (then_ok _ _ _ _ (ok _ _ _ h) (then_ok _ _ _ _ (cases_only bodies Inside ok m more) refl))
 
-action_only : (bodies : Bodies) (Inside : Within) (ok : Gets bodies Inside) (when : When) {c : scene.Scene} {args : List Span} {cases : Cases} → IsAction Inside when c args cases → action_in bodies when c args ≡ Ok cases
+action_only : (bodies : Bodies) (Inside : Within) (ok : Gets bodies Inside) (when : When) {c : declarations.Declarations} {args : List Span} {cases : Cases} → IsAction Inside when c args cases → action_in bodies when c args ≡ Ok cases
 unfolding action_in
 action_only bodies Inside ok when absent = refl
 action_only bodies Inside ok when (there h) = then_ok _ _ _ _ (ok _ _ _ h) refl
 
-item_only : (top : Bool) (bodies : Bodies) (Inside : Within) (ok : Gets bodies Inside) (c : scene.Scene) (edge : Edge) {item : Entry} {next : List Entry} {s : Script}
+item_only : (top : Bool) (bodies : Bodies) (Inside : Within) (ok : Gets bodies Inside) (c : declarations.Declarations) (edge : Edge) {item : Entry} {next : List Entry} {s : Script}
     → IsItem top Inside c edge item next s → item_of top bodies c edge item next ≡ Ok s
 unfolding choice_of asked_of
 item_only top bodies Inside ok c edge (bare_text h) = bare_only _ h
@@ -59,13 +59,13 @@ item_only top bodies Inside ok c edge (question stands p f o) =
     then_ok _ _ _ _ (is_checked _ _ _ _ _ _ _ _ stands)
     (then_ok _ _ _ _ p (then_ok _ _ _ _ (action_only bodies Inside ok _ f) (then_ok _ _ _ _ (action_only bodies Inside ok _ o) refl)))
 
-pub items_only : (top : Bool) (bodies : Bodies) (Inside : Within) (ok : Gets bodies Inside) {c : scene.Scene} {edge : Edge} {items : List Entry} {s : Script}
+pub items_only : (top : Bool) (bodies : Bodies) (Inside : Within) (ok : Gets bodies Inside) {c : declarations.Declarations} {edge : Edge} {items : List Entry} {s : Script}
     → AreStatements top Inside c edge items s → items_of top bodies c edge items ≡ Ok s
 unfolding items_of
 items_only top bodies Inside ok none = refl
 items_only top bodies Inside ok (one i more) = then_ok _ _ _ _ (item_only top bodies Inside ok _ _ i) (then_ok _ _ _ _ (items_only top bodies Inside ok more) refl)
 
--- what a statement argument is, is read
+-- The statements of a statement argument are read.
 pub body_only : (room : ℕ) → Gets (body_of room) (IsBody room)
 unfolding body_of
 body_only zero c arg s h = absurd h

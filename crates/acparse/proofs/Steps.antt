@@ -1,4 +1,4 @@
--- What the loops over items and over cases keep.
+-- The invariants of the loops over items and over cases.
 use Rattle.std.proofs.Common.{◌≡◌, ◌+◌, ◌-◌, ◌<◌, ℕ, Bool, List, [], ◌∷◌, ◌++◌, length, take, drop, get_or, map, Result, Ok, Err, refl, ap, sym, ◌∙◌, subst, arith}
 use Rattle.std.specs.Prelude.{option_to_list, Option}
 use Rattle.std.specs.Result.{MatchResult}
@@ -15,26 +15,26 @@ use Rattle.acargs.proofs.Binds.{bind_ok, ok_is, fails_bind, fails_along}
 use Rattle.acmacros.specs.declared.macros.ChoiceMacro.{ChoiceMacro}
 use Rattle.acmacros.specs.declared.macros.Macro.{Macro}
 use Rattle.acmacros.specs.declared.macros.QuestionMacro.{QuestionMacro}
-use Rattle.acmacros.specs.declared.scene.Scene as scene
-use Rattle.acmacros.specs.declared.statement.Question.{Question}
+use Rattle.syntax.specs.declared.declarations.Declarations as declarations
+use Rattle.syntax.specs.declared.statement.Question.{Question}
 use Rattle.acmacros.specs.Rows.{question_of}
-use Rattle.acmacros.specs.Scene.{after_question}
-use Rattle.tree.specs.declared.tree.Case as case
-use Rattle.tree.specs.declared.tree.Stmt.{Stmt}
-use Rattle.tree.specs.declared.tree.Subject.TheVariants.{Asked}
-use Rattle.tree.specs.declared.tree.When.{When}
-use Rattle.tree.specs.declared.tree.When.TheVariants.{Yes, No}
-use Rattle.tree.specs.Known.{after_all, after_cases}
-use Rattle.tree.specs.Script.{Script, Done, Choice, Cases, No_case, Case, joined, followed, script_of, cases_of}
-use Rattle.tree.proofs.ScriptLemmas.{script_push, joined_done, joined_assoc, after_joined, cases_push, followed_assoc, after_followed}
+use Rattle.syntax.specs.Lists.{after_question}
+use Rattle.syntax.specs.declared.tree.Case as case
+use Rattle.syntax.specs.declared.tree.Stmt.{Stmt}
+use Rattle.syntax.specs.declared.tree.Subject.TheVariants.{Asked}
+use Rattle.syntax.specs.declared.tree.When.{When}
+use Rattle.syntax.specs.declared.tree.When.TheVariants.{Yes, No}
+use Rattle.syntax.specs.Lists.{after_all, after_cases}
+use Rattle.syntax.specs.Script.{Script, Done, Choice, Cases, No_case, Case, joined, followed, script_of, cases_of}
+use Rattle.syntax.proofs.ScriptLemmas.{script_push, joined_done, joined_assoc, after_joined, cases_push, followed_assoc, after_followed}
 use Rattle.acparse.specs.Bare.{bare_of}
 use Rattle.acparse.specs.Profile.{Bodies, Adds, behind, when_of, case_of, cases_in, action_in, action_args, answers_in, asked_of, items_of, item_of, call_of, checked}
 use Rattle.acparse.proofs.Texts.{bare_known, fails_inside}
 
 -- ---- items
 
--- the statements so far, with those of the rest of the items, are the list
-pub record Items (top : Bool) (bodies : Bodies) (before c : scene.Scene) (edge : Edge) (out : Script) (all rest : List Entry) : Type 0 where
+-- The statements so far, followed by those of the rest of the items, are the list.
+pub record Items (top : Bool) (bodies : Bodies) (before c : declarations.Declarations) (edge : Edge) (out : Script) (all rest : List Entry) : Type 0 where
   pub value : behind out (items_of top bodies c edge rest) ≡ items_of top bodies before no_edge all
   pub known : after_all before out ≡ c
 
@@ -42,7 +42,7 @@ regroup : (out first : Script) (read : Result Script ParseFault) → behind out 
 regroup out first (Ok r) = ap (λ (s : Script). Ok s) (sym (joined_assoc out first r))
 regroup out first (Err f) = refl
 
-items_next : (top : Bool) (bodies : Bodies) (before c c' : scene.Scene) (edge : Edge) (out out' : Script) (all : List Entry) (item : Entry) (rest : List Entry)
+items_next : (top : Bool) (bodies : Bodies) (before c c' : declarations.Declarations) (edge : Edge) (out out' : Script) (all : List Entry) (item : Entry) (rest : List Entry)
     → Items top bodies before c edge out all (item ∷ rest) → Adds c c' out out' (item_of top bodies c edge item rest) → Items top bodies before c' (edge_of item) out' all rest
 unfolding items_of
 items_next top bodies before c c' edge out out' all item rest i a =
@@ -54,39 +54,39 @@ items_next top bodies before c c' edge out out' all item rest i a =
       known = ap (after_all before) a.list ∙ after_joined out a.first before ∙ ap (λ k. after_all k a.first) i.known ∙ sym a.known;
     }
 
-items_fail : (e : ParseFault) (top : Bool) (bodies : Bodies) (before c : scene.Scene) (edge : Edge) (out : Script) (all : List Entry) (item : Entry) (rest : List Entry)
+items_fail : (e : ParseFault) (top : Bool) (bodies : Bodies) (before c : declarations.Declarations) (edge : Edge) (out : Script) (all : List Entry) (item : Entry) (rest : List Entry)
     → Items top bodies before c edge out all (item ∷ rest) → Fails e (item_of top bodies c edge item rest) → Fails e (items_of top bodies before no_edge all)
 unfolding items_of
 items_fail e top bodies before c edge out all item rest i h = fails_along e _ _ i.value (fails_bind e _ _ (fails_bind e _ _ h))
 
-pub items_done : (top : Bool) (bodies : Bodies) (before c : scene.Scene) (edge : Edge) (out : Script) (all rest : List Entry)
+pub items_done : (top : Bool) (bodies : Bodies) (before c : declarations.Declarations) (edge : Edge) (out : Script) (all rest : List Entry)
     → rest ≡ [] → Items top bodies before c edge out all rest → items_of top bodies before no_edge all ≡ Ok out
 unfolding items_of
 items_done top bodies before c edge out all rest eq i =
     sym i.value ∙ ap (λ l. behind out (items_of top bodies c edge l)) eq ∙ ap (λ (s : Script). Ok s) (joined_done out)
 
--- ---- as the loop over items meets them
+-- ---- as the loop over items uses them
 
 pub views_drop : (items : List Item) (i : ℕ) (item : Item) → i < length items → item ≡ get_or items i item → views (drop i items) ≡ view item ∷ views (drop (i + 1) items)
 views_drop items i item lt is = ap views (drop_more items i item lt) ∙ ap (λ x. view x ∷ views (drop (i + 1) items)) (sym is)
 
--- what a slice from n on is
+-- The slice from n on.
 pub slice_from : {A : Type 0} (items : List A) (n : ℕ) → take (length items - n) (drop n items) ≡ drop n items
 slice_from items n = take_all (length items - n) (drop n items) (omega (arith, length-drop n items))
 
-pub items_step : (top : Bool) (bodies : Bodies) (before c c' : scene.Scene) (edge edge' : Edge) (out out' : Script) (all : List Entry) (item : Entry) (here next rest : List Entry)
+pub items_step : (top : Bool) (bodies : Bodies) (before c c' : declarations.Declarations) (edge edge' : Edge) (out out' : Script) (all : List Entry) (item : Entry) (here next rest : List Entry)
     → here ≡ item ∷ rest → next ≡ rest → edge' ≡ edge_of item
     → Items top bodies before c edge out all here → Adds c c' out out' (item_of top bodies c edge item next) → Items top bodies before c' edge' out' all rest
 items_step top bodies before c c' edge edge' out out' all item here next rest e n f i a =
     subst (λ k. Items top bodies before c' k out' all rest) (sym f)
     (items_next top bodies before c c' edge out out' all item rest (subst (λ l. Items top bodies before c edge out all l) e i) (subst (λ l. Adds c c' out out' (item_of top bodies c edge item l)) n a))
 
-pub items_stop : (x : ParseFault) (top : Bool) (bodies : Bodies) (before c : scene.Scene) (edge : Edge) (out : Script) (all : List Entry) (item : Entry) (here next rest : List Entry)
+pub items_stop : (x : ParseFault) (top : Bool) (bodies : Bodies) (before c : declarations.Declarations) (edge : Edge) (out : Script) (all : List Entry) (item : Entry) (here next rest : List Entry)
     → here ≡ item ∷ rest → next ≡ rest → Items top bodies before c edge out all here → Fails x (item_of top bodies c edge item next) → Fails x (items_of top bodies before no_edge all)
 items_stop x top bodies before c edge out all item here next rest e n i h =
     items_fail x top bodies before c edge out all item rest (subst (λ l. Items top bodies before c edge out all l) e i) (subst (λ l. Fails x (item_of top bodies c edge item l)) n h)
 
-pub call_adds : (top : Bool) (bodies : Bodies) (c c' : scene.Scene) (at : ℕ) (edge : Edge) (name : List ℕ) (args : List Span) (item : Entry) (next : List Entry) (m : Macro) (out out' : List Stmt) (s : Stmt)
+pub call_adds : (top : Bool) (bodies : Bodies) (c c' : declarations.Declarations) (at : ℕ) (edge : Edge) (name : List ℕ) (args : List Span) (item : Entry) (next : List Entry) (m : Macro) (out out' : List Stmt) (s : Stmt)
     → item ≡ call name args at → checked top c.stage edge name args at next ≡ Ok m → call_of bodies c m at args ≡ Ok (script_of (s ∷ []))
     → c' ≡ after_all c (script_of (s ∷ [])) → out' ≡ out ++ s ∷ [] → Adds c c' (script_of out) (script_of out') (item_of top bodies c edge item next)
 call_adds top bodies c c' at edge name args item next m out out' s is check value known list = record {
@@ -96,7 +96,7 @@ call_adds top bodies c c' at edge name args item next m out out' s is check valu
   known = known;
 }
 
-pub bare_adds : (r : Result (Unit {0}) ParseFault) (top : Bool) (bodies : Bodies) (c : scene.Scene) (at : ℕ) (edge : Edge) (text : List ℕ) (item : Entry) (next : List Entry) (out out' : Script)
+pub bare_adds : (r : Result (Unit {0}) ParseFault) (top : Bool) (bodies : Bodies) (c : declarations.Declarations) (at : ℕ) (edge : Edge) (text : List ℕ) (item : Entry) (next : List Entry) (out out' : Script)
     → item ≡ bare text at → Gives (λ _. out') r (behind out (bare_of c.stage at text))
     → MatchResult r (λ _. Adds c c out out' (item_of top bodies c edge item next)) (λ e. Fails e (item_of top bodies c edge item next))
 bare_adds (Ok x) top bodies c at edge text item next out out' is h =
@@ -112,12 +112,12 @@ bare_adds (Err e) top bodies c at edge text item next out out' is h =
 
 -- ---- cases
 
--- cases, and those that are read behind them
+-- Cases, and those that are read after them.
 abbrev pub behind_cases : Cases → Result Cases ParseFault → Result Cases ParseFault
 behind_cases front read = read >>= λ more. Ok (followed front more)
 
--- the cases so far, with those of the rest of the arguments, are all
-pub record Choices (bodies : Bodies) (m : ChoiceMacro) (before c : scene.Scene) (out : Cases) (all rest : List Span) : Type 0 where
+-- The cases so far, followed by those of the rest of the arguments, are all.
+pub record Choices (bodies : Bodies) (m : ChoiceMacro) (before c : declarations.Declarations) (out : Cases) (all rest : List Span) : Type 0 where
   pub value : behind_cases out (cases_in bodies m c rest) ≡ cases_in bodies m before all
   pub known : after_cases before out ≡ c
 
@@ -125,7 +125,7 @@ regroup_cases : (out first : Cases) (read : Result Cases ParseFault) → behind_
 regroup_cases out first (Ok r) = ap (λ (s : Cases). Ok s) (sym (followed_assoc out first r))
 regroup_cases out first (Err f) = refl
 
-cases_next : (bodies : Bodies) (m : ChoiceMacro) (before c c' : scene.Scene) (cases cases' : List case.Case) (x : case.Case) (all : List Span) (w a : Span) (more : List Span)
+cases_next : (bodies : Bodies) (m : ChoiceMacro) (before c c' : declarations.Declarations) (cases cases' : List case.Case) (x : case.Case) (all : List Span) (w a : Span) (more : List Span)
     → Choices bodies m before c (cases_of cases) all (w ∷ a ∷ more) → when_of m w ≡ Ok x.when → bodies c a ≡ Ok (script_of x.body.items)
     → c' ≡ after_all c (script_of x.body.items) → cases' ≡ cases ++ x ∷ [] → Choices bodies m before c' (cases_of cases') all more
 unfolding cases_in
@@ -143,9 +143,9 @@ cases_next bodies m before c c' cases cases' x all w a more i when_is body_is kn
       known = ap (after_cases before) new ∙ after_followed out one before ∙ ap (λ k. after_all k body) i.known ∙ sym known;
     }
 
--- ---- as the loop over cases meets them
+-- ---- as the loop over cases uses them
 
--- two arguments, as any default reads them
+-- Two arguments, with any default.
 spans_at : (args : List Arg) (i : ℕ) (d e : Arg) → i + 1 < length args → map span (drop i args) ≡ span (get_or args i d) ∷ span (get_or args (i + 1) e) ∷ map span (drop (i + 2) args)
 spans_at args i d e lt =
     let one : i < length args = omega arith in
@@ -161,20 +161,20 @@ spans_drop args i x y lt is_x is_y =
 pub spans_front : (args : List Arg) (i : ℕ) (x : Arg) → i + 1 < length args → x ≡ get_or args i x → map span (drop i args) ≡ span x ∷ span (get_or args (i + 1) x) ∷ map span (drop (i + 2) args)
 spans_front args i x lt is_x = spans_at args i x x lt ∙ ap (λ a. span a ∷ span (get_or args (i + 1) x) ∷ map span (drop (i + 2) args)) (sym is_x)
 
-pub cases_step : (bodies : Bodies) (m : ChoiceMacro) (before c c' : scene.Scene) (cases cases' : List case.Case) (x : case.Case) (all here rest : List Span) (w a : Span)
+pub cases_step : (bodies : Bodies) (m : ChoiceMacro) (before c c' : declarations.Declarations) (cases cases' : List case.Case) (x : case.Case) (all here rest : List Span) (w a : Span)
     → here ≡ w ∷ a ∷ rest → Choices bodies m before c (cases_of cases) all here → when_of m w ≡ Ok x.when → bodies c a ≡ Ok (script_of x.body.items)
     → c' ≡ after_all c (script_of x.body.items) → cases' ≡ cases ++ x ∷ [] → Choices bodies m before c' (cases_of cases') all rest
 cases_step bodies m before c c' cases cases' x all here rest w a e i p q k l =
     cases_next bodies m before c c' cases cases' x all w a rest (subst (λ s. Choices bodies m before c (cases_of cases) all s) e i) p q k l
 
-pub cases_fail : (e : ParseFault) (bodies : Bodies) (m : ChoiceMacro) (before c : scene.Scene) (out : Cases) (all here : List Span)
+pub cases_fail : (e : ParseFault) (bodies : Bodies) (m : ChoiceMacro) (before c : declarations.Declarations) (out : Cases) (all here : List Span)
     → Choices bodies m before c out all here → Fails e (cases_in bodies m c here) → Fails e (cases_in bodies m before all)
 cases_fail e bodies m before c out all here i h = fails_along e _ _ i.value (fails_bind e _ _ h)
 
 case_parts : (w x : When) (a b : Script) → Case w a No_case ≡ Case x b No_case → (w ≡ x) × (a ≡ b)
 case_parts w x a b e = (cc, cc)
 
-pub case_is : (bodies : Bodies) (m : ChoiceMacro) (c : scene.Scene) (w a : Span) (x : case.Case) → case_of bodies m c w a ≡ Ok (cases_of (x ∷ []))
+pub case_is : (bodies : Bodies) (m : ChoiceMacro) (c : declarations.Declarations) (w a : Span) (x : case.Case) → case_of bodies m c w a ≡ Ok (cases_of (x ∷ []))
     → (when_of m w ≡ Ok x.when) × (bodies c a ≡ Ok (script_of x.body.items))
 unfolding case_of
 case_is bodies m c w a x e =
@@ -190,19 +190,19 @@ bound_fails e (Err d) s f g h = cc
 bound_fails e (Ok x) (Err d) f g h = cc
 bound_fails e (Ok x) (Ok y) f g h = absurd cc
 
-pub case_fails : (e : ParseFault) (bodies : Bodies) (m : ChoiceMacro) (c : scene.Scene) (here more : List Span) (w a : Span) → here ≡ w ∷ a ∷ more → Fails e (case_of bodies m c w a) → Fails e (cases_in bodies m c here)
+pub case_fails : (e : ParseFault) (bodies : Bodies) (m : ChoiceMacro) (c : declarations.Declarations) (here more : List Span) (w a : Span) → here ≡ w ∷ a ∷ more → Fails e (case_of bodies m c w a) → Fails e (cases_in bodies m c here)
 unfolding cases_in case_of
 case_fails e bodies m c here more w a is h =
     fails_along e _ _ (sym (ap (cases_in bodies m c) is))
     (bound_fails e (when_of m w) (bodies c a) (λ when body. Case when body No_case) (λ when body. cases_in bodies m (after_all c body) more >>= λ others. Ok (Case when body others)) h)
 
--- at the end a default is pushed, or none
-pub cases_done : (bodies : Bodies) (m : ChoiceMacro) (before c : scene.Scene) (cases : List case.Case) (last : Option case.Case) (all here seen : List Span)
+-- At the end a default is appended, or none.
+pub cases_done : (bodies : Bodies) (m : ChoiceMacro) (before c : declarations.Declarations) (cases : List case.Case) (last : Option case.Case) (all here seen : List Span)
     → Choices bodies m before c (cases_of cases) all here → seen ≡ here → cases_in bodies m c seen ≡ Ok (cases_of (option_to_list last))
     → cases_in bodies m before all ≡ Ok (followed (cases_of cases) (cases_of (option_to_list last)))
 cases_done bodies m before c cases last all here seen i same h = sym i.value ∙ ap (λ s. behind_cases (cases_of cases) (cases_in bodies m c s)) (sym same) ∙ ap (behind_cases (cases_of cases)) h
 
-pub default_known : (before c c' : scene.Scene) (cases : List case.Case) (last : Option case.Case) → after_cases before (cases_of cases) ≡ c → c' ≡ after_cases c (cases_of (option_to_list last))
+pub default_known : (before c c' : declarations.Declarations) (cases : List case.Case) (last : Option case.Case) → after_cases before (cases_of cases) ≡ c → c' ≡ after_cases c (cases_of (option_to_list last))
     → c' ≡ after_cases before (followed (cases_of cases) (cases_of (option_to_list last)))
 default_known before c c' cases last k h =
     h ∙ ap (λ x. after_cases x (cases_of (option_to_list last))) (sym k) ∙ sym (after_followed (cases_of cases) (cases_of (option_to_list last)) before)
@@ -219,8 +219,8 @@ two_actions : (q : Question) (first : Result Cases ParseFault) (other : Cases �
 two_actions q (Ok f) other = one_action q f (other f)
 two_actions q (Err f) other = refl
 
--- a question that is read, and then its answers
-pub asked_is : (bodies : Bodies) (m : QuestionMacro) (c : scene.Scene) (args : List Span) (q : Question) → question_of c m args ≡ Ok q
+-- A question is read, and then its answers.
+pub asked_is : (bodies : Bodies) (m : QuestionMacro) (c : declarations.Declarations) (args : List Span) (q : Question) → question_of c m args ≡ Ok q
     → asked_of bodies m c args ≡ (answers_in bodies (after_question c q) (action_args m args) >>= λ cases. Ok (Choice (Asked q) cases Done))
 unfolding asked_of answers_in
 asked_is bodies m c args q is =

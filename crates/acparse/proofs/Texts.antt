@@ -7,20 +7,21 @@ use Rattle.acargs.specs.declared.fault.ParseFault.TheVariants.{OutOfMemory}
 use Rattle.acargs.specs.Idle.{is_idle}
 use Rattle.acargs.specs.Reading.{Fails, Gives}
 use Rattle.acargs.proofs.Binds.{bind_ok, ok_is, fails_bind}
-use Rattle.acmacros.specs.declared.scene.Scene as scene
-use Rattle.acmacros.specs.declared.scene.Stage.{Stage}
-use Rattle.acmacros.specs.declared.scene.Stage.TheVariants.{Before, Open, Ended}
-use Rattle.acmacros.specs.declared.statement.Plain.TheVariants.{Assign}
-use Rattle.acmacros.specs.Scene.{after, bare_fault}
+use Rattle.syntax.specs.declared.declarations.Declarations as declarations
+use Rattle.syntax.specs.declared.declarations.Stage.{Stage}
+use Rattle.syntax.specs.declared.declarations.Stage.TheVariants.{Before, Open, Ended}
+use Rattle.syntax.specs.declared.statement.Plain.TheVariants.{Assign}
+use Rattle.syntax.specs.Lists.{after}
+use Rattle.acmacros.specs.Placement.{bare_fault}
 use Rattle.m4quote.specs.Scan.{bare_value_of}
 use Rattle.m4quote.specs.declared.fault.QuoteFault.{QuoteFault}
 use Rattle.baretext.specs.Reading.{statements_of}
-use Rattle.tree.specs.declared.tree.Stmt.{Stmt}
-use Rattle.tree.specs.declared.tree.Stmt.TheVariants.{Plain, Choose'}
-use Rattle.tree.specs.declared.tree.When.{When}
-use Rattle.tree.specs.Known.{after_all}
-use Rattle.tree.specs.Script.{Script, Done, Then, Cases, No_case, Case, joined, stmt_then, script_of}
-use Rattle.tree.proofs.ScriptLemmas.{script_push, joined_assoc, joined_done}
+use Rattle.syntax.specs.declared.tree.Stmt.{Stmt}
+use Rattle.syntax.specs.declared.tree.Stmt.TheVariants.{Plain, Choose'}
+use Rattle.syntax.specs.declared.tree.When.{When}
+use Rattle.syntax.specs.Lists.{after_all}
+use Rattle.syntax.specs.Script.{Script, Done, Then, Cases, No_case, Case, joined, stmt_then, script_of}
+use Rattle.syntax.proofs.ScriptLemmas.{script_push, joined_assoc, joined_done}
 use Rattle.acparse.specs.Bare.{bare_at, assigned, of_value, idle_or, bare_of}
 use Rattle.acparse.specs.Profile.{behind, is_done, case_if}
 
@@ -28,7 +29,7 @@ assigned_push : (list : List Assignment) (a : Assignment) → assigned (list ++ 
 assigned_push [] a = refl
 assigned_push (b ∷ list) a = ap (Then (Assign b.name b.value)) (assigned_push list a)
 
--- one assignment more
+-- One assignment is appended.
 pub assign_more : (before : Script) (out out' : List Stmt) (seen : List Assignment) (a : Assignment) → out' ≡ out ++ Plain (Assign a.name a.value) ∷ [] → script_of out ≡ joined before (assigned seen)
     → script_of out' ≡ joined before (assigned (seen ++ a ∷ []))
 assign_more before out out' seen a e h =
@@ -37,7 +38,7 @@ assign_more before out out' seen a e h =
     ∙ joined_assoc before (assigned seen) (Then (Assign a.name a.value) Done)
     ∙ ap (joined before) (sym (assigned_push seen a))
 
--- text that says nothing, where no statement may stand
+-- Text without effect, if no statement is allowed.
 pub idle_adds : (at : ℕ) (text : List ℕ) (out : Script) (stage : Stage) (r : Result (Unit {0}) ParseFault) → (stage ≡ Open → ⊥) → Gives (λ _. Done) r (idle_or (is_idle text) (bare_fault stage at))
     → Gives (λ _. out) r (behind out (bare_of stage at text))
 unfolding bare_of
@@ -53,26 +54,26 @@ before_open stage e f = cc
 pub ended_open : (stage : Stage) → stage ≡ Ended → stage ≡ Open → ⊥
 ended_open stage e f = cc
 
--- ---- defaults, and what is known
+-- ---- defaults, and declarations
 
--- assignments leave nothing to be known
-pub assigned_known : (list : List Assignment) (c : scene.Scene) → after_all c (assigned list) ≡ c
+-- Assignments declare nothing.
+pub assigned_known : (list : List Assignment) (c : declarations.Declarations) → after_all c (assigned list) ≡ c
 unfolding after
 assigned_known [] c = refl
 assigned_known (a ∷ more) c = assigned_known more c
 
-value_known : (c : scene.Scene) (at : ℕ) (r : Result (List ℕ) QuoteFault) (s : Script) → of_value at r ≡ Ok s → after_all c s ≡ c
+value_known : (c : declarations.Declarations) (at : ℕ) (r : Result (List ℕ) QuoteFault) (s : Script) → of_value at r ≡ Ok s → after_all c s ≡ c
 value_known c at (Ok value) s e =
     let l = bind_ok (bare_at at (statements_of value)) (λ list. Ok (assigned list)) s e in
     ap (after_all c) (sym (ok_is _ s l.2)) ∙ assigned_known l.0 c
 value_known c at (Err f) s e = absurd cc
 
-idle_known : (c : scene.Scene) (b : Bool) (f : ParseFault) (s : Script) → idle_or b f ≡ Ok s → after_all c s ≡ c
+idle_known : (c : declarations.Declarations) (b : Bool) (f : ParseFault) (s : Script) → idle_or b f ≡ Ok s → after_all c s ≡ c
 idle_known c true f s e = ap (after_all c) (sym (ok_is Done s e))
 idle_known c false f s e = absurd cc
 
--- bare text leaves nothing to be known
-pub bare_known : (c : scene.Scene) (stage : Stage) (at : ℕ) (text : List ℕ) (s : Script) → bare_of stage at text ≡ Ok s → after_all c s ≡ c
+-- Bare text declares nothing.
+pub bare_known : (c : declarations.Declarations) (stage : Stage) (at : ℕ) (text : List ℕ) (s : Script) → bare_of stage at text ≡ Ok s → after_all c s ≡ c
 unfolding bare_of
 bare_known c Before at text s e = idle_known c (is_idle text) _ s e
 bare_known c Open at text s e = value_known c at (bare_value_of text) s e

@@ -1,4 +1,4 @@
--- The same of a whole source.
+-- The same for a whole source.
 use Rattle.std.proofs.Common.{◌≡◌, ℕ, true, List, Result, Ok, Err, refl, ap, sym, subst, inl, inr}
 use Rattle.std.specs.Prelude.{IfOk, IfErr}
 use Rattle.m4quote.proofs.Laws.{outcome_is_spelling, outcome_is_fault}
@@ -8,13 +8,13 @@ use Rattle.acargs.specs.declared.fault.ParseFault.TheVariants.{OutOfMemory}
 use Rattle.acargs.specs.Reading.{Gives, quoted}
 use Rattle.acargs.specs.Stand.{no_edge}
 use Rattle.acargs.proofs.Binds.{bind_ok, bind_err, then_ok, ok_is, err_is}
-use Rattle.acmacros.specs.declared.scene.Stage.{Stage}
-use Rattle.acmacros.specs.declared.scene.Stage.TheVariants.{Before, Open, Ended}
-use Rattle.acparse.specs.declared.source.Source.{Source}
-use Rattle.acmacros.specs.Scene.{start}
-use Rattle.tree.specs.Known.{after_all}
+use Rattle.syntax.specs.declared.declarations.Stage.{Stage}
+use Rattle.syntax.specs.declared.declarations.Stage.TheVariants.{Before, Open, Ended}
+use Rattle.syntax.specs.Lists.{start}
+use Rattle.syntax.specs.Lists.{after_all}
 use Rattle.acparse.specs.Profile.{source_of, body_of, ended}
-use Rattle.tree.specs.Script.{Script, script_of}
+use Rattle.syntax.specs.declared.tree.Stmt.{Stmt}
+use Rattle.syntax.specs.Script.{Script, script_of}
 use Rattle.acparse.specs.Source.{IsList, IsSource, IsSourceFault, no_items, in_items, no_init, no_output}
 use Rattle.acparse.specs.Breaks.{IsBroken}
 use Rattle.acparse.specs.Statements.{IsBody}
@@ -62,11 +62,11 @@ source_fault text f e =
           ]
     ]
 
-pub is_found : (text : List ℕ) (r : Result Source ParseFault) → Gives (λ s. script_of s.statements.items) r (source_of text) → IfOk r (λ s. IsSource text (script_of s.statements.items))
+pub is_found : (text : List ℕ) (r : Result (List Stmt) ParseFault) → Gives script_of r (source_of text) → IfOk r (λ s. IsSource text (script_of s))
 is_found text (Ok s) h = source_found text _ h
 is_found text (Err f) h = tt
 
-pub is_fault : (text : List ℕ) (r : Result Source ParseFault) → Gives (λ s. script_of s.statements.items) r (source_of text) → IfErr r (λ f. (f ≡ OutOfMemory → ⊥) → IsSourceFault text f)
+pub is_fault : (text : List ℕ) (r : Result (List Stmt) ParseFault) → Gives script_of r (source_of text) → IfErr r (λ f. (f ≡ OutOfMemory → ⊥) → IsSourceFault text f)
 is_fault text (Ok s) h = tt
 is_fault text (Err OutOfMemory) h = λ no_memory. absurd (no_memory refl)
 is_fault text (Err f) h = λ _. source_fault text f h

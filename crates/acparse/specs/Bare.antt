@@ -1,4 +1,4 @@
--- Bare text between calls: the assignments that its value makes, or nothing where no statement may stand.
+-- Bare text between calls: the assignments in its value, or blanks and comments alone if no statement is allowed.
 use Rattle.std.specs.Prelude.{ℕ, Bool, true, false, List, [], ◌∷◌, Result, Ok, Err}
 use Rattle.m4quote.specs.declared.fault.QuoteFault.{QuoteFault}
 use Rattle.m4quote.specs.Scan.{bare_value_of}
@@ -10,39 +10,39 @@ use Rattle.acargs.specs.declared.fault.ParseFault.{ParseFault}
 use Rattle.acargs.specs.declared.fault.ParseFault.TheVariants.{UnknownStatement, OutOfMemory}
 use Rattle.acargs.specs.Idle.{is_idle}
 use Rattle.acargs.specs.Reading.{◌>>=◌, shell_fault}
-use Rattle.acmacros.specs.declared.scene.Stage.{Stage}
-use Rattle.acmacros.specs.declared.scene.Stage.TheVariants.{Before, Open, Ended}
-use Rattle.acmacros.specs.declared.statement.Plain.TheVariants.{Assign}
-use Rattle.acmacros.specs.Scene.{bare_fault}
-use Rattle.tree.specs.Script.{Script, Done, Then}
+use Rattle.syntax.specs.declared.declarations.Stage.{Stage}
+use Rattle.syntax.specs.declared.declarations.Stage.TheVariants.{Before, Open, Ended}
+use Rattle.syntax.specs.declared.statement.Plain.TheVariants.{Assign}
+use Rattle.acmacros.specs.Placement.{bare_fault}
+use Rattle.syntax.specs.Script.{Script, Done, Then}
 
--- a fault of bare text, as a fault of the source: at the place where the text begins
+-- An error of bare text, as an error of the source at the offset of the text. (own)
 abbrev pub text_fault : ℕ → BareFault → ParseFault
 text_fault at (bare.UnknownStatement place) = UnknownStatement at
 text_fault at (bare.Shell f) = shell_fault at f
 text_fault at bare.OutOfMemory = OutOfMemory
 
--- a reading of bare text that begins at a place
+-- A reading of bare text that begins at an offset. (own)
 abbrev pub bare_at : {A : Type 0} → ℕ → Result A BareFault → Result A ParseFault
 bare_at at (Ok x) = Ok x
 bare_at at (Err f) = Err (text_fault at f)
 
--- assignments as statements
+-- Assignments as statements. (own)
 abbrev pub assigned : List Assignment → Script
 assigned [] = Done
 assigned (a ∷ more) = Then (Assign a.name a.value) (assigned more)
 
--- the statements of a value of bare text
+-- The statements in a value of bare text. (POSIX shell, "Simple Commands")
 abbrev pub of_value : ℕ → Result (List ℕ) QuoteFault → Result Script ParseFault
 of_value at (Ok value) = bare_at at (statements_of value) >>= λ list. Ok (assigned list)
 of_value at (Err f) = Err (UnknownStatement at)
 
--- text that says nothing, or this fault
+-- Text without effect, or this error. (own)
 abbrev pub idle_or : Bool → ParseFault → Result Script ParseFault
 idle_or true f = Ok Done
 idle_or false f = Err f
 
--- the statements of bare text at a place: before AC_INIT and behind AC_OUTPUT it says nothing
+-- The statements of bare text at an offset: before AC_INIT and after AC_OUTPUT, none are allowed. (own)
 unfoldable pub bare_of : Stage → ℕ → List ℕ → Result Script ParseFault
 bare_of Before at text = idle_or (is_idle text) (bare_fault Before at)
 bare_of Open at text = of_value at (bare_value_of text)

@@ -1,5 +1,5 @@
--- The first fault of items: everything before it, in its list and in each list round it, has statements, and it names
--- what is wrong at its place.
+-- The first error of items: everything before it, in its list and in each list around it, has statements, and it names
+-- what is wrong at its offset.
 use Rattle.std.specs.Prelude.{◌≡◌, ℕ, zero, suc, ◌⊎◌, Bool, false, List, [], ◌∷◌, drop, Some, None, Ok, Err}
 use Rattle.m4quote.specs.Entry.{Span, Entry, call, bare}
 use Rattle.m4quote.specs.Faults.{IsFirstFault}
@@ -15,56 +15,57 @@ use Rattle.acmacros.specs.declared.macros.ArgumentMacro.{ArgumentMacro}
 use Rattle.acmacros.specs.declared.macros.ChoiceMacro.{ChoiceMacro}
 use Rattle.acmacros.specs.declared.macros.Macro.{Macro}
 use Rattle.acmacros.specs.declared.macros.Macro.TheVariants.{Plain, Choice as A_choice, Question as A_question}
-use Rattle.acmacros.specs.declared.macros.Named.{Named}
+use Rattle.acmacros.specs.declared.table.Row.{Row}
 use Rattle.acmacros.specs.declared.macros.Named.TheVariants.{Statement, Argument as An_argument}
 use Rattle.acmacros.specs.declared.macros.QuestionMacro.{QuestionMacro}
 use Rattle.acmacros.specs.declared.macros.PlainMacro.{PlainMacro}
-use Rattle.acmacros.specs.declared.scene.Scene as scene
-use Rattle.acmacros.specs.declared.scene.Stage.{Stage}
-use Rattle.acmacros.specs.declared.statement.Question.{Question}
+use Rattle.syntax.specs.declared.declarations.Declarations as declarations
+use Rattle.syntax.specs.declared.declarations.Stage.{Stage}
+use Rattle.syntax.specs.declared.statement.Question.{Question}
 use Rattle.acmacros.specs.Rows.{plain_of, question_of}
-use Rattle.acmacros.specs.Scene.{after_question, bare_fault, placed}
-use Rattle.acmacros.specs.Table.{macro_named, takes}
-use Rattle.tree.specs.declared.tree.Subject.{Subject}
-use Rattle.tree.specs.declared.tree.When.{When}
-use Rattle.tree.specs.declared.tree.When.TheVariants.{Yes}
-use Rattle.tree.specs.Known.{after_all, after_cases}
-use Rattle.tree.specs.Script.{Script, Cases}
+use Rattle.syntax.specs.Lists.{after_question}
+use Rattle.acmacros.specs.Placement.{bare_fault, placed}
+use Rattle.acmacros.specs.Table.{row_named, takes}
+use Rattle.syntax.specs.declared.tree.Subject.{Subject}
+use Rattle.syntax.specs.declared.tree.When.{When}
+use Rattle.syntax.specs.declared.tree.When.TheVariants.{Yes}
+use Rattle.syntax.specs.Lists.{after_all, after_cases}
+use Rattle.syntax.specs.Script.{Script, Cases}
 use Rattle.acparse.specs.Bare.{bare_of}
 use Rattle.acparse.specs.Profile.{when_of, subject_of, case_args, action_args}
 use Rattle.acparse.specs.Statements.{Within, MayStand, IsAction, IsItem, IsBody}
 
--- the first fault of a statement argument, behind what is known
+-- The first error of a statement argument, given what has been declared before it. (own)
 abbrev pub WithinBreaks : Type 1
-WithinBreaks = scene.Scene → Span → ParseFault → Type 0
+WithinBreaks = declarations.Declarations → Span → ParseFault → Type 0
 
--- A call is no statement here: its macro is unknown, takes other arguments, is read in arguments alone, or has another
--- place, or the call is not parted from other text.
+-- A call is no statement here: its macro is unknown, takes other arguments, is read only in arguments, or isn't allowed
+-- here, or the call isn't separate from other text. (own)
 pub data MayNotStand (top : Bool) (stage : Stage) (edge : Edge) (name : List ℕ) (args : List Span) (at : ℕ) (behind : List Entry) : ParseFault → Type 0 where
-  unknown : macro_named name ≡ None → MayNotStand top stage edge name args at behind (UnknownMacro at)
-  other_arguments : {m : Named} → macro_named name ≡ Some m → takes m args ≡ false → MayNotStand top stage edge name args at behind (ArgCount at)
-  in_arguments_alone : {m : ArgumentMacro} → macro_named name ≡ Some (An_argument m) → MayNotStand top stage edge name args at behind (bare_fault stage at)
-  not_here : {m : Macro} {f : ParseFault} → macro_named name ≡ Some (Statement m) → placed top stage m at ≡ Err f → MayNotStand top stage edge name args at behind f
-  in_text : {m : Macro} → macro_named name ≡ Some (Statement m) → is_statement edge name args at behind ≡ false → MayNotStand top stage edge name args at behind (UnknownStatement at)
+  unknown : row_named name ≡ None → MayNotStand top stage edge name args at behind (UnknownMacro at)
+  other_arguments : {row : Row} → row_named name ≡ Some row → takes row args ≡ false → MayNotStand top stage edge name args at behind (ArgCount at)
+  in_arguments_alone : {row : Row} {m : ArgumentMacro} → row_named name ≡ Some row → row.named ≡ An_argument m → MayNotStand top stage edge name args at behind (bare_fault stage at)
+  not_here : {row : Row} {m : Macro} {f : ParseFault} → row_named name ≡ Some row → row.named ≡ Statement m → placed top stage row.top m at ≡ Err f → MayNotStand top stage edge name args at behind f
+  in_text : {row : Row} {m : Macro} → row_named name ≡ Some row → row.named ≡ Statement m → is_statement edge name args at behind ≡ false → MayNotStand top stage edge name args at behind (UnknownStatement at)
 
--- An argument among cases is at fault, and those before it are not.
-pub data CasesBreak (Inside : Within) (Broken : WithinBreaks) (m : ChoiceMacro) : scene.Scene → List Span → ParseFault → Type 0 where
-  in_condition : {c : scene.Scene} {condition arg : Span} {more : List Span} {f : ParseFault}
+-- An argument among cases has an error, and those before it have none. (own)
+pub data CasesBreak (Inside : Within) (Broken : WithinBreaks) (m : ChoiceMacro) : declarations.Declarations → List Span → ParseFault → Type 0 where
+  in_condition : {c : declarations.Declarations} {condition arg : Span} {more : List Span} {f : ParseFault}
       → when_of m condition ≡ Err f → CasesBreak Inside Broken m c (condition ∷ arg ∷ more) f
-  in_body : {c : scene.Scene} {condition arg : Span} {more : List Span} {when : When} {f : ParseFault}
+  in_body : {c : declarations.Declarations} {condition arg : Span} {more : List Span} {when : When} {f : ParseFault}
       → when_of m condition ≡ Ok when → Broken c arg f → CasesBreak Inside Broken m c (condition ∷ arg ∷ more) f
-  behind_case : {c : scene.Scene} {condition arg : Span} {more : List Span} {when : When} {body : Script} {f : ParseFault}
+  behind_case : {c : declarations.Declarations} {condition arg : Span} {more : List Span} {when : When} {body : Script} {f : ParseFault}
       → when_of m condition ≡ Ok when → Inside c arg body → CasesBreak Inside Broken m (after_all c body) more f
       → CasesBreak Inside Broken m c (condition ∷ arg ∷ more) f
-  in_default : {c : scene.Scene} {arg : Span} {f : ParseFault} → Broken c arg f → CasesBreak Inside Broken m c (arg ∷ []) f
+  in_default : {c : declarations.Declarations} {arg : Span} {f : ParseFault} → Broken c arg f → CasesBreak Inside Broken m c (arg ∷ []) f
 
--- The first of these arguments is at fault.
-pub data ActionBreaks (Broken : WithinBreaks) : scene.Scene → List Span → ParseFault → Type 0 where
-  in_action : {c : scene.Scene} {arg : Span} {more : List Span} {f : ParseFault} → Broken c arg f → ActionBreaks Broken c (arg ∷ more) f
+-- The first of these arguments has an error. (own)
+pub data ActionBreaks (Broken : WithinBreaks) : declarations.Declarations → List Span → ParseFault → Type 0 where
+  in_action : {c : declarations.Declarations} {arg : Span} {more : List Span} {f : ParseFault} → Broken c arg f → ActionBreaks Broken c (arg ∷ more) f
 
--- An item is at fault: bare text says something else than statements, a call may not stand, or an argument of it has not
--- its form.
-pub data ItemBreaks (top : Bool) (Inside : Within) (Broken : WithinBreaks) (c : scene.Scene) (edge : Edge) : Entry → List Entry → ParseFault → Type 0 where
+-- An item has an error: bare text isn't statements, a call isn't allowed, or an argument of it doesn't have its form.
+-- (own)
+pub data ItemBreaks (top : Bool) (Inside : Within) (Broken : WithinBreaks) (c : declarations.Declarations) (edge : Edge) : Entry → List Entry → ParseFault → Type 0 where
   other_text : {text : List ℕ} {at : ℕ} {behind : List Entry} {f : ParseFault} → bare_of c.stage at text ≡ Err f → ItemBreaks top Inside Broken c edge (bare text at) behind f
   may_not_stand : {name : List ℕ} {args : List Span} {at : ℕ} {behind : List Entry} {f : ParseFault}
       → MayNotStand top c.stage edge name args at behind f → ItemBreaks top Inside Broken c edge (call name args at) behind f
@@ -86,20 +87,20 @@ pub data ItemBreaks (top : Bool) (Inside : Within) (Broken : WithinBreaks) (c : 
       → ActionBreaks Broken (after_cases (after_question c q) first) (drop 1 (action_args m args)) f
       → ItemBreaks top Inside Broken c edge (call name args at) behind f
 
--- The first item at fault, behind items that have statements.
-pub data Breaks (top : Bool) (Inside : Within) (Broken : WithinBreaks) : scene.Scene → Edge → List Entry → ParseFault → Type 0 where
-  here : {c : scene.Scene} {edge : Edge} {item : Entry} {items : List Entry} {f : ParseFault}
+-- The first item with an error, after items that have statements. (own)
+pub data Breaks (top : Bool) (Inside : Within) (Broken : WithinBreaks) : declarations.Declarations → Edge → List Entry → ParseFault → Type 0 where
+  here : {c : declarations.Declarations} {edge : Edge} {item : Entry} {items : List Entry} {f : ParseFault}
       → ItemBreaks top Inside Broken c edge item items f → Breaks top Inside Broken c edge (item ∷ items) f
-  behind : {c : scene.Scene} {edge : Edge} {item : Entry} {items : List Entry} {first : Script} {f : ParseFault}
+  behind : {c : declarations.Declarations} {edge : Edge} {item : Entry} {items : List Entry} {first : Script} {f : ParseFault}
       → IsItem top Inside c edge item items first → Breaks top Inside Broken (after_all c first) (edge_of item) items f
       → Breaks top Inside Broken c edge (item ∷ items) f
 
--- The text that an argument stands for is at fault: it can't be read as items, or has an item at fault.
-pub data TextBreaks (Inside : Within) (Broken : WithinBreaks) (c : scene.Scene) (a : Span) : ParseFault → Type 0 where
+-- The text that an argument denotes has an error: it can't be read as items, or an item has an error. (own)
+pub data TextBreaks (Inside : Within) (Broken : WithinBreaks) (c : declarations.Declarations) (a : Span) : ParseFault → Type 0 where
   no_items : {q : QuoteFault} → IsFirstFault a.at a.text q → TextBreaks Inside Broken c a (quote_fault q)
   in_items : {items : List Entry} {f : ParseFault} → IsSpelling a.at a.text items → Breaks false Inside Broken c no_edge items f → TextBreaks Inside Broken c a f
 
--- A statement argument is at fault: it stands too deep, or for no text, or its text is at fault.
+-- A statement argument has an error: it nests too deep, denotes no text, or its text has an error. (own)
 abbrev pub IsBroken : ℕ → WithinBreaks
 IsBroken zero c arg f = f ≡ TooDeep arg.at
 IsBroken (suc room) c arg f = (inside arg ≡ Err f) ⊎ ((a : Span) × (inside arg ≡ Ok a) × TextBreaks (IsBody room) (IsBroken room) c a f)

@@ -3,4 +3,3 @@ pub mod Profile
 pub mod Statements
 pub mod Breaks
 pub mod Source
-pub mod Limits

@@ -1,5 +1,5 @@
--- Which statements a source is, and its first fault, as one function of its text. It says which of two faults of one
--- item is named; what a tree and a fault are, apart from any order, is in Source.
+-- The statements of a source, or its first error, as one function of its text. It says which of two errors of one item
+-- is reported; `Source` says what a tree and an error are, in no order of reading.
 use Rattle.std.specs.Prelude.{◌≡◌, ℕ, zero, suc, Bool, true, false, List, [], ◌∷◌, drop, Option, Some, None, Result, Ok, Err, if◌then◌else◌}
 use Rattle.m4quote.specs.Entry.{Span, Entry, call, bare}
 use Rattle.m4quote.specs.Scan.{outcome}
@@ -15,67 +15,69 @@ use Rattle.acmacros.specs.declared.macros.ChoiceMacro.{ChoiceMacro}
 use Rattle.acmacros.specs.declared.macros.ChoiceMacro.TheVariants.{If, Case as As_case}
 use Rattle.acmacros.specs.declared.macros.Macro.{Macro}
 use Rattle.acmacros.specs.declared.macros.Macro.TheVariants.{Plain, Choice as A_choice, Question as A_question}
-use Rattle.acmacros.specs.declared.macros.Named.{Named}
+use Rattle.acmacros.specs.declared.table.Row.{Row}
 use Rattle.acmacros.specs.declared.macros.QuestionMacro.{QuestionMacro}
 use Rattle.acmacros.specs.declared.macros.QuestionMacro.TheVariants.{Given, Tries}
-use Rattle.acmacros.specs.declared.scene.Stage.{Stage}
-use Rattle.acmacros.specs.declared.scene.Stage.TheVariants.{Before, Open, Ended}
-use Rattle.acmacros.specs.declared.scene.Scene as scene
+use Rattle.syntax.specs.declared.declarations.Stage.{Stage}
+use Rattle.syntax.specs.declared.declarations.Stage.TheVariants.{Before, Open, Ended}
+use Rattle.syntax.specs.declared.declarations.Declarations as declarations
 use Rattle.acmacros.specs.Rows.{plain_of, question_of}
-use Rattle.acmacros.specs.Scene.{start, after_question, as_statement, placed}
-use Rattle.acmacros.specs.Table.{macro_named, takes}
-use Rattle.tree.specs.declared.tree.Subject.{Subject}
-use Rattle.tree.specs.declared.tree.Subject.TheVariants.{Nothing, Word, Asked}
-use Rattle.tree.specs.declared.tree.When.{When}
-use Rattle.tree.specs.declared.tree.When.TheVariants.{Holds, Matches, Yes, No, Always}
-use Rattle.tree.specs.Known.{after_all, after_cases}
-use Rattle.tree.specs.Script.{Script, Done, Then, Choice, Cases, No_case, Case, joined, followed}
+use Rattle.syntax.specs.Lists.{start, after_question}
+use Rattle.acmacros.specs.Placement.{as_statement, placed}
+use Rattle.acmacros.specs.Table.{row_named, takes}
+use Rattle.syntax.specs.declared.tree.Subject.{Subject}
+use Rattle.syntax.specs.declared.tree.Subject.TheVariants.{Nothing, Word, Asked}
+use Rattle.syntax.specs.declared.tree.When.{When}
+use Rattle.syntax.specs.declared.tree.When.TheVariants.{Holds, Matches, Yes, No, Always}
+use Rattle.syntax.specs.Lists.{after_all, after_cases}
+use Rattle.syntax.specs.Script.{Script, Done, Then, Choice, Cases, No_case, Case, joined, followed}
 use Rattle.acparse.specs.Bare.{bare_of}
 
--- what reads a statement argument: what is known before it, and the argument
+-- A reader of statement arguments: what has been declared before one, the argument, and its statements. (own)
 abbrev pub Bodies : Type 0
-Bodies = scene.Scene → Span → Result Script ParseFault
+Bodies = declarations.Declarations → Span → Result Script ParseFault
 
--- Statements were read and added to a list; what is known goes with them.
-pub record Adds (before behind : scene.Scene) (old new : Script) (read : Result Script ParseFault) : Type 0 where
+-- Statements were read and appended to a list, and what they declare was added. (own)
+pub record Adds (before behind : declarations.Declarations) (old new : Script) (read : Result Script ParseFault) : Type 0 where
   pub first : Script
   pub value : read ≡ Ok first
   pub list : new ≡ joined old first
   pub known : behind ≡ after_all before first
 
--- statements, and those that are read behind them
+-- Statements, and those that are read after them. (own)
 abbrev pub behind : Script → Result Script ParseFault → Result Script ParseFault
 behind front read = read >>= λ s. Ok (joined front s)
 
 -- ---- choices
 
--- what decides for a case: the test of AS_IF, the patterns of AS_CASE
+-- The condition of a case: the test of AS_IF, the patterns of AS_CASE. (Autoconf's manual, "Common Shell Constructs")
 unfoldable pub when_of : ChoiceMacro → Span → Result When ParseFault
 when_of If arg = shell_test arg >>= λ t. Ok (Holds t)
 when_of As_case arg = patterns arg >>= λ p. Ok (Matches p)
 
--- the subject: the word of AS_CASE, and nothing for AS_IF
+-- The subject of a choice: the word of AS_CASE, or nothing for AS_IF. (Autoconf's manual, "Common Shell Constructs")
 unfoldable pub subject_of : ChoiceMacro → List Span → Result Subject ParseFault
 subject_of If args = Ok Nothing
 subject_of As_case args = word (arg_at args 0) >>= λ w. Ok (Word w)
 
--- the arguments that are cases
+-- The arguments that make cases. (Autoconf's manual, "Common Shell Constructs")
 abbrev pub case_args : ChoiceMacro → List Span → List Span
 case_args If args = args
 case_args As_case args = drop 1 args
 
--- no statement
+-- No statement. (own)
 abbrev pub is_done : Script → Bool
 is_done Done = true
 is_done (Then s rest) = false
 is_done (Choice subject cases rest) = false
 
--- a case of these statements, where its argument is given
+-- A case with these statements, unless its argument is absent or empty and has no statement. (own)
 abbrev pub case_if : When → Bool → Script → Cases
 case_if when given body = if given then Case when body No_case else (if is_done body then No_case else Case when body No_case)
 
--- the cases of arguments: what decides and then statements, in pairs, and at the end a default alone
-unfoldable pub cases_in : Bodies → ChoiceMacro → scene.Scene → List Span → Result Cases ParseFault
+-- The cases of arguments: conditions and statements in pairs, and at the end a default alone. (Autoconf's manual,
+-- "Common Shell Constructs")
+unfoldable pub cases_in : Bodies → ChoiceMacro → declarations.Declarations → List Span → Result Cases ParseFault
 cases_in bodies m c [] = Ok No_case
 cases_in bodies m c (b ∷ []) = bodies c b >>= λ body. Ok (case_if Always (is_given b) body)
 cases_in bodies m c (w ∷ a ∷ more) = do
@@ -84,15 +86,16 @@ cases_in bodies m c (w ∷ a ∷ more) = do
   others ← cases_in bodies m (after_all c body) more
   Ok (Case when body others)
 
--- a case of what decides and a statement argument
-unfoldable pub case_of : Bodies → ChoiceMacro → scene.Scene → Span → Span → Result Cases ParseFault
+-- A case, from its condition and its statement argument. (own)
+unfoldable pub case_of : Bodies → ChoiceMacro → declarations.Declarations → Span → Span → Result Cases ParseFault
 case_of bodies m c w a = do
   when ← when_of m w
   body ← bodies c a
   Ok (Case when body No_case)
 
--- AS_IF(test, statements, [test, statements].., [default]), AS_CASE(word, patterns, statements, .., [default])
-unfoldable pub choice_of : Bodies → ChoiceMacro → scene.Scene → List Span → Result Script ParseFault
+-- AS_IF(test, statements, [test, statements].., [default]), AS_CASE(word, patterns, statements, .., [default]).
+-- (Autoconf's manual, "Common Shell Constructs")
+unfoldable pub choice_of : Bodies → ChoiceMacro → declarations.Declarations → List Span → Result Script ParseFault
 choice_of bodies m c args = do
   subject ← subject_of m args
   cases ← cases_in bodies m c (case_args m args)
@@ -100,31 +103,32 @@ choice_of bodies m c args = do
 
 -- ---- questions
 
--- the arguments behind those of the question: the statements for yes, and those for no
+-- The arguments after those of the question: the statements for yes, and those for no. (own)
 abbrev pub action_args : QuestionMacro → List Span → List Span
 action_args (Given kind) args = drop 2 args
 action_args (Tries kind) args = drop 1 args
 
--- the first of these arguments, if there is one
-unfoldable pub action_in : Bodies → When → scene.Scene → List Span → Result Cases ParseFault
+-- The case of the first of these arguments, if there is one. (own)
+unfoldable pub action_in : Bodies → When → declarations.Declarations → List Span → Result Cases ParseFault
 action_in bodies when c [] = Ok No_case
 action_in bodies when c (a ∷ more) = bodies c a >>= λ body. Ok (case_if when (is_given a) body)
 
--- what decides for the case of an answer
+-- The condition of the case for an answer. (own)
 abbrev pub answer : Bool → When
 answer true = Yes
 answer false = No
 
--- the first two of these arguments, as far as they are there: the case for yes and that for no
-unfoldable pub answers_in : Bodies → scene.Scene → List Span → Result Cases ParseFault
+-- The cases for yes and for no, without those that are absent. (own)
+unfoldable pub answers_in : Bodies → declarations.Declarations → List Span → Result Cases ParseFault
 answers_in bodies c args = do
   first ← action_in bodies Yes c args
   other ← action_in bodies No (after_cases c first) (drop 1 args)
   Ok (followed first other)
 
--- AC_ARG_ENABLE(feature, help, [for yes], [for no]), and AC_ARG_WITH alike; AC_COMPILE_IFELSE(program, [for yes], [for no]),
--- and its like
-unfoldable pub asked_of : Bodies → QuestionMacro → scene.Scene → List Span → Result Script ParseFault
+-- AC_ARG_ENABLE(feature, help, [for yes], [for no]) and AC_ARG_WITH; AC_COMPILE_IFELSE(program, [for yes], [for no]),
+-- AC_LINK_IFELSE, AC_PREPROC_IFELSE and AC_RUN_IFELSE. (Autoconf's manual, "Choosing Package Options" and "Running the
+-- Compiler")
+unfoldable pub asked_of : Bodies → QuestionMacro → declarations.Declarations → List Span → Result Script ParseFault
 asked_of bodies m c args = do
   q ← question_of c m args
   first ← action_in bodies Yes (after_question c q) (action_args m args)
@@ -133,45 +137,47 @@ asked_of bodies m c args = do
 
 -- ---- items
 
-abbrev pub known : ℕ → Option Named → Result Named ParseFault
+-- The row of a macro's name, which is at this offset. (own)
+abbrev pub known : ℕ → Option Row → Result Row ParseFault
 known at None = Err (UnknownMacro at)
-known at (Some m) = Ok m
+known at (Some row) = Ok row
 
--- The macro of a call between what is before it and the items after it. In this order: its name is known, it takes these
--- arguments, its calls are statements, one is allowed here, and this one is parted from other text.
+-- The macro of a call between what precedes it and the items after it. The conditions are checked in this order: its
+-- name is known, it takes these arguments, its calls are statements, one is allowed here, and this one is separate from
+-- other text. (own)
 unfoldable pub checked : Bool → Stage → Edge → List ℕ → List Span → ℕ → List Entry → Result Macro ParseFault
 checked top stage edge name args at behind = do
-  named ← known at (macro_named name)
-  _ ← wants (takes named args) (ArgCount at)
-  m ← as_statement stage at named
-  _ ← placed top stage m at
+  row ← known at (row_named name)
+  _ ← wants (takes row args) (ArgCount at)
+  m ← as_statement stage at row.named
+  _ ← placed top stage row.top m at
   _ ← wants (is_statement edge name args at behind) (UnknownStatement at)
   Ok m
 
--- the statement of a call of a macro whose name stands at this place
-abbrev pub call_of : Bodies → scene.Scene → Macro → ℕ → List Span → Result Script ParseFault
+-- The statement of a call of a macro with its name at this offset. (own)
+abbrev pub call_of : Bodies → declarations.Declarations → Macro → ℕ → List Span → Result Script ParseFault
 call_of bodies c (Plain m) at args = do
   s ← plain_of c m at args
   Ok (Then s Done)
 call_of bodies c (A_choice m) at args = choice_of bodies m c args
 call_of bodies c (A_question m) at args = asked_of bodies m c args
 
--- the statements of an item between what stands before it and the items behind it
-abbrev pub item_of : Bool → Bodies → scene.Scene → Edge → Entry → List Entry → Result Script ParseFault
+-- The statements of an item between what precedes it and the items after it. (own)
+abbrev pub item_of : Bool → Bodies → declarations.Declarations → Edge → Entry → List Entry → Result Script ParseFault
 item_of top bodies c edge (bare text at) behind = bare_of c.stage at text
 item_of top bodies c edge (call name args at) behind = do
   m ← checked top c.stage edge name args at behind
   call_of bodies c m at args
 
--- the statements of items, one after another
-unfoldable pub items_of : Bool → Bodies → scene.Scene → Edge → List Entry → Result Script ParseFault
+-- The statements of items, one after another. (own)
+unfoldable pub items_of : Bool → Bodies → declarations.Declarations → Edge → List Entry → Result Script ParseFault
 items_of top bodies c edge [] = Ok Done
 items_of top bodies c edge (item ∷ items) = do
   first ← item_of top bodies c edge item items
   rest ← items_of top bodies (after_all c first) (edge_of item) items
   Ok (joined first rest)
 
--- a statement argument, where so many lists may stand in one another
+-- The statements of an argument in which lists nest at most room deep, counting its own. (own)
 unfoldable pub body_of : (room : ℕ) → Bodies
 body_of zero c arg = Err (TooDeep arg.at)
 body_of (suc room) c arg = do
@@ -181,13 +187,13 @@ body_of (suc room) c arg = do
 
 -- ---- a source
 
--- a source's statements at its end
+-- The statements of a source at its end. (own)
 abbrev pub ended : Stage → Script → Result Script ParseFault
 ended Before s = Err NoInit
 ended Open s = Err NoOutput
 ended Ended s = Ok s
 
--- A source: 31 lists may stand in one another within its own.
+-- The statements of a source: within its own list, lists nest at most 31 deep. (own)
 unfoldable pub source_of : List ℕ → Result Script ParseFault
 source_of text = do
   items ← quoted (outcome 0 text)

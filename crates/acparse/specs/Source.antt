@@ -1,4 +1,4 @@
--- What a whole source is, and what is wrong with one.
+-- The statements of a whole source, and the errors of one.
 use Rattle.std.specs.Prelude.{◌≡◌, ℕ, true, List}
 use Rattle.m4quote.specs.Entry.{Entry}
 use Rattle.m4quote.specs.Faults.{IsFirstFault}
@@ -8,25 +8,25 @@ use Rattle.acargs.specs.declared.fault.ParseFault.{ParseFault}
 use Rattle.acargs.specs.declared.fault.ParseFault.TheVariants.{NoInit, NoOutput}
 use Rattle.acargs.specs.Reading.{quote_fault}
 use Rattle.acargs.specs.Stand.{no_edge}
-use Rattle.acmacros.specs.declared.scene.Stage.TheVariants.{Before, Open, Ended}
+use Rattle.syntax.specs.declared.declarations.Stage.TheVariants.{Before, Open, Ended}
 use Rattle.acparse.specs.Breaks.{Breaks, IsBroken}
-use Rattle.acmacros.specs.Scene.{start}
-use Rattle.tree.specs.Known.{after_all}
-use Rattle.tree.specs.Script.{Script}
+use Rattle.syntax.specs.Lists.{start}
+use Rattle.syntax.specs.Lists.{after_all}
+use Rattle.syntax.specs.Script.{Script}
 use Rattle.acparse.specs.Statements.{AreStatements, IsBody}
 
--- The text spells items, and these are statements, with at most 31 lists in one another within.
+-- The text spells items, and these are their statements; within them, lists nest at most 31 deep. (own)
 pub record IsList (text : List ℕ) (s : Script) : Type 0 where
   pub items : List Entry
   pub spelled : IsSpelling 0 text items
   pub statements : AreStatements true (IsBody 31) start no_edge items s
 
--- The source is these statements, from AC_INIT to AC_OUTPUT.
+-- The source has these statements, from AC_INIT to AC_OUTPUT. (own)
 pub record IsSource (text : List ℕ) (s : Script) : Type 0 where
   pub list : IsList text s
   pub ended : (after_all start s).stage ≡ Ended
 
--- The fault names what is wrong at its place, and all before it is right.
+-- The error names what is wrong at its offset, and everything before it is right. (own)
 pub data IsSourceFault (text : List ℕ) : ParseFault → Type 0 where
   no_items : {q : QuoteFault} → IsFirstFault 0 text q → IsSourceFault text (quote_fault q)
   in_items : {items : List Entry} {f : ParseFault} → IsSpelling 0 text items → Breaks true (IsBody 31) (IsBroken 31) start no_edge items f → IsSourceFault text f

@@ -6,20 +6,19 @@ ghost use Rattle.acargs.specs.Reading.{Gives};
 ghost use Rattle.acparse.specs.Bare as words;
 ghost use Rattle.acparse.specs.Profile.{behind};
 ghost use Rattle.acargs.specs.Idle.{is_idle};
-ghost use Rattle.acmacros.specs.Scene.{bare_fault};
-ghost use Rattle.tree.specs.Script.{script_of, joined, Done};
+ghost use Rattle.acmacros.specs.Placement.{bare_fault};
+ghost use Rattle.syntax.specs.Script.{script_of, joined, Done};
 
 use acargs::ParseFault;
 use acargs::fault::shell_fault;
 use acargs::idle::is_idle;
-use acmacros::scene::bare_fault;
-use acmacros::{Plain, Stage};
+use acmacros::placement::bare_fault;
 use baretext::{Assignment, Assignments, BareFault, read_statements};
 use m4quote::{QuoteFault, bare_value};
 use std::alloc::{AllocError, Global};
-use tree::Stmt;
+use syntax::{Plain, Stage, Stmt};
 
-/// A fault of bare text that begins at `at`, in the source.
+/// Returns an error of bare text that begins at `at` as an error of the source.
 fn text_fault(at: usize, fault: BareFault) -> ParseFault
     ensures { result ≡ words.text_fault at fault }
 {
@@ -30,7 +29,7 @@ fn text_fault(at: usize, fault: BareFault) -> ParseFault
     }
 }
 
-/// The assignments that the value of bare text at `at` makes.
+/// Reads the assignments in the value of bare text at `at`.
 fn assignments(alloc: Global, at: usize, text: &[u8]) -> Result<Assignments, ParseFault>
     ensures { Gives words.assigned result (words.of_value at (bare_value_of text.now)) }
 {
@@ -44,7 +43,7 @@ fn assignments(alloc: Global, at: usize, text: &[u8]) -> Result<Assignments, Par
     }
 }
 
-/// Adds assignments to statements.
+/// Appends assignments to statements.
 fn push_all(assignments: Vec<Assignment>, out: &mut Vec<Stmt>) -> Result<(), AllocError>
     ensures { OnOk result (script_of out.new.items ≡ joined (script_of out.old.items) (words.assigned assignments.items)) }
 {
@@ -55,7 +54,7 @@ fn push_all(assignments: Vec<Assignment>, out: &mut Vec<Stmt>) -> Result<(), All
     Ok(())
 }
 
-/// Bare text that says nothing, or its fault.
+/// Checks that bare text has blanks and comments alone.
 fn check_idle(alloc: Global, stage: Stage, at: usize, text: &[u8]) -> Result<(), ParseFault>
     ensures { Gives (λ _. Done) result (words.idle_or (is_idle text.now) (bare_fault stage at)) }
 {
@@ -66,8 +65,8 @@ fn check_idle(alloc: Global, stage: Stage, at: usize, text: &[u8]) -> Result<(),
     }
 }
 
-/// Adds the statements of bare text at `at`: the assignments of its value, or none before AC_INIT and after AC_OUTPUT, where
-/// it says nothing.
+/// Appends the statements of bare text at `at`: the assignments in its value. Before AC_INIT and after AC_OUTPUT, it
+/// may have blanks and comments alone.
 #[tactic(auto, unfolding(crate::specs::Bare::bare_of))]
 pub(crate) fn read_bare(
     alloc: Global,

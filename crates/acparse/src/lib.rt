@@ -1,18 +1,23 @@
-//! From the text of a configure.ac to its tree of statements, or to its first fault.
+//! Reads the text of a configure.ac as a tree of statements, or reports its first error.
 //!
-//! `parse` reads a whole source: its items (`m4quote`), and from them one statement after another: calls by the table of
-//! macros (`acmacros`), the text between them as assignments (`baretext`). The tree is the crate `tree`'s. `bare` reads
-//! text, `read` calls and lists of statements, and `source` has the theorem: unless memory runs out, a tree is answered
-//! exactly if the profile has one, which is `specs/Source.antt` and, item by item, `specs/Statements.antt`.
+//! `parse` reads a whole source: its items (`m4quote`), and from them one statement after another: calls by the table
+//! of macros (`acmacros`), the text between them as assignments (`baretext`). The tree is that of the crate `syntax`.
+//!
+//! Read `bare` (text), then `read` (calls and lists of statements), then `source`, which has the theorem: unless memory
+//! runs out, `parse` returns a tree exactly if the source has one by `specs/Source.antt` and, item by item,
+//! `specs/Statements.antt`.
 //!
 //! `parse(alloc, b"AC_INIT([demo],[1.0])\nAC_OUTPUT\n")` gives a source of two statements.
+//!
+//! Every function fails with `OutOfMemory` if memory runs out.
 #![tactic(auto)]
 
 pub mod bare;
 pub mod read;
 pub mod source;
 
-pub use acargs::{Help, HelpList, Output, Outputs, ParseFault};
-pub use acmacros::{Plain, Question};
-pub use source::{Source, parse};
-pub use tree::{Case, Stmt, Subject, When};
+pub use acargs::ParseFault;
+pub use source::parse;
+pub use syntax::{
+    Case, Help, HelpList, Output, Outputs, Plain, Question, Source, Stmt, Subject, When,
+};

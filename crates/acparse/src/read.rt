@@ -7,11 +7,11 @@ ghost use Rattle.acargs.specs.Stand.{no_edge};
 ghost use Rattle.acparse.specs.Profile as profile;
 ghost use Rattle.acparse.specs.Profile.{Adds};
 ghost use Rattle.acmacros.specs.declared.macros.Macro.TheVariants.{Plain};
-ghost use Rattle.acmacros.specs.declared.scene.Scene as scenes;
+ghost use Rattle.syntax.specs.declared.declarations.Declarations as declarations;
 ghost use Rattle.acmacros.specs.Rows.{question_of};
-ghost use Rattle.acmacros.specs.Scene.{after_question};
-ghost use Rattle.tree.specs.Known.{after_all, after_cases, after_subject};
-ghost use Rattle.tree.specs.Script.{script_of, cases_of, followed, Done};
+ghost use Rattle.syntax.specs.Lists.{after_question};
+ghost use Rattle.syntax.specs.Lists.{after_all, after_cases, after_subject};
+ghost use Rattle.syntax.specs.Script.{script_of, cases_of, followed, Done};
 
 use crate::bare::read_bare;
 use acargs::ParseFault;
@@ -20,15 +20,17 @@ use acargs::fault::quote_fault;
 use acargs::inside::inside;
 use acargs::shell::{patterns, test, word};
 use acargs::stand::{Edge, NO_EDGE, edge_of, is_statement};
-use acmacros::macros::{macro_named, takes};
+use acmacros::placement::{as_statement, check_place};
 use acmacros::rows::{plain, question};
-use acmacros::scene::{as_statement, check_place, note, note_question};
-use acmacros::{ChoiceMacro, Macro, PlainMacro, Question, QuestionMacro, Scene, Stage};
+use acmacros::table::{row_named, takes};
+use acmacros::{ChoiceMacro, Macro, PlainMacro, QuestionMacro};
 use m4quote::{Arg, Item, read_items_at};
 use std::alloc::{AllocError, Global};
-use tree::{Case, Stmt, Subject, When, choose};
+use syntax::declarations::{declare, declare_question};
+use syntax::{Case, Declarations, Question, Stage, Stmt, Subject, When, choose};
 
-/// The macro of a call that is a statement between what is before it and the items after it.
+/// Returns the macro of a call, if the call is a statement between what precedes it (`edge`) and the items after it
+/// (`behind`).
 #[tactic(auto, unfolding(crate::specs::Profile::checked))]
 fn check_call(
     alloc: Global,
@@ -42,21 +44,21 @@ fn check_call(
 ) -> Result<Macro, ParseFault>
     ensures { Gives (λ m. m) result (profile.checked top stage edge name.now (map span args.now) at (views behind.now)) }
 {
-    let Some(named) = macro_named(name) else {
+    let Some(row) = row_named(name) else {
         return Err(ParseFault::UnknownMacro(at));
     };
-    if !takes(alloc, named, args)? {
+    if !takes(alloc, row, args)? {
         return Err(ParseFault::ArgCount(at));
     }
-    let m = as_statement(stage, at, named)?;
-    check_place(top, stage, m, at)?;
+    let m = as_statement(stage, at, row.named)?;
+    check_place(top, stage, row.top, m, at)?;
     if !is_statement(edge, name, args, at, behind) {
         return Err(ParseFault::UnknownStatement(at));
     }
     Ok(m)
 }
 
-/// What decides for a case: the test of AS_IF, the patterns of AS_CASE.
+/// Reads the condition of a case: the test of AS_IF, the patterns of AS_CASE.
 #[tactic(auto, unfolding(crate::specs::Profile::when_of))]
 fn when(alloc: Global, m: ChoiceMacro, arg: Arg<'_>) -> Result<When, ParseFault>
     ensures { Gives (λ w. w) result (profile.when_of m (span arg.entry)) }
@@ -73,12 +75,12 @@ fn when(alloc: Global, m: ChoiceMacro, arg: Arg<'_>) -> Result<When, ParseFault>
     }
 }
 
-/// The subject: the word of AS_CASE, and nothing for AS_IF.
+/// Reads the subject of a choice: the word of AS_CASE, or nothing for AS_IF.
 #[tactic(auto, unfolding(crate::specs::Profile::subject_of))]
 fn subject(alloc: Global, m: ChoiceMacro, args: &[Arg<'_>]) -> Result<Subject, ParseFault>
     ensures value { Gives (λ s. s) result (profile.subject_of m (map span args.now)) }
-    // It leaves nothing to be known.
-    ensures known { IfOk result (λ s. (c : scenes.Scene) → after_subject c s ≡ c) }
+    // The subject declares nothing.
+    ensures known { IfOk result (λ s. (c : declarations.Declarations) → after_subject c s ≡ c) }
 {
     match m {
         ChoiceMacro::If => Ok(Subject::Nothing),
@@ -89,7 +91,7 @@ fn subject(alloc: Global, m: ChoiceMacro, args: &[Arg<'_>]) -> Result<Subject, P
     }
 }
 
-/// The arguments that are cases.
+/// Returns the arguments that make cases.
 fn case_args<'a, 'b>(m: ChoiceMacro, args: &'b [Arg<'a>]) -> &'b [Arg<'a>]
     ensures { map span result.now ≡ profile.case_args m (map span args.now) }
 {
@@ -99,7 +101,7 @@ fn case_args<'a, 'b>(m: ChoiceMacro, args: &'b [Arg<'a>]) -> &'b [Arg<'a>]
     }
 }
 
-/// A case of these statements; none if its argument is not given and has no statement.
+/// Returns a case with these statements, or `None` if its argument is absent or empty and has no statement.
 fn case_if(when: When, given: bool, body: Vec<Stmt>) -> Option<Case>
     ensures { cases_of (option_to_list result) ≡ profile.case_if when given (script_of body.items) }
 {
@@ -112,7 +114,7 @@ fn case_if(when: When, given: bool, body: Vec<Stmt>) -> Option<Case>
     Some(Case { when, body })
 }
 
-/// The arguments after those of the question.
+/// Returns the arguments after those of the question.
 fn action_args<'a, 'b>(m: QuestionMacro, args: &'b [Arg<'a>]) -> &'b [Arg<'a>]
     ensures { map span result.now ≡ profile.action_args m (map span args.now) }
 {
@@ -122,14 +124,14 @@ fn action_args<'a, 'b>(m: QuestionMacro, args: &'b [Arg<'a>]) -> &'b [Arg<'a>]
     }
 }
 
-/// The arguments after the first.
+/// Returns the arguments after the first.
 fn behind_first<'a, 'b>(args: &'b [Arg<'a>]) -> &'b [Arg<'a>]
     ensures { map span result.now ≡ drop 1 (map span args.now) }
 {
     &args[args.len().min(1)..]
 }
 
-/// Cases, and one more if it is there.
+/// Appends a case, if there is one.
 fn with_last(mut cases: Vec<Case>, last: Option<Case>) -> Result<Vec<Case>, AllocError>
     ensures { IfOk result (λ v. cases_of v.items ≡ followed (cases_of cases.items) (cases_of (option_to_list last))) }
 {
@@ -142,7 +144,7 @@ fn with_last(mut cases: Vec<Case>, last: Option<Case>) -> Result<Vec<Case>, Allo
     }
 }
 
-/// Two cases, as far as they are there.
+/// Returns the two cases, without those that are absent.
 fn both(alloc: Global, first: Option<Case>, other: Option<Case>) -> Result<Vec<Case>, AllocError>
     ensures { IfOk result (λ v. cases_of v.items ≡ followed (cases_of (option_to_list first)) (cases_of (option_to_list other))) }
 {
@@ -150,17 +152,17 @@ fn both(alloc: Global, first: Option<Case>, other: Option<Case>) -> Result<Vec<C
     with_last(one, other)
 }
 
-/// The statements of a statement argument, which may hold `room` lists in one another, its own counted.
+/// Reads the statements of a statement argument. Lists nest at most `room` deep in it, counting its own.
 #[cycle(list)]
 #[tactic(auto, unfolding(crate::specs::Profile::body_of))]
 fn read_body(
     alloc: Global,
     room: u8,
-    scene: &mut Scene,
+    known: &mut Declarations,
     arg: Arg<'_>,
 ) -> Result<Vec<Stmt>, ParseFault>
-    ensures value { Gives (λ v. script_of v.items) result (profile.body_of room scene.old (span arg.entry)) }
-    ensures after { IfOk result (λ v. scene.new ≡ after_all scene.old (script_of v.items)) }
+    ensures value { Gives (λ v. script_of v.items) result (profile.body_of room known.old (span arg.entry)) }
+    ensures after { IfOk result (λ v. known.new ≡ after_all known.old (script_of v.items)) }
 {
     if room == 0 {
         return Err(ParseFault::TooDeep(arg.at));
@@ -168,245 +170,245 @@ fn read_body(
     let inner = inside(alloc, arg)?;
     match read_items_at(alloc, inner.text, inner.at) {
         Err(fault) => Err(quote_fault(fault)),
-        Ok(items) => read_statements(alloc, false, room - 1, scene, &items),
+        Ok(items) => read_statements(alloc, false, room - 1, known, &items),
     }
 }
 
-/// The default of a choice: the last argument, if it is left over after the pairs.
+/// Reads the default of a choice: the last argument, if it is left over after the pairs.
 #[cycle(list)]
 #[tactic(auto, unfolding(crate::specs::Profile::cases_in))]
 fn read_default(
     alloc: Global,
     room: u8,
-    scene: &mut Scene,
+    known: &mut Declarations,
     m: ChoiceMacro,
     args: &[Arg<'_>],
 ) -> Result<Option<Case>, ParseFault>
     requires { length args.now ≤ 1 }
-    ensures value { Gives (λ o. cases_of (option_to_list o)) result (profile.cases_in (profile.body_of room) m scene.old (map span args.now)) }
-    ensures after { IfOk result (λ o. scene.new ≡ after_cases scene.old (cases_of (option_to_list o))) }
+    ensures value { Gives (λ o. cases_of (option_to_list o)) result (profile.cases_in (profile.body_of room) m known.old (map span args.now)) }
+    ensures after { IfOk result (λ o. known.new ≡ after_cases known.old (cases_of (option_to_list o))) }
 {
     match args {
         [] => Ok(None),
         [only, ..] => {
             let given = is_given(alloc, *only)?;
-            let body = read_body(alloc, room, scene, *only)?;
+            let body = read_body(alloc, room, known, *only)?;
             Ok(case_if(When::Always, given, body))
         }
     }
 }
 
-/// The case of what decides and a statement argument.
+/// Reads a case from its condition and its statement argument.
 #[cycle(list)]
 #[tactic(auto, unfolding(crate::specs::Profile::case_of))]
 fn read_case(
     alloc: Global,
     room: u8,
-    scene: &mut Scene,
+    known: &mut Declarations,
     m: ChoiceMacro,
     condition: Arg<'_>,
     arg: Arg<'_>,
 ) -> Result<Case, ParseFault>
-    ensures value { Gives (λ k. cases_of (k ∷ [])) result (profile.case_of (profile.body_of room) m scene.old (span condition.entry) (span arg.entry)) }
-    ensures after { IfOk result (λ k. scene.new ≡ after_all scene.old (script_of k.body.items)) }
+    ensures value { Gives (λ k. cases_of (k ∷ [])) result (profile.case_of (profile.body_of room) m known.old (span condition.entry) (span arg.entry)) }
+    ensures after { IfOk result (λ k. known.new ≡ after_all known.old (script_of k.body.items)) }
 {
     let when = when(alloc, m, condition)?;
-    read_body(alloc, room, scene, arg).map(|body| Case { when, body })
+    read_body(alloc, room, known, arg).map(|body| Case { when, body })
 }
 
-/// The cases of arguments.
+/// Reads the cases of a choice.
 #[cycle(list)]
 fn read_cases(
     alloc: Global,
     room: u8,
-    scene: &mut Scene,
+    known: &mut Declarations,
     m: ChoiceMacro,
     args: &[Arg<'_>],
 ) -> Result<Vec<Case>, ParseFault>
-    ensures value { Gives (λ v. cases_of v.items) result (profile.cases_in (profile.body_of room) m scene.old (map span args.now)) }
-    ensures after { IfOk result (λ v. scene.new ≡ after_cases scene.old (cases_of v.items)) }
+    ensures value { Gives (λ v. cases_of v.items) result (profile.cases_in (profile.body_of room) m known.old (map span args.now)) }
+    ensures after { IfOk result (λ v. known.new ≡ after_cases known.old (cases_of v.items)) }
 {
     let mut cases = Vec::new(alloc);
     let mut i = 0;
     while i + 1 < args.len() {
-        let case = read_case(alloc, room, scene, m, args[i], args[i + 1])?;
+        let case = read_case(alloc, room, known, m, args[i], args[i + 1])?;
         cases.push(case)?;
         i += 2;
     }
-    let last = read_default(alloc, room, scene, m, &args[i..])?;
+    let last = read_default(alloc, room, known, m, &args[i..])?;
     Ok(with_last(cases, last)?)
 }
 
-/// AS_IF or AS_CASE.
+/// Reads AS_IF or AS_CASE.
 #[cycle(list)]
 #[tactic(auto, unfolding(crate::specs::Profile::choice_of))]
 fn read_choice(
     alloc: Global,
     room: u8,
-    scene: &mut Scene,
+    known: &mut Declarations,
     m: ChoiceMacro,
     args: &[Arg<'_>],
 ) -> Result<Stmt, ParseFault>
-    ensures value { Gives (λ s. script_of (s ∷ [])) result (profile.choice_of (profile.body_of room) m scene.old (map span args.now)) }
-    ensures after { IfOk result (λ s. scene.new ≡ after_all scene.old (script_of (s ∷ []))) }
+    ensures value { Gives (λ s. script_of (s ∷ [])) result (profile.choice_of (profile.body_of room) m known.old (map span args.now)) }
+    ensures after { IfOk result (λ s. known.new ≡ after_all known.old (script_of (s ∷ []))) }
 {
     let subject = subject(alloc, m, args)?;
-    read_cases(alloc, room, scene, m, case_args(m, args)).map(|cases| choose(subject, cases))
+    read_cases(alloc, room, known, m, case_args(m, args)).map(|cases| choose(subject, cases))
 }
 
-/// What decides for the case of an answer.
+/// Returns the condition of the case for an answer.
 fn answer(yes: bool) -> When
     ensures { result ≡ profile.answer yes }
 {
     if yes { When::Yes } else { When::No }
 }
 
-/// The case that the first of the arguments is, if there is one.
+/// Reads the case of the first of these arguments, if there is one.
 #[cycle(list)]
 #[tactic(auto, unfolding(crate::specs::Profile::action_in))]
 fn read_action(
     alloc: Global,
     room: u8,
-    scene: &mut Scene,
+    known: &mut Declarations,
     yes: bool,
     args: &[Arg<'_>],
 ) -> Result<Option<Case>, ParseFault>
-    ensures value { Gives (λ o. cases_of (option_to_list o)) result (profile.action_in (profile.body_of room) (profile.answer yes) scene.old (map span args.now)) }
-    ensures after { IfOk result (λ o. scene.new ≡ after_cases scene.old (cases_of (option_to_list o))) }
+    ensures value { Gives (λ o. cases_of (option_to_list o)) result (profile.action_in (profile.body_of room) (profile.answer yes) known.old (map span args.now)) }
+    ensures after { IfOk result (λ o. known.new ≡ after_cases known.old (cases_of (option_to_list o))) }
 {
     match args {
         [] => Ok(None),
         [first, ..] => {
             let given = is_given(alloc, *first)?;
-            read_body(alloc, room, scene, *first).map(|body| case_if(answer(yes), given, body))
+            read_body(alloc, room, known, *first).map(|body| case_if(answer(yes), given, body))
         }
     }
 }
 
-/// The cases for yes and for no, as far as they are there.
+/// Reads the cases for yes and for no, without those that are absent.
 #[cycle(list)]
 #[tactic(auto, unfolding(crate::specs::Profile::answers_in))]
 fn read_answers(
     alloc: Global,
     room: u8,
-    scene: &mut Scene,
+    known: &mut Declarations,
     args: &[Arg<'_>],
 ) -> Result<Vec<Case>, ParseFault>
-    ensures value { Gives (λ v. cases_of v.items) result (profile.answers_in (profile.body_of room) scene.old (map span args.now)) }
-    ensures after { IfOk result (λ v. scene.new ≡ after_cases scene.old (cases_of v.items)) }
+    ensures value { Gives (λ v. cases_of v.items) result (profile.answers_in (profile.body_of room) known.old (map span args.now)) }
+    ensures after { IfOk result (λ v. known.new ≡ after_cases known.old (cases_of v.items)) }
 {
-    let first = read_action(alloc, room, scene, true, args)?;
-    let read = read_action(alloc, room, scene, false, behind_first(args));
+    let first = read_action(alloc, room, known, true, args)?;
+    let read = read_action(alloc, room, known, false, behind_first(args));
     read.and_then(|other| Ok(both(alloc, first, other)?))
 }
 
-/// What a macro asks.
+/// Reads the question of a macro, and adds what it declares.
 fn ask(
     alloc: Global,
-    scene: &mut Scene,
+    known: &mut Declarations,
     m: QuestionMacro,
     args: &[Arg<'_>],
 ) -> Result<Question, ParseFault>
-    ensures value { Gives (λ q. q) result (question_of scene.old m (map span args.now)) }
-    ensures after { IfOk result (λ q. scene.new ≡ after_question scene.old q) }
+    ensures value { Gives (λ q. q) result (question_of known.old m (map span args.now)) }
+    ensures after { IfOk result (λ q. known.new ≡ after_question known.old q) }
 {
-    let question = question(alloc, scene, m, args)?;
-    Ok(note_question(alloc, scene, &question).map(|()| question)?)
+    let question = question(alloc, known, m, args)?;
+    Ok(declare_question(alloc, known, &question).map(|()| question)?)
 }
 
-/// AC_ARG_ENABLE, AC_COMPILE_IFELSE, or another macro that asks.
+/// Reads AC_ARG_ENABLE, AC_COMPILE_IFELSE, or another macro that asks a question.
 #[cycle(list)]
 #[tactic(auto, unfolding(crate::specs::Profile::asked_of))]
 fn read_question(
     alloc: Global,
     room: u8,
-    scene: &mut Scene,
+    known: &mut Declarations,
     m: QuestionMacro,
     args: &[Arg<'_>],
 ) -> Result<Stmt, ParseFault>
-    ensures value { Gives (λ s. script_of (s ∷ [])) result (profile.asked_of (profile.body_of room) m scene.old (map span args.now)) }
-    ensures after { IfOk result (λ s. scene.new ≡ after_all scene.old (script_of (s ∷ []))) }
+    ensures value { Gives (λ s. script_of (s ∷ [])) result (profile.asked_of (profile.body_of room) m known.old (map span args.now)) }
+    ensures after { IfOk result (λ s. known.new ≡ after_all known.old (script_of (s ∷ []))) }
 {
-    let question = ask(alloc, scene, m, args)?;
-    read_answers(alloc, room, scene, action_args(m, args)).map(|cases| choose(
+    let question = ask(alloc, known, m, args)?;
+    read_answers(alloc, room, known, action_args(m, args)).map(|cases| choose(
         Subject::Asked(question),
         cases,
     ))
 }
 
-/// A statement without statements in it.
+/// Reads a statement with no statements in it, and adds what it declares.
 fn read_plain(
     alloc: Global,
-    scene: &mut Scene,
+    known: &mut Declarations,
     m: PlainMacro,
     at: usize,
     args: &[Arg<'_>],
 ) -> Result<Stmt, ParseFault>
-    ensures value { Gives (λ s. script_of (s ∷ [])) result (profile.call_of (profile.body_of 0) scene.old (Plain m) at (map span args.now)) }
-    ensures after { IfOk result (λ s. scene.new ≡ after_all scene.old (script_of (s ∷ []))) }
+    ensures value { Gives (λ s. script_of (s ∷ [])) result (profile.call_of (profile.body_of 0) known.old (Plain m) at (map span args.now)) }
+    ensures after { IfOk result (λ s. known.new ≡ after_all known.old (script_of (s ∷ []))) }
 {
-    let s = plain(alloc, scene, m, at, args)?;
-    Ok(note(alloc, scene, &s).map(|()| Stmt::Plain(s))?)
+    let s = plain(alloc, known, m, at, args)?;
+    Ok(declare(alloc, known, &s).map(|()| Stmt::Plain(s))?)
 }
 
-/// The statement of a call of a macro whose name is at `at`.
+/// Reads the call of a macro whose name is at `at`.
 #[cycle(list)]
 fn read_call(
     alloc: Global,
     room: u8,
-    scene: &mut Scene,
+    known: &mut Declarations,
     m: Macro,
     at: usize,
     args: &[Arg<'_>],
 ) -> Result<Stmt, ParseFault>
-    ensures value { Gives (λ s. script_of (s ∷ [])) result (profile.call_of (profile.body_of room) scene.old m at (map span args.now)) }
-    ensures after { IfOk result (λ s. scene.new ≡ after_all scene.old (script_of (s ∷ []))) }
+    ensures value { Gives (λ s. script_of (s ∷ [])) result (profile.call_of (profile.body_of room) known.old m at (map span args.now)) }
+    ensures after { IfOk result (λ s. known.new ≡ after_all known.old (script_of (s ∷ []))) }
 {
     match m {
-        Macro::Plain(m) => read_plain(alloc, scene, m, at, args),
-        Macro::Choice(m) => read_choice(alloc, room, scene, m, args),
-        Macro::Question(m) => read_question(alloc, room, scene, m, args),
+        Macro::Plain(m) => read_plain(alloc, known, m, at, args),
+        Macro::Choice(m) => read_choice(alloc, room, known, m, args),
+        Macro::Question(m) => read_question(alloc, room, known, m, args),
     }
 }
 
-/// Adds the statements of an item between what is before it and the items after it.
+/// Appends the statements of an item between what precedes it (`edge`) and the items after it (`behind`).
 #[cycle(list)]
 fn read_item(
     alloc: Global,
     top: bool,
     room: u8,
-    scene: &mut Scene,
+    known: &mut Declarations,
     edge: Edge,
     item: &Item<'_>,
     behind: &[Item<'_>],
     out: &mut Vec<Stmt>,
 ) -> Result<(), ParseFault>
-    ensures { MatchResult result (λ _. Adds scene.old scene.new (script_of out.old.items) (script_of out.new.items) (profile.item_of top (profile.body_of room) scene.old edge (view item.now) (views behind.now)))
-        (λ e. Fails e (profile.item_of top (profile.body_of room) scene.old edge (view item.now) (views behind.now))) }
+    ensures { MatchResult result (λ _. Adds known.old known.new (script_of out.old.items) (script_of out.new.items) (profile.item_of top (profile.body_of room) known.old edge (view item.now) (views behind.now)))
+        (λ e. Fails e (profile.item_of top (profile.body_of room) known.old edge (view item.now) (views behind.now))) }
 {
     match item {
-        Item::Bare { text, at } => read_bare(alloc, scene.stage, *at, text, out),
+        Item::Bare { text, at } => read_bare(alloc, known.stage, *at, text, out),
         Item::Call { name, args, at } => {
-            let m = check_call(alloc, top, scene.stage, edge, name, args, *at, behind)?;
-            let s = read_call(alloc, room, scene, m, *at, args)?;
+            let m = check_call(alloc, top, known.stage, edge, name, args, *at, behind)?;
+            let s = read_call(alloc, room, known, m, *at, args)?;
             out.push(s)?;
             Ok(())
         }
     }
 }
 
-/// The statements of a list's items. `top` says whether the list is the file's own, and `room` lists may be in one another
-/// within it.
+/// Reads the statements of a list's items. `top` is true if it is the file's own list, and lists nest at most `room`
+/// deep within it.
 #[cycle(list)]
 pub(crate) fn read_statements(
     alloc: Global,
     top: bool,
     room: u8,
-    scene: &mut Scene,
+    known: &mut Declarations,
     items: &[Item<'_>],
 ) -> Result<Vec<Stmt>, ParseFault>
-    ensures value { Gives (λ v. script_of v.items) result (profile.items_of top (profile.body_of room) scene.old no_edge (views items.now)) }
-    ensures after { IfOk result (λ v. scene.new ≡ after_all scene.old (script_of v.items)) }
+    ensures value { Gives (λ v. script_of v.items) result (profile.items_of top (profile.body_of room) known.old no_edge (views items.now)) }
+    ensures after { IfOk result (λ v. known.new ≡ after_all known.old (script_of v.items)) }
 {
     let mut out = Vec::new(alloc);
     let mut edge = NO_EDGE;
@@ -416,7 +418,7 @@ pub(crate) fn read_statements(
             alloc,
             top,
             room,
-            scene,
+            known,
             edge,
             item,
             &items[i + 1..],

@@ -3,116 +3,71 @@
 ghost use Rattle.std.specs.Prelude.{◌≡◌, ◌≢◌, IfOk, IfErr, Ok};
 ghost use Rattle.acargs.specs.declared.fault.ParseFault.TheVariants.{OutOfMemory};
 ghost use Rattle.acargs.specs.Reading.{Gives};
-ghost use Rattle.acmacros.specs.Scene.{start};
-ghost use Rattle.tree.specs.Known.{after_all};
+ghost use Rattle.syntax.specs.Lists.{after_all, lists_of, start};
 ghost use Rattle.acparse.specs.Profile.{ended, source_of};
-ghost use Rattle.tree.specs.Script.{Script, script_of};
+ghost use Rattle.syntax.specs.Script.{Script, script_of};
 ghost use Rattle.acparse.specs.Source.{IsSource, IsSourceFault};
-ghost use Rattle.acparse.specs.Limits.{HasShortLists};
+ghost use Rattle.syntax.specs.Limits.{HasShortLists};
 
 use crate::read::read_statements;
+use acargs::ParseFault;
 use acargs::fault::quote_fault;
-use acargs::{HelpList, Outputs, ParseFault};
-use acmacros::{Scene, Stage};
-use deftable::SubstList;
 use m4quote::read_items;
 use std::alloc::Global;
-use tree::Stmt;
+use syntax::{Declarations, Source, Stage, Stmt};
 
-/// What a configure.ac says.
-#[derive(Debug, Drop)]
-pub struct Source {
-    /// The statements of the file's own list, in order.
-    pub statements: Vec<Stmt>,
-    /// The output variables of AC_SUBST, AC_ARG_VAR, AC_CHECK_PROG, AC_CHECK_PROGS, AC_PATH_PROG and AC_PROG_CC, each once,
-    /// in the order of their first mention, also from cases that a run does not take.
-    pub substituted: SubstList,
-    /// The precious variables of AC_ARG_VAR and AC_PROG_CC, likewise.
-    pub precious: SubstList,
-    /// The variables of the features that AC_ARG_ENABLE declares, `enable_NAME`, likewise.
-    pub features: SubstList,
-    /// The variables of the packages that AC_ARG_WITH declares, `with_NAME`, likewise.
-    pub packages: SubstList,
-    /// The help entries of AC_ARG_ENABLE, AC_ARG_WITH and AC_ARG_VAR, one for each call, in order.
-    pub help: HelpList,
-    /// The files that AC_CONFIG_FILES names, in order, each name once.
-    pub files: Outputs,
-}
-
-/// Checks that a source may end here.
-fn check_end(scene: &Scene) -> Result<(), ParseFault>
-    ensures { (s : Script) → Gives (λ _. s) result (ended scene.now.stage s) }
+/// Checks that a source may end after these declarations.
+fn check_end(known: &Declarations) -> Result<(), ParseFault>
+    ensures { (s : Script) → Gives (λ _. s) result (ended known.now.stage s) }
 {
-    match scene.stage {
+    match known.stage {
         Stage::Before => Err(ParseFault::NoInit),
         Stage::Open => Err(ParseFault::NoOutput),
         Stage::Ended => Ok(()),
     }
 }
 
-/// The statements of a whole source. The scene becomes the one after them.
+/// Reads the statements of a whole source. `known` becomes what they declare.
 #[tactic(auto, unfolding(crate::specs::Profile::source_of))]
-fn read_whole(alloc: Global, scene: &mut Scene, text: &[u8]) -> Result<Vec<Stmt>, ParseFault>
-    requires { scene.now ≡ start }
+fn read_whole(alloc: Global, known: &mut Declarations, text: &[u8]) -> Result<Vec<Stmt>, ParseFault>
+    requires { known.now ≡ start }
     ensures value { Gives (λ v. script_of v.items) result (source_of text.now) }
-    ensures after { IfOk result (λ v. scene.new ≡ after_all start (script_of v.items)) }
+    ensures after { IfOk result (λ v. known.new ≡ after_all start (script_of v.items)) }
 {
     let items = match read_items(alloc, text) {
         Ok(items) => items,
         Err(fault) => return Err(quote_fault(fault)),
     };
-    let statements = read_statements(alloc, true, 31, scene, &items)?;
-    check_end(scene)?;
+    let statements = read_statements(alloc, true, 31, known, &items)?;
+    check_end(known)?;
     Ok(statements)
 }
 
 fn read_source(alloc: Global, text: &[u8]) -> Result<Source, ParseFault>
-    ensures exact { Gives (λ s. script_of s.statements.items) result (source_of text.now) }
-    ensures files { IfOk result (λ s. s.files ≡ (after_all start (script_of s.statements.items)).files) }
-    ensures substituted { IfOk result (λ s. s.substituted ≡ (after_all start (script_of s.statements.items)).substituted) }
-    ensures precious { IfOk result (λ s. s.precious ≡ (after_all start (script_of s.statements.items)).precious) }
-    ensures features { IfOk result (λ s. s.features ≡ (after_all start (script_of s.statements.items)).features) }
-    ensures packages { IfOk result (λ s. s.packages ≡ (after_all start (script_of s.statements.items)).packages) }
-    ensures help { IfOk result (λ s. s.help ≡ (after_all start (script_of s.statements.items)).help) }
+    ensures { Gives script_of result (source_of text.now) }
 {
-    let mut scene = Scene::new(alloc);
-    let read = read_whole(alloc, &mut scene, text);
-    read.map(|statements| Source {
-        statements,
-        substituted: scene.substituted,
-        precious: scene.precious,
-        features: scene.features,
-        packages: scene.packages,
-        help: scene.help,
-        files: scene.files,
-    })
+    let mut lists = Declarations::new(alloc);
+    let read = read_whole(alloc, &mut lists, text);
+    read.map(|statements| Source::new(statements, lists))
 }
 
-/// Returns the source that a configure.ac is.
+/// Reads the text of a configure.ac.
 ///
 /// # Errors
-/// The first fault, with its place in bytes from the start of the file. `OutOfMemory` may come before any fault that is
-/// still to be found.
+///
+/// The first error, with its offset in bytes from the start of the file (`ParseFault` lists them). If memory runs out
+/// first, `OutOfMemory`.
 pub fn parse(alloc: Global, text: &[u8]) -> Result<Source, ParseFault>
-    // What is read is a source of the profile.
-    ensures found { IfOk result (λ s. IsSource text.now (script_of s.statements.items)) }
-    // Its output variables are those that its statements name, also in cases that a run does not take; so are its other
-    // lists.
-    ensures substituted { IfOk result (λ s. s.substituted ≡ (after_all start (script_of s.statements.items)).substituted) }
-    ensures precious { IfOk result (λ s. s.precious ≡ (after_all start (script_of s.statements.items)).precious) }
-    ensures features { IfOk result (λ s. s.features ≡ (after_all start (script_of s.statements.items)).features) }
-    ensures packages { IfOk result (λ s. s.packages ≡ (after_all start (script_of s.statements.items)).packages) }
-    ensures help { IfOk result (λ s. s.help ≡ (after_all start (script_of s.statements.items)).help) }
-    // Its files are those that its statements name.
-    ensures files { IfOk result (λ s. s.files ≡ (after_all start (script_of s.statements.items)).files) }
+    // The statements that are returned are those of the source.
+    ensures sound { IfOk result (λ s. IsSource text.now (script_of s)) }
     // Its lists are within their limits.
-    ensures limits { IfOk result HasShortLists }
-    // A source of the profile is read, unless memory runs out.
-    ensures only { (s : Script) → IsSource text.now s → Gives (λ v. script_of v.statements.items) result (Ok s) }
-    // A fault names what is wrong at its place, and all before it is right.
-    ensures fault { IfErr result (λ f. f ≢ OutOfMemory → IsSourceFault text.now f) }
-    // The same as a function of the text, which says too which of two faults of one item is named.
-    ensures exact { Gives (λ s. script_of s.statements.items) result (source_of text.now) }
+    ensures limits { IfOk result (λ s. HasShortLists (lists_of (script_of s))) }
+    // If a source has statements, they are returned, unless memory runs out.
+    ensures complete { (s : Script) → IsSource text.now s → Gives script_of result (Ok s) }
+    // An error names what is wrong at its offset, and everything before it is right.
+    ensures error_sound { IfErr result (λ f. f ≢ OutOfMemory → IsSourceFault text.now f) }
+    // The same as a function of the text. It also says which of two errors of one item is reported.
+    ensures exact { Gives script_of result (source_of text.now) }
 {
     read_source(alloc, text)
 }

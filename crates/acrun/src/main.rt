@@ -1,4 +1,4 @@
-// The program: `runner` with the process's arguments, files and streams.
+//! The program: calls `runner` with the arguments, files and streams of the process.
 #![tactic(auto)]
 
 use runner::{FilterFault, command};

@@ -1,4 +1,4 @@
--- Which fault a text has that is no list of statements, and where.
+-- Which errors a text that isn't a list of statements has, and at which offsets.
 use Rattle.std.proofs.Common.{◌≡◌, ℕ, zero, suc, ◌+◌, ◌-◌, ◌≤◌, ◌||◌, ◌==◌, inl, inr, List, [], ◌∷◌, ◌++◌, length, take, drop, Some, option_to_list, Result, Ok, Err, refl, sym, ap, subst, ◌∙◌, arith}
 use Rattle.std.specs.List.{prefix_len}
 use Rattle.std.proofs.lemmas.List.{length-drop}
@@ -22,7 +22,7 @@ use Rattle.baretext.proofs.Outcome.{chosen, passed, fault_is, bind_err}
 use Rattle.baretext.proofs.Fronts.{begins, read-item, item-len}
 use Rattle.baretext.proofs.Joining.{joined-len}
 
--- a fault at a place of at most m is one of at most n
+-- an error at an offset of at most m is one of at most n
 later : (m n : ℕ) (f : BareFault) → m ≤ n → IsReadingFault m f → IsReadingFault n f
 later m n (UnknownStatement at) le h = omega arith
 later m n (Shell (BadWord at)) le h = omega arith

@@ -47,7 +47,7 @@ prefix-name (b ∷ bs) rest h =
     let both = and_parts (continues_name b) (list_all continues_name bs) h in
     rw (both.0, prefix-name bs rest both.1) (omega arith)
 
--- a byte that begins no name is not the first of one
+-- a byte that begins no name isn't the first of one
 not_first : (b c : ℕ) → starts_name b ≡ true → starts_name c ≡ false → (b == c) ≡ false
 not_first b c start none =
     elim (cases_Bool (b == c)) [
@@ -55,12 +55,12 @@ not_first b c start none =
       | inr other ↦ other
     ]
 
--- ---- what stands at the front is found
+-- ---- what is at the front is found
 
 value-read : (start : ℕ) (rest : List ℕ) (parts : List Part) (n : ℕ) → IsWordFront rest parts n → value_at start rest ≡ Ok (parts, n)
 value-read start rest parts n h = ap (placed start) ((front_reading rest parts n).1 h)
 
--- behind `NAME=` the word is read
+-- after `NAME=` the word is read
 pub assignment-named : (at : ℕ) (name rest : List ℕ) → IsShellName name
     → assignment_at at (name ++ equals ∷ rest) ≡ (value_at (at + (length name + 1)) rest >>= λ w. Ok (item (Some (assigns name w.0)) (length name + 1 + w.1) Assigned))
 assignment-named at name rest form =
@@ -74,7 +74,7 @@ assignment-read : (at : ℕ) (name rest : List ℕ) (parts : List Part) (n : ℕ
 assignment-read at name rest parts n form h =
     assignment-named at name rest form ∙ ap (λ r. r >>= λ w. Ok (item (Some (assigns name w.0)) (length name + 1 + w.1) Assigned)) (value-read (at + (length name + 1)) rest parts n h)
 
--- where a name begins, nothing else does
+-- if a name begins, nothing else does
 item_word : (stage : Stage) (at b : ℕ) (bs : List ℕ) → starts_name b ≡ true → item_of stage at (b ∷ bs) ≡ shell_word_at stage at (b ∷ bs)
 unfolding item_of
 item_word stage at b bs h =
@@ -100,7 +100,7 @@ item-read comment at = refl
 item-read (lone_colon h) at = rw h refl
 item-read (assignment {stage} {name} {rest} {parts} {n} takes form h) at = named-read stage at name rest takes form ∙ assignment-read at name rest parts n form h
 
--- ---- what is found stands at the front
+-- ---- what is found is at the front
 
 abbrev ok : {A : Type 0} → A → Result A ShellFault
 ok x = Ok x

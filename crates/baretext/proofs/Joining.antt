@@ -17,7 +17,7 @@ joined-read (quoted {p} {b} {rest} {out} h line j) = rw (h, line) (ap (λ (t : L
 joined-read (last h) = rw h refl
 joined-read (other {p} {b} {rest} {out} h j) = rw h (ap (λ (t : List ℕ). b ∷ t) (joined-read j))
 
--- what is written, behind a backslash or not
+-- what is written, after a backslash or not
 abbrev Reads : Bool → Place → List ℕ → Type 0
 Reads true p text = escapes p ≡ true → IsJoined p (backslash ∷ text) (joined_from (state p true) text)
 Reads false p text = IsJoined p text (joined_from (state p false) text)
@@ -42,7 +42,7 @@ pub joined_reading : (text out : List ℕ) → (joined text ≡ out) ↔ IsJoine
 unfolding joined
 joined_reading text out = (λ e. subst (IsJoined Start text) e (reads false Start text), λ j. joined-read j)
 
--- ---- it is no longer
+-- ---- the result is no longer than the text
 
 abbrev held : Bool → ℕ
 held true = 1

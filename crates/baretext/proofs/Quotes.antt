@@ -17,12 +17,12 @@ use Rattle.baretext.specs.Kept as k
 use Rattle.baretext.specs.Kept.{IsSpliced, IsLeft, LeavesPart}
 use Rattle.baretext.proofs.Fronts.{name_all}
 
--- ---- a byte, and a run of bytes, that change nothing
+-- ---- a byte, and a sequence of bytes, that change nothing
 
 byte_on : (p q : Place) (b : ℕ) (rest out : List ℕ) → (b == backslash) ≡ false → behind p b ≡ q → IsJoined q rest out → IsJoined p (b ∷ rest) (b ∷ out)
 byte_on p q b rest out plain next h = j.other (rw plain refl) (subst (λ (r : Place). IsJoined r rest out) (sym next) h)
 
--- the byte neither quotes nor parts words
+-- the byte neither quotes nor separates words
 abbrev is_plain : ℕ → Bool
 is_plain b = not (b == backslash) && not (b == double_quote) && not (b == single_quote) && not (is_part_end b)
 
@@ -115,7 +115,7 @@ single_on (b ∷ bs) rest out none h =
 
 -- ---- double quotes
 
--- the text up to `stop`, what is left of it, and how bare text goes on
+-- the text up to `stop`, what remains of it, and how bare text continues
 record InDouble (text stop : List ℕ) : Type 0 where
   front : List ℕ
   left : List ℕ
@@ -301,7 +301,7 @@ part_left (w.variable {text} {name} {rest} v) out h = variable_left text name re
 part_left (w.lone_dollar {rest} x) out h = plain_left dollar rest out refl h
 part_left (w.byte {b} {rest} plain more) out h = plain_left b rest out (is_plain_byte b plain more) h
 
--- ---- no line continuation is left
+-- ---- no line continuation remains
 
 pub joined_again : {p : Place} {text out : List ℕ} → IsJoined p text out → IsJoined p out out
 joined_again j.at_end = j.at_end

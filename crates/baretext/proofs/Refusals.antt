@@ -1,4 +1,4 @@
--- The first fault of a text is that of the reading.
+-- The first error of a text is that of the reading function.
 use Rattle.std.proofs.Common.{◌≡◌, ℕ, zero, suc, ◌+◌, ◌-◌, ◌<◌, ◌≤◌, ◌||◌, ◌==◌, ◌⊎◌, ◌↔◌, true, false, inl, inr, List, [], ◌∷◌, ◌++◌, length, take, drop, Some, option_to_list, Result, Ok, Err, refl, sym, ap, subst, ◌∙◌, arith}
 use Rattle.std.specs.Prelude.{IfErr}
 use Rattle.std.specs.List.{prefix_len}
@@ -29,7 +29,7 @@ use Rattle.baretext.proofs.FaultPlaces.{placed_err}
 use Rattle.baretext.proofs.Joining.{joined_reading}
 use Rattle.baretext.proofs.Scans.{with_list, item_first, item_failed}
 
--- `NAME=` with a word that is refused
+-- `NAME=` with a word that is rejected
 record RefusedWord (stage : Stage) (at : ℕ) (text : List ℕ) (f : BareFault) : Type 0 where
   name : List ℕ
   value : List ℕ
@@ -96,7 +96,7 @@ item-split stage at b bs f e =
           ])
     ]
 
--- ---- what the reading answers at `NAME=`
+-- ---- the result of the reader at `NAME=`
 
 item-named : (stage : Stage) (at : ℕ) (text name value : List ℕ) → IsNamed stage text name value
     → item_of stage at text ≡ (value_at (at + (length name + 1)) value >>= λ w. Ok (item (Some (assigns name w.0)) (length name + 1 + w.1) Assigned))
@@ -115,7 +115,7 @@ not-named stage at text name value e h =
       | inl w ↦ let p = placed_err (at + (length name + 1)) (word_front_of value) (UnknownStatement at) w in never_unknown (at + (length name + 1)) at p.0 p.2
     ]
 
--- ---- the fault of the reading is the first
+-- ---- the error of the reading function is the first
 
 item-refused : (stage : Stage) (at b : ℕ) (bs : List ℕ) (f : BareFault) → item_of stage at (b ∷ bs) ≡ Err f → IsFirstFault stage at (b ∷ bs) f
 item-refused stage at b bs f e =
@@ -155,7 +155,7 @@ statements-refused zero stage at (b ∷ bs) f h e =
           ])
     ])
 
--- ---- the first fault is that of the reading
+-- ---- the first error is that of the reading function
 
 abbrev no_item : BareFault → Result Item BareFault
 no_item f = Err f
@@ -194,7 +194,7 @@ fault_reading text f = (
   λ h. ap (statements_from 0 Opening 0) ((joined_reading text h.lines).1 h.joined) ∙ first-refused h.first,
 )
 
--- the fault of an answer
+-- the error of an answer
 pub refused_by : {X : Type 0} (text : List ℕ) (view : X → List Assignment) (r : Result X BareFault) → Gives view r (statements_of text) → IfErr r (IsRefused text)
 refused_by text view (Ok x) given = tt
 refused_by text view (Err f) given = by_fault f given where

@@ -41,7 +41,7 @@ unfolding statements_from
 item_failed stage at [] f lt found = absurd (omega arith)
 item_failed stage at (b ∷ bs) f lt found = rw found refl
 
--- ---- what stands there is read
+-- ---- what is in the text is read
 
 pub statements-read : {stage : Stage} {text : List ℕ} {list : List Assignment} → AreStatements stage text list → (at : ℕ) → statements_from 0 stage at text ≡ Ok list
 unfolding statements_from
@@ -51,7 +51,7 @@ statements-read (more {stage} {text} {i} {list} h rest) at =
     item_first stage at text i (omega (arith, len.0, len.1)) (item-read h at) len.0 len.1
     ∙ ap (with_list (option_to_list i.assignment)) (statements-read rest (at + i.len))
 
--- ---- what is read stands there
+-- ---- what is read is in the text
 
 pub read-statements : (k : ℕ) (stage : Stage) (at : ℕ) (text : List ℕ) (list : List Assignment) → k ≤ length text → statements_from k stage at text ≡ Ok list
     → AreStatements stage (drop k text) list

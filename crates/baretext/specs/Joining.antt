@@ -1,4 +1,4 @@
--- Bare text without its line continuations, as a function on lists.
+-- Bare text without its line continuations, as a function on lists. All of it is own.
 use Rattle.std.specs.Prelude.{ℕ, Bool, true, false, ◌&&◌, List, [], ◌∷◌, ◌++◌, ◌==◌, if◌then◌else◌}
 use Rattle.shellword.specs.Text.{backslash, newline}
 use Rattle.baretext.specs.declared.continuation.Place.{Place}
@@ -6,25 +6,27 @@ use Rattle.baretext.specs.declared.continuation.Place.TheVariants.{Start}
 use Rattle.baretext.specs.declared.continuation.State.{State}
 use Rattle.baretext.specs.Continuation.{escapes, behind, behind_quoted}
 
+-- a state: the context of a byte, and whether a backslash quotes it
 abbrev pub state : Place → Bool → State
 state place escaped = record { place = place; escaped = escaped }
 
--- what a byte leaves, with the backslash that quotes it
+-- the bytes that remain of a byte, with the backslash that quotes it
 abbrev pub written : State → ℕ → List ℕ
 written s b =
     if s.escaped then (if b == newline then [] else backslash ∷ b ∷ [])
     else (if b == backslash && escapes s.place then [] else b ∷ [])
 
--- after a byte
+-- the state after a byte
 abbrev pub next : State → ℕ → State
 next s b =
     if s.escaped then (if b == newline then state s.place false else state (behind_quoted s.place) false)
     else (if b == backslash && escapes s.place then state s.place true else state (behind s.place b) false)
 
--- what the end of the text leaves
+-- the bytes that remain at the end of the text
 abbrev pub left : State → List ℕ
 left s = if s.escaped then backslash ∷ [] else []
 
+-- the rest of bare text without its line continuations, from a state on
 unfoldable pub joined_from : State → List ℕ → List ℕ
 joined_from s [] = left s
 joined_from s (b ∷ bs) = written s b ++ joined_from (next s b) bs

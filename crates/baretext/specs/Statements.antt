@@ -1,4 +1,4 @@
--- Which assignments bare text makes (POSIX shell, 2.9.1, as far as it assigns).
+-- The assignments that bare text makes (POSIX shell, 2.9.1, as far as it describes assignments).
 use Rattle.std.specs.Prelude.{◌≡◌, ℕ, ◌+◌, Bool, true, false, List, [], ◌∷◌, ◌++◌, length, drop, Option, Some, None, option_to_list}
 use Rattle.deftable.specs.ShellName.{IsShellName}
 use Rattle.shellword.specs.declared.part.Part.{Part}
@@ -12,22 +12,25 @@ use Rattle.baretext.specs.declared.item.Stage.TheVariants.{Opening, Assigned, Cl
 use Rattle.baretext.specs.Continuation.{IsJoined}
 use Rattle.baretext.specs.Text.{hash, colon, equals, comment_len}
 
--- After a lone colon no assignment begins (own).
+-- whether an assignment may begin at this stage: not after a lone colon (own)
 abbrev pub takes_assignments : Stage → Bool
 takes_assignments Closed = false
 takes_assignments stage = true
 
+-- the assignment of a word with these parts to a name (own)
 abbrev pub assigns : List ℕ → List Part → Assignment
 assigns name value = record { name = name; value = value }
 
+-- an item with these fields (own)
 abbrev pub item : Option Assignment → ℕ → Stage → Item
 item assignment len stage = record { assignment = assignment; len = len; stage = stage }
 
+-- an item without an assignment (own)
 abbrev pub nothing : ℕ → Stage → Item
 nothing len stage = item None len stage
 
--- A text without line continuations, of which a statement is read so far, begins with this: an assignment or none, of
--- this length, and how far the statement is read after it (POSIX shell, 2.3, 2.9.1 and 2.10.2; what else is refused is own).
+-- A text without line continuations, at this stage of a statement, begins with this item: an assignment or none, its
+-- length, and the stage after it (POSIX shell, 2.3, 2.9.1 and 2.10.2; that anything else is rejected is own).
 pub data IsItem : Stage → List ℕ → Item → Type 0 where
   -- a space or tab
   space : {stage : Stage} {b : ℕ} {rest : List ℕ} → is_space b ≡ true → IsItem stage (b ∷ rest) (nothing 1 stage)
@@ -36,13 +39,13 @@ pub data IsItem : Stage → List ℕ → Item → Type 0 where
   parted : {stage : Stage} {rest : List ℕ} → IsItem stage (semicolon ∷ rest) (nothing 1 Opening)
   -- a comment, up to the end of its line
   comment : {stage : Stage} {rest : List ℕ} → IsItem stage (hash ∷ rest) (nothing (comment_len rest + 1) stage)
-  -- a colon alone
+  -- a lone colon
   lone_colon : {rest : List ℕ} → is_parted rest ≡ true → IsItem Opening (colon ∷ rest) (nothing 1 Closed)
   -- `NAME=WORD`
   assignment : {stage : Stage} {name rest : List ℕ} {parts : List Part} {n : ℕ} → takes_assignments stage ≡ true → IsShellName name → IsWordFront rest parts n
       → IsItem stage (name ++ equals ∷ rest) (item (Some (assigns name parts)) (length name + 1 + n) Assigned)
 
--- A text without line continuations, of which a statement is read so far, makes these assignments (POSIX shell, 2.9.1).
+-- A text without line continuations, at this stage of a statement, makes these assignments (POSIX shell, 2.9.1).
 pub data AreStatements : Stage → List ℕ → List Assignment → Type 0 where
   no_more : {stage : Stage} → AreStatements stage [] []
   more : {stage : Stage} {text : List ℕ} {i : Item} {list : List Assignment} → IsItem stage text i → AreStatements i.stage (drop i.len text) list

@@ -1,4 +1,4 @@
-//! What bare text says: assignments, in order.
+//! The assignments that bare text makes, in order.
 
 ghost use Rattle.std.specs.Prelude.{◌≡◌, ◌==◌, length};
 
@@ -6,16 +6,16 @@ use deftable::Name;
 use shellword::Word;
 use std::marker::Model;
 
-/// `NAME=WORD`: the variable becomes the word's value.
+/// `NAME=WORD`: the variable is set to the value of the word (POSIX shell, 2.9.1).
 #[derive(Debug, Drop)]
 pub struct Assignment {
-    /// The variable.
+    /// The name of the variable.
     pub name: Name,
-    /// The word, which may have no part.
+    /// The word, which may have no parts.
     pub value: Word,
 }
 
-/// The assignments of bare text, in the order in which they are made. Contracts see their list.
+/// The assignments of bare text, in the order in which they are made. In contracts, its value is their list.
 #[derive(Debug, Drop)]
 pub struct Assignments {
     list: Vec<Assignment>,
@@ -37,28 +37,28 @@ impl Assignments {
         Assignments { list }
     }
 
-    /// The assignments, in order.
+    /// Returns the assignments, in order.
     pub fn as_slice(&self) -> &[Assignment]
         ensures { result.now ≡ self.now }
     {
         self.list.as_slice()
     }
 
-    /// The number of assignments.
+    /// Returns the number of assignments.
     pub fn len(&self) -> usize
         ensures { result ≡ length self.now }
     {
         self.list.len()
     }
 
-    /// Whether there is no assignment.
+    /// Returns whether there is no assignment.
     pub fn is_empty(&self) -> bool
         ensures { result ≡ (length self.now == 0) }
     {
         self.list.is_empty()
     }
 
-    /// The assignments as a vector, in order, in their own memory.
+    /// Returns the assignments as a vector, in order, without copying them.
     pub fn into_vec(self) -> Vec<Assignment>
         ensures { result.items ≡ self }
     {

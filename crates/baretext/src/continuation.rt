@@ -1,4 +1,4 @@
-//! Line continuations, which vanish before statements are read.
+//! Removes line continuations, before statements are read.
 
 ghost use Rattle.std.specs.Prelude.{◌≡◌, ◌++◌, ◌≤◌, length, IfOk, OnOk};
 ghost use Rattle.baretext.specs.Continuation as places;
@@ -7,7 +7,7 @@ ghost use Rattle.baretext.specs.Text as bytes;
 
 use std::alloc::{AllocError, Global};
 
-/// Where a byte of bare text is.
+/// The context of a byte of bare text.
 #[derive(Clone, Copy)]
 pub(crate) enum Place {
     /// At the start of a shell word, outside quotes.
@@ -22,21 +22,21 @@ pub(crate) enum Place {
     Comment,
 }
 
-/// Where a byte is, and whether a backslash is before it that quotes it and was not written yet.
+/// The context of a byte, and whether the byte before it is a backslash that quotes it and that isn't written yet.
 #[derive(Clone, Copy)]
 pub(crate) struct State {
     pub(crate) place: Place,
     pub(crate) escaped: bool,
 }
 
-/// Whether a blank or `;` parts bare text here, outside quotes.
+/// Returns whether the byte, outside quotes, ends a shell word: a blank or `;`.
 fn is_part_end(byte: u8) -> bool
     ensures { result ≡ bytes.is_part_end byte }
 {
     byte == b' ' || byte == b'\t' || byte == b'\n' || byte == b';'
 }
 
-/// Whether a backslash at this place quotes the byte after it.
+/// Returns whether a backslash in this context quotes the byte after it.
 fn escapes(place: Place) -> bool
     ensures { result ≡ places.escapes place }
 {
@@ -46,7 +46,7 @@ fn escapes(place: Place) -> bool
     }
 }
 
-/// Where the byte is after one outside quotes.
+/// Returns the context after a byte outside quotes that begins no comment.
 fn behind_bare(byte: u8) -> Place
     ensures { result ≡ places.behind_bare byte }
 {
@@ -61,7 +61,7 @@ fn behind_bare(byte: u8) -> Place
     }
 }
 
-/// Where the byte is after one that no backslash quotes.
+/// Returns the context after a byte that no backslash quotes.
 fn behind(place: Place, byte: u8) -> Place
     ensures { result ≡ places.behind place byte }
 {
@@ -75,7 +75,7 @@ fn behind(place: Place, byte: u8) -> Place
     }
 }
 
-/// Where the byte is after one that a backslash quotes.
+/// Returns the context after a byte that a backslash quotes.
 fn behind_quoted(place: Place) -> Place
     ensures { result ≡ places.behind_quoted place }
 {
@@ -85,7 +85,7 @@ fn behind_quoted(place: Place) -> Place
     }
 }
 
-/// The state after a byte.
+/// Returns the state after a byte.
 fn next(state: State, byte: u8) -> State
     ensures { result ≡ joining.next state byte }
 {
@@ -113,7 +113,7 @@ fn next(state: State, byte: u8) -> State
     }
 }
 
-/// Writes what a byte leaves.
+/// Appends the bytes that remain of a byte, with the backslash that quotes it.
 fn push_byte(out: &mut Vec<u8>, state: State, byte: u8) -> Result<(), AllocError>
     ensures { OnOk result (out.new.items ≡ out.old.items ++ joining.written state byte) }
 {
@@ -128,7 +128,7 @@ fn push_byte(out: &mut Vec<u8>, state: State, byte: u8) -> Result<(), AllocError
     Ok(())
 }
 
-/// Writes what the end of the text leaves: a last backslash that quotes nothing.
+/// Appends the backslash at the end of the text, if there is one that quotes nothing.
 fn push_end(out: &mut Vec<u8>, state: State) -> Result<(), AllocError>
     ensures { OnOk result (out.new.items ≡ out.old.items ++ joining.left state) }
 {
@@ -138,7 +138,7 @@ fn push_end(out: &mut Vec<u8>, state: State) -> Result<(), AllocError>
     Ok(())
 }
 
-/// The text without its line continuations.
+/// Returns the text without its line continuations.
 pub(crate) fn join_lines(alloc: Global, text: &[u8]) -> Result<Vec<u8>, AllocError>
     ensures value { IfOk result (λ v. v.items ≡ joining.joined text.now) }
     ensures within { IfOk result (λ v. length v.items ≤ length text.now) }

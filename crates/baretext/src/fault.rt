@@ -1,4 +1,4 @@
-//! Why a text could not be read.
+//! Why a text can't be read.
 
 ghost use Rattle.std.specs.Prelude.{◌≡◌};
 ghost use Rattle.baretext.specs.declared.fault.BareFault.TheVariants.{OutOfMemory};
@@ -7,17 +7,17 @@ use shellword::ShellFault;
 use std::alloc::{AllocError, AllocFailed};
 use thiserror::Error;
 
-/// What is wrong with bare text. Places are counted from 0 in the text as it is without its line continuations, which is
-/// no longer than the text given.
+/// The error of bare text. Offsets count bytes from 0 in the text without its line continuations, which is at most as
+/// long as the given text.
 #[derive(Clone, Copy, Debug, PartialEq, Eq, Error)]
 pub enum BareFault {
-    /// Where an assignment should begin there is neither one nor a lone colon. The place is that of the byte there.
+    /// A statement that isn't known: at this offset there is neither an assignment nor a lone colon.
     #[error("1 at {0}")]
     UnknownStatement(usize),
-    /// The word that is assigned is refused, at the place of the word's fault.
+    /// The word of an assignment is rejected. The error's offset counts from the start of the text, not of the word.
     #[error("2.{0}")]
     Shell(ShellFault),
-    /// A growth of memory was refused.
+    /// Memory ran out.
     #[error("memory")]
     OutOfMemory,
 }

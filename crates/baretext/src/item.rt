@@ -1,4 +1,4 @@
-//! The front of statements.
+//! Reads the front of statements.
 
 ghost use Rattle.std.specs.Prelude.{◌≡◌, ◌+◌, ◌<◌, ◌≤◌, ◌^◌, not, length, IfOk, IfErr, drop};
 ghost use Rattle.std.specs.List.{prefix_len};
@@ -16,18 +16,18 @@ use deftable::{Bytes, Name};
 use shellword::{ShellFault, Word, read_word_front};
 use std::alloc::Global;
 
-/// How far the reading of a statement is.
+/// The part of a statement that has been read.
 #[derive(Clone, Copy)]
 pub(crate) enum Stage {
-    /// There is nothing but spaces and comments before.
+    /// Only spaces and comments have been read.
     Opening,
-    /// There are assignments before.
+    /// Assignments have been read.
     Assigned,
-    /// There is a lone colon before.
+    /// A lone colon has been read.
     Closed,
 }
 
-/// The front of a text: an assignment or nothing that is kept, its length, and how far the statement is read after it.
+/// The front of a text: its assignment, if it is one; its length; and the stage of the statement after it.
 #[derive(Drop)]
 pub(crate) struct Item {
     pub(crate) assignment: Option<Assignment>,
@@ -41,7 +41,7 @@ fn is_space(byte: u8) -> bool
     byte == b' ' || byte == b'\t'
 }
 
-/// Whether bare text is parted before `rest`.
+/// Returns whether a lone colon may end before `rest`: `rest` is empty, or begins with a blank or `;`.
 fn is_parted(rest: &[u8]) -> bool
     ensures { result ≡ bytes.is_parted rest.now }
 {
@@ -66,7 +66,7 @@ fn is_name_byte(byte: u8) -> bool
     byte.is_ascii_alphanumeric() || byte == b'_'
 }
 
-/// How many bytes of names are at the front.
+/// Returns the number of bytes at the front that may be in a name.
 fn name_bytes(text: &[u8]) -> usize
     ensures value { result ≡ prefix_len continues_name text.now }
     ensures within { result ≤ length text.now }
@@ -74,7 +74,7 @@ fn name_bytes(text: &[u8]) -> usize
     text.iter().take_while(|b| is_name_byte(**b)).count()
 }
 
-/// How many bytes are before the end of the line.
+/// Returns the number of bytes before the first newline.
 fn comment_len(text: &[u8]) -> usize
     ensures value { result ≡ comment_len text.now }
     ensures within { result ≤ length text.now }
@@ -82,7 +82,7 @@ fn comment_len(text: &[u8]) -> usize
     text.iter().take_while(|b| **b != b'\n').count()
 }
 
-/// An item without an assignment.
+/// Returns an item without an assignment.
 fn nothing(len: usize, stage: Stage) -> Item
     ensures { result ≡ nothing len stage }
 {
@@ -93,7 +93,7 @@ fn nothing(len: usize, stage: Stage) -> Item
     }
 }
 
-/// The word at the front of `text`, which is at the place `start`; and its length.
+/// Reads the word at the front of `text`, which is at offset `start`. Returns it with its length.
 fn read_value(alloc: Global, start: usize, text: &[u8]) -> Result<(Word, usize), BareFault>
     requires { start + length text.now < 2 ^ 64 }
     ensures value { Gives (λ r. (r.0, r.1)) result (specs.value_at start text.now) }
@@ -108,7 +108,7 @@ fn read_value(alloc: Global, start: usize, text: &[u8]) -> Result<(Word, usize),
     }
 }
 
-/// The assignment at the front of `text`, which is at `at`. Its name is to be the first `len` bytes.
+/// Reads the assignment at the front of `text`, which is at offset `at`. Its name must be the first `len` bytes.
 fn read_named(alloc: Global, at: usize, text: &[u8], len: usize) -> Result<Item, BareFault>
     requires fits { at + length text.now < 2 ^ 64 }
     requires name { len < length text.now }
@@ -129,7 +129,7 @@ fn read_named(alloc: Global, at: usize, text: &[u8], len: usize) -> Result<Item,
     })
 }
 
-/// The assignment at the front of `text`, which is at `at`.
+/// Reads the assignment at the front of `text`, which is at offset `at`.
 fn read_assignment(alloc: Global, at: usize, text: &[u8]) -> Result<Item, BareFault>
     requires { at + length text.now < 2 ^ 64 }
     ensures value { Gives (λ i. i) result (specs.assignment_at at text.now) }
@@ -144,7 +144,7 @@ fn read_assignment(alloc: Global, at: usize, text: &[u8]) -> Result<Item, BareFa
     }
 }
 
-/// The word at the front of `text`, which is at `at`: a lone colon or an assignment.
+/// Reads the lone colon or the assignment at the front of `text`, which is at offset `at`.
 fn read_shell_word(alloc: Global, stage: Stage, at: usize, text: &[u8]) -> Result<Item, BareFault>
     requires { at + length text.now < 2 ^ 64 }
     ensures value { Gives (λ i. i) result (specs.shell_word_at stage at text.now) }
@@ -158,8 +158,8 @@ fn read_shell_word(alloc: Global, stage: Stage, at: usize, text: &[u8]) -> Resul
     }
 }
 
+/// Reads the item at the front of `text`, which is at offset `at`.
 #[tactic(auto, unfolding(crate::specs::Reading::item_of))]
-/// The item at the front of `text`, which is at `at`.
 pub(crate) fn read_item(
     alloc: Global,
     stage: Stage,

@@ -1,4 +1,4 @@
-//! Statements.
+//! Reads the statements of bare text.
 
 ghost use Rattle.std.specs.Prelude.{◌≡◌, ◌++◌, ◌≤◌, List, Ok, length, IfOk, IfErr, OnOk, option_to_list};
 ghost use Rattle.baretext.specs.Faults.{IsBareFault};
@@ -29,7 +29,7 @@ fn push_assignment(
     Ok(())
 }
 
-/// The assignments of a text without line continuations.
+/// Returns the assignments of a text without line continuations.
 fn read_joined(alloc: Global, text: &[u8]) -> Result<Assignments, BareFault>
     ensures value { Gives (λ a. a) result (statements_from 0 Opening 0 text.now) }
     ensures fault { IfErr result (IsBareFault (length text.now)) }
@@ -55,30 +55,29 @@ fn read_whole(alloc: Global, text: &[u8]) -> Result<Assignments, BareFault>
     read_joined(alloc, &joined)
 }
 
-/// Reads the statements of bare text (POSIX shell, 2.2, 2.3 and 2.9.1, as far as it assigns). It takes time and memory in
-/// proportion to the text.
+/// Reads the statements of bare text, as far as they are assignments (POSIX shell, 2.2, 2.3 and 2.9.1).
 ///
-/// A backslash before a newline vanishes with it, but for single quotes and comments. Statements end at newlines and at
-/// `;`, outside quotes and comments. Each is empty, a lone `:`, or assignments `NAME=WORD` with spaces or tabs between
-/// them. A `#` at the start of a shell word begins a comment, up to the end of its line.
+/// A backslash before a newline is removed with it, except in single quotes and comments. A newline or `;` outside
+/// quotes and comments ends a statement. Each statement is empty, a lone `:`, or assignments `NAME=WORD` with spaces or
+/// tabs between them. A `#` at the start of a shell word begins a comment, up to the end of its line.
+///
+/// The time and the memory are in proportion to the length of the text.
 ///
 /// # Errors
 ///
-/// Returns the first fault from the left. Its place counts the bytes of the text without its line continuations.
+/// Returns the first error from left to right. Its offset counts the bytes of the text without its line continuations.
 ///
-/// - [`BareFault::UnknownStatement`] if an assignment or a lone `:` should begin there and neither does.
-/// - [`BareFault::Shell`] if the word that is assigned is refused, as [`shellword::read_word_front`] refuses it.
-///
-/// Returns [`BareFault::OutOfMemory`] if memory runs out.
+/// - [`BareFault::UnknownStatement`] if neither an assignment nor a lone `:` begins where one must.
+/// - [`BareFault::Shell`] if the word of an assignment is an error of [`shellword::read_word_front`].
 pub fn read_statements(alloc: Global, text: &[u8]) -> Result<Assignments, BareFault>
-    // The reading, as a function of the text.
+    // The result as one function of the text.
     ensures exact { Gives (λ a. a) result (statements_of text.now) }
-    // What is read is there.
-    ensures found { IfOk result (IsBareText text.now) }
-    // What is there is read, unless memory runs out.
-    ensures only { (list : List Assignment) → IsBareText text.now list → Gives (λ a. a) result (Ok list) }
-    // What is refused has this fault, and none before it.
-    ensures refused { IfErr result (IsRefused text.now) }
+    // If assignments are returned, the text makes them.
+    ensures sound { IfOk result (IsBareText text.now) }
+    // If the text makes assignments, they are returned unless memory runs out.
+    ensures complete { (list : List Assignment) → IsBareText text.now list → Gives (λ a. a) result (Ok list) }
+    // If an error is returned, it is the first error of the text, or memory ran out.
+    ensures error_sound { IfErr result (IsRefused text.now) }
     ensures fault { IfErr result (IsBareFault (length text.now)) }
 {
     read_whole(alloc, text)

@@ -72,7 +72,7 @@ fn put_fault(alloc: Global, out: &mut Vec<u8>, fault: ParseFault) -> Result<(), 
 
 /// The statements of a source, without AC_INIT and AC_OUTPUT if the case gives the lines between them.
 fn own_statements(source: &Source, is_lines: bool) -> &[Stmt] {
-    match source.statements.as_slice() {
+    match source.statements() {
         [_, own @ .., _] if is_lines => own,
         all => all,
     }
@@ -124,7 +124,7 @@ fn put_source(
 fn put_front(alloc: Global, out: &mut Vec<u8>, text: &[u8]) -> Result<(), AllocError> {
     match read_source(alloc, text) {
         Ok(source) => {
-            put_number(alloc, out, source.statements.len() as u64)?;
+            put_number(alloc, out, source.statements().len() as u64)?;
             out.extend_from_slice(b" statements")
         }
         Err(fault) => put_fault(alloc, out, fault),

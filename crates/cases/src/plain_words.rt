@@ -2,11 +2,11 @@
 
 use crate::pages::{put_bracketed, put_text};
 use crate::shell_words::{put_here, put_word};
-use acmacros::{Plain, ProgramNames};
 use acparse::{Help, Outputs};
 use deftable::{Bytes, Name};
 use shellword::{HereText, Word};
 use std::alloc::{AllocError, Global};
+use syntax::{Plain, ProgramNames};
 
 /// AC_INIT's texts, in its order.
 fn put_init(out: &mut Vec<u8>, texts: [&Bytes; 5]) -> Result<(), AllocError> {

@@ -3,11 +3,10 @@
 use crate::pages::{put_count, put_indent};
 use crate::plain_words::{put_files, put_help, put_plain};
 use crate::shell_words::{put_here, put_patterns, put_test, put_word};
-use acargs::OptionKind;
-use acmacros::{Program, Question, Try};
 use acparse::{Case, Help, Source, Stmt, Subject, When};
 use deftable::{Name, SubstList};
 use std::alloc::{AllocError, Global};
+use syntax::{OptionKind, Program, Question, Try};
 
 fn try_word(kind: Try) -> &'static [u8] {
     match kind {
@@ -164,14 +163,14 @@ fn put_all_help(out: &mut Vec<u8>, entries: &[Help]) -> Result<(), AllocError> {
 
 /// The lists of a source that are not empty.
 pub fn put_lists(out: &mut Vec<u8>, source: &Source) -> Result<(), AllocError> {
-    put_names(out, b"substituted:", &source.substituted)?;
-    put_names(out, b"precious:", &source.precious)?;
-    put_names(out, b"features:", &source.features)?;
-    put_names(out, b"packages:", &source.packages)?;
-    put_all_help(out, source.help.as_slice())?;
-    if !source.files.is_empty() {
+    put_names(out, b"substituted:", source.substituted())?;
+    put_names(out, b"precious:", source.precious())?;
+    put_names(out, b"features:", source.features())?;
+    put_names(out, b"packages:", source.packages())?;
+    put_all_help(out, source.help().as_slice())?;
+    if !source.files().is_empty() {
         out.extend_from_slice(b"files:")?;
-        put_files(out, &source.files)?;
+        put_files(out, source.files())?;
         out.push(b'\n')?;
     }
     Ok(())
@@ -208,10 +207,15 @@ pub fn put_counts(
 ) -> Result<(), AllocError> {
     put_count(alloc, out, b"statements", statements.len())?;
     put_count_of(alloc, out, b"cases", case_count(statements))?;
-    put_count_of(alloc, out, b"substituted", source.substituted.names().len())?;
-    put_count_of(alloc, out, b"precious", source.precious.names().len())?;
-    put_count_of(alloc, out, b"features", source.features.names().len())?;
-    put_count_of(alloc, out, b"packages", source.packages.names().len())?;
-    put_count_of(alloc, out, b"help", source.help.as_slice().len())?;
-    put_count_of(alloc, out, b"files", source.files.len())
+    put_count_of(
+        alloc,
+        out,
+        b"substituted",
+        source.substituted().names().len(),
+    )?;
+    put_count_of(alloc, out, b"precious", source.precious().names().len())?;
+    put_count_of(alloc, out, b"features", source.features().names().len())?;
+    put_count_of(alloc, out, b"packages", source.packages().names().len())?;
+    put_count_of(alloc, out, b"help", source.help().as_slice().len())?;
+    put_count_of(alloc, out, b"files", source.files().len())
 }

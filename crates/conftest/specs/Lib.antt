@@ -1,2 +1,1 @@
 pub mod Probe
-pub mod Sources

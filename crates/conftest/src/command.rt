@@ -10,7 +10,7 @@ use deftable::{Bytes, Vars};
 use std::alloc::{AllocError, Global};
 use textcut::fields;
 
-// Puts the words of a variable's value last.
+/// Appends the words of a variable's value.
 #[tactic(auto, unfolding(crate::specs::Probe::words_of))]
 fn push_value(alloc: Global, words: &mut Words, vars: &Vars, name: &[u8]) -> Result<(), AllocError>
     ensures { OnOk result (words.new ≡ words.old ++ probe.words_of vars.now name.now) }
@@ -29,7 +29,7 @@ fn value_or_empty<'a>(vars: &'a Vars, name: &[u8]) -> &'a [u8]
     }
 }
 
-// The words of a variable, if there is one.
+/// Returns the words of a variable's value, or none if it is unset.
 fn words_of(alloc: Global, vars: &Vars, name: &[u8]) -> Result<Words, AllocError>
     ensures { IfOk result (λ w. w ≡ probe.words_of vars.now name.now) }
 {
@@ -44,7 +44,7 @@ pub(crate) fn compiler(alloc: Global, vars: &Vars) -> Result<Words, AllocError>
     words_of(alloc, vars, b"CC")
 }
 
-// CPP, or the compiler told to preprocess.
+/// Returns the words of CPP, or those of CC with `-E` if CPP has none.
 #[tactic(auto, unfolding(crate::specs::Probe::preprocessor))]
 pub(crate) fn preprocessor(alloc: Global, vars: &Vars) -> Result<Words, AllocError>
     ensures { IfOk result (λ w. w ≡ probe.preprocessor vars.now) }
@@ -60,7 +60,7 @@ pub(crate) fn preprocessor(alloc: Global, vars: &Vars) -> Result<Words, AllocErr
     Ok(words)
 }
 
-// Puts what each use of the compiler is told last.
+/// Appends the flags of every command that compiles.
 fn push_flags(alloc: Global, words: &mut Words, vars: &Vars) -> Result<(), AllocError>
     ensures { OnOk result (words.new ≡ words.old ++ probe.words_of vars.now (codes "CFLAGS") ++ probe.words_of vars.now (codes "CPPFLAGS")) }
 {
@@ -68,7 +68,7 @@ fn push_flags(alloc: Global, words: &mut Words, vars: &Vars) -> Result<(), Alloc
     push_value(alloc, words, vars, b"CPPFLAGS")
 }
 
-// Puts the name of the file that a compiler reads last.
+/// Appends the name of the file that the compiler reads.
 fn push_file(alloc: Global, words: &mut Words, number: u64) -> Result<(), AllocError>
     ensures { OnOk result (words.new ≡ words.old ++ probe.file_name number ∷ []) }
 {
@@ -76,7 +76,7 @@ fn push_file(alloc: Global, words: &mut Words, number: u64) -> Result<(), AllocE
     words.push(file.as_slice())
 }
 
-// Puts the name of the program that a link makes last.
+/// Appends the name of the program that the linker writes.
 fn push_out(alloc: Global, words: &mut Words, number: u64) -> Result<(), AllocError>
     ensures { OnOk result (words.new ≡ words.old ++ probe.out_name number ∷ []) }
 {
@@ -84,7 +84,7 @@ fn push_out(alloc: Global, words: &mut Words, number: u64) -> Result<(), AllocEr
     words.push(out.as_slice())
 }
 
-// Puts what the compiler is told in a compile job behind its own words.
+/// Appends the arguments of a compile job to the compiler's own words.
 #[tactic(auto, unfolding(crate::specs::Probe::compile_words))]
 pub(crate) fn push_compile_words(
     alloc: Global,
@@ -100,7 +100,7 @@ pub(crate) fn push_compile_words(
     push_file(alloc, words, number)
 }
 
-// Puts what the compiler is told in a link job behind its own words.
+/// Appends the arguments of a link job to the compiler's own words.
 #[tactic(auto, unfolding(crate::specs::Probe::link_words))]
 pub(crate) fn push_link_words(
     alloc: Global,
@@ -119,7 +119,7 @@ pub(crate) fn push_link_words(
     push_value(alloc, words, vars, b"LIBS")
 }
 
-// Puts what the preprocessor is told behind its own words.
+/// Appends the arguments of a preprocess job to the preprocessor's own words.
 #[tactic(auto, unfolding(crate::specs::Probe::preprocess_words))]
 pub(crate) fn push_preprocess_words(
     alloc: Global,

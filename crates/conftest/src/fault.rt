@@ -1,4 +1,4 @@
-//! Why there is no job.
+//! Why a job can't be made.
 
 ghost use Rattle.std.specs.Prelude.{◌≡◌};
 ghost use Rattle.conftest.specs.declared.fault.JobFault.TheVariants.{OutOfMemory};
@@ -6,13 +6,13 @@ ghost use Rattle.conftest.specs.declared.fault.JobFault.TheVariants.{OutOfMemory
 use std::alloc::AllocError;
 use thiserror::Error;
 
-/// Why a job could not be made.
+/// The error of a call that makes a job.
 #[derive(Clone, Copy, Debug, PartialEq, Eq, Error)]
 pub enum JobFault {
-    /// No compiler: the variable that names it has no word.
+    /// No compiler is set: the variable that names it has no word.
     #[error("1")]
     NoCompiler,
-    /// A growth of memory was refused.
+    /// Memory ran out.
     #[error("memory")]
     OutOfMemory,
 }

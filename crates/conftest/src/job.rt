@@ -6,17 +6,17 @@ use crate::words::Words;
 use deftable::Bytes;
 use std::alloc::{AllocError, Global};
 
-/// What one child is asked for.
+/// The work of one child process.
 #[derive(Debug, Drop)]
 pub struct Job {
-    /// The command, the program first.
+    /// The words of the command, with the program first.
     pub words: Words,
-    /// The name and the text of the file that has to be there when the command starts.
+    /// The name and the text of the file that must exist when the command starts.
     pub file: Option<(Bytes, Bytes)>,
 }
 
 impl Job {
-    /// An equal job in memory of its own. It fails only for want of memory.
+    /// Returns an equal job that has its own memory.
     pub fn copy(&self, alloc: Global) -> Result<Job, AllocError>
         ensures { IfOk result (λ job. job ≡ self.now) }
     {

@@ -1,8 +1,9 @@
-//! Jobs: what a configure run asks children for, as the words of a command and, for most, a program to try.
+//! The jobs that a configure run gives to child processes. A job is the words of a command and, for most, a program for
+//! it to read.
 //!
-//! A test of a compiler writes a small C program, the conftest, and runs the compiler on it. Its words come from the
-//! variables of the run (`CC`, `CFLAGS` and their kin), its text from the definitions made so far and the source that is
-//! tried. A job is a value: nothing is written or started here.
+//! A check of a compiler writes a small C program, the conftest, and runs the compiler on it. The words come from the
+//! variables of the run (`CC`, `CFLAGS` and the like). The text of the conftest is the definitions made so far,
+//! followed by the source of the check. A job is only a value: nothing is written or started here.
 //!
 //! ```text
 //! let source = header_source(alloc, default_includes(), b"sys/stat.h")?;
@@ -10,23 +11,21 @@
 //! // job.words: cc, -c, conftest1.c; job.file: conftest1.c with the definitions and the source
 //! ```
 //!
-//! Read `specs/Probe.antt` (every job is `job_of` of a probe, its number, the variables and the definitions) and
-//! `specs/Sources.antt` (the programs that tests try), then `job`, `probe`, `command`, `text` and `sources`.
+//! A call that returns a `Result` fails if memory runs out; the calls that need a compiler name their other error. No
+//! other call allocates. "own" marks a rule that no manual gives.
+//!
+//! Read `specs/Probe.antt` first: each job is `job_of` of a probe, its number, the variables and the definitions. Then
+//! read `words`, `job`, `fault`, `probe`, `command` and `text`. The crate `csource` makes the sources of the checks.
 #![tactic(auto)]
 
 mod command;
 mod fault;
 mod job;
 mod probe;
-mod sources;
 mod text;
 mod words;
 
 pub use fault::JobFault;
 pub use job::Job;
 pub use probe::{compile_job, link_job, path_job, preproc_job, run_job};
-pub use sources::{
-    declaration_source, default_includes, function_source, header_source, program_source,
-    second_type_source, type_source,
-};
 pub use words::Words;

@@ -1,4 +1,4 @@
-//! The jobs.
+//! Makes the jobs.
 
 ghost use Rattle.std.specs.Prelude.{◌≡◌, ◌≢◌, [], ◌++◌, Some, None, IfOk, IsErrOf, OnOk, codes};
 ghost use Rattle.conftest.specs.Probe as probe;
@@ -15,10 +15,15 @@ use crate::words::Words;
 use deftable::{Bytes, Defs, Vars};
 use std::alloc::{AllocError, Global};
 
-/// Compiles `source` to an object file (manual, "Running the Compiler"): `$CC -c $CFLAGS $CPPFLAGS FILE`.
+/// Returns the job that compiles `source` to an object file: `$CC -c $CFLAGS $CPPFLAGS FILE` (Autoconf's manual,
+/// "Running the Compiler").
 ///
-/// The file is `conftest.c`, or `conftestN.c` for a number `N` above 0. A value is parted at blanks alone; quotes in it
-/// have no meaning (own).
+/// The file is `conftest.c`, or `conftestN.c` if the number `N` isn't 0. A value is split at blanks only, and quotes in
+/// it have no meaning (own).
+///
+/// # Errors
+///
+/// Returns [`JobFault::NoCompiler`] if CC is unset or has no word.
 #[tactic(auto, unfolding(crate::specs::Probe::job_of))]
 pub fn compile_job(
     alloc: Global,
@@ -39,10 +44,14 @@ pub fn compile_job(
     Ok(job)
 }
 
-/// Compiles and links `source` to a program (manual, "Running the Linker"):
-/// `$CC -o OUT $CFLAGS $CPPFLAGS $LDFLAGS FILE $LIBS`.
+/// Returns the job that compiles and links `source` to a program: `$CC -o OUT $CFLAGS $CPPFLAGS $LDFLAGS FILE $LIBS`
+/// (Autoconf's manual, "Running the Linker").
 ///
-/// The program is `conftest`, or `conftestN`.
+/// The program is `conftest`, or `conftestN` if the number `N` isn't 0. The file and the words are as in [`compile_job`].
+///
+/// # Errors
+///
+/// Returns [`JobFault::NoCompiler`] if CC is unset or has no word.
 #[tactic(auto, unfolding(crate::specs::Probe::job_of))]
 pub fn link_job(
     alloc: Global,
@@ -63,8 +72,14 @@ pub fn link_job(
     Ok(job)
 }
 
-/// Preprocesses `source` (manual, "Running the Preprocessor"): `$CPP $CPPFLAGS FILE`, or `$CC -E $CPPFLAGS FILE` where
-/// CPP has no word.
+/// Returns the job that preprocesses `source`: `$CPP $CPPFLAGS FILE`, or `$CC -E $CPPFLAGS FILE` if CPP is unset or has
+/// no word (Autoconf's manual, "Running the Preprocessor").
+///
+/// The file and the words are as in [`compile_job`].
+///
+/// # Errors
+///
+/// Returns [`JobFault::NoCompiler`] if neither CPP nor CC has a word.
 #[tactic(auto, unfolding(crate::specs::Probe::job_of))]
 pub fn preproc_job(
     alloc: Global,
@@ -85,7 +100,8 @@ pub fn preproc_job(
     Ok(job)
 }
 
-/// Runs the program that a link job of this number makes (manual, "Runtime"): `./conftest`, or `./conftestN`.
+/// Returns the job that runs the program of the link job with this number: `./conftest`, or `./conftestN` (Autoconf's
+/// manual, "Runtime").
 #[tactic(auto, unfolding(crate::specs::Probe::run_of))]
 pub fn run_job(alloc: Global, number: u64) -> Result<Job, AllocError>
     ensures { IfOk result (λ job. job ≡ run_of number) }
@@ -96,7 +112,7 @@ pub fn run_job(alloc: Global, number: u64) -> Result<Job, AllocError>
     Ok(Job { words, file: None })
 }
 
-// The path of the program that a link job makes.
+/// Returns the path of the program that a link job writes.
 fn program_path(alloc: Global, number: u64) -> Result<Vec<u8>, AllocError>
     ensures { IfOk result (λ path. path.items ≡ codes "./" ++ probe.out_name number) }
 {
@@ -106,7 +122,7 @@ fn program_path(alloc: Global, number: u64) -> Result<Vec<u8>, AllocError>
     Ok(path)
 }
 
-/// Succeeds where `file` is a file that may be run: a shell tests it, as POSIX's `test` does (own).
+/// Returns the job that succeeds if `file` is a regular file that may be executed. A shell tests it with POSIX's `test` (own).
 #[tactic(auto, unfolding(crate::specs::Probe::path_of))]
 pub fn path_job(alloc: Global, file: &[u8]) -> Result<Job, AllocError>
     ensures { IfOk result (λ job. job ≡ path_of file.now) }
@@ -116,7 +132,7 @@ pub fn path_job(alloc: Global, file: &[u8]) -> Result<Job, AllocError>
     Ok(Job { words, file: None })
 }
 
-// The words of a shell's command line.
+/// Appends the words of the shell command that tests a file.
 #[tactic(auto, unfolding(crate::specs::Probe::path_words))]
 fn push_path_words(words: &mut Words, file: &[u8]) -> Result<(), AllocError>
     requires { words.old ≡ [] }

@@ -4,10 +4,11 @@ ghost use Rattle.std.specs.Prelude.{◌≡◌, ◌++◌, IfOk, OnOk, decimal};
 ghost use Rattle.std.specs.List.{flat_map};
 ghost use Rattle.conftest.specs.Probe as probe;
 
+use csource::put_ended;
 use deftable::{Bytes, Defs};
 use std::alloc::{AllocError, Global};
 
-// `conftest`, or `conftest2` for number 2.
+/// Returns `conftest`, or `conftest2` for number 2.
 #[tactic(auto, unfolding(crate::specs::Probe::out_name))]
 pub(crate) fn out_name(alloc: Global, number: u64) -> Result<Vec<u8>, AllocError>
     ensures { IfOk result (λ name. name.items ≡ probe.out_name number) }
@@ -27,7 +28,7 @@ fn numbered(alloc: Global, mut name: Vec<u8>, number: u64) -> Result<Vec<u8>, Al
     Ok(name)
 }
 
-// The file that a compiler reads.
+/// Returns the name of the file that the compiler reads.
 #[tactic(auto, unfolding(crate::specs::Probe::file_name))]
 pub(crate) fn file_name(alloc: Global, number: u64) -> Result<Vec<u8>, AllocError>
     ensures { IfOk result (λ name. name.items ≡ probe.file_name number) }
@@ -37,7 +38,7 @@ pub(crate) fn file_name(alloc: Global, number: u64) -> Result<Vec<u8>, AllocErro
     Ok(name)
 }
 
-// The whole text: the definitions in order, and then the source.
+/// Returns the text of a conftest: the definitions in order, and then the source.
 #[tactic(auto, unfolding(crate::specs::Probe::conftest_text))]
 pub(crate) fn conftest_text(alloc: Global, defs: &Defs, source: &[u8]) -> Result<Bytes, AllocError>
     ensures { IfOk result (λ text. text ≡ probe.conftest_text defs.now source.now) }
@@ -66,19 +67,6 @@ fn put_define(text: &mut Vec<u8>, name: &[u8], value: &[u8]) -> Result<(), Alloc
     text.extend_from_slice(name)?;
     text.extend_from_slice(b" ")?;
     text.extend_from_slice(value)?;
-    text.extend_from_slice(b"\n")?;
-    Ok(())
-}
-
-// Puts a text that ends in a newline, or the text and a newline.
-#[tactic(auto, unfolding(crate::specs::Probe::ended))]
-pub(crate) fn put_ended(text: &mut Vec<u8>, more: &[u8]) -> Result<(), AllocError>
-    ensures { OnOk result (text.new.items ≡ text.old.items ++ probe.ended more.now) }
-{
-    text.extend_from_slice(more)?;
-    if more.ends_with(b"\n") {
-        return Ok(());
-    }
     text.extend_from_slice(b"\n")?;
     Ok(())
 }

@@ -6,7 +6,7 @@ use deftable::Bytes;
 use std::alloc::{AllocError, Global};
 use std::marker::Model;
 
-/// Words of a command, the program first. A contract sees the list of their texts.
+/// The words of a command, with the program first. In contracts, its value is the list of their texts.
 #[derive(Debug, Drop)]
 pub struct Words {
     words: Vec<Bytes>,
@@ -19,7 +19,7 @@ impl Model for Words {
 }
 
 impl Words {
-    /// No word.
+    /// Returns a list of no words.
     pub fn new(alloc: Global) -> Words
         ensures { result ≡ [] }
     {
@@ -28,21 +28,25 @@ impl Words {
         }
     }
 
-    /// The words of a vector, in the vector's own memory.
+    /// Makes a list of a vector's words, without copying them.
     pub fn from_vec(words: Vec<Bytes>) -> Words
         ensures { result ≡ words.items }
     {
         Words { words }
     }
 
-    /// The words, in order.
+    /// Returns the words, in order.
     pub fn as_slice(&self) -> &[Bytes]
         ensures { result.now ≡ self.now }
     {
         self.words.as_slice()
     }
 
-    /// Puts a word last. It fails only for want of memory.
+    /// Appends a word.
+    ///
+    /// # Errors
+    ///
+    /// Fails only if memory runs out, and then leaves the list unchanged.
     pub fn push(&mut self, word: &[u8]) -> Result<(), AllocError>
         ensures ok { OnOk result (self.new ≡ self.old ++ word.now ∷ []) }
         ensures err { OnErr result (self.new ≡ self.old) }
@@ -52,7 +56,7 @@ impl Words {
         Ok(())
     }
 
-    /// Equal words in memory of their own. It fails only for want of memory.
+    /// Returns equal words that have their own memory.
     pub fn copy(&self, alloc: Global) -> Result<Words, AllocError>
         ensures { IfOk result (λ w. w ≡ self.now) }
     {
@@ -71,7 +75,7 @@ fn copied(alloc: Global, words: &[Bytes]) -> Result<Vec<Bytes>, AllocError>
     Ok(all)
 }
 
-// Puts all fields last, in order.
+/// Appends all fields, in order.
 pub(crate) fn push_all(words: &mut Words, fields: &[&[u8]]) -> Result<(), AllocError>
     ensures { OnOk result (words.new ≡ words.old ++ map (λ field. field.now) fields.now) }
 {

@@ -5,9 +5,10 @@
 //! command, and then the text of the conftest. `examples/conftests/run.sh` does what all these jobs say.
 #![tactic(auto)]
 
-use conftest::{
-    Job, JobFault, compile_job, declaration_source, default_includes, function_source,
-    header_source, link_job, program_source, second_type_source, type_source,
+use conftest::{Job, JobFault, compile_job, link_job};
+use csource::{
+    declaration_source, default_includes, function_source, header_source, program_source,
+    second_type_source, type_source,
 };
 use deftable::{Bytes, Defs, Vars, is_shell_name};
 use std::alloc::{AllocError, Global};

@@ -1,4 +1,4 @@
--- Lemmas on what a real child is asked for and answers.
+-- Lemmas on the requests for a real child, and on its reply.
 use Rattle.std.proofs.Common.{◌≡◌, ◌≢◌, true, false, is_some, unwrap_or, fold, ℕ, zero, suc, ◌≤◌, ◌<◌, ◌⊎◌, ◌+◌, ◌-◌, List, [], ◌∷◌, ◌++◌, IsUtf8, length, take, refl, sym, ap, ◌∙◌, subst, arith, length-append, Option, Some, None, inl, inr, min, get_or, Result, Ok, Err, is_ok, OnOk, if◌then◌else◌}
 use Rattle.std.specs.Prelude.{All}
 use Rattle.std.proofs.Math.Seq.{take-append-add}
@@ -15,20 +15,20 @@ use Rattle.crew.specs.declared.reply.Reply.{Reply}
 use Rattle.crew.specs.Sound.{ListsBusy}
 use Rattle.crew.specs.Launch.{Adds, Call, Spawned, Failed, Run, Runs, failing, jobs_of, launch, run_after, writing}
 
--- what is kept of a piece
+-- the part of a piece that is kept
 pub kept_take : (text piece : List ℕ) → length text ≤ 65536 → text ++ take (min (65536 - length text) (length piece)) piece ≡ take 65536 (text ++ piece)
 kept_take text piece fits =
     let room = 65536 - length text in
     let full : length text + room ≡ 65536 = omega arith in
     ap (λ p. text ++ p) (take_min room piece) ∙ sym (take-append-add text piece room) ∙ ap (λ n. take n (text ++ piece)) full
 
--- what is kept of what is kept and a piece
+-- the part that is kept of a kept text and another piece
 pub kept_again : (n : ℕ) (bytes piece : List ℕ) → take n (take n bytes ++ piece) ≡ take n (bytes ++ piece)
 kept_again zero bytes piece = refl
 kept_again (suc n) [] piece = refl
 kept_again (suc n) (b ∷ bytes) piece = ap (λ t. b ∷ t) (kept_again n bytes piece)
 
--- so many reads have given bytes, of which the text is kept
+-- n reads have given bytes, of which the text is kept
 pub record HasRead (known rest : Option (List ℕ)) (text : List ℕ) (reads : ℕ) : Type 0 where
   pub bytes : List ℕ
   pub consumed : Consumes known rest bytes
@@ -71,7 +71,7 @@ pub keeps_same : (known : Option (List ℕ)) → Keeps known known
 keeps_same None = tt
 keeps_same (Some xs) = refl
 
--- words of which one is no UTF-8
+-- words of which one isn't UTF-8
 pub not_all : (words : List (List ℕ)) (word : List ℕ) (i : ℕ) → word ≡ get_or words i word → i < length words → ¬ (IsUtf8 word) → ¬ (All IsUtf8 words)
 not_all words word i here inside bad good = bad (subst IsUtf8 (sym here) (All-get_or IsUtf8 words i word inside good))
 
@@ -89,7 +89,7 @@ jobs_of-append [] more = refl
 jobs_of-append (Started slot job number ∷ events) more = ap (λ jobs. job ∷ jobs) (jobs_of-append events more)
 jobs_of-append (Ended slot reply number ∷ events) more = jobs_of-append events more
 
--- no file waits, and these jobs were started
+-- no file is left over, and these jobs were started
 quiet : List Job → Run
 quiet jobs = record { file = None; jobs = jobs }
 
@@ -116,7 +116,7 @@ runs_added (Some old) (Some new) more events after r adds step =
           ap (fold run_after start) here ∙ fold-append run_after start old more ∙ ap (λ run. fold run_after run more) (r.same old refl) ∙ step;
     }
 
--- nothing more was called
+-- no further request was made
 runs_same : (calls new : Option (List Call)) (events : List CrewEvent) → Runs calls events → Adds calls new [] → Runs new events
 runs_same calls new events r adds = runs_added calls new [] events events r adds refl
 

@@ -1,4 +1,4 @@
--- What the calls of a crew in memory leave, from what is known of each part.
+-- The state of a crew in memory after each call, from the values of its fields.
 use Rattle.std.proofs.Common.{◌≡◌, ◌≢◌, ℕ, ◌+◌, ◌<◌, true, false, List, [], ◌∷◌, ◌++◌, length, get_or, sym, ap, ◌∙◌}
 use Rattle.std.specs.Prelude.{remove}
 use Rattle.std.proofs.lemmas.Bool.{cond-true, cond-false}
@@ -23,7 +23,7 @@ same x y e a f l r c o =
     ∙ ap (λ v. record { account = y.account; listed = y.listed; replies = y.replies; children = v; order = x.order }) c
     ∙ ap (λ v. record { account = y.account; listed = y.listed; replies = y.replies; children = y.children; order = v }) o
 
--- a start past the list
+-- a start after the end of the list
 pub start_past : (slot : ℕ) (job : Job) (m new : Scripted) → m.replies ≡ [] → new.account.events ≡ m.account.events → new.account.attempts ≡ m.account.attempts + 1 → new.account.failures ≡ m.account.failures + 1 → new.listed ≡ m.listed → new.replies ≡ [] → new.children ≡ m.children → new.order ≡ m.order → new ≡ after_start slot job m
 unfolding after_start
 start_past slot job m new none e a f l r c o =
@@ -74,6 +74,6 @@ ended_events es es' slot slot' reply reply' number is s r =
 pub not_refused : (reply : Reply) → is_start_refused reply ≡ false → reply ≢ StartRefused
 not_refused reply kept is = let clash : true ≡ false = sym (ap is_start_refused is) ∙ kept in cc
 
--- the front of a list may be named otherwise
+-- the front of a list may be replaced by an equal one
 pub moved : {A : Type 0} (xs front back more : List A) → xs ≡ front ++ more → front ≡ back → xs ≡ back ++ more
 moved xs front back more is other = is ∙ ap (λ v. v ++ more) other

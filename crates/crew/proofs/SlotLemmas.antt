@@ -43,7 +43,7 @@ times-none : (xs : List ℕ) (s : ℕ) → length xs ≡ 0 → times s xs ≡ 0
 times-none [] s e = refl
 times-none (x ∷ xs) s e = absurd (omega arith)
 
--- where a child is in flight the list has a slot
+-- if a child is in flight, the list has a slot
 pub lists_some : (xs : List ℕ) (es : List CrewEvent) → ListsBusy xs es → IsSomeBusy es → 0 < length xs
 lists_some xs es h some =
     let e = h.each some.slot ∙ ap one_if some.is_busy in
@@ -98,7 +98,7 @@ pub slots_end : (xs xs' : List ℕ) (es es' : List CrewEvent) (slot : ℕ) (repl
 slots_end xs xs' es es' slot reply number flying first is =
     sym (ap slots_in_flight is ∙ fold-append slots_after [] es (Ended slot reply number ∷ []) ∙ ap (λ v. without_slot slot v) (sym flying ∙ first) ∙ without_first slot xs')
 
--- the same of the list of busy slots, where the first ends
+-- the same for the list of busy slots, if the first child ends
 pub lists_first : (xs xs' : List ℕ) (es es' : List CrewEvent) (slot : ℕ) (reply : Reply) (number : ℕ) → ListsBusy xs es → xs ≡ slot ∷ xs' → es' ≡ es ++ Ended slot reply number ∷ [] → ListsBusy xs' es'
 lists_first xs xs' es es' slot reply number h first is =
     lists_end xs xs' es es' 0 slot reply number h (omega (arith, ap length first)) (sym (ap (λ v. get_or v 0 slot) first)) (sym (ap (λ v. remove v 0) first)) is

@@ -2,7 +2,7 @@
 use Rattle.std.specs.Prelude.{ℕ}
 use Rattle.crew.specs.declared.reply.Reply.{Reply}
 
--- its slot, and the reply that it will give
+-- a child: its slot, and the reply that it will give (own)
 pub record Child : Type 0 where
   pub slot : ℕ
   pub reply : Reply

@@ -1,4 +1,4 @@
--- What the end of a real child answers (own).
+-- The reply at the end of a real child.
 use Rattle.std.specs.Prelude.{◌≡◌, ◌⊎◌, ℕ, ℤ, ◌≤◌, List, length, take, unsigned_abs, Option, Some, None, Result, Ok, Err}
 use Rattle.std.specs.Process.{exit_code}
 use Rattle.std.specs.Io.KnownBytes.{Consumes, IsAtEnd}
@@ -6,23 +6,24 @@ use Rattle.std.specs.declared.process.status.ExitStatus.{ExitStatus}
 use Rattle.crew.specs.declared.reply.Reply.{Reply}
 use Rattle.crew.specs.declared.reply.Reply.TheVariants.{Answer, StartRefused, EndRefused}
 
--- an exit code as a number, and 256 if there is none
+-- an exit code as a number, or 256 if there is none (own)
 abbrev pub number_of : Option ℤ → ℕ
 number_of (Some code) = unsigned_abs code
 number_of None = 256
 
--- the status of a child: its exit status, or 256 if a signal ended it
+-- the status of a child: its exit status, or 256 if a signal ended it (own)
 abbrev pub status_number : ExitStatus → ℕ
 status_number status = number_of (exit_code status)
 
--- the reply of a child that was waited for, with what is kept of its diagnostics: a failed wait or a failed read is no answer
+-- the reply of a child after the wait for it, with the diagnostics that were kept: a failed wait or a failed read is
+-- not an answer (own)
 abbrev pub reply_of : {E : Type 0} → Result ExitStatus E → Option (List ℕ) → Reply
 reply_of (Ok status) (Some text) = Answer (status_number status) text
 reply_of (Ok status) None = EndRefused
 reply_of (Err e) text = EndRefused
 
--- text is what is kept of a pipe that has these bytes to give: the first 65,536 of those that were read, which are all
--- unless each of 1,024 reads gave some
+-- The text that is kept of a pipe with these bytes: the first 65,536 of those that were read. Either the pipe was read to
+-- its end, or at least 1,024 bytes were read. (own)
 pub record IsKept (known : Option (List ℕ)) (text : List ℕ) : Type 0 where
   pub bytes : List ℕ
   pub rest : Option (List ℕ)
@@ -30,7 +31,7 @@ pub record IsKept (known : Option (List ℕ)) (text : List ℕ) : Type 0 where
   pub kept : text ≡ take 65536 bytes
   pub all : IsAtEnd rest ⊎ (1024 ≤ length bytes)
 
--- an answer has the status that a wait has given, and its text has this property
+-- an answer has the status that a wait returned, and a text with this property; a refused end claims nothing (own)
 abbrev pub Answers : Reply → Option ExitStatus → (List ℕ → Type 0) → Type 0
 Answers (Answer status text) None P = ⊥
 Answers (Answer status text) (Some s) P = (status ≡ status_number s) × P text

@@ -1,4 +1,4 @@
--- What holds between a list of slots and the events of a crew.
+-- How a list of slots relates to the events of a crew.
 use Rattle.std.specs.Prelude.{◌≡◌, ◌≢◌, ℕ, ◌+◌, ◌*◌, ◌≤◌, ◌==◌, List, [], ◌∷◌, length, map, if◌then◌else◌}
 use Rattle.crew.specs.declared.reply.Reply.{Reply}
 use Rattle.crew.specs.declared.reply.Reply.TheVariants.{StartRefused}
@@ -7,21 +7,22 @@ use Rattle.crew.specs.declared.event.Event.{Event}
 use Rattle.crew.specs.Child.{Child}
 use Rattle.crew.specs.Events.{busy}
 
--- how often the slot is in the list
+-- how often the slot occurs in the list (own)
 abbrev pub times : ℕ → List ℕ → ℕ
 times s [] = 0
 times s (x ∷ xs) = (if x == s then 1 else 0) + times s xs
 
--- the list has each busy slot once, and no other
+-- the list contains each busy slot once, and no other slot (own)
 pub record ListsBusy (slots : List ℕ) (events : List CrewEvent) : Type 0 where
   pub each : (s : ℕ) → times s slots ≡ (if busy s events then 1 else 0)
 
--- no child answers that its start was refused
+-- no child has a reply that refuses its start (own)
 abbrev pub AllStarted : List Child → Type 0
 AllStarted [] = Unit {0}
 AllStarted (c ∷ cs) = (c.reply ≢ StartRefused) × AllStarted cs
 
--- what holds of a crew in memory: its children are in the busy slots, and there is room for all that its replies bring
+-- the invariant of a crew in memory: its children are in the busy slots, and there is room for every event that its
+-- replies allow (own)
 pub record IsReady (replies : List Reply) (children : List Child) (events : List CrewEvent) (listed : List Event) (children_most events_most listed_most : ℕ) : Type 0 where
   pub busy_slots : ListsBusy (map (λ c. c.slot) children) events
   pub started : AllStarted children

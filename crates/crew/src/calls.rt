@@ -8,11 +8,15 @@ use crate::event::Refused;
 use crate::reply::Reply;
 use conftest::Job;
 
-/// Runs jobs as children in slots. Its meaning is the account of what it has done.
+/// Runs jobs as children in slots. The meaning of a crew is its account: what it has done.
 pub trait Crew {
     ghost account: { Self → Account };
 
-    /// Starts a job in a free slot. Refused, it leaves the slot free; the job is dropped.
+    /// Starts a job in a free slot, and keeps the job in the account (own).
+    ///
+    /// # Errors
+    ///
+    /// Returns [`Refused`] if the job isn't started. The slot stays free, and the job is dropped.
     fn start(&mut self, slot: usize, job: Job) -> Result<(), Refused>
         requires slot { slot < 16 }
         requires free { busy slot (account self.old).events ≡ false }
@@ -25,7 +29,9 @@ pub trait Crew {
         ensures refused { OnErr result ((account self.new).events ≡ (account self.old).events) }
         ensures refused_count { OnErr result ((account self.new).failures ≡ (account self.old).failures + 1) };
 
-    /// Waits for the end of a child and frees its slot. There must be a child in flight.
+    /// Waits for the end of a child, frees its slot, and returns the slot with the reply (own).
+    ///
+    /// The reply is [`Reply::EndRefused`] if nothing is known about what the child answered.
     fn next(&mut self) -> (usize, Reply)
         requires flying { IsSomeBusy (account self.old).events }
         requires failures { (account self.old).failures < 2 ^ 62 }

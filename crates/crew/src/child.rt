@@ -1,4 +1,4 @@
-//! The start and the end of a real child.
+//! Starts and ends a real child.
 
 ghost use Rattle.std.specs.Prelude.{◌≡◌, ◌⊎◌, [], ◌∷◌, ◌++◌, None, All, IfNone, IfOk, IfSome, IsSome, IsUtf8, option_map, vec_items};
 ghost use Rattle.std.specs.Bool.{OnFalse, OnTrue};
@@ -16,7 +16,7 @@ use std::alloc::{AllocError, Global};
 use std::io;
 use std::process::{Child, Command, ExitStatus, OpenProcess};
 
-// Starts the child after its conftest is written, and leaves it in a place of its own.
+/// Writes the conftest of a job and starts its child, which is stored in `child`. Returns whether it was started.
 pub(crate) fn is_started<L: Launcher>(
     launcher: &mut L,
     alloc: Global,
@@ -37,7 +37,7 @@ pub(crate) fn is_started<L: Launcher>(
     is_run(launcher, &mut command, arguments, &job.file, child)
 }
 
-// Starts a command that has no argument yet, after it is given these and the conftest is written.
+/// Adds the arguments to a command that has none, writes the conftest, and starts the command. Returns whether it was started.
 fn is_run<L: Launcher>(
     launcher: &mut L,
     command: &mut Command,
@@ -75,7 +75,7 @@ fn is_spawned<L: Launcher>(
     child.is_some()
 }
 
-// Writes the conftest, if there is one.
+/// Writes the conftest, if there is one. Returns whether nothing failed.
 fn is_written<L: Launcher>(launcher: &mut L, file: &Option<(Bytes, Bytes)>) -> bool
     ensures written { OnTrue result (Adds (L.calls launcher.old) (L.calls launcher.new) (writing file.now)) }
     ensures refused { OnFalse result (Adds (L.calls launcher.old) (L.calls launcher.new) []) }
@@ -89,7 +89,7 @@ fn is_written<L: Launcher>(launcher: &mut L, file: &Option<(Bytes, Bytes)>) -> b
     }
 }
 
-// The program and the arguments, or `None` if there is no word or the program is no UTF-8.
+/// Returns the program and the arguments, or `None` if there is no word or the program isn't UTF-8.
 fn program_of(words: &[Bytes]) -> Option<(&str, &[Bytes])>
     ensures words { IfSome result (λ p. p.0.now ∷ p.1.now ≡ words.now) }
     ensures fault { IfNone result (¬ (AreCommand words.now)) }
@@ -101,7 +101,7 @@ fn program_of(words: &[Bytes]) -> Option<(&str, &[Bytes])>
     }
 }
 
-// Gives a command its arguments, up to the first that is no UTF-8, and tells whether all are.
+/// Adds arguments to a command, up to the first that isn't UTF-8. Returns whether all were added.
 fn put_arguments(command: &mut Command, arguments: &[Bytes]) -> Result<bool, AllocError>
     requires { command_args command.old ≡ [] }
     ensures words { IfOk result (λ all. OnTrue all
@@ -117,7 +117,7 @@ fn put_arguments(command: &mut Command, arguments: &[Bytes]) -> Result<bool, All
     Ok(true)
 }
 
-// Reads what the child writes on standard error, and waits for it whatever that gave.
+/// Reads what the child writes to standard error, and then waits for the child, even if the reads failed. Returns its reply.
 pub(crate) fn ended<P: OpenProcess + Drop>(alloc: Global, child: &mut Child<P>) -> Reply
     ensures answer { Answers result (child_status child.new)
         (λ text. IfSome child.old.stderr (λ pipe. IsKept (P.Stderr.remaining pipe) text)) }
@@ -128,7 +128,8 @@ pub(crate) fn ended<P: OpenProcess + Drop>(alloc: Global, child: &mut Child<P>) 
     reply_of(waited, text)
 }
 
-// What is kept of the pipe, which is then closed.
+/// Reads the diagnostics from a pipe, and closes it. Returns the text to keep, or `None` if there is no pipe, a read
+/// fails, or memory runs out.
 fn kept_of<R: io::Read + Drop>(alloc: Global, pipe: Option<R>) -> Option<Vec<u8>>
     ensures kept { IfSome result (λ text. IfSome pipe (λ p. IsKept (R.remaining p) text.items)) }
     ensures piped { IfNone pipe (result ≡ None) }
@@ -149,7 +150,7 @@ fn reply_of(waited: io::Result<ExitStatus>, text: Option<Vec<u8>>) -> Reply
     }
 }
 
-// The exit status, or 256 if a signal ended the child.
+/// Returns the exit status, or 256 if a signal ended the child.
 fn status_of(status: ExitStatus) -> u32
     ensures { result ≡ status_number status }
 {

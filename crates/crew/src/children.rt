@@ -1,4 +1,4 @@
-//! A crew of children, over what starts them.
+//! A crew of real children that a launcher starts.
 
 ghost use Rattle.std.specs.Prelude.{◌≡◌, ◌≢◌, ◌⊎◌, ◌+◌, ◌^◌, ◌<◌, ◌≤◌, [], ◌∷◌, ◌++◌, true, false, IfOk, IsSome, All, length, vec_capacity, vec_len};
 ghost use Rattle.std.specs.Bool.{OnFalse, OnTrue};
@@ -23,13 +23,13 @@ use std::process::{Child, OpenProcess};
 
 const SLOTS: usize = 16;
 
-// A crew of the children that a launcher starts.
+/// A crew of the children that a launcher starts.
 #[derive(Drop)]
 pub(crate) struct Children<L: Launcher + Drop> {
     launcher: L,
     alloc: Global,
     children: Vec<Option<Child<L::Process>>>,
-    // the slots in flight, the oldest child's first
+    // The slots in use, in the order in which their children were started.
     slots: VecDeque<usize>,
     events: Vec<CrewEvent>,
     attempts: u64,
@@ -55,7 +55,7 @@ impl<L: Launcher + Drop> Model for Children<L> {
 }
 
 impl<L: Launcher + Drop> Children<L> {
-    // A crew that has started nothing.
+    /// Returns a crew that has started nothing.
     pub(crate) fn new(launcher: L, alloc: Global) -> Result<Children<L>, AllocError>
         requires { Runs (L.calls launcher) [] }
         ensures { IfOk result (λ c. c ≡ record { events = []; attempts = 0; failures = 0 }) }
@@ -118,7 +118,7 @@ impl<L: Launcher + Drop> Crew for Children<L> {
     }
 }
 
-// As many places as there are slots, and no child in them.
+/// Returns a list with one entry per slot, all empty.
 fn no_children<P: OpenProcess + Drop>(alloc: Global) -> Result<Vec<Option<Child<P>>>, AllocError>
     ensures { IfOk result (λ v. vec_len v ≡ 16) }
 {
@@ -129,7 +129,7 @@ fn no_children<P: OpenProcess + Drop>(alloc: Global) -> Result<Vec<Option<Child<
     Ok(children)
 }
 
-// The reply of a child after its end, and a copy of the reply.
+/// Waits for a child, and returns its reply twice.
 fn end_of<P: OpenProcess + Drop>(alloc: Global, child: Option<Child<P>>) -> (Reply, Reply)
     ensures same { result.1 ≡ result.0 }
     ensures answer { result.0 ≢ StartRefused }
@@ -140,7 +140,7 @@ fn end_of<P: OpenProcess + Drop>(alloc: Global, child: Option<Child<P>>) -> (Rep
     }
 }
 
-// A reply and its copy; both are a refusal where there is no memory for the copy.
+/// Returns a reply twice. If memory runs out, both are [`Reply::EndRefused`].
 fn doubled(alloc: Global, reply: Reply) -> (Reply, Reply)
     requires { reply ≢ StartRefused }
     ensures same { result.1 ≡ result.0 }
@@ -152,7 +152,7 @@ fn doubled(alloc: Global, reply: Reply) -> (Reply, Reply)
     }
 }
 
-// Makes room for the records of a start, and starts the child.
+/// Reserves room for the records of a start, and starts the child. Returns whether it was started.
 fn is_launched<L: Launcher>(
     launcher: &mut L,
     alloc: Global,
@@ -177,7 +177,7 @@ fn is_launched<L: Launcher>(
     is_started(launcher, alloc, job, child)
 }
 
-// Room for the event of a start, and for the ends of its child and of those in flight.
+/// Reserves room for the event of a start, and for the ends of its child and of those in flight. Returns whether there is room.
 fn make_room(events: &mut Vec<CrewEvent>, slots: &mut VecDeque<usize>) -> bool
     ensures events { events.new.items ≡ events.old.items }
     ensures slots { slots.new.items ≡ slots.old.items }

@@ -1,4 +1,4 @@
-//! What a real child writes on standard error.
+//! The diagnostics of a real child: what it writes to standard error.
 
 ghost use Rattle.std.specs.Prelude.{◌≡◌, ◌<◌, ◌≤◌, ◌++◌, length, take, IfSome, OnOk};
 ghost use Rattle.std.specs.Io.KnownBytes.{Consumes, IsAtEnd};
@@ -15,7 +15,7 @@ const MOST_KEPT: usize = 65_536;
 
 const READ_SIZE: usize = 4096;
 
-// What a child wrote, up to a limit: the rest of what is read is dropped. `None` if a read fails, or memory runs out.
+/// Reads what a child wrote, and returns at most the first 65,536 bytes. Returns `None` if a read fails or memory runs out.
 pub(crate) fn diagnostics<R: Read>(alloc: Global, pipe: &mut R) -> Option<Vec<u8>>
     ensures { IfSome result (λ text. IsKept (R.remaining pipe.old) text.items) }
 {
@@ -33,7 +33,7 @@ pub(crate) fn diagnostics<R: Read>(alloc: Global, pipe: &mut R) -> Option<Vec<u8
     Some(text)
 }
 
-// One read, tried again if a signal interrupts it.
+/// Reads once, and tries again if a signal interrupts the read. Returns `None` if the read fails.
 fn read_some<R: Read>(pipe: &mut R, piece: &mut [u8]) -> Option<usize>
     ensures within { IfSome result (λ n. n ≤ length piece.new) }
     ensures bytes { IfSome result (λ n. Consumes (R.remaining pipe.old) (R.remaining pipe.new) (take n piece.new)) }
@@ -49,7 +49,7 @@ fn read_some<R: Read>(pipe: &mut R, piece: &mut [u8]) -> Option<usize>
     None
 }
 
-// Puts the piece last, as far as there is room.
+/// Appends the piece, as far as the limit allows.
 fn keep(text: &mut Vec<u8>, piece: &[u8]) -> Result<(), AllocError>
     requires { length text.old.items ≤ 65536 }
     ensures { OnOk result (text.new.items ≡ take 65536 (text.old.items ++ piece.now)) }

@@ -1,17 +1,20 @@
-//! What happens in a crew.
+//! The events of a crew.
 
 use crate::reply::Reply;
 use conftest::Job;
 use thiserror::Error;
 
-/// A start that was taken or the end of a child, each with the number of starts attempted up to and including it.
+/// A start that was taken, or the end of a child. `number` is the number of starts attempted up to and including this
+/// event.
 #[derive(Debug, Drop)]
 pub enum CrewEvent {
+    /// A job was started in the slot.
     Started {
         slot: usize,
         job: Job,
         number: u64,
     },
+    /// The child in the slot ended, with this reply.
     Ended {
         slot: usize,
         reply: Reply,
@@ -19,15 +22,18 @@ pub enum CrewEvent {
     },
 }
 
-/// A call of a crew in memory, by the slot that it names.
+/// A call of a [`MemoryCrew`], with its slot.
 #[derive(Clone, Copy, Debug, PartialEq, Eq)]
 pub enum Event {
+    /// A start that was taken.
     Started(usize),
+    /// A start that was refused.
     Refused(usize),
+    /// The end of a child.
     Ended(usize),
 }
 
-/// A start that was not taken.
+/// The error of a start that wasn't taken.
 #[derive(Clone, Copy, Debug, PartialEq, Eq, Error)]
 #[error("start refused")]
 pub struct Refused;

@@ -1,4 +1,4 @@
-//! The count of calls that were refused.
+//! Counts the calls that were refused.
 
 ghost use Rattle.std.specs.Prelude.{◌≡◌, ◌+◌, ◌^◌, ◌<◌};
 ghost use Rattle.crew.specs.Events.{failure_of};
@@ -6,7 +6,7 @@ ghost use Rattle.crew.specs.Events.{failure_of};
 use crate::event::Refused;
 use crate::reply::Reply;
 
-// Counts a refused start.
+/// Counts a refused start, and returns its error.
 pub(crate) fn refusal(failures: &mut u64) -> Refused
     requires { failures.old < 2 ^ 62 }
     ensures { failures.new ≡ failures.old + 1 }
@@ -15,7 +15,7 @@ pub(crate) fn refusal(failures: &mut u64) -> Refused
     Refused
 }
 
-// The count after an end with this reply.
+/// Returns the count after an end with this reply.
 pub(crate) fn failures_after(reply: &Reply, failures: u64) -> u64
     requires { failures < 2 ^ 62 }
     ensures { result ≡ failures + failure_of reply.now }

@@ -1,11 +1,11 @@
-//! A child of a crew in memory.
+//! The children of a crew in memory.
 
 ghost use Rattle.std.specs.Prelude.{◌≡◌};
 
 use crate::reply::Reply;
 use std::marker::Model;
 
-/// A child of a crew in memory, with the reply that it will give and a second one for the record.
+/// A child of a crew in memory, with the reply that it will give, once for the caller and once for the account.
 #[derive(Debug, Drop)]
 pub struct Flight {
     slot: usize,
@@ -38,7 +38,7 @@ impl Flight {
         self.slot
     }
 
-    // The slot, and the reply twice.
+    /// Returns the slot, and the reply twice.
     pub(crate) fn into_parts(self) -> (usize, Reply, Reply)
         ensures slot { result.0 ≡ self.slot }
         ensures reply { result.1 ≡ self.reply }

@@ -1,4 +1,4 @@
-//! Where a crew of real children meets the system.
+//! The launcher, which connects a crew of real children to the system.
 
 ghost use Rattle.std.specs.Prelude.{[], ◌∷◌, None, Option, List, OnOk, OnErr};
 ghost use Rattle.std.specs.Process.{command_args, command_program};
@@ -12,22 +12,22 @@ use std::{fs, io};
 pub(crate) trait Launcher {
     type Process: OpenProcess + Drop;
 
-    // What was written and started, the oldest first, where that is known.
+    // The files written and the commands started so far, in order, if they are known.
     ghost calls: { Self → Option (List Call) } = { λ _. None };
 
-    // Makes the file, or replaces it.
+    // Creates the file, or replaces it.
     fn write(&mut self, name: &str, text: &[u8]) -> io::Result<()>
         ensures done { OnOk result (Adds (calls self.old) (calls self.new) (Wrote name.now text.now ∷ [])) }
         ensures refused { OnErr result (Adds (calls self.old) (calls self.new) []) };
 
-    // Starts the command with empty standard input, its output dropped and its diagnostics to be read.
+    // Starts the command with empty standard input. Its standard output is dropped, and its standard error can be read.
     fn spawn(&mut self, command: &mut Command) -> io::Result<Child<Self::Process>>
         ensures done { OnOk result (Adds (calls self.old) (calls self.new)
             (Spawned (command_program command.old ∷ command_args command.old) ∷ [])) }
         ensures refused { OnErr result (Adds (calls self.old) (calls self.new) (Failed ∷ [])) };
 }
 
-/// The system of a runtime.
+/// The launcher of a real system.
 #[derive(Drop)]
 pub(crate) struct Host<R: Files + Processes + Drop> {
     rt: R,

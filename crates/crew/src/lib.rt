@@ -1,23 +1,27 @@
-//! Crews: what runs the jobs of a configure run, several children at once.
+//! Crews: they run the jobs of a configure run as child processes, several at once.
 //!
-//! A crew has sixteen slots, numbered from 0. A job is started in a free slot, and `next` waits for the end of a child,
-//! which frees its slot. What a crew has done is its account: the starts that were taken and the ends, in order, the number
-//! of attempted starts, and the number of calls that were refused. A start or an end that is refused says nothing of what
-//! the job would have answered.
+//! A crew has sixteen slots, numbered from 0. `start` starts a job in a free slot, and `next` waits for the end of a
+//! child, which frees its slot. The account of a crew is what it has done: the starts that were taken and the ends, in
+//! order, the number of attempted starts, and the number of refused calls. If a start or an end is refused, nothing is
+//! known about what the job would have answered.
 //!
 //! ```text
 //! let mut crew = ProcessCrew::new(rt, alloc)?;
-//! crew.start(0, job)?;                       // a child of the system, with the conftest written for it
-//! let (slot, reply) = crew.next();           // 0, and its exit status with what it wrote on standard error
+//! crew.start(0, job)?;                       // a child process, with its conftest written first
+//! let (slot, reply) = crew.next();           // 0, and its exit status with what it wrote to standard error
 //! ```
 //!
-//! Read `specs/Events.antt` (what a list of events says: the reply to the n-th start, the slots in flight), then `reply`,
-//! `event` and `calls`, which has the trait. [`MemoryCrew`] answers from a list, in an order that its maker chooses;
-//! `specs/Scripted.antt` says what each call of it does.
+//! "own" marks a rule that no manual gives.
 //!
-//! [`ProcessCrew`] starts real children. `launcher` is where it writes files and starts commands, in two short calls that
-//! tests alone hold; what is asked of them is proved for every launcher. `specs/Launch.antt` says what that is for a job,
-//! and `specs/Ending.antt` what the end of a child answers; `children` keeps the account over `child` and `diagnostics`.
+//! Read `specs/Events.antt` first: the meaning of a list of events, such as the reply to the n-th start and the slots
+//! in use. Then read `reply`, `event` and `calls`, which has the trait [`Crew`].
+//!
+//! [`MemoryCrew`], in `memory`, is a crew for tests. It answers from a list of replies, in a given `order`;
+//! `specs/Scripted.antt` defines the effect of each call, and `flight` is one of its children. [`ProcessCrew`], in
+//! `process`, starts real children. `launcher` writes its files and starts its commands, in two short functions that
+//! only tests check; what the crew asks of a launcher is proved for every launcher. `specs/Launch.antt` defines these
+//! requests for a job, and `specs/Ending.antt` the reply at the end of a child. `children` keeps the account, and uses
+//! `child` and `diagnostics`. Both crews use `failures`, which counts refused calls, and `room`.
 #![tactic(auto)]
 
 mod calls;

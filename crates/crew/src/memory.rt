@@ -1,4 +1,4 @@
-//! A crew whose replies are a list.
+//! A crew that answers from a list of replies.
 
 ghost use Rattle.std.specs.Prelude.{◌≡◌, ◌≢◌, ◌+◌, ◌*◌, ◌^◌, ◌<◌, ◌≤◌, [], ◌∷◌, ◌++◌, true, false, IfOk, IfSome, IfNone, OnOk, OnErr, is_ok, length, reverse, vec_capacity, MatchOption};
 ghost use Rattle.crew.specs.Events.{busy, IsSomeBusy, failure_of};
@@ -16,13 +16,13 @@ use conftest::Job;
 use std::alloc::{AllocError, Global};
 use std::marker::Model;
 
-/// Answers the n-th attempted start by the n-th reply of a list, and ends its children in an order that is given.
+/// A crew for tests: answers the n-th attempted start with the n-th reply of a list, and ends its children in a given order.
 ///
-/// It refuses a start whose reply is [`Reply::StartRefused`] or that comes past the list, and nothing else. Its calls take
-/// no memory.
+/// A start is refused if its reply is [`Reply::StartRefused`] or the list has no more replies, and only then. The calls
+/// of [`Crew`] don't allocate.
 #[derive(Debug, Drop)]
 pub struct MemoryCrew {
-    // the replies to come, the next one last, and each a second time
+    // The replies to come, the next one last. `copies` is equal, for the account.
     replies: Vec<Reply>,
     copies: Vec<Reply>,
     children: Vec<Flight>,
@@ -53,7 +53,11 @@ impl Model for MemoryCrew {
 }
 
 impl MemoryCrew {
-    /// A crew that has done nothing. All memory that it will need is taken here.
+    /// Returns a crew that has done nothing, with room for all that its calls will record.
+    ///
+    /// # Errors
+    ///
+    /// Fails only if memory runs out.
     pub fn new(alloc: Global, replies: Vec<Reply>, order: Order) -> Result<MemoryCrew, AllocError>
         ensures { IfOk result (λ m. m ≡ record {
           account = record { events = []; attempts = 0; failures = 0 };
@@ -77,7 +81,7 @@ impl MemoryCrew {
         })
     }
 
-    /// The calls so far, the oldest first. Starts past the list of replies are left out.
+    /// Returns the calls so far, in order. Starts after the end of the list of replies are left out.
     pub fn events(&self) -> &[Event]
         ensures { result.now ≡ self.now.listed }
     {
@@ -85,7 +89,7 @@ impl MemoryCrew {
     }
 }
 
-// Empty lists of the children of so many starts, of what happens to them, and of the calls.
+/// Returns empty lists of children, events and calls, with room for `count` starts and their ends.
 fn with_room(
     alloc: Global,
     count: usize,
@@ -103,7 +107,7 @@ fn with_room(
     Ok((children, events, listed))
 }
 
-// The replies from the last to the first, and each a second time.
+/// Returns the replies from the last to the first, twice.
 fn reversed_twice(
     alloc: Global,
     mut replies: Vec<Reply>,
@@ -126,7 +130,7 @@ fn copied(alloc: Global, replies: &[Reply]) -> Result<Vec<Reply>, AllocError>
     Ok(all)
 }
 
-// The reply to the next start, twice.
+/// Returns the reply to the next start, twice, or `None` if there is none.
 fn next_pair(replies: &mut Vec<Reply>, copies: &mut Vec<Reply>) -> Option<(Reply, Reply)>
     requires { copies.old.items ≡ replies.old.items }
     ensures pair { MatchOption result

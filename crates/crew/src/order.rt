@@ -9,13 +9,15 @@ use std::marker::Model;
 /// Which child of a crew in memory ends next.
 #[derive(Debug, Drop)]
 pub enum Order {
+    /// The child that was started first.
     Oldest,
+    /// The child that was started last.
     Youngest,
-    /// The one in the slot that the list names next; the oldest where no child is in that slot, or the list has ended.
+    /// The child in the next slot of the list. If that slot has no child, or the list has ended, the oldest child.
     Slots(SlotList),
 }
 
-/// Slots, in order.
+/// A list of slots.
 #[derive(Debug, Drop)]
 pub struct SlotList {
     reversed: Vec<usize>,
@@ -30,7 +32,7 @@ impl Model for SlotList {
 }
 
 impl SlotList {
-    /// The slots of a vector, in the vector's own memory.
+    /// Makes a list of a vector's slots, without copying them.
     pub fn from_vec(mut slots: Vec<usize>) -> SlotList
         ensures { result ≡ slots.items }
     {
@@ -38,7 +40,7 @@ impl SlotList {
         SlotList { reversed: slots }
     }
 
-    // Takes the first slot away, if there is one.
+    /// Removes and returns the first slot, or returns `None` if there is none.
     pub(crate) fn take_first(&mut self) -> Option<usize>
         ensures first { result ≡ scripted.first_of self.old }
         ensures others { self.new ≡ scripted.others_of self.old }
@@ -47,7 +49,7 @@ impl SlotList {
     }
 }
 
-// The place of the child that ends next; its slot is taken from a list.
+/// Returns the index of the child that ends next. If the order is a list of slots, its first slot is removed.
 pub(crate) fn next_place(order: &mut Order, children: &[Flight]) -> usize
     requires { 0 < length children.now }
     ensures place { result ≡ scripted.place order.old children.now }

@@ -16,14 +16,16 @@ use std::marker::Model;
 use std::process::Processes;
 use std::rt::Files;
 
-/// Starts real children in the directory of the program, with its environment.
+/// A crew that starts real children, in the directory and with the environment of the program.
 ///
-/// `start` writes the conftest, and starts the child with empty standard input; what the child writes on standard output
-/// is dropped. It is refused if that fails, if there is no word or a word is not UTF-8, and if there is no memory for its
-/// record. `next` waits for the oldest child: it reads what the child writes on standard error, by at most 1,024 reads of
-/// at most 4,096 bytes, of which the first 65,536 bytes are kept, closes the pipe, and then waits for the child. A read
-/// that a signal interrupts is tried again, up to 1,024 times, and counts once. The end is refused if a read or the wait
-/// fails, and if there is no memory for its record; the child is waited for all the same.
+/// `start` writes the conftest and starts the child with empty standard input; its standard output is dropped. The
+/// start is refused if the job has no word, if a word isn't UTF-8, if the conftest can't be written or the child can't
+/// be started, or if memory for its record runs out.
+///
+/// `next` waits for the oldest child. It reads what the child writes to standard error, with at most 1,024 reads of at
+/// most 4,096 bytes each, and keeps the first 65,536 bytes. A read that a signal interrupts is tried up to 1,024 times,
+/// and counts once. It then closes the pipe and waits for the child. The end is refused if a read or the wait fails, or
+/// if memory for its record runs out. The child is waited for even if a read fails.
 #[derive(Drop)]
 pub struct ProcessCrew<R: Files + Processes + Drop> {
     children: Children<Host<R>>,
@@ -39,6 +41,10 @@ impl<R: Files + Processes + Drop> Model for ProcessCrew<R> {
 
 impl<R: Files + Processes + Drop> ProcessCrew<R> {
     /// Returns a crew that has started nothing.
+    ///
+    /// # Errors
+    ///
+    /// Fails only if memory runs out.
     pub fn new(rt: R, alloc: Global) -> Result<ProcessCrew<R>, AllocError>
         ensures { IfOk result (λ c. c ≡ record { events = []; attempts = 0; failures = 0 }) }
     {

@@ -1,24 +1,28 @@
-//! What a crew says of a job.
+//! The reply of a crew to a job.
 
 ghost use Rattle.std.specs.Prelude.{◌≡◌, IfOk};
 
 use deftable::Bytes;
 use std::alloc::{AllocError, Global};
 
-/// What became of a job that a crew was to start.
+/// The result of a job that was given to a crew.
 #[derive(Debug, Drop)]
 pub enum Reply {
-    /// The child ended. Its status is its exit status, or 256 if a signal ended it; the text is what it wrote on
-    /// standard error, up to a limit.
+    /// The child ended. `status` is its exit status, or 256 if a signal ended it. `text` is what it wrote to standard
+    /// error, up to the limit of the crew.
     Answer { status: u32, text: Bytes },
-    /// The child was not started.
+    /// The child wasn't started.
     StartRefused,
-    /// The child was started, and what it answered is not known.
+    /// The child was started, but nothing is known about what it answered.
     EndRefused,
 }
 
 impl Reply {
-    /// Returns an equal reply in memory of its own. It fails only if memory runs out.
+    /// Returns an equal reply that has its own memory.
+    ///
+    /// # Errors
+    ///
+    /// Fails only if memory runs out.
     pub fn copy(&self, alloc: Global) -> Result<Reply, AllocError>
         ensures { IfOk result (λ reply. reply ≡ self.now) }
     {

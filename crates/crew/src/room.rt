@@ -1,8 +1,8 @@
-//! Lists that have room already.
+//! Lists that have reserved room.
 
 ghost use Rattle.std.specs.Prelude.{◌≡◌, ◌<◌, ◌≤◌, [], ◌∷◌, ◌++◌, length, vec_capacity};
 
-// Puts an item last, in room that is there.
+/// Appends an item to a list that has room for it.
 pub(crate) fn put<T: Drop>(list: &mut Vec<T>, item: T)
     requires { length list.old.items < vec_capacity list.old }
     ensures items { list.new.items ≡ list.old.items ++ item ∷ [] }

@@ -1,4 +1,4 @@
--- What the changes of a stored table are on the entries that it stands for.
+-- What a change of a stored table does to the entries that it represents.
 use Rattle.std.proofs.Common.{◌≡◌, ℕ, zero, suc, List, [], ◌∷◌, true, false, cond, refl, ap, length}
 use Rattle.std.specs.Prelude.{bytes_eq, slice_get, Some, option_map}
 use Rattle.std.specs.Map.{lookup, remove_entry, values_of}

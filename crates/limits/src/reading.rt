@@ -1,12 +1,12 @@
 //! Limits of configure.ac, of its tree of statements, and of the plan that is made of it.
 
 use crate::texts::{named, nested, repeated, source_with};
-use acmacros::Plain;
 use acparse::{ParseFault, Source, Stmt, parse};
 use m4quote::{Item, QuoteFault, read_items, used_text};
 use plan::{PlanFault, compile};
 use std::alloc::{AllocError, Global};
 use std::test::Fail;
+use syntax::Plain;
 
 /// The lines between AC_INIT and AC_OUTPUT of a source that is refused with this fault.
 fn is_refused(alloc: Global, lines: &[u8], fault: ParseFault) -> Result<bool, AllocError> {
@@ -18,7 +18,7 @@ fn is_refused(alloc: Global, lines: &[u8], fault: ParseFault) -> Result<bool, Al
 fn statements(alloc: Global, lines: &[u8]) -> Result<usize, AllocError> {
     let text = source_with(alloc, lines)?;
     match parse(alloc, &text) {
-        Ok(source) => Ok(source.statements.len()),
+        Ok(source) => Ok(source.statements().len()),
         Err(_) => Ok(0),
     }
 }
@@ -95,7 +95,7 @@ fn bytes_of_a_source(rt: HostRuntime) -> Result<(), Fail> {
 fn defined(alloc: Global, count: usize) -> Result<usize, Fail> {
     let lines = repeated(alloc, b"AC_DEFINE([A],[", b"x", count, b"])")?;
     let source = parse(alloc, &source_with(alloc, &lines)?)?;
-    match source.statements.as_slice() {
+    match source.statements() {
         [_, Stmt::Plain(Plain::Define { value, .. }), _] => Ok(value.len()),
         _ => Ok(0),
     }
@@ -117,7 +117,7 @@ fn long_texts(rt: HostRuntime) -> Result<(), Fail> {
 /// How many cases the choice of these lines has.
 fn cases(alloc: Global, lines: &[u8]) -> Result<usize, Fail> {
     let source = parse(alloc, &source_with(alloc, lines)?)?;
-    match source.statements.as_slice() {
+    match source.statements() {
         [_, Stmt::Choose { cases, .. }, _] => Ok(cases.len()),
         _ => Ok(0),
     }
@@ -139,7 +139,7 @@ fn cases_of_one_choice(rt: HostRuntime) -> Result<(), Fail> {
 fn programs(alloc: Global, count: usize) -> Result<usize, Fail> {
     let lines = named(alloc, b"AC_CHECK_PROGS([P],[", b" ", count, b"", b"])")?;
     let source = parse(alloc, &source_with(alloc, &lines)?)?;
-    match source.statements.as_slice() {
+    match source.statements() {
         [_, Stmt::Plain(Plain::CheckProgs { programs, .. }), _] => Ok(programs.as_slice().len()),
         _ => Ok(0),
     }
@@ -170,7 +170,7 @@ fn is_compiled(alloc: Global, count: usize) -> Result<Option<bool>, Fail> {
     let lines = repeated(alloc, b"", b"a=1\n", count, b"")?;
     let source = parse(alloc, &source_with(alloc, &lines)?)?;
     match compile(alloc, &source) {
-        Ok(plan) => Ok(Some(plan.steps().len() == source.statements.len())),
+        Ok(plan) => Ok(Some(plan.steps().len() == source.statements().len())),
         Err(PlanFault::TooLong) => Ok(None),
         Err(fault) => Err(Fail::from(fault)),
     }
@@ -189,11 +189,11 @@ fn weight_of_a_source(rt: HostRuntime) -> Result<(), Fail> {
 /// The lengths of the lists: output variables, precious variables, features, packages, and files.
 fn lengths(source: &Source) -> [usize; 5] {
     [
-        source.substituted.names().len(),
-        source.precious.names().len(),
-        source.features.names().len(),
-        source.packages.names().len(),
-        source.files.len(),
+        source.substituted().names().len(),
+        source.precious().names().len(),
+        source.features().names().len(),
+        source.packages().names().len(),
+        source.files().len(),
     ]
 }
 

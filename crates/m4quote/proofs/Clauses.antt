@@ -1,4 +1,4 @@
--- What an answer that is given by a function says in the words of a relation: for the clauses of the public calls.
+-- The answer of a call that equals the value of a function, in the words of a relation: for the clauses of the public calls.
 use Rattle.std.proofs.Common.{◌≡◌, Result, Ok, Err, refl, subst}
 use Rattle.std.specs.Prelude.{IfOk, IfErr}
 use Rattle.m4quote.specs.declared.fault.QuoteFault.{QuoteFault}
@@ -6,18 +6,18 @@ use Rattle.m4quote.specs.declared.fault.QuoteFault.TheVariants.{OutOfMemory}
 use Rattle.m4quote.specs.Gives.{Gives, Fails}
 
 module _ {X Y : Type 0} (view : X → Y) (r : Result X QuoteFault) (read : Result Y QuoteFault) (given : Gives view r read) where
-  -- what is answered, is so
+  -- what is returned satisfies the relation
   pub found : (Is : Y → Type 0) → ((y : Y) → read ≡ Ok y → Is y) → IfOk r (λ x. Is (view x))
   found Is holds = at r given where
     at : (r : Result X QuoteFault) → Gives view r read → IfOk r (λ x. Is (view x))
     at (Ok x) e = holds (view x) e
     at (Err f) e = tt
 
-  -- what is so, is answered
+  -- what satisfies the relation is returned
   pub only : (y : Y) → read ≡ Ok y → Gives view r (Ok y)
   only y is = subst (Gives view r) is given
 
-  -- a fault that is answered, is the one
+  -- an error that is returned is the one of the relation
   pub fault : (Breaks : QuoteFault → Type 0) → ((f : QuoteFault) → read ≡ Err f → Breaks f) → IfErr r (λ f. (f ≡ OutOfMemory → ⊥) → Breaks f)
   fault Breaks holds = at r given where
     named : (f : QuoteFault) → Fails f read → (f ≡ OutOfMemory → ⊥) → Breaks f
@@ -28,11 +28,11 @@ module _ {X Y : Type 0} (view : X → Y) (r : Result X QuoteFault) (read : Resul
     at (Ok x) e = tt
     at (Err f) e = named f e
 
-  -- the fault, is answered
+  -- the error of the relation is returned
   pub named : (f : QuoteFault) → read ≡ Err f → Gives view r (Err f)
   named f is = subst (Gives view r) is given
 
-  -- of which kind it is, want of memory too
+  -- the kind of the error, including out of memory
   pub kinds : (Kind : QuoteFault → Type 0) → Kind OutOfMemory → ((f : QuoteFault) → read ≡ Err f → Kind f) → IfErr r Kind
   kinds Kind memory holds = at r given where
     kind : (f : QuoteFault) → Fails f read → Kind f

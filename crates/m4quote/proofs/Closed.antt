@@ -1,4 +1,4 @@
--- What is left once the outermost quotes are taken away opens no quote that it does not close.
+-- A text without its outermost quotes closes each quote that it opens.
 use Rattle.std.proofs.Common.{◌≡◌, ◌≢◌, ℕ, suc, ◌+◌, ◌-◌, ◌≤◌, Bool, true, false, cond, eqb, ◌⊎◌, inl, inr, List, [], ◌∷◌, ◌++◌, length, take, drop, Ok, refl, sym, ap, subst, ◌∙◌, append_assoc, arith}
 use Rattle.std.proofs.lemmas.Bool.{eqb-true}
 use Rattle.std.proofs.lemmas.List.{length-append, drop-drop, drop_min}
@@ -66,7 +66,7 @@ whole_line_is text = drop_min (line_len text + 1) text ∙ sym (drop-drop 1 (lin
 
 -- ---- texts that leave no quote open
 
--- Each bracket that opens a quote, but for those in comments, is closed.
+-- Each bracket that opens a quote is closed, except for those in comments.
 data Tame : List ℕ → Type 0 where
   ends : Tame []
   plain : {b : ℕ} {text : List ℕ} → b ≢ 91 → Tame text → Tame (b ∷ text)
@@ -101,7 +101,7 @@ after_line-Tame (plain {b} {text} opens tame) =
 after_line-Tame (run {room} {inside} {text} balanced tame) = line_in balanced (93 ∷ text) (plain (λ e. omega (arith, e)) tame) (after_line-Tame tame)
 after_line-Tame (hash tame) = tame
 
--- ---- what stands after a piece
+-- ---- the text after a piece
 
 tail : {t : List ℕ} → Tame t → (b : ℕ) (bs : List ℕ) → t ≡ b ∷ bs → b ≢ 91 → b ≢ 35 → Tame bs
 tail ends b bs is opens begins = absurd cc
@@ -142,7 +142,7 @@ word_tail (b ∷ bs) tame =
       | inr other ↦ rw other tame
     ]
 
--- where a quote ends
+-- the end of a quote
 end_of : {room : ℕ} {inside : List ℕ} → Balanced room inside → (more : ℕ) (rest : List ℕ) → room ≤ more → closing 0 (suc more) 1 0 (inside ++ 93 ∷ rest) ≡ Ok (length inside + 1)
 end_of {room} {inside} balanced more rest le =
     closing-balanced (Balanced-more balanced more le) 0 (suc more) 1 0 (93 ∷ rest) (omega arith) (omega arith)
@@ -168,7 +168,7 @@ piece_tail (name {room} {text} given) tame = word_tail text tame
 piece_tail (other_word {room} {text} some no_dnl no_name) tame = word_tail text tame
 piece_tail (other_byte {room} {b} {rest} other) tame = tail tame b rest refl other.opens other.hash
 
--- ---- such a text is at fault by a stray closing bracket alone
+-- ---- the only error of such a text is a stray closing bracket
 
 Tame-breaks : {at : ℕ} {text : List ℕ} {f : QuoteFault} → UnquoteBreaks at text f → Tame text → (place : ℕ) × (f ≡ StrayClose place)
 Tame-breaks (stray_close {at}) tame = (at, refl)
@@ -178,7 +178,7 @@ Tame-breaks (unclosed {at} {room} {rest} breaks) tame =
     absurd (passed (sym (ap (λ (t : List ℕ). closing at (suc (room + r.0)) 1 0 t) r.4 ∙ closing-balanced (Balanced-more r.3 (room + r.0) (omega arith)) at (suc (room + r.0)) 1 0 (93 ∷ r.2) (omega arith) (omega arith)) ∙ closing-breaks (open-more breaks at refl (room + r.0) (omega arith)) (suc (room + r.0)) 1 0 (omega arith) (omega arith)))
 Tame-breaks (behind is later) tame = Tame-breaks later (piece_tail is tame)
 
--- ---- and what is left of a text without its outermost quotes is such a text
+-- ---- a text without its outermost quotes is such a text
 
 no_word : (t : List ℕ) → Ends t → word_len t ≡ 0
 no_word [] h = refl
@@ -225,6 +225,6 @@ Unquotes-Tame : {text out : List ℕ} → Unquotes text out → Tame out
 Unquotes-Tame nothing = ends
 Unquotes-Tame (front {out = out} is later) = left_Tame is out (left_Ends later) (Unquotes-Tame later)
 
--- the second reading meets stray closing brackets alone
+-- the only errors of the second removal of quotes are stray closing brackets
 pub second_breaks : {arg once : List ℕ} {at : ℕ} {f : QuoteFault} → Unquotes arg once → UnquoteBreaks at once f → (place : ℕ) × (f ≡ StrayClose place)
 second_breaks first breaks = Tame-breaks breaks (Unquotes-Tame first)

@@ -1,4 +1,4 @@
--- Which faults come.
+-- The errors that can occur.
 use Rattle.std.proofs.Common.{◌≡◌, ℕ, ◌<◌, Bool, List, length, inl, inr, subst, sym, arith}
 use Rattle.m4quote.specs.declared.fault.QuoteFault.{QuoteFault}
 use Rattle.m4quote.specs.declared.fault.QuoteFault.TheVariants.{OutOfMemory}
@@ -7,7 +7,7 @@ use Rattle.m4quote.specs.Used.{Unquotes, nothing, front, UnquoteBreaks, stray_cl
 use Rattle.m4quote.proofs.Insides.{front_fits}
 use Rattle.m4quote.proofs.UsedText.{IsBracketFaultAt, break_place}
 
--- ---- no fault of a text is want of memory
+-- ---- no error of a text is out of memory
 
 quote_no_memory : {at room : ℕ} {text : List ℕ} {f : QuoteFault} → QuoteBreaks at room text f → f ≡ OutOfMemory → ⊥
 quote_no_memory (stays_open balanced) e = cc
@@ -42,7 +42,7 @@ first_fault-no_memory (breaks_before_nul short at_nul broken closed) e = items_n
 first_fault-no_memory (nul short at_nul good) e = cc
 first_fault-no_memory (nul_in_open short at_nul broken opened) e = cc
 
--- ---- taking quotes away: an unclosed quote or a stray bracket, in the text
+-- ---- removing quotes: an unclosed quote or a stray bracket, in the text
 
 bracket_fault : (text : List ℕ) (f : QuoteFault) (p : ℕ) → IsBracketFaultAt p f → p < length text → IsBracketFault text f
 bracket_fault text f p (inl is) within = subst (IsBracketFault text) (sym is) within
@@ -56,7 +56,7 @@ unquote_breaks-no_memory stray_close e = cc
 unquote_breaks-no_memory (unclosed broken) e = cc
 unquote_breaks-no_memory (behind whole later) e = unquote_breaks-no_memory later e
 
--- nothing comes of nothing
+-- nothing remains of the empty text
 some_left : {text out : List ℕ} → Unquotes text out → 0 < length out → 0 < length text
 some_left nothing some = some
 some_left (front whole later) some = let fits = front_fits whole in omega (arith, fits.0, fits.1)

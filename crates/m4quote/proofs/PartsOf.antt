@@ -1,4 +1,4 @@
--- What a text spells is made of its parts.
+-- What a text spells consists of parts of the text.
 use Rattle.std.proofs.Common.{◌≡◌, ℕ, suc, ◌+◌, ◌-◌, ◌≤◌, Bool, true, false, eqb, List, [], ◌∷◌, ◌++◌, length, take, drop, cond, refl, sym, ap, ◌∙◌, arith}
 use Rattle.std.specs.Prelude.{All}
 use Rattle.std.proofs.lemmas.Bool.{eqb-true}
@@ -13,7 +13,7 @@ use Rattle.m4quote.proofs.Insides.{front_fits}
 use Rattle.m4quote.proofs.ArgumentLists.{length_is, arguments_fit}
 
 module _ (base : ℕ) (whole : List ℕ) where
-  -- n bytes of the rest behind k bytes
+  -- n bytes of the rest after k bytes
   part_is : (at k n : ℕ) (text : List ℕ) → at ≡ base + k → text ≡ drop k whole → n ≤ length text → k ≤ length whole → IsPart base whole at (take n text)
   part_is at k n text place rest fits within =
       let len = length-take-le n text fits in
@@ -25,7 +25,7 @@ module _ (base : ℕ) (whole : List ℕ) where
         bytes = rw (len, there) refl;
       }
 
-  -- two parts that touch are one
+  -- two adjacent parts are one
   part_joined : (at to : ℕ) (a b : List ℕ) → to ≡ at + length a → IsPart base whole at a → IsPart base whole to b → IsPart base whole at (a ++ b)
   part_joined at to a b touch first second =
       let there : drop (length a) (drop (at - base) whole) ≡ drop (to - base) whole =
@@ -50,7 +50,7 @@ module _ (base : ℕ) (whole : List ℕ) where
       (All-head (IsItemOf base whole) (bare text to) items later)
       (All-tail (IsItemOf base whole) (bare text to) items later)
 
-  -- the rest behind n bytes of the rest
+  -- the rest after n bytes of the rest
   rest_is : (k n : ℕ) (text : List ℕ) → text ≡ drop k whole → drop n text ≡ drop (k + n) whole
   rest_is k n text rest = ap (drop n) rest ∙ drop-drop n k whole
 

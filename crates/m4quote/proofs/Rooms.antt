@@ -1,4 +1,4 @@
--- Room for as many brackets as there are bytes is room enough.
+-- A limit of as many brackets as there are bytes is never reached.
 use Rattle.std.proofs.Common.{◌≡◌, ℕ, zero, suc, ◌+◌, ◌<◌, ◌≤◌, ◌⊎◌, inl, inr, List, ◌∷◌, ◌++◌, length, refl, subst, arith}
 use Rattle.std.proofs.lemmas.List.{length-append}
 use Rattle.m4quote.specs.declared.fault.QuoteFault.{QuoteFault}
@@ -62,7 +62,7 @@ quote_kind (in_quotes {at} {room} {inside} {rest} {f} balanced later) =
       | inr less ↦ inr (omega (arith, less, length-append inside (91 ∷ rest)))
     ]
 
--- with so much room a front breaks by a stray bracket or an open quote
+-- with this limit, the error of a front is a stray bracket or an open quote
 pub front-unquote : {at room : ℕ} {text : List ℕ} {f : QuoteFault} → FrontBreaks at room text f → room ≡ length text → UnquoteBreaks at text f
 front-unquote stray e = stray_close
 front-unquote (no_room {at} {rest}) e = absurd (omega (arith, e))

@@ -1,4 +1,4 @@
-//! What holds of the definitions themselves. The functions do nothing; their contracts are the laws.
+//! Laws of the definitions. The functions do nothing; their contracts are the laws.
 
 ghost use Rattle.std.specs.Prelude.{◌≡◌, ◌≢◌, ◌⊎◌, ◌↔◌, ℕ, List, Ok, Err};
 ghost use Rattle.m4quote.specs.declared.fault.QuoteFault.{QuoteFault};
@@ -10,19 +10,19 @@ ghost use Rattle.m4quote.specs.Faults.{IsFirstFault, IsBracketFault};
 ghost use Rattle.m4quote.specs.Used.{IsUsed, UseBreaks, Unquotes, IsBareValue, UnquoteBreaks};
 ghost use Rattle.m4quote.specs.Scan.{outcome, used, bare_value_of};
 
-/// A text spells at most one list of items, has at most one first fault, and never both.
+/// States that a text spells at most one list of items, has at most one first fault, and never both.
 pub fn one_reading()
     ensures one_list { (at : ℕ) (text : List ℕ) (a b : List Entry) → IsSpelling at text a → IsSpelling at text b → a ≡ b }
     ensures one_fault { (at : ℕ) (text : List ℕ) (f g : QuoteFault) → IsFirstFault at text f → IsFirstFault at text g → f ≡ g }
     ensures never_both { (at : ℕ) (text : List ℕ) (items : List Entry) (f : QuoteFault) → IsSpelling at text items → IsFirstFault at text f → ⊥ }
 {}
 
-/// Each text spells a list or has a first fault.
+/// States that each text spells a list of items or has a first fault.
 pub fn some_reading()
     ensures { (at : ℕ) (text : List ℕ) → ((items : List Entry) × IsSpelling at text items) ⊎ ((f : QuoteFault) × IsFirstFault at text f) }
 {}
 
-/// The items and faults of a text, as a function and as the relations that say what they are.
+/// States that the function `outcome` agrees with the relations for the items and the first fault of a text.
 pub fn reading_laws()
     ensures items { (at : ℕ) (text : List ℕ) (items : List Entry) → (outcome at text ≡ Ok items) ↔ IsSpelling at text items }
     ensures fault { (at : ℕ) (text : List ℕ) (f : QuoteFault) → (outcome at text ≡ Err f) ↔ IsFirstFault at text f }
@@ -30,17 +30,17 @@ pub fn reading_laws()
     ensures no_memory { (at : ℕ) (text : List ℕ) (f : QuoteFault) → IsFirstFault at text f → f ≢ OutOfMemory }
 {}
 
-/// The used text of an argument, as a function and as the relations that say what it is.
+/// States that the function `used` agrees with the relations for the used text of an argument.
 pub fn used_laws()
     ensures text { (arg out : List ℕ) → (used arg ≡ Ok out) ↔ IsUsed arg out }
     ensures fault { (arg : List ℕ) (f : QuoteFault) → (used arg ≡ Err f) ↔ UseBreaks arg f }
     ensures kinds { (arg : List ℕ) (f : QuoteFault) → UseBreaks arg f → IsBracketFault arg f }
-    // The text without its outermost quotes leaves no quote unclosed.
+    // A text without its outermost quotes has no unclosed quote.
     ensures closed { (arg once : List ℕ) (at place : ℕ) → Unquotes arg once → UnquoteBreaks at once (UnclosedQuote place) → ⊥ }
     ensures no_memory { (arg : List ℕ) (f : QuoteFault) → UseBreaks arg f → f ≢ OutOfMemory }
 {}
 
-/// The value of bare text, as a function and as the relations that say what it is.
+/// States that the function `bare_value_of` agrees with the relations for the value of bare text.
 pub fn bare_value_laws()
     ensures value { (text out : List ℕ) → (bare_value_of text ≡ Ok out) ↔ IsBareValue text out }
     ensures fault { (text : List ℕ) (f : QuoteFault) → (bare_value_of text ≡ Err f) ↔ UnquoteBreaks 0 text f }

@@ -20,7 +20,7 @@ use Rattle.machine.specs.Moves.{arrived, turn_by}
 use Rattle.machine.specs.Standing.{Standing, with_phase, run_left, left_in, CutsAt, Refusals, asks_in, asks_left, Holds, Turned}
 use Rattle.machine.specs.Waits.{given, first_refused, resumed, waits_for}
 
--- one step at a place
+-- One step, at an offset.
 walk_at : (steps : List Step) (k : ℕ) (s : Step) (c : Scope) (st : State) → k < length steps → s ≡ get_or steps k s
     → walk (map shown steps) k c st ≡ act (shown s) (λ n. walk (map shown steps) (k + 1 + n)) c st
 walk_at [] k s c st lt is = absurd (omega arith)
@@ -31,19 +31,19 @@ walk_at (x ∷ xs) (suc k) s c st lt is =
     walk_at xs k s c st (omega arith) is
     ∙ ap (λ f. act (shown s) f c st) (fun_ext (λ n. let h : suc (k + 1 + n) ≡ suc k + 1 + n = omega arith in ap (walk (map shown (x ∷ xs))) h))
 
--- past the last step
+-- Past the last step.
 walk_past : (steps : List Step) (k : ℕ) (c : Scope) (st : State) → length steps ≤ k → walk (map shown steps) k c st ≡ Ends Goes_on st
 walk_past [] k c st le = refl
 walk_past (x ∷ xs) zero c st le = absurd (omega arith)
 walk_past (x ∷ xs) (suc k) c st le = walk_past xs k c st (omega arith)
 
--- a jump from a place stays inside
+-- A jump from an offset stays inside.
 pub reach_at : (steps : List Step) (k : ℕ) (s : Step) → StaysInside (map shown steps) → k < length steps → s ≡ get_or steps k s → k + 1 + reach (shown s) ≤ length steps
 reach_at [] k s h lt is = absurd (omega arith)
 reach_at (x ∷ xs) zero s h lt is = omega (arith, h.0, ap (λ y. reach (shown y)) is, length-map xs shown)
 reach_at (x ∷ xs) (suc k) s h lt is = omega (arith, reach_at xs k s h.1 (omega arith) is)
 
--- what a step may ask, and those behind it
+-- The jobs of a step, and of those after it.
 asks_here : (steps : List Step) (k : ℕ) (s : Step) → k < length steps → s ≡ get_or steps k s → asks_after (map shown steps) k ≡ asks_of (shown s) + asks_after (map shown steps) (k + 1)
 asks_here [] k s lt is = absurd (omega arith)
 asks_here (x ∷ xs) zero s lt is = ap (λ y. asks_of (shown y) + asks_after (map shown xs) 0) (sym is)
@@ -56,13 +56,13 @@ asks_from [] n = omega arith
 asks_from (i ∷ rest) zero = omega arith
 asks_from (i ∷ rest) (suc n) = omega (arith, asks_from rest n)
 
--- passing steps leaves no more jobs
+-- Steps that are passed leave no more jobs.
 asks_on : (plan : List Instruction) (k n : ℕ) → asks_after plan (k + n) ≤ asks_after plan k
 asks_on [] k n = omega arith
 asks_on (i ∷ rest) zero n = let e : 0 + n ≡ n = omega arith in subst (λ m. asks_after (i ∷ rest) m ≤ asks_after (i ∷ rest) 0) (sym e) (asks_from (i ∷ rest) n)
 asks_on (i ∷ rest) (suc k) n = let e : suc k + n ≡ suc (k + n) = omega arith in subst (λ m. asks_after (i ∷ rest) m ≤ asks_after rest k) (sym e) (asks_on rest k n)
 
--- where a flow is no turn, steps are passed
+-- If a flow is no turn, steps are passed.
 arrived_pass : (f : Flow) (m : Standing) → turn_by f ≡ None → arrived f m ≡ record m { place = m.place + (1 + passed f) }
 arrived_pass (flow.Pass more) m e = refl
 arrived_pass (flow.Ask job wait) m e = cc
@@ -78,7 +78,7 @@ leads_pass flow.Complete run c st e h next = cc
 leads_pass (flow.Stop status) run c st e h next = cc
 leads_pass (flow.Cut number) run c st e h next = cc
 
--- nothing is refused where nothing was asked
+-- Nothing is refused if nothing was asked for.
 heeds_none : (f : Flow) (replies : List Reply) (before : ℕ) → first_refused replies ≡ None → Heeds f [] 0 → Heeds f replies before
 heeds_none (flow.Pass more) replies before none h = none
 heeds_none (flow.Ask job wait) replies before none h = none
@@ -90,7 +90,7 @@ no_refusal : (replies : List (Option Reply)) → length replies ≡ 0 → first_
 no_refusal [] e = refl
 no_refusal (r ∷ rs) e = absurd (omega arith)
 
--- how a machine moves that has done a step, or heard replies
+-- The move of a machine that has done a step, or taken replies.
 pub record Moves (plan : List Instruction) (f : Flow) (old m : Standing) (run : (ℕ → Scope → State → Run) → Run) : Type 0 where
   pub leads : Leads f run m.scope m.state
   pub place : m.place + 1 ≤ length plan
@@ -103,7 +103,7 @@ pub record Moves (plan : List Instruction) (f : Flow) (old m : Standing) (run : 
   pub counted : old.before + (length old.jobs + asks_left plan old) ≤ asks_after plan 0
   pub cuts : (number : ℕ) → ((k : ℕ) × (first_refused (given old.replies) ≡ Some k) × (number ≡ old.before + k)) → CutsAt old.phase number old
 
--- a turn
+-- A turn.
 lands_by : (plan : List Instruction) (f : Flow) (t : Turn) (old m : Standing) (run : (ℕ → Scope → State → Run) → Run) → turn_by f ≡ Some t → Moves plan f old m run → Turned plan t old (arrived f m)
 lands_by plan (flow.Pass more) t old m run e h = cc
 lands_by plan (flow.Ask job wait) t old m run e h =
@@ -170,7 +170,7 @@ pub record Comes (plan : List Instruction) (first now : Standing) : Type 0 where
   pub inside : now.place ≤ length plan
   pub ahead : asks_after plan now.place ≤ asks_after plan first.place
 
--- a step has been done
+-- A step has been done.
 pub stepped : (steps : List Step) (s : Step) (f : Flow) (first now m : Standing) → now.place < length steps → s ≡ get_or steps now.place s
     → Holds 0 (map shown steps) (with_phase phase.Going first) → Comes (map shown steps) first now
     → m ≡ record now { phase = phase.Failed; scope = m.scope; state = m.state }
@@ -194,7 +194,7 @@ stepped steps s f first now m lt is holds h moved asks heeds leads =
       cuts = λ number c. c;
     }
 
--- and is passed
+-- The step is passed.
 pub passes_on : (steps : List Step) (s : Step) (f : Flow) (first now m new : Standing) → now.place < length steps → s ≡ get_or steps now.place s
     → Comes (map shown steps) first now
     → m ≡ record now { phase = phase.Failed; scope = m.scope; state = m.state }
@@ -220,7 +220,7 @@ passes_on steps s f first now m new lt is h moved within inside leads none arriv
       ahead = omega (arith, ap (λ x. asks_after plan x.place) e, ap (asks_after plan) m_place, asks_on plan now.place (1 + passed f), h.ahead);
     }
 
--- behind the last step
+-- After the last step.
 pub past : (steps : List Step) (first now new : Standing) → length steps ≤ now.place → Holds 0 (map shown steps) (with_phase phase.Going first) → Comes (map shown steps) first now
     → new ≡ with_phase phase.Past now → Turned (map shown steps) turn.Done (with_phase phase.Going first) new
 past steps first now new le holds h is =
@@ -235,7 +235,7 @@ past steps first now new le holds h is =
       ahead = omega (arith, ap length h.jobs);
     })
 
--- the replies have been heard
+-- The replies have been taken.
 pub told_all : (plan : List Instruction) (f : Flow) (old m : Standing) → old.phase ≡ phase.Asking → Holds 1 plan old
     → m ≡ record old { phase = phase.Failed; scope = m.scope; state = m.state; wait = waits.Nothing; before = old.before + 1; jobs = []; replies = [] }
     → asks_now f ≤ waits_for old.wait → Heeds f (given old.replies) old.before
@@ -271,7 +271,7 @@ none_heard flow.Complete replies before e h = cc
 none_heard (flow.Stop status) replies before e h = cc
 none_heard (flow.Cut number) replies before e h = cc
 
--- the replies have been heard, and the machine stands before the next step
+-- The replies have been taken, and the machine is before the next step.
 pub record Onward (plan : List Instruction) (old mid : Standing) : Type 0 where
   pub none : first_refused (given old.replies) ≡ None
   pub same : walk plan mid.place mid.scope mid.state ≡ run_left plan old

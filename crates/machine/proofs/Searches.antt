@@ -1,4 +1,4 @@
--- The folders of a path.
+-- The directories of a path.
 use Rattle.std.proofs.Common.{◌≡◌, ℕ, zero, suc, ◌+◌, ◌-◌, ◌≤◌, ◌==◌, Bool, true, false, cond, List, [], ◌∷◌, length, map, take, get_or, Bor, Option, None, Result, Ok, Err, IfOk, refl, sym, ap, ◌∙◌, subst, arith}
 use Rattle.std.specs.Prelude.{codes, not, ◌||◌, option_map}
 use Rattle.std.proofs.lemmas.List.{length-map, take-map}
@@ -7,8 +7,8 @@ use Rattle.textcut.specs.Cuts.{parts}
 use Rattle.deftable.specs.Table.{value_of}
 use Rattle.shellword.specs.declared.part.Part.{Part}
 use Rattle.shellword.specs.Value.{word_value}
-use Rattle.acmacros.specs.declared.statement.Plain as plain
-use Rattle.acmacros.specs.declared.statement.Plain.TheVariants.{CheckProg, PathProg}
+use Rattle.syntax.specs.declared.statement.Plain as plain
+use Rattle.syntax.specs.declared.statement.Plain.TheVariants.{CheckProg, PathProg}
 use Rattle.meaning.specs.State.{State, Scope, Run, Ends, Goes_on, then_run}
 use Rattle.meaning.specs.Meaning.{effect, check_prog, path_prog, has_value, is_full_name, looks}
 use Rattle.plan.specs.Walk.{own_effect}
@@ -16,7 +16,7 @@ use Rattle.machine.specs.declared.flow.Flow.{Flow}
 use Rattle.machine.specs.Flows.{Leads, asks_now}
 use Rattle.meaning.specs.Search.{Search, ends_empty, without_last_empty, folder_of, folders_of, value_or_empty, searched, looked_up, cached_search, program_test}
 
--- the last part
+-- The last part.
 pub last_at : (xs : List (Bor (List ℕ))) (d : Bor (List ℕ)) (i : ℕ) → i + 1 ≡ length xs → (length (get_or xs i d).now == 0) ≡ ends_empty (map (λ part. part.now) xs)
 last_at [] d i e = absurd (omega arith)
 last_at (x ∷ []) d zero e = refl
@@ -49,7 +49,7 @@ few_folders path =
     let l = without_last_empty (parts 58 path) in
     subst (λ k. k ≤ 65536) (sym (length-map (take 65536 l) folder_of)) (take_few 65536 l)
 
--- a search that is not cached
+-- A search that is not cached.
 pub not_cached : (s : Search) (own : Bool) (st : State) → value_of st.vars s.name ≡ None → own ≡ false
     → searched s (folders_of (value_or_empty st (codes "PATH"))) st ≡ program_test s own st
 not_cached s own st none is = sym (ap (λ b. looked_up s b st) is) ∙ sym (ap (λ v. cached_search v s own st) none)
@@ -60,7 +60,7 @@ looks_test variable program always own wanted st is has yes_wanted =
     let e : (always || not (has_value st variable)) ≡ true = ap (λ b. always || not b) (sym has) ∙ sym is ∙ yes_wanted in
     sym (ap (λ b. cond b (program_test (check_prog variable program program None) (has_value st variable) st) (Ends Goes_on st)) e)
 
--- a flow that leads on a run leads on an equal one
+-- A flow that continues a run continues an equal one.
 pub led : (f : Flow) (about : Scope) (st : State) (run run' : Run) → run ≡ run' → Leads f (λ next. then_run run (next 0 about)) about st → Leads f (λ next. then_run run' (next 0 about)) about st
 led f about st run run' e h = subst (λ r. Leads f (λ next. then_run r (next 0 about)) about st) e h
 
@@ -68,14 +68,14 @@ pub few_ok : (r : Result Flow AllocError) (n m : ℕ) → n ≤ m → IfOk r (λ
 few_ok (Ok f) n m le h = omega (arith, le, h)
 few_ok (Err e) n m le h = h
 
--- a folder is tried, and the others are left
+-- A directory is tried, and the others are left.
 pub asked_in : (r : Result Flow AllocError) (s : Search) (folder : List ℕ) (rest left : List (List ℕ)) (st : State) → left ≡ folder ∷ rest
     → IfOk r (λ f. (about : Scope) (now : State) → Leads f (λ next. then_run (searched s (folder ∷ rest) now) (next 0 about)) about now)
     → IfOk r (λ f. (about : Scope) → Leads f (λ next. then_run (searched s left st) (next 0 about)) about st)
 asked_in (Ok f) s folder rest left st e h = λ about. led f about st _ _ (ap (λ l. searched s l st) (sym e)) (h about st)
 asked_in (Err x) s folder rest left st e h = h
 
--- what holds for every choice holds for this one
+-- What holds for every choice holds for this one.
 pub for_scope : (r : Result Flow AllocError) (run : Scope → (ℕ → Scope → State → Run) → Run) (about : Scope) (st : State) → IfOk r (λ f. (a : Scope) → Leads f (run a) a st) → IfOk r (λ f. Leads f (run about) about st)
 for_scope (Ok f) run about st h = h about
 for_scope (Err x) run about st h = h

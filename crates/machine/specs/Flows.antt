@@ -1,4 +1,4 @@
--- Where a step leads, or the replies to what it asked.
+-- What follows a step, or the replies that it waited for.
 use Rattle.std.specs.Prelude.{◌≡◌, ℕ, ◌+◌, List, ◌∷◌, [], Some, None}
 use Rattle.crew.specs.declared.reply.Reply.{Reply}
 use Rattle.meaning.specs.State.{State, Scope, Completed, Stopped, Cut, Run, Ends, Asks}
@@ -6,7 +6,7 @@ use Rattle.machine.specs.declared.flow.Flow.{Flow}
 use Rattle.machine.specs.declared.flow.Flow.TheVariants as flow
 use Rattle.machine.specs.Waits.{first_refused, resumed, waits_for}
 
--- A run of a step, by what follows it, leads there with this choice and state.
+-- A run of a step, as a function of what follows it, continues as the flow says, with this subject and state. (own)
 abbrev pub Leads : Flow → ((ℕ → Scope → State → Run) → Run) → Scope → State → Type 0
 Leads (flow.Pass more) run scope st = (next : ℕ → Scope → State → Run) → run next ≡ next more scope st
 Leads (flow.Ask job wait) run scope st = (next : ℕ → Scope → State → Run) → run next ≡ Asks (job ∷ []) (λ replies. resumed wait replies (next 0) scope st)
@@ -14,7 +14,7 @@ Leads flow.Complete run scope st = (next : ℕ → Scope → State → Run) → 
 Leads (flow.Stop status) run scope st = (next : ℕ → Scope → State → Run) → run next ≡ Ends (Stopped status) st
 Leads (flow.Cut number) run scope st = (next : ℕ → Scope → State → Run) → run next ≡ Ends Cut st
 
--- how many steps are passed beside the step
+-- How many steps are passed beside the step. (own)
 abbrev pub passed : Flow → ℕ
 passed (flow.Pass more) = more
 passed (flow.Ask job wait) = 0
@@ -22,7 +22,7 @@ passed flow.Complete = 0
 passed (flow.Stop status) = 0
 passed (flow.Cut number) = 0
 
--- how many jobs may be asked until the step is left
+-- How many jobs may be asked for until the step is left. (own)
 abbrev pub asks_now : Flow → ℕ
 asks_now (flow.Pass more) = 0
 asks_now (flow.Ask job wait) = 1 + waits_for wait
@@ -30,8 +30,8 @@ asks_now flow.Complete = 0
 asks_now (flow.Stop status) = 0
 asks_now (flow.Cut number) = 0
 
--- A run is cut where a reply is refused, and nowhere else; the number is that of the first refused child of the run, of
--- which so many were asked before these replies.
+-- A run is cut short exactly if a reply is refused; the number is that of the first refused child of the run, in which
+-- n were asked for before these replies. (own)
 abbrev pub Heeds : Flow → List Reply → ℕ → Type 0
 Heeds (flow.Cut number) replies before = (k : ℕ) × (first_refused replies ≡ Some k) × (number ≡ before + k)
 Heeds (flow.Pass more) replies before = first_refused replies ≡ None

@@ -1,4 +1,4 @@
--- How a machine moves on.
+-- The moves of a machine.
 use Rattle.std.specs.Prelude.{◌+◌, [], ◌∷◌, Option, Some, None}
 use Rattle.machine.specs.declared.flow.Flow.{Flow}
 use Rattle.machine.specs.declared.flow.Flow.TheVariants as flow
@@ -7,7 +7,7 @@ use Rattle.machine.specs.declared.machine.Turn.{Turn}
 use Rattle.machine.specs.declared.machine.Turn.TheVariants as turn
 use Rattle.machine.specs.Standing.{Standing}
 
--- the machine goes where a step leads
+-- The machine after it goes to what follows a step. (own)
 abbrev pub arrived : Flow → Standing → Standing
 arrived (flow.Pass more) m = record m { place = m.place + (1 + more) }
 arrived (flow.Ask job wait) m = record m { phase = phase.Asking; wait = wait; jobs = job ∷ []; replies = None ∷ [] }
@@ -15,7 +15,7 @@ arrived flow.Complete m = record m { phase = phase.Completed }
 arrived (flow.Stop status) m = record m { phase = phase.Stopped status }
 arrived (flow.Cut number) m = record m { phase = phase.Cut number }
 
--- the turn that it is then, unless there are steps to do
+-- The turn of the machine, unless the next step can be done. (own)
 abbrev pub turn_by : Flow → Option Turn
 turn_by (flow.Pass more) = None
 turn_by (flow.Ask job wait) = Some turn.Ask

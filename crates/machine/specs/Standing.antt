@@ -1,4 +1,4 @@
--- Where a machine stands in a plan.
+-- The position of a machine in a plan.
 use Rattle.std.specs.Prelude.{◌≡◌, ℕ, ◌+◌, ◌≤◌, List, [], length, replicate, Option, Some, None}
 use Rattle.conftest.specs.declared.job.Job.{Job}
 use Rattle.crew.specs.declared.reply.Reply.{Reply}
@@ -14,8 +14,8 @@ use Rattle.machine.specs.declared.machine.Outcome.TheVariants as outcome
 use Rattle.machine.specs.declared.wait.Wait.{Wait}
 use Rattle.machine.specs.Waits.{given, first_refused, resumed, waits_for}
 
--- A machine, as contracts see it: its place is the number of steps behind it. Where it asks, `jobs` are asked, after
--- `before` others, and `replies` has a place for each reply.
+-- A machine, as contracts see it: its place is the number of steps that are passed; while it asks, `jobs` are asked
+-- for, after `before` others, and `replies` has room for the reply to each. (own)
 pub record Standing : Type 0 where
   pub phase : Phase
   pub place : ℕ
@@ -26,11 +26,12 @@ pub record Standing : Type 0 where
   pub jobs : List Job
   pub replies : List (Option Reply)
 
+-- The machine in another phase. (own)
 abbrev pub with_phase : Phase → Standing → Standing
 with_phase p m = record m { phase = p }
 
--- The run at which a machine stands: the walk from its place on, or its end, or the jobs that it asks and what their
--- replies lead to. Once memory ran out, nothing is meant by it.
+-- The run that remains for a machine: the walk from its place on, or its end, or the jobs that it asks for and what
+-- follows their replies; once memory ran out, it has no meaning. (own)
 abbrev pub run_in : Phase → List Instruction → Standing → Run
 run_in phase.Going plan m = walk plan m.place m.scope m.state
 run_in phase.Asking plan m = Asks m.jobs (λ replies. resumed m.wait replies (walk plan (m.place + 1)) m.scope m.state)
@@ -40,19 +41,21 @@ run_in (phase.Stopped status) plan m = Ends (Stopped status) m.state
 run_in (phase.Cut number) plan m = Ends Cut m.state
 run_in phase.Failed plan m = walk plan m.place m.scope m.state
 
+-- The run that remains for a machine, in its own phase. (own)
 abbrev pub run_at : List Instruction → Standing → Run
 run_at plan m = run_in m.phase plan m
 
--- the run that is left once the replies given are taken
+-- The run that remains once the given replies are taken. (own)
 abbrev pub left_in : Phase → List Instruction → Standing → Run
 left_in phase.Asking plan m = resumed m.wait (given m.replies) (walk plan (m.place + 1)) m.scope m.state
 left_in p plan m = run_in p plan m
 
+-- The same, in the machine's own phase. (own)
 abbrev pub run_left : List Instruction → Standing → Run
 run_left plan m = left_in m.phase plan m
 
--- The turn that shows a run: jobs that are asked, or the end that is reached. A plan that is walked to behind its last
--- step is done, as one that is completed.
+-- The turn reports this run: the jobs that it asks for, or the end that it has reached; a plan is done after its last
+-- step, as one that is completed is. (own)
 abbrev pub Shows : Turn → Run → Standing → Type 0
 Shows turn.Ask (Asks jobs next) m = (m.phase ≡ phase.Asking) × (m.jobs ≡ jobs)
 Shows turn.Done (Ends Goes_on st) m = (m.phase ≡ phase.Past) × (m.jobs ≡ []) × (m.state ≡ st)
@@ -61,44 +64,46 @@ Shows (turn.Stopped s) (Ends (Stopped status) st) m = (m.phase ≡ phase.Stopped
 Shows (turn.Cut number) (Ends Cut st) m = (m.phase ≡ phase.Cut number) × (m.jobs ≡ []) × (m.state ≡ st)
 Shows t run m = ⊥
 
--- a cut shows the number of the first refused child of the run
+-- A cut reports the number of the first refused child of the run. (own)
 abbrev pub CutsAt : Phase → ℕ → Standing → Type 0
 CutsAt (phase.Cut k) number m = number ≡ k
 CutsAt p number m = (k : ℕ) × (first_refused (given m.replies) ≡ Some k) × (number ≡ m.before + k)
 
--- A turn is a cut where a reply is refused, and nowhere else.
+-- A turn is a cut exactly if a reply is refused. (own)
 abbrev pub Refusals : Turn → Standing → Type 0
 Refusals (turn.Cut number) m = CutsAt m.phase number m
 Refusals turn.Ask m = first_refused (given m.replies) ≡ None
 Refusals turn.Done m = first_refused (given m.replies) ≡ None
 Refusals (turn.Stopped status) m = first_refused (given m.replies) ≡ None
 
--- how many jobs may be asked after those that are asked now
+-- How many jobs may be asked for after those of now. (own)
 abbrev pub asks_in : Phase → List Instruction → Standing → ℕ
 asks_in phase.Going plan m = asks_after plan m.place
 asks_in phase.Asking plan m = waits_for m.wait + asks_after plan (m.place + 1)
 asks_in p plan m = 0
 
+-- The same, in the machine's own phase. (own)
 abbrev pub asks_left : List Instruction → Standing → ℕ
 asks_left plan m = asks_in m.phase plan m
 
--- so many jobs are asked, with a place for each reply, the place is one of the plan's, and all jobs of the run are jobs of
--- the plan
+-- Exactly count jobs are asked for, with room for the reply to each; the place is in the plan, and all jobs of the run
+-- are jobs of the plan. (own)
 pub record Holds (count : ℕ) (plan : List Instruction) (m : Standing) : Type 0 where
   pub jobs : length m.jobs ≡ count
   pub replies : length m.replies ≡ count
   pub place : m.place + count ≤ length plan
   pub counted : m.before + (length m.jobs + asks_left plan m) ≤ asks_after plan 0
 
--- a machine that was last moved over this plan
+-- The machine was last advanced over this plan. (own)
 abbrev pub fits_in : Phase → List Instruction → Standing → Type 0
 fits_in phase.Asking plan m = Holds 1 plan m
 fits_in p plan m = Holds 0 plan m
 
+-- The same, in the machine's own phase. (own)
 abbrev pub Fits : List Instruction → Standing → Type 0
 Fits plan m = fits_in m.phase plan m
 
--- the outcome of a run, where the machine is at its end
+-- The outcome of the run, if the machine is at its end. (own)
 abbrev pub outcome_of : Phase → Option Outcome
 outcome_of phase.Past = Some outcome.Completed
 outcome_of phase.Completed = Some outcome.Completed
@@ -106,21 +111,21 @@ outcome_of (phase.Stopped status) = Some (outcome.Stopped status)
 outcome_of (phase.Cut number) = Some (outcome.CutShort number)
 outcome_of p = None
 
--- the outcome that a turn shows, unless it asks
+-- The outcome that a turn reports, unless it asks for jobs. (own)
 abbrev pub outcome_by : Turn → Option Outcome
 outcome_by turn.Ask = None
 outcome_by turn.Done = Some outcome.Completed
 outcome_by (turn.Stopped status) = Some (outcome.Stopped status)
 outcome_by (turn.Cut number) = Some (outcome.CutShort number)
 
--- A turn of a machine over a plan.
+-- A turn of a machine over a plan. (own)
 pub record Turned (plan : List Instruction) (turn : Turn) (old new : Standing) : Type 0 where
-  -- it stands at the run that was left, and the turn shows that run
+  -- the run that remains is the one that was left, and the turn reports it
   pub same : run_at plan new ≡ run_left plan old
   pub shows : Shows turn (run_at plan new) new
   pub outcome : outcome_of new.phase ≡ outcome_by turn
   pub refusals : Refusals turn old
-  -- the jobs asked before count, none of those asked now has a reply, and each was counted among those that were left
+  -- the jobs before count, none of those of now has a reply, and each was counted among those that were left
   pub before : new.before ≡ old.before + length old.jobs
   pub fresh : new.replies ≡ replicate (length new.jobs) None
   pub fits : Fits plan new

@@ -1,19 +1,19 @@
-//! Where a step leads.
+//! What follows a step.
 
 use crate::wait::Wait;
 use conftest::Job;
 
-/// Where a step leads, or the replies to what it asked.
+/// What follows a step, or the replies that it waited for.
 #[derive(Debug, Drop)]
 pub(crate) enum Flow {
-    /// To the step behind it, or so many further.
+    /// The next step, or the one that is `more` steps further.
     Pass { more: usize },
-    /// To a job that is asked.
+    /// A job is asked for.
     Ask { job: Job, wait: Wait },
-    /// To the end of the run, completed.
+    /// The run ends, and is completed.
     Complete,
-    /// To the end of the run, stopped with an exit status.
+    /// The run ends, and is stopped with an exit status.
     Stop { status: u8 },
-    /// To the end of the run, cut short at the child of this number.
+    /// The run ends, and is cut short at the child of this number.
     Cut { number: u64 },
 }

@@ -1,4 +1,4 @@
-//! A machine that walks a plan, from its first step to an end, and stops where jobs are asked.
+//! A machine that walks a plan, from its first step to an end, and stops whenever it asks for jobs.
 //!
 //! ```text
 //! let mut machine = Machine::new(alloc, &plan, vars);
@@ -13,13 +13,15 @@
 //! let end = machine.end();                // the outcome, the variables and the definitions
 //! ```
 //!
-//! Read `specs/Standing` (where a machine stands, at which run, and what a turn of it is), then `machine`, then `specs/Waits`
-//! and `specs/Flows` (what it waits for, and where a step leads) with `stepping` (one step, and what its replies lead to)
-//! and `search` (programs that are looked for). `store` holds the variables and the definitions, `scope` what the choice
-//! begun last is about; `package` and `literal` do what AC_INIT does.
+//! Read `specs/Standing` (the position of a machine in a plan, the run that remains from there, and a turn), then
+//! `machine`. Then read `specs/Waits` and `specs/Flows` (what a machine waits for, and what follows a step) with
+//! `stepping` (one step, and what follows its replies) and `search` (programs that are looked for). `store` holds the
+//! variables and the definitions, `scope` the subject of the choice that began last; `package` and `literal` are for
+//! AC_INIT.
 //!
-//! A machine stands at one run from its beginning to its end: that of the plan's walk, with the variables that it was
-//! given and no definitions. Each group of replies takes it to the run that follows them.
+//! The theorem is about one run: the plan's walk, with the variables that the machine was given and no definitions. At
+//! each turn, the run that remains is what the walk leaves to do, and each group of replies leads to the run that
+//! follows them.
 #![tactic(auto)]
 
 mod flow;

@@ -1,11 +1,11 @@
-//! String literals of C.
+//! String literals of C (ISO C, "String literals").
 
 ghost use Rattle.std.specs.Prelude.{◌≡◌, ◌++◌, OnOk, IfOk};
 ghost use Rattle.meaning.specs.Package as packages;
 
 use std::alloc::{AllocError, Global};
 
-/// Adds a byte within a string literal of C.
+/// Appends a byte of a string literal.
 fn put_escaped(out: &mut Vec<u8>, byte: u8) -> Result<(), AllocError>
     ensures { OnOk result (out.new.items ≡ out.old.items ++ packages.escaped_byte byte) }
 {
@@ -16,7 +16,7 @@ fn put_escaped(out: &mut Vec<u8>, byte: u8) -> Result<(), AllocError>
     Ok(())
 }
 
-/// A text within a string literal of C.
+/// Returns a text as it is written within a string literal.
 fn escaped(alloc: Global, text: &[u8]) -> Result<Vec<u8>, AllocError>
     ensures { IfOk result (λ v. v.items ≡ packages.escaped text.now) }
 {
@@ -27,7 +27,7 @@ fn escaped(alloc: Global, text: &[u8]) -> Result<Vec<u8>, AllocError>
     Ok(out)
 }
 
-/// A string literal of C: a backslash stands before each quote and each backslash.
+/// Returns a string literal, with a backslash before each quote and each backslash.
 pub(crate) fn literal(alloc: Global, text: &[u8]) -> Result<Vec<u8>, AllocError>
     ensures { IfOk result (λ v. v.items ≡ packages.literal text.now) }
 {

@@ -1,4 +1,4 @@
-//! The machine.
+//! The machine and its turns.
 
 ghost use Rattle.std.specs.Prelude.{◌≡◌, ◌+◌, ◌<◌, ◌≤◌, ◌^◌, List, [], ◌∷◌, Some, None, unwrap_or, IfOk, IsOk, IsErr, OnOk, OnErr, IsSome, IfSome, length, map, replicate, slice_get, slice_set};
 ghost use Rattle.crew.specs.declared.reply.Reply.TheVariants.{StartRefused};
@@ -24,24 +24,25 @@ use std::alloc::{AllocError, Global};
 use std::marker::Model;
 use std::mem;
 
-/// What comes next.
+/// What the caller does next.
 #[derive(Clone, Copy, PartialEq, Eq, Debug)]
 pub enum Turn {
-    /// Replies to the jobs that are asked.
+    /// Give the replies to the jobs that are asked for.
     Ask,
     /// Nothing: the run is completed.
     Done,
-    /// Nothing: an error stopped the run, with this exit status, or the want of a compiler, with status 1.
+    /// Nothing: the run is stopped, by an error with this exit status, or with status 1 because there is no compiler.
     Stopped(u8),
-    /// Nothing: the run was cut, since its child of this number, from 1, was refused.
+    /// Nothing: the run is cut short, because the child of this number, from 1, was refused.
     Cut(u64),
 }
 
 /// How a run ended.
 #[derive(Clone, Copy, PartialEq, Eq, Debug)]
 pub enum Outcome {
+    /// AC_OUTPUT, or the end of the plan, was reached.
     Completed,
-    /// An error stopped the run, with this exit status, or the want of a compiler, with status 1.
+    /// An error stopped the run with this exit status, or there was no compiler, which has status 1.
     Stopped(u8),
     /// The start or the end of the child of this number, from 1, was refused.
     CutShort(u64),
@@ -51,18 +52,20 @@ pub enum Outcome {
 #[derive(Debug, Drop)]
 pub struct RunEnd {
     pub outcome: Outcome,
+    /// The variables at the end.
     pub vars: Vars,
+    /// The definitions, for the config header.
     pub defs: Defs,
 }
 
-/// How far a machine is.
+/// The state of a machine.
 #[derive(Clone, Copy, PartialEq, Eq, Debug)]
 pub enum Phase {
-    /// It has steps before it.
+    /// The next step can be done.
     Going,
     /// It waits for replies.
     Asking,
-    /// It has walked past the last step.
+    /// The last step is passed.
     Past,
     /// A step has completed the run.
     Completed,
@@ -74,17 +77,22 @@ pub enum Phase {
     Failed,
 }
 
-/// A run of a plan, which stands between its steps, or within one that waits for replies.
+/// A run of a plan. It is between two steps, or within one that waits for replies.
 #[derive(Drop)]
 pub struct Machine {
     alloc: Global,
     phase: Phase,
+    /// The number of steps that are passed.
     place: usize,
+    /// The subject of the choice that began last.
     about: About,
     store: Store,
     wait: Wait,
+    /// The number of jobs that were asked for and have their replies.
     before: u64,
+    /// The jobs that are asked for.
     jobs: Vec<Job>,
+    /// The reply to each of them, once it is given.
     replies: Vec<Option<Reply>>,
 }
 
@@ -98,7 +106,8 @@ impl Model for Machine {
 }
 
 impl Machine {
-    /// A machine before the first step of the plan, with these variables and no definitions. It takes no memory.
+    /// Creates a machine before the first step of the plan, with these variables and no definitions. It allocates
+    /// nothing.
     pub fn new(alloc: Global, _plan: &Plan, vars: Vars) -> Machine
         ensures { result ≡ record { phase = Phase.Going; place = 0; scope = no_choice; state = record { vars = vars; defs = [] }; wait = waits.Nothing; before = 0; jobs = []; replies = [] } }
     {
@@ -115,14 +124,14 @@ impl Machine {
         }
     }
 
-    /// The jobs that are asked, if any. It takes no memory.
+    /// Returns the jobs that are asked for; none unless the last turn is [`Turn::Ask`].
     pub fn asked(&self) -> &[Job]
         ensures { result.now ≡ self.now.jobs }
     {
         self.jobs.as_slice()
     }
 
-    /// The reply to the job at a place of `asked`, from 0, which has none yet. It takes no memory.
+    /// Gives the reply to the job at index `k` of [`asked`](Machine::asked), which has none yet.
     pub fn give(&mut self, k: usize, reply: Reply)
         requires { slice_get self.old.replies k ≡ Some None }
         ensures { self.new ≡ record self.old { replies = slice_set self.old.replies k (Some reply) } }
@@ -130,15 +139,19 @@ impl Machine {
         put(self.replies.as_mut_slice(), k, reply);
     }
 
-    /// A refused start for each job that has no reply yet. It takes no memory.
+    /// Gives each job that has no reply yet a refused start.
     pub fn cut(&mut self)
         ensures { self.new ≡ record self.old { replies = refused_rest self.old.replies } }
     {
         refuse_rest(self.replies.as_mut_slice());
     }
 
-    /// Goes on to the next jobs or to the end of the run, once each job that is asked has its reply. A job without one counts
-    /// as a refused start. Asked again at the end, it answers the same again; once memory ran out, it fails for good.
+    /// Advances to the next jobs or to the end of the run, once each job that is asked for has its reply. A job without
+    /// one counts as a refused start. At the end of the run, returns the same turn again.
+    ///
+    /// # Errors
+    ///
+    /// Fails if memory runs out, and in every later call.
     pub fn advance(&mut self, plan: &Plan) -> Result<Turn, AllocError>
         requires { Fits plan.now self.old }
         ensures turned { IfOk result (λ turn. Turned plan.now turn self.old self.new) }
@@ -158,7 +171,7 @@ impl Machine {
         }
     }
 
-    /// What the run leaves, once it is at its end. It takes no memory.
+    /// Returns the result of a run that is at its end.
     pub fn end(self) -> RunEnd
         requires { IsSome (outcome_of self.phase) }
         ensures { IfSome (outcome_of self.phase) (λ outcome. result ≡ record { outcome = outcome; vars = self.state.vars; defs = self.state.defs }) }
@@ -172,14 +185,14 @@ impl Machine {
         }
     }
 
-    // How many steps are behind it.
+    // Returns the number of steps that are passed.
     fn place(&self) -> usize
         ensures { result ≡ self.now.place }
     {
         self.place
     }
 
-    // Does a step, and stands before it until it arrives.
+    // Does a step. The machine stays before it until `arrive`.
     fn step(&mut self, step: &Step) -> Result<Flow, AllocError>
         ensures same { OnOk result (self.new ≡ record self.old { phase = Phase.Failed; scope = self.new.scope; state = self.new.state }) }
         ensures err { OnErr result (self.new ≡ record self.old { phase = Phase.Failed; scope = self.new.scope; state = self.new.state }) }
@@ -192,7 +205,7 @@ impl Machine {
         do_step(self.alloc, &mut self.store, &mut self.about, step)
     }
 
-    // Takes the replies to the jobs that were asked.
+    // Takes the replies to the jobs that were asked for.
     fn hear(&mut self) -> Result<Flow, AllocError>
         requires jobs { length self.old.jobs ≡ 1 }
         requires replies { length self.old.replies ≡ 1 }
@@ -220,7 +233,7 @@ impl Machine {
         )
     }
 
-    // Holds these jobs, with a place for each reply.
+    // Keeps these jobs, and room for the reply to each.
     fn hold(&mut self, jobs: Vec<Job>, replies: Vec<Option<Reply>>)
         ensures { self.new ≡ record self.old { jobs = jobs.items; replies = replies.items } }
     {
@@ -236,7 +249,7 @@ impl Machine {
         self.phase = Phase::Asking;
     }
 
-    // Asks a job, and waits for its reply.
+    // Asks for a job, and waits for its reply.
     fn ask(&mut self, job: Job, wait: Wait) -> Result<Option<Turn>, AllocError>
         ensures turn { IfOk result (λ turn. turn ≡ Some Turn.Ask) }
         ensures moved { OnOk result (self.new ≡ record self.old { phase = Phase.Asking; wait = wait; jobs = job ∷ []; replies = None ∷ [] }) }
@@ -248,7 +261,7 @@ impl Machine {
         Ok(Some(Turn::Ask))
     }
 
-    // Goes where a step leads. It is a turn unless there are steps to do.
+    // Goes to what follows a step. Returns a turn unless the next step can be done.
     fn arrive(&mut self, flow: Flow) -> Result<Option<Turn>, AllocError>
         requires room { self.old.place + (1 + passed flow) < 2 ^ 64 }
         ensures turn { IfOk result (λ turn. turn ≡ turn_by flow) }
@@ -276,14 +289,14 @@ impl Machine {
         }
     }
 
-    // It is behind the last step.
+    // Notes that the last step is passed.
     fn pass_end(&mut self)
         ensures { self.new ≡ with_phase Phase.Past self.old }
     {
         self.phase = Phase::Past;
     }
 
-    // From step to step, up to jobs or an end.
+    // Does step after step, until jobs are asked for or the run ends.
     fn go_on(&mut self, steps: &[Step]) -> Result<Turn, AllocError>
         requires holds { Holds 0 (map shown steps.now) (with_phase Phase.Going self.old) }
         requires inside { StaysInside (map shown steps.now) }
@@ -291,6 +304,7 @@ impl Machine {
         ensures err { OnErr result (self.new.phase ≡ Phase.Failed) }
         ensures still { OnErr result (Fits (map shown steps.now) self.new) }
     {
+        // the label is for the proof only
         'steps: while self.place() < steps.len() {
             let flow = self.step(&steps[self.place()])?;
             if let Some(turn) = self.arrive(flow)? {
@@ -301,7 +315,7 @@ impl Machine {
         Ok(Turn::Done)
     }
 
-    // Takes the replies, and goes on.
+    // Takes the replies, and continues.
     fn take_replies(&mut self, steps: &[Step]) -> Result<Turn, AllocError>
         requires asking { self.old.phase ≡ Phase.Asking }
         requires holds { Holds 1 (map shown steps.now) self.old }
@@ -319,7 +333,7 @@ impl Machine {
     }
 }
 
-// The outcome of a run that is at its end.
+// Returns the outcome of a run that is at its end.
 fn outcome_at(phase: Phase) -> Outcome
     ensures { IfSome (outcome_of phase) (λ outcome. result ≡ outcome) }
 {
@@ -330,7 +344,7 @@ fn outcome_at(phase: Phase) -> Outcome
     }
 }
 
-// One job, without a reply.
+// Returns one job, with room for its reply.
 fn one_job(alloc: Global, job: Job) -> Result<(Vec<Job>, Vec<Option<Reply>>), AllocError>
     ensures { IfOk result (λ r. (r.0.items ≡ job ∷ []) × (r.1.items ≡ None ∷ [])) }
 {
@@ -348,7 +362,7 @@ fn put(replies: &mut [Option<Reply>], k: usize, reply: Reply)
     replies[k] = Some(reply);
 }
 
-// A refused start where there is no reply.
+// If there is no reply, puts a refused start.
 fn or_refused(reply: &mut Option<Reply>)
     ensures { reply.new ≡ Some (unwrap_or reply.old StartRefused) }
 {

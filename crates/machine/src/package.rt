@@ -1,4 +1,4 @@
-//! What AC_INIT says of a package.
+//! The variables and definitions of AC_INIT (Autoconf's manual, "Initializing configure").
 
 ghost use Rattle.std.specs.Prelude.{◌≡◌, OnOk, IfOk, codes};
 ghost use Rattle.deftable.specs.ShellName.{IsShellName};
@@ -8,7 +8,7 @@ use crate::literal::literal;
 use crate::store::Store;
 use std::alloc::{AllocError, Global};
 
-/// A package's title and its version.
+/// Returns a package's title and version, separated by a space.
 fn package_string(alloc: Global, title: &[u8], version: &[u8]) -> Result<Vec<u8>, AllocError>
     ensures { IfOk result (λ v. v.items ≡ packages.package_string title.now version.now) }
 {
@@ -18,7 +18,7 @@ fn package_string(alloc: Global, title: &[u8], version: &[u8]) -> Result<Vec<u8>
     Ok(out)
 }
 
-/// Sets an output variable of the package, and defines it.
+/// Sets an output variable of the package, and defines it as a string literal.
 fn set_package(
     alloc: Global,
     store: &mut Store,
@@ -33,7 +33,7 @@ fn set_package(
     store.define(name, literal.as_slice())
 }
 
-/// Sets the package's title and version as one variable.
+/// Sets and defines the package's title and version as PACKAGE_STRING.
 fn set_package_string(
     alloc: Global,
     store: &mut Store,
@@ -46,7 +46,7 @@ fn set_package_string(
     set_package(alloc, store, b"PACKAGE_STRING", string.as_slice())
 }
 
-/// AC_INIT: the package's six variables and definitions.
+/// Sets the package's six variables and definitions.
 #[tactic(auto, unfolding(meaning::specs::Package::initialised))]
 pub(crate) fn initialise(
     alloc: Global,

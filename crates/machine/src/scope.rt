@@ -1,4 +1,4 @@
-//! What the choice begun last is about.
+//! The subject of the choice that began last.
 
 ghost use Rattle.std.specs.Prelude.{◌≡◌};
 ghost use Rattle.meaning.specs.State.{about, answered, no_choice};
@@ -7,7 +7,7 @@ use deftable::Bytes;
 use std::alloc::Global;
 use std::marker::Model;
 
-/// The value of the word that patterns are for, and the answer to what was asked.
+/// The value of the subject's word, and the answer to its question.
 #[derive(Debug, Drop)]
 pub(crate) struct About {
     subject: Bytes,
@@ -23,14 +23,14 @@ impl Model for About {
 }
 
 impl About {
-    /// About nothing.
+    /// The subject of a choice about nothing.
     pub(crate) fn nothing(alloc: Global) -> About
         ensures { result ≡ no_choice }
     {
         About::answer(alloc, false)
     }
 
-    /// About a word with this value.
+    /// The subject with this value of its word.
     pub(crate) fn word(subject: Bytes) -> About
         ensures { result ≡ about subject }
     {
@@ -40,7 +40,7 @@ impl About {
         }
     }
 
-    /// About a question with this answer.
+    /// The subject with this answer to its question.
     pub(crate) fn answer(alloc: Global, answer: bool) -> About
         ensures { result ≡ answered answer }
     {
@@ -50,14 +50,14 @@ impl About {
         }
     }
 
-    /// The value of the word.
+    /// Returns the value of the word.
     pub(crate) fn subject(&self) -> &[u8]
         ensures { result.now ≡ self.now.subject }
     {
         self.subject.as_slice()
     }
 
-    /// Whether the answer is yes.
+    /// Returns whether the answer is yes.
     pub(crate) fn is_yes(&self) -> bool
         ensures { result ≡ self.now.answer }
     {

@@ -1,4 +1,4 @@
-//! Searches of programs along PATH.
+//! Searches for programs along PATH (Autoconf's manual, "Generic Programs").
 
 ghost use Rattle.std.specs.Prelude.{◌≡◌, ◌≤◌, ◌+◌, ◌++◌, ◌∷◌, [], Some, IfOk, OnOk, IfSome, IfNone, if◌then◌else◌, length, option_map, codes, map, take};
 ghost use Rattle.conftest.specs.Probe.{path_of};
@@ -16,19 +16,19 @@ use std::alloc::{AllocError, Global};
 use std::marker::Model;
 use textcut::parts;
 
-/// How many folders a search tries (own).
+/// The largest number of directories that a search tries (own).
 const MOST_FOLDERS: usize = 65_536;
 
-/// A search of a program for a variable. Contracts see it as the meaning of statements does.
+/// A search for a program, which sets a variable. Contracts see it as `meaning` defines it.
 #[derive(Debug, Drop)]
 pub(crate) struct Search {
     pub(crate) variable: Bytes,
     /// The cached name.
     pub(crate) name: Bytes,
     pub(crate) program: Bytes,
-    /// The value where the program is found, if it isn't the program's full name.
+    /// The value if the program is found, unless it is the program's full name.
     pub(crate) found: Option<Bytes>,
-    /// The value where it isn't found.
+    /// The value if the program isn't found.
     pub(crate) otherwise: Option<Bytes>,
 }
 
@@ -40,10 +40,10 @@ impl Model for Search {
     ghost view = { λ s. record { variable = s.variable; name = s.name; program = s.program; found = s.found; otherwise = s.otherwise } };
 }
 
-/// Folders, in the order in which they are tried.
+/// Directories, in the order in which they are tried.
 #[derive(Debug, Drop)]
 pub(crate) struct Folders {
-    /// The last folder comes first.
+    /// The directory that is tried first is last.
     folders: Vec<Bytes>,
 }
 
@@ -56,7 +56,7 @@ impl Model for Folders {
 }
 
 impl Folders {
-    /// Takes the folder that is tried next.
+    /// Takes the directory that is tried next.
     fn take_first(&mut self) -> Option<Bytes>
         ensures some { IfSome result (λ folder. self.old ≡ folder ∷ self.new) }
         ensures none { IfNone result (self.old ≡ []) }
@@ -64,7 +64,7 @@ impl Folders {
         self.folders.pop()
     }
 
-    /// The folders of a path.
+    /// Returns the directories of a path.
     fn of(alloc: Global, path: &[u8]) -> Result<Folders, AllocError>
         ensures { IfOk result (λ f. f ≡ folders_of path.now) }
     {
@@ -75,7 +75,7 @@ impl Folders {
     }
 }
 
-/// Whether the last part is empty.
+/// Returns whether the last part is empty.
 fn ends_empty(parts: &[&[u8]]) -> bool
     ensures { result ≡ ends_empty (map (λ part. part.now) parts.now) }
 {
@@ -85,7 +85,7 @@ fn ends_empty(parts: &[&[u8]]) -> bool
     parts[last].is_empty()
 }
 
-/// The parts without an empty last one.
+/// Returns the parts without an empty last one.
 fn without_last_empty<'a, 'b>(parts: &'b [&'a [u8]]) -> &'b [&'a [u8]]
     ensures { map (λ part. part.now) result.now ≡ without_last_empty (map (λ part. part.now) parts.now) }
 {
@@ -95,7 +95,7 @@ fn without_last_empty<'a, 'b>(parts: &'b [&'a [u8]]) -> &'b [&'a [u8]]
     parts
 }
 
-/// The parts up to the limit.
+/// Returns the first 65,536 parts.
 fn within<'a, 'b>(parts: &'b [&'a [u8]]) -> &'b [&'a [u8]]
     ensures { result.now ≡ take 65536 parts.now }
 {
@@ -105,7 +105,7 @@ fn within<'a, 'b>(parts: &'b [&'a [u8]]) -> &'b [&'a [u8]]
     parts
 }
 
-/// A folder as it stands in front of a name.
+/// Returns a directory as it is put before a name: with a slash at its end, and `./` if it is empty.
 fn folder_of(alloc: Global, part: &[u8]) -> Result<Bytes, AllocError>
     ensures { IfOk result (λ f. f ≡ folder_of part.now) }
 {
@@ -147,7 +147,7 @@ pub(crate) fn settle(
     Ok(())
 }
 
-/// A program's name within a folder.
+/// Returns a program's name within a directory.
 fn file_in(alloc: Global, folder: &Bytes, program: &Bytes) -> Result<Bytes, AllocError>
     ensures { IfOk result (λ f. f ≡ folder.now ++ program.now) }
 {
@@ -156,7 +156,7 @@ fn file_in(alloc: Global, folder: &Bytes, program: &Bytes) -> Result<Bytes, Allo
     Ok(Bytes::from_vec(file))
 }
 
-/// Ends a search with this value, and goes on with the next step.
+/// Ends a search with this value. The next step follows.
 pub(crate) fn end_search(
     store: &mut Store,
     search: &Search,
@@ -169,7 +169,7 @@ pub(crate) fn end_search(
     Ok(Flow::Pass { more: 0 })
 }
 
-/// A program's name within a folder, and the job that looks for it there.
+/// Returns a program's name within a directory, and the job that looks for it there.
 fn try_in(alloc: Global, folder: &Bytes, program: &Bytes) -> Result<(Bytes, Job), AllocError>
     ensures { IfOk result (λ r. (r.0 ≡ folder.now ++ program.now) × (r.1 ≡ path_of (folder.now ++ program.now))) }
 {
@@ -178,7 +178,7 @@ fn try_in(alloc: Global, folder: &Bytes, program: &Bytes) -> Result<(Bytes, Job)
     Ok((file, job))
 }
 
-/// Asks whether this folder has the program. The folders behind it are left.
+/// Asks whether this directory has the program. `left` are the directories after it.
 fn ask_in(alloc: Global, folder: &Bytes, search: Search, left: Folders) -> Result<Flow, AllocError>
     ensures within { IfOk result (λ flow. passed flow ≤ 0) }
     ensures asks { IfOk result (λ flow. asks_now flow ≤ 1 + length left) }
@@ -192,7 +192,7 @@ fn ask_in(alloc: Global, folder: &Bytes, search: Search, left: Folders) -> Resul
     })
 }
 
-/// Looks for the program in the folders that are left.
+/// Looks for the program in the remaining directories.
 pub(crate) fn look_on(
     alloc: Global,
     store: &mut Store,
@@ -210,7 +210,7 @@ pub(crate) fn look_on(
     }
 }
 
-/// The folders of PATH.
+/// Returns the directories of PATH.
 fn path_folders(alloc: Global, store: &Store) -> Result<Folders, AllocError>
     ensures { IfOk result (λ f. f ≡ folders_of (value_or_empty store.now (codes "PATH"))) }
 {
@@ -218,7 +218,7 @@ fn path_folders(alloc: Global, store: &Store) -> Result<Folders, AllocError>
     Folders::of(alloc, path.as_slice())
 }
 
-/// Looks for the program in the folders of PATH.
+/// Looks for the program in the directories of PATH.
 fn search_path(alloc: Global, store: &mut Store, search: Search) -> Result<Flow, AllocError>
     ensures within { IfOk result (λ flow. passed flow ≤ 0) }
     ensures asks { IfOk result (λ flow. asks_now flow ≤ 65536) }
@@ -229,7 +229,7 @@ fn search_path(alloc: Global, store: &mut Store, search: Search) -> Result<Flow,
     look_on(alloc, store, search, folders)
 }
 
-/// Ends a search with the value that its variable has of its own.
+/// Ends a search with its variable's own value.
 fn settle_own(alloc: Global, store: &mut Store, search: &Search) -> Result<(), AllocError>
     ensures { OnOk result (store.new ≡ settled_as search.now (Some (value_or_empty store.old search.now.variable)) store.old) }
 {
@@ -237,7 +237,8 @@ fn settle_own(alloc: Global, store: &mut Store, search: &Search) -> Result<(), A
     settle(store, search, Some(&value))
 }
 
-/// Ends a search that needs no child, if it is one: its name is set, or its variable has a value that counts (`own`).
+/// Ends a search that needs no child: its name is set, or its variable has a value that counts (`own`). Returns whether
+/// it is one.
 fn settle_known(
     alloc: Global,
     store: &mut Store,
@@ -255,7 +256,7 @@ fn settle_known(
     Ok(own)
 }
 
-/// A cached search. A name that is set is not looked for, nor is one whose variable has a value that counts (`own`).
+/// Runs a cached search: it needs no child if its name is set, or if its variable has a value that counts (`own`).
 pub(crate) fn look_for(
     alloc: Global,
     store: &mut Store,

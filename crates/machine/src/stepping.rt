@@ -1,4 +1,4 @@
-//! One step, and what the replies to its jobs lead to.
+//! One step, and what follows the replies to its jobs.
 
 ghost use Rattle.std.specs.Prelude.{◌≡◌, unwrap_or, ◌≤◌, ◌<◌, ◌+◌, ◌^◌, ◌++◌, ◌||◌, not, [], IfOk, IsOk, OnOk, Some, if◌then◌else◌, length, option_map};
 ghost use Rattle.crew.specs.declared.reply.Reply.TheVariants.{StartRefused};
@@ -23,17 +23,15 @@ use crate::scope::About;
 use crate::search::{Folders, Search, end_search, look_for, look_on};
 use crate::store::Store;
 use crate::wait::Wait;
-use acargs::OptionKind;
-use acmacros::{Plain, Program, Question, Try};
 use conftest::run_job;
 use crew::Reply;
 use deftable::Bytes;
 use plan::Step;
 use shellword::{HereText, Word};
 use std::alloc::{AllocError, Global};
-use tree::{Subject, When};
+use syntax::{OptionKind, Plain, Program, Question, Subject, Try, When};
 
-/// The value of a here text, if there is one.
+/// Returns the value of a here text, if there is one.
 fn value_of(
     alloc: Global,
     store: &Store,
@@ -47,7 +45,7 @@ fn value_of(
     }
 }
 
-/// A name behind a prefix.
+/// Returns a name with a prefix before it.
 fn prefixed(alloc: Global, prefix: &[u8], name: &[u8]) -> Result<Bytes, AllocError>
     ensures { IfOk result (λ b. b ≡ prefix.now ++ name.now) }
 {
@@ -56,7 +54,7 @@ fn prefixed(alloc: Global, prefix: &[u8], name: &[u8]) -> Result<Bytes, AllocErr
     Ok(Bytes::from_vec(text))
 }
 
-/// A variable's name, the name that is cached for it, and the program's name.
+/// Returns a variable's name, its cached name, and the program's name.
 fn search_names(
     alloc: Global,
     prefix: &[u8],
@@ -71,7 +69,7 @@ fn search_names(
     Ok((variable, name, program))
 }
 
-/// The search of AC_CHECK_PROG.
+/// Returns the search of AC_CHECK_PROG.
 fn check_prog(
     alloc: Global,
     variable: &[u8],
@@ -91,7 +89,7 @@ fn check_prog(
     })
 }
 
-/// The search of AC_PATH_PROG.
+/// Returns the search of AC_PATH_PROG.
 fn path_prog(
     alloc: Global,
     variable: &[u8],
@@ -126,6 +124,7 @@ fn check_program(
 {
     let own = store.has_value(variable);
     let search = check_prog(alloc, variable, program, found, otherwise)?;
+    // for the proof only: the flow has a name
     let flow = look_for(alloc, store, search, own)?;
     Ok(flow)
 }
@@ -145,6 +144,7 @@ fn find_program(
 {
     let own = store.has_full_name(variable);
     let search = path_prog(alloc, variable, program, otherwise)?;
+    // for the proof only: the flow has a name
     let flow = look_for(alloc, store, search, own)?;
     Ok(flow)
 }
@@ -207,7 +207,7 @@ fn define_value(
     store.define(name, value.as_slice())
 }
 
-/// Completes the run, with its prefixes settled.
+/// Completes the run, once prefix and exec_prefix have their values.
 fn complete(store: &mut Store) -> Result<Flow, AllocError>
     ensures completes { IfOk result (λ flow. flow ≡ Complete) }
     ensures settles { OnOk result (store.new ≡ with_prefixes store.old) }
@@ -216,7 +216,7 @@ fn complete(store: &mut Store) -> Result<Flow, AllocError>
     Ok(Flow::Complete)
 }
 
-/// Goes on with the next step once this is done.
+/// Continues with the next step, if `done` is no error.
 fn pass(done: Result<(), AllocError>) -> Result<Flow, AllocError>
     ensures passes { IfOk result (λ flow. flow ≡ Pass 0) }
     ensures done { OnOk result (IsOk done) }
@@ -225,7 +225,7 @@ fn pass(done: Result<(), AllocError>) -> Result<Flow, AllocError>
     Ok(Flow::Pass { more: 0 })
 }
 
-/// Does what a statement does in its own step.
+/// Runs a statement in its own step.
 #[tactic(auto, unfolding(meaning::specs::Meaning::effect))]
 fn execute(alloc: Global, store: &mut Store, statement: &Plain) -> Result<Flow, AllocError>
     ensures within { IfOk result (λ flow. passed flow ≤ 0) }
@@ -278,14 +278,14 @@ fn execute(alloc: Global, store: &mut Store, statement: &Plain) -> Result<Flow, 
     }
 }
 
-/// Whether a program of a list is looked for.
+/// Returns whether a program of a list is looked for.
 fn is_wanted(always: bool, own: bool) -> bool
     ensures { result ≡ (always || not own) }
 {
     always || !own
 }
 
-/// Looks for a program of a list, always or while the variable is empty.
+/// Looks for a program of a list, always or only if the variable is still empty.
 fn look(
     alloc: Global,
     store: &mut Store,
@@ -303,11 +303,12 @@ fn look(
         return Ok(Flow::Pass { more: 0 });
     }
     let found = program.copy(alloc)?;
+    // for the proof only: the flow has a name
     let flow = check_program(alloc, store, variable, program, found, None)?;
     Ok(flow)
 }
 
-/// Gives a variable that is empty its default, if it has one.
+/// Gives a variable its default, if it has one and the variable is empty.
 fn set_default(
     alloc: Global,
     store: &mut Store,
@@ -325,7 +326,7 @@ fn set_default(
     Ok(())
 }
 
-/// The variable that has the value of an option which is given.
+/// Returns the variable that gets the value of an option if the option is given.
 fn value_name(kind: OptionKind) -> &'static [u8]
     ensures { result.now ≡ value_name kind }
 {
@@ -358,7 +359,7 @@ fn try_program(
     Ok(Flow::Ask { job, wait })
 }
 
-/// Asks whether an option is given: its variable is set, and its value is kept then.
+/// Answers whether an option is given: whether its variable is set. If it is, its value is kept.
 fn ask_given(
     alloc: Global,
     store: &mut Store,
@@ -374,7 +375,7 @@ fn ask_given(
     Ok(Flow::Pass { more: 0 })
 }
 
-/// Asks what a choice is about.
+/// Asks the question of a choice.
 fn ask(
     alloc: Global,
     store: &mut Store,
@@ -391,6 +392,7 @@ fn ask(
             ask_given(alloc, store, about, *kind, variable.as_slice())
         }
         Question::Tries { kind, program } => {
+            // for the proof only: the flow has a name
             let flow = try_program(alloc, store, *kind, program)?;
             Ok(flow)
         }
@@ -421,7 +423,7 @@ fn begin(
     Ok(Flow::Pass { more: 0 })
 }
 
-/// Whether a case is taken.
+/// Returns whether a case is taken.
 #[tactic(auto, unfolding(meaning::specs::Meaning::is_taken))]
 fn is_taken(alloc: Global, store: &Store, when: &When, about: &About) -> Result<bool, AllocError>
     ensures { IfOk result (λ b. b ≡ is_taken when.now about.now store.now.vars) }
@@ -435,7 +437,7 @@ fn is_taken(alloc: Global, store: &Store, when: &When, about: &About) -> Result<
     }
 }
 
-/// Passes so many steps unless a case is taken.
+/// Passes `steps` steps, unless the case is taken.
 fn skip_unless(
     alloc: Global,
     store: &Store,
@@ -451,7 +453,7 @@ fn skip_unless(
     Ok(Flow::Pass { more: steps })
 }
 
-/// One step.
+/// Does one step.
 pub(crate) fn do_step(
     alloc: Global,
     store: &mut Store,
@@ -477,7 +479,7 @@ pub(crate) fn do_step(
     }
 }
 
-/// Whether the child whose reply this is succeeded, if it answered.
+/// Returns whether the child with this reply succeeded, or `None` if it didn't answer.
 fn success(reply: &Option<Reply>) -> Option<bool>
     ensures { result ≡ success (unwrap_or reply.now StartRefused) }
 {
@@ -487,7 +489,7 @@ fn success(reply: &Option<Reply>) -> Option<bool>
     }
 }
 
-/// Goes on with whether a folder has the program that is looked for.
+/// Continues with whether a directory has the program that is looked for.
 fn tell_search(
     alloc: Global,
     store: &mut Store,
@@ -508,7 +510,7 @@ fn tell_search(
     end_search(store, &search, Some(value))
 }
 
-/// Goes on with whether the child succeeded.
+/// Continues with whether the child succeeded.
 fn tell(
     alloc: Global,
     store: &mut Store,
@@ -539,13 +541,14 @@ fn tell(
             })
         }
         Wait::Folder { search, file, left } => {
+            // for the proof only: the flow has a name
             let flow = tell_search(alloc, store, search, file, left, succeeded)?;
             Ok(flow)
         }
     }
 }
 
-/// What the reply to the job that was asked leads to. So many children were asked before it.
+/// Continues with the reply to the job that was asked for, after `before` other children.
 pub(crate) fn hear(
     alloc: Global,
     store: &mut Store,

@@ -11,14 +11,15 @@ ghost use Rattle.meaning.specs.Tries.{first_probe, text_of};
 ghost use Rattle.conftest.specs.Probe.{job_of};
 ghost use Rattle.machine.specs.Copies.{Copied};
 
-use acmacros::{Program, Try};
-use conftest::{Job, JobFault, compile_job, link_job, preproc_job, program_source};
+use conftest::{Job, JobFault, compile_job, link_job, preproc_job};
+use csource::program_source;
 use deftable::{Bytes, Defs, Vars};
 use shellword::{HereText, Test, Word};
 use std::alloc::{AllocError, Global};
 use std::marker::Model;
+use syntax::{Program, Try};
 
-/// Variables and definitions, which contracts see as a state.
+/// Variables and definitions. Contracts see them as a state.
 #[derive(Debug, Drop)]
 pub(crate) struct Store {
     vars: Vars,
@@ -34,7 +35,7 @@ impl Model for Store {
 }
 
 impl Store {
-    /// These variables, and no definitions.
+    /// Returns a store with these variables and no definitions.
     pub(crate) fn new(alloc: Global, vars: Vars) -> Store
         ensures { result ≡ record { vars = vars; defs = [] } }
     {
@@ -51,14 +52,14 @@ impl Store {
         self.vars.set(name, value)
     }
 
-    /// The value of a variable, if it is set.
+    /// Returns the value of a variable, if it is set.
     pub(crate) fn get(&self, name: &[u8]) -> Option<&Bytes>
         ensures { option_map (λ x. x.now) result ≡ value_of self.now.vars name.now }
     {
         self.vars.get(name)
     }
 
-    /// A copy of a variable's value, if it is set.
+    /// Copies a variable's value, if it is set.
     pub(crate) fn value_of(&self, alloc: Global, name: &[u8]) -> Result<Option<Bytes>, AllocError>
         ensures { IfOk result (λ v. v ≡ value_of self.now.vars name.now) }
     {
@@ -68,7 +69,7 @@ impl Store {
         }
     }
 
-    /// A variable's value, which is empty where it isn't set.
+    /// Copies a variable's value, or returns the empty text if it isn't set.
     pub(crate) fn value_or_empty(&self, alloc: Global, name: &[u8]) -> Result<Bytes, AllocError>
         ensures { IfOk result (λ v. v ≡ value_or_empty self.now name.now) }
     {
@@ -78,7 +79,7 @@ impl Store {
         }
     }
 
-    /// Gives a variable the value of another, if that is set. Tells whether it is.
+    /// Sets a variable to the value of another, if that is set. Returns whether it is.
     pub(crate) fn copy_value(
         &mut self,
         alloc: Global,
@@ -94,7 +95,7 @@ impl Store {
         Ok(true)
     }
 
-    /// Whether a variable is set to something.
+    /// Returns whether a variable is set, and not empty.
     pub(crate) fn has_value(&self, name: &[u8]) -> bool
         ensures { result ≡ has_value self.now name.now }
     {
@@ -104,7 +105,7 @@ impl Store {
         }
     }
 
-    /// Whether a variable is set to a full name.
+    /// Returns whether a variable is set to a full name.
     pub(crate) fn has_full_name(&self, name: &[u8]) -> bool
         ensures { result ≡ is_full_name (value_or_empty self.now name.now) }
     {
@@ -114,7 +115,7 @@ impl Store {
         }
     }
 
-    /// The text of a program that is tried.
+    /// Returns the text of a program that is tried.
     pub(crate) fn program_text(&self, alloc: Global, program: &Program) -> Result<Bytes, AllocError>
         ensures { IfOk result (λ text. text ≡ text_of program.now self.now.vars) }
     {
@@ -128,7 +129,7 @@ impl Store {
         }
     }
 
-    /// The first job of a program that is tried, if there is a compiler.
+    /// Returns the first job of a program that is tried, or `None` if there is no compiler.
     pub(crate) fn job_to_try(
         &self,
         alloc: Global,
@@ -158,7 +159,7 @@ impl Store {
         }
     }
 
-    // Sets a prefix that is `NONE`.
+    // Gives a prefix its value, if it is still `NONE`.
     fn settle(&mut self, name: &[u8], value: &[u8]) -> Result<(), AllocError>
         ensures { OnOk result (self.new ≡ settled name.now value.now self.old) }
     {
@@ -168,7 +169,7 @@ impl Store {
         Ok(())
     }
 
-    /// Settles prefix and exec_prefix, as the end of a source does.
+    /// Gives prefix and exec_prefix their values at the end of a source, if they are still `NONE`.
     pub(crate) fn settle_prefixes(&mut self) -> Result<(), AllocError>
         ensures { OnOk result (self.new ≡ with_prefixes self.old) }
     {
@@ -185,28 +186,28 @@ impl Store {
         self.defs.define(name, value)
     }
 
-    /// The value of a word.
+    /// Returns the value of a word.
     pub(crate) fn word(&self, alloc: Global, word: &Word) -> Result<Bytes, AllocError>
         ensures { IfOk result (λ v. v ≡ word_value word.now self.now.vars) }
     {
         word.value(alloc, &self.vars)
     }
 
-    /// The value of a here text.
+    /// Returns the value of a here text.
     pub(crate) fn here_text(&self, alloc: Global, text: &HereText) -> Result<Bytes, AllocError>
         ensures { IfOk result (λ v. v ≡ word_value text.now self.now.vars) }
     {
         text.value(alloc, &self.vars)
     }
 
-    /// Whether a test holds.
+    /// Returns whether a test holds.
     pub(crate) fn holds(&self, alloc: Global, test: &Test) -> Result<bool, AllocError>
         ensures { IfOk result (λ b. b ≡ truth test.now self.now.vars) }
     {
         test.holds(alloc, &self.vars)
     }
 
-    /// The variables and the definitions.
+    /// Returns the variables and the definitions.
     pub(crate) fn into_parts(self) -> (Vars, Defs)
         ensures { record { vars = result.0; defs = result.1 } ≡ self }
     {
@@ -230,7 +231,7 @@ fn starts_slash(text: &[u8]) -> bool
     }
 }
 
-/// Whether a text is a full name: it begins with a slash or a backslash, or with one byte, a colon and one of these.
+/// Returns whether a text is a full name: it begins with a slash or a backslash, or with one byte, a colon and one of these.
 fn is_full_name(text: &[u8]) -> bool
     ensures { result ≡ is_full_name text.now }
 {

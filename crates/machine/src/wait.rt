@@ -3,16 +3,16 @@
 use crate::search::{Folders, Search};
 use deftable::Bytes;
 
-/// What the reply to the job that is asked is for.
+/// What the reply to the job that is asked for decides.
 #[derive(Debug, Drop)]
 pub(crate) enum Wait {
-    /// Nothing is asked.
+    /// No job is asked for.
     Nothing,
-    /// It is the answer to what a choice is about.
+    /// The answer to the question of a choice.
     Answer,
-    /// It says whether the program that is to be run was linked.
+    /// Whether the program that is to be run was linked.
     Link,
-    /// It says whether a file is the program that is looked for. These folders are left.
+    /// Whether a file is the program that is looked for. `left` are the remaining directories.
     Folder {
         search: Search,
         file: Bytes,

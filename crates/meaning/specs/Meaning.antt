@@ -1,90 +1,96 @@
--- What statements do.
+-- The meaning of statements.
 use Rattle.std.specs.Prelude.{ℕ, ◌==◌, ◌&&◌, ◌||◌, length, [], ◌∷◌, ◌++◌, option_map, Bool, true, false, not, List, Option, Some, None, bytes_eq, codes, if◌then◌else◌}
 use Rattle.deftable.specs.Table.{value_of, with_entry}
 use Rattle.shellword.specs.Matching.{matches_any}
 use Rattle.shellword.specs.Truth.{truth}
 use Rattle.shellword.specs.Value.{word_value}
-use Rattle.acargs.specs.declared.feature.OptionKind.{OptionKind}
-use Rattle.acargs.specs.declared.feature.OptionKind.TheVariants.{Feature, Package}
-use Rattle.acmacros.specs.declared.statement.Plain as plain
-use Rattle.acmacros.specs.declared.statement.Plain.TheVariants.{Init, Accepted, ConfigFiles, Assign, Subst, SubstValue, Define, DefineUnquoted, Error, ArgVar, CheckProg, CheckProgs, PathProg, ProgCc, Output}
-use Rattle.acmacros.specs.declared.statement.Question as asks
-use Rattle.acmacros.specs.declared.statement.Question.TheVariants.{Given, Tries}
-use Rattle.tree.specs.declared.tree.Subject.{Subject}
-use Rattle.tree.specs.declared.tree.Subject.TheVariants.{Nothing, Word, Asked}
-use Rattle.tree.specs.declared.tree.When.{When}
-use Rattle.tree.specs.declared.tree.When.TheVariants.{Holds, Matches, Yes, No, Always}
-use Rattle.tree.specs.Script.{Script, Done, Then, Choice, Cases, No_case, Case}
+use Rattle.syntax.specs.declared.feature.OptionKind.{OptionKind}
+use Rattle.syntax.specs.declared.feature.OptionKind.TheVariants.{Feature, Package}
+use Rattle.syntax.specs.declared.statement.Plain as plain
+use Rattle.syntax.specs.declared.statement.Plain.TheVariants.{Init, Accepted, ConfigFiles, Assign, Subst, SubstValue, Define, DefineUnquoted, Error, ArgVar, CheckProg, CheckProgs, PathProg, ProgCc, Output}
+use Rattle.syntax.specs.declared.statement.Question as asks
+use Rattle.syntax.specs.declared.statement.Question.TheVariants.{Given, Tries}
+use Rattle.syntax.specs.declared.tree.Subject.{Subject}
+use Rattle.syntax.specs.declared.tree.Subject.TheVariants.{Nothing, Word, Asked}
+use Rattle.syntax.specs.declared.tree.When.{When}
+use Rattle.syntax.specs.declared.tree.When.TheVariants.{Holds, Matches, Yes, No, Always}
+use Rattle.syntax.specs.Script.{Script, Done, Then, Choice, Cases, No_case, Case}
 use Rattle.meaning.specs.Package.{initialised}
 use Rattle.meaning.specs.Search.{Search, with_variable, value_or_empty, program_test}
 use Rattle.meaning.specs.Tries.{text_of, tried}
 use Rattle.meaning.specs.State.{State, Scope, no_choice, about, answered, Run, Ends, Goes_on, Completed, Stopped, then_run}
 
--- a name defined as a value, anew where it is defined
+-- A name defined as a value; a new definition replaces an old one. (Autoconf's manual, "Defining Symbols")
 abbrev pub with_definition : List ℕ → List ℕ → State → State
 with_definition name value st = record { vars = st.vars; defs = with_entry st.defs name value }
 
--- what a prefix is before it is settled, unless it was given
+-- The prefix is set, and is still `NONE`. (own)
 abbrev pub is_unsettled : Option (List ℕ) → Bool
 is_unsettled None = false
 is_unsettled (Some value) = bytes_eq value (codes "NONE")
 
--- a prefix that is `NONE`, set to what stands for that; any other stays as it is, one that is not set too
+-- A prefix that is `NONE` gets this value; any other stays as it is, and so does an unset one. (Autoconf's manual,
+-- "Installation Directory Variables")
 abbrev pub settled : List ℕ → List ℕ → State → State
 settled name value st = if is_unsettled (value_of st.vars name) then with_variable name value st else st
 
--- the end of a source: prefix and exec_prefix are settled
+-- The end of a source: prefix and exec_prefix get their values if they are still `NONE`. (Autoconf's manual,
+-- "Installation Directory Variables")
 abbrev pub with_prefixes : State → State
 with_prefixes st = settled (codes "exec_prefix") (codes "${prefix}") (settled (codes "prefix") (codes "/usr/local") st)
 
--- AC_CHECK_PROG: the search of a program for a variable, with the values where it is found and where it isn't
+-- AC_CHECK_PROG: the search for a program, with the variable's values if it is found and if it isn't. (Autoconf's
+-- manual, "Generic Programs")
 abbrev pub check_prog : List ℕ → List ℕ → List ℕ → Option (List ℕ) → Search
 check_prog variable program found otherwise =
     record { variable = variable; name = codes "ac_cv_prog_" ++ variable; program = program; found = Some found; otherwise = otherwise }
 
--- AC_PATH_PROG: the value is the program's full name where it is found
+-- AC_PATH_PROG: the value is the program's full name if it is found. (Autoconf's manual, "Generic Programs")
 abbrev pub path_prog : List ℕ → List ℕ → Option (List ℕ) → Search
 path_prog variable program otherwise =
     record { variable = variable; name = codes "ac_cv_path_" ++ variable; program = program; found = None; otherwise = otherwise }
 
--- a variable that is set to something
+-- The variable is set, and is not empty. (own)
 abbrev pub has_value : State → List ℕ → Bool
 has_value st name = not (length (value_or_empty st name) == 0)
 
+-- A slash or a backslash. (own)
 abbrev pub is_slash : ℕ → Bool
 is_slash b = b == 47 || b == 92
 
+-- The text begins with a slash or a backslash. (own)
 abbrev pub starts_slash : List ℕ → Bool
 starts_slash [] = false
 starts_slash (b ∷ bs) = is_slash b
 
--- a full name: it begins with a slash or a backslash, or with one byte, a colon and one of these
+-- A full name: it begins with a slash or a backslash, or with one byte, a colon and one of these. (own)
 abbrev pub is_full_name : List ℕ → Bool
 is_full_name [] = false
 is_full_name (a ∷ []) = is_slash a
 is_full_name (a ∷ b ∷ more) = is_slash a || (b == 58 && starts_slash more)
 
--- One program of several: the first is looked for always, each later one while the variable is empty.
+-- One program of several: the first is always looked for, a later one only if the variable is still empty. (Autoconf's
+-- manual, "Generic Programs")
 abbrev pub looks : List ℕ → List ℕ → Bool → State → Run
 looks variable program always st =
     if always || not (has_value st variable)
     then program_test (check_prog variable program program None) (has_value st variable) st
     else Ends Goes_on st
 
--- programs, one after the other
+-- Programs, one after the other. (own)
 abbrev pub looks_all : List ℕ → List (List ℕ) → Bool → State → Run
 looks_all variable [] always st = Ends Goes_on st
 looks_all variable (program ∷ more) always st = then_run (looks variable program always st) (looks_all variable more false)
 
--- a variable that is empty gets its default, if it has one
+-- A variable that is empty gets its default, if it has one. (Autoconf's manual, "Generic Programs")
 abbrev pub defaulted : List ℕ → Option (List ℕ) → State → State
 defaulted variable None st = st
 defaulted variable (Some value) st = if has_value st variable then st else with_variable variable value st
 
--- A statement. AC_INIT sets the package's variables and definitions; an assignment and AC_SUBST with a value set a
--- variable to the value of a word; programs are looked for; AC_DEFINE defines a name as a text, AC_DEFINE_UNQUOTED as the value of one;
--- AC_MSG_ERROR stops the run; AC_OUTPUT settles prefix and exec_prefix and completes the run. The others do nothing by
--- themselves.
+-- A statement: AC_INIT sets the package's variables and definitions; an assignment and AC_SUBST with a value set a
+-- variable to the value of a word; the macros of programs look for them; AC_DEFINE defines a name as a text,
+-- AC_DEFINE_UNQUOTED as the value of one; AC_MSG_ERROR stops the run; AC_OUTPUT gives prefix and exec_prefix their
+-- values and completes the run; and the others have no effect. (Autoconf's manual, the sections of the macros)
 unfoldable pub effect : plain.Plain → State → Run
 effect (Init title version bug tarname url) st = Ends Goes_on (initialised title version bug tarname url st)
 effect Accepted st = Ends Goes_on st
@@ -105,30 +111,31 @@ effect (PathProg variable program otherwise) st =
 effect (ProgCc programs) st = looks_all (codes "CC") programs true st
 effect Output st = Ends Completed (with_prefixes st)
 
--- the variable that has the value of an option which is given
+-- The variable that gets the value of an option if the option is given. (Autoconf's manual, "Choosing Package Options"
+-- and "External Software")
 abbrev pub value_name : OptionKind → List ℕ
 value_name Feature = codes "enableval"
 value_name Package = codes "withval"
 
--- whether an option is given, from the value of its variable
+-- An option is given if its variable is set. (Autoconf's manual, "Choosing Package Options")
 abbrev pub given : Option (List ℕ) → OptionKind → State → (Scope → State → Run) → Run
 given None kind st go = go (answered false) st
 given (Some value) kind st go = go (answered true) (with_variable (value_name kind) value st)
 
--- What is asked, and what goes on with the answer. An option is given where its variable is set; a program that is
--- tried passes where its children succeed.
+-- A question, and how the run continues with the answer: an option is given if its variable is set, and a program that
+-- is tried passes if its children succeed. (Autoconf's manual, "Running the Compiler")
 abbrev pub asked : asks.Question → State → (Scope → State → Run) → Run
 asked (Tries kind program) st go = tried kind (text_of program st.vars) st (λ passed. go (answered passed) st)
 asked (Given kind variable help) st go = given (value_of st.vars variable) kind st go
 
--- A choice begins with what it is about: nothing, the value of a word, or the answer to a question.
+-- A choice begins with its subject: nothing, the value of a word, or the answer to a question. (own)
 unfoldable pub begun : Subject → State → (Scope → State → Run) → Run
 begun Nothing st go = go no_choice st
 begun (Word word) st go = go (about (word_value word st.vars)) st
 begun (Asked question) st go = asked question st go
 
--- A case is taken: its test holds, or one of its patterns matches the value of the subject, or it is that of the answer,
--- or it is the default.
+-- A case is taken if its test holds, if one of its patterns matches the value of the subject, if it is for the answer,
+-- or if it is the default. (Autoconf's manual, "Common Shell Constructs")
 unfoldable pub is_taken : When → Scope → List (List ℕ × List ℕ) → Bool
 is_taken (Holds test) scope vars = truth test vars
 is_taken (Matches patterns) scope vars = matches_any patterns scope.subject
@@ -137,13 +144,13 @@ is_taken No scope vars = not scope.answer
 is_taken Always scope vars = true
 
 unfoldable mutual
-  -- A list of statements: the first, and where it goes on those that follow.
+  -- A list of statements: the first and, if the run continues, those that follow. (own)
   pub meaning : Script → State → Run
   meaning Done st = Ends Goes_on st
   meaning (Then s rest) st = then_run (effect s st) (meaning rest)
   meaning (Choice subject cases rest) st = begun subject st (λ scope now. then_run (chosen cases scope now) (meaning rest))
 
-  -- the statements of the first case that is taken, if any
+  -- The statements of the first case that is taken, if any. (own)
   pub chosen : Cases → Scope → State → Run
   chosen No_case scope st = Ends Goes_on st
   chosen (Case when body more) scope st = if is_taken when scope st.vars then meaning body st else chosen more scope st

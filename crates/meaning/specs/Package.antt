@@ -1,30 +1,30 @@
--- What AC_INIT says of a package (Autoconf's manual, "Initializing configure").
+-- What AC_INIT sets (Autoconf's manual, "Initializing configure").
 use Rattle.std.specs.Prelude.{ℕ, ◌||◌, ◌==◌, List, [], ◌∷◌, ◌++◌, codes, if◌then◌else◌}
 use Rattle.deftable.specs.Table.{with_entry}
 use Rattle.meaning.specs.State.{State}
 
--- a byte within a string literal of C: a backslash stands before a quote and before a backslash
+-- A byte within a string literal of C: a quote and a backslash get a backslash before them. (ISO C, "String literals")
 abbrev pub escaped_byte : ℕ → List ℕ
 escaped_byte b = if b == 34 || b == 92 then 92 ∷ b ∷ [] else b ∷ []
 
--- a text within a string literal of C
+-- A text within a string literal of C. (ISO C, "String literals")
 unfoldable pub escaped : List ℕ → List ℕ
 escaped [] = []
 escaped (b ∷ bs) = escaped_byte b ++ escaped bs
 
--- a string literal of C
+-- A string literal of C. (ISO C, "String literals")
 abbrev pub literal : List ℕ → List ℕ
 literal text = 34 ∷ (escaped text ++ 34 ∷ [])
 
--- an output variable of the package, which is a definition too
+-- An output variable of the package, which is a definition too. (Autoconf's manual, "Initializing configure")
 abbrev pub with_package : State → List ℕ → List ℕ → State
 with_package st name value = record { vars = with_entry st.vars name value; defs = with_entry st.defs name (literal value) }
 
--- a package's title and version
+-- A package's title and version, separated by a space. (Autoconf's manual, "Initializing configure")
 abbrev pub package_string : List ℕ → List ℕ → List ℕ
 package_string title version = title ++ (32 ∷ version)
 
--- the six variables and definitions of a package, in this order
+-- The six variables and definitions of a package, in this order. (Autoconf's manual, "Initializing configure")
 unfoldable pub initialised : List ℕ → List ℕ → List ℕ → List ℕ → List ℕ → State → State
 initialised title version bug tarname url st =
     let a = with_package st (codes "PACKAGE_NAME") title in

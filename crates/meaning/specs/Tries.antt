@@ -1,34 +1,35 @@
--- Programs that are tried.
+-- Programs that are tried (Autoconf's manual, "Running the Compiler").
 use Rattle.std.specs.Prelude.{ℕ, Bool, false, List, if◌then◌else◌}
 use Rattle.conftest.specs.Probe as probe
-use Rattle.conftest.specs.Sources.{program_source}
+use Rattle.csource.specs.Sources.{program_source}
 use Rattle.shellword.specs.Value.{word_value}
-use Rattle.acmacros.specs.declared.program.Try as kinds
-use Rattle.acmacros.specs.declared.program.Try.TheVariants.{Compile, Link, Preproc, Run}
-use Rattle.acmacros.specs.declared.program.Program as programs
-use Rattle.acmacros.specs.declared.program.Program.TheVariants.{Program, Source}
+use Rattle.syntax.specs.declared.program.Try as kinds
+use Rattle.syntax.specs.declared.program.Try.TheVariants.{Compile, Link, Preproc, Run}
+use Rattle.syntax.specs.declared.program.Program as programs
+use Rattle.syntax.specs.declared.program.Program.TheVariants.{Program, Source}
 use Rattle.meaning.specs.State as state
 use Rattle.meaning.specs.Asking.{child, compiled}
 
--- the text of a program, by the variables
+-- The text of a program, with the values of the variables. (Autoconf's manual, "Generating Sources")
 abbrev pub text_of : programs.Program → List (List ℕ × List ℕ) → List ℕ
 text_of (Program prologue body) vars = program_source (word_value prologue vars) (word_value body vars)
 text_of (Source text) vars = word_value text vars
 
--- what the first child does: a program that is to be run is linked
+-- The task of the first child; a program that is to be run is linked. (Autoconf's manual, "Runtime")
 abbrev pub first_probe : kinds.Try → List ℕ → probe.Probe
 first_probe Compile source = probe.Compile source
 first_probe Link source = probe.Link source
 first_probe Preproc source = probe.Preprocess source
 first_probe Run source = probe.Link source
 
--- what goes on after the first child: a program that was linked to be run is run
+-- What follows the first child: if a program was linked to be run, it is run. (Autoconf's manual, "Runtime")
 abbrev pub after_first : kinds.Try → state.State → (Bool → state.Run) → Bool → state.Run
 after_first Run st go linked = if linked then child (probe.run_of 0) st go else go false
 after_first Compile st go passed = go passed
 after_first Link st go passed = go passed
 after_first Preproc st go passed = go passed
 
--- A program is tried by one child, and where it is to be run by one more for what was linked.
+-- A program is tried by one child and, if it is to be run, by one more for the executable. (Autoconf's manual, "Running
+-- the Compiler" and "Runtime")
 abbrev pub tried : kinds.Try → List ℕ → state.State → (Bool → state.Run) → state.Run
 tried kind source st go = compiled (probe.job_of (first_probe kind source) 0 st.vars st.defs) st (after_first kind st go)

@@ -1,4 +1,4 @@
--- What an answer that is given by a function says in the words of a relation: for the clauses of the public calls.
+-- The result of a function, in the words of a relation: for the clauses of the public calls.
 use Rattle.std.proofs.Common.{◌≡◌, Result, Ok, Err, refl, subst}
 use Rattle.std.specs.Prelude.{IfOk, IfErr}
 use Rattle.options.specs.Reading.{Gives, Fails}
@@ -6,18 +6,18 @@ use Rattle.options.specs.declared.fault.OptionFault.{OptionFault}
 use Rattle.options.specs.declared.fault.OptionFault.TheVariants.{OutOfMemory}
 
 module _ {X Y : Type 0} (view : X → Y) (r : Result X OptionFault) (read : Result Y OptionFault) (given : Gives view r read) where
-  -- what is answered is so
+  -- A value that is returned is right.
   pub found : (Is : Y → Type 0) → ((y : Y) → read ≡ Ok y → Is y) → IfOk r (λ x. Is (view x))
   found Is holds = at r given where
     at : (r : Result X OptionFault) → Gives view r read → IfOk r (λ x. Is (view x))
     at (Ok x) e = holds (view x) e
     at (Err f) e = tt
 
-  -- what is so is answered
+  -- A right value is returned.
   pub only : (y : Y) → read ≡ Ok y → Gives view r (Ok y)
   only y is = subst (Gives view r) is given
 
-  -- a fault that is answered is the one
+  -- An error that is returned is right.
   pub fault : (Breaks : OptionFault → Type 0) → ((f : OptionFault) → read ≡ Err f → Breaks f) → IfErr r (λ f. (f ≡ OutOfMemory → ⊥) → Breaks f)
   fault Breaks holds = at r given where
     named_at : (f : OptionFault) → Fails f read → (f ≡ OutOfMemory → ⊥) → Breaks f
@@ -28,6 +28,6 @@ module _ {X Y : Type 0} (view : X → Y) (r : Result X OptionFault) (read : Resu
     at (Ok x) e = tt
     at (Err f) e = named_at f e
 
-  -- the fault is answered
+  -- A right error is returned.
   pub named : (f : OptionFault) → read ≡ Err f → Gives view r (Err f)
   named f is = subst (Gives view r) is given

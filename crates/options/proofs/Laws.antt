@@ -23,27 +23,27 @@ use Rattle.options.specs.declared.settings.Settings.{Settings}
 
 -- ---- the settings that arguments give
 
--- the function gives these settings if the arguments give them
+-- The function gives these settings if the arguments give them.
 pub given_is_settings : (i : ℕ) (arguments : List (List ℕ)) (settings : List Setting) → (given None i arguments ≡ Ok settings) ↔ GivesSettings i arguments settings
 given_is_settings i arguments settings = (λ e. subst (Reads i arguments) e (given_reads i arguments), settings_given)
 
--- and this fault if it is the first one
+-- It gives this error if it is the first one.
 pub given_is_fault : (i : ℕ) (arguments : List (List ℕ)) (fault : OptionFault) → (given None i arguments ≡ Err fault) ↔ IsFirstFault i arguments fault
 given_is_fault i arguments fault = (λ e. subst (Reads i arguments) e (given_reads i arguments), fault_given)
 
--- arguments give one list of settings
+-- Arguments give one list of settings.
 pub one_list : (i : ℕ) (arguments : List (List ℕ)) (a b : List Setting) → GivesSettings i arguments a → GivesSettings i arguments b → a ≡ b
 one_list i arguments a b h k = let first = settings_given h in let second = settings_given k in cc
 
--- or have one first fault
+-- Arguments have one first error.
 pub one_fault : (i : ℕ) (arguments : List (List ℕ)) (f g : OptionFault) → IsFirstFault i arguments f → IsFirstFault i arguments g → f ≡ g
 one_fault i arguments f g h k = let first = fault_given h in let second = fault_given k in cc
 
--- never both
+-- Arguments never have both.
 pub never_both : (i : ℕ) (arguments : List (List ℕ)) (settings : List Setting) (f : OptionFault) → GivesSettings i arguments settings → IsFirstFault i arguments f → ⊥
 never_both i arguments settings f h k = let first = settings_given h in let second = fault_given k in absurd (cc)
 
--- but one of the two
+-- Arguments have one of the two.
 pub one_of_both : (i : ℕ) (arguments : List (List ℕ)) → ((settings : List Setting) × GivesSettings i arguments settings) ⊎ ((f : OptionFault) × IsFirstFault i arguments f)
 one_of_both i arguments = at (given None i arguments) (given_reads i arguments) where
   at : (g : Result (List Setting) OptionFault) → Reads i arguments g → ((settings : List Setting) × GivesSettings i arguments settings) ⊎ ((f : OptionFault) × IsFirstFault i arguments f)
@@ -80,7 +80,7 @@ module _ (features packages precious arguments : List (List ℕ)) (environment :
 
 -- ---- the last setter
 
--- the value of a name that none of these sets stays
+-- A name that none of these sets keeps its value.
 kept : (entries vars : List (List ℕ × List ℕ)) (name : List ℕ) → has_name (names_of entries) name ≡ false → value_of (fold with_variable vars entries) name ≡ value_of vars name
 unfolding has_name
 kept [] vars name h = refl
@@ -109,7 +109,7 @@ unset_by_none entries name h = kept entries [] name h
 
 -- ---- final slashes and marks
 
--- a value without its final slashes, if this is the variable of the directory
+-- A value without its final slashes, if this is the variable of the directory.
 abbrev unslashed_at : List ℕ → Option (List ℕ) → Directory → Option (List ℕ)
 unslashed_at name value d = if bytes_eq name (variable_of d) then option_map without_slashes value else value
 
@@ -133,7 +133,7 @@ all_unslashed : (ds : List Directory) (vars : List (List ℕ × List ℕ)) (name
 all_unslashed [] vars name = refl
 all_unslashed (d ∷ ds) vars name = all_unslashed ds (with_unslashed vars d) name ∙ ap (λ v. fold (unslashed_at name) v ds) (unslashed_value vars name d)
 
--- the name of a mark of a precious variable
+-- The name of a mark of a precious variable.
 abbrev is_mark : List (List ℕ) → List ℕ → Bool
 is_mark [] name = false
 is_mark (x ∷ more) name = bytes_eq name (codes "ac_cv_env_" ++ x ++ codes "_set") || (bytes_eq name (codes "ac_cv_env_" ++ x ++ codes "_value") || is_mark more name)

@@ -10,12 +10,12 @@ use Rattle.options.specs.declared.fault.OptionFault.TheVariants.{Unknown, Missin
 
 -- ---- one argument
 
--- what gives a setting alone awaits no value
+-- What gives a setting alone needs no value.
 pub alone_awaits : (i : ℕ) (said : Said) (setting : Setting) → alone i said ≡ Ok setting → awaited_by said ≡ None
 alone_awaits i (Awaits target) setting h = absurd (cc)
 alone_awaits i said setting h = refl
 
--- an argument at fault is not one of these
+-- An argument with an error is none of these.
 pub fault_said : {i : ℕ} {word : List ℕ} {fault : OptionFault} → IsAtFault i word fault → (alone i (said_by word) ≡ Err fault) × (awaited_by (said_by word) ≡ None)
 fault_said {i = i} {word = word} (line.unknown other) = at (said_by word) refl (said_means i word) where
   at : (said : Said) → said_by word ≡ said → Means i word said → (alone i said ≡ Err (Unknown i)) × (awaited_by said ≡ None)
@@ -30,7 +30,7 @@ fault_said {i = i} {word = word} (line.unknown other) = at (said_by word) refl (
 fault_said {i = i} (line.bad_feature h) = let said = misnamed_said h in (ap (alone i) said, ap awaited_by said)
 fault_said {i = i} (line.bad_variable h) = let said = misassigned_said h in (ap (alone i) said, ap awaited_by said)
 
--- an argument that says nothing known is none of these
+-- An argument that is read as nothing known is none of these.
 other_is : (i : ℕ) (word : List ℕ) → said_by word ≡ Nothing → IsOther i word
 other_is i word e = record {
   no_setting = λ setting h. let said = setting_said h in let none = ap (alone i) e in absurd (cc);
@@ -39,7 +39,7 @@ other_is i word e = record {
   no_assignment = λ h. let said = misassigned_said h in absurd (cc);
 }
 
--- what an argument gives alone, or its fault
+-- What an argument gives alone, or its error.
 pub data Word (i : ℕ) (word : List ℕ) : Type 0 where
   gives : (setting : Setting) → GivesAlone i word setting → alone i (said_by word) ≡ Ok setting → awaited_by (said_by word) ≡ None → Word i word
   awaits : (target : Target) → IsOption word target → awaited_by (said_by word) ≡ Some target → Word i word
@@ -118,7 +118,7 @@ fault_given {i = i} (line.after_words {option = option} {value = value} {target 
 
 -- ---- from the function to the rule
 
--- what arguments give by the rule, and as the function says
+-- What arguments give by the rule, and as the function says.
 abbrev pub Reads : ℕ → List (List ℕ) → Result (List Setting) OptionFault → Type 0
 Reads i arguments (Ok settings) = GivesSettings i arguments settings
 Reads i arguments (Err fault) = IsFirstFault i arguments fault
@@ -133,7 +133,7 @@ two_read : (i : ℕ) (option value : List ℕ) (more : List (List ℕ)) (target 
 two_read i option value more target h (Ok settings) rest = line.two_words h value rest
 two_read i option value more target h (Err fault) rest = line.after_words h rest
 
--- an argument, with those after it
+-- An argument, with those after it.
 reads_at : (i : ℕ) (word : List ℕ) (more : List (List ℕ)) → ((n : ℕ) → Reads n more (given None n more))
     → ((n : ℕ) (next : List ℕ) (rest : List (List ℕ)) → more ≡ next ∷ rest → Reads n rest (given None n rest)) → Reads i (word ∷ more) (given None i (word ∷ more))
 reads_at i word more after later = at (word_of (i + 1) word) where
@@ -151,7 +151,7 @@ reads_at i word more after later = at (word_of (i + 1) word) where
   at (fails fault is said none) =
       subst (Reads i (word ∷ more)) (sym (given_alone i word more none ∙ ap (λ first. and_then first (given None (i + 1) more)) said)) (line.at_once is)
 
--- the arguments, and those after the first
+-- The arguments, and those after the first.
 both_read : (arguments : List (List ℕ))
     → ((i : ℕ) → Reads i arguments (given None i arguments)) × ((n : ℕ) (next : List ℕ) (rest : List (List ℕ)) → arguments ≡ next ∷ rest → Reads n rest (given None n rest))
 both_read [] = (λ i. subst (Reads i []) (sym (given_none i)) line.no_more, λ n next rest e. absurd (cc))

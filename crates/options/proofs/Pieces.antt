@@ -7,15 +7,15 @@ use Rattle.std.proofs.lemmas.Iterator.Adapters.{position_from-zero}
 use Rattle.std.proofs.lemmas.List.Quantifiers.{position-Some}
 use Rattle.std.proofs.lemmas.List.{take_all, length-drop}
 use Rattle.deftable.specs.ShellName.{starts_name, continues_name, is_shell_name_of}
-use Rattle.acargs.specs.Feature.{is_feature_byte, is_feature}
-use Rattle.acargs.specs.Texts.{is_empty}
+use Rattle.syntax.specs.Feature.{is_feature_byte, is_feature}
+use Rattle.syntax.specs.Texts.{is_empty}
 use Rattle.options.specs.Arguments.{value_in, rest_after}
 use Rattle.options.specs.CommandLine.{key_of, is_dashed}
 
 abbrev is_equals : ℕ → Bool
 is_equals b = b == 61
 
--- ---- the place of the first `=`
+-- ---- the offset of the first `=`
 
 key_take : (text : List ℕ) (i : ℕ) → i < length text → is_equals (get_or text i 0) ≡ true → ((k : ℕ) → k < i → is_equals (get_or text k 0) ≡ false) → take i text ≡ key_of text
 unfolding key_of
@@ -30,7 +30,7 @@ value_drop [] i lt here before = absurd (omega arith)
 value_drop (b ∷ bs) zero lt here before = rw here refl
 value_drop (b ∷ bs) (suc i) lt here before = rw (before 0 (omega arith)) (value_drop bs i (omega arith) here (λ k l. before (suc k) (omega arith)))
 
--- no `=`
+-- No `=`.
 whole_at : (i b : ℕ) (bs : List ℕ) (t : Bool) → (b == 61) ≡ t → (position_from is_equals (i + 1) bs ≡ None → (bs ≡ key_of bs) × (None ≡ value_in bs))
     → cond t (Some i) (position_from is_equals (i + 1) bs) ≡ None → (b ∷ bs ≡ key_of (b ∷ bs)) × (None ≡ value_in (b ∷ bs))
 unfolding key_of value_in
@@ -105,7 +105,7 @@ key_whole (b ∷ bs) e = at (b == 61) (key_whole bs) e where
   at true more h = absurd (cc)
   at false more h = ap (λ xs. b ∷ xs) (more h)
 
--- a key has no `=`
+-- A key has no `=`.
 pub key_key : (text : List ℕ) → key_of (key_of text) ≡ key_of text
 unfolding key_of
 key_key [] = refl
@@ -142,7 +142,7 @@ no_value_in (b ∷ bs) e = at (b == 61) (no_value_in bs) e where
 
 -- ---- names have no `=`
 
--- a byte that passes is another than one that doesn't
+-- A byte that passes is another than one that doesn't.
 pub other_byte : (p : ℕ → Bool) (b c : ℕ) → p c ≡ false → p b ≡ true → (b == c) ≡ false
 other_byte p b c no_c yes_b = at (b == c) refl where
   at : (t : Bool) → (b == c) ≡ t → t ≡ false

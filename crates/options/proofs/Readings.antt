@@ -1,4 +1,4 @@
--- What was read of a command line, one argument further.
+-- The result of the arguments that have been read, one argument further.
 use Rattle.std.proofs.Common.{◌≡◌, ℕ, ◌+◌, ◌<◌, ◌≤◌, List, Result, Ok, Err, length, drop, get_or, sym, ap, ◌∙◌, arith}
 use Rattle.std.proofs.Math.ListN.{drop_of_length-le}
 use Rattle.options.proofs.Turns.{next_of}
@@ -16,7 +16,7 @@ pub fails_along : {A : Type 0} (e : OptionFault) (r s : Result A OptionFault) �
 fails_along OutOfMemory r s eq h = tt
 fails_along e r s eq h = sym eq ∙ h
 
--- the reading of the arguments from i on, after the argument there
+-- The reading of the arguments from i on, after the argument there.
 at_argument : (features packages : List (List ℕ)) (r : Reader) (i : ℕ) (args : List (List ℕ)) (x : List ℕ) → i < length args → x ≡ get_or args i x
     → with_arguments features packages i r (drop i args) ≡ (with_argument features packages (i + 1) x r >>= λ next. with_arguments features packages (i + 1) next (drop (i + 1) args))
 unfolding with_arguments

@@ -14,16 +14,16 @@ use Rattle.options.specs.declared.fault.OptionFault.{OptionFault}
 use Rattle.options.specs.declared.fault.OptionFault.TheVariants.{Unknown, BadFeature, BadVariable, MissingValue, FatalUnrecognized}
 use Rattle.options.specs.declared.settings.Settings.{Settings}
 
--- the opening for a source with AC_ARG_ENABLE([a-b]) and a precious variable CC
+-- The opening for a source with AC_ARG_ENABLE([a-b]) and a precious variable CC.
 abbrev opened : List (List ℕ) → List (List ℕ × List ℕ) → Result Settings OptionFault
 opened arguments environment = opening (codes "enable_a_b" ∷ []) [] (codes "CC" ∷ []) arguments environment
 
--- a variable of the settings
+-- A variable of the settings.
 abbrev variable : List ℕ → Result Settings OptionFault → Option (List ℕ)
 variable name (Ok settings) = value_of settings.vars name
 variable name (Err fault) = None
 
--- the texts of the notes
+-- The texts of the notes.
 abbrev note_texts : List Note → List (List ℕ)
 note_texts [] = []
 note_texts (note ∷ more) = note.text ∷ note_texts more
@@ -40,7 +40,8 @@ abbrev directory : Result Settings OptionFault → List ℕ
 directory (Ok settings) = settings.srcdir
 directory (Err fault) = []
 
--- the directory of the source: a final slash is dropped, arguments at fault and values of other options are passed over
+-- The directory of the source: a final slash is dropped, arguments with errors and values of other options are passed
+-- over.
 sources :
     (srcdir_of (codes "--srcdir=../s/" ∷ []) ≡ codes "../s")
     × (srcdir_of [] ≡ codes ".")
@@ -50,7 +51,7 @@ sources :
 unfolding srcdir_of srcdir_from said_by dashed_of switch_of said_with_value target_of folder_of choice_of package_of value_in rest_after key_of directory_named directories variable_of option_of unslashed without_slashes
 sources = (refl, refl, refl, refl, refl)
 
--- the last setter counts: the environment, the directories, the arguments
+-- The last setter counts: the environment, the directories, the arguments.
 last_setters :
     (variable (codes "HOME") (opened [] ((codes "HOME", codes "1") ∷ (codes "HOME", codes "2") ∷ [])) ≡ Some (codes "2"))
     × (variable (codes "prefix") (opened [] ((codes "prefix", codes "/x") ∷ [])) ≡ Some (codes "NONE"))
@@ -61,7 +62,7 @@ last_setters :
 unfolding opening given said_by dashed_of switch_of said_with_value target_of folder_of choice_of package_of value_in rest_after key_of directory_named directories variable_of default_of option_of opened_by run_settings source_directory setters set_by finished with_unslashed with_marks is_declared cache_named unslashed without_slashes notes_of warning listed after_comma value_of with_entry has_name
 last_setters = (refl, refl, refl, refl, refl, refl)
 
--- an option that is the value of another is no option; final slashes are dropped; some options have no effect
+-- An option that is the value of another is no option; final slashes are dropped; some options have no effect.
 directory_values :
     (variable (codes "prefix") (opened (codes "--prefix=/usr/" ∷ []) []) ≡ Some (codes "/usr"))
     × (variable (codes "prefix") (opened (codes "--prefix" ∷ codes "--quiet" ∷ []) []) ≡ Some (codes "--quiet"))
@@ -71,7 +72,7 @@ directory_values :
 unfolding opening given said_by dashed_of switch_of said_with_value target_of folder_of choice_of package_of value_in rest_after key_of directory_named directories variable_of default_of option_of opened_by run_settings source_directory setters set_by finished with_unslashed with_marks is_declared cache_named unslashed without_slashes notes_of warning listed after_comma value_of with_entry has_name
 directory_values = (refl, refl, refl, refl, refl)
 
--- the marks of a precious variable
+-- The marks of a precious variable.
 marks :
     (variable (codes "ac_cv_env_CC_set") (opened (codes "CC=tcc" ∷ []) []) ≡ Some (codes "set"))
     × (variable (codes "ac_cv_env_CC_value") (opened (codes "CC=tcc" ∷ []) ((codes "CC", codes "cc") ∷ [])) ≡ Some (codes "tcc"))
@@ -80,7 +81,7 @@ marks :
 unfolding opening given said_by dashed_of switch_of said_with_value target_of folder_of choice_of package_of value_in rest_after key_of directory_named directories variable_of default_of option_of opened_by run_settings source_directory setters set_by finished with_unslashed with_marks is_declared cache_named unslashed without_slashes notes_of warning listed after_comma value_of with_entry has_name
 marks = (refl, refl, refl, refl)
 
--- what is no option that is known, and no assignment
+-- Neither a known option nor an assignment.
 unknown_words :
     (opened (codes "-x" ∷ []) [] ≡ Err (Unknown 1))
     × (opened (codes "--zz" ∷ []) [] ≡ Err (Unknown 1))
@@ -90,7 +91,7 @@ unknown_words :
 unfolding opening given said_by dashed_of switch_of said_with_value target_of folder_of choice_of package_of value_in rest_after key_of directory_named directories variable_of default_of option_of opened_by run_settings source_directory setters set_by finished with_unslashed with_marks is_declared cache_named unslashed without_slashes notes_of warning listed after_comma value_of with_entry has_name
 unknown_words = (refl, refl, refl, refl, refl)
 
--- names that are none
+-- Names without the form of one.
 bad_names :
     (opened (codes "1=2" ∷ []) [] ≡ Err (BadVariable 1))
     × (opened (codes "=" ∷ []) [] ≡ Err (BadVariable 1))
@@ -100,14 +101,14 @@ bad_names :
 unfolding opening given said_by dashed_of switch_of said_with_value target_of folder_of choice_of package_of value_in rest_after key_of directory_named directories variable_of default_of option_of opened_by run_settings source_directory setters set_by finished with_unslashed with_marks is_declared cache_named unslashed without_slashes notes_of warning listed after_comma value_of with_entry has_name
 bad_names = (refl, refl, refl, refl, refl)
 
--- the last argument awaits a value
+-- The last argument needs a value.
 missing_values :
     (opened (codes "--prefix" ∷ []) [] ≡ Err (MissingValue 1))
     × (opened (codes "-q" ∷ codes "--prefix" ∷ codes "--prefix" ∷ codes "--srcdir" ∷ []) [] ≡ Err (MissingValue 4))
 unfolding opening given said_by dashed_of switch_of said_with_value target_of folder_of choice_of package_of value_in rest_after key_of directory_named directories variable_of default_of option_of opened_by run_settings source_directory setters set_by finished with_unslashed with_marks is_declared cache_named unslashed without_slashes notes_of warning listed after_comma value_of with_entry has_name
 missing_values = (refl, refl)
 
--- the first fault counts, and one of the arguments comes before one of the options
+-- The first error counts, and an error of an argument comes before one of the options.
 first_faults :
     (opened (codes "1=2" ∷ codes "--zz" ∷ codes "--prefix" ∷ []) [] ≡ Err (BadVariable 1))
     × (opened (codes "--enable-zz" ∷ codes "--enable-option-checking=fatal" ∷ []) [] ≡ Err (FatalUnrecognized 1))
@@ -115,7 +116,7 @@ first_faults :
 unfolding opening given said_by dashed_of switch_of said_with_value target_of folder_of choice_of package_of value_in rest_after key_of directory_named directories variable_of default_of option_of opened_by run_settings source_directory setters set_by finished with_unslashed with_marks is_declared cache_named unslashed without_slashes notes_of warning listed after_comma value_of with_entry has_name
 first_faults = (refl, refl, refl)
 
--- options that no macro declares, each up to its `=`
+-- Options that no macro declares, each up to its `=`.
 warnings :
     (told (opened (codes "--enable-zz" ∷ []) []) ≡ codes "configure: WARNING: unrecognized options: --enable-zz\n" ∷ [])
     × (told (opened (codes "--enable-zz=1" ∷ codes "--without-y" ∷ []) []) ≡ codes "configure: WARNING: unrecognized options: --enable-zz, --without-y\n" ∷ [])
@@ -123,14 +124,14 @@ warnings :
 unfolding opening given said_by dashed_of switch_of said_with_value target_of folder_of choice_of package_of value_in rest_after key_of directory_named directories variable_of default_of option_of opened_by run_settings source_directory setters set_by finished with_unslashed with_marks is_declared cache_named unslashed without_slashes notes_of warning listed after_comma value_of with_entry has_name
 warnings = (refl, refl, refl)
 
--- the last cache that is named
+-- The last cache that is named.
 caches :
     (cache (opened (codes "--cache-file=c" ∷ codes "-C" ∷ []) []) ≡ Some (codes "config.cache"))
     × (cache (opened (codes "-C" ∷ codes "--cache-file=/dev/null" ∷ []) []) ≡ None)
 unfolding opening given said_by dashed_of switch_of said_with_value target_of folder_of choice_of package_of value_in rest_after key_of directory_named directories variable_of default_of option_of opened_by run_settings source_directory setters set_by finished with_unslashed with_marks is_declared cache_named unslashed without_slashes notes_of warning listed after_comma value_of with_entry has_name
 caches = (refl, refl)
 
--- the last directory of the source that is named
+-- The last directory of the source that is named.
 last_source :
     (directory (opened (codes "--srcdir=a" ∷ codes "--srcdir" ∷ codes "b//" ∷ []) []) ≡ codes "b")
     × (directory (opened [] []) ≡ codes ".")

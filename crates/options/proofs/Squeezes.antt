@@ -1,4 +1,4 @@
--- A text whose runs of blanks are made one space, one byte further.
+-- A text in which each run of blanks becomes one space, one byte further.
 use Rattle.std.proofs.Common.{◌≡◌, ℕ, ◌+◌, ◌<◌, ◌≤◌, Bool, List, ◌++◌, length, drop, get_or, sym, ap, ◌∙◌, append_assoc}
 use Rattle.std.proofs.lemmas.List.{drop_more, append-nil}
 use Rattle.std.proofs.Math.ListN.{drop_of_length-le}

@@ -5,7 +5,7 @@ use Rattle.std.proofs.lemmas.List.{append-nil}
 use Rattle.std.proofs.lemmas.List.Sums.{fold-append}
 use Rattle.deftable.specs.ShellName.{is_shell_name_of}
 use Rattle.deftable.specs.Table.{with_entry}
-use Rattle.acargs.specs.Feature.{option_variable}
+use Rattle.syntax.specs.Feature.{option_variable}
 use Rattle.options.proofs.Lines.{alone_awaits, given_reads, Reads}
 use Rattle.options.proofs.Words.{option_said, setting_said}
 use Rattle.options.specs.Arguments.{Said, Turns, Gives, Awaits, Chooses, Misnames, Assigns, Misassigns, Nothing, said_by, alone, awaited_by, and_then, given}
@@ -27,7 +27,7 @@ use Rattle.options.specs.declared.fault.OptionFault.TheVariants.{MissingValue}
 use Rattle.options.specs.declared.reader.Reader.{Reader}
 use Rattle.options.specs.declared.settings.Settings.{Settings}
 
--- ---- what a setting makes of a reader
+-- ---- how a setting changes a reader
 
 abbrev after : List (List ℕ) → List (List ℕ) → Setting → Reader → Reader
 after features packages (Variable name value) r = record r { vars = with_entry r.vars name value }
@@ -67,7 +67,7 @@ awaits_is features packages i (Assigns name value) t r e = absurd (cc)
 awaits_is features packages i Misassigns t r e = absurd (cc)
 awaits_is features packages i Nothing t r e = absurd (cc)
 
--- no option awaits its value
+-- No option needs a value.
 abbrev idle : Reader → Reader
 idle r = record r { awaited = None }
 
@@ -96,7 +96,7 @@ unfolding after_all
 joined features packages first r (Ok settings) = refl
 joined features packages first r (Err fault) = refl
 
--- what is read after an argument
+-- What is read after an argument.
 abbrev Step : List (List ℕ) → List (List ℕ) → List (List ℕ) → Type 0
 Step features packages more = (awaited : Option Target) (i : ℕ) (r : Reader) → r.awaited ≡ awaited
     → with_arguments features packages i r more ≡ (given awaited i more >>= λ settings. Ok (after_all features packages settings (idle r)))
@@ -127,7 +127,7 @@ value_steps features packages target value more i r e step =
     ∙ ap (λ next. with_arguments features packages (i + 1) next more) (value_after features packages target value (idle r))
     ∙ after_setting features packages more (i + 1) (valued target value) (idle r) refl step
 
--- an argument that isn't the value of an option
+-- An argument that isn't the value of an option.
 word_steps : (features packages : List (List ℕ)) (word : List ℕ) (more : List (List ℕ)) (i : ℕ) (r : Reader) → r.awaited ≡ None → Step features packages more
     → with_arguments features packages i r (word ∷ more) ≡ (given None i (word ∷ more) >>= λ settings. Ok (after_all features packages settings (idle r)))
 unfolding with_arguments with_argument given
@@ -164,7 +164,7 @@ steps features packages (word ∷ more) =
       at None i r e step = word_steps features packages word more i r e step
       at (Some target) i r e step = value_steps features packages target word more i r e step
 
--- ---- what all settings make of a reader
+-- ---- how all settings change a reader
 
 or_true : (b : Bool) → (b || true) ≡ true
 or_true true = refl
@@ -397,7 +397,7 @@ srcdir_agrees arguments settings h = ap without_slashes (named_source h (codes "
 
 -- ---- the whole
 
--- the settings of these parts
+-- The settings of these parts.
 unfoldable made_of : List (List ℕ) → List (List ℕ × List ℕ) → List (ℕ × List ℕ) → Option (List ℕ) → List ℕ → Bool → Bool → Bool → Bool → Result Settings OptionFault
 made_of precious vars unrecognized cache srcdir quiet no_create help version =
     notes_of (checking_in vars) unrecognized >>= λ notes. Ok record {

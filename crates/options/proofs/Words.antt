@@ -1,4 +1,4 @@
--- What one argument says, as a function and by its rule.
+-- How one argument is read, as a function and by its rule.
 use Rattle.std.proofs.Common.{◌≡◌, ℕ, Bool, true, false, ◌||◌, if◌then◌else◌, List, [], ◌∷◌, ◌++◌, append_assoc, Option, Some, None, Ok, codes, refl, sym, ap, subst, ◌∙◌}
 use Rattle.std.specs.Prelude.{unwrap_or}
 use Rattle.std.specs.List.{find}
@@ -6,9 +6,9 @@ use Rattle.std.specs.Option.{option_map}
 use Rattle.std.specs.Str.{bytes_eq}
 use Rattle.std.proofs.lemmas.Slice.Eq.{bytes_eq-Decides}
 use Rattle.deftable.specs.ShellName.{is_shell_name_of}
-use Rattle.acargs.specs.Feature.{is_feature}
-use Rattle.acargs.specs.declared.feature.OptionKind.{OptionKind}
-use Rattle.acargs.specs.declared.feature.OptionKind.TheVariants.{Feature, Package}
+use Rattle.syntax.specs.Feature.{is_feature}
+use Rattle.syntax.specs.declared.feature.OptionKind.{OptionKind}
+use Rattle.syntax.specs.declared.feature.OptionKind.TheVariants.{Feature, Package}
 use Rattle.options.proofs.Pieces.{rest_is, text_parts, key_whole, key_key, key_front, value_front, no_value_in, feature_key, shell_key, shell_plain}
 use Rattle.options.specs.Arguments.{Said, Turns, Gives, Awaits, Chooses, Misnames, Assigns, Misassigns, Nothing, switch_of, folder_named, folder_of, target_of, chosen, enabled, disabled, package_of, choice_of, given_or_awaited, said_with_value, dashed_of, assigned, said_by, value_in, rest_after, alone}
 use Rattle.options.specs.CommandLine as line
@@ -90,7 +90,7 @@ directory_given Psdir value = refl
 directory_given Localedir value = refl
 directory_given Mandir value = refl
 
--- an option by itself takes the next argument
+-- An option by itself takes the next argument.
 pub option_said : {option : List ℕ} {target : Target} → IsOption option target → said_by option ≡ Awaits target
 unfolding said_by dashed_of switch_of said_with_value key_of value_in target_of folder_of rest_after
 option_said line.srcdir = refl
@@ -123,7 +123,7 @@ unfolding key_of
 disabling_key Feature rest = refl
 disabling_key Package rest = refl
 
--- ---- a name that can be one, or can't
+-- ---- a name that has the form of one, or hasn't
 
 chosen_right : (kind : OptionKind) (name value option : List ℕ) → is_feature name ≡ true → chosen kind name value option ≡ Chooses kind name value option
 chosen_right kind name value option h = rw h refl
@@ -165,7 +165,7 @@ plain_said name value plain key =
     ∙ ap (λ k. assigned k (value_in (name ++ codes "=" ++ value))) (key_front name value key)
     ∙ ap (assigned name) (value_front name value key)
 
--- what gives a setting alone
+-- What gives a setting alone.
 pub setting_said : {i : ℕ} {word : List ℕ} {setting : Setting} → GivesAlone i word setting → alone i (said_by word) ≡ Ok setting
 setting_said {i = i} (line.switch is) = ap (alone i) (switch_said is)
 setting_said {i = i} (line.option is value) = ap (alone i) (option_given is value)
@@ -184,12 +184,12 @@ misassigned_said (line.misassigned name value plain key h) = plain_said name val
 
 -- ---- from the function to the rule
 
--- the cases of a choice
+-- The cases of a choice.
 by_choice : {A G : Type 0} (t : Bool) (x y z : A) → (t ≡ true → x ≡ z → G) → (y ≡ z → G) → (if t then x else y) ≡ z → G
 by_choice true x y z first second h = first refl h
 by_choice false x y z first second h = second h
 
--- what holds of a word holds of a text that is it
+-- What holds for a word holds for an equal text.
 one_of : (P : List ℕ → Type 0) (text word : List ℕ) → P word → bytes_eq text word ≡ true → P text
 one_of P text word h e = subst P (sym ((bytes_eq-Decides text word).0 e)) h
 
@@ -221,7 +221,7 @@ switch_is word switch = by_choice _ _ _ _ (λ t e. same_switch word e (one_of_tw
     (by_choice _ _ _ _ (λ t e. same_switch word e (one_of_three (Is Ignored) word _ _ _ line.verbose_short line.verbose line.no_recursion t))
     (λ e. absurd (cc)))))))
 
--- the directory that is found has this option
+-- The directory that is found has this option.
 found_option : (option : List ℕ) (d : Directory) (ds : List Directory) → find (λ d. bytes_eq (option_of d) option) ds ≡ Some d → option_of d ≡ option
 found_option option d [] h = absurd (cc)
 found_option option d (x ∷ xs) h = at (bytes_eq (option_of x) option) refl (found_option option d xs) h where
@@ -251,7 +251,7 @@ target_is key target = by_choice _ _ _ _ (λ t e. same_target key e (one_of (λ 
       at None is h = absurd (cc)
       at (Some option) is h = subst (λ k. IsOption k target) (sym (rest_is (codes "--") key option is)) (folder_is option target h)
 
--- what the rule says of an argument that says this
+-- What the rule gives for an argument with this reading.
 abbrev pub Means : ℕ → List ℕ → Said → Type 0
 Means i word (Turns switch) = GivesAlone i word (Switched switch)
 Means i word (Gives target value) = GivesAlone i word (valued target value)

@@ -1,20 +1,20 @@
--- The directories of an installation (Autoconf's manual, "Installation Directory Variables"), with prefix and exec_prefix
--- in front of them: their variables, their options, and their defaults. That a prefix is `NONE`
--- until the end of a run is own.
+-- The directories of an installation (Autoconf's manual, "Installation Directory Variables"), after prefix and
+-- exec_prefix: their variables, their options, and their defaults. That a prefix is `NONE` until the end of a run is
+-- own.
 use Rattle.std.specs.Prelude.{ℕ, List, [], ◌∷◌, map, Option, codes}
 use Rattle.std.specs.List.{find}
 use Rattle.std.specs.Str.{bytes_eq}
 use Rattle.options.specs.declared.directory.Directory.{Directory}
 use Rattle.options.specs.declared.directory.Directory.TheVariants.{Prefix, ExecPrefix, Bindir, Sbindir, Libexecdir, Libdir, Datarootdir, Datadir, Sysconfdir, Sharedstatedir, Localstatedir, Runstatedir, Includedir, Oldincludedir, Docdir, Infodir, Htmldir, Dvidir, Pdfdir, Psdir, Localedir, Mandir}
 
--- all of them, in their order
+-- All directories, in order. (Autoconf's manual, "Installation Directory Variables")
 unfoldable pub directories : List Directory
 directories =
     Prefix ∷ ExecPrefix ∷ Bindir ∷ Sbindir ∷ Libexecdir ∷ Libdir ∷ Datarootdir ∷ Datadir ∷ Sysconfdir ∷ Sharedstatedir
     ∷ Localstatedir ∷ Runstatedir ∷ Includedir ∷ Oldincludedir ∷ Docdir ∷ Infodir ∷ Htmldir ∷ Dvidir ∷ Pdfdir ∷ Psdir
     ∷ Localedir ∷ Mandir ∷ []
 
--- the variable that holds it
+-- The variable of a directory. (Autoconf's manual, "Installation Directory Variables")
 unfoldable pub variable_of : Directory → List ℕ
 variable_of Prefix = codes "prefix"
 variable_of ExecPrefix = codes "exec_prefix"
@@ -39,7 +39,7 @@ variable_of Psdir = codes "psdir"
 variable_of Localedir = codes "localedir"
 variable_of Mandir = codes "mandir"
 
--- its default
+-- The default of a directory. (Autoconf's manual, "Installation Directory Variables")
 unfoldable pub default_of : Directory → List ℕ
 default_of Prefix = codes "NONE"
 default_of ExecPrefix = codes "NONE"
@@ -64,15 +64,16 @@ default_of Psdir = codes "${docdir}"
 default_of Localedir = codes "${datarootdir}/locale"
 default_of Mandir = codes "${datarootdir}/man"
 
--- its option, without the dashes in front: the variable's name, but for `exec-prefix`
+-- The option of a directory, without the dashes in front: the variable's name, except for `exec-prefix`. (Autoconf's
+-- manual, "Installation Directory Variables")
 unfoldable pub option_of : Directory → List ℕ
 option_of ExecPrefix = codes "exec-prefix"
 option_of directory = variable_of directory
 
--- the names of the variables, in the order of the directories
+-- The names of the variables, in the order of the directories. (own)
 unfoldable pub directory_names : List (List ℕ)
 directory_names = map variable_of directories
 
--- the directory of this option
+-- The directory with this option. (own)
 unfoldable pub directory_named : List ℕ → Option Directory
 directory_named option = find (λ directory. bytes_eq (option_of directory) option) directories

@@ -1,12 +1,12 @@
 -- The opening of a run: the variables and the settings that it begins with, from the environment and the arguments of a
--- command line (Autoconf's manual, "Running configure Scripts", "Setting Output Variables" and "Cache Variables").
+-- command line (Autoconf's manual, "Running configure Scripts", "Setting Output Variables" and "Cache Files").
 use Rattle.std.specs.Prelude.{◌≡◌, ℕ, Bool, true, false, ◌||◌, List, [], ◌∷◌, ◌++◌, map, filter, Option, Some, None, unwrap_or, Result, Ok, Err, fold, codes, if◌then◌else◌}
 use Rattle.std.specs.List.{flat_map, list_any}
 use Rattle.std.specs.Str.{bytes_eq}
 use Rattle.deftable.specs.NameList.{has_name}
 use Rattle.deftable.specs.ShellName.{is_shell_name_of}
 use Rattle.deftable.specs.Table.{value_of, with_entry}
-use Rattle.acargs.specs.Feature.{option_variable}
+use Rattle.syntax.specs.Feature.{option_variable}
 use Rattle.options.specs.Arguments.{given}
 use Rattle.options.specs.CommandLine.{Setting, Variable, Choice, Cache, Source, Switched, GivesSettings, IsFirstFault}
 use Rattle.options.specs.Directories.{directories, variable_of, default_of}
@@ -21,118 +21,119 @@ use Rattle.options.specs.declared.settings.Settings.{Settings}
 
 -- ---- which setting counts
 
--- the last of these, or else the first argument
+-- The last of these, or else the first argument. (own)
 abbrev pub last_of : {A : Type 0} → A → List A → A
 last_of otherwise [] = otherwise
 last_of otherwise (x ∷ xs) = last_of x xs
 
--- the cache of a name: none if the name is empty or `/dev/null`
+-- The cache of a name: none if the name is empty or `/dev/null`. (Autoconf's manual, "Cache Files")
 unfoldable pub cache_named : List ℕ → Option (List ℕ)
 cache_named name = if bytes_eq name [] || bytes_eq name (codes "/dev/null") then None else Some name
 
--- the cache that a setting names, or none
+-- The cache that a setting names, or none. (own)
 abbrev pub caches_in : Setting → List (Option (List ℕ))
 caches_in (Cache name) = cache_named name ∷ []
 caches_in (Switched ConfigCache) = Some (codes "config.cache") ∷ []
 caches_in other = []
 
--- the directory of the source that a setting names
+-- The directory of the source that a setting names. (own)
 abbrev pub sources_in : Setting → List (List ℕ)
 sources_in (Source directory) = directory ∷ []
 sources_in other = []
 
--- the directory of the source: the last one that is named, without final slashes; the current one if none is
+-- The directory of the source: the last one that is named, without final slashes, or the current one if none is. (own)
 unfoldable pub source_directory : List Setting → List ℕ
 source_directory settings = without_slashes (last_of (codes ".") (flat_map sources_in settings))
 
--- the setting is `--quiet`
+-- The setting is `--quiet`. (own)
 abbrev pub is_quiet : Setting → Bool
 is_quiet (Switched Quiet) = true
 is_quiet other = false
 
--- the setting is `--no-create`
+-- The setting is `--no-create`. (own)
 abbrev pub is_no_create : Setting → Bool
 is_no_create (Switched NoCreate) = true
 is_no_create other = false
 
--- the setting is `--help`
+-- The setting is `--help`. (own)
 abbrev pub is_help : Setting → Bool
 is_help (Switched Help) = true
 is_help other = false
 
--- the setting is `--version`
+-- The setting is `--version`. (own)
 abbrev pub is_version : Setting → Bool
 is_version (Switched Version) = true
 is_version other = false
 
 -- ---- variables
 
--- the variable that a setting sets, and its value
+-- The variable that a setting sets, and its value. (own)
 abbrev pub variables_in : Setting → List (List ℕ × List ℕ)
 variables_in (Variable name value) = (name, value) ∷ []
 variables_in (Choice place kind name value option) = (option_variable kind name, value) ∷ []
 variables_in other = []
 
--- the variable of a directory, and its default
+-- The variable of a directory, and its default. (own)
 abbrev pub default_entry : Directory → List ℕ × List ℕ
 default_entry directory = (variable_of directory, default_of directory)
 
--- What sets a variable, from first to last: the entries of the environment whose names are shell names; the directories,
--- to their defaults; and the settings.
+-- What sets variables, from first to last: the entries of the environment with shell names, the defaults of the
+-- directories, and the settings. (own)
 unfoldable pub setters : List (List ℕ × List ℕ) → List Setting → List (List ℕ × List ℕ)
 setters environment settings =
     filter (λ entry. is_shell_name_of entry.0) environment ++ map default_entry directories ++ flat_map variables_in settings
 
--- with a variable set to a value
+-- The variables with one set to a value. (own)
 abbrev pub with_variable : List (List ℕ × List ℕ) → List ℕ × List ℕ → List (List ℕ × List ℕ)
 with_variable vars entry = with_entry vars entry.0 entry.1
 
--- the variables that all of these set: each has the value of its last setter
+-- The variables after all of these are set: each has the value of its last setter. (own)
 unfoldable pub set_by : List (List ℕ × List ℕ) → List (List ℕ × List ℕ)
 set_by entries = fold with_variable [] entries
 
--- with a directory's value without its final slashes
+-- The variables with the final slashes of a directory's value dropped. (own)
 unfoldable pub with_unslashed : List (List ℕ × List ℕ) → Directory → List (List ℕ × List ℕ)
 with_unslashed vars directory = elim (value_of vars (variable_of directory)) [
   | None ↦ vars
   | Some value ↦ with_entry vars (variable_of directory) (without_slashes value)
 ]
 
--- `set`, or nothing for what isn't set
+-- `set`, or the empty text if the variable isn't set. (own)
 abbrev pub set_mark : Option (List ℕ) → List ℕ
 set_mark (Some value) = codes "set"
 set_mark None = []
 
--- with the marks of a precious variable: whether it is set, and its value
+-- The variables with the marks of a precious variable: whether it is set, and its value. (own)
 unfoldable pub with_marks : List (List ℕ × List ℕ) → List ℕ → List (List ℕ × List ℕ)
 with_marks vars name =
     with_entry (with_entry vars (codes "ac_cv_env_" ++ name ++ codes "_set") (set_mark (value_of vars name)))
     (codes "ac_cv_env_" ++ name ++ codes "_value") (unwrap_or (value_of vars name) [])
 
--- the variables after all of the above: final slashes of directories are dropped, and then precious variables are marked
+-- The variables at the end: final slashes of directories are dropped, and then precious variables are marked. (own)
 unfoldable pub finished : List (List ℕ) → List (List ℕ × List ℕ) → List (List ℕ × List ℕ)
 finished precious vars = fold with_marks (fold with_unslashed vars directories) precious
 
 -- ---- options that no macro declares
 
--- a macro of the source declares the variable, or it is that of `--enable-option-checking`
+-- The source declares the variable, or it is that of `--enable-option-checking`. (Autoconf's manual, "Controlling
+-- Checking of configure Options")
 unfoldable pub is_declared : List (List ℕ) → List (List ℕ) → List ℕ → Bool
 is_declared features packages variable =
     has_name features variable || has_name packages variable || bytes_eq variable (codes "enable_option_checking")
 
--- the option of a feature or a package, with its place, if its variable is not declared
+-- The option of a feature or a package, with the number of its argument, if its variable is not declared. (own)
 abbrev pub undeclared_in : List (List ℕ) → List (List ℕ) → Setting → List (ℕ × List ℕ)
 undeclared_in features packages (Choice place kind name value option) =
     if is_declared features packages (option_variable kind name) then [] else (place, option) ∷ []
 undeclared_in features packages other = []
 
--- how options are checked: the value of `enable_option_checking`, or nothing
+-- How options are checked: the value of `enable_option_checking`, or the empty text if it isn't set. (own)
 abbrev pub checking_in : List (List ℕ × List ℕ) → List ℕ
 checking_in vars = unwrap_or (value_of vars (codes "enable_option_checking")) []
 
 -- ---- the opening
 
--- the run's settings, with these variables set and these notes
+-- The settings of the run, with these variables and these notes. (own)
 unfoldable pub run_settings : List (List ℕ) → List (List ℕ × List ℕ) → List Setting → List Note → Settings
 run_settings precious vars settings notes = record {
   vars = finished precious vars;
@@ -145,26 +146,27 @@ run_settings precious vars settings notes = record {
   version = list_any is_version settings;
 }
 
--- what a run begins with, by the settings of its arguments; a fault if options are checked fatally and one isn't declared
+-- What a run begins with, by the settings of its arguments, or the error if options are checked fatally and one isn't
+-- declared. (own)
 unfoldable pub opened_by : List (List ℕ) → List (List ℕ) → List (List ℕ) → List (List ℕ × List ℕ) → List Setting → Result Settings OptionFault
 opened_by features packages precious environment settings =
     let vars : List (List ℕ × List ℕ) = set_by (setters environment settings) in
     notes_of (checking_in vars) (flat_map (undeclared_in features packages) settings) >>= λ notes. Ok (run_settings precious vars settings notes)
 
 -- What a run begins with, by a command line and an environment, if the source declares these features, packages and
--- precious variables; or the first fault.
+-- precious variables, or the first error. (Autoconf's manual, "Running configure Scripts")
 unfoldable pub opening : List (List ℕ) → List (List ℕ) → List (List ℕ) → List (List ℕ) → List (List ℕ × List ℕ) → Result Settings OptionFault
 opening features packages precious arguments environment = given None 0 arguments >>= opened_by features packages precious environment
 
 -- ---- the same as relations
 
--- The arguments give settings, and the run begins with this.
+-- The arguments give settings, and the run begins with these. (own)
 pub record IsOpening (features packages precious arguments : List (List ℕ)) (environment : List (List ℕ × List ℕ)) (opened : Settings) : Type 0 where
   pub settings : List Setting
   pub gives : GivesSettings 0 arguments settings
   pub is : opened_by features packages precious environment settings ≡ Ok opened
 
--- The first fault: of the arguments; or if there is none, of an option that isn't declared.
+-- The first error: of the arguments or, if they have none, of an option that isn't declared. (own)
 pub data IsOpeningFault (features packages precious arguments : List (List ℕ)) (environment : List (List ℕ × List ℕ)) (fault : OptionFault) : Type 0 where
   of_arguments : IsFirstFault 0 arguments fault → IsOpeningFault features packages precious arguments environment fault
   of_options : (settings : List Setting) → GivesSettings 0 arguments settings → opened_by features packages precious environment settings ≡ Err fault

@@ -1,9 +1,9 @@
--- What an argument says, as the code has it, which lends texts from the argument.
+-- The reading of an argument in the code, which borrows texts from the argument.
 use Rattle.options.specs.Arguments.{Said, Turns, Gives, Awaits, Chooses, Misnames, Assigns, Misassigns, Nothing}
 use Rattle.options.specs.declared.argument.Said.{Said as Lent}
 use Rattle.options.specs.declared.argument.Said.TheVariants as lent
 
--- the texts themselves
+-- The reading, with the texts themselves. (own)
 abbrev pub said_of : Lent → Said
 said_of (lent.Turns switch) = Turns switch
 said_of (lent.Gives target value) = Gives target value.now

@@ -1,9 +1,9 @@
--- The opening of a run step by step, as the code reads it: what each argument makes of what was read before it.
+-- The opening of a run step by step, as the code reads it: how each argument changes the result of those before it.
 use Rattle.std.specs.Prelude.{ℕ, ◌+◌, true, false, List, [], ◌∷◌, ◌++◌, Some, None, Result, Ok, Err, fold, codes, if◌then◌else◌}
 use Rattle.deftable.specs.ShellName.{is_shell_name_of}
 use Rattle.deftable.specs.Table.{with_entry}
-use Rattle.acargs.specs.Feature.{option_variable}
-use Rattle.acargs.specs.declared.feature.OptionKind.{OptionKind}
+use Rattle.syntax.specs.Feature.{option_variable}
+use Rattle.syntax.specs.declared.feature.OptionKind.{OptionKind}
 use Rattle.options.specs.Arguments.{Said, Turns, Gives, Awaits, Chooses, Misnames, Assigns, Misassigns, Nothing, said_by}
 use Rattle.options.specs.Directories.{directories, variable_of, default_of}
 use Rattle.options.specs.Opening.{cache_named, is_declared, checking_in, finished}
@@ -23,19 +23,20 @@ use Rattle.options.specs.declared.settings.Settings.{Settings}
 
 -- ---- before the arguments
 
--- with an entry of the environment: the last of a name counts, and what is no shell name is skipped
+-- The variables after an entry of the environment: the last of a name counts, and an entry without a shell name is
+-- skipped. (own)
 unfoldable pub with_environment : List (List ℕ × List ℕ) → List ℕ × List ℕ → List (List ℕ × List ℕ)
 with_environment vars entry = if is_shell_name_of entry.0 then with_entry vars entry.0 entry.1 else vars
 
--- with a directory set to its default
+-- The variables with a directory set to its default. (own)
 unfoldable pub with_default : List (List ℕ × List ℕ) → Directory → List (List ℕ × List ℕ)
 with_default vars directory = with_entry vars (variable_of directory) (default_of directory)
 
--- the environment, and the directories over it
+-- The variables of the environment, and then the directories. (own)
 unfoldable pub vars_before : List (List ℕ × List ℕ) → List (List ℕ × List ℕ)
 vars_before environment = fold with_default (fold with_environment [] environment) directories
 
--- before the first argument
+-- The reader before the first argument. (own)
 unfoldable pub reader_before : List (List ℕ × List ℕ) → Reader
 reader_before environment = record {
   vars = vars_before environment;
@@ -50,13 +51,13 @@ reader_before environment = record {
 
 -- ---- the arguments, from the left
 
--- after an option and its value; `srcdir_of` gives the directory of the source
+-- The reader after an option and its value; `srcdir_of` gives the directory of the source. (own)
 abbrev pub with_value : Target → List ℕ → Reader → Reader
 with_value (Folder directory) value r = record r { vars = with_entry r.vars (variable_of directory) value }
 with_value Srcdir value r = r
 with_value CacheFile value r = record r { cache_name = cache_named value }
 
--- after an option without a value
+-- The reader after an option without a value. (own)
 abbrev pub with_switch : Switch → Reader → Reader
 with_switch ConfigCache r = record r { cache_name = Some (codes "config.cache") }
 with_switch Quiet r = record r { quiet = true }
@@ -65,14 +66,14 @@ with_switch Help r = record r { help = true }
 with_switch Version r = record r { version = true }
 with_switch Ignored r = r
 
--- after a feature or a package of the argument at place i: its variable is set, declared or not
+-- The reader after a feature or a package of argument i: its variable is set, declared or not. (own)
 unfoldable pub with_choice : List (List ℕ) → List (List ℕ) → ℕ → OptionKind → List ℕ → List ℕ → List ℕ → Reader → Reader
 with_choice features packages i kind name value option r = record r {
   vars = with_entry r.vars (option_variable kind name) value;
   unrecognized = (if is_declared features packages (option_variable kind name) then r.unrecognized else r.unrecognized ++ (i, option) ∷ []);
 }
 
--- after an argument at place i that says this
+-- The reader after argument i with this reading. (own)
 abbrev pub with_said : List (List ℕ) → List (List ℕ) → ℕ → Said → Reader → Result Reader OptionFault
 with_said features packages i (Turns switch) r = Ok (with_switch switch r)
 with_said features packages i (Gives target value) r = Ok (with_value target value r)
@@ -83,18 +84,18 @@ with_said features packages i (Assigns name value) r = Ok (record r { vars = wit
 with_said features packages i Misassigns r = Err (BadVariable i)
 with_said features packages i Nothing r = Err (Unknown i)
 
--- after the argument at place i, which is the value of the option before it if that awaits one
+-- The reader after argument i, which is a value if the option before it needs one. (own)
 unfoldable pub with_argument : List (List ℕ) → List (List ℕ) → ℕ → List ℕ → Reader → Result Reader OptionFault
 with_argument features packages i argument r = elim r.awaited [
   | Some target ↦ Ok (with_value target argument (record r { awaited = None }))
   | None ↦ with_said features packages i (said_by argument) r
 ]
 
--- at the end of the arguments, of which i were read: the last one awaits no value
+-- The reader after all i arguments: no option still needs a value. (own)
 unfoldable pub at_end : ℕ → Reader → Result Reader OptionFault
 at_end i r = elim r.awaited [ Some target ↦ Err (MissingValue i) | None ↦ Ok r ]
 
--- after these arguments, which follow i others
+-- The reader after these arguments, which follow i others. (own)
 unfoldable pub with_arguments : List (List ℕ) → List (List ℕ) → ℕ → Reader → List (List ℕ) → Result Reader OptionFault
 with_arguments features packages i r [] = at_end i r
 with_arguments features packages i r (argument ∷ more) =
@@ -102,7 +103,7 @@ with_arguments features packages i r (argument ∷ more) =
 
 -- ---- after the arguments
 
--- the settings after all arguments, with these notes
+-- The settings after all arguments, with these notes. (own)
 unfoldable pub settings_with : List (List ℕ) → List (List ℕ) → Reader → List Note → Settings
 settings_with precious arguments r notes = record {
   vars = finished precious r.vars;
@@ -115,12 +116,12 @@ settings_with precious arguments r notes = record {
   version = r.version;
 }
 
--- the settings after all arguments
+-- The settings after all arguments. (own)
 unfoldable pub settings_after : List (List ℕ) → List (List ℕ) → Reader → Result Settings OptionFault
 settings_after precious arguments r =
     notes_of (checking_in r.vars) r.unrecognized >>= λ notes. Ok (settings_with precious arguments r notes)
 
--- the settings of a command line and an environment, or the first fault
+-- The settings of a command line and an environment, or the first error. (own)
 unfoldable pub stepwise : List (List ℕ) → List (List ℕ) → List (List ℕ) → List (List ℕ) → List (List ℕ × List ℕ) → Result Settings OptionFault
 stepwise features packages precious arguments environment =
     with_arguments features packages 0 (reader_before environment) arguments >>= settings_after precious arguments

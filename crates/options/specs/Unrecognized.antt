@@ -1,4 +1,4 @@
--- Options about features and packages that no macro of the source declares (Autoconf's manual, "Controlling Checking of
+-- Options of features and packages that the source doesn't declare (Autoconf's manual, "Controlling Checking of
 -- configure Options").
 use Rattle.std.specs.Prelude.{ℕ, List, [], ◌∷◌, ◌++◌, Result, Ok, Err, codes, if◌then◌else◌}
 use Rattle.std.specs.List.{flat_map}
@@ -8,24 +8,25 @@ use Rattle.deftable.specs.declared.note.Stream.TheVariants as stream
 use Rattle.options.specs.declared.fault.OptionFault.{OptionFault}
 use Rattle.options.specs.declared.fault.OptionFault.TheVariants.{FatalUnrecognized}
 
--- an option after a comma and a blank
+-- An option after a comma and a space. (own)
 unfoldable pub after_comma : ℕ × List ℕ → List ℕ
 after_comma option = codes ", " ++ option.1
 
--- the options, each with its place, with a comma and a blank between each two
+-- The options, each with the number of its argument, separated by a comma and a space. (own)
 unfoldable pub listed : List (ℕ × List ℕ) → List ℕ
 listed [] = []
 listed (first ∷ more) = first.1 ++ flat_map after_comma more
 
--- the warning about them
+-- The warning about the options. (Autoconf's manual, "Controlling Checking of configure Options")
 unfoldable pub warning : List (ℕ × List ℕ) → Note
 warning unrecognized = record {
   stream = stream.Err;
   text = codes "configure: WARNING: unrecognized options: " ++ listed unrecognized ++ codes "\n";
 }
 
--- The notes about them, by the value of `enable_option_checking`, which is empty if it isn't set: nothing if there is none
--- or the value is `no`, a fault at the first if it is `fatal`, and otherwise one warning.
+-- The notes about the options, by the value of `enable_option_checking`, which is empty if it isn't set: none if there
+-- is no such option or the value is `no`, an error at the first if it is `fatal`, and otherwise one warning.
+-- (Autoconf's manual, "Controlling Checking of configure Options")
 unfoldable pub notes_of : List ℕ → List (ℕ × List ℕ) → Result (List Note) OptionFault
 notes_of checking [] = Ok []
 notes_of checking (first ∷ more) =

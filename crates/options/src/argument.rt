@@ -1,4 +1,4 @@
-//! What an argument of a command line says.
+//! How one argument of a command line is read.
 
 ghost use Rattle.std.specs.Prelude.{◌≡◌, ◌<◌, ◌==◌, ◌||◌, Some, None, length, position, option_map, codes, bytes_eq, if◌then◌else◌, IfSome};
 ghost use Rattle.options.specs.Arguments as words;
@@ -7,9 +7,8 @@ ghost use Rattle.options.specs.Said.{said_of};
 ghost use Rattle.options.specs.declared.argument.Switch.TheVariants.{Help, Version, Ignored};
 
 use crate::directory::{Directory, directory_named};
-use acargs::OptionKind;
-use acargs::feature::is_feature;
 use deftable::is_shell_name;
+use syntax::{OptionKind, is_feature};
 
 /// An option with no value.
 #[derive(Clone, Copy, PartialEq, Eq, Debug)]
@@ -39,7 +38,7 @@ pub enum Target {
     CacheFile,
 }
 
-/// What an argument says that isn't the value of the option before it.
+/// The reading of an argument that isn't the value of the option before it.
 #[derive(Clone, Copy, Debug)]
 pub(crate) enum Said<'a> {
     /// An option without a value.
@@ -48,15 +47,15 @@ pub(crate) enum Said<'a> {
     Gives(Target, &'a [u8]),
     /// An option whose value is the next argument.
     Awaits(Target),
-    /// A feature or a package, by name.
+    /// A feature or a package, by its name.
     Chooses(Choice<'a>),
-    /// A feature or a package whose name can't be one.
+    /// A feature or a package whose name has not the form of one.
     Misnames,
     /// A variable and its value.
     Assigns(&'a [u8], &'a [u8]),
-    /// A value of what can't be a variable.
+    /// A value for a name that is no shell name.
     Misassigns,
-    /// Nothing that is known.
+    /// Neither a known option nor an assignment.
     Nothing,
 }
 
@@ -70,7 +69,7 @@ pub(crate) struct Choice<'a> {
     pub(crate) option: &'a [u8],
 }
 
-/// The place of the first `=`.
+/// Returns the offset of the first `=`.
 fn equals_in(text: &[u8]) -> Option<usize>
     ensures value { result ≡ position (λ b. b == 61) text.now }
     ensures within { IfSome result (λ i. i < length text.now) }
@@ -78,7 +77,7 @@ fn equals_in(text: &[u8]) -> Option<usize>
     text.iter().position(|byte| *byte == b'=')
 }
 
-/// The text before the first `=`; all of it if it has none.
+/// Returns the text before the first `=`, or all of it if it has none.
 fn key_of(text: &[u8]) -> &[u8]
     ensures { result.now ≡ lines.key_of text.now }
 {
@@ -88,7 +87,7 @@ fn key_of(text: &[u8]) -> &[u8]
     }
 }
 
-/// The text after the first `=`.
+/// Returns the text after the first `=`.
 fn value_in(text: &[u8]) -> Option<&[u8]>
     ensures { option_map (λ value. value.now) result ≡ words.value_in text.now }
 {
@@ -98,14 +97,14 @@ fn value_in(text: &[u8]) -> Option<&[u8]>
     }
 }
 
-/// What follows `front`, if the text begins with it.
+/// Returns what follows `front`, if the text begins with it.
 fn rest_after<'a>(front: &[u8], text: &'a [u8]) -> Option<&'a [u8]>
     ensures { option_map (λ rest. rest.now) result ≡ words.rest_after front.now text.now }
 {
     text.strip_prefix(front)
 }
 
-/// The option without a value that an argument is, of those that ask for a text or do nothing.
+/// Returns the option without a value that an argument is, out of those that print a text or have no effect.
 fn other_switch_of(argument: &[u8]) -> Option<Switch>
     ensures { result ≡ (if bytes_eq argument.now (codes "-h") || bytes_eq argument.now (codes "--help") then Some Help
         else (if bytes_eq argument.now (codes "-V") || bytes_eq argument.now (codes "--version") then Some Version
@@ -126,7 +125,7 @@ fn other_switch_of(argument: &[u8]) -> Option<Switch>
     }
 }
 
-/// The option without a value that an argument is.
+/// Returns the option without a value that an argument is.
 #[tactic(auto, unfolding(crate::specs::Arguments::switch_of))]
 fn switch_of(argument: &[u8]) -> Option<Switch>
     ensures { result ≡ words.switch_of argument.now }
@@ -145,7 +144,7 @@ fn switch_of(argument: &[u8]) -> Option<Switch>
     }
 }
 
-/// What the option of a directory sets, by its text after the dashes.
+/// Returns what the option of a directory sets, given the option without its dashes.
 fn folder_named(option: &[u8]) -> Option<Target>
     ensures { result ≡ words.folder_named option.now }
 {
@@ -155,7 +154,7 @@ fn folder_named(option: &[u8]) -> Option<Target>
     }
 }
 
-/// What the option of a directory sets.
+/// Returns what the option of a directory sets.
 #[tactic(auto, unfolding(crate::specs::Arguments::folder_of))]
 fn folder_of(key: &[u8]) -> Option<Target>
     ensures { result ≡ words.folder_of key.now }
@@ -166,7 +165,7 @@ fn folder_of(key: &[u8]) -> Option<Target>
     }
 }
 
-/// What an option with a value sets.
+/// Returns what an option with a value sets.
 #[tactic(auto, unfolding(crate::specs::Arguments::target_of))]
 fn target_of(key: &[u8]) -> Option<Target>
     ensures { result ≡ words.target_of key.now }
@@ -180,6 +179,7 @@ fn target_of(key: &[u8]) -> Option<Target>
     }
 }
 
+/// Reads the option of a feature or a package.
 fn chosen<'a>(kind: OptionKind, name: &'a [u8], value: &'a [u8], option: &'a [u8]) -> Said<'a>
     ensures { said_of result ≡ words.chosen kind name.now value.now option.now }
 {
@@ -195,7 +195,8 @@ fn chosen<'a>(kind: OptionKind, name: &'a [u8], value: &'a [u8], option: &'a [u8
     }
 }
 
-/// A feature or a package that is turned on: `rest` is its name, and its value after a `=`, which is `yes` if there is none.
+/// Reads the option that turns a feature or a package on. `rest` is its name and, after a `=`, its value; without a `=`
+/// the value is `yes`.
 fn enabled<'a>(kind: OptionKind, rest: &'a [u8], argument: &'a [u8]) -> Said<'a>
     ensures { said_of result ≡ words.enabled kind rest.now argument.now }
 {
@@ -206,14 +207,14 @@ fn enabled<'a>(kind: OptionKind, rest: &'a [u8], argument: &'a [u8]) -> Said<'a>
     }
 }
 
-/// A feature or a package that is turned off: all of `rest` is its name.
+/// Reads the option that turns a feature or a package off: all of `rest` is its name.
 fn disabled<'a>(kind: OptionKind, rest: &'a [u8], argument: &'a [u8]) -> Said<'a>
     ensures { said_of result ≡ words.disabled kind rest.now argument.now }
 {
     chosen(kind, rest, b"no", key_of(argument))
 }
 
-/// What `--with-` and `--without-` say.
+/// Reads `--with-` and `--without-`.
 #[tactic(auto, unfolding(crate::specs::Arguments::package_of))]
 fn package_of(argument: &[u8]) -> Said<'_>
     ensures { said_of result ≡ words.package_of argument.now }
@@ -227,7 +228,7 @@ fn package_of(argument: &[u8]) -> Said<'_>
     }
 }
 
-/// What an option about a feature or a package says.
+/// Reads an option of a feature or a package.
 #[tactic(auto, unfolding(crate::specs::Arguments::choice_of))]
 fn choice_of(argument: &[u8]) -> Said<'_>
     ensures { said_of result ≡ words.choice_of argument.now }
@@ -241,7 +242,7 @@ fn choice_of(argument: &[u8]) -> Said<'_>
     }
 }
 
-/// What an option with a value says: the value, or that the next argument is it.
+/// Reads an option with a value, which is here or is the next argument.
 fn given_or_awaited<'a>(target: Target, value: Option<&'a [u8]>) -> Said<'a>
     ensures { said_of result ≡ words.given_or_awaited target (option_map (λ v. v.now) value.entry) }
 {
@@ -251,7 +252,7 @@ fn given_or_awaited<'a>(target: Target, value: Option<&'a [u8]>) -> Said<'a>
     }
 }
 
-/// What an option says that has a value, or is about a feature or a package.
+/// Reads an option that has a value, or is for a feature or a package.
 #[tactic(auto, unfolding(crate::specs::Arguments::said_with_value))]
 fn said_with_value(argument: &[u8]) -> Said<'_>
     ensures { said_of result ≡ words.said_with_value argument.now }
@@ -262,7 +263,7 @@ fn said_with_value(argument: &[u8]) -> Said<'_>
     }
 }
 
-/// What an argument says that begins with a `-`.
+/// Reads an argument that begins with `-`.
 #[tactic(auto, unfolding(crate::specs::Arguments::dashed_of))]
 fn dashed_of(argument: &[u8]) -> Said<'_>
     ensures { said_of result ≡ words.dashed_of argument.now }
@@ -273,7 +274,7 @@ fn dashed_of(argument: &[u8]) -> Said<'_>
     }
 }
 
-/// What an argument says that is no option.
+/// Reads an argument that is no option.
 fn assigned<'a>(name: &'a [u8], value: Option<&'a [u8]>) -> Said<'a>
     ensures { said_of result ≡ words.assigned name.now (option_map (λ v. v.now) value.entry) }
 {
@@ -296,7 +297,7 @@ fn is_dashed(argument: &[u8]) -> bool
     }
 }
 
-/// What an argument says (Autoconf's manual, "configure Invocation").
+/// Reads an argument that isn't the value of the option before it (Autoconf's manual, "configure Invocation").
 #[tactic(auto, unfolding(crate::specs::Arguments::said_by))]
 pub(crate) fn said_by(argument: &[u8]) -> Said<'_>
     ensures { said_of result ≡ words.said_by argument.now }

@@ -7,54 +7,59 @@ ghost use Rattle.options.specs.Reading.{Gives};
 ghost use Rattle.options.specs.Srcdir.{srcdir_of};
 ghost use Rattle.options.specs.declared.fault.OptionFault as faults;
 ghost use Rattle.options.specs.declared.fault.OptionFault.TheVariants.{OutOfMemory};
+ghost use Rattle.syntax.specs.Lists.{lists_of};
+ghost use Rattle.syntax.specs.Script.{script_of};
 ghost use Rattle.options.specs.declared.settings.Settings as settings;
 
 use crate::fault::OptionFault;
 use crate::help::help_text_of;
 use crate::settings::{Settings, read_args_of};
-use acparse::Source;
 use deftable::Bytes;
 use std::alloc::{AllocError, Global};
+use syntax::Source;
 
-/// Returns the settings of a command line and an environment, whose entries are each a name and a value, for this source
-/// (Autoconf's manual, "Running configure Scripts"; the table of options is this project's own).
+/// Returns the settings for this source of a command line and an environment. `args` are the arguments without the
+/// program's name, and `env` has the name and the value of each entry (Autoconf's manual, "Running configure Scripts";
+/// the table of options is own).
 ///
 /// # Errors
 ///
-/// Returns the first fault of the arguments, in their order, or if they are right, `FatalUnrecognized`.
+/// Returns the error of the first argument that has one. If all are right, returns `FatalUnrecognized` under its
+/// condition.
 pub fn read_args(
     alloc: Global,
     source: &Source,
     args: &[Bytes],
     env: &[(Bytes, Bytes)],
 ) -> Result<Settings, OptionFault>
-    ensures found { IfOk result (λ s. IsOpening source.now.features source.now.packages source.now.precious args.now env.now s) }
-    ensures only { (s : settings.Settings) → IsOpening source.now.features source.now.packages source.now.precious args.now env.now s
+    ensures sound { IfOk result (λ s. IsOpening (lists_of (script_of source.now)).features (lists_of (script_of source.now)).packages (lists_of (script_of source.now)).precious args.now env.now s) }
+    ensures complete { (s : settings.Settings) → IsOpening (lists_of (script_of source.now)).features (lists_of (script_of source.now)).packages (lists_of (script_of source.now)).precious args.now env.now s
         → Gives (λ s. s) result (Ok s) }
-    ensures fault { IfErr result (λ f. f ≢ OutOfMemory
-        → IsOpeningFault source.now.features source.now.packages source.now.precious args.now env.now f) }
-    ensures named { (f : faults.OptionFault) → IsOpeningFault source.now.features source.now.packages source.now.precious args.now env.now f
+    ensures error_sound { IfErr result (λ f. f ≢ OutOfMemory
+        → IsOpeningFault (lists_of (script_of source.now)).features (lists_of (script_of source.now)).packages (lists_of (script_of source.now)).precious args.now env.now f) }
+    ensures error_complete { (f : faults.OptionFault) → IsOpeningFault (lists_of (script_of source.now)).features (lists_of (script_of source.now)).packages (lists_of (script_of source.now)).precious args.now env.now f
         → Gives (λ s. s) result (Err f) }
-    ensures exact { Gives (λ s. s) result (opening source.now.features source.now.packages source.now.precious args.now env.now) }
+    ensures exact { Gives (λ s. s) result (opening (lists_of (script_of source.now)).features (lists_of (script_of source.now)).packages (lists_of (script_of source.now)).precious args.now env.now) }
     ensures folder { IfOk result (λ s. s.srcdir ≡ srcdir_of args.now) }
 {
     read_args_of(
         alloc,
-        &source.features,
-        &source.packages,
-        &source.precious,
+        source.features(),
+        source.packages(),
+        source.precious(),
         args,
         env,
     )
 }
 
-/// Returns what `--help` prints: the usage, and a line for each option and precious variable of the source, in order (own).
+/// Returns the text that `--help` prints: the usage, and the lines of each option and precious variable of the source,
+/// in order (own).
 ///
 /// # Errors
 ///
 /// Fails only if memory runs out.
 pub fn help_text(alloc: Global, source: &Source) -> Result<Bytes, AllocError>
-    ensures { IfOk result (λ text. text ≡ text_of source.now.help) }
+    ensures { IfOk result (λ text. text ≡ text_of (lists_of (script_of source.now)).help) }
 {
-    help_text_of(alloc, &source.help)
+    help_text_of(alloc, source.help())
 }

@@ -11,31 +11,53 @@ ghost use Rattle.options.specs.Directories as words;
 /// Variables").
 #[derive(Clone, Copy, PartialEq, Eq, Debug)]
 pub enum Directory {
+    /// The prefix of the other directories.
     Prefix,
+    /// The prefix of directories for files that depend on the machine.
     ExecPrefix,
+    /// Programs that users run.
     Bindir,
+    /// Programs that administrators run.
     Sbindir,
+    /// Programs that other programs run.
     Libexecdir,
+    /// Libraries.
     Libdir,
+    /// The root of the directories for read-only files that are the same on every machine.
     Datarootdir,
+    /// Read-only files that are the same on every machine.
     Datadir,
+    /// Read-only files of one machine.
     Sysconfdir,
+    /// Files that change, and are the same on every machine.
     Sharedstatedir,
+    /// Files of one machine that change.
     Localstatedir,
+    /// Files of one machine that change while processes run.
     Runstatedir,
+    /// C headers.
     Includedir,
+    /// C headers for compilers other than GCC.
     Oldincludedir,
+    /// Documentation.
     Docdir,
+    /// Documentation in Info format.
     Infodir,
+    /// Documentation in HTML.
     Htmldir,
+    /// Documentation in DVI.
     Dvidir,
+    /// Documentation in PDF.
     Pdfdir,
+    /// Documentation in PostScript.
     Psdir,
+    /// Message catalogs.
     Localedir,
+    /// The root of the manual pages.
     Mandir,
 }
 
-/// All directories, in their order: `prefix` and `exec_prefix`, and then those below them.
+/// All directories: `prefix` and `exec_prefix`, and then those below them.
 const DIRECTORIES: [Directory; 22] = [
     Directory::Prefix,
     Directory::ExecPrefix,
@@ -61,7 +83,7 @@ const DIRECTORIES: [Directory; 22] = [
     Directory::Mandir,
 ];
 
-/// Returns all directories, each once, in their order: `prefix` and `exec_prefix`, and then those below them.
+/// Returns all directories, each once: `prefix` and `exec_prefix`, and then those below them.
 #[tactic(auto, unfolding(crate::specs::Directories::directories))]
 pub fn directories() -> &'static [Directory]
     ensures { result.now ≡ words.directories }
@@ -131,7 +153,7 @@ impl Directory {
         }
     }
 
-    /// The directory's option, without the dashes in front.
+    /// Returns the directory's option, without the dashes in front.
     #[tactic(auto, unfolding(crate::specs::Directories::option_of))]
     fn option(self) -> &'static [u8]
         ensures { result.now ≡ words.option_of self }
@@ -151,7 +173,7 @@ fn find_directory(option: &[u8]) -> Option<&'static Directory>
         .find(|directory| directory.option() == option)
 }
 
-/// The directory whose option this is, without the dashes in front.
+/// Returns the directory with this option, given without the dashes in front.
 #[tactic(auto, unfolding(crate::specs::Directories::directory_named))]
 pub(crate) fn directory_named(option: &[u8]) -> Option<Directory>
     ensures { result ≡ words.directory_named option.now }

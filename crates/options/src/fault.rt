@@ -6,27 +6,27 @@ ghost use Rattle.options.specs.declared.fault.OptionFault.TheVariants.{OutOfMemo
 use std::alloc::{AllocError, AllocFailed};
 use thiserror::Error;
 
-/// What is wrong with a command line: the first argument at fault, with its place, which is 1 for the first argument. It
-/// prints as its number and place.
+/// What is wrong with a command line: the first argument that has an error. The number is that of the argument, which
+/// is 1 for the first. It prints as its number and that of the argument.
 #[derive(Clone, Copy, Debug, PartialEq, Eq, Error)]
 pub enum OptionFault {
-    /// Neither an option that is known nor an assignment.
+    /// Neither a known option nor an assignment.
     #[error("1 at {0}")]
     Unknown(u64),
-    /// A feature or a package whose name is empty, or holds another byte than letters, digits, `-`, `+`, `.` and `_`.
+    /// A feature or a package whose name is empty, or has another byte than letters, digits, `-`, `+`, `.` and `_`.
     #[error("2 at {0}")]
     BadFeature(u64),
-    /// A value of what is no shell name.
+    /// A value for a name that is no shell name.
     #[error("3 at {0}")]
     BadVariable(u64),
-    /// The option of two words that the last argument begins.
+    /// The last argument is an option that has no `=` and needs a value.
     #[error("4 at {0}")]
     MissingValue(u64),
-    /// The first option about a feature or a package that the source does not declare, if `enable_option_checking` is
-    /// `fatal`. All other faults come before it.
+    /// The first option of a feature or a package that the source does not declare, if `enable_option_checking` is
+    /// `fatal`. All other errors come first.
     #[error("5 at {0}")]
     FatalUnrecognized(u64),
-    /// A growth of memory was refused.
+    /// Memory ran out.
     #[error("memory")]
     OutOfMemory,
 }

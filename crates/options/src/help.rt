@@ -4,15 +4,15 @@ ghost use Rattle.std.specs.Prelude.{◌≡◌, ◌++◌, ◌<◌, length, IfOk, 
 ghost use Rattle.std.specs.List.{flat_map};
 ghost use Rattle.options.specs.HelpText as words;
 
-use acargs::{Help, HelpList};
 use deftable::Bytes;
 use std::alloc::{AllocError, Global};
+use syntax::{Help, HelpList};
 use textcut::is_blank;
 
-/// The most bytes of a left text that has the right text on its line.
+/// The length in bytes of the longest left text that shares its line with the right text.
 const WIDEST_LEFT: usize = 23;
 
-/// The bytes that a left text is filled to.
+/// The length in bytes that a left text is padded to.
 const LEFT_COLUMN: usize = 24;
 
 fn put_spaces(text: &mut Vec<u8>, n: usize) -> Result<(), AllocError>
@@ -24,7 +24,7 @@ fn put_spaces(text: &mut Vec<u8>, n: usize) -> Result<(), AllocError>
     Ok(())
 }
 
-/// Puts what is between a left text of `n` bytes and the right text.
+/// Appends the gap between a left text of `n` bytes and the right text.
 #[tactic(auto, unfolding(crate::specs::HelpText::gap))]
 fn put_gap(text: &mut Vec<u8>, n: usize) -> Result<(), AllocError>
     ensures { OnOk result (text.new.items ≡ text.old.items ++ words.gap n) }
@@ -36,7 +36,8 @@ fn put_gap(text: &mut Vec<u8>, n: usize) -> Result<(), AllocError>
     put_spaces(text, LEFT_COLUMN - n)
 }
 
-/// Puts a byte of a text whose runs of blanks become one space each; `blank` says whether the byte before it is a blank.
+/// Appends a byte of a text in which each run of blanks becomes one space. `blank` is true if the byte before it is a
+/// blank.
 fn put_byte(text: &mut Vec<u8>, blank: bool, byte: u8) -> Result<(), AllocError>
     ensures { OnOk result (text.new.items ≡ text.old.items ++ words.squeezed_byte blank byte) }
 {
@@ -48,7 +49,7 @@ fn put_byte(text: &mut Vec<u8>, blank: bool, byte: u8) -> Result<(), AllocError>
     Ok(())
 }
 
-/// Puts a text whose runs of blanks become one space each.
+/// Appends a text in which each run of blanks becomes one space.
 fn put_squeezed(text: &mut Vec<u8>, right: &[u8]) -> Result<(), AllocError>
     ensures { OnOk result (text.new.items ≡ text.old.items ++ words.squeezed right.now) }
 {
@@ -101,10 +102,11 @@ fn put_all(text: &mut Vec<u8>, entries: &[Help]) -> Result<(), AllocError>
     Ok(())
 }
 
-/// Returns the help text: the usage, and then the options and variables of the source, in its order (the layout is own).
+/// Returns the help text: the usage, and then the options and variables of the source, in its order (the layout is
+/// own).
 ///
-/// The text of an option or variable begins at column 27, on the next line if the option is longer than 23 bytes. Lines are
-/// not wrapped.
+/// The right text begins at column 27, on the next line if the left text is longer than 23 bytes. Lines are not
+/// wrapped.
 ///
 /// # Errors
 ///

@@ -1,10 +1,10 @@
 //! The command line of a configure run: the variables and settings that the run begins with.
 //!
-//! A variable has the value of its last setter: the environment, then the defaults of the directories, then the arguments
-//! from the left. After that final slashes of directories are dropped, and precious variables get their marks.
-//! [`read_args`] does all of this for a source, or returns the first fault. [`srcdir_of`] finds the directory of the source
-//! before a source is read, and [`help_text`] makes what `--help` prints. [`read_args_of`] and [`help_text_of`] are the same
-//! over the lists of a source.
+//! A variable has the value of its last setter: the environment, then the defaults of the directories, then the
+//! arguments from the left. After that, final slashes of directories are dropped, and precious variables get their
+//! marks. [`read_args`] does all of this for a source, or returns the first error. [`srcdir_of`] returns the directory
+//! of the source before a source is read, and [`help_text`] returns what `--help` prints. [`read_args_of`] and
+//! [`help_text_of`] are the same over the lists of a source.
 //!
 //! ```text
 //! // for a source with AC_ARG_ENABLE([a-b], ..); the arguments are --prefix=/usr/ --enable-a-b=no --enable-a-b
@@ -12,11 +12,12 @@
 //! // settings.vars: prefix is /usr, enable_a_b is yes, bindir is ${exec_prefix}/bin
 //! ```
 //!
-//! The rules are `specs/CommandLine.antt` (which settings arguments give, and which argument is at fault) and
+//! The rules are `specs/CommandLine.antt` (which settings arguments give, and which argument has an error) and
 //! `specs/Opening.antt` (what a run begins with), with `specs/Directories.antt`, `specs/Unrecognized.antt` and
-//! `specs/HelpText.antt`. `specs/Arguments.antt` and `specs/Stepwise.antt` follow the code; `proofs/Laws.antt` and
-//! `proofs/Steps.antt` tie them to the rules, and `proofs/Rows.antt` has worked examples. In the code read `directory` and
-//! `argument`, then `reader`, `opening` and `settings`.
+//! `specs/HelpText.antt`. `specs/Arguments.antt` and `specs/Stepwise.antt` follow the code. `proofs/Laws.antt` and
+//! `proofs/Steps.antt` prove that they agree with the rules, and `proofs/Rows.antt` has worked examples.
+//!
+//! In the code, read `directory` and `argument`, then `reader`, `opening` and `settings`, then the rest in any order.
 #![tactic(auto)]
 
 mod argument;

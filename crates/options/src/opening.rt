@@ -23,7 +23,7 @@ fn enter(vars: &mut Vars, entry: &(Bytes, Bytes)) -> Result<(), AllocError>
     Ok(())
 }
 
-/// Sets what the environment has; the last of a name counts.
+/// Sets the variables of the environment. If a name occurs twice, the last entry counts.
 fn enter_all(vars: &mut Vars, env: &[(Bytes, Bytes)]) -> Result<(), AllocError>
     ensures { OnOk result (vars.new ≡ fold steps.with_environment vars.old env.now) }
 {
@@ -60,7 +60,7 @@ fn vars_before(alloc: Global, env: &[(Bytes, Bytes)]) -> Result<Vars, AllocError
     Ok(vars)
 }
 
-/// The reader before the first argument.
+/// Returns the reader before the first argument.
 #[tactic(auto, unfolding(crate::specs::Stepwise::reader_before))]
 pub(crate) fn reader_before(alloc: Global, env: &[(Bytes, Bytes)]) -> Result<Reader, AllocError>
     ensures { IfOk result (λ r. r ≡ steps.reader_before env.now) }
@@ -99,7 +99,7 @@ fn unslash_all(alloc: Global, vars: &mut Vars) -> Result<(), AllocError>
     Ok(())
 }
 
-/// The name of a mark of a variable: `ac_cv_env_`, the variable, and an ending.
+/// Returns the name of a mark of a variable: `ac_cv_env_`, the variable, and an ending.
 fn mark_name(alloc: Global, name: &[u8], ending: &[u8]) -> Result<Bytes, AllocError>
     ensures { IfOk result (λ mark. mark ≡ codes "ac_cv_env_" ++ name.now ++ ending.now) }
 {
@@ -109,7 +109,7 @@ fn mark_name(alloc: Global, name: &[u8], ending: &[u8]) -> Result<Bytes, AllocEr
     Ok(Bytes::from_vec(mark))
 }
 
-/// The mark that says whether a variable is set.
+/// Returns the value of the mark for whether a variable is set.
 fn set_mark(value: Option<&Bytes>) -> &'static [u8]
     ensures { result.now ≡ words.set_mark (option_map (λ v. v.now) value.entry) }
 {
@@ -150,7 +150,7 @@ fn mark_all(alloc: Global, vars: &mut Vars, precious: &[Bytes]) -> Result<(), Al
     Ok(())
 }
 
-/// Drops final slashes of directories, and then sets the marks of precious variables.
+/// Drops the final slashes of directories, and then sets the marks of precious variables.
 #[tactic(auto, unfolding(crate::specs::Opening::finished))]
 pub(crate) fn finish_vars(
     alloc: Global,

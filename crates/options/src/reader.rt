@@ -1,4 +1,4 @@
-//! The reading of arguments, from the left.
+//! Reads arguments from the left.
 
 ghost use Rattle.std.specs.Prelude.{◌≡◌, ◌+◌, ◌||◌, Option, IfOk, OnOk};
 ghost use Rattle.options.specs.Opening.{cache_named as cache_of, is_declared as declared_of};
@@ -9,11 +9,11 @@ ghost use Rattle.options.specs.Said.{said_of};
 use crate::argument::{Choice, Said, Switch, Target, said_by};
 use crate::fault::OptionFault;
 use crate::unrecognized::Unrecognized;
-use acargs::feature::option_variable;
 use deftable::{Bytes, SubstList, Vars};
 use std::alloc::{AllocError, Global};
+use syntax::option_variable;
 
-/// What the arguments read so far have made.
+/// The result of the arguments that have been read.
 #[derive(Debug, Drop)]
 pub(crate) struct Reader {
     pub(crate) vars: Vars,
@@ -23,11 +23,11 @@ pub(crate) struct Reader {
     pub(crate) help: bool,
     pub(crate) version: bool,
     pub(crate) unrecognized: Unrecognized,
-    /// The option whose value the next argument is.
+    /// The option that needs the next argument as its value.
     pub(crate) awaited: Option<Target>,
 }
 
-/// The cache of a name, which may mean that there is none.
+/// Returns the cache file of this name, or `None` if the name is empty or `/dev/null`.
 #[tactic(auto, unfolding(crate::specs::Opening::cache_named))]
 fn cache_named(alloc: Global, name: &[u8]) -> Result<Option<Bytes>, AllocError>
     ensures { IfOk result (λ cache. cache ≡ cache_of name.now) }
@@ -38,7 +38,7 @@ fn cache_named(alloc: Global, name: &[u8]) -> Result<Option<Bytes>, AllocError>
     Ok(Some(Bytes::from_slice(alloc, name)?))
 }
 
-/// Whether a macro declares the variable of an option, or it is that of `--enable-option-checking`.
+/// Returns whether the source declares the variable of an option, or the variable is that of `--enable-option-checking`.
 #[tactic(auto, unfolding(crate::specs::Opening::is_declared))]
 fn is_declared(features: &SubstList, packages: &SubstList, variable: &[u8]) -> bool
     ensures { result ≡ declared_of features.now packages.now variable.now }
@@ -78,7 +78,7 @@ impl Reader {
         Ok(())
     }
 
-    /// Sets the variable of a feature or a package, and notes its option if the variable isn't declared.
+    /// Sets the variable of a feature or a package, and records its option if the source doesn't declare the variable.
     #[tactic(auto, unfolding(crate::specs::Stepwise::with_choice))]
     fn choose(
         &mut self,
@@ -98,7 +98,7 @@ impl Reader {
         Ok(())
     }
 
-    /// Reads what an argument says that isn't the value of the option before it.
+    /// Adds the reading of an argument that isn't the value of the option before it.
     fn read_said(
         &mut self,
         alloc: Global,
@@ -122,7 +122,7 @@ impl Reader {
         Ok(())
     }
 
-    /// Reads the argument at place `i`.
+    /// Reads argument `i`.
     #[tactic(auto, unfolding(crate::specs::Stepwise::with_argument))]
     fn read(
         &mut self,
@@ -142,7 +142,7 @@ impl Reader {
         Ok(())
     }
 
-    /// Refuses an end at which an option awaits its value; `i` is the place of the last argument.
+    /// Checks that no option still needs a value after argument `i`, the last one.
     #[tactic(auto, unfolding(crate::specs::Stepwise::at_end))]
     fn end(self, i: u64) -> Result<Reader, OptionFault>
         ensures { Gives (λ r. r) result (words.at_end i self) }
@@ -153,7 +153,7 @@ impl Reader {
         }
     }
 
-    /// Reads arguments, of which the first has place 1.
+    /// Reads arguments, which are numbered from 1.
     pub(crate) fn read_all(
         mut self,
         alloc: Global,

@@ -18,29 +18,29 @@ use crate::unrecognized::notes_of;
 use deftable::{Bytes, Notes, SubstList, Vars};
 use std::alloc::{AllocError, Global};
 
-/// What a run begins with, before a cache is poured.
+/// What a run begins with, before a cache is loaded.
 #[derive(Debug, Drop)]
 pub struct Settings {
-    /// The variables: the environment, the directories as they are by default, the arguments, and the marks of precious
+    /// The variables: those of the environment, of the directories and of the arguments, and the marks of precious
     /// variables.
     pub vars: Vars,
     /// The warning about options that the source doesn't declare, if there are any.
     pub notes: Notes,
-    /// The cache file, if one is to be read and written.
+    /// The cache file, if one is read and written.
     pub cache_name: Option<Bytes>,
     /// The directory of the source, without final slashes.
     pub srcdir: Bytes,
-    /// Nothing is to be printed on standard output.
+    /// If true, nothing is printed on standard output.
     pub quiet: bool,
-    /// No file is to be made.
+    /// If true, no file is made.
     pub no_create: bool,
-    /// The help text is wanted, and no run.
+    /// If true, the help text is printed instead of a run.
     pub help: bool,
-    /// The version is wanted, and no run.
+    /// If true, the version is printed instead of a run.
     pub version: bool,
 }
 
-/// The settings after all arguments, of variables that are finished.
+/// Returns the settings after all arguments, once the variables are finished.
 fn settings_of(reader: Reader, notes: Notes, srcdir: Bytes) -> Settings
     ensures { result ≡ record { vars = reader.vars; notes = notes; cache_name = reader.cache_name; srcdir = srcdir; quiet = reader.quiet; no_create = reader.no_create; help = reader.help; version = reader.version } }
 {
@@ -79,7 +79,7 @@ fn finish(
     Bytes::from_slice(alloc, srcdir_of(args))
 }
 
-/// The settings after all arguments, with these notes.
+/// Returns the settings after all arguments, with these notes.
 #[tactic(auto, unfolding(crate::specs::Stepwise::settings_with))]
 fn settings_with(
     alloc: Global,
@@ -95,7 +95,7 @@ fn settings_with(
     Ok(settings_of(reader, notes, srcdir))
 }
 
-/// The notes about options that are not declared.
+/// Returns the notes about options that are not declared.
 fn notes_after(alloc: Global, reader: &Reader) -> Result<Notes, OptionFault>
     ensures { Gives (λ notes. notes) result (notes_of (checking_in reader.now.vars) reader.now.unrecognized) }
 {
@@ -103,7 +103,7 @@ fn notes_after(alloc: Global, reader: &Reader) -> Result<Notes, OptionFault>
     notes_of(alloc, checking, &reader.unrecognized)
 }
 
-/// The settings after all arguments.
+/// Returns the settings after all arguments.
 fn settings_after(
     alloc: Global,
     precious: &SubstList,
@@ -135,16 +135,18 @@ fn read_stepwise(
     settings_after(alloc, precious, args, reader)
 }
 
-/// Returns the settings of a command line and an environment (Autoconf's manual, "Running configure Scripts"; the table of
-/// options is this project's own).
+/// Returns the settings of a command line and an environment (Autoconf's manual, "Running configure Scripts"; the table
+/// of options is own).
 ///
-/// `features` and `packages` are the variables of the features and packages that the source declares, as `enable_a_b` and
-/// `with_x`; `precious` are its precious variables. `env` are the entries of the environment, each a name and a value.
-/// The directory of the source is the one that [`srcdir_of`] returns.
+/// `features` and `packages` are the variables of the features and packages that the source declares, such as
+/// `enable_a_b` and `with_x`; `precious` has its precious variables. `args` are the arguments without the program's
+/// name, and `env` has the name and the value of each entry of the environment. The directory of the source is the one
+/// that [`srcdir_of`] returns.
 ///
 /// # Errors
 ///
-/// Returns the first fault of the arguments, in their order, or if they are right, `FatalUnrecognized`.
+/// Returns the error of the first argument that has one. If all are right, returns `FatalUnrecognized` under its
+/// condition.
 pub fn read_args_of(
     alloc: Global,
     features: &SubstList,
@@ -153,12 +155,12 @@ pub fn read_args_of(
     args: &[Bytes],
     env: &[(Bytes, Bytes)],
 ) -> Result<Settings, OptionFault>
-    ensures found { IfOk result (λ s. IsOpening features.now packages.now precious.now args.now env.now s) }
-    ensures only { (s : settings.Settings) → IsOpening features.now packages.now precious.now args.now env.now s
+    ensures sound { IfOk result (λ s. IsOpening features.now packages.now precious.now args.now env.now s) }
+    ensures complete { (s : settings.Settings) → IsOpening features.now packages.now precious.now args.now env.now s
         → Gives (λ s. s) result (Ok s) }
-    ensures fault { IfErr result (λ f. f ≢ OutOfMemory
+    ensures error_sound { IfErr result (λ f. f ≢ OutOfMemory
         → IsOpeningFault features.now packages.now precious.now args.now env.now f) }
-    ensures named { (f : faults.OptionFault) → IsOpeningFault features.now packages.now precious.now args.now env.now f
+    ensures error_complete { (f : faults.OptionFault) → IsOpeningFault features.now packages.now precious.now args.now env.now f
         → Gives (λ s. s) result (Err f) }
     ensures exact { Gives (λ s. s) result (opening features.now packages.now precious.now args.now env.now) }
     ensures folder { IfOk result (λ s. s.srcdir ≡ srcdir_of args.now) }

@@ -9,7 +9,7 @@ fn is_slashes(text: &[u8]) -> bool
     text.iter().all(|byte| *byte == b'/')
 }
 
-/// The text up to its last byte that is no slash.
+/// Returns the text up to its last byte that is no slash.
 fn unslashed(text: &[u8]) -> &[u8]
     ensures { result.now ≡ words.unslashed text.now }
 {
@@ -23,7 +23,7 @@ fn unslashed(text: &[u8]) -> &[u8]
     rest
 }
 
-/// The text without its final slashes, unless it is slashes alone.
+/// Returns the text without its final slashes, unless it is slashes alone.
 #[tactic(auto, unfolding(crate::specs::Slashes::without_slashes))]
 pub(crate) fn without_slashes(text: &[u8]) -> &[u8]
     ensures { result.now ≡ words.without_slashes text.now }

@@ -9,7 +9,7 @@ use crate::argument::{Said, Target, said_by};
 use crate::slashes::without_slashes;
 use deftable::Bytes;
 
-/// The option whose value the next argument is, after an argument that says this.
+/// Returns the option that needs the next argument as its value, after an argument with this reading.
 fn awaited_by(said: Said<'_>) -> Option<Target>
     ensures { result ≡ awaited_of (said_of said.entry) }
 {
@@ -19,7 +19,7 @@ fn awaited_by(said: Said<'_>) -> Option<Target>
     }
 }
 
-/// The option whose value the next argument is, after an argument that may be such a value itself.
+/// Returns the option that needs the next argument as its value, after an argument that may be such a value itself.
 fn awaited_after(awaited: Option<Target>, argument: &Bytes) -> Option<Target>
     ensures { result ≡ words.awaited_after awaited argument.now }
 {
@@ -29,7 +29,7 @@ fn awaited_after(awaited: Option<Target>, argument: &Bytes) -> Option<Target>
     }
 }
 
-/// The directory, after an option with this value.
+/// Returns the directory after an option with this value.
 fn srcdir_of_value<'a>(target: Target, value: &'a [u8], srcdir: &'a [u8]) -> &'a [u8]
     ensures { result.now ≡ words.srcdir_of_value target value.now srcdir.now }
 {
@@ -48,7 +48,7 @@ fn srcdir_said<'a>(said: Said<'a>, srcdir: &'a [u8]) -> &'a [u8]
     }
 }
 
-/// The directory, after an argument that may be the value of the option before it.
+/// Returns the directory after an argument that may be the value of the option before it.
 fn srcdir_after<'a>(awaited: Option<Target>, argument: &'a Bytes, srcdir: &'a [u8]) -> &'a [u8]
     ensures { result.now ≡ words.srcdir_after awaited argument.now srcdir.now }
 {
@@ -58,7 +58,7 @@ fn srcdir_after<'a>(awaited: Option<Target>, argument: &'a Bytes, srcdir: &'a [u
     }
 }
 
-/// The directory that arguments name, as they name it.
+/// Returns the directory that the arguments name, with its final slashes.
 fn srcdir_named(args: &[Bytes]) -> &[u8]
     ensures { result.now ≡ words.srcdir_from None (codes ".") args.now }
 {
@@ -72,10 +72,10 @@ fn srcdir_named(args: &[Bytes]) -> &[u8]
 }
 
 /// Returns the directory of the source that the arguments of a command line name, without final slashes, or `.` if they
-/// name none.
+/// name none (Autoconf's manual, "configure Invocation").
 ///
-/// Arguments at fault are passed over, so the directory is known before anything else is read. If the arguments are right,
-/// [`Settings::srcdir`](crate::Settings::srcdir) is the same.
+/// Arguments with errors are passed over, so the directory is known before anything else is read. If all arguments are
+/// right, [`Settings::srcdir`](crate::Settings::srcdir) is the same.
 #[tactic(auto, unfolding(crate::specs::Srcdir::srcdir_of))]
 pub fn srcdir_of(args: &[Bytes]) -> &[u8]
     ensures { result.now ≡ words.srcdir_of args.now }

@@ -1,4 +1,4 @@
-//! Options about features and packages that no macro of the source declares.
+//! Options of features and packages that the source doesn't declare.
 
 ghost use Rattle.std.specs.Prelude.{◌≡◌, ℕ, List, [], ◌∷◌, ◌++◌, Ok, Some, IfOk, OnOk, OnErr, option_map};
 ghost use Rattle.std.specs.List.{flat_map};
@@ -11,7 +11,7 @@ use deftable::{Bytes, Note, Notes, Stream};
 use std::alloc::{AllocError, Global};
 use std::marker::Model;
 
-/// Options that are not declared, each up to its `=` and with its place among the arguments, in order.
+/// Options that are not declared, each up to its `=` and with the number of its argument, in order.
 #[derive(Debug, Drop)]
 pub(crate) struct Unrecognized {
     options: Vec<(u64, Bytes)>,
@@ -24,7 +24,7 @@ impl Model for Unrecognized {
 }
 
 impl Unrecognized {
-    /// No option.
+    /// Returns an empty list.
     pub(crate) fn new(alloc: Global) -> Unrecognized
         ensures { result ≡ [] }
     {
@@ -33,7 +33,7 @@ impl Unrecognized {
         }
     }
 
-    /// Puts an option last.
+    /// Appends an option.
     pub(crate) fn push(&mut self, i: u64, option: &[u8]) -> Result<(), AllocError>
         ensures { OnOk result (self.new ≡ self.old ++ (i, option.now) ∷ []) }
     {
@@ -42,7 +42,7 @@ impl Unrecognized {
         Ok(())
     }
 
-    /// All options, with a comma and a blank between each two.
+    /// Appends all options to a text, separated by a comma and a space.
     #[tactic(auto, unfolding(crate::specs::Unrecognized::listed))]
     fn put_listed(&self, text: &mut Vec<u8>) -> Result<(), AllocError>
         ensures { OnOk result (text.new.items ≡ text.old.items ++ words.listed self.now) }
@@ -54,7 +54,7 @@ impl Unrecognized {
         put_rest(text, rest)
     }
 
-    /// The warning about the options.
+    /// Returns the warning about the options.
     #[tactic(auto, unfolding(crate::specs::Unrecognized::warning))]
     fn warning(&self, alloc: Global) -> Result<Note, AllocError>
         ensures { IfOk result (λ note. note ≡ words.warning self.now) }
@@ -77,7 +77,7 @@ impl Unrecognized {
     }
 }
 
-/// Puts each option after a comma and a blank.
+/// Appends each option to a text, after a comma and a space.
 fn put_rest(text: &mut Vec<u8>, options: &[(u64, Bytes)]) -> Result<(), AllocError>
     ensures { OnOk result (text.new.items ≡ text.old.items ++ flat_map words.after_comma options.now) }
 {
@@ -96,8 +96,12 @@ fn put_after_comma(text: &mut Vec<u8>, option: &(u64, Bytes)) -> Result<(), Allo
     Ok(())
 }
 
-/// Returns the notes about options that are not declared: nothing if there is none, or if the value of
-/// `enable_option_checking` is `no`; `FatalUnrecognized` at the first if it is `fatal`; and otherwise one warning.
+/// Returns the notes about options that are not declared: none if there is no such option, or if
+/// `enable_option_checking` is `no`; otherwise one warning.
+///
+/// # Errors
+///
+/// - `FatalUnrecognized` at the first such option, if `enable_option_checking` is `fatal`.
 #[tactic(auto, unfolding(crate::specs::Unrecognized::notes_of))]
 pub(crate) fn notes_of(
     alloc: Global,

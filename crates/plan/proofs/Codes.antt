@@ -2,12 +2,12 @@
 use Rattle.std.proofs.Common.{◌≡◌, ℕ, Bool, false, ◌==◌, ◌+◌, ◌-◌, ◌<◌, ◌≤◌, arith, List, ◌∷◌, ◌++◌, Vec, Global, length, drop, get_or, sym, ap, ◌∙◌, append_assoc}
 use Rattle.std.proofs.lemmas.List.{drop_more, append-nil}
 use Rattle.std.proofs.lemmas.Bool.Decides.{nat_tests}
-use Rattle.tree.specs.declared.tree.Case as case
-use Rattle.tree.specs.declared.tree.Stmt.{Stmt, Choose}
-use Rattle.tree.specs.declared.tree.Subject as what
-use Rattle.tree.specs.declared.tree.Stmt.TheVariants.{Plain, Choose'}
-use Rattle.tree.specs.Script.{Script, Done, stmt_then, row_cases, script_of, cases_of}
-use Rattle.tree.proofs.ScriptLemmas.{choice_is}
+use Rattle.syntax.specs.declared.tree.Case as case
+use Rattle.syntax.specs.declared.tree.Stmt.{Stmt, Choose}
+use Rattle.syntax.specs.declared.tree.Subject as what
+use Rattle.syntax.specs.declared.tree.Stmt.TheVariants.{Plain, Choose'}
+use Rattle.syntax.specs.Script.{Script, Done, stmt_then, row_cases, script_of, cases_of}
+use Rattle.syntax.proofs.ScriptLemmas.{choice_is}
 use Rattle.plan.specs.Walk.{Instruction, Does, Looks, Begins}
 use Rattle.plan.specs.Code.{case_code, code_behind, code_of, code_of_cases, code_of_programs}
 
@@ -15,7 +15,7 @@ code_more : (s : Stmt) (rest : Script) → code_of (stmt_then s rest) ≡ code_o
 code_more (Plain s) rest = ap (λ l. Does s ∷ (l ++ code_of rest)) (sym (append-nil (code_behind s)))
 code_more (Choose' subject m cases) rest = ap (λ l. Begins subject ∷ (l ++ code_of rest)) (sym (append-nil (code_of_cases (row_cases cases))))
 
--- one statement more in front
+-- One more statement at the front.
 pub code_at : (old new base : List Instruction) (list : List Stmt) (i j : ℕ) (s : Stmt) → 0 < i → i ≤ length list → j ≡ i - 1 → s ≡ get_or list j s
     → new ≡ code_of (stmt_then s Done) ++ old → old ≡ code_of (script_of (drop i list)) ++ base
     → new ≡ code_of (script_of (drop j list)) ++ base
@@ -27,7 +27,7 @@ code_at old new base list i j s some within next at is h =
     ∙ sym (append_assoc (code_of (stmt_then s Done)) (code_of rest) base)
     ∙ ap (λ l. l ++ base) (sym (code_more s rest) ∙ ap (λ x. code_of (stmt_then x rest)) at ∙ ap (λ l. code_of (script_of l)) (sym (drop_more list j s lt)))
 
--- one case more in front
+-- One more case at the front.
 pub code_at_case : (old new base : List Instruction) (list : List case.Case) (i : ℕ) (d : case.Case) (behind : ℕ) → i < length list
     → behind ≡ length (code_of_cases (cases_of (drop (i + 1) list)))
     → new ≡ case_code (get_or list i d).when (code_of (script_of (get_or list i d).body.items)) behind ++ old
@@ -41,14 +41,14 @@ code_at_case old new base list i d behind lt far is h =
     ∙ sym (append_assoc (case_code c.when body (length rest)) rest base)
     ∙ ap (λ l. code_of_cases (cases_of l) ++ base) (sym (drop_more list i d lt))
 
--- a choice
+-- A choice.
 pub code_choice : (s : Stmt) (subject : what.Subject) (cases : Vec case.Case Global) → s ≡ Choose subject cases
     → code_of (stmt_then s Done) ≡ Begins subject ∷ code_of_cases (cases_of cases.items)
 code_choice s subject cases is =
     ap (λ x. code_of (stmt_then x Done)) is ∙ ap code_of (choice_is subject cases Done)
     ∙ ap (λ l. Begins subject ∷ l) (append-nil (code_of_cases (cases_of cases.items)))
 
--- one program more in front
+-- One more program at the front.
 pub code_at_program : (old new base : List Instruction) (variable : List ℕ) (programs : List (List ℕ)) (i j : ℕ) (p : List ℕ) (first : Bool) → 0 < i → i ≤ length programs → j ≡ i - 1 → p ≡ get_or programs j p
     → first ≡ (j == 0) → new ≡ Looks variable p first ∷ old → old ≡ code_of_programs variable (drop i programs) (i == 0) ++ base
     → new ≡ code_of_programs variable (drop j programs) (j == 0) ++ base

@@ -1,20 +1,20 @@
--- A plan does what its statements do.
+-- The walk of a plan is the meaning of its statements.
 use Rattle.std.proofs.Common.{◌≡◌, codes, ◌*◌, ◌+◌, ℕ, suc, Option, Some, None, ◌≤◌, List, [], ◌∷◌, ◌++◌, length, Bool, true, false, cond, refl, sym, ap, ◌∙◌, arith, append_assoc, length-append, subst}
 use Rattle.std.proofs.lemmas.List.{append-nil}
 use Rattle.std.proofs.Math.Path.{fun_ext}
-use Rattle.acargs.specs.declared.feature.OptionKind.{OptionKind}
-use Rattle.acmacros.specs.declared.statement.Question as asks
-use Rattle.acmacros.specs.declared.statement.Question.TheVariants.{Given, Tries}
-use Rattle.acmacros.specs.declared.program.Try as kinds
-use Rattle.acmacros.specs.declared.program.Try.TheVariants as kinds_are
-use Rattle.acmacros.specs.declared.statement.Plain as plain
-use Rattle.acmacros.specs.declared.statement.Plain.TheVariants.{Init, Accepted, ConfigFiles, Assign, Subst, SubstValue, Define, DefineUnquoted, Error, ArgVar, CheckProg, PathProg, Output, CheckProgs, ProgCc}
+use Rattle.syntax.specs.declared.feature.OptionKind.{OptionKind}
+use Rattle.syntax.specs.declared.statement.Question as asks
+use Rattle.syntax.specs.declared.statement.Question.TheVariants.{Given, Tries}
+use Rattle.syntax.specs.declared.program.Try as kinds
+use Rattle.syntax.specs.declared.program.Try.TheVariants as kinds_are
+use Rattle.syntax.specs.declared.statement.Plain as plain
+use Rattle.syntax.specs.declared.statement.Plain.TheVariants.{Init, Accepted, ConfigFiles, Assign, Subst, SubstValue, Define, DefineUnquoted, Error, ArgVar, CheckProg, PathProg, Output, CheckProgs, ProgCc}
 use Rattle.conftest.specs.declared.job.Job.{Job}
 use Rattle.conftest.specs.Probe.{run_of, job_of}
-use Rattle.tree.specs.declared.tree.Subject as what
-use Rattle.tree.specs.declared.tree.Subject.TheVariants.{Nothing, Word, Asked}
-use Rattle.tree.specs.declared.tree.When.{When}
-use Rattle.tree.specs.Script.{Script, Done, Then, Choice, Cases, No_case, Case}
+use Rattle.syntax.specs.declared.tree.Subject as what
+use Rattle.syntax.specs.declared.tree.Subject.TheVariants.{Nothing, Word, Asked}
+use Rattle.syntax.specs.declared.tree.When.{When}
+use Rattle.syntax.specs.Script.{Script, Done, Then, Choice, Cases, No_case, Case}
 use Rattle.meaning.specs.State.{State, Scope, no_choice, answered, Goes_on, Completed, Stopped, Cut, Run, Ends, Asks, then_run}
 use Rattle.meaning.specs.Meaning.{effect, looks, looks_all, given, asked, begun, is_taken, meaning, chosen}
 use Rattle.meaning.specs.Asking.{success, only_reply, heard, child, compiled}
@@ -23,7 +23,7 @@ use Rattle.plan.specs.Walk.{Instruction, Does, Looks, Defaults, Begins, Skips_un
 use Rattle.plan.specs.Code.{case_code, code_behind, code_of, code_of_cases, code_of_programs}
 use Rattle.plan.specs.Inside.{StaysInside, asks_of, asks_after}
 
--- what follows what follows
+-- What follows what follows.
 then_then : (r : Run) (f g : State → Run) → then_run (then_run r f) g ≡ then_run r (λ st. then_run (f st) g)
 then_then (Ends Goes_on st) f g = refl
 then_then (Ends Completed st) f g = refl
@@ -38,7 +38,7 @@ then_ends (Ends (Stopped s) st) = refl
 then_ends (Ends Cut st) = refl
 then_ends (Asks jobs ask) = ap (Asks jobs) (fun_ext (λ replies. then_ends (ask replies)))
 
--- what follows a child
+-- What follows a child.
 heard_then : (answer : Option Bool) (st : State) (go : Bool → Run) (f : State → Run) → then_run (heard answer st go) f ≡ heard answer st (λ b. then_run (go b) f)
 heard_then None st go f = refl
 heard_then (Some b) st go f = refl
@@ -50,7 +50,7 @@ compiled_then : (job : Option Job) (st : State) (go : Bool → Run) (f : State �
 compiled_then None st go f = refl
 compiled_then (Some job) st go f = child_then job st go f
 
--- what follows a try
+-- What follows a try.
 after_first_then : (kind : kinds.Try) (st : State) (go : Bool → Run) (f : State → Run) (b : Bool) → then_run (after_first kind st go b) f ≡ after_first kind st (λ c. then_run (go c) f) b
 after_first_then kinds_are.Run st go f true = child_then (run_of 0) st go f
 after_first_then kinds_are.Run st go f false = refl
@@ -63,7 +63,7 @@ tried_then kind source st go f =
     compiled_then (job_of (first_probe kind source) 0 st.vars st.defs) st (after_first kind st go) f
     ∙ ap (compiled (job_of (first_probe kind source) 0 st.vars st.defs) st) (fun_ext (after_first_then kind st go f))
 
--- what follows the beginning of a choice
+-- What follows the beginning of a choice.
 given_then : (value : Option (List ℕ)) (kind : OptionKind) (st : State) (go : Scope → State → Run) (f : State → Run) → then_run (given value kind st go) f ≡ given value kind st (λ scope now. then_run (go scope now) f)
 given_then None kind st go f = refl
 given_then (Some value) kind st go f = refl
@@ -78,7 +78,7 @@ begun_then Nothing st go f = refl
 begun_then (Word word) st go f = refl
 begun_then (Asked question) st go f = asked_then question st go f
 
--- passing the steps of one stretch
+-- The steps of one part of the code are passed.
 past : (a b : List Instruction) (n : ℕ) (scope : Scope) (st : State) → walk (a ++ b) (length a + n) scope st ≡ walk b n scope st
 past [] b n scope st = let e : 0 + n ≡ n = omega arith in ap (λ k. walk b k scope st) e
 past (i ∷ a) b n scope st =
@@ -88,18 +88,18 @@ past (i ∷ a) b n scope st =
 past_all : (a b : List Instruction) (scope : Scope) (st : State) → walk (a ++ b) (length a) scope st ≡ walk b 0 scope st
 past_all a b scope st = let e : length a ≡ length a + 0 = omega arith in ap (λ k. walk (a ++ b) k scope st) e ∙ past a b 0 scope st
 
--- the code of a case, what follows included
+-- The code of a case, with what follows it.
 flat : (when : When) (body more rest : List Instruction) (n : ℕ) → (case_code when body n ++ more) ++ rest ≡ Skips_unless when (length body + 1) ∷ (body ++ (Skips n ∷ (more ++ rest)))
 flat when body more rest n = ap (λ l. Skips_unless when (length body + 1) ∷ l) (inside body more rest)
   where
     inside : (a m r : List Instruction) → ((a ++ (Skips n ∷ [])) ++ m) ++ r ≡ a ++ (Skips n ∷ (m ++ r))
     inside a m r = simp append_assoc
 
--- whatever the subject, the steps go on so
+-- Whatever the subject, the steps continue in this way.
 abbrev GoesOn : List Instruction → (State → Run) → Type 0
 GoesOn steps next = (scope : Scope) (st : State) → walk steps 0 scope st ≡ next st
 
--- a case, from what its statements and the cases behind it do
+-- A case, given the effects of its statements and of the cases after it.
 either : (b : Bool) (inner body more rest : List Instruction) (yes_run no_run : Run) (scope : Scope) (st : State) → inner ≡ body ++ (Skips (length more) ∷ (more ++ rest))
     → walk (body ++ (Skips (length more) ∷ (more ++ rest))) 0 scope st ≡ yes_run
     → walk (more ++ rest) 0 scope st ≡ no_run
@@ -112,7 +112,7 @@ then_either : (b : Bool) (x y : Run) (next : State → Run) → cond b (then_run
 then_either true x y next = refl
 then_either false x y next = refl
 
--- programs, one after the other
+-- Programs, one after the other.
 programs_follow : (variable : List ℕ) (programs : List (List ℕ)) (always : Bool) (rest : List Instruction) (next : State → Run) → GoesOn rest next
     → GoesOn (code_of_programs variable programs always ++ rest) (λ st. then_run (looks_all variable programs always st) next)
 programs_follow variable [] always rest next h scope st = h scope st
@@ -120,7 +120,7 @@ programs_follow variable (p ∷ programs) always rest next h scope st =
     ap (then_run (looks variable p always st)) (fun_ext (programs_follow variable programs false rest next h scope))
     ∙ sym (then_then (looks variable p always st) (looks_all variable programs false) next)
 
--- a statement whose own step is all of it
+-- A statement with no steps after its own.
 ordinary : (s : plain.Plain) (rest : List Instruction) (next : State → Run) → own_effect s ≡ effect s → code_behind s ≡ [] → GoesOn rest next
     → GoesOn (Does s ∷ (code_behind s ++ rest)) (λ st. then_run (effect s st) next)
 ordinary s rest next own none h scope st =
@@ -128,7 +128,7 @@ ordinary s rest next own none h scope st =
     ∙ ap (λ l. then_run (effect s st) (walk (l ++ rest) 0 scope)) none
     ∙ ap (then_run (effect s st)) (fun_ext (h scope))
 
--- a statement
+-- A statement.
 does_follow : (s : plain.Plain) (rest : List Instruction) (next : State → Run) → GoesOn rest next
     → GoesOn (Does s ∷ (code_behind s ++ rest)) (λ st. then_run (effect s st) next)
 unfolding effect
@@ -209,7 +209,7 @@ behind_inside (PathProg variable program otherwise) rest h = h
 behind_inside Output rest h = h
 
 mutual
-  -- code stays inside, whatever stands behind it
+  -- The jumps of code stay inside, whatever follows it.
   code_inside : (script : Script) (rest : List Instruction) → StaysInside rest → StaysInside (code_of script ++ rest)
   code_inside Done rest h = h
   code_inside (Then s script) rest h =
@@ -229,7 +229,7 @@ mutual
 pub code_stays : (script : Script) → StaysInside (code_of script)
 code_stays script = subst StaysInside (append-nil (code_of script)) (code_inside script [] tt)
 
--- a step asks no more jobs than there are folders
+-- A step asks for no more jobs than there are directories.
 asks_few : (i : Instruction) → asks_of i ≤ 65536
 asks_few (Does (Init a b d e f)) = omega arith
 asks_few (Does Accepted) = omega arith

@@ -2,14 +2,14 @@
 use Rattle.std.proofs.Common.{◌≡◌, codes, ℕ, ◌+◌, ◌*◌, ◌<◌, ◌≤◌, Option, Some, None, IfSome, IfNone, is_some, Bool, true, false, refl, List, [], ◌∷◌, Vec, Global, length, drop, get_or, ap, ◌∙◌, arith, length-append}
 use Rattle.std.proofs.lemmas.List.{drop_more}
 use Rattle.std.proofs.lemmas.Bool.{true≢false}
-use Rattle.acmacros.specs.declared.statement.Plain as plain
-use Rattle.acmacros.specs.declared.statement.Plain.TheVariants.{Init, Accepted, ConfigFiles, Assign, Subst, SubstValue, Define, DefineUnquoted, Error, ArgVar, CheckProg, PathProg, Output, CheckProgs, ProgCc}
-use Rattle.tree.specs.declared.tree.Case as case
-use Rattle.tree.specs.declared.tree.Stmt.{Stmt, Choose}
-use Rattle.tree.specs.declared.tree.Subject as what
-use Rattle.tree.specs.declared.tree.Stmt.TheVariants as stmt
-use Rattle.tree.specs.Script.{Script, Done, Then, Choice, Cases, No_case, Case, stmt_then, script_of, cases_of}
-use Rattle.tree.proofs.ScriptLemmas.{choice_is}
+use Rattle.syntax.specs.declared.statement.Plain as plain
+use Rattle.syntax.specs.declared.statement.Plain.TheVariants.{Init, Accepted, ConfigFiles, Assign, Subst, SubstValue, Define, DefineUnquoted, Error, ArgVar, CheckProg, PathProg, Output, CheckProgs, ProgCc}
+use Rattle.syntax.specs.declared.tree.Case as case
+use Rattle.syntax.specs.declared.tree.Stmt.{Stmt, Choose}
+use Rattle.syntax.specs.declared.tree.Subject as what
+use Rattle.syntax.specs.declared.tree.Stmt.TheVariants as stmt
+use Rattle.syntax.specs.Script.{Script, Done, Then, Choice, Cases, No_case, Case, stmt_then, script_of, cases_of}
+use Rattle.syntax.proofs.ScriptLemmas.{choice_is}
 use Rattle.plan.specs.Walk.{Defaults, Skips}
 use Rattle.plan.specs.Weight.{entries_of, weight, weight_of_cases}
 use Rattle.plan.specs.Code.{case_code, code_behind, code_of, code_of_cases, code_of_programs}
@@ -18,17 +18,17 @@ weight_more : (s : Stmt) (rest : Script) → weight (stmt_then s rest) ≡ weigh
 weight_more (stmt.Plain s) rest = omega arith
 weight_more (stmt.Choose' subject m cases) rest = omega arith
 
--- one statement of a list, and those behind it
+-- One statement of a list, and those after it.
 pub weight_at : (list : List Stmt) (i : ℕ) (d : Stmt) → i < length list
     → weight (script_of (drop i list)) ≡ weight (stmt_then (get_or list i d) Done) + weight (script_of (drop (i + 1) list))
 weight_at list i d lt = ap (λ l. weight (script_of l)) (drop_more list i d lt) ∙ weight_more (get_or list i d) (script_of (drop (i + 1) list))
 
--- one case of a choice, and those behind it
+-- One case of a choice, and those after it.
 pub weight_at_case : (list : List case.Case) (i : ℕ) (d : case.Case) → i < length list
     → weight_of_cases (cases_of (drop i list)) ≡ weight_of_cases (cases_of (get_or list i d ∷ [])) + weight_of_cases (cases_of (drop (i + 1) list))
 weight_at_case list i d lt = ap (λ l. weight_of_cases (cases_of l)) (drop_more list i d lt) ∙ omega arith
 
--- a choice
+-- A choice.
 pub weight_choice : (s : Stmt) (subject : what.Subject) (cases : Vec case.Case Global) → s ≡ Choose subject cases
     → weight (stmt_then s Done) ≡ 1 + weight_of_cases (cases_of cases.items)
 weight_choice s subject cases is = ap (λ x. weight (stmt_then x Done)) is ∙ ap weight (choice_is subject cases Done) ∙ omega arith
@@ -37,7 +37,7 @@ pub weighs_something : (s : Stmt) → 1 ≤ weight (stmt_then s Done)
 weighs_something (stmt.Plain s) = omega arith
 weighs_something (stmt.Choose' subject m cases) = omega arith
 
--- one statement more
+-- One more statement.
 pub weigh_on : (list : List Stmt) (i : ℕ) (s : Stmt) (left less room : ℕ) → i < length list → s ≡ get_or list i s
     → less + weight (stmt_then s Done) ≡ left
     → left + weight (script_of list) ≡ room + weight (script_of (drop i list))
@@ -89,7 +89,7 @@ behind_bound (PathProg variable program otherwise) = omega arith
 behind_bound Output = omega arith
 
 mutual
-  -- code has two steps at most for each unit of weight
+  -- Code has two steps at most for each unit of weight.
   pub code_bound : (script : Script) → length (code_of script) ≤ 2 * weight script
   code_bound Done = omega arith
   code_bound (Then s rest) = omega (arith, behind_bound s, length-append (code_behind s) (code_of rest), code_bound rest)
@@ -102,7 +102,7 @@ mutual
       let b = code_of body in let m = code_of_cases more in
       omega (arith, length-append (case_code when b (length m)) m, length-append b (Skips (length m) ∷ []), code_bound body, cases_bound more)
 
--- where there is room for all, the weight is no more than the room
+-- If there is room for all, the weight is no more than the room.
 pub within : (r : Option ℕ) (w room : ℕ) → true ≡ is_some r → IfSome r (λ left. left + w ≡ room) → w ≤ room
 within None w room e h = absurd (true≢false e)
 within (Some left) w room e h = omega (arith, h)

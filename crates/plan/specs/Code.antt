@@ -1,32 +1,34 @@
 -- The plan of a list of statements.
 use Rattle.std.specs.Prelude.{ℕ, ◌+◌, Bool, true, false, List, [], ◌∷◌, ◌++◌, length, codes}
-use Rattle.acmacros.specs.declared.statement.Plain as plain
-use Rattle.acmacros.specs.declared.statement.Plain.TheVariants.{CheckProgs, ProgCc}
-use Rattle.tree.specs.declared.tree.When.{When}
-use Rattle.tree.specs.Script.{Script, Done, Then, Choice, Cases, No_case, Case}
+use Rattle.syntax.specs.declared.statement.Plain as plain
+use Rattle.syntax.specs.declared.statement.Plain.TheVariants.{CheckProgs, ProgCc}
+use Rattle.syntax.specs.declared.tree.When.{When}
+use Rattle.syntax.specs.Script.{Script, Done, Then, Choice, Cases, No_case, Case}
 use Rattle.plan.specs.Walk.{Instruction, Does, Looks, Defaults, Begins, Skips_unless, Skips}
 
--- a case: a jump past it, its statements, and a jump past the cases behind it
+-- A case: a jump past it, its statements, and a jump past the cases after it. (own)
 abbrev pub case_code : When → List Instruction → ℕ → List Instruction
 case_code when body behind = Skips_unless when (length body + 1) ∷ (body ++ (Skips behind ∷ []))
 
--- programs, one after the other
+-- Programs, one after the other. (own)
 abbrev pub code_of_programs : List ℕ → List (List ℕ) → Bool → List Instruction
 code_of_programs variable [] always = []
 code_of_programs variable (program ∷ more) always = Looks variable program always ∷ code_of_programs variable more false
 
--- what stands behind the own step of a statement
+-- The steps that follow the own step of a statement. (own)
 abbrev pub code_behind : plain.Plain → List Instruction
 code_behind (CheckProgs variable programs otherwise) = code_of_programs variable programs true ++ Defaults variable otherwise ∷ []
 code_behind (ProgCc programs) = code_of_programs (codes "CC") programs true
 code_behind statement = []
 
 abbrev mutual
+  -- The steps of a list of statements. (own)
   pub code_of : Script → List Instruction
   code_of Done = []
   code_of (Then s rest) = Does s ∷ (code_behind s ++ code_of rest)
   code_of (Choice subject cases rest) = Begins subject ∷ (code_of_cases cases ++ code_of rest)
 
+  -- The steps of the cases of a choice. (own)
   pub code_of_cases : Cases → List Instruction
   code_of_cases No_case = []
   code_of_cases (Case when body more) = case_code when (code_of body) (length (code_of_cases more)) ++ code_of_cases more

@@ -1,15 +1,15 @@
--- Every jump of a plan goes forward and stays inside, and how many jobs a plan may ask.
+-- Every jump of a plan goes forward and stays inside, and how many jobs a plan may ask for.
 use Rattle.std.specs.Prelude.{ℕ, zero, suc, ◌+◌, ◌≤◌, List, [], ◌∷◌, length}
-use Rattle.acmacros.specs.declared.statement.Plain as plain
-use Rattle.acmacros.specs.declared.statement.Plain.TheVariants.{CheckProg, PathProg}
-use Rattle.acmacros.specs.declared.statement.Question.TheVariants.{Given, Tries}
-use Rattle.acmacros.specs.declared.program.Try as kinds
-use Rattle.acmacros.specs.declared.program.Try.TheVariants.{Compile, Link, Preproc, Run}
-use Rattle.tree.specs.declared.tree.Subject as subject
-use Rattle.tree.specs.declared.tree.Subject.TheVariants.{Nothing, Word, Asked}
+use Rattle.syntax.specs.declared.statement.Plain as plain
+use Rattle.syntax.specs.declared.statement.Plain.TheVariants.{CheckProg, PathProg}
+use Rattle.syntax.specs.declared.statement.Question.TheVariants.{Given, Tries}
+use Rattle.syntax.specs.declared.program.Try as kinds
+use Rattle.syntax.specs.declared.program.Try.TheVariants.{Compile, Link, Preproc, Run}
+use Rattle.syntax.specs.declared.tree.Subject as subject
+use Rattle.syntax.specs.declared.tree.Subject.TheVariants.{Nothing, Word, Asked}
 use Rattle.plan.specs.Walk.{Instruction, Does, Looks, Defaults, Begins, Skips_unless, Skips}
 
--- how many steps a step may pass
+-- How many steps a step may pass. (own)
 abbrev pub reach : Instruction → ℕ
 reach (Does statement) = 0
 reach (Looks variable program always) = 0
@@ -18,36 +18,36 @@ reach (Begins subject) = 0
 reach (Skips_unless when steps) = steps
 reach (Skips steps) = steps
 
--- no step passes more steps than there are behind it
+-- No step passes more steps than there are after it. (own)
 abbrev pub StaysInside : List Instruction → Type 0
 StaysInside [] = Unit {0}
 StaysInside (i ∷ rest) = (reach i ≤ length rest) × StaysInside rest
 
--- how many folders a search may try
+-- How many directories a search may try. (own)
 abbrev pub most_folders : ℕ
 most_folders = 65536
 
--- how many jobs a statement may ask in its own step
+-- How many jobs a statement may ask for in its own step. (own)
 abbrev pub asks_by : plain.Plain → ℕ
 asks_by (CheckProg variable program found otherwise) = most_folders
 asks_by (PathProg variable program otherwise) = most_folders
 asks_by statement = 0
 
--- how many jobs a try may ask
+-- How many jobs a try may ask for. (own)
 abbrev pub asks_to_try : kinds.Try → ℕ
 asks_to_try Compile = 1
 asks_to_try Link = 1
 asks_to_try Preproc = 1
 asks_to_try Run = 2
 
--- how many jobs the beginning of a choice may ask
+-- How many jobs the beginning of a choice may ask for. (own)
 abbrev pub asks_about : subject.Subject → ℕ
 asks_about Nothing = 0
 asks_about (Word word) = 0
 asks_about (Asked (Given kind variable help)) = 0
 asks_about (Asked (Tries kind program)) = asks_to_try kind
 
--- how many jobs a step may ask
+-- How many jobs a step may ask for. (own)
 abbrev pub asks_of : Instruction → ℕ
 asks_of (Does statement) = asks_by statement
 asks_of (Looks variable program always) = most_folders
@@ -56,7 +56,7 @@ asks_of (Begins subject) = asks_about subject
 asks_of (Skips_unless when steps) = 0
 asks_of (Skips steps) = 0
 
--- how many jobs a plan may ask, after passing some steps
+-- How many jobs a plan may ask for, after n steps are passed. (own)
 abbrev pub asks_after : List Instruction → ℕ → ℕ
 asks_after [] n = 0
 asks_after (i ∷ rest) (suc n) = asks_after rest n

@@ -1,17 +1,17 @@
--- Names that a plan defines.
+-- The names that a plan defines.
 use Rattle.std.specs.Prelude.{List, [], ◌∷◌}
 use Rattle.deftable.specs.ShellName.{IsShellName}
-use Rattle.acmacros.specs.declared.statement.Plain as plain
-use Rattle.acmacros.specs.declared.statement.Plain.TheVariants.{Define, DefineUnquoted}
+use Rattle.syntax.specs.declared.statement.Plain as plain
+use Rattle.syntax.specs.declared.statement.Plain.TheVariants.{Define, DefineUnquoted}
 use Rattle.plan.specs.Walk.{Instruction, Does, Looks, Defaults, Begins, Skips_unless, Skips}
 
--- what a statement defines has the form of a name
+-- The name that a statement defines has the form of one. (own)
 abbrev pub DefinesName : plain.Plain → Type 0
 DefinesName (Define name value) = IsShellName name
 DefinesName (DefineUnquoted name value) = IsShellName name
 DefinesName _ = Unit {0}
 
--- so does all that a plan's steps define
+-- Every name that the steps of a plan define has the form of one. (own)
 abbrev pub DefinesNames : List Instruction → Type 0
 DefinesNames [] = Unit {0}
 DefinesNames (Does statement ∷ rest) = DefinesName statement × DefinesNames rest

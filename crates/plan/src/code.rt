@@ -5,11 +5,11 @@ ghost use Rattle.plan.specs.Names.{DefinesNames};
 ghost use Rattle.plan.specs.Walk.{Does, shown};
 
 use crate::step::Step;
-use acmacros::Plain;
 use std::alloc::{AllocError, Global};
 use std::marker::Model;
+use syntax::Plain;
 
-/// Steps, to which each further one is put in front. Contracts see them from the first on.
+/// Steps, with each further one put at the front. Contracts see them from the first on.
 #[derive(Drop)]
 pub(crate) struct Code<'a> {
     /// The last step comes first.
@@ -19,9 +19,9 @@ pub(crate) struct Code<'a> {
 impl<'a> Model for Code<'a> {
     ghost use Rattle.std.specs.Prelude.{List, map, reverse};
     ghost use Rattle.std.specs.Coded.{codes};
-    ghost use Rattle.acmacros.specs.contracts.statement.Plain as plain;
-    ghost use Rattle.tree.specs.contracts.tree.Subject as subject;
-    ghost use Rattle.tree.specs.contracts.tree.When as when;
+    ghost use Rattle.syntax.specs.contracts.statement.Plain as plain;
+    ghost use Rattle.syntax.specs.contracts.tree.Subject as subject;
+    ghost use Rattle.syntax.specs.contracts.tree.When as when;
     ghost use Rattle.plan.specs.Names.{DefinesNames};
     ghost use Rattle.plan.specs.Walk.{Instruction, shown};
 
@@ -35,7 +35,7 @@ impl<'a> Model for Code<'a> {
 }
 
 impl<'a> Code<'a> {
-    /// No step.
+    /// Returns an empty list.
     pub(crate) fn new(alloc: Global) -> Code<'a>
         ensures { result ≡ [] }
     {
@@ -44,7 +44,7 @@ impl<'a> Code<'a> {
         }
     }
 
-    /// Puts a step in front, which defines nothing but a name.
+    /// Puts a step at the front. It defines nothing, or a name that has the form of one.
     pub(crate) fn put(&mut self, step: Step<'a>) -> Result<(), AllocError>
         requires { DefinesNames (shown step ∷ []) }
         ensures { OnOk result (self.new ≡ shown step.entry ∷ self.old) }
@@ -53,25 +53,25 @@ impl<'a> Code<'a> {
         Ok(())
     }
 
-    /// Puts a statement in front.
+    /// Puts a statement at the front.
     pub(crate) fn put_statement(&mut self, statement: &'a Plain) -> Result<(), AllocError>
         ensures { OnOk result (self.new ≡ Does statement.now ∷ self.old) }
     {
         if let Plain::Define { name, .. } | Plain::DefineUnquoted { name, .. } = statement {
-            // A name knows its form.
+            // For the proof only: a name has the form of one.
             let _ = name.as_slice();
         }
         self.put(Step::Do(statement))
     }
 
-    /// The number of steps.
+    /// Returns the number of steps.
     pub(crate) fn len(&self) -> usize
         ensures { result ≡ length self.now }
     {
         self.steps.len()
     }
 
-    /// The steps, the first one first.
+    /// Returns the steps, from the first on.
     pub(crate) fn into_steps(self) -> Vec<Step<'a>>
         ensures steps { map shown result.items ≡ self.entry }
         ensures names { DefinesNames self.entry }

@@ -1,7 +1,7 @@
-//! From statements to a plan.
+//! Compiles statements to a plan.
 
 ghost use Rattle.std.specs.Prelude.{◌≡◌, ◌<◌, ◌≤◌, ◌^◌, ◌↔◌, Err, IfOk, length};
-ghost use Rattle.tree.specs.Script.{script_of};
+ghost use Rattle.syntax.specs.Script.{script_of};
 ghost use Rattle.plan.specs.Names.{DefinesNames};
 ghost use Rattle.plan.specs.Walk.{DoesWhat};
 ghost use Rattle.plan.specs.Weight.{heaviest, weight};
@@ -11,14 +11,17 @@ use crate::emit::emit_all;
 use crate::fault::PlanFault;
 use crate::step::Plan;
 use crate::weight::weigh;
-use acparse::Source;
 use std::alloc::Global;
-use tree::Stmt;
+use syntax::{Source, Stmt};
 
 const HEAVIEST: usize = 65_535;
 
-/// The plan of a list of statements, which does what they do. It is refused exactly where they weigh more than 65,535,
-/// whatever memory there is.
+/// Compiles a list of statements to a plan with the same meaning.
+///
+/// # Errors
+///
+/// - `TooLong`, if the statements weigh more than 65,535 (own). It is checked before anything is allocated.
+/// - `OutOfMemory`, if memory runs out.
 pub fn compile_statements<'a>(alloc: Global, statements: &'a [Stmt]) -> Result<Plan<'a>, PlanFault>
     ensures meaning { IfOk result (λ plan. DoesWhat plan (script_of statements.now)) }
     ensures long { (result ≡ Err TooLong) ↔ (heaviest < weight (script_of statements.now)) }
@@ -33,15 +36,19 @@ pub fn compile_statements<'a>(alloc: Global, statements: &'a [Stmt]) -> Result<P
     Ok(Plan::new(code))
 }
 
-/// The plan of a source, which does what its statements do, and borrows from them. `TooLong` exactly where they weigh more
-/// than 65,535 (own), whatever memory there is.
+/// Compiles a source to a plan with the same meaning. The plan borrows from the source.
+///
+/// # Errors
+///
+/// - `TooLong`, if the statements weigh more than 65,535 (own). It is checked before anything is allocated.
+/// - `OutOfMemory`, if memory runs out.
 pub fn compile<'a>(alloc: Global, source: &'a Source) -> Result<Plan<'a>, PlanFault>
-    // Walked from its first step, the plan does what the source means, whatever the variables and definitions.
-    ensures meaning { IfOk result (λ plan. DoesWhat plan (script_of source.now.statements.items)) }
-    ensures long { (result ≡ Err TooLong) ↔ (heaviest < weight (script_of source.now.statements.items)) }
-    ensures fits { IfOk result (λ _. weight (script_of source.now.statements.items) ≤ heaviest) }
+    // Walked from its first step, the plan has the meaning of the source, whatever the variables and definitions.
+    ensures meaning { IfOk result (λ plan. DoesWhat plan (script_of source.now)) }
+    ensures long { (result ≡ Err TooLong) ↔ (heaviest < weight (script_of source.now)) }
+    ensures fits { IfOk result (λ _. weight (script_of source.now) ≤ heaviest) }
     ensures steps { IfOk result (λ plan. length plan ≤ 2 ^ 20) }
     ensures names { IfOk result (λ plan. DefinesNames plan) }
 {
-    compile_statements(alloc, source.statements.as_slice())
+    compile_statements(alloc, source.statements())
 }

@@ -1,17 +1,16 @@
-//! The steps of statements, written from the last to the first, so that each jump knows how far it goes.
+//! The steps of statements, written from the last to the first, so that the length of each jump is known.
 
 ghost use Rattle.std.specs.Prelude.{◌≡◌, ◌++◌, IfOk, OnOk, true};
-ghost use Rattle.tree.specs.Script.{Done, script_of, cases_of, stmt_then};
+ghost use Rattle.syntax.specs.Script.{Done, script_of, cases_of, stmt_then};
 ghost use Rattle.plan.specs.Code.{case_code, code_behind, code_of, code_of_cases, code_of_programs};
 
 use crate::code::Code;
 use crate::step::Step;
-use acmacros::Plain;
 use deftable::Bytes;
 use std::alloc::{AllocError, Global};
-use tree::{Case, Stmt};
+use syntax::{Case, Plain, Stmt};
 
-/// The programs that are looked for, before what is there.
+/// Puts the steps of the programs that are looked for at the front.
 fn emit_programs<'a>(
     code: &mut Code<'a>,
     variable: &'a [u8],
@@ -29,7 +28,7 @@ fn emit_programs<'a>(
     Ok(())
 }
 
-/// What stands behind the own step of a statement, before what is there.
+/// Puts the steps that follow the own step of a statement at the front.
 fn emit_behind<'a>(code: &mut Code<'a>, statement: &'a Plain) -> Result<(), AllocError>
     ensures { OnOk result (code.new ≡ code_behind statement.now ++ code.old) }
 {
@@ -46,23 +45,11 @@ fn emit_behind<'a>(code: &mut Code<'a>, statement: &'a Plain) -> Result<(), Allo
             emit_programs(code, variable.as_slice(), programs.as_slice())
         }
         Plain::ProgCc { programs } => emit_programs(code, b"CC", programs.as_slice()),
-        Plain::Init { .. }
-        | Plain::Accepted
-        | Plain::ConfigFiles { .. }
-        | Plain::Assign { .. }
-        | Plain::Subst { .. }
-        | Plain::SubstValue { .. }
-        | Plain::Define { .. }
-        | Plain::DefineUnquoted { .. }
-        | Plain::Error { .. }
-        | Plain::ArgVar { .. }
-        | Plain::CheckProg { .. }
-        | Plain::PathProg { .. }
-        | Plain::Output => Ok(()),
+        _ => Ok(()),
     }
 }
 
-/// The statements, before what is there.
+/// Puts the steps of the statements at the front.
 #[cycle(emit)]
 fn emit<'a>(code: &mut Code<'a>, statements: &'a [Stmt]) -> Result<(), AllocError>
     ensures { OnOk result (code.new ≡ code_of (script_of statements.now) ++ code.old) }
@@ -103,7 +90,7 @@ fn emit_cases<'a>(code: &mut Code<'a>, cases: &'a [Case]) -> Result<(), AllocErr
     Ok(())
 }
 
-/// A case, before the cases behind it, whose steps are so many.
+/// Puts the steps of a case at the front. `behind` is the number of steps of the cases after it.
 #[cycle(emit)]
 fn emit_case<'a>(code: &mut Code<'a>, case: &'a Case, behind: usize) -> Result<(), AllocError>
     ensures { OnOk result (code.new ≡ case_code case.now.when (code_of (script_of case.now.body.items)) behind ++ code.old) }
@@ -119,7 +106,7 @@ fn emit_case<'a>(code: &mut Code<'a>, case: &'a Case, behind: usize) -> Result<(
     Ok(())
 }
 
-/// The steps of statements, and nothing behind them.
+/// Returns the steps of the statements.
 pub(crate) fn emit_all<'a>(alloc: Global, statements: &'a [Stmt]) -> Result<Code<'a>, AllocError>
     ensures { IfOk result (λ code. code ≡ code_of (script_of statements.now)) }
 {

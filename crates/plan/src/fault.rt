@@ -6,13 +6,14 @@ ghost use Rattle.plan.specs.declared.fault.PlanFault.TheVariants.{OutOfMemory};
 use std::alloc::AllocError;
 use thiserror::Error;
 
-/// Why there is no plan. It prints as it stands in a fault line.
+/// Why there is no plan. It prints as the number in an error line.
 #[derive(Debug, Drop, Error)]
 pub enum PlanFault {
-    /// The statements weigh more than 65,535: each weighs 1, one inside a case too, and each case 1 more (own).
+    /// The statements weigh more than 65,535. Each weighs 1, inside a case too, each case 1 more, and each program of a
+    /// list 1 more (own).
     #[error("1")]
     TooLong,
-    /// A growth of memory was refused.
+    /// Memory ran out.
     #[error("memory")]
     OutOfMemory,
 }

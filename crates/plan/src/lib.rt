@@ -1,4 +1,5 @@
-//! Plans: a source as a flat list of steps, over which a machine walks with nothing but a place.
+//! Plans: a source as a flat list of steps. Between two steps, a walk over it needs no more than an offset, the subject
+//! of the choice that began last, and the variables and definitions.
 //!
 //! ```text
 //! AS_CASE([$host], [*linux*], [os=linux], [os=other])     Subject($host)
@@ -11,13 +12,13 @@
 //!                                                         Do AC_OUTPUT
 //! ```
 //!
-//! Read `step` (the steps, and the plan, whose jumps all stay inside), then `specs/Walk` (what a step does, and what a
-//! plan does), then `compiling`. `weight` counts what a source weighs, and `emit` writes the steps from the last to the
-//! first, into `code`; `specs/Weight` and `specs/Code` have the words for both, `specs/Inside` and `specs/Names` what holds
-//! of every plan. A plan borrows from the statements, and copies none.
+//! Read `step` (the steps, and the plan, whose jumps all stay inside), then `specs/Walk` (the effect of a step, and of
+//! a plan), then `compiling`. `weight` counts the weight of a source, and `emit` writes the steps from the last to the
+//! first, into `code`. `specs/Weight` and `specs/Code` define both, and `specs/Inside` and `specs/Names` what holds of
+//! every plan. A plan borrows from the statements, and copies none.
 //!
-//! What is promised of a plan is that its walk is the meaning of the statements, whatever the variables and the
-//! definitions before it.
+//! The theorem is that the walk of a plan is the meaning of its statements, whatever the variables and the definitions
+//! before it.
 #![tactic(auto)]
 
 mod code;

@@ -1,31 +1,30 @@
 //! The steps of a plan.
 
 use crate::code::Code;
-use acmacros::Plain;
 use deftable::Bytes;
 use shellword::HereText;
 use std::marker::Model;
-use tree::{Subject, When};
+use syntax::{Plain, Subject, When};
 
-/// A step of a plan. What it needs to know stands in the tree, and jumps say how many steps they pass.
+/// A step of a plan. It borrows from the tree, and a jump has the number of steps that it passes.
 #[derive(Clone, Copy)]
 pub enum Step<'a> {
-    /// Does what a statement does. The programs of a list that it looks for are steps behind it.
+    /// Runs a statement. If it looks for the programs of a list, they are steps after it.
     Do(&'a Plain),
-    /// Looks for a program of a list, always or while the variable is empty.
+    /// Looks for a program of a list, always or only if the variable is still empty.
     Look {
         variable: &'a [u8],
         program: &'a Bytes,
         always: bool,
     },
-    /// Gives a variable that is empty its default, if it has one.
+    /// Gives a variable its default, if it has one and the variable is empty.
     Default {
         variable: &'a [u8],
         value: &'a Option<HereText>,
     },
-    /// Begins a choice, which is about the subject from here on.
+    /// Begins a choice. Its subject is the subject until the next choice begins.
     Subject(&'a Subject),
-    /// Passes steps unless a case is taken.
+    /// Passes steps, unless the case is taken.
     SkipUnless {
         when: &'a When,
         steps: usize,
@@ -36,9 +35,9 @@ pub enum Step<'a> {
     },
 }
 
-/// The steps of a source, which borrow from its statements. Contracts see the list of what they do: every jump goes
-/// forward and stays inside, every name that a step defines has the form of one, and all steps together ask 2^36 jobs at
-/// most.
+/// The steps of a source, which borrow from its statements. Contracts see the list of their effects: every jump goes
+/// forward and stays inside, every name that a step defines has the form of one, and all steps together ask for at most
+/// 2^36 jobs.
 #[derive(Drop)]
 pub struct Plan<'a> {
     steps: Vec<Step<'a>>,
@@ -47,9 +46,9 @@ pub struct Plan<'a> {
 impl<'a> Model for Plan<'a> {
     ghost use Rattle.std.specs.Prelude.{List, map, ◌≤◌, ◌^◌};
     ghost use Rattle.std.specs.Coded.{codes};
-    ghost use Rattle.acmacros.specs.contracts.statement.Plain as plain;
-    ghost use Rattle.tree.specs.contracts.tree.Subject as subject;
-    ghost use Rattle.tree.specs.contracts.tree.When as when;
+    ghost use Rattle.syntax.specs.contracts.statement.Plain as plain;
+    ghost use Rattle.syntax.specs.contracts.tree.Subject as subject;
+    ghost use Rattle.syntax.specs.contracts.tree.When as when;
     ghost use Rattle.plan.specs.Walk.{Instruction, shown};
     ghost use Rattle.plan.specs.Inside.{StaysInside, asks_after};
     ghost use Rattle.plan.specs.Names.{DefinesNames};
@@ -69,7 +68,7 @@ impl<'a> Plan<'a> {
     ghost use Rattle.plan.specs.Inside.{StaysInside, asks_after};
     ghost use Rattle.plan.specs.Names.{DefinesNames};
 
-    /// The plan of steps that were written.
+    /// Makes a plan from the steps.
     pub(crate) fn new(code: Code<'a>) -> Plan<'a>
         requires inside { StaysInside code }
         requires few { length code ≤ 2 ^ 20 }
@@ -80,7 +79,7 @@ impl<'a> Plan<'a> {
         }
     }
 
-    /// The steps, from the first on.
+    /// Returns the steps, from the first on.
     pub fn steps(&self) -> &[Step<'a>]
         ensures steps { map shown result.now ≡ self.now }
         ensures inside { StaysInside self.now }

@@ -1,13 +1,12 @@
 //! The weight of statements.
 
 ghost use Rattle.std.specs.Prelude.{◌≡◌, ◌+◌, ◌<◌, ◌∷◌, [], IfSome, IfNone};
-ghost use Rattle.tree.specs.Script.{Done, script_of, cases_of, stmt_then};
+ghost use Rattle.syntax.specs.Script.{Done, script_of, cases_of, stmt_then};
 ghost use Rattle.plan.specs.Weight.{entries_of, weight, weight_of_cases};
 
-use acmacros::Plain;
-use tree::{Case, Stmt};
+use syntax::{Case, Plain, Stmt};
 
-/// The room that is left once the statements are weighed, if there is room for all.
+/// Returns what is left of `room` after the weight of the statements, or `None` if they weigh more.
 #[cycle(weigh)]
 pub(crate) fn weigh(room: usize, statements: &[Stmt]) -> Option<usize>
     ensures some { IfSome result (λ left. left + weight (script_of statements.now) ≡ room) }
@@ -23,7 +22,7 @@ pub(crate) fn weigh(room: usize, statements: &[Stmt]) -> Option<usize>
     Some(left)
 }
 
-/// The entries of a statement's list of programs.
+/// Returns the number of programs in a statement's list.
 fn entries_of(statement: &Plain) -> usize
     ensures { result ≡ entries_of statement.now }
 {
@@ -31,19 +30,7 @@ fn entries_of(statement: &Plain) -> usize
         Plain::CheckProgs { programs, .. } | Plain::ProgCc { programs } => {
             programs.as_slice().len()
         }
-        Plain::Init { .. }
-        | Plain::Accepted
-        | Plain::ConfigFiles { .. }
-        | Plain::Assign { .. }
-        | Plain::Subst { .. }
-        | Plain::SubstValue { .. }
-        | Plain::Define { .. }
-        | Plain::DefineUnquoted { .. }
-        | Plain::Error { .. }
-        | Plain::ArgVar { .. }
-        | Plain::CheckProg { .. }
-        | Plain::PathProg { .. }
-        | Plain::Output => 0,
+        _ => 0,
     }
 }
 

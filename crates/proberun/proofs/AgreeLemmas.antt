@@ -1,4 +1,4 @@
--- A run reads no reply past those to the jobs that it asks.
+-- A run reads no reply past those to the jobs that it asks for.
 use Rattle.std.proofs.Common.{◌≡◌, ℕ, zero, suc, ◌≤◌, List, [], ◌∷◌, length, take, drop, Some, refl, sym, ap, ◌∙◌, subst, arith, length-append}
 use Rattle.std.proofs.lemmas.List.{length-drop}
 use Rattle.conftest.specs.declared.job.Job.{Job}
@@ -35,11 +35,11 @@ agree_all [] (y ∷ ys) e g = absurd (omega arith)
 agree_all (x ∷ xs) [] e g = absurd (omega arith)
 agree_all (x ∷ xs) (y ∷ ys) e g = ap (λ z. z ∷ xs) g.0 ∙ ap (λ l. y ∷ l) (agree_all xs ys (omega arith) g.1)
 
--- so many replies are read
+-- There are enough replies for the groups.
 abbrev Enough : Played → List Reply → Type 0
 Enough p replies = length replies ≡ length (all_jobs p.groups)
 
--- the replies behind those to the first group
+-- The replies after those to the first group.
 rest_enough : (jobs : List Job) (p : Played) (xs : List Reply) → Enough (after (jobs ∷ []) p) xs → (length jobs ≤ length xs) × Enough p (drop (length jobs) xs)
 rest_enough jobs p xs e =
     let parts = length-append jobs (all_jobs p.groups) in

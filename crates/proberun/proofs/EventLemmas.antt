@@ -24,20 +24,20 @@ if_same a b x y h = grind (arith, nat_tests)
 if_other : {A : Type 0} (a b : ℕ) (x y : A) → (a ≡ b → ⊥) → cond (eqb a b) x y ≡ y
 if_other a b x y h = grind (arith, nat_tests)
 
--- the start of this number
+-- The start of this number.
 pub fate-started : (n slot : ℕ) (job : Job) (number : ℕ) (es : List CrewEvent) → number ≡ n → fate_of n (es ++ Started slot job number ∷ []) ≡ Running slot
 fate-started n slot job number es e = fate-push n es (Started slot job number) ∙ if_same number n (Running slot) (fate_of n es) e
 
--- the start of another number
+-- The start of another number.
 pub fate-other : (n slot : ℕ) (job : Job) (number : ℕ) (es : List CrewEvent) → (number ≡ n → ⊥) → fate_of n (es ++ Started slot job number ∷ []) ≡ fate_of n es
 fate-other n slot job number es ne = fate-push n es (Started slot job number) ∙ if_other number n (Running slot) (fate_of n es) ne
 
--- the end in this slot
+-- The end in this slot.
 pub fate-ended : (n slot number : ℕ) (reply : Reply) (es : List CrewEvent) → fate_of n es ≡ Running slot → fate_of n (es ++ Ended slot reply number ∷ []) ≡ Replied reply
 fate-ended n slot number reply es e =
     fate-push n es (Ended slot reply number) ∙ ap (ended_by slot reply) e ∙ if_same slot slot (Replied reply) (Running slot) refl
 
--- an end changes no fate but that of its slot
+-- An end changes no fate but that of its slot.
 pub ended-other : (slot : ℕ) (reply : Reply) (f : Fate) → ((s : ℕ) → f ≡ Running s → (s ≡ slot → ⊥)) → ended_by slot reply f ≡ f
 ended-other slot reply Unstarted ne = refl
 ended-other slot reply (Running s) ne = if_other s slot (Replied reply) (Running s) (ne s refl)
@@ -55,7 +55,7 @@ busy-ended s slot number reply es e = busy-push s es (Ended slot reply number) �
 pub busy-ended_other : (s slot number : ℕ) (reply : Reply) (es : List CrewEvent) → (slot ≡ s → ⊥) → busy s (es ++ Ended slot reply number ∷ []) ≡ busy s es
 busy-ended_other s slot number reply es e = busy-push s es (Ended slot reply number) ∙ if_other slot s false (busy s es) e
 
--- one more start
+-- One more start.
 pub starts-push : (jobs : List Job) (base slot : ℕ) (job : Job) (number : ℕ) (es : List CrewEvent) → StartsAre jobs base es → base < number → slice_get jobs (number - (base + 1)) ≡ Some job → StartsAre jobs base (es ++ Started slot job number ∷ [])
 starts-push jobs base slot job number [] h lt at = (lt, at, tt)
 starts-push jobs base slot job number (Started s j n ∷ es) h lt at = (h.0, h.1, starts-push jobs base slot job number es h.2 lt at)
@@ -69,7 +69,7 @@ starts-end jobs base slot number reply (Ended s r n ∷ es) h = starts-end jobs 
 pub flying-push : (n : ℕ) (es : List CrewEvent) (e : CrewEvent) → fold flying_after n (es ++ e ∷ []) ≡ flying_after (fold flying_after n es) e
 flying-push n es e = fold-append flying_after n es (e ∷ [])
 
--- one more start in the least free slot
+-- One more start in the least free slot.
 pub least-push : (before es : List CrewEvent) (slot : ℕ) (job : Job) (number : ℕ) → TakesLeast before es → ((s : ℕ) → s < slot → busy s (before ++ es) ≡ true) → TakesLeast before (es ++ Started slot job number ∷ [])
 least-push before [] slot job number h full = (λ s lt. ap (busy s) (sym (append-nil before)) ∙ full s lt, tt)
 least-push before (Started x j n ∷ es) slot job number h full =

@@ -27,7 +27,7 @@ if_same a b x y h = grind (arith, nat_tests)
 if_other : {A : Type 0} (a b : ℕ) (x y : A) → (a ≡ b → ⊥) → cond (eqb a b) x y ≡ y
 if_other a b x y h = grind (arith, nat_tests)
 
--- a start that is running has a busy slot
+-- A start that is running has a busy slot.
 abbrev Busies : Fate → ℕ → Bool → Type 0
 Busies f s b = f ≡ Running s → b ≡ true
 
@@ -56,7 +56,7 @@ busies_all n s [] f b h = h
 busies_all n s (Started slot job number ∷ es) f b h = busies_all n s es _ _ (busies_started n s slot number f b h)
 busies_all n s (Ended slot reply number ∷ es) f b h = busies_all n s es _ _ (busies_ended s slot reply f b h)
 
--- where no child is in flight, no start is running
+-- If no child is in flight, no start is running.
 not_running : (n s : ℕ) (before es now : List CrewEvent) → now ≡ before ++ es → IsIdle now → fate_of n es ≡ Running s → ⊥
 not_running n s before es now is idle e =
     let b = busies_all n s es Unstarted (fold (busy_after s) false before) (λ x. cc) e in
@@ -64,7 +64,7 @@ not_running n s before es now is idle e =
     let both : true ≡ false = sym whole ∙ idle.free s in
     cc
 
--- later starts change no reply that is there
+-- Later starts change no reply that exists.
 keeps : (n base : ℕ) (jobs : List Job) (es : List CrewEvent) (f : Fate) → n ≤ base → StartsAre jobs base es → ((s : ℕ) → f ≡ Running s → ⊥) → fold (fate_after n) f es ≡ f
 keeps n base jobs [] f le h still = refl
 keeps n base jobs (Started slot job number ∷ es) f le h still =
@@ -78,7 +78,7 @@ keeps n base jobs (Ended slot reply number ∷ es) f le h still =
     unmoved (Running s) still = absurd (still s refl)
     unmoved (Replied r) still = refl
 
--- a start that has not been attempted is not there
+-- A start that has not been attempted doesn't exist.
 not_yet : (n base : ℕ) (jobs : List Job) (es : List CrewEvent) → base + length jobs < n → StartsAre jobs base es → fate_of n es ≡ Unstarted
 not_yet n base jobs [] lt h = refl
 not_yet n base jobs (Started slot job number ∷ es) lt h =
@@ -88,7 +88,7 @@ not_yet n base jobs (Started slot job number ∷ es) lt h =
     ap (λ g. fold (fate_after n) g es) e ∙ not_yet n base jobs es lt h.2
 not_yet n base jobs (Ended slot reply number ∷ es) lt h = not_yet n base jobs es lt h
 
--- replies before and after a place
+-- Replies before and after an offset.
 replies_split : (base c n : ℕ) (es : List CrewEvent) → replies_in base (c + n) es ≡ replies_in base c es ++ replies_in (base + c) n es
 replies_split base zero n es =
     let a : 0 + n ≡ n = omega arith in
@@ -114,7 +114,7 @@ replies_new base c (suc n) jobs es more le h =
     ap (λ f. reply_in f ∷ replies_in (c + 1) n (es ++ more)) one
     ∙ ap (λ l. reply_in (fate_of (c + 1) more) ∷ l) (replies_new base (c + 1) n jobs es more (omega arith) h)
 
--- jobs of several groups
+-- Jobs of several groups.
 all_jobs-push : (groups : List (List Job)) (jobs : List Job) → all_jobs (groups ++ jobs ∷ []) ≡ all_jobs groups ++ jobs
 all_jobs-push [] jobs = append-nil jobs
 all_jobs-push (g ∷ groups) jobs = ap (λ l. g ++ l) (all_jobs-push groups jobs) ∙ sym (append_assoc g (all_jobs groups) jobs)
@@ -167,7 +167,7 @@ play_group jobs next rs more len =
 after-after : (a b : List (List Job)) (p : Played) → after a (after b p) ≡ after (a ++ b) p
 after-after a b p = ap (λ g. record { how = p.how; state = p.state; groups = g }) (sym (append_assoc a b p.groups))
 
--- replies that are no answers
+-- Replies that are no answers.
 failures-both : (xs ys : List Reply) → failures_in (xs ++ ys) ≡ failures_in xs + failures_in ys
 failures-both [] ys = omega arith
 failures-both (x ∷ xs) ys = let e = failures-both xs ys in omega arith
@@ -185,8 +185,7 @@ answered_here : (here : Option Bool) (later other : Option ℕ) → refused_here
 answered_here None later other e = cc
 answered_here (Some b) later other e = refl
 
--- replies of which none is refused, and others
--- where no reply is refused, none is a failure
+-- If no reply is refused, none is a failure.
 pub no_failures : (rs : List Reply) → first_refused rs ≡ None → failures_in rs ≡ 0
 no_failures [] e = refl
 no_failures (Answer status text ∷ rs) e =
@@ -210,7 +209,7 @@ refused_behind (x ∷ xs) ys k a b =
     ∙ ap (option_map suc) (refused_behind xs ys k (answered_rest (success x) (first_refused xs) a) b)
     ∙ ap Some n
 
--- nothing has happened yet
+-- Nothing has happened yet.
 pub progress_begins : (w : ℕ) (run left : Run) (now : Account) → left ≡ run → IsIdle now.events → Progress w run left 0 [] now now
 progress_begins w run left now same idle = record {
   since = [];
@@ -227,11 +226,11 @@ progress_begins w run left now same idle = record {
   failures = omega arith;
 }
 
--- what is left, under another name
+-- What is left, under another name.
 pub progress_same : (w : ℕ) (run left left' : Run) (asked : ℕ) (latest : List Reply) (before now : Account) → left' ≡ left → Progress w run left asked latest before now → Progress w run left' asked latest before now
 progress_same w run left left' asked latest before now e p = subst (λ r. Progress w run r asked latest before now) (sym e) p
 
--- the latest replies are taken, and none of them is refused
+-- The latest replies are taken, and none of them is refused.
 pub progress_heard : (w : ℕ) (run left : Run) (asked asked' : ℕ) (latest : List Reply) (before now : Account) → first_refused latest ≡ None → asked' ≡ asked + length latest → Progress w run left asked latest before now → Progress w run left asked' [] before now
 progress_heard w run left asked asked' latest before now none count p =
     let h = p.heeded in
@@ -256,7 +255,7 @@ progress_heard w run left asked asked' latest before now none count p =
       failures = p.failures;
     }
 
--- one more group
+-- One more group.
 pub progress_group : (w : ℕ) (run : Run) (jobs : List Job) (next : List Reply → Run) (asked : ℕ) (before mid now : Account) (replies : List (Option Reply)) → Progress w run (Asks jobs next) asked [] before mid → (served : Served w mid jobs replies now) → Progress w run (next (replies_in mid.attempts (length jobs) served.since)) asked (replies_in mid.attempts (length jobs) served.since) before now
 progress_group w run jobs next asked before mid now replies p served =
     let c = length (all_jobs p.groups) in

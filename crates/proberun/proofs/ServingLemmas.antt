@@ -1,4 +1,4 @@
--- What a start and an end keep.
+-- The invariant of serving, after a start and after an end.
 use Rattle.std.proofs.Common.{◌≡◌, ℕ, zero, suc, ◌+◌, ◌-◌, ◌<◌, ◌≤◌, true, List, [], ◌∷◌, ◌++◌, length, drop, get_or, ◌^◌, Option, Some, None, refl, sym, ap, ◌∙◌, subst, ⊎_elim, inl, inr, arith, append_assoc}
 use Rattle.std.specs.Prelude.{slice_get, slice_set}
 use Rattle.std.proofs.Math.ListN.{length-set}
@@ -14,7 +14,7 @@ use Rattle.proberun.specs.Starts.{Fills}
 use Rattle.proberun.proofs.EventLemmas.{fate-push, fate-started, fate-other, fate-ended, ended-other, busy-started, busy-started_other, busy-ended, busy-ended_other, starts-push, starts-end, flying-push, least-push, least-end, fills-start, fills-end}
 use Rattle.proberun.proofs.TableLemmas.{get-set_same, get-set_other, held-set_job, held-set_none, held-most, held-free, held-all, held-some}
 
--- a reply counts where it is no answer
+-- A reply counts if it is no answer.
 pub failed_count-set : (rs : List (Option Reply)) (k : ℕ) (r : Reply) → slice_get rs k ≡ Some None → failed_count (slice_set rs k (Some r)) ≡ failure_of r + failed_count rs
 failed_count-set [] k r e = cc
 failed_count-set (None ∷ rs) zero r e = refl
@@ -27,13 +27,13 @@ failure_most (Answer status text) = omega arith
 failure_most StartRefused = omega arith
 failure_most EndRefused = omega arith
 
--- a job that was not attempted has no reply
+-- A job that was not attempted has no reply.
 pub open_at : (f : Fate) (started k : ℕ) (replies : List (Option Reply)) (table : List (Option ℕ)) → started ≤ k → Tracks f started k replies table → (f ≡ Unstarted) × (slice_get replies k ≡ Some None)
 open_at Unstarted started k replies table le t = (refl, t.1 le)
 open_at (Running s) started k replies table le t = absurd (omega (arith, t.0))
 open_at (Replied r) started k replies table le t = absurd (omega (arith, t.0))
 
--- another job, when one more is started in a free slot
+-- Another job, when one more is started in a free slot.
 track_on : (f : Fate) (started k slot : ℕ) (replies : List (Option Reply)) (table : List (Option ℕ)) → (k ≡ started → ⊥) → slice_get table slot ≡ Some None → Tracks f started k replies table → Tracks f (started + 1) k replies (slice_set table slot (Some started))
 track_on Unstarted started k slot replies table ne free t = (λ lt. t.0 (omega arith), λ le. t.1 (omega arith))
 track_on (Running s) started k slot replies table ne free t =
@@ -91,7 +91,7 @@ serve_start before jobs started replies table now new slot job h lt free below i
       few = omega (arith, h.few, held-set_job table slot started free);
     }
 
--- another job, when one more start was refused
+-- Another job, when one more start was refused.
 track_refused : (f : Fate) (started k : ℕ) (replies : List (Option Reply)) (table : List (Option ℕ)) → (k ≡ started → ⊥) → Tracks f started k replies table → Tracks f (started + 1) k (slice_set replies started (Some StartRefused)) table
 track_refused Unstarted started k replies table ne t =
     (λ lt. get-set_other replies started k (Some StartRefused) ne ∙ t.0 (omega arith), λ le. get-set_other replies started k (Some StartRefused) ne ∙ t.1 (omega arith))
@@ -125,7 +125,7 @@ serve_refused before jobs started replies table now new h lt att ev fail =
       few = omega (arith, h.few, more);
     }
 
--- another job, when a child ended
+-- Another job, when a child ended.
 track_ended : (f : Fate) (started k slot job : ℕ) (reply : Reply) (replies : List (Option Reply)) (table : List (Option ℕ)) → (k ≡ job → ⊥) → slice_get table slot ≡ Some (Some job) → Tracks f started k replies table → Tracks (ended_by slot reply f) started k (slice_set replies job (Some reply)) (slice_set table slot None)
 track_ended Unstarted started k slot job reply replies table ne at t =
     (λ lt. get-set_other replies job k (Some reply) ne ∙ t.0 lt, λ le. get-set_other replies job k (Some reply) ne ∙ t.1 le)
@@ -140,14 +140,14 @@ running_at Unstarted s started k replies table e t = cc
 running_at (Running x) s started k replies table e t = t.1
 running_at (Replied r) s started k replies table e t = cc
 
--- the job in a slot awaits its reply
+-- The job in a slot has no reply yet.
 pub awaits : (before : Account) (jobs : List Job) (started : ℕ) (replies : List (Option Reply)) (table : List (Option ℕ)) (now : Account) (slot job : ℕ) → Serving before jobs started replies table now → slice_get table slot ≡ Some (Some job) → slice_get replies job ≡ Some None
 awaits before jobs started replies table now slot job h at =
     let held = h.holds slot job at in
     let within = h.within in
     running_at _ slot started job replies table held.1 (h.tracks job (omega (arith, held.0)))
 
--- the next job awaits its start
+-- The next job has not been started.
 pub awaits_start : (before : Account) (jobs : List Job) (started : ℕ) (replies : List (Option Reply)) (table : List (Option ℕ)) (now : Account) → Serving before jobs started replies table now → started < length jobs → slice_get replies started ≡ Some None
 awaits_start before jobs started replies table now h lt = (open_at _ started started replies table (omega arith) (h.tracks started lt)).1
 
@@ -197,29 +197,29 @@ held_cases None e = cc
 held_cases (Some None) e = cc
 held_cases (Some (Some k)) e = (k, refl)
 
--- the slot of a child that ended holds a job
+-- The slot of a child that ended holds a job.
 pub held_job : (before : Account) (jobs : List Job) (started : ℕ) (replies : List (Option Reply)) (table : List (Option ℕ)) (now : Account) (slot : ℕ) → Serving before jobs started replies table now → busy slot now.events ≡ true → (k : ℕ) × (slice_get table slot ≡ Some (Some k))
 held_job before jobs started replies table now slot h b = held_cases _ (sym (h.slots slot) ∙ b)
 
--- and it is the one that was read there
+-- The job of a child that ended is the one that was read in its slot.
 pub held_at : (before : Account) (jobs : List Job) (started : ℕ) (replies : List (Option Reply)) (table : List (Option ℕ)) (now : Account) (slot job : ℕ) → Serving before jobs started replies table now → busy slot now.events ≡ true → get_or table slot None ≡ Some job → slice_get table slot ≡ Some (Some job)
 held_at before jobs started replies table now slot job h b read =
     let held = held_job before jobs started replies table now slot h b in
     let same = sym (get_or_from_slice_get table slot (Some held.0) None held.1) ∙ read in
     held.1 ∙ ap Some same
 
--- it is some job
+-- The slot of a child that ended is not free.
 pub not_none : (before : Account) (jobs : List Job) (started : ℕ) (replies : List (Option Reply)) (table : List (Option ℕ)) (now : Account) (slot : ℕ) → Serving before jobs started replies table now → busy slot now.events ≡ true → get_or table slot None ≡ None → ⊥
 not_none before jobs started replies table now slot h b read =
     let held = held_job before jobs started replies table now slot h b in
     let same = sym (get_or_from_slice_get table slot (Some held.0) None held.1) ∙ read in
     cc
 
--- a job in a slot is in flight
+-- A job in a slot is in flight.
 pub some_busy : (before : Account) (jobs : List Job) (started : ℕ) (replies : List (Option Reply)) (table : List (Option ℕ)) (now : Account) → Serving before jobs started replies table now → HasHeld table → IsSomeBusy now.events
 some_busy before jobs started replies table now h held = record { slot = held.slot; is_busy = h.slots held.slot ∙ ap is_held held.at }
 
--- a reply leaves one job fewer
+-- A reply leaves one job fewer.
 pub open_count-set : (rs : List (Option Reply)) (k : ℕ) (r : Reply) → slice_get rs k ≡ Some None → open_count (slice_set rs k (Some r)) + 1 ≡ open_count rs
 open_count-set [] k r e = cc
 open_count-set (None ∷ rs) zero r e = refl
@@ -227,7 +227,7 @@ open_count-set (Some x ∷ rs) zero r e = let same : Some x ≡ None = cc in cc
 open_count-set (None ∷ rs) (suc k) r e = omega (arith, open_count-set rs k r e)
 open_count-set (Some x ∷ rs) (suc k) r e = open_count-set rs k r e
 
--- a refusal may be counted at a start, and at an end
+-- A refusal may be counted at a start, and at an end.
 pub room_to_start : (before : Account) (jobs : List Job) (started : ℕ) (replies : List (Option Reply)) (table : List (Option ℕ)) (now : Account) → Serving before jobs started replies table now → started < length jobs → before.failures + length jobs ≤ 2 ^ 62 → now.failures < 2 ^ 62
 room_to_start before jobs started replies table now h lt room = omega (arith, h.failures, h.few)
 
@@ -238,7 +238,7 @@ nothing_left : (n : ℕ) (job : Job) (rest : List Job) → drop n [] ≡ job ∷
 nothing_left zero job rest e = cc
 nothing_left (suc n) job rest e = cc
 
--- the queue has the jobs that were not attempted
+-- The queue has the jobs that were not attempted.
 pub next_job : (jobs rest : List Job) (started : ℕ) (job : Job) → drop started jobs ≡ job ∷ rest → (slice_get jobs started ≡ Some job) × (rest ≡ drop (started + 1) jobs)
 next_job [] rest started job e = absurd (nothing_left started job rest e)
 next_job (x ∷ xs) rest zero job e = let head : x ≡ job = cc in let tail : xs ≡ rest = cc in (ap Some head, sym tail)

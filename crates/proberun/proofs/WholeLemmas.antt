@@ -23,7 +23,7 @@ use Rattle.proberun.specs.Ran.{Ran, outcome_from}
 use Rattle.proberun.specs.Progress.{Progress, Heeded, Moving, Leaves}
 use Rattle.proberun.proofs.RunLemmas.{progress_begins, progress_same, progress_heard, progress_group, length-replies, answered_both, refused_behind, no_failures}
 
--- a machine that is ready for its next turn
+-- A machine that is ready for its next turn.
 pub record Ready (w : ℕ) (plan : List Instruction) (run : Run) (before now : Account) (m : Standing) (left : ℕ) : Type 0 where
   pub progress : Progress w run (run_left plan m) m.before (given m.replies) before now
   pub fits : Fits plan m
@@ -47,7 +47,7 @@ length-somes : (rs : List Reply) → length (map Some rs) ≡ length rs
 length-somes [] = refl
 length-somes (r ∷ rs) = let e = length-somes rs in omega arith
 
--- there is a place for the reply to each job
+-- There is room for the reply to each job.
 places : (p : Phase) (plan : List Instruction) (m : Standing) → fits_in p plan m → length m.replies ≡ length m.jobs
 places phase.Going plan m h = h.replies ∙ sym h.jobs
 places phase.Asking plan m h = h.replies ∙ sym h.jobs
@@ -57,7 +57,7 @@ places (phase.Stopped status) plan m h = h.replies ∙ sym h.jobs
 places (phase.Cut number) plan m h = h.replies ∙ sym h.jobs
 places phase.Failed plan m h = h.replies ∙ sym h.jobs
 
--- what an Ask shows
+-- The run that a turn `Ask` reports.
 shows_ask : (r : Run) (m : Standing) → Shows turn.Ask r m → m.phase ≡ phase.Asking
 shows_ask (Ends how st) m h = absurd h
 shows_ask (Asks jobs next) m h = h.0
@@ -65,17 +65,17 @@ shows_ask (Asks jobs next) m h = h.0
 fits_at : (p : Phase) (plan : List Instruction) (m : Standing) → p ≡ phase.Asking → fits_in p plan m → Holds 1 plan m
 fits_at p plan m e h = let q : fits_in phase.Asking plan m = subst (λ x. fits_in x plan m) e h in q
 
--- a machine that asks, asks one job
+-- A machine that asks, asks for one job.
 pub one_job : (plan : List Instruction) (old m : Standing) → Turned plan turn.Ask old m → length m.jobs ≡ 1
 one_job plan old m t = (fits_at m.phase plan m (shows_ask (run_at plan m) m t.shows) t.fits).jobs
 
--- where a machine asks, no call has failed so far
+-- If a machine asks, no call has failed so far.
 pub no_failure_yet : (w : ℕ) (plan : List Instruction) (run : Run) (before mid : Account) (old m : Standing) → Turned plan turn.Ask old m → Progress w run (run_left plan old) old.before (given old.replies) before mid → mid.failures ≡ before.failures
 no_failure_yet w plan run before mid old m t p =
     let none = no_failures (replies_in before.attempts (length (all_jobs p.groups)) p.since) (ap first_refused p.heeded.whole ∙ answered_both p.heeded.earlier (given old.replies) p.heeded.answered t.refusals) in
     omega (arith, p.failures, none)
 
--- what follows the replies to the jobs that a machine asks
+-- What follows the replies to the jobs that a machine asks for.
 abbrev next_of : List Instruction → Standing → List Reply → Run
 next_of plan m replies = resumed m.wait replies (walk plan (m.place + 1)) m.scope m.state
 
@@ -122,7 +122,7 @@ serves w plan run before mid now old m new t fits p served same =
     } in
     subst (λ x. Ready w plan run before now x (asks_left plan m)) (sym is) (served_ready w plan run before mid now old m rs t fits p served' refl)
 
--- the place of the first refused reply that a last turn stands for
+-- The number of the first refused reply that a last turn reports.
 abbrev PlaceBy : Turn → Option ℕ → Type 0
 PlaceBy turn.Ask refused = refused ≡ None
 PlaceBy turn.Done refused = refused ≡ None
@@ -201,11 +201,11 @@ ends w plan run before now old m t end ne turned moving p leaves =
       failures = p.failures;
     }
 
--- as many children are in flight as before
+-- As many children are in flight as before.
 pub all_landed : (w : ℕ) (run left : Run) (asked : ℕ) (latest : List Reply) (before now : Account) → Progress w run left asked latest before now → in_flight now.events ≡ in_flight before.events
 all_landed w run left asked latest before now p = ap in_flight p.events ∙ fold-append flying_after 0 before.events p.since ∙ p.landed (in_flight before.events)
 
--- a turn that asks nothing is at an end
+-- A turn that asks for nothing is at an end.
 pub at_end : (plan : List Instruction) (t : Turn) (old m : Standing) → (t ≡ turn.Ask → ⊥) → Turned plan t old m → IsSome (outcome_of m.phase)
 at_end plan turn.Ask old m ne h = absurd (ne refl)
 at_end plan turn.Done old m ne h = subst IsSome (sym h.outcome) refl

@@ -1,4 +1,4 @@
--- Two runs of one plan, over crews that reply alike.
+-- Two runs of one plan, over crews with the same replies.
 use Rattle.std.specs.Prelude.{◌≡◌, ℕ, List, [], ◌∷◌, length}
 use Rattle.crew.specs.declared.reply.Reply.{Reply}
 use Rattle.crew.specs.Events.{Account, replies_in}
@@ -7,14 +7,14 @@ use Rattle.meaning.specs.Play.{all_jobs}
 use Rattle.machine.specs.declared.machine.RunEnd.{RunEnd}
 use Rattle.proberun.specs.Ran.{Ran}
 
--- the n-th replies are the same, wherever both lists have one
+-- The n-th replies are the same, for every n that both lists have. (own)
 abbrev pub Agree : List Reply → List Reply → Type 0
 Agree [] ys = Unit {0}
 Agree (x ∷ xs) [] = Unit {0}
 Agree (x ∷ xs) (y ∷ ys) = (x ≡ y) × Agree xs ys
 
--- Two runs whose n-th replies are the same, wherever both have one, ask the same groups of jobs and leave the same end,
--- whatever their windows and the orders in which their children end.
+-- Two runs whose n-th replies are the same, for every n that both have, ask for the same groups of jobs and leave the
+-- same end, whatever their windows and the orders in which their children end. (own)
 abbrev pub RunsAgree : Type 0
 RunsAgree = (run : Run) (window other_window : ℕ) (before now other_before other_now : Account) (end other_end : RunEnd)
     → (one : Ran window run before now end) (other : Ran other_window run other_before other_now other_end)

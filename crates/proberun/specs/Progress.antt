@@ -1,4 +1,4 @@
--- How far a run over a crew has come, between two groups of jobs.
+-- How far a run over a crew is, between two groups of jobs.
 use Rattle.std.specs.Prelude.{◌≡◌, ℕ, ◌+◌, List, [], ◌++◌, length, fold, None, IfSome}
 use Rattle.conftest.specs.declared.job.Job.{Job}
 use Rattle.crew.specs.declared.reply.Reply.{Reply}
@@ -14,14 +14,14 @@ use Rattle.machine.specs.Standing.{Standing, outcome_of}
 use Rattle.machine.specs.Waits.{first_refused}
 use Rattle.proberun.specs.Starts.{StartsAre, TakesLeast, Fills, EndsGroup, failures_in}
 
--- Of all replies so far, those before the `latest` are as many as the jobs asked before, and none of them is refused.
+-- All replies so far are those of the jobs before, of which none is refused, and then the latest ones. (own)
 pub record Heeded (replies : List Reply) (asked : ℕ) (latest : List Reply) : Type 0 where
   pub earlier : List Reply
   pub whole : replies ≡ earlier ++ latest
   pub count : length earlier ≡ asked
   pub answered : first_refused earlier ≡ None
 
--- How far a run has come: `left` is what is left of it, once it took the latest replies.
+-- How far a run is: `left` is the run that remains once the latest replies are taken. (own)
 pub record Progress (window : ℕ) (run left : Run) (asked : ℕ) (latest : List Reply) (before now : Account) : Type 0 where
   pub since : List CrewEvent
   pub events : now.events ≡ before.events ++ since
@@ -36,16 +36,16 @@ pub record Progress (window : ℕ) (run left : Run) (asked : ℕ) (latest : List
   pub fills : Fills window (EndsGroup before.attempts groups) 0 since
   pub failures : now.failures ≡ before.failures + failures_in (replies_in before.attempts (length (all_jobs groups)) since)
 
--- a machine that is not at an end
+-- A machine that is not at an end. (own)
 abbrev pub Moving : Phase → Type 0
 Moving phase.Going = Unit {0}
 Moving phase.Asking = Unit {0}
 Moving p = ⊥
 
--- a machine before its first step, in this state
+-- A machine before its first step, in this state. (own)
 abbrev pub before_steps : State → Standing
 before_steps st = record { phase = phase.Going; place = 0; scope = no_choice; state = st; wait = waits.Nothing; before = 0; jobs = []; replies = [] }
 
--- what a machine leaves in a phase that is an end
+-- What a machine leaves in a phase that is an end. (own)
 abbrev pub Leaves : Phase → Standing → RunEnd → Type 0
 Leaves p m end = IfSome (outcome_of p) (λ o. end ≡ record { outcome = o; vars = m.state.vars; defs = m.state.defs })

@@ -11,8 +11,8 @@ use Rattle.machine.specs.declared.machine.RunEnd.{RunEnd}
 use Rattle.machine.specs.Waits.{first_refused}
 use Rattle.proberun.specs.Starts.{StartsAre, TakesLeast, Fills, EndsGroup, failures_in}
 
--- The outcome of a run, by how it ends and by the place, from 1, of the first refused reply among those to all its jobs.
--- A run is cut where there is such a reply, and only there.
+-- The outcome of a run, by how it ends and by the number, from 1, of the first refused reply among those to all its
+-- jobs; a run is cut short exactly if there is such a reply. (own)
 abbrev pub outcome_from : How → Option ℕ → Option Outcome
 outcome_from Goes_on None = Some outcome.Completed
 outcome_from Completed None = Some outcome.Completed
@@ -20,22 +20,23 @@ outcome_from (Stopped status) None = Some (outcome.Stopped status)
 outcome_from Cut (Some number) = Some (outcome.CutShort number)
 outcome_from how refused = None
 
--- What a run does over a crew, between two accounts, and what it leaves.
+-- A run over a crew, between two accounts, and what it leaves. (own)
 pub record Ran (window : ℕ) (run : Run) (before now : Account) (end : RunEnd) : Type 0 where
-  -- the crew did what it had done, and these events since
+  -- the account has its earlier events, and these after them
   pub since : List CrewEvent
   pub events : now.events ≡ before.events ++ since
-  -- there are as many attempted starts as jobs that are asked, and the n-th start, where taken, has the n-th job
+  -- as many starts are attempted as jobs are asked for, and the n-th start, if it succeeds, has the n-th job
   pub groups : List (List Job)
   pub attempts : now.attempts ≡ before.attempts + length (all_jobs groups)
   pub starts : StartsAre (all_jobs groups) before.attempts since
-  -- the run is played with the replies that stand in the events, and leaves its end
+  -- the run is played with the replies in the events, and leaves its end
   pub how : How
   pub meaning : play run (replies_in before.attempts (length (all_jobs groups)) since)
       ≡ record { how = how; state = record { vars = end.vars; defs = end.defs }; groups = groups }
   pub outcome : outcome_from how (first_refused (replies_in before.attempts (length (all_jobs groups)) since)) ≡ Some end.outcome
-  -- at each end the window is full, unless the last job of a group was attempted, and each start takes the least free slot
+  -- whenever a child ends, the window is full, unless the last job of a group was attempted; each start takes the least
+  -- free slot
   pub fills : Fills window (EndsGroup before.attempts groups) 0 since
   pub least : TakesLeast before.events since
-  -- as many calls failed as there are refused replies
+  -- as many calls fail as there are refused replies
   pub failures : now.failures ≡ before.failures + failures_in (replies_in before.attempts (length (all_jobs groups)) since)

@@ -2,8 +2,9 @@
 
 ghost use Rattle.proberun.specs.Agreeing.{RunsAgree};
 
-/// The law that the window and the order in which children end decide nothing of what a run leaves: two runs whose n-th
-/// replies are the same, for every n that both have, ask the same jobs in the same groups, and end alike.
+/// Under the same replies, what a run leaves depends neither on the window nor on the order in which children end. If the
+/// n-th replies of two runs are the same, for every n that both have, the runs ask for the same jobs in the same groups,
+/// and end in the same way.
 pub fn runs_agree()
     ensures agree { RunsAgree }
 {}

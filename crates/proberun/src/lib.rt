@@ -7,14 +7,15 @@
 //! // end.outcome, end.vars and end.defs
 //! ```
 //!
-//! Read `specs/Ran` (what a run over a crew is) with `specs/Starts` (what its events say), then `running`, then `serving`
-//! with `specs/Serving` (the jobs that are asked at once, in slots). `specs/Progress` says how far a run is between two
-//! groups of jobs; `slots` and `queue` are small.
+//! Read `specs/Ran` (a run over a crew) with `specs/Starts` (the events of one), then `running`, then `serving` with
+//! `specs/Serving` (the jobs of one group, in slots). `specs/Progress` says how far a run is between two groups of
+//! jobs. `slots` and `queue` are small, and `agreeing` has a law.
 //!
 //! What a run leaves is the meaning of the statements under the replies of the crew: the plan's walk is that meaning
-//! (`plan::compile`), a machine stands at that walk from its beginning to its end ([`Machine::advance`]), and each job that
-//! it asks is started once, in order. Nothing is defined where it begins, and the variables are those that it was given.
-//! No child is left in flight. The window and the order in which children end decide nothing of it: `agreeing` has the law.
+//! (`plan::compile`), a machine follows that walk from its beginning to its end ([`Machine::advance`]), and one start of
+//! each job that it asks for is attempted, in order. A run begins with the given variables and no definitions. No child
+//! is left in flight. Under the same replies, what a run leaves depends neither on the window nor on the order in which
+//! children end.
 #![tactic(auto)]
 
 mod agreeing;

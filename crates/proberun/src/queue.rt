@@ -1,4 +1,4 @@
-//! Jobs that are to be started.
+//! Jobs that have not been started.
 
 ghost use Rattle.std.specs.Prelude.{◌≡◌, [], ◌∷◌, IfOk, IfSome, IfNone};
 
@@ -6,10 +6,10 @@ use conftest::Job;
 use std::alloc::{AllocError, Global};
 use std::marker::Model;
 
-/// The jobs of a group that are still to be started, in order.
+/// The jobs of a group that have not been started, in order.
 #[derive(Drop)]
 pub(crate) struct Queue {
-    // the next one last
+    // the next one is last
     jobs: Vec<Job>,
 }
 
@@ -27,7 +27,7 @@ impl Model for Queue {
 }
 
 impl Queue {
-    /// A copy of each of these jobs. It fails only for want of memory.
+    /// Copies these jobs. Fails only if memory runs out.
     pub(crate) fn copied(alloc: Global, jobs: &[Job]) -> Result<Queue, AllocError>
         ensures { IfOk result (λ queue. queue ≡ jobs.now) }
     {
@@ -36,7 +36,7 @@ impl Queue {
         Ok(Queue { jobs })
     }
 
-    /// Takes the next job away, if there is one. It takes no memory.
+    /// Takes the next job, if there is one.
     pub(crate) fn take_first(&mut self) -> Option<Job>
         ensures some { IfSome result (λ job. self.old ≡ job ∷ self.new) }
         ensures none { IfNone result (self.old ≡ []) }

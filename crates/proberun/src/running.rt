@@ -20,14 +20,14 @@ use machine::{Machine, RunEnd, Turn};
 use plan::Plan;
 use std::alloc::{AllocError, Global};
 
-// A plan asks so many jobs at most: its steps say so.
+// For the proof only: a plan asks for at most 2^36 jobs, which the contract of `steps` says.
 fn bound(plan: &Plan)
     ensures { asks_after plan.now 0 ≤ 2 ^ 36 }
 {
     let _steps = plan.steps();
 }
 
-// Runs a machine that is before its first step, group by group, up to the end of its run.
+// Runs a machine that is before its first step, group by group, to the end of its run.
 fn run_groups<C: Crew>(
     alloc: Global,
     plan: &Plan,
@@ -48,6 +48,7 @@ fn run_groups<C: Crew>(
     ensures ran { OnOk result ((end : RunEnd) → Leaves machine.new.phase machine.new end → Ran (length slots.old) (walk plan.now 0 no_choice machine.old.state) (C.account crew.old) (C.account crew.new) end) }
 {
     bound(plan);
+    // the label is for the proof only
     'groups: loop {
         match machine.advance(plan)? {
             Turn::Ask => {
@@ -82,10 +83,14 @@ fn run_in<C: Crew>(
     Ok(machine.end())
 }
 
-/// Runs a plan over a crew, with these variables and no definitions before it, at most `window` children at once.
+/// Runs a plan over a crew, with these variables and no definitions, and at most `window` children at once.
 ///
-/// The crew has no child in flight, and counts starts and refusals up to 2^62; a plan asks 2^36 jobs at most. Each start
-/// takes the least free slot. No child is left in flight, whatever the answer. It fails only for want of memory.
+/// Each start takes the least free slot. No child is left in flight, whatever the result. The crew has no child in
+/// flight before the run, and counts starts and refusals up to 2^62; a plan asks for at most 2^36 jobs.
+///
+/// # Errors
+///
+/// Fails only if memory runs out.
 pub fn run<C: Crew>(
     alloc: Global,
     plan: &Plan,

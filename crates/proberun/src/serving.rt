@@ -1,4 +1,4 @@
-//! The jobs of one group, served in slots.
+//! The jobs of one group, run in slots.
 
 ghost use Rattle.std.specs.Prelude.{◌≡◌, ℕ, ◌+◌, ◌^◌, ◌<◌, ◌≤◌, ◌⊎◌, [], ◌∷◌, length, Some, None, IfSome, IfNone, slice_get, replicate};
 ghost use Rattle.crew.specs.Events.{Account, IsIdle};
@@ -10,7 +10,7 @@ use conftest::Job;
 use crew::{Crew, Reply};
 use machine::Machine;
 
-// A free slot and the job that is next, where there are both.
+// Returns a free slot and the next job, if there are both.
 fn next_start(slots: &[Option<usize>], jobs: &mut Queue) -> Option<(usize, Job)>
     ensures free { IfSome result (λ r. slice_get slots.now r.0 ≡ Some None) }
     ensures least { IfSome result (λ r. HeldBelow r.0 slots.now) }
@@ -50,7 +50,7 @@ fn start_one<C: Crew>(
     }
 }
 
-// Takes the end of a child.
+// Waits until a child ends, and gives its reply to the machine.
 fn end_one<C: Crew>(machine: &mut Machine, crew: &mut C, slots: &mut [Option<usize>])
     requires serving { (before : Account) × (started : ℕ) × Serving before machine.old.jobs started machine.old.replies slots.old (C.account crew.old) }
     requires held { HasHeld slots.old }
@@ -68,7 +68,7 @@ fn end_one<C: Crew>(machine: &mut Machine, crew: &mut C, slots: &mut [Option<usi
     }
 }
 
-/// Runs the jobs that a machine asks, and gives it the replies. The queue has the jobs, and there is a place for each slot.
+/// Runs the jobs that a machine asks for, and gives it the replies. `jobs` has those jobs.
 pub(crate) fn serve<C: Crew>(
     machine: &mut Machine,
     crew: &mut C,
@@ -88,6 +88,7 @@ pub(crate) fn serve<C: Crew>(
     ensures free { AllFree slots.new }
 {
     let mut started = 0;
+    // the label is for the proof only
     'turns: loop {
         if let Some((slot, job)) = next_start(slots, &mut jobs) {
             start_one(machine, crew, slots, slot, job, started);

@@ -1,11 +1,11 @@
-//! The slots of a crew, each free or with the place of its job in the group.
+//! The slots of a crew. Each is free, or has the index of its job in the group.
 
 ghost use Rattle.std.specs.Prelude.{◌≡◌, Some, None, IfOk, IfSome, IfNone, IsTrue, false, length, slice_get};
 ghost use Rattle.proberun.specs.Serving.{AllFree, AllHeld, HasHeld, HeldBelow};
 
 use std::alloc::{AllocError, Global};
 
-/// So many slots, all free.
+/// Returns `window` free slots.
 pub(crate) fn free_slots(alloc: Global, window: usize) -> Result<Vec<Option<usize>>, AllocError>
     ensures { IfOk result (λ v. (length v.items ≡ window) × AllFree v.items) }
 {
@@ -16,7 +16,7 @@ pub(crate) fn free_slots(alloc: Global, window: usize) -> Result<Vec<Option<usiz
     Ok(slots)
 }
 
-/// The least free slot, if there is one.
+/// Returns the least free slot, if there is one.
 pub(crate) fn free_slot(slots: &[Option<usize>]) -> Option<usize>
     ensures free { IfSome result (λ s. slice_get slots.now s ≡ Some None) }
     ensures least { IfSome result (λ s. HeldBelow s slots.now) }
@@ -31,7 +31,7 @@ pub(crate) fn free_slot(slots: &[Option<usize>]) -> Option<usize>
     None
 }
 
-/// No slot has a job.
+/// Returns whether no slot has a job.
 pub(crate) fn is_idle(slots: &[Option<usize>]) -> bool
     ensures idle { IsTrue result → AllFree slots.now }
     ensures held { result ≡ false → HasHeld slots.now }

@@ -2,14 +2,13 @@
 
 use crate::engine::plan_of_statements;
 use crate::texts::{number_of, part, put_number, rows};
-use acmacros::{Plain, ProgramNames};
 use acparse::Stmt;
 use deftable::Bytes;
 use plan::{PlanFault, Step};
 use shellword::Patterns;
 use std::alloc::{AllocError, Global};
 use std::test::Fail;
-use tree::{Case, Subject, When, choose};
+use syntax::{Case, Plain, ProgramNames, Subject, When, choose};
 
 /// So many statements.
 fn outputs(alloc: Global, count: usize) -> Result<Vec<Stmt>, AllocError> {

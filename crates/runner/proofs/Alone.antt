@@ -1,4 +1,4 @@
--- A run each of whose starts is refused.
+-- A run with each start refused.
 use Rattle.std.proofs.Common.{◌≡◌, ℕ, ◌+◌, List, [], ◌∷◌, ◌++◌, length, take, drop, Option, Some, None, refl, sym, ap, ◌∙◌, subst, arith}
 use Rattle.std.specs.Prelude.{IfSome, replicate}
 use Rattle.std.proofs.lemmas.List.{append-nil}
@@ -21,7 +21,7 @@ use Rattle.plan.specs.Walk.{Instruction, walk}
 use Rattle.proberun.specs.Ran.{outcome_from}
 use Rattle.runner.specs.Ran.{RanAlone, refusals}
 
--- what a machine leaves at its end
+-- What a machine leaves at its end.
 abbrev pub Leaves : Standing → RunEnd → Type 0
 Leaves m end = IfSome (outcome_of m.phase) (λ o. end ≡ record { outcome = o; vars = m.state.vars; defs = m.state.defs })
 
@@ -29,7 +29,7 @@ left_by : (o : Option Outcome) (p : Outcome) (m : Standing) (end : RunEnd) → o
     → end ≡ record { outcome = p; vars = m.state.vars; defs = m.state.defs }
 left_by o p m end e h = let q : IfSome (Some p) (λ o. end ≡ record { outcome = o; vars = m.state.vars; defs = m.state.defs }) = subst (λ x. IfSome x (λ o. end ≡ record { outcome = o; vars = m.state.vars; defs = m.state.defs })) e h in q
 
--- a run that asks nothing
+-- A run that asks for nothing.
 at_once : (r : Run) (how : How) (m : Standing) (o : Outcome) (end : RunEnd) → r ≡ Ends how m.state → outcome_from how None ≡ Some o → end ≡ record { outcome = o; vars = m.state.vars; defs = m.state.defs } → RanAlone r end
 at_once r how m o end is out left = record {
   groups = [];
@@ -70,7 +70,7 @@ alone_at_once plan t old m st end is turned not_ask left =
 
 -- ---- the first jobs are refused
 
--- what follows the replies to the jobs that a machine asks
+-- What follows the replies to the jobs that a machine asks for.
 abbrev next_of : List Instruction → Standing → List Reply → Run
 next_of plan m replies = resumed m.wait replies (walk plan (m.place + 1)) m.scope m.state
 
@@ -124,7 +124,7 @@ alone_refused plan t m cut new end asking fits first fresh is turned left =
       outcome = ap (λ l. outcome_from Cut (first_refused l)) refused ∙ ap (λ n. Some (outcome.CutShort n)) (sym is_one) ∙ ap (λ (x : RunEnd). Some x.outcome) (sym e);
     }
 
--- a machine that was cut has an end
+-- A machine whose jobs were all refused has an end.
 pub cut_has_end : (plan : List Instruction) (t : Turn) (m cut new : Standing) → m.phase ≡ phase.Asking → Fits plan m → m.replies ≡ replicate (length m.jobs) None
     → cut ≡ record m { replies = refused_rest m.replies } → Turned plan t cut new → (number : ℕ) × (outcome_of new.phase ≡ Some (outcome.CutShort number))
 cut_has_end plan t m cut new asking fits fresh is turned =

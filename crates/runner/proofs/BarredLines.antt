@@ -1,4 +1,4 @@
--- No line of a list stands in the conftest, as far as a search has come.
+-- No line of the list occurs in the conftest, as far as a search has come.
 use Rattle.std.proofs.Common.{◌≡◌, ℕ, ◌<◌, ◌≤◌, Bool, true, false, List, [], map, length, get_or, Bor, refl, sym, ap, subst, ◌∙◌, arith}
 use Rattle.std.specs.Bool.{IsTrue}
 use Rattle.std.proofs.Math.ListN.{get_or-map}
@@ -10,12 +10,12 @@ use Rattle.runner.specs.Standin.{IsBarred, IsFirstBarred, HasNoBarred, Answers, 
 not_true : (b : Bool) → b ≡ false → IsTrue b → ⊥
 not_true b is t = cc
 
--- the line at hand isn't barred, where the test says so
+-- The line at the offset isn't barred, if the test says so.
 pub not_here : (conftest : List ℕ) (lines : List (Bor (List ℕ))) (i : ℕ) (b : Bool) → (IsBarred conftest (get_or lines i (record { ref_ptr = (0, 0); now = [] })).now → IsTrue b) → b ≡ false → IsBarred conftest (get_or (map (λ line. line.now) lines) i []) → ⊥
 not_here conftest lines i b test is stands =
     not_true b is (test (subst (IsBarred conftest) (get_or-map (λ line. line.now) lines i (record { ref_ptr = (0, 0); now = [] })) stands))
 
--- no line was barred up to the end
+-- No line was barred up to the end.
 pub none_barred : (list conftest : List ℕ) (items lines : List (Bor (List ℕ))) (i : ℕ) → map (λ line. line.now) lines ≡ lines_of list → items ≡ lines → length items ≤ i
     → ((k : ℕ) → k < i → IsBarred conftest (get_or (map (λ line. line.now) items) k []) → ⊥) → HasNoBarred list conftest
 none_barred list conftest items lines i are same past none k d inside stands =
@@ -70,7 +70,7 @@ judged_known (Some t) words list conftest name (Ok s) plain is same text refuses
     ] in
     subst (λ l. Answers words l (conftest_of t (conftest_name words)) s) same (subst (λ x. Answers words list x s) (text ∙ ap (conftest_of t) is) answer)
 
--- what was read, seen as a slice
+-- The text that was read, seen as a slice.
 pub known_slice : (o : Option (List ℕ → List ℕ)) (slice items : List ℕ) (of : (List ℕ → List ℕ) → List ℕ) → slice ≡ items → IfSome o (λ t. items ≡ of t) → IfSome o (λ t. slice ≡ of t)
 known_slice None slice items of whole is = tt
 known_slice (Some t) slice items of whole is = whole ∙ is

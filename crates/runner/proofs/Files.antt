@@ -3,8 +3,8 @@ use Rattle.std.proofs.Common.{◌≡◌, ◌≢◌, ℕ, suc, Bool, true, false,
 use Rattle.std.specs.Prelude.{codes, bytes_eq, not, find, ◌==◌, IfOk}
 use Rattle.std.proofs.lemmas.Slice.Eq.{bytes_eq-Decides}
 use Rattle.std.proofs.lemmas.List.Elements.{All-cons}
-use Rattle.acargs.specs.declared.output.Output.{Output}
-use Rattle.tree.specs.Script.{Script}
+use Rattle.syntax.specs.declared.output.Output.{Output}
+use Rattle.syntax.specs.Script.{Script}
 use Rattle.std.proofs.lemmas.List.{take_all}
 use Rattle.std.proofs.lemmas.Bool.Decides.{eqb_tells}
 use Rattle.runner.specs.declared.fault.Fault.TheVariants.{NoTemplate}
@@ -12,7 +12,7 @@ use Rattle.runner.specs.declared.fault.FilterFault.TheVariants.{Run}
 use Rattle.template.specs.Fill.{Fills}
 use Rattle.runner.specs.Outputs.{files_of, names_of, is_other, IsMissing, ArePresent, no_file, all_there, IsFileText, nothing_named, filled, IsTemplateFault, is_missing, file_table}
 
--- the first file of another template, behind files of this one
+-- The first file with another template, after files with this one.
 pub record HasOther (template : List ℕ) (files : List Output) (other : Output) : Type 0 where
   pub present : List Output
   pub more : List Output
@@ -103,7 +103,7 @@ some_text_of s files file more template vars names (Ok v) is some named same fil
     filled (sym is ∙ some) (subst (λ n. Fills (file_table vars n file (codes ".")) template v.items) named (subst (λ t. Fills t template v.items) same fills))
 some_text_of s files file more template vars names (Err e) is some named same fills = tt
 
--- the first file and the others, as a slice has them
+-- The first file and the others, as a slice has them.
 pub split : (files : List Output) (first : Output) → (length files == 0) ≡ false → first ≡ slice_index_or files 0 first → files ≡ first ∷ take (length files - 1) (drop 1 files)
 split [] first some is = let lt : 0 < 0 = is_positive 0 some in absurd (omega arith)
 split (file ∷ files) first some is =

@@ -6,7 +6,7 @@ use Rattle.std.proofs.lemmas.List.Folds.{length-prefix_len}
 use Rattle.std.proofs.lemmas.Slice.Eq.{bytes_eq-Decides}
 use Rattle.runner.specs.Parted.{line_len, first_line, behind_line, marker, IsParted, here, later, HasNoMarker, last_line, line, is_marker}
 
--- What the rest of the input from start on is, the whole is with the lines before it.
+-- The split of the rest of the input from start on gives that of the whole, with the lines before it.
 pub record StandsFor (input : List ℕ) (start : ℕ) : Type 0 where
   pub parted : (source template : List ℕ) → IsParted (drop start input) source template → IsParted input (take start input ++ source) template
   pub unmarked : HasNoMarker (drop start input) → HasNoMarker input
@@ -17,7 +17,7 @@ stands_at_first input = record { parted = λ s t h. h; unmarked = λ h. h }
 line_of_marker : (text : List ℕ) → first_line text ≡ marker → line_len text ≡ 2
 line_of_marker text is = sym (length-prefix_len _ text) ∙ ap length is
 
--- one line more that is not the marker
+-- One more line that is not the marker.
 pub stands_at_next : (input : List ℕ) (start len : ℕ) → len ≡ line_len (drop start input) → first_line (drop start input) ≢ marker → start + len < length input
     → StandsFor input start → StandsFor input (start + (len + 1))
 stands_at_next input start len is other inside h =
@@ -35,7 +35,7 @@ stands_at_next input start len is other inside h =
       unmarked = λ u. h.unmarked (line other short (subst HasNoMarker (sym behind) u));
     }
 
--- the line is the marker
+-- The line is the marker.
 pub parted_here : (input : List ℕ) (start : ℕ) → first_line (drop start input) ≡ marker → StandsFor input start → IsParted input (take start input) (drop (start + 3) input)
 parted_here input start is h =
     let text : List ℕ = drop start input in
@@ -45,7 +45,7 @@ parted_here input start is h =
     subst (λ l. IsParted input l (drop (start + 3) input)) (append-nil (take start input))
     (h.parted [] (drop (start + 3) input) (subst (IsParted text []) behind (here is)))
 
--- no line is left
+-- No line is left.
 pub unmarked_here : (input : List ℕ) (start len : ℕ) → len ≡ line_len (drop start input) → first_line (drop start input) ≢ marker → start ≤ length input → start + len ≡ length input
     → StandsFor input start → HasNoMarker input
 unmarked_here input start len is other within all h =
@@ -53,7 +53,7 @@ unmarked_here input start len is other within all h =
     let long : line_len text ≡ length text = omega (arith, is, length-drop start input) in
     h.unmarked (last_line other long)
 
--- ---- as the loop meets them
+-- ---- as the loop uses them
 
 pub is_line_len : (input : List ℕ) (start len : ℕ) → len ≡ line_len (take (length input - start) (drop start input)) → len ≡ line_len (drop start input)
 is_line_len input start len is = is ∙ ap line_len (take_rest input start)

@@ -1,11 +1,11 @@
--- Refusals of the filter and of its parts.
+-- Errors of the filter and of its parts.
 use Rattle.std.proofs.Common.{◌≡◌, ◌≢◌, ◌≤◌, ◌<◌, ◌↔◌, ℕ, List, Option, Some, None, Result, Ok, Err, ◌⊎◌, inl, inr, refl, sym, subst, ◌∙◌}
 use Rattle.std.specs.Prelude.{IfOk, IfErr, IfSome, IsErrAnd}
 use Rattle.acargs.specs.declared.fault.ParseFault.{ParseFault}
 use Rattle.acargs.specs.declared.fault.ParseFault.TheVariants as parse_faults
 use Rattle.acargs.specs.Reading.{Fails}
 use Rattle.acparse.specs.Profile.{source_of}
-use Rattle.tree.specs.Script.{Script}
+use Rattle.syntax.specs.Script.{Script}
 use Rattle.acparse.specs.Source.{IsSource, IsSourceFault}
 use Rattle.plan.specs.Weight.{heaviest, weight}
 use Rattle.plan.specs.declared.fault.PlanFault.{PlanFault}
@@ -39,7 +39,7 @@ parse_refused input source template f (Err e) parted exact bad h =
       | inr other ↦ subst (IsInputFault input) (sym (h.1 other)) (parse parted other (named f (source_of source) other exact) (bad other))
     ]
 
--- statements without a plan
+-- Statements without a plan.
 pub plan_refused : {A B : Type 0} (s : Script) (f : PlanFault) (r : Result A FilterFault) → ((let c : Result B PlanFault = Err f in c) ≡ Err TooLong) ↔ (heaviest < weight s)
     → IsErrAnd r (λ e. (f ≡ plan_faults.OutOfMemory → e ≡ OutOfMemory) × (f ≡ TooLong → e ≡ Run (Plan TooLong))) → IfErr r (IsNotRun s)
 plan_refused s f (Ok x) long h = absurd h
@@ -63,7 +63,7 @@ pub not_run_refused : {A : Type 0} (input source template : List ℕ) (s : Scrip
 not_run_refused input source template s (Ok x) parted is h = tt
 not_run_refused input source template s (Err e) parted is h = not_run parted is h
 
--- the input is the text that was read
+-- The input is the text that was read.
 pub write_refused : (o : Option (List ℕ)) (text items out : List ℕ) (status : ℕ) → text ≡ items → IfSome o (λ input. items ≡ input) → IsFiltered text out status → IfSome o (λ input. IsRefused input Write)
 write_refused None text items out status whole same is = tt
 write_refused (Some input) text items out status whole same is = subst (λ t. IsRefused t Write) (whole ∙ same) (unwritten is)

@@ -1,4 +1,4 @@
--- What the filter answers to its input.
+-- The result of the filter for its input.
 use Rattle.std.specs.Prelude.{◌≡◌, ◌≢◌, ◌≤◌, ◌<◌, ℕ, List, [], Result, Ok, Err}
 use Rattle.acargs.specs.declared.fault.ParseFault as parse_fault
 use Rattle.acargs.specs.declared.fault.ParseFault.TheVariants as parse_faults
@@ -10,8 +10,8 @@ use Rattle.machine.specs.declared.machine.RunEnd.{RunEnd}
 use Rattle.options.specs.Opening.{opening}
 use Rattle.options.specs.declared.fault.OptionFault.{OptionFault}
 use Rattle.options.specs.declared.settings.Settings.{Settings}
-use Rattle.acmacros.specs.Scene.{start}
-use Rattle.tree.specs.Known.{after_all}
+use Rattle.syntax.specs.Lists.{start}
+use Rattle.syntax.specs.Lists.{after_all}
 use Rattle.plan.specs.Weight.{heaviest, weight}
 use Rattle.plan.specs.declared.fault.PlanFault.TheVariants.{TooLong}
 use Rattle.runner.specs.declared.fault.Fault.TheVariants.{Parse, Plan, NoTemplate}
@@ -20,20 +20,20 @@ use Rattle.runner.specs.declared.fault.FilterFault.TheVariants.{Read, Usage, Run
 use Rattle.runner.specs.Outputs.{ArePresent, IsWritten, IsMissing}
 use Rattle.runner.specs.Parted.{IsParted, HasNoMarker}
 use Rattle.runner.specs.Ran.{RanAlone, status_of}
-use Rattle.tree.specs.Script.{Script}
+use Rattle.syntax.specs.Script.{Script}
 
--- the settings of a run without arguments and environment
+-- The settings of a run without arguments and environment. (own)
 abbrev pub settings_of : Script → Result Settings OptionFault
 settings_of s =
     let known = after_all start s in
     opening known.features known.packages known.precious [] []
 
--- what the statements begin with: these settings' variables, and no definition
+-- The state that the statements begin with: these settings' variables, and no definition. (own)
 abbrev pub opened : Settings → State
 opened settings = record { vars = settings.vars; defs = [] }
 
 -- The statements are run, without arguments and environment, and with each start of a child refused: they are not too
--- heavy, the templates are there, and this is what is written, and the exit status.
+-- heavy, the templates exist, and this is the text that is written, and the exit status. (own)
 pub record IsRun (s : Script) (template out : List ℕ) (status : ℕ) : Type 0 where
   pub fits : weight s ≤ heaviest
   pub settings : Settings
@@ -44,7 +44,7 @@ pub record IsRun (s : Script) (template out : List ℕ) (status : ℕ) : Type 0 
   pub written : IsWritten s template end.outcome end.vars out
   pub exits : status ≡ status_of end.outcome
 
--- The input is a source and a template, and this is what its run writes, and the exit status.
+-- The input is a source and a template, and this is the text that its run writes, and the exit status. (own)
 pub record IsFiltered (input out : List ℕ) (status : ℕ) : Type 0 where
   pub source : List ℕ
   pub template : List ℕ
@@ -53,22 +53,22 @@ pub record IsFiltered (input out : List ℕ) (status : ℕ) : Type 0 where
   pub is_source : IsSource source statements
   pub run : IsRun statements template out status
 
--- Why statements are not run: they are too heavy; or else a template is not there; or memory runs out.
+-- Why statements are not run: they are too heavy, or else a template doesn't exist, or memory runs out. (own)
 pub data IsNotRun (s : Script) : FilterFault → Type 0 where
   too_long : heaviest < weight s → IsNotRun s (Run (Plan TooLong))
   missing : {name : List ℕ} → weight s ≤ heaviest → IsMissing s name → IsNotRun s (Run (NoTemplate name))
   no_memory : IsNotRun s OutOfMemory
 
--- What is wrong with an input: it has no marker; or its source is at fault, and this is the fault that is named; or the
--- source is right, and is not run.
+-- What is wrong with an input: it has no marker, or its source has this error, or the source is right, and is not run.
+-- (own)
 pub data IsInputFault (input : List ℕ) : FilterFault → Type 0 where
   usage : HasNoMarker input → IsInputFault input Usage
   parse : {source template : List ℕ} {f : parse_fault.ParseFault} → IsParted input source template → f ≢ parse_faults.OutOfMemory → source_of source ≡ Err f → IsSourceFault source f → IsInputFault input (Run (Parse f))
   not_run : {source template : List ℕ} {s : Script} {e : FilterFault} → IsParted input source template → IsSource source s → IsNotRun s e → IsInputFault input e
   no_memory_to_parse : IsInputFault input OutOfMemory
 
--- Why the filter gives no text: the input is at fault; or the text that answers it can't be written; or the input can't be
--- read, of which a reader's contract has no word; or memory runs out.
+-- Why the filter writes no text: the input has an error, or the text for it can't be written, or the input can't be
+-- read, which the contract of a reader has no name for, or memory runs out. (own)
 pub data IsRefused (input : List ℕ) : FilterFault → Type 0 where
   fault : {e : FilterFault} → IsInputFault input e → IsRefused input e
   unwritten : {out : List ℕ} {status : ℕ} → IsFiltered input out status → IsRefused input Write

@@ -1,4 +1,4 @@
--- What a run leaves, each of whose starts is refused.
+-- What a run leaves if each start is refused.
 use Rattle.std.specs.Prelude.{◌≡◌, ℕ, List, length, replicate, Some}
 use Rattle.conftest.specs.declared.job.Job.{Job}
 use Rattle.crew.specs.declared.reply.Reply.{Reply}
@@ -11,18 +11,18 @@ use Rattle.meaning.specs.Play.{play, all_jobs}
 use Rattle.meaning.specs.State.{How, Run}
 use Rattle.proberun.specs.Ran.{outcome_from}
 
--- a refused start for each of these jobs
+-- A refused start for each of these jobs. (own)
 abbrev pub refusals : List (List Job) → List Reply
 refusals groups = replicate (length (all_jobs groups)) StartRefused
 
--- Each job that the run asks is refused, and the run ends so, with these variables and definitions.
+-- Each job that the run asks for is refused, and the run ends in this way, with these variables and definitions. (own)
 pub record RanAlone (run : Run) (end : RunEnd) : Type 0 where
   pub groups : List (List Job)
   pub how : How
   pub meaning : play run (refusals groups) ≡ record { how = how; state = record { vars = end.vars; defs = end.defs }; groups = groups }
   pub outcome : outcome_from how (first_refused (refusals groups)) ≡ Some end.outcome
 
--- the exit status of a run: 0 where it is completed, 3 where it is cut, and else the source's own
+-- The exit status of a run: 0 if it is completed, 3 if it is cut short, and else the source's own. (own)
 abbrev pub status_of : Outcome → ℕ
 status_of outcome.Completed = 0
 status_of (outcome.Stopped status) = status

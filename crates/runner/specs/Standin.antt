@@ -1,72 +1,72 @@
--- The stand-in for a compiler (own): what it answers, from its words, its list and the conftest.
+-- The stand-in for a compiler (own): its answer, from its words, its list and the conftest.
 use Rattle.std.specs.Prelude.{◌≡◌, ℕ, ◌<◌, nat_eq, Bool, true, false, List, [], ◌∷◌, Option, Some, None, length, reverse, find, bytes_eq, codes, slice_get, slice_index_or, All}
 use Rattle.std.specs.List.{ends_with}
 use Rattle.bstr.specs.Text.{Contains}
 use Rattle.textcut.specs.Cuts.{parts}
 use Rattle.runner.specs.Parted.{first_line}
 
--- the command that is the stand-in for a compiler
+-- The command is the stand-in for a compiler. (own)
 abbrev pub is_standin : List ℕ → Bool
 is_standin word = bytes_eq word (codes "standin")
 
--- the program is called as the stand-in: that is its first word
+-- The program is called as the stand-in: that is its first word. (own)
 abbrev pub calls_standin : List (List ℕ) → Bool
 calls_standin [] = false
 calls_standin (word ∷ words) = is_standin word
 
--- the word is the name of a file in C
+-- The word is the name of a C source file. (own)
 abbrev pub names_source : List ℕ → Bool
 names_source word = ends_with nat_eq word (codes ".c")
 
--- the conftest's name: the last word that is the name of a file in C
+-- The conftest's name: the last word that is the name of a C source file. (own)
 abbrev pub conftest_name : List (List ℕ) → Option (List ℕ)
 conftest_name words = find names_source (reverse words)
 
--- the name of the list
+-- The name of the list. (own)
 abbrev pub list_name : List ℕ
 list_name = codes "standin.txt"
 
--- the conftest: the text of its name, and nothing if there is none
+-- The text of the conftest, which is empty if none is named. (own)
 abbrev pub conftest_of : (List ℕ → List ℕ) → Option (List ℕ) → List ℕ
 conftest_of texts None = []
 conftest_of texts (Some name) = texts name
 
--- the list is no list, but asks children to meet
+-- The list makes children wait for each other. (own)
 abbrev pub is_meeting : List ℕ → Bool
 is_meeting list = bytes_eq (first_line list) (codes "!meet")
 
--- the conftest that waits for the other one
+-- The conftest that waits for the other one. (own)
 abbrev pub waiting : List ℕ
 waiting = codes "conftest1.c"
 
--- the lines of the list, each without its newline
+-- The lines of the list, each without its newline. (own)
 abbrev pub lines_of : List ℕ → List (List ℕ)
 lines_of list = parts 10 list
 
--- the line isn't empty, and stands somewhere in the conftest
+-- The line isn't empty, and occurs in the conftest. (own)
 abbrev pub IsBarred : List ℕ → List ℕ → Type 0
 IsBarred conftest line = (0 < length line) × Contains conftest line
 
--- the line is the first of the list's that stands in the conftest
+-- The line is the first of the list that occurs in the conftest. (own)
 pub record IsFirstBarred (list conftest line : List ℕ) : Type 0 where
   pub place : ℕ
   pub stands : slice_get (lines_of list) place ≡ Some line
   pub barred : IsBarred conftest line
   pub before : (k : ℕ) → k < place → ¬ IsBarred conftest (slice_index_or (lines_of list) k [])
 
--- no line of the list stands in the conftest
+-- No line of the list occurs in the conftest. (own)
 abbrev pub HasNoBarred : List ℕ → List ℕ → Type 0
 HasNoBarred list conftest = All (λ line. ¬ IsBarred conftest line) (lines_of list)
 
--- The exit status, where the list and the conftest hold these texts: 1 where a line of the list stands in the conftest, and
--- else 0. Where children are to meet it is 0, but that it may be 1 for the one that waits.
+-- The exit status, if the list and the conftest have these texts: 1 if a line of the list occurs in the conftest, and
+-- else 0; if children wait for each other it is 0, except that it may be 1 for the one that waits. (own)
 pub data Answers (words : List (List ℕ)) (list conftest : List ℕ) : ℕ → Type 0 where
   barred : {line : List ℕ} → is_meeting list ≡ false → IsFirstBarred list conftest line → Answers words list conftest 1
   passed : is_meeting list ≡ false → HasNoBarred list conftest → Answers words list conftest 0
   met : is_meeting list ≡ true → Answers words list conftest 0
   waited : is_meeting list ≡ true → conftest_name words ≡ Some waiting → Answers words list conftest 1
 
--- The exit status is an answer on texts that the two files may hold; a conftest that isn't named holds nothing.
+-- The exit status is the answer for some texts of the two files; a conftest that isn't named has the empty text. (own)
 pub record IsAnswered (words : List (List ℕ)) (status : ℕ) : Type 0 where
   pub list : List ℕ
   pub conftest : List ℕ

@@ -1,4 +1,4 @@
-//! What the program does with its arguments and its standard streams.
+//! The program's arguments, standard streams and exit statuses.
 
 ghost use Rattle.std.specs.Prelude.{◌≡◌, ◌≢◌, ◌⊎◌, ℕ, List, [], drop, true, false, IfSome};
 ghost use Rattle.std.specs.Io.KnownBytes.{Appends};
@@ -15,17 +15,22 @@ use std::env::{Env, FillError};
 use std::io::{self, Read, Write};
 use std::rt::Files;
 
-/// The exit status where something is at fault.
+/// The exit status after an error.
 const FAULT: u8 = 2;
 
-/// The bytes of an argument that are tried first; there is twice the room at each further try.
+/// The number of bytes of the first try to read an argument. Each further try has twice as many.
 const FIRST_ROOM: usize = 256;
 
-/// The most tries for one argument.
+/// The largest number of tries to read one argument.
 const MOST_TRIES: u32 = 64;
 
-/// The arguments, without the program's name. They may be any bytes. It fails only for want of memory. No clause says which
-/// they are, since [`Env`] has no meaning that one could name.
+/// Returns the program's arguments, which may be any bytes, without the program's name.
+///
+/// No clause says what they are, because the contract of [`Env`] has no name for them.
+///
+/// # Errors
+///
+/// Fails only if memory runs out.
 pub fn words<V: Env>(alloc: Global, env: &V) -> Result<Vec<Bytes>, AllocError> {
     let mut words = Vec::new(alloc);
     for i in 1..usize::MAX {
@@ -37,7 +42,7 @@ pub fn words<V: Env>(alloc: Global, env: &V) -> Result<Vec<Bytes>, AllocError> {
     Ok(words)
 }
 
-/// The argument at `i`, if there is one.
+/// Returns the argument at `i`, if there is one.
 fn word<V: Env>(alloc: Global, env: &V, i: usize) -> Result<Option<Bytes>, AllocError> {
     let mut room = FIRST_ROOM;
     for _ in 0..MOST_TRIES {
@@ -54,7 +59,7 @@ fn word<V: Env>(alloc: Global, env: &V, i: usize) -> Result<Option<Bytes>, Alloc
     Err(AllocError)
 }
 
-/// The line of a fault.
+/// Writes the line of an error.
 fn fault_line<W: Write>(errors: &mut W, fault: &FilterFault) -> io::Result<()> {
     write!(errors, "acrun: {fault}")?;
     if let FilterFault::Run(Fault::NoTemplate(name)) = fault {
@@ -64,7 +69,7 @@ fn fault_line<W: Write>(errors: &mut W, fault: &FilterFault) -> io::Result<()> {
     errors.write_all(b"\n")
 }
 
-/// Tells a fault on standard error, and answers the exit status.
+/// Reports an error on standard error, and returns its exit status.
 pub fn tell<W: Write>(errors: &mut W, fault: &FilterFault) -> u8
     ensures { result ≡ 2 }
 {
@@ -72,13 +77,13 @@ pub fn tell<W: Write>(errors: &mut W, fault: &FilterFault) -> u8
     FAULT
 }
 
-/// Does what the arguments ask for, and answers the exit status.
+/// Runs the command that the arguments name, and returns its exit status.
 ///
-/// Without arguments it filters its input: the status is that of the source's run. `standin` and any words after it are a
-/// compiler's command, which the stand-in answers. There is no other command. The status is 2 where something is at fault,
-/// also the arguments.
+/// Without arguments, it filters its input, and the status is that of the source's run. If the first argument is
+/// `standin`, those after it are the command line of a compiler, which the stand-in answers. There is no other command.
+/// If anything is wrong, also with the arguments, the status is 2 (own).
 ///
-/// Faults are told on standard error, one line each. Where that can't be written the status alone tells them.
+/// Each error is reported as one line on standard error. If that can't be written, only the status reports it.
 pub fn run<F: Files, R: Read, W: Write, E: Write>(
     alloc: Global,
     files: &F,
@@ -87,16 +92,16 @@ pub fn run<F: Files, R: Read, W: Write, E: Write>(
     output: &mut W,
     errors: &mut E,
 ) -> u8
-    // Without arguments, where the status is not that of a fault, it and what is written are those of the source's meaning.
+    // Without arguments: unless the status is 2, what is written and the status are those of the source's meaning.
     ensures written { words.now ≡ [] → (result ≡ 2) ⊎ IfSome (R.remaining input.old)
         (λ text. (out : List ℕ) × IsFiltered text out result × Appends (W.contents output.old) (W.contents output.new) out) }
-    // Without arguments, if the status is not that of a fault, nothing is written on standard error.
+    // Without arguments: unless the status is 2, nothing is written on standard error.
     ensures quiet { words.now ≡ [] → (result ≡ 2) ⊎ (errors.new ≡ errors.old) }
-    // The stand-in's status is 2 where memory runs out, and else its answer.
+    // If memory runs out, the stand-in's status is 2, else it is its answer.
     ensures standin { calls_standin words.now ≡ true → (result ≡ 2) ⊎ IsAnswered (drop 1 words.now) result }
     ensures silent { calls_standin words.now ≡ true → result ≡ 0 → errors.new ≡ errors.old }
     ensures unknown { words.now ≢ [] → calls_standin words.now ≡ false → result ≡ 2 }
-    // With arguments nothing is read from the input, and nothing written but on standard error.
+    // With arguments, nothing is read from the input, and nothing is written to the output.
     ensures untouched { words.now ≢ [] → (input.new ≡ input.old) × (output.new ≡ output.old) }
 {
     let Some((command, others)) = words.split_first() else {
@@ -108,14 +113,14 @@ pub fn run<F: Files, R: Read, W: Write, E: Write>(
     tell(errors, &FilterFault::Usage)
 }
 
-/// Whether the command is the stand-in for a compiler.
+/// Returns whether the command is the stand-in for a compiler.
 fn is_standin(command: &[u8]) -> bool
     ensures { result ≡ meant.is_standin command.now }
 {
     command == b"standin".as_slice()
 }
 
-/// Filters the input, and answers the exit status.
+/// Filters the input, and returns the exit status.
 fn filtered<R: Read, W: Write, E: Write>(
     alloc: Global,
     input: &mut R,

@@ -1,4 +1,4 @@
-//! Why a run gives no output.
+//! Why a run has no result.
 
 ghost use Rattle.std.specs.Prelude.{◌≡◌, ◌≢◌};
 ghost use Rattle.acargs.specs.declared.fault.ParseFault.TheVariants.{OutOfMemory as NoMemory};
@@ -12,37 +12,37 @@ use plan::PlanFault;
 use std::alloc::{AllocError, AllocFailed};
 use thiserror::Error;
 
-/// What is wrong with what a run was given. It prints as a fault line has it, but that the name of a template, which may
-/// be any bytes, is left out.
+/// What is wrong with the input of a run. It prints as the text of its error line, except that the name of a template,
+/// which may be any bytes, is left out.
 #[derive(Debug, Drop, Error)]
 pub enum Fault {
-    /// The configure.ac.
+    /// The configure.ac has an error.
     #[error("parse {0}")]
     Parse(ParseFault),
     /// The configure.ac is too long to be run.
     #[error("plan {0}")]
     Plan(PlanFault),
-    /// A template is not there; of several the first, in the order of the outputs.
+    /// A template doesn't exist. If several don't, it is the first in the order of the outputs.
     #[error("template")]
     NoTemplate(Bytes),
 }
 
-/// Why the filter gives no text.
+/// Why the filter writes no text.
 #[derive(Debug, Drop, Error)]
 pub enum FilterFault {
-    /// The input can't be read, or has no end after 65,536 reads.
+    /// The input can't be read, or doesn't end within 65,536 reads.
     #[error("file standard input")]
     Read,
     /// No line of the input is exactly `%%`.
     #[error("usage")]
     Usage,
-    /// What the input says.
+    /// The source, or a template, has an error.
     #[error("{0}")]
     Run(Fault),
     /// The text can't be written.
     #[error("file standard output")]
     Write,
-    /// A growth of memory was refused.
+    /// Memory ran out.
     #[error("memory")]
     OutOfMemory,
 }

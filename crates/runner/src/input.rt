@@ -1,4 +1,4 @@
-//! The filter's input.
+//! The input of the filter.
 
 ghost use Rattle.std.specs.Prelude.{◌≡◌, ◌≢◌, ◌+◌, ◌≤◌, length, take, drop, IfOk, IfErr, IfSome, IfNone};
 ghost use Rattle.runner.specs.declared.fault.FilterFault.TheVariants.{Read, OutOfMemory};
@@ -10,17 +10,19 @@ use crate::fault::FilterFault;
 use std::alloc::Global;
 use std::io::{self, ErrorKind};
 
-/// The most reads of an input.
+/// The largest number of reads of an input.
 const MAX_READS: u32 = 65_536;
 
-/// The most bytes of one read.
+/// The largest number of bytes of one read.
 const READ_SIZE: usize = 4096;
 
-/// Returns all that a reader gives, by at most 65,536 reads of at most 4,096 bytes, among them those that a signal
-/// interrupts, which are tried again.
+/// Returns all that a reader gives, by at most 65,536 reads of at most 4,096 bytes. A read that a signal interrupts
+/// counts, and is tried again (own).
 ///
 /// # Errors
-/// `Read` if a read fails or there is no end by then; `OutOfMemory`.
+///
+/// - `Read`, if a read fails, or if the input doesn't end within these reads.
+/// - `OutOfMemory`, if memory runs out.
 pub fn read_input<R: io::Read>(alloc: Global, reader: &mut R) -> Result<Vec<u8>, FilterFault>
     ensures ok { IfOk result (λ v. IfSome (R.remaining reader.old) (λ text. v.items ≡ text)) }
     ensures err { IfErr result (λ e. (e ≡ FilterFault.Read) ⊎ (e ≡ FilterFault.OutOfMemory)) }
@@ -38,7 +40,7 @@ pub fn read_input<R: io::Read>(alloc: Global, reader: &mut R) -> Result<Vec<u8>,
     Err(FilterFault::Read)
 }
 
-/// The length of the first line, without its newline.
+/// Returns the length of the first line, without its newline.
 pub(crate) fn line_len(text: &[u8]) -> usize
     ensures value { result ≡ words.line_len text.now }
     ensures within { result ≤ length text.now }
@@ -52,13 +54,14 @@ fn is_marker(line: &[u8]) -> bool
     line == b"%%".as_slice()
 }
 
-/// Where the first line begins that is exactly `%%`.
+/// Returns the offset of the first line that is exactly `%%`.
 pub fn marker_place(input: &[u8]) -> Option<usize>
     ensures some { IfSome result (λ n. IsParted input.now (take n input.now) (drop (n + 3) input.now)) }
     ensures within { IfSome result (λ n. n ≤ length input.now) }
     ensures none { IfNone result (HasNoMarker input.now) }
 {
     let mut start = 0;
+    // the label is for the proof only
     'lines: loop {
         let len = line_len(&input[start..]);
         if is_marker(&input[start..start + len]) {

@@ -1,11 +1,13 @@
-//! The program's commands, apart from where its bytes come from and go to.
+//! The program's commands, apart from the streams and the files that they use.
 //!
-//! `filter` is the whole way of a text through the engine: it reads a configure.ac, a line `%%` and a template, and
-//! writes the template filled (`filtering`). Its parts are `input` (reading, and the cut at `%%`), `running` (what a plan's
-//! run leaves), `outputs` (the table that templates are filled from). `standin` answers in a compiler's place, from the
-//! text of the conftest alone, over the files of `texts`. `command` is what the program does with its arguments.
+//! `filter` takes a text through the whole engine: it reads a configure.ac, a line `%%` and a template, and writes the
+//! filled template. `standin` answers in place of a compiler, from the text of the conftest alone. `command` chooses
+//! between them by the program's arguments.
 //!
-//! Given `AC_INIT([demo],[1.0])`, `AC_CONFIG_FILES([out])`, `AC_OUTPUT`, `%%` and `@PACKAGE_NAME@`, a line each, it
+//! Read `fault`, `input` (reading, and the split at `%%`), `running` (what the run of a plan leaves), `outputs` (the
+//! table that templates are filled from) and `filtering`, then `texts` and `standin`, then `command`.
+//!
+//! From the lines `AC_INIT([demo],[1.0])`, `AC_CONFIG_FILES([out])`, `AC_OUTPUT`, `%%` and `@PACKAGE_NAME@`, `filter`
 //! writes `demo` and a newline.
 #![tactic(auto)]
 

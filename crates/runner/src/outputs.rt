@@ -8,13 +8,13 @@ ghost use Rattle.options.specs.Directories.{variable_of};
 ghost use Rattle.template.specs.Place.{configure_input_of, place_of};
 ghost use Rattle.runner.specs.Outputs as words;
 
-use acparse::Output;
 use deftable::{Bytes, SubstList, Vars};
 use options::{Directory, directories};
 use std::alloc::{AllocError, Global};
+use syntax::Output;
 use template::{Place, Table, configure_input, place_vars};
 
-/// The value of a variable, or the empty text where it is unset.
+/// Returns the value of a variable, or the empty text if it is unset.
 fn value<'a>(vars: &'a Vars, name: &[u8]) -> &'a [u8]
     ensures { result.now ≡ unwrap_or (value_of vars.now name.now) [] }
 {
@@ -24,6 +24,7 @@ fn value<'a>(vars: &'a Vars, name: &[u8]) -> &'a [u8]
     }
 }
 
+/// Adds an output variable with its value.
 fn add(table: &mut Table, vars: &Vars, name: &[u8]) -> Result<(), AllocError>
     requires { IsShellName name.now }
     ensures { OnOk result (table.new ≡ words.with_variable vars.now table.old name.now) }
@@ -92,8 +93,8 @@ fn add_outputs(table: &mut Table, vars: &Vars, names: &SubstList) -> Result<(), 
     add_all(table, vars, names.names())
 }
 
-/// The output variables with their values, which are empty where they are unset: those that every source has, and those
-/// of these names.
+/// Returns the output variables with their values, which are empty if they are unset: those that every source has, and
+/// those of these names (Autoconf's manual, "Preset Output Variables" and "Setting Output Variables").
 pub fn output_variables(alloc: Global, vars: &Vars, names: &SubstList) -> Result<Table, AllocError>
     ensures { IfOk result (λ t. t ≡ words.output_variables vars.now names.now) }
 {
@@ -102,7 +103,7 @@ pub fn output_variables(alloc: Global, vars: &Vars, names: &SubstList) -> Result
     Ok(table)
 }
 
-/// Adds where a file stands.
+/// Adds the variables of a file's directories.
 #[tactic(auto, unfolding(crate::specs::Outputs::with_place))]
 fn add_place(table: &mut Table, place: &Place) -> Result<(), AllocError>
     ensures { OnOk result (table.new ≡ words.with_place table.old place.now) }
@@ -113,7 +114,7 @@ fn add_place(table: &mut Table, place: &Place) -> Result<(), AllocError>
     table.set(b"top_builddir", place.top_builddir.as_slice())
 }
 
-/// Adds what a file and its template are called.
+/// Adds the variable for the names of a file and its template.
 fn add_input(alloc: Global, table: &mut Table, file: &Output) -> Result<(), AllocError>
     ensures { OnOk result (table.new ≡ with_entry table.old (codes "configure_input") (configure_input_of file.now.name file.now.template)) }
 {
@@ -121,7 +122,7 @@ fn add_input(alloc: Global, table: &mut Table, file: &Output) -> Result<(), Allo
     table.set(b"configure_input", input.as_slice())
 }
 
-/// Adds what is a file's own.
+/// Adds the variables that a file has of its own.
 fn add_own(alloc: Global, table: &mut Table, file: &Output, srcdir: &[u8]) -> Result<(), AllocError>
     ensures { OnOk result (table.new ≡ words.with_place (with_entry table.old (codes "configure_input") (configure_input_of file.now.name file.now.template)) (place_of file.now.name srcdir.now)) }
 {
@@ -130,8 +131,9 @@ fn add_own(alloc: Global, table: &mut Table, file: &Output, srcdir: &[u8]) -> Re
     add_place(table, &place)
 }
 
-/// What a file's template is filled with: the output variables with their values, and what is the file's own, which wins.
-/// `srcdir` is the folder of the source, absolute or as seen from the folder of the build.
+/// Returns the table that a file's template is filled from: the output variables with their values, and the file's own,
+/// which override them. `srcdir` is the directory of the source, absolute or relative to the directory of the build
+/// (Autoconf's manual, "Preset Output Variables").
 #[tactic(auto, unfolding(crate::specs::Outputs::file_table))]
 pub fn file_table(
     alloc: Global,

@@ -1,8 +1,8 @@
-//! A plan run to its end, where nothing is started.
+//! Runs a plan to its end, without starting anything.
 //!
-//! This is not `proberun::run`, since a run that starts nothing needs no crew: the jobs that the machine asks first are
-//! refused at once, as they are by a crew that refuses every start. So its clause says what the run leaves with no word of
-//! a crew's account. The driver is for a crew with children, whose ends come in some order.
+//! This is not `proberun::run`, because a run that starts nothing needs no crew: the first jobs that the machine asks
+//! for are refused at once, in the same way as by a crew that refuses every start. So its clause says what the run
+//! leaves without the account of a crew. `proberun::run` is for a crew with children, which end in some order.
 
 ghost use Rattle.std.specs.Prelude.{◌≡◌, [], None, length, replicate, IfOk};
 ghost use Rattle.machine.specs.Standing.{Fits, run_at};
@@ -17,7 +17,7 @@ use plan::Plan;
 use proberun::{Machine, Outcome, RunEnd, Turn};
 use std::alloc::{AllocError, Global};
 
-/// What the run leaves of a machine whose first jobs are all refused.
+/// Returns what the run of a machine leaves if its first jobs are all refused.
 fn refused(mut machine: Machine, plan: &Plan) -> Result<RunEnd, AllocError>
     requires asking { machine.phase ≡ phases.Asking }
     requires fits { Fits plan.now machine }
@@ -30,8 +30,12 @@ fn refused(mut machine: Machine, plan: &Plan) -> Result<RunEnd, AllocError>
     Ok(machine.end())
 }
 
-/// What a plan's run leaves that begins with these variables and no definitions, where each start is refused. It fails only
-/// for want of memory.
+/// Returns what the run of a plan leaves if it begins with these variables and no definitions, and each start is
+/// refused.
+///
+/// # Errors
+///
+/// Fails only if memory runs out.
 pub fn run_alone(alloc: Global, plan: &Plan, vars: Vars) -> Result<RunEnd, AllocError>
     ensures { IfOk result (RanAlone (walk plan.now 0 no_choice (record { vars = vars; defs = [] }))) }
 {
@@ -42,7 +46,7 @@ pub fn run_alone(alloc: Global, plan: &Plan, vars: Vars) -> Result<RunEnd, Alloc
     }
 }
 
-/// The exit status of a run: 0 where it is completed, 3 where it is cut, and else the source's own.
+/// Returns the exit status of a run: 0 if it is completed, 3 if it is cut short, and else the source's own (own).
 pub fn status_of(outcome: Outcome) -> u8
     ensures { result ≡ words.status_of outcome }
 {

@@ -1,8 +1,9 @@
 //! The stand-in for a compiler, which needs no compiler: it looks for lines in the text of the conftest (own).
 //!
-//! It stands for `CC` where a configure run is tried. Its list is the file `standin.txt` in the folder that it runs in. A
-//! conftest in which a line of the list stands is refused, and every other one is accepted. A list whose first line is
-//! `!meet` tries that children run at one time: each makes a file, and one of them waits for that of another.
+//! It takes the place of `CC` in tests of configure runs. Its list is the file `standin.txt` in the current directory.
+//! If a line of the list occurs in a conftest, the conftest is refused; every other one is accepted. A list with
+//! `!meet` as its first line tests that children run at the same time: each makes a file, and one of them waits for the
+//! file of another.
 
 ghost use Rattle.std.specs.Prelude.{◌≡◌, ◌↔◌, ◌⊎◌, ℕ, List, [], ◌∷◌, ◌++◌, Some, None, IsTrue, IfOk, OnOk, IfSome, IfNone};
 ghost use Rattle.std.specs.Option.{option_copied};
@@ -19,10 +20,10 @@ use std::io::Write;
 use std::rt::Files;
 use textcut::parts;
 
-/// The file of the list.
+/// The name of the list.
 const LIST: &[u8] = b"standin.txt";
 
-/// The first line of a list that asks children to meet.
+/// The first line of a list that makes children wait for each other.
 const MEET: &[u8] = b"!meet";
 
 /// The conftest that waits for another one.
@@ -31,18 +32,22 @@ const WAITING: &[u8] = b"conftest1.c";
 /// The file that it waits for.
 const AWAITED: &str = "conftest2.c.seen";
 
-/// The most times that it looks for that file.
+/// The largest number of times that it looks for that file.
 const MOST_LOOKS: u32 = 200_000;
 
-/// Answers the exit status of a compiler that is called with these words.
+/// Returns the exit status of a compiler with this command line.
 ///
-/// The conftest is the last word that ends in `.c`. The status is 1 where a line of the list that isn't empty stands in the
-/// conftest, and the first such line is written to `errors`; else it is 0. Where the list's first line is `!meet`, a file
-/// is made whose name is the conftest's with `.seen` behind it. Then the status is 0, but for `conftest1.c` it is 1 if
-/// `conftest2.c.seen` isn't seen by 200,000 looks.
+/// The conftest is the last word that ends with `.c`. If a line of the list that isn't empty occurs in the conftest,
+/// the status is 1, and the first such line is written to `errors`; else it is 0. If the first line of the list is
+/// `!meet`, a file is made with the conftest's name and `.seen` after it. Then the status is 0, except that it is 1 for
+/// `conftest1.c` if `conftest2.c.seen` isn't found within 200,000 looks (own).
 ///
-/// A file that can't be read, or that has no end after 65,536 reads of at most 4,096 bytes, holds nothing. It fails only
-/// for want of memory. Its time is that of one search of the conftest for each line of the list.
+/// A file that can't be read, or that doesn't end within 65,536 reads of at most 4,096 bytes, counts as empty. The time
+/// is that of one search of the conftest for each line of the list.
+///
+/// # Errors
+///
+/// Fails only if memory runs out.
 pub fn standin<F: Files, E: Write>(
     alloc: Global,
     files: &F,
@@ -50,7 +55,7 @@ pub fn standin<F: Files, E: Write>(
     errors: &mut E,
 ) -> Result<u8, AllocError>
     ensures answer { IfOk result (IsAnswered words.now) }
-    // What it accepts is accepted in silence.
+    // If it accepts the conftest, it writes nothing.
     ensures silent { IfOk result (λ status. status ≡ 0 → errors.new ≡ errors.old) }
 {
     answered(alloc, &Folder::new(files), words, errors)
@@ -64,7 +69,7 @@ fn answered<T: Texts, E: Write>(
     errors: &mut E,
 ) -> Result<u8, AllocError>
     ensures answer { IfOk result (IsAnswered words.now) }
-    // Where the files' texts are known, the status is the answer on the list's and the conftest's.
+    // If the files' texts are known, the status is the answer for those of the list and the conftest.
     ensures known { IfOk result (λ status. IfSome (T.known texts.now)
         (λ t. Answers words.now (t list_name) (conftest_of t (conftest_name words.now)) status)) }
     ensures silent { IfOk result (λ status. status ≡ 0 → errors.new ≡ errors.old) }
@@ -78,14 +83,14 @@ fn answered<T: Texts, E: Write>(
     judge(alloc, list.as_slice(), conftest.as_slice(), errors)
 }
 
-/// Whether the word is the name of a file in C.
+/// Returns whether the word is the name of a C source file.
 fn names_source(word: &[u8]) -> bool
     ensures { result ≡ meant.names_source word.now }
 {
     word.ends_with(b".c")
 }
 
-/// The name of the conftest.
+/// Returns the name of the conftest.
 fn name_of_conftest(words: &[Bytes]) -> Option<&Bytes>
     ensures { option_copied result ≡ conftest_name words.now }
 {
@@ -95,21 +100,21 @@ fn name_of_conftest(words: &[Bytes]) -> Option<&Bytes>
         .find(|word| names_source(word.as_slice()))
 }
 
-/// Whether the list asks children to meet.
+/// Returns whether the list makes children wait for each other.
 fn asks_to_meet(list: &[u8]) -> bool
     ensures { result ≡ is_meeting list.now }
 {
     &list[..line_len(list)] == MEET
 }
 
-/// Whether this line of the list stands in the conftest.
+/// Returns whether this line of the list isn't empty, and occurs in the conftest.
 fn is_barred(conftest: &[u8], line: &[u8]) -> bool
     ensures { IsTrue result ↔ IsBarred conftest.now line.now }
 {
     !line.is_empty() && conftest.contains_str(line)
 }
 
-/// The first line of the list that stands in the conftest.
+/// Returns the first line of the list that occurs in the conftest.
 fn first_barred<'a>(
     alloc: Global,
     list: &'a [u8],
@@ -127,7 +132,7 @@ fn first_barred<'a>(
     Ok(None)
 }
 
-/// The answer on a conftest: 1 where a line of the list stands in it, which is told, and else 0.
+/// Returns the answer for a conftest: 1 if a line of the list occurs in it, which is reported, and else 0.
 fn judge<E: Write>(
     alloc: Global,
     list: &[u8],
@@ -156,7 +161,7 @@ fn tell_line<E: Write>(errors: &mut E, line: &[u8]) -> std::io::Result<()>
     errors.write_all(b"\n")
 }
 
-/// What the conftest holds.
+/// Returns the text of the conftest, which is empty if none is named.
 fn text_of_conftest<T: Texts>(
     alloc: Global,
     texts: &T,
@@ -171,7 +176,7 @@ fn text_of_conftest<T: Texts>(
     }
 }
 
-/// Makes the file that says that the conftest was seen; the one that waits then looks for the other's.
+/// Makes the file that shows that the conftest was seen. The conftest that waits then looks for the file of the other.
 fn meet<T: Texts>(alloc: Global, texts: &T, name: Option<&Bytes>) -> Result<u8, AllocError>
     ensures status { IfOk result (λ status. (status ≡ 0) ⊎ (status ≡ 1)) }
     ensures waited { IfOk result (λ status. status ≡ 1 → option_copied name.entry ≡ Some waiting) }
@@ -187,7 +192,7 @@ fn meet<T: Texts>(alloc: Global, texts: &T, name: Option<&Bytes>) -> Result<u8, 
     Ok(1)
 }
 
-/// Makes the file that says that the conftest was seen, if that can be made.
+/// Makes the file that shows that the conftest was seen, if that is possible.
 fn make_seen<T: Texts>(alloc: Global, texts: &T, name: &[u8]) -> Result<(), AllocError> {
     let Ok(name) = std::str::from_utf8(name) else {
         return Ok(());

@@ -11,16 +11,17 @@ use std::rt::Files;
 
 /// Gives the texts of files by their names.
 pub(crate) trait Texts {
-    // The text that is read under each name, where that is known.
+    // the text that is read under each name, if it is known
     ghost known: { Self → Option (List ℕ → List ℕ) } = { λ _. None };
 
-    // What a file holds; nothing if it can't be read. It fails only if memory runs out.
+    // Returns the text of a file, or an empty one if it can't be read. Fails only if memory runs out.
     fn text(&self, alloc: Global, name: &[u8]) -> Result<Vec<u8>, AllocError>
         ensures { IfOk result (λ v. IfSome (known self.now) (λ text. v.items ≡ text name.now)) };
 
-    // Makes a file that holds nothing, if that can be made.
+    // Makes an empty file, if that is possible.
     fn make(&self, name: &str);
 
+    // Returns whether there is a file with this name.
     fn is_there(&self, name: &str) -> bool;
 }
 

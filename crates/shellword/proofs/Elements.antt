@@ -1,4 +1,4 @@
--- Words compared with constants, and the elements of a test behind `!`.
+-- Words compared with constants, and the elements of a test after `!`.
 use Rattle.std.proofs.Common.{◌≡◌, ℕ, ◌+◌, ◌<◌, ◌≤◌, ◌≢◌, Bool, true, false, not, ◌&&◌, List, [], ◌∷◌, length, get_or, drop, Option, Some, None, option_map, codes, refl, sym, ap, ◌∙◌, arith}
 use Rattle.std.proofs.lemmas.List.{drop_more, drop_all}
 use Rattle.shellword.specs.declared.part.Part.{Part}

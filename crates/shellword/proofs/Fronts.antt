@@ -21,7 +21,7 @@ name_len-le-length (b ∷ bs) = by_start (starts_name b) where
   by_start true = omega (arith, prefix_len-le-length continues_name bs)
   by_start false = omega arith
 
--- ---- what stands at the front is found
+-- ---- what is at the front is found
 
 escapes_special : (c : Context) (b : ℕ) → escapes c b ≡ true → is_special c backslash ≡ true
 escapes_special Bare b h = refl
@@ -62,7 +62,7 @@ front-read (in_braces {c} {inside} {rest} special some closes) at = rw (special,
 front-read (lone_dollar {c} {rest} special alone) at = rw (special, alone_len rest alone, alone) refl
 front-read (ordinary {c} {b} {rest} h) at = rw h refl
 
--- ---- what is found stands at the front
+-- ---- what is found is at the front
 
 read-backslash : (c : Context) (bs : List ℕ) → is_special c backslash ≡ true → IsFront c (backslash ∷ bs) (backslash_front c bs)
 read-backslash c [] special = kept special refl

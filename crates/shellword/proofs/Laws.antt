@@ -1,4 +1,4 @@
--- The readings as functions, and what they read: laws that the crates above may cite.
+-- The reading functions, and what they read: laws that the crates above may cite.
 use Rattle.std.proofs.Common.{◌≡◌, ℕ, ◌≤◌, List, length, true, false, Result, Ok, Err, refl, sym, subst, ◌∙◌, inl, inr, ◌↔◌, None, []}
 use Rattle.std.specs.Prelude.{IfErr}
 use Rattle.shellword.specs.declared.fault.ShellFault.{ShellFault}
@@ -63,9 +63,9 @@ pattern_faults text f e =
       | inr x ↦ alternatives-fault text x.0 f (cut_found (tokens_of true 0 0 text) x.0 x.1) x.2
     ]
 
--- ---- where a text is refused
+-- ---- the errors of a text
 
--- the place of a refusal
+-- the offset of an error
 refused_at : (Bad : ℕ → Type 0) (at : ℕ) (f : ShellFault) → BadWord at ≡ f → ((k : ℕ) × (f ≡ BadWord k) × Bad k) → Bad at
 refused_at Bad at f e p = let same : p.0 ≡ at = let whole : BadWord p.0 ≡ BadWord at = sym p.1 ∙ sym e in cc in subst Bad same p.2
 
@@ -78,7 +78,7 @@ front_refusal text at = (λ e. refused_at (IsBadFront text) at (BadWord at) refl
 pub here_refusal : (text : List ℕ) (at : ℕ) → (here_of text ≡ Err (BadWord at)) ↔ IsBadHere text at
 here_refusal text at = (λ e. refused_at (IsBadHere text) at (BadWord at) refl (here-bad text (BadWord at) e), bad-here)
 
--- the refusal of an answer
+-- the error of an answer
 pub refusal_of : {X Y : Type 0} (Bad : ℕ → Type 0) (view : X → Y) (r : Result X ShellFault) (read : Result Y ShellFault) → ((f : ShellFault) → read ≡ Err f → (at : ℕ) × (f ≡ BadWord at) × Bad at) → Gives view r read
     → IfErr r (IsRefusal Bad)
 refusal_of Bad view (Ok x) read known given = tt

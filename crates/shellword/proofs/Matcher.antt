@@ -1,4 +1,4 @@
--- The matcher that goes back to the last `*` alone finds what the definition says.
+-- The matcher that goes back only to the last `*` finds what the definition says.
 use Rattle.std.proofs.Common.{◌≡◌, ℕ, zero, suc, ◌+◌, ◌-◌, ◌*◌, ◌<◌, ◌≤◌, Bool, true, false, ◌&&◌, ◌||◌, ltb, ◌==◌, cond, ◌⊎◌, inl, inr, List, [], ◌∷◌, ◌++◌, length, get_or, take, drop, Option, Some, None, refl, sym, ap, subst, ◌∙◌, append_assoc, arith, length-append}
 use Rattle.std.proofs.Math.Nat.{mul-le-mul_left}
 use Rattle.std.proofs.lemmas.Bool.{eqb-true, ltb-true, ltb-false, lt-ltb, le-ltb, eq-eqb}
@@ -28,7 +28,7 @@ some_front : (test : List ℕ → Bool) (front rest : List ℕ) → test rest �
 some_front test [] rest h = some_here test rest h
 some_front test (b ∷ front) rest h = or_right (test (b ∷ (front ++ rest))) (some_rest test (front ++ rest)) (some_front test front rest h)
 
--- what was found behind a front
+-- what was found after a front
 abbrev Split : (List ℕ → Bool) → List ℕ → Type 0
 Split test text = (front : List ℕ) × (rest : List ℕ) × (text ≡ front ++ rest) × (test rest ≡ true)
 
@@ -132,7 +132,7 @@ drop_tail {A} i xs x rest e =
 
 -- ---- the last star
 
--- the star before the place `first` may take more than the bytes before `start`
+-- the star before the piece `first` may take more than the bytes before `start`
 abbrev pub retry : List Piece → List ℕ → Option (ℕ × ℕ) → Bool
 retry pieces text None = false
 retry pieces text (Some star) = ltb star.1 (length text) && some_rest (matching (drop star.0 pieces)) (drop (star.1 + 1) text)
@@ -151,7 +151,7 @@ abbrev all_plain : List Piece → Bool
 all_plain [] = true
 all_plain (p ∷ ps) = is_plain p && all_plain ps
 
--- the pieces behind the last star that are passed: none of them is a star
+-- the pieces after the last star that are passed: none of them is a star
 pub record Passed (pieces : List Piece) (first piece : ℕ) : Type 0 where
   passed : List Piece
   plain : all_plain passed ≡ true
@@ -207,13 +207,13 @@ moved : (start at n : ℕ) (text front more : List ℕ) → at ≡ start + n →
 moved start at n text front more places whole fits =
     ap (λ (k : ℕ). drop k text) places ∙ sym (drop-drop n start text) ∙ ap (drop n) whole ∙ drop_front n front more fits
 
--- what follows a place, where a front of the rest is known
+-- the text after the byte at `start`, if a front of the rest is given
 after_first : (start : ℕ) (text front taken rest more : List ℕ) → start < length text → drop (start + 1) text ≡ front ++ rest → rest ≡ taken ++ more
     → drop start text ≡ (get_or text start 0 ∷ (front ++ taken)) ++ more
 after_first start text front taken rest more lt is split =
     drop_more text start 0 lt ∙ ap (λ (t : List ℕ). get_or text start 0 ∷ t) (is ∙ ap (λ (t : List ℕ). front ++ t) split ∙ sym (append_assoc front taken more))
 
--- Where an earlier star could take more, so can the star at `piece`.
+-- If an earlier star could take more, so can the star at `piece`.
 absorbed : (pieces rest : List Piece) (text : List ℕ) (first start piece at : ℕ) → Passed pieces first piece → at + first ≡ start + piece → drop piece pieces ≡ AnyBytes ∷ rest
     → retry pieces text (Some (first, start)) ≡ true → matching (drop piece pieces) (drop at text) ≡ true
 unfolding matching
@@ -323,7 +323,7 @@ module _ (pieces : List Piece) (text : List ℕ) (piece at : ℕ) where
         goes_on = sym (some_rest_at (matching (drop first pieces)) text (start + 1) (omega (arith, lt))) ∙ sym now ∙ at_stuck (Some (first, start)) s e;
       }
 
--- the step before what is left, as slices say it
+-- the step before what is left, as slices give it
 pub step_at : (pieces : List Piece) (text : List ℕ) (piece at : ℕ) (s : Step) → s ≡ step_of (take (length pieces - piece) (drop piece pieces)) (take (length text - at) (drop at text)) → step_of (drop piece pieces) (drop at text) ≡ s
 step_at pieces text piece at s e = sym (e ∙ rw (take_rest pieces piece, take_rest text at) refl)
 

@@ -66,7 +66,7 @@ variable_leads (w.in_braces {name} {rest} form) c special =
       ends = rw three (drop-append-add name (close_brace ∷ rest) 1);
     }
 
--- in quotes there is more
+-- a word or here text does not end before a variable
 more_variable : {text name rest : List ℕ} → IsVariable text name rest → (c : Context) → is_over c (dollar ∷ []) ≡ false → is_over c text ≡ false
 more_variable (w.named form stops) Bare h = refl
 more_variable (w.named form stops) Single h = refl
@@ -109,7 +109,7 @@ escaped_here b rest h =
     three_bytes (λ x. Leads Here (backslash ∷ x ∷ rest) (Some (Quoted x)) Here rest) (record { len = 2; step = s.escaped refl; ends = refl }) (record { len = 2; step = s.escaped refl; ends = refl })
     (record { len = 2; step = s.escaped refl; ends = refl }) b h
 
--- ---- what steps carry along, the parts of words and here texts do
+-- ---- a property that each step preserves holds of the parts of words and here texts
 
 module _ (P : Context → List ℕ → List Part → Type 0) (on : (c d : Context) (text after : List ℕ) (part : Option Part) (parts : List Part) → is_over c text ≡ false → Leads c text part d after → P d after parts → P c text (option_to_list part ++ parts)) where
   -- up to the quote that closes, or to the end
@@ -144,7 +144,7 @@ module _ (P : Context → List ℕ → List Part → Type 0) (on : (c d : Contex
   here_part_carry parts (w.lone_dollar h) p = on Here Here _ _ (Some (Plain dollar)) _ refl (record { len = 1; step = s.lone_dollar refl h; ends = refl }) p
   here_part_carry parts (w.byte {b = b} h) p = on Here Here _ _ (Some (Plain b)) _ refl (record { len = 1; step = s.ordinary h; ends = refl }) p
 
--- where a run ends, and its length
+-- the end of a run, and its length
 pub record RunsUpTo (c : Context) (text : List ℕ) (parts : List Part) (rest : List ℕ) : Type 0 where
   pub len : ℕ
   pub run : Runs c text parts len
@@ -206,14 +206,14 @@ record InDouble (text : List ℕ) (parts : List Part) (rest : List ℕ) : Type 0
   word : AreWordParts after others rest
   over : word_ends rest ≡ true
 
--- what a run is, by where its first byte stands
+-- the parts of a run, by the context of its first byte
 abbrev Spelled : Context → List ℕ → List Part → List ℕ → Type 0
 Spelled Bare text parts rest = AreWordParts text parts rest × (word_ends rest ≡ true)
 Spelled Single text parts rest = InSingle text parts rest
 Spelled Double text parts rest = InDouble text parts rest
 Spelled Here text parts rest = IsHere text parts
 
--- a part that stands so
+-- a part in a context
 pub data PartOf : Context → List ℕ → List Part → List ℕ → Type 0 where
   bare : {text after : List ℕ} {first : List Part} → IsWordPart text first after → PartOf Bare text first after
   single : {b : ℕ} {after : List ℕ} → (b == single_quote) ≡ false → PartOf Single (b ∷ after) (Quoted b ∷ []) after

@@ -62,9 +62,9 @@ read-patterns text patterns e =
     let ts = bind_ok (or_in_pattern (tokens_of true 0 0 text)) (λ tokens. alternatives 0 tokens) patterns e in
     record { tokens = ts.0; cut = cut-read true text ts.0 (cut_found (tokens_of true 0 0 text) ts.0 ts.1); alternatives = read-listed ts.0 0 patterns ts.2 }
 
--- ---- faults
+-- ---- errors
 
--- a fault of a pattern, at a place of at most n
+-- an error of a pattern, at an offset of at most n
 abbrev pub Fault : ℕ → ShellFault → Type 0
 Fault n f = (at : ℕ) × (f ≡ BadPattern at) × (at ≤ n)
 
@@ -92,14 +92,14 @@ listed-fault (Word parts ∷ Join joint behind ∷ ts) at n f h w e =
 listed-fault (Word parts ∷ Newline ∷ ts) at n f h w e =
     elim (bind_err (pieces_or at (pieces_of parts)) (λ pieces. Err (BadPattern at)) f e) [ inl x ↦ pieces-fault at n (pieces_of parts) f h x | inr x ↦ (at, sym (fault_is {A = List (List Piece)} _ _ x.2), h) ]
 
--- a word at fault is a pattern at fault, at the same place
+-- the error of a word is an error of a pattern, at the same offset
 pub in_pattern-fault : (n : ℕ) (f : ShellFault) → IsWordFault n f → IsPatternFault n (in_pattern f)
 in_pattern-fault n (BadWord at) h = h
 in_pattern-fault n (BadTest at) h = absurd h
 in_pattern-fault n (BadPattern at) h = absurd h
 in_pattern-fault n OutOfMemory h = tt
 
--- the fault of a text whose words are cut
+-- the error of a text that can be split into tokens
 pub alternatives-fault : (text : List ℕ) (tokens : List Token) (f : ShellFault) → tokens_of true 0 0 text ≡ Ok tokens → alternatives 0 tokens ≡ Err f → Fault (length text) f
 alternatives-fault text tokens f cut e =
     listed-fault tokens 0 (length text) f (omega arith) (tokens-within (cut-read true text tokens cut) (length text) (omega arith)) e
@@ -107,7 +107,7 @@ alternatives-fault text tokens f cut e =
 listed : (text : List ℕ) (tokens : List Token) (f : ShellFault) → tokens_of true 0 0 text ≡ Ok tokens → alternatives 0 tokens ≡ Err f → IsPatternFault (length text) f
 listed text tokens f cut e = let p = alternatives-fault text tokens f cut e in subst (IsPatternFault (length text)) (sym p.1) p.2
 
--- the fault of a text whose words are not
+-- the error of a text that can't be split into tokens
 pub uncut-fault : (n : ℕ) (r : Result (List Token) ShellFault) (f : ShellFault) → ((g : ShellFault) → r ≡ Err g → (at : ℕ) × (g ≡ BadWord at) × (at ≤ n)) → or_in_pattern r ≡ Err f → Fault n f
 uncut-fault n (Ok ts) f known e = absurd (passed e)
 uncut-fault n (Err g) f known e =

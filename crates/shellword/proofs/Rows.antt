@@ -1,5 +1,5 @@
--- Worked examples, computed by the definitions: the readers' functions, which the theorems tie to the grammar, and value,
--- truth and matching.
+-- Worked examples, computed by the definitions: the readers' functions, which the theorems connect to the grammar, and
+-- value, truth and matching.
 use Rattle.std.proofs.Common.{◌≡◌, ℕ, true, false, List, [], ◌∷◌, ◌++◌, Ok, Err, refl, codes}
 use Rattle.deftable.specs.Table.{value_of}
 use Rattle.shellword.specs.declared.fault.ShellFault.TheVariants.{BadWord, BadTest, BadPattern}

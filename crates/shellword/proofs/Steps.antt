@@ -1,4 +1,4 @@
--- What the reader's steps find, by where a byte stands: between its functions and the grammar.
+-- What the reader's steps find, by the context of a byte: between its functions and the grammar.
 use Rattle.std.proofs.Common.{◌≡◌, ℕ, ◌+◌, ◌<◌, true, false, List, [], ◌∷◌, ◌++◌, take, drop, Some, None, option_to_list}
 use Rattle.shellword.specs.declared.part.Part.{Part}
 use Rattle.shellword.specs.declared.part.Part.TheVariants.{Variable}
@@ -10,7 +10,8 @@ use Rattle.shellword.specs.Contexts.{is_special, escapes, escapes_front, escaped
 use Rattle.shellword.specs.Scan.{front}
 use Rattle.shellword.specs.WordFaults.{BeginsRefused}
 
--- A text whose first byte stands so begins with this: a part or none, of this length, and where the next byte stands.
+-- A text whose first byte is in this context begins with this front: a part or none, its length, and the context of the
+-- next byte.
 pub data IsFront : Context → List ℕ → Front → Type 0 where
   -- a quote that opens or closes
   single_opens : {rest : List ℕ} → IsFront Bare (single_quote ∷ rest) (front None 1 Single)
@@ -26,19 +27,19 @@ pub data IsFront : Context → List ℕ → Front → Type 0 where
       → IsFront c (dollar ∷ rest) (front (Some (Variable (take (name_len rest) rest))) (name_len rest + 1) c)
   in_braces : {c : Context} {inside rest : List ℕ} → is_special c dollar ≡ true → 0 < name_len inside → drop (name_len inside) inside ≡ close_brace ∷ rest
       → IsFront c (dollar ∷ open_brace ∷ inside) (front (Some (Variable (take (name_len inside) inside))) (name_len inside + 3) c)
-  -- a `$` that is itself
+  -- a `$` that is an ordinary byte
   lone_dollar : {c : Context} {rest : List ℕ} → is_special c dollar ≡ true → stands_alone rest ≡ true
       → IsFront c (dollar ∷ rest) (front (Some (byte_in c dollar)) 1 c)
   -- any other byte
   ordinary : {c : Context} {b : ℕ} {rest : List ℕ} → is_special c b ≡ false → IsFront c (b ∷ rest) (front (Some (byte_in c b)) 1 c)
 
--- The first n bytes of a text that stands so are these parts of a word or of a here text, which ends there.
+-- The first n bytes of a text in this context are these parts of a word or of a here text, which ends there.
 pub data Runs : Context → List ℕ → List Part → ℕ → Type 0 where
   ends : {c : Context} {text : List ℕ} → is_quoted c ≡ false → is_over c text ≡ true → Runs c text [] 0
   goes_on : {c : Context} {text : List ℕ} {f : Front} {parts : List Part} {n : ℕ} → is_over c text ≡ false → IsFront c text f
       → Runs f.context (drop f.len text) parts n → Runs c text (option_to_list f.part ++ parts) (f.len + n)
 
--- A text that stands so is refused before this rest of it.
+-- A text in this context is rejected before this rest of it.
 pub data Breaks : Context → List ℕ → List ℕ → Type 0 where
   at_end : {c : Context} → is_quoted c ≡ true → Breaks c [] []
   refused : {c : Context} {text : List ℕ} → is_special c dollar ≡ true → BeginsRefused text → Breaks c text text

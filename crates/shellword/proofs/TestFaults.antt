@@ -1,4 +1,4 @@
--- Which fault a text that is no test has, and where.
+-- The error of a text that isn't a test, and its offset.
 use Rattle.std.proofs.Common.{◌≡◌, ℕ, ◌+◌, ◌≤◌, Bool, false, inl, inr, List, [], ◌∷◌, ◌++◌, length, Option, Some, None, Result, Ok, Err, refl, sym, subst, ◌∙◌, arith}
 use Rattle.std.specs.Prelude.{IfErr}
 use Rattle.std.specs.List.{list_all, list_any}
@@ -22,7 +22,7 @@ use Rattle.shellword.specs.Tokens.{is_newline, is_bar}
 use Rattle.shellword.proofs.Outcome.{chosen, failed, passed, fault_is, bind_err}
 use Rattle.shellword.proofs.TokenReading.{tokens-read, cut-read, token-len}
 
--- ---- the places behind tokens
+-- ---- the offsets after tokens
 
 abbrev pub Within : ℕ → List Token → Type 0
 Within n [] = Unit {0}
@@ -44,7 +44,7 @@ tokens-within (space x more) n h = tokens-within more n (omega arith)
 tokens-within (next {at = at} {n = k} {text = text} {tokens = tokens} one more) n h =
     token-within one n tokens h (tokens-within more n (omega (arith, token-len one, length-drop k text)))
 
--- ---- no bar alone
+-- ---- no lone bar
 
 no_bar : {bars : Bool} {at : ℕ} {text : List ℕ} {t : Token} {k : ℕ} → IsToken bars at text t k → bars ≡ false → is_bar t ≡ false
 no_bar (line_end) e = refl
@@ -58,9 +58,9 @@ no_bars (no_more) e = refl
 no_bars (space x more) e = no_bars more e
 no_bars (next one more) e = rw (no_bar one e, no_bars more e) refl
 
--- ---- a test that is no test
+-- ---- tokens that aren't a test
 
--- a fault of the test, at a place of at most n
+-- an error of the test, at an offset of at most n
 abbrev Fault : ℕ → ShellFault → Type 0
 Fault n f = (at : ℕ) × (f ≡ BadTest at) × (at ≤ n)
 
@@ -103,14 +103,14 @@ word-fault text (BadTest at) h e = absurd h
 word-fault text (BadPattern at) h e = absurd h
 word-fault text OutOfMemory h e = tt
 
--- the fault of a text whose words are cut
+-- the error of a text that can be split into tokens
 pub joined-fault : (text : List ℕ) (tokens : List Token) (f : ShellFault) → tokens_of false 0 0 text ≡ Ok tokens → joining None [] 0 tokens ≡ Err f → IsFaultOfTest text f
 joined-fault text tokens f cut e =
     let are = cut-read false text tokens cut in
     let p = joining-fault tokens None [] 0 (length text) f (omega arith) (tokens-within are (length text) (omega arith)) e in
     subst (IsFaultOfTest text) (sym p.1) ((tokens, are), p.2)
 
--- the fault of a text whose words are not
+-- the error of a text that can't be split into tokens
 pub cut-fault : (text : List ℕ) (f : ShellFault) → IsWordFault (length text) f → Fails f (tokens_of false 0 0 text) → IsFaultOfTest text f
 cut-fault text OutOfMemory h e = tt
 cut-fault text (BadWord at) h e = word-fault text (BadWord at) h e

@@ -25,7 +25,7 @@ unfolding joining
 words_join before front [] at rest = ap (λ (ws : List (List Part)). joining before ws at rest) (sym (append-nil front))
 words_join before front (w ∷ words) at rest = words_join before (front ++ w ∷ []) words at rest ∙ ap (λ (ws : List (List Part)). joining before ws at rest) (append_assoc front (w ∷ []) words)
 
--- the words of the element that tokens are
+-- the words of the element that the tokens form
 abbrev Words : List Token → Element → Type 0
 Words tokens e =
     (words : List (List Part)) × (element_of words ≡ Some e) × ((before : Option (Joined × Joint)) (at : ℕ) (rest : List Token) → joining before [] at (tokens ++ rest) ≡ joining before words at rest)
@@ -35,7 +35,7 @@ unfolding joining
 element-words (next_line {tokens} {e} h) = let w = element-words h in (w.0, w.1, λ before at rest. w.2 before at rest)
 element-words (command {e} words is) = (words, is, λ before at rest. words_join before [] words at rest)
 
--- where the reader stands behind the tokens of a test
+-- the state of the reader after the tokens of a test
 pub record Behind (tokens : List Token) (test : Joined) : Type 0 where
   pub before : Option (Joined × Joint)
   pub words : List (List Part)
@@ -88,7 +88,7 @@ test-read text test h =
 
 -- ---- what is joined is a test
 
--- tokens of an element so far: newlines, and these words
+-- the tokens of an element so far: newlines, and these words
 record Pending (words : List (List Part)) (tokens : List Token) : Type 0 where
   lines : List Token
   newlines : list_all is_newline lines ≡ true

@@ -1,4 +1,4 @@
--- The tokens of a text are what the reader cuts it into.
+-- The tokens of a text are those that the reader splits it into.
 use Rattle.std.proofs.Common.{◌≡◌, ℕ, zero, suc, ◌+◌, ◌-◌, ◌<◌, ◌≤◌, Bool, true, false, ◌||◌, ◌==◌, inl, inr, List, [], ◌∷◌, length, drop, Result, Ok, refl, sym, ap, subst, ◌∙◌, arith}
 use Rattle.std.proofs.lemmas.Bool.{eqb-true}
 use Rattle.shellword.specs.declared.fault.ShellFault.{ShellFault}
@@ -55,7 +55,7 @@ begins b (c ∷ cs) h = (cs, ap (λ (x : ℕ). x ∷ cs) (eqb-true c b h))
 
 -- ---- one token
 
--- what the reader gives at a text that begins with a token
+-- the result of the reader for a text that begins with a token
 abbrev Begins : Bool → ℕ → List ℕ → Token → ℕ → Type 0
 Begins bars at [] t n = ⊥
 Begins bars at (b ∷ bs) t n = (is_space b ≡ false) × (token_at bars at b bs ≡ Ok (t, at + n)) × (0 < n) × (n ≤ suc (length bs))
@@ -71,7 +71,7 @@ token-read (a_word {lone_bars} {at} {b} {n} {text} {rest} {parts} h word over pl
     let run = word_runs word over place in
     (e.space, rw (h, e.line, e.both, e.either, run-scan run at) refl, moved run h, omega (arith, place))
 
--- what the reader found, from the place `at` on
+-- what the reader found, from offset `at` on
 abbrev pub TokenFound : Bool → ℕ → List ℕ → Token × ℕ → Type 0
 TokenFound bars at text r = (n : ℕ) × IsToken bars at text r.0 n × (r.1 ≡ at + n)
 

@@ -1,4 +1,4 @@
--- A text cut into tokens, as the loop does it.
+-- A text split into tokens, as the loop does it.
 use Rattle.std.proofs.Common.{◌≡◌, ℕ, zero, suc, ◌+◌, ◌-◌, ◌<◌, ◌≤◌, Bool, true, false, List, [], ◌∷◌, ◌++◌, length, get_or, drop, Result, Ok, Err, refl, sym, ap, ◌∙◌, append_assoc, arith}
 use Rattle.std.proofs.lemmas.List.{drop_more, drop-drop, drop_all, length-drop, append-nil}
 use Rattle.shellword.specs.declared.fault.ShellFault.{ShellFault}

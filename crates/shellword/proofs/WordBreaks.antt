@@ -1,4 +1,4 @@
--- Where words and here texts are refused is where the reader's functions fail.
+-- Words and here texts are rejected exactly where the reader's functions fail.
 use Rattle.std.proofs.Common.{◌≡◌, ℕ, zero, suc, ◌+◌, ◌-◌, ◌≤◌, Bool, true, false, ◌&&◌, ◌==◌, ltb, ◌⊎◌, inl, inr, List, [], ◌∷◌, ◌++◌, length, take, drop, Option, option_to_list, Result, Ok, Err, refl, sym, ap, subst, ◌∙◌, arith}
 use Rattle.std.proofs.lemmas.Bool.{eqb-true, ltb-true}
 use Rattle.std.proofs.lemmas.List.{length-drop, append-nil}
@@ -23,9 +23,9 @@ use Rattle.shellword.proofs.Parts.{Leads, PartOf, bare, single, double, here, Fo
 use Rattle.shellword.proofs.Parts as parts
 use Rattle.shellword.proofs.Runs.{with_parts, scan_failed, scan_front}
 
--- ---- a front that is refused
+-- ---- a front that is rejected
 
--- where one of the two bytes has a meaning, both have
+-- if one of the two bytes has a special meaning, both have
 expands : (c : Context) (b : ℕ) → is_special c b ≡ true → (b == single_quote) ≡ false → is_special c dollar ≡ true
 expands Bare b special other = refl
 expands Single b special other = let e : true ≡ false = sym special ∙ other in absurd cc
@@ -38,7 +38,7 @@ backquote_too Single special = absurd cc
 backquote_too Double special = refl
 backquote_too Here special = refl
 
--- what the reader finds where the text is refused
+-- what the reader finds if the text is rejected
 abbrev Refuses : ℕ → Context → List ℕ → Type 0
 Refuses at c [] = ⊥
 Refuses at c (b ∷ bs) = (is_over c (b ∷ bs) ≡ false) × (front_of at c b bs ≡ Err (BadWord at))
@@ -77,7 +77,7 @@ unfolding front_of
 refused_read (command {rest}) at c special = (more_backquote c rest, rw (backquote_too c special) refl)
 refused_read (expansion {rest} alone none) at c special = (more_dollar c rest, rw special (dollar_refused at c rest alone none))
 
--- the place and the front of a failure
+-- the offset and the front of a failure
 abbrev FailsHere : ℕ → Context → List ℕ → ShellFault → Type 0
 FailsHere at c text f = (f ≡ BadWord at) × (is_special c dollar ≡ true) × BeginsRefused text
 
@@ -138,7 +138,7 @@ read-refused at c b bs f e =
           ])
     ]
 
--- ---- a run that is refused
+-- ---- a run that is rejected
 
 close_fails : (c : Context) (at : ℕ) (f : ShellFault) → close c at ≡ Err f → (f ≡ BadWord at) × (is_quoted c ≡ true)
 close_fails c at f e = elim (chosen (is_quoted c) _ _ _ e) [ inl h ↦ (sym (fault_is {A = List Part × ℕ} _ _ h.1), h.0) | inr h ↦ absurd (passed h.1) ]
@@ -169,7 +169,7 @@ breaks-scan (s.refused {c} {text} special refusal) at p place =
 breaks-scan (s.step {c} {text} {rest} {f} more one later) at p place =
     after_step at c text f (BadWord p) more one (breaks-scan later (at + f.len) p (omega (arith, place, (front-len one).1, length-drop f.len text)))
 
--- the place of a fault, and how the text breaks there
+-- the offset of an error, and how the text is rejected there
 pub record BreaksAt (c : Context) (stop : ℕ) (text : List ℕ) (f : ShellFault) : Type 0 where
   pub rest : List ℕ
   pub at : ℕ
@@ -242,7 +242,7 @@ record SingleCloses (text rest : List ℕ) : Type 0 where
   text_is : text ≡ inside ++ single_quote ∷ after
   later : WordBreaks after rest
 
--- in double quotes, where the parts stop
+-- in double quotes, the text at which the parts stop
 abbrev DoubleStops : List ℕ → List ℕ → Type 0
 DoubleStops stop rest = (((stop ≡ []) × (rest ≡ [])) ⊎ ((stop ≡ rest) × BeginsRefused rest)) ⊎ ((after : List ℕ) × (stop ≡ double_quote ∷ after) × WordBreaks after rest)
 
@@ -252,7 +252,7 @@ record DoubleBreaks (text rest : List ℕ) : Type 0 where
   parts : AreDoubleParts text inner stop
   stops : DoubleStops stop rest
 
--- how a text breaks, by where its first byte stands
+-- how a text is rejected, by the context of its first byte
 abbrev Broken : Context → List ℕ → List ℕ → Type 0
 Broken Bare text rest = WordBreaks text rest
 Broken Single text rest = ((has_no single_quote text ≡ true) × (rest ≡ [])) ⊎ SingleCloses text rest

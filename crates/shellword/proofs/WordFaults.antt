@@ -1,4 +1,4 @@
--- Which fault a text that is no word or here text has, and where.
+-- The error of a text that isn't a word or a here text, and its offset.
 use Rattle.std.proofs.Common.{◌≡◌, ℕ, zero, suc, ◌+◌, ◌-◌, ◌≤◌, Bool, true, ◌==◌, cond, inl, inr, List, [], ◌∷◌, length, drop, Result, Ok, Err, refl, sym, ap, ◌∙◌, arith}
 use Rattle.std.specs.List.{list_all}
 use Rattle.shellword.specs.declared.fault.ShellFault.{ShellFault}
@@ -18,7 +18,7 @@ use Rattle.shellword.proofs.Parts.{word-run, run-word}
 use Rattle.shellword.proofs.WordBreaks.{BreaksAt, scan-breaks, breaks-scan, word-breaks, here-breaks, breaks-word, breaks-here}
 use Rattle.shellword.proofs.TokenReading.{token-len, read-token}
 
--- a fault of a word, at a place of at most n
+-- an error of a word, at an offset of at most n
 abbrev pub Fault : ℕ → ShellFault → Type 0
 Fault n f = (at : ℕ) × (f ≡ BadWord at) × (at ≤ n)
 
@@ -31,9 +31,9 @@ at_place {A} at n f e h = (at, sym (fault_is {A = A} _ _ e), h)
 further : (m n : ℕ) (f : ShellFault) → Fault m f → m ≤ n → Fault n f
 further m n f p h = (p.0, p.1, omega (arith, p.2))
 
--- ---- whole texts: the place at fault
+-- ---- whole texts: the offset of the error
 
--- a run that is refused
+-- a run that is rejected
 run_refused : (c : Context) (text : List ℕ) (f : ShellFault) → scan 0 c 0 text ≡ Err f → BreaksAt c (length text) text f
 run_refused c text f e = let b = scan-breaks 0 c 0 text f (omega arith) e in record { rest = b.rest; at = b.at; fault = b.fault; breaks = b.breaks; place = b.place ∙ omega arith }
 
@@ -93,7 +93,7 @@ pub bad-here : {text : List ℕ} {at : ℕ} → IsBadHere text at → here_of te
 unfolding here_of
 bad-here {text} {at} h = rw (breaks-scan (here-breaks h.breaks) 0 at (h.place ∙ omega arith)) refl
 
--- ---- and it is a place of the text or its end
+-- ---- the offset is in the text or at its end
 
 bad-place : {text : List ℕ} {at : ℕ} → IsBadWord text at → at ≤ length text
 bad-place (word_breaks h place) = omega (arith, place)

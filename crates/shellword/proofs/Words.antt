@@ -17,7 +17,7 @@ use Rattle.shellword.proofs.Outcome.{chosen, failed, ok_is, bind_ok}
 use Rattle.shellword.proofs.Fronts.{front-read, read-front, front-len}
 use Rattle.shellword.proofs.Runs.{with_parts, scan_over, scan_front}
 
--- ---- what stands there is scanned
+-- ---- what is in the text is scanned
 
 after_front : (c : Context) (text : List ℕ) (f : Front) (parts : List Part) (n at : ℕ) → is_over c text ≡ false → IsFront c text f
     → scan 0 f.context (at + f.len) (drop f.len text) ≡ Ok (parts, at + f.len + n) → scan 0 c at text ≡ Ok (option_to_list f.part ++ parts, at + (f.len + n))
@@ -31,9 +31,9 @@ pub run-scan : {c : Context} {text : List ℕ} {parts : List Part} {n : ℕ} →
 run-scan (ends {c} {text} unquoted over) at = scan_over c at text over ∙ rw unquoted (ap (λ (m : ℕ). Ok ([], m)) (omega arith))
 run-scan (goes_on {c} {text} {f} {parts} {n} over h rest) at = after_front c text f parts n at over h (run-scan rest (at + f.len))
 
--- ---- what is scanned stands there
+-- ---- what is scanned is in the text
 
--- what a scan found, from the place `at` on
+-- what a scan found, from offset `at` on
 abbrev pub Found : Context → ℕ → List ℕ → List Part → ℕ → Type 0
 Found c at text parts stop = (n : ℕ) × Runs c text parts n × (stop ≡ at + n)
 
@@ -98,7 +98,7 @@ scan_moves at b bs text r is more e =
 
 -- ---- whole texts
 
--- before blanks a word ends, and where bare text is parted
+-- a word ends before blanks
 blanks_end : (rest : List ℕ) → list_all is_blank rest ≡ true → word_ends rest ≡ true
 blanks_end [] h = refl
 blanks_end (b ∷ bs) h = rw (and_parts (is_blank b) (list_all is_blank bs) h).0 refl

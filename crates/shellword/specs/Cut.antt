@@ -1,4 +1,4 @@
--- How a text is cut into tokens, as functions on lists.
+-- How a text is split into tokens, as functions on lists. All are own.
 use Rattle.std.specs.Prelude.{ℕ, zero, suc, ◌+◌, ◌-◌, Bool, List, [], ◌∷◌, Result, Ok, Err, ◌==◌, if◌then◌else◌}
 use Rattle.shellword.specs.declared.fault.ShellFault.{ShellFault}
 use Rattle.shellword.specs.declared.fault.ShellFault.TheVariants.{BadWord}
@@ -9,20 +9,21 @@ use Rattle.shellword.specs.declared.token.Token.TheVariants.{Word, Join, Bar, Ne
 use Rattle.shellword.specs.Text.{is_space, newline, ampersand, bar, ends_word, begins_with}
 use Rattle.shellword.specs.Scan.{◌>>=◌, scan}
 
--- `&` before this text, and `|`; and the place after the token
+-- the token of `&` at offset `at`, followed by this text, and the offset after it
 abbrev pub ampersand_at : ℕ → List ℕ → Result (Token × ℕ) ShellFault
 ampersand_at at bs = if begins_with ampersand bs then Ok (Join And (at + 2), at + 2) else Err (BadWord at)
 
+-- the token of `|` at offset `at`, followed by this text, and the offset after it
 abbrev pub bar_at : Bool → ℕ → List ℕ → Result (Token × ℕ) ShellFault
 bar_at lone_bars at bs =
     if begins_with bar bs then Ok (Join Or (at + 2), at + 2)
     else (if lone_bars then Ok (Bar (at + 1), at + 1) else Err (BadWord at))
 
--- the word at the front, and the place after it
+-- the word at the front, and the offset after it
 abbrev pub word_at : ℕ → List ℕ → Result (Token × ℕ) ShellFault
 word_at at text = scan 0 Bare at text >>= λ r. Ok (Word r.0, r.1)
 
--- the token at the front of b ∷ bs, at the place `at`, where no space is; and the place after it
+-- the token at the front of b ∷ bs, at offset `at`, where no space begins, and the offset after it
 unfoldable pub token_at : Bool → ℕ → ℕ → List ℕ → Result (Token × ℕ) ShellFault
 token_at lone_bars at b bs =
     if b == newline then Ok (Newline, at + 1)
@@ -31,7 +32,7 @@ token_at lone_bars at b bs =
     else (if ends_word b then Err (BadWord at)
     else word_at at (b ∷ bs))))
 
--- a text cut into tokens: at the place `at`, with `skip` bytes of the last token still to be passed over
+-- the tokens of a text at offset `at`, after `skip` bytes of the last token
 unfoldable pub tokens_of : Bool → ℕ → ℕ → List ℕ → Result (List Token) ShellFault
 tokens_of lone_bars skip at [] = Ok []
 tokens_of lone_bars (suc k) at (b ∷ bs) = tokens_of lone_bars k (at + 1) bs

@@ -1,13 +1,15 @@
--- What a call answers, against a reading on lists.
+-- The answer of a call, compared with the value of a function on lists. A call may run out of memory instead of giving
+-- any answer.
 use Rattle.std.specs.Prelude.{◌≡◌, Result, Ok, Err}
 use Rattle.shellword.specs.declared.fault.ShellFault.{ShellFault}
 use Rattle.shellword.specs.declared.fault.ShellFault.TheVariants.{OutOfMemory}
 
--- What a function returned, seen by view, is what reading gives, unless memory ran out.
+-- the function has this error, or memory ran out (own)
 abbrev pub Fails : {Y : Type 0} → ShellFault → Result Y ShellFault → Type 0
 Fails OutOfMemory read = Unit {0}
 Fails f read = read ≡ Err f
 
+-- what a call returned, as seen by `view`, is the value of the function, or memory ran out (own)
 abbrev pub Gives : {X Y : Type 0} → (X → Y) → Result X ShellFault → Result Y ShellFault → Type 0
 Gives view (Ok x) read = read ≡ Ok (view x)
 Gives view (Err f) read = Fails f read

@@ -1,4 +1,4 @@
--- The patterns that a text lists, as functions on lists.
+-- The patterns that a text lists, as functions on lists. All are own.
 use Rattle.std.specs.Prelude.{ℕ, true, List, [], ◌∷◌, Option, Some, None, Result, Ok, Err}
 use Rattle.shellword.specs.declared.fault.ShellFault.{ShellFault}
 use Rattle.shellword.specs.declared.fault.ShellFault.TheVariants.{BadWord, BadPattern}
@@ -10,25 +10,27 @@ use Rattle.shellword.specs.Scan.{◌>>=◌}
 use Rattle.shellword.specs.Cut.{tokens_of}
 use Rattle.shellword.specs.Pieces.{pieces_of}
 
--- a fault of a word, in a text that lists patterns
+-- the error of a word as that of a list of patterns
 abbrev pub in_pattern : ShellFault → ShellFault
 in_pattern (BadWord at) = BadPattern at
 in_pattern f = f
 
+-- the pieces, or the error of a list of patterns at offset `at`
 abbrev pub pieces_or : ℕ → Option (List Piece) → Result (List Piece) ShellFault
 pieces_or at None = Err (BadPattern at)
 pieces_or at (Some pieces) = Ok pieces
 
+-- the parts of a token that is a word
 abbrev pub word_in : Token → Option (List Part)
 word_in (Word parts) = Some parts
 word_in t = None
 
--- the place after a bar
+-- the offset after a token that is a bar
 abbrev pub behind_bar : Token → Option ℕ
 behind_bar (Bar behind) = Some behind
 behind_bar t = None
 
--- the patterns, if an alternative begins at the place `at`
+-- the patterns that tokens list, if an alternative begins at offset `at`
 unfoldable pub alternatives : ℕ → List Token → Result (List (List Piece)) ShellFault
 alternatives at [] = Err (BadPattern at)
 alternatives at (Word parts ∷ []) = pieces_or at (pieces_of parts) >>= λ pieces. Ok (pieces ∷ [])
@@ -36,10 +38,11 @@ alternatives at (Word parts ∷ Bar behind ∷ ts) = pieces_or at (pieces_of par
 alternatives at (Word parts ∷ t ∷ ts) = pieces_or at (pieces_of parts) >>= λ pieces. Err (BadPattern at)
 alternatives at (t ∷ ts) = Err (BadPattern at)
 
+-- the tokens, or their error as that of a list of patterns
 abbrev pub or_in_pattern : Result (List Token) ShellFault → Result (List Token) ShellFault
 or_in_pattern (Ok tokens) = Ok tokens
 or_in_pattern (Err f) = Err (in_pattern f)
 
--- the text as a list of patterns
+-- the patterns that a text lists, or its error
 unfoldable pub patterns_of : List ℕ → Result (List (List Piece)) ShellFault
 patterns_of text = or_in_pattern (tokens_of true 0 0 text) >>= λ tokens. alternatives 0 tokens

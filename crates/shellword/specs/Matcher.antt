@@ -1,4 +1,4 @@
--- Whether a pattern matches a text, and what the matcher does next, as functions on lists.
+-- Whether a pattern matches a text, and the next step of the matcher, as functions on lists. All are own.
 use Rattle.std.specs.Prelude.{ℕ, Bool, true, false, ◌&&◌, ◌||◌, List, [], ◌∷◌, ◌==◌, if◌then◌else◌}
 use Rattle.std.specs.List.{list_any}
 use Rattle.shellword.specs.declared.pattern.Piece.{Piece}
@@ -6,11 +6,12 @@ use Rattle.shellword.specs.declared.pattern.Piece.TheVariants.{AnyBytes, OneByte
 use Rattle.shellword.specs.declared.matching.Step.{Step}
 use Rattle.shellword.specs.declared.matching.Step.TheVariants.{Star, Taken, End, Stuck}
 
--- what is left of the text after some front of it passes the test
+-- some suffix of the text passes the test
 abbrev pub some_rest : (List ℕ → Bool) → List ℕ → Bool
 some_rest test [] = test []
 some_rest test (b ∷ bs) = test (b ∷ bs) || some_rest test bs
 
+-- whether the pattern matches the text
 unfoldable pub matching : List Piece → List ℕ → Bool
 matching [] [] = true
 matching [] (b ∷ bs) = false
@@ -24,7 +25,7 @@ matching (Byte c ∷ pieces) (b ∷ bs) = (b == c) && matching pieces bs
 abbrev pub matches_any : List (List Piece) → List ℕ → Bool
 matches_any patterns text = list_any (λ pattern. matching pattern text) patterns
 
--- what the matcher does before these pieces and this text
+-- the next step of the matcher if these pieces and this text are left
 abbrev pub step_of : List Piece → List ℕ → Step
 step_of [] [] = End
 step_of [] (b ∷ bs) = Stuck

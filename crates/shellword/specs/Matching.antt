@@ -1,12 +1,12 @@
--- Which texts a pattern matches (POSIX shell, 2.14).
+-- The texts that a pattern matches (POSIX shell, 2.14).
 use Rattle.std.specs.Prelude.{ℕ, List, [], ◌∷◌, ◌++◌}
 use Rattle.shellword.specs.declared.pattern.Piece.{Piece}
 use Rattle.shellword.specs.declared.pattern.Piece.TheVariants.{AnyBytes, OneByte, Byte}
--- the same as a function, by this file's name too
+-- the same relation as a function, also under this file's name
 pub use Rattle.shellword.specs.Matcher.{matches_any}
 
--- The text splits into parts, one for each piece of the pattern: any bytes for `*`, one byte for `?`, the byte itself
--- for any other.
+-- The text splits into parts, one for each piece of the pattern: any bytes for `*`, one byte for `?`, and the byte
+-- itself for any other piece (POSIX shell, 2.14).
 pub data Matches : List Piece → List ℕ → Type 0 where
   nothing : Matches [] []
   any_bytes : {pieces : List Piece} {rest : List ℕ} (front : List ℕ) → Matches pieces rest → Matches (AnyBytes ∷ pieces) (front ++ rest)

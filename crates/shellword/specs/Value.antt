@@ -1,15 +1,16 @@
--- The value of words and here texts.
+-- The values of words and here texts.
 use Rattle.std.specs.Prelude.{ℕ, List, [], ◌∷◌, ◌++◌, Option, Some, None}
 use Rattle.deftable.specs.Table.{value_of}
 use Rattle.shellword.specs.declared.part.Part.{Part}
 use Rattle.shellword.specs.declared.part.Part.TheVariants.{Plain, Quoted, Variable}
 
+-- a value, or the empty text if there is none (own)
 abbrev pub or_empty : Option (List ℕ) → List ℕ
 or_empty None = []
 or_empty (Some value) = value
 
--- A byte is itself, a variable its value, which is empty if it is unset, and is neither split nor read again
--- (POSIX shell, 2.6.2; that it is never split is own).
+-- The value of a part. A byte is itself. A variable is its value, or empty if it is unset, and is neither split nor
+-- read again. (POSIX shell, 2.6.2; that it is never split is own)
 abbrev pub part_value : List (List ℕ × List ℕ) → Part → List ℕ
 part_value vars (Plain b) = b ∷ []
 part_value vars (Quoted b) = b ∷ []

@@ -8,8 +8,8 @@ use crate::matching::match_pieces;
 use crate::pattern::Pattern;
 use std::marker::Model;
 
-/// Patterns with `|` between them, as before one list of a shell's `case`. Contracts see the list of what each consists
-/// of.
+/// Patterns separated by `|`, as before one list of a shell's `case`. In contracts, its value is the list of the pieces
+/// of each pattern.
 #[derive(Debug, Drop)]
 pub struct Patterns {
     alternatives: Vec<Pattern>,
@@ -33,36 +33,37 @@ fn match_any(patterns: &[Pattern], text: &[u8]) -> bool
 }
 
 impl Patterns {
-    /// The patterns of a vector, in its own memory.
+    /// Makes a list of the patterns of a vector, without copying them.
     pub fn from_vec(alternatives: Vec<Pattern>) -> Patterns
         ensures { result ≡ alternatives.items }
     {
         Patterns { alternatives }
     }
 
-    /// The patterns, in order.
+    /// Returns the patterns, in order.
     pub fn as_slice(&self) -> &[Pattern]
         ensures { result.now ≡ self.now }
     {
         self.alternatives.as_slice()
     }
 
-    /// The number of patterns.
+    /// Returns the number of patterns.
     pub fn len(&self) -> usize
         ensures { result ≡ length self.now }
     {
         self.alternatives.len()
     }
 
-    /// Whether there is no pattern.
+    /// Returns whether there is no pattern.
     pub fn is_empty(&self) -> bool
         ensures { result ≡ (length self.now == 0) }
     {
         self.alternatives.is_empty()
     }
 
-    /// Whether one of the patterns matches the whole text. It takes no memory, and for each pattern the time of
-    /// [`Pattern::matches`].
+    /// Returns whether one of the patterns matches the whole text (POSIX shell, 2.9.4.3).
+    ///
+    /// For each pattern it takes the time of [`Pattern::matches`].
     #[tactic(auto, using(crate::proofs::AnyPattern::any_matches))]
     pub fn matches(&self, text: &[u8]) -> bool
         ensures value { result ≡ matches_any self.now text.now }

@@ -10,7 +10,7 @@ use deftable::Vars;
 use std::alloc::{AllocError, Global};
 use std::collections::VecDeque;
 
-/// What an element of a test asks.
+/// The condition of an element of a test.
 #[derive(Debug, Drop)]
 pub enum Condition {
     /// `:` or `true`.
@@ -27,11 +27,12 @@ pub enum Condition {
     Different(Word, Word),
 }
 
-/// An element of a test: a condition, or a condition that must not hold.
+/// An element of a test: a condition that must hold, or one that must not.
 #[derive(Debug, Drop)]
 pub struct Element {
-    /// Whether an odd number of `!` is before the condition.
+    /// Whether the number of `!` before the condition is odd.
     pub negated: bool,
+    /// The condition without the `!` before it.
     pub condition: Condition,
 }
 
@@ -54,7 +55,7 @@ impl Element {
         }
     }
 
-    /// Whether the element holds of the variables.
+    /// Returns whether the element is true with these variables (POSIX shell, 2.9.2).
     pub fn holds(&self, alloc: Global, vars: &Vars) -> Result<bool, AllocError>
         ensures { IfOk result (λ b. b ≡ element_truth self.now vars.now) }
     {
@@ -64,7 +65,7 @@ impl Element {
 }
 
 impl Condition {
-    /// Whether the condition holds of the variables.
+    /// Returns whether the condition is true with these variables (POSIX, `test`).
     pub fn holds(&self, alloc: Global, vars: &Vars) -> Result<bool, AllocError>
         ensures { IfOk result (λ b. b ≡ condition_truth self.now vars.now) }
     {
@@ -79,7 +80,7 @@ impl Condition {
     }
 }
 
-/// Whether the value of a word is empty.
+/// Returns whether the value of a word is empty.
 fn is_empty(alloc: Global, word: &Word, vars: &Vars) -> Result<bool, AllocError>
     ensures { IfOk result (λ b. b ≡ (length (word_value word.now vars.now) == 0)) }
 {
@@ -87,7 +88,7 @@ fn is_empty(alloc: Global, word: &Word, vars: &Vars) -> Result<bool, AllocError>
     Ok(value.is_empty())
 }
 
-/// Whether two words have one value.
+/// Returns whether two words have the same value.
 fn are_equal(alloc: Global, left: &Word, right: &Word, vars: &Vars) -> Result<bool, AllocError>
     ensures { IfOk result (λ b. b ≡ bytes_eq (word_value left.now vars.now) (word_value right.now vars.now)) }
 {
@@ -96,7 +97,7 @@ fn are_equal(alloc: Global, left: &Word, right: &Word, vars: &Vars) -> Result<bo
     Ok(left.as_slice() == right.as_slice())
 }
 
-/// `test` with one word: it is not empty.
+/// Returns the element of `test` with one word: the word isn't empty.
 fn one_word(a: Word) -> Element
     ensures { result ≡ one_word a }
 {
@@ -156,7 +157,7 @@ fn negated(element: Option<Element>) -> Option<Element>
     }
 }
 
-/// The words after `test`, of which `a` is the first.
+/// Returns the element of `test` with these words, of which `a` is the first, or `None` if they are no condition.
 fn condition_of(a: Word, mut words: VecDeque<Word>) -> Option<Element>
     ensures { result ≡ condition_of a words.items }
 {
@@ -176,7 +177,7 @@ fn condition_of(a: Word, mut words: VecDeque<Word>) -> Option<Element>
     }
 }
 
-/// A command alone.
+/// Returns the element of a command without words, or `None` if it is another command.
 fn constant_of(word: Word) -> Option<Element>
     ensures { result ≡ constant_of word }
 {
@@ -189,7 +190,7 @@ fn constant_of(word: Word) -> Option<Element>
     }
 }
 
-/// A command and the words after it.
+/// Returns the element of a command with these words, or `None` if they are no element.
 fn command_of(word: Word, mut words: VecDeque<Word>) -> Option<Element>
     ensures { result ≡ command_of word words.items }
 {
@@ -203,7 +204,7 @@ fn command_of(word: Word, mut words: VecDeque<Word>) -> Option<Element>
     }
 }
 
-/// The element that these words make, if any.
+/// Returns the element that these words form, or `None` if they form none.
 pub(crate) fn element_of(mut words: VecDeque<Word>) -> Option<Element>
     ensures { result ≡ element_of words.items }
 {

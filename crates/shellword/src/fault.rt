@@ -1,4 +1,4 @@
-//! Why a text could not be read.
+//! Why a text can't be read.
 
 ghost use Rattle.std.specs.Prelude.{◌≡◌};
 ghost use Rattle.shellword.specs.declared.fault.ShellFault.TheVariants.{OutOfMemory};
@@ -6,19 +6,19 @@ ghost use Rattle.shellword.specs.declared.fault.ShellFault.TheVariants.{OutOfMem
 use std::alloc::{AllocError, AllocFailed};
 use thiserror::Error;
 
-/// What is wrong with a shell text, and the place of the byte at fault, counted from 0.
+/// The error of a shell text, with an offset in the text.
 #[derive(Clone, Copy, Debug, PartialEq, Eq, Error)]
 pub enum ShellFault {
-    /// A word is not one that is read here (POSIX shell, 2.2 and 2.6; what else is refused is own).
+    /// The text isn't a word that this crate reads (POSIX shell, 2.2 and 2.6; which other words are rejected is own).
     #[error("1 at {0}")]
     BadWord(usize),
-    /// The words are no test.
+    /// The words aren't a test.
     #[error("2 at {0}")]
     BadTest(usize),
-    /// The text is no list of patterns.
+    /// The text isn't a list of patterns.
     #[error("3 at {0}")]
     BadPattern(usize),
-    /// A growth of memory was refused.
+    /// Memory ran out.
     #[error("memory")]
     OutOfMemory,
 }

@@ -1,4 +1,4 @@
-//! The front of a shell text.
+//! The front of a shell text: its first byte, or the few bytes that are read together.
 
 ghost use Rattle.std.specs.Prelude.{◌≡◌, ◌+◌, ◌<◌, ◌≤◌, ◌∷◌, Some, None, length, IfOk, IfErr};
 ghost use Rattle.std.specs.List.{prefix_len};
@@ -16,7 +16,7 @@ use crate::part::Part;
 use deftable::Bytes;
 use std::alloc::Global;
 
-/// Where a byte is, which says how it is read.
+/// The context of a byte, which decides how it is read.
 #[derive(Clone, Copy)]
 pub(crate) enum Context {
     /// In a word, outside quotes.
@@ -29,7 +29,7 @@ pub(crate) enum Context {
     Here,
 }
 
-/// The front of a text: the part that it leaves, if any, its length, and where the next byte is.
+/// The front of a text: the part that it produces, if any; its length; and the context of the next byte.
 #[derive(Drop)]
 pub(crate) struct Front {
     pub(crate) part: Option<Part>,
@@ -56,7 +56,7 @@ fn name_bytes_len(text: &[u8]) -> usize
     text.iter().take_while(|b| is_name_byte(**b)).count()
 }
 
-/// The length of the longest variable name at the front.
+/// Returns the length of the longest variable name at the front.
 fn name_len(text: &[u8]) -> usize
     ensures value { result ≡ name_len text.now }
     ensures within { result ≤ length text.now }
@@ -67,7 +67,7 @@ fn name_len(text: &[u8]) -> usize
     }
 }
 
-/// Whether the byte is more than itself there.
+/// Returns whether the byte has a special meaning in this context.
 fn is_special(context: Context, byte: u8) -> bool
     ensures { result ≡ is_special context byte }
 {
@@ -81,7 +81,7 @@ fn is_special(context: Context, byte: u8) -> bool
     }
 }
 
-/// Whether a backslash before the byte vanishes.
+/// Returns whether a backslash before the byte is dropped.
 fn escapes(context: Context, byte: u8) -> bool
     ensures { result ≡ escapes context byte }
 {
@@ -102,7 +102,7 @@ fn byte_in(context: Context, byte: u8) -> Part
     }
 }
 
-/// What a byte after a backslash leaves: itself, but nothing for a newline in a here text.
+/// Returns the part that a byte after a dropped backslash produces: the byte itself, but none for a newline in a here text.
 fn escaped_part(context: Context, byte: u8) -> Option<Part>
     ensures { result ≡ escaped_part context byte }
 {
@@ -112,7 +112,7 @@ fn escaped_part(context: Context, byte: u8) -> Option<Part>
     }
 }
 
-/// A backslash before `rest`.
+/// Reads the front of a text that is a backslash and then `rest`.
 fn read_backslash(context: Context, rest: &[u8]) -> Front
     ensures value { result ≡ backslash_front context rest.now }
     ensures some { 0 < result.len }
@@ -132,7 +132,7 @@ fn read_backslash(context: Context, rest: &[u8]) -> Front
     }
 }
 
-/// Whether a `$` before `rest` is itself.
+/// Returns whether a `$` before `rest` is an ordinary byte.
 fn stands_alone(rest: &[u8]) -> bool
     ensures { result ≡ stands_alone rest.now }
 {
@@ -142,7 +142,7 @@ fn stands_alone(rest: &[u8]) -> bool
     }
 }
 
-/// Whether a `$` before the byte begins what is not read here: a parameter or an expansion.
+/// Returns whether a `$` before the byte begins a parameter or an expansion that isn't read here.
 fn follows_dollar(byte: u8) -> bool
     ensures { result ≡ follows_dollar byte }
 {
@@ -167,7 +167,7 @@ fn closes_brace(text: &[u8]) -> bool
     }
 }
 
-/// The front of the variable whose name is the first `len` bytes, with `around` bytes round them.
+/// Returns the front of a variable with this name, written with `around` other bytes.
 fn variable_front(
     alloc: Global,
     name: &[u8],
@@ -187,7 +187,7 @@ fn variable_front(
     })
 }
 
-/// `$` before `rest`, which begins with no name: `${name}`, or nothing that is read here.
+/// Reads the front of a text that is `$` and then `rest`, which doesn't begin with a name. Only `${name}` is read.
 fn read_braced(alloc: Global, at: usize, context: Context, rest: &[u8]) -> Result<Front, ShellFault>
     ensures value { Gives (λ f. f) result (braced_front at context rest.now) }
     ensures fault { IfErr result (IsWordFault at) }
@@ -204,7 +204,7 @@ fn read_braced(alloc: Global, at: usize, context: Context, rest: &[u8]) -> Resul
     }
 }
 
-/// A `$` at the place `at`, before `rest`.
+/// Reads the front of a text at offset `at` that is `$` and then `rest`.
 fn read_dollar(alloc: Global, at: usize, context: Context, rest: &[u8]) -> Result<Front, ShellFault>
     ensures value { Gives (λ f. f) result (dollar_front at context rest.now) }
     ensures fault { IfErr result (IsWordFault at) }
@@ -224,7 +224,7 @@ fn read_dollar(alloc: Global, at: usize, context: Context, rest: &[u8]) -> Resul
     }
 }
 
-/// Where the byte after a quote is, which opens or closes.
+/// Returns the context after a quote that opens or closes.
 fn quote_context(context: Context, byte: u8) -> Context
     ensures { result ≡ quote_context context byte }
 {
@@ -235,8 +235,8 @@ fn quote_context(context: Context, byte: u8) -> Context
     }
 }
 
+/// Reads the front of a text at offset `at` that is `byte` and then `rest`.
 #[tactic(auto, unfolding(crate::specs::Scan::front_of))]
-/// Reads the front of a text that begins with `byte` at the place `at`, and goes on with `rest`.
 pub(crate) fn read_front(
     alloc: Global,
     at: usize,

@@ -18,7 +18,7 @@ use deftable::{Bytes, Vars};
 use std::alloc::{AllocError, Global};
 use std::marker::Model;
 
-/// A text in which variables are replaced, as in a shell's here document: contracts see the list of its parts.
+/// A text in which variables are replaced, as in a shell's here-document. In contracts, its value is the list of its parts.
 #[derive(Debug, Drop)]
 pub struct HereText {
     parts: Vec<Part>,
@@ -42,38 +42,39 @@ fn read_parts(alloc: Global, text: &[u8]) -> Result<HereText, ShellFault>
     Ok(HereText { parts })
 }
 
-/// Reads a here text (POSIX shell, 2.7.4). `$name` and `${name}` are a variable's value. A backslash before `$`, a
-/// backquote, a backslash or a newline is dropped, and a newline with it. Quotes have no meaning.
+/// Reads a here text (POSIX shell, 2.7.4).
+///
+/// `$name` and `${name}` are a variable's value. A backslash is dropped before `$`, a backquote, a backslash or a
+/// newline, and the newline is dropped with it. Quotes have no meaning.
 ///
 /// # Errors
 ///
-/// Returns [`ShellFault::BadWord`] with the place of the first backquote that no backslash quotes, or of the first `$`
+/// Returns [`ShellFault::BadWord`] with the offset of the first backquote that no backslash quotes, or of the first `$`
 /// that a shell expands and that begins neither `$name` nor `${name}`.
-///
-/// Returns [`ShellFault::OutOfMemory`] if memory runs out.
 pub fn read_here(alloc: Global, text: &[u8]) -> Result<HereText, ShellFault>
-    // The reading, as a function of the text.
+    // The result as one function of the text.
     ensures exact { Gives (λ h. h) result (here_of text.now) }
-    // What is read is there.
-    ensures found { IfOk result (IsHere text.now) }
-    // A here text is read, unless memory runs out.
-    ensures only { (parts : List Part) → IsHere text.now parts → Gives (λ h. h) result (Ok parts) }
-    // What is refused is no here text, and is at fault there.
-    ensures refused { IfErr result (IsRefusal (IsBadHere text.now)) }
+    // If parts are returned, they are those of the here text.
+    ensures sound { IfOk result (IsHere text.now) }
+    // If the text is a here text, its parts are returned unless memory runs out.
+    ensures complete { (parts : List Part) → IsHere text.now parts → Gives (λ h. h) result (Ok parts) }
+    // If an error is returned, the text isn't a here text because of the byte at that offset, or memory ran out.
+    ensures error_sound { IfErr result (IsRefusal (IsBadHere text.now)) }
     ensures fault { IfErr result (IsWordFault (length text.now)) }
 {
     read_parts(alloc, text)
 }
 
 impl HereText {
-    /// The parts of the text, in order.
+    /// Returns the parts of the text, in order.
     pub fn parts(&self) -> &[Part]
         ensures { result.now ≡ self.now }
     {
         self.parts.as_slice()
     }
 
-    /// The text with the values of its variables. An unset variable is empty, and a value is never read again.
+    /// Returns the text with each variable replaced by its value (POSIX shell, 2.6.2). An unset variable is empty, and
+    /// a value is never read again.
     pub fn value(&self, alloc: Global, vars: &Vars) -> Result<Bytes, AllocError>
         ensures { IfOk result (λ v. v ≡ word_value self.now vars.now) }
     {

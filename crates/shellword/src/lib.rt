@@ -1,8 +1,8 @@
-//! Shell text: words, here texts, tests and patterns, read from their text and evaluated under variables.
+//! Shell words, here texts, tests and patterns: reads them from text, and evaluates them with variables.
 //!
 //! ```text
 //! let word = read_word(alloc, b"-I\"$dir\"/include")?;
-//! let value = word.value(alloc, &vars)?;             // $dir's value in its place, never split
+//! let value = word.value(alloc, &vars)?;             // with the value of $dir, never split
 //!
 //! let test = read_test(alloc, b"test \"x$a\" = xyes && test -n \"$b\"")?;
 //! if test.holds(alloc, &vars)? { .. }
@@ -11,19 +11,23 @@
 //! patterns[1].matches(b"bc")                         // true
 //! ```
 //!
-//! Read `part`, then `front` (what one byte or a few of them are, by where they are), `run` (one word or here text),
-//! `word` and `here`; then `token` (a text cut into words, joints, bars and newlines), `element` and `test`; then
-//! `pattern`, `matching` and `alternatives`.
+//! Anything else that a shell would do is an error, and is never done in another way. That covers other parameters and
+//! expansions after `$`, command substitution, redirections, bracket expressions and variables in patterns, and the
+//! other forms of `test`. A value is never split into fields, read again or expanded to file names.
 //!
-//! The grammars are `specs/Word` (words and here texts), `specs/WordFaults` (where they are refused), `specs/Tokens`,
-//! `specs/Element`, `specs/Test` and `specs/Pattern`. `specs/Value`, `specs/Truth` and `specs/Matching` define the value
-//! of a word, the truth of a test and the texts that a pattern matches. `specs/Scan`, `specs/Cut`, `specs/Joining`,
-//! `specs/Listing` and `specs/Matcher` are the readers and the matcher as functions, and `readings` has the laws that
-//! tie both together. `proofs/Rows` computes worked examples.
+//! Each call that takes an allocator fails with `OutOfMemory`, or `AllocError`, if memory runs out; [`Word::empty`]
+//! alone takes one and can't fail. No other call allocates. Offsets count bytes from 0. "POSIX shell" and a section
+//! number refer to POSIX, Shell Command Language, and "own" marks a rule that no standard gives.
 //!
-//! What a shell would do beyond this is refused, never done otherwise: other parameters and expansions after `$`, command
-//! substitution, redirections, bracket expressions and variables in patterns, and the other forms of `test`.
-//! A value is never split into fields, read again or expanded to file names.
+//! Read `part` first, then `front` (one byte or a few of them, by their context), `run` (one word or here text), `word`
+//! and `here`. Then read `token` (a text split into words, joints, bars and newlines), `element` and `test`, and then
+//! `pattern`, `matching` and `alternatives`. `value` joins the values of parts.
+//!
+//! The grammars are `specs/Word` (words and here texts), `specs/WordFaults` (the errors of both), `specs/Tokens`,
+//! `specs/Element`, `specs/Test` and `specs/Pattern`. `specs/Value`, `specs/Truth` and `specs/Matching` define the
+//! value of a word, the truth of a test and the texts that a pattern matches. `specs/Scan`, `specs/Cut`,
+//! `specs/Joining`, `specs/Listing` and `specs/Matcher` describe the readers and the matcher as functions, and
+//! `readings` has the laws that connect the two. `proofs/Rows` computes worked examples.
 #![tactic(auto)]
 
 mod alternatives;

@@ -1,4 +1,4 @@
-//! The matcher.
+//! Matches a pattern against a text.
 
 ghost use Rattle.std.specs.Prelude.{◌≡◌, ◌↔◌, ◌≤◌, IsTrue, length, drop};
 ghost use Rattle.shellword.specs.Matcher.{matching, step_of};
@@ -6,19 +6,19 @@ ghost use Rattle.shellword.specs.Matching.{Matches};
 
 use crate::pattern::Piece;
 
-/// What the matcher does next.
+/// The next step of the matcher.
 pub(crate) enum Step {
-    /// It is before a `*`.
+    /// The next piece is a `*`.
     Star,
-    /// The piece takes the byte.
+    /// The piece matches the next byte.
     Taken,
-    /// Both are at their ends.
+    /// No piece and no byte is left.
     End,
-    /// The piece does not take what is there.
+    /// The piece doesn't match what is left of the text.
     Stuck,
 }
 
-/// What the matcher does before these pieces and this text.
+/// Returns the next step of the matcher if these pieces and this text are left.
 fn next_step(pieces: &[Piece], text: &[u8]) -> Step
     ensures { result ≡ step_of pieces.now text.now }
 {
@@ -37,15 +37,16 @@ fn next_step(pieces: &[Piece], text: &[u8]) -> Step
     }
 }
 
-/// Whether the pieces match all of the text. If it is stuck, the matcher goes back to the last `*`, which takes one
-/// byte more; it never has to go back to one before that.
+/// Returns whether the pieces match the whole text. If the matcher is stuck, it goes back to the last `*`, which then
+/// takes one byte more. It never has to go back to an earlier one.
 pub(crate) fn match_pieces(pieces: &[Piece], text: &[u8]) -> bool
     ensures { result ≡ matching pieces.now text.now }
 {
     let mut piece = 0;
     let mut at = 0;
-    // After the last `*`: the place of the next piece, and where the text for it begins.
+    // After the last `*`: the index of the next piece, and the offset of the text for it.
     let mut star: Option<(usize, usize)> = None;
+    // The label is for the proof only.
     'steps: loop {
         match next_step(&pieces[piece..], &text[at..]) {
             Step::Star => {

@@ -1,4 +1,4 @@
-//! What words and here texts are made of.
+//! The parts of words and here texts.
 
 use deftable::Bytes;
 

@@ -18,7 +18,7 @@ use std::alloc::Global;
 use std::collections::VecDeque;
 use std::marker::Model;
 
-/// What a part of a matched text may be.
+/// A piece of a pattern: what it matches.
 #[derive(Clone, Copy, Debug, PartialEq, Eq)]
 pub enum Piece {
     /// `*`: any bytes, or none.
@@ -29,7 +29,7 @@ pub enum Piece {
     Byte(u8),
 }
 
-/// One alternative of a list of patterns: contracts see the list of its pieces.
+/// One pattern of a list of patterns. In contracts, its value is the list of its pieces.
 #[derive(Debug, Drop)]
 pub struct Pattern {
     pieces: Vec<Piece>,
@@ -45,15 +45,16 @@ impl Model for Pattern {
 }
 
 impl Pattern {
-    /// Whether the whole text matches. It takes no memory, and time at worst in proportion to the text times the
-    /// pattern.
+    /// Returns whether the pattern matches the whole text (POSIX shell, 2.14).
+    ///
+    /// The time is at worst in proportion to the length of the text times that of the pattern.
     pub fn matches(&self, text: &[u8]) -> bool
         ensures { IsTrue result ↔ Matches self.now text.now }
     {
         match_pieces(&self.pieces, text)
     }
 
-    /// What the parts of a matched text may be, in order.
+    /// Returns the pieces of the pattern, in order.
     pub fn pieces(&self) -> &[Piece]
         ensures { result.now ≡ self.now }
     {
@@ -72,7 +73,7 @@ fn piece_of(part: &Part) -> Option<Piece>
     }
 }
 
-/// The pattern that a word makes, which begins at `at`.
+/// Returns the pattern of a word that begins at offset `at`.
 fn pattern_of(alloc: Global, parts: &[Part], at: usize) -> Result<Pattern, ShellFault>
     ensures { Gives (λ p. p) result (pieces_or at (pieces_of parts.now)) }
 {
@@ -104,12 +105,13 @@ fn behind_bar(token: Token) -> Option<usize>
     }
 }
 
-/// The patterns that the tokens of a text list.
+/// Returns the patterns that the tokens of a text list.
 fn alternatives_of(alloc: Global, mut tokens: VecDeque<Token>) -> Result<Vec<Pattern>, ShellFault>
     ensures { Gives (λ v. v.items) result (alternatives 0 tokens.items) }
 {
     let mut patterns = Vec::new(alloc);
     let mut at = 0;
+    // The label is for the proof only.
     'alternatives: loop {
         let Some(token) = tokens.pop_front() else {
             return Err(ShellFault::BadPattern(at));
@@ -129,7 +131,7 @@ fn alternatives_of(alloc: Global, mut tokens: VecDeque<Token>) -> Result<Vec<Pat
     }
 }
 
-/// A fault of a word, in a text that lists patterns.
+/// Returns the error of a word as that of a list of patterns.
 fn in_pattern(fault: ShellFault) -> ShellFault
     ensures { result ≡ in_pattern fault }
 {
@@ -139,7 +141,7 @@ fn in_pattern(fault: ShellFault) -> ShellFault
     }
 }
 
-/// The text as a list of patterns, by its tokens.
+/// Reads a text as a list of patterns.
 #[tactic(auto, unfolding(crate::specs::Listing::patterns_of))]
 fn read_whole(alloc: Global, text: &[u8]) -> Result<Vec<Pattern>, ShellFault>
     ensures exact { Gives (λ v. v.items) result (patterns_of text.now) }
@@ -151,27 +153,27 @@ fn read_whole(alloc: Global, text: &[u8]) -> Result<Vec<Pattern>, ShellFault>
     }
 }
 
-/// Reads a list of patterns (POSIX shell, 2.9.4.3 and 2.14): alternatives with `|` between them and spaces and tabs
-/// round them. If they are not quoted, `*` matches any bytes and `?` one byte. All else matches itself.
+/// Reads a list of patterns (POSIX shell, 2.9.4.3 and 2.14): alternatives separated by `|`, with spaces and tabs around
+/// them. Unless they are quoted, `*` matches any bytes and `?` one byte. Every other byte matches itself.
 ///
 /// # Errors
 ///
-/// Returns [`ShellFault::BadPattern`] with the place of the first of these, if the text has any: a backquote or a `$` that
-/// [`read_word`](crate::read_word) refuses too; outside quotes, one of `;`, `<`, `>`, `(` and `)`, or an `&` alone; the end
-/// of the text, if a quote is open there.
+/// Returns [`ShellFault::BadPattern`] with the offset of the first of these, if the text has any:
+///
+/// - a backquote or a `$` that is an error of [`read_word`](crate::read_word);
+/// - outside quotes, one of `;`, `<`, `>`, `(` and `)`, or a lone `&`;
+/// - the end of the text, if a quote is open there.
 ///
 /// Otherwise, returns [`ShellFault::BadPattern`] for the first alternative that has a variable, an unquoted bracket, an
-/// unquoted blank within it, an unquoted newline, `&&` or `||`, or no byte (`''` has two, and matches the empty text). The
-/// place is that after the bar before it, or 0.
-///
-/// Returns [`ShellFault::OutOfMemory`] if memory runs out.
+/// unquoted blank within it, an unquoted newline, `&&` or `||`, or no byte (`''` has two, and matches the empty text).
+/// The offset is that after the bar before the alternative, or 0.
 pub fn read_patterns(alloc: Global, text: &[u8]) -> Result<Vec<Pattern>, ShellFault>
-    // The reading, as a function of the text.
+    // The result as one function of the text.
     ensures exact { Gives (λ v. v.items) result (patterns_of text.now) }
-    // What is read is there.
-    ensures found { IfOk result (λ v. ArePatterns text.now v.items) }
-    // A list of patterns is read, unless memory runs out.
-    ensures only { (patterns : List (List Piece)) → ArePatterns text.now patterns → Gives (λ v. v.items) result (Ok patterns) }
+    // If patterns are returned, the text lists them.
+    ensures sound { IfOk result (λ v. ArePatterns text.now v.items) }
+    // If the text lists patterns, they are returned unless memory runs out.
+    ensures complete { (patterns : List (List Piece)) → ArePatterns text.now patterns → Gives (λ v. v.items) result (Ok patterns) }
     ensures fault { IfErr result (IsPatternFault (length text.now)) }
 {
     read_whole(alloc, text)

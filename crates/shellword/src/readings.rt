@@ -1,4 +1,4 @@
-//! Laws of the readings, which the crates above may rest on.
+//! Laws of the reading functions, for the crates above.
 
 ghost use Rattle.std.specs.Prelude.{◌≡◌, ◌≤◌, ◌↔◌, ℕ, List, Result, Ok, Err, length, false};
 ghost use Rattle.std.specs.List.{list_any};
@@ -17,7 +17,7 @@ ghost use Rattle.shellword.specs.declared.fault.ShellFault.TheVariants.{BadWord,
 ghost use Rattle.shellword.specs.declared.part.Part.{Part};
 ghost use Rattle.shellword.specs.declared.pattern.Piece.{Piece};
 
-/// The reading of a text, as a function, gives what the text is, and nothing else.
+/// States that each reading function returns exactly what the grammar says.
 pub fn readings_are_exact()
     ensures word { (text : List ℕ) (parts : List Part) → (word_of text ≡ Ok parts) ↔ IsWord text parts }
     ensures front { (text : List ℕ) (parts : List Part) (n : ℕ) → (word_front_of text ≡ Ok (parts, n)) ↔ IsWordFront text parts n }
@@ -26,8 +26,8 @@ pub fn readings_are_exact()
     ensures patterns { (text : List ℕ) (patterns : List (List Piece)) → (patterns_of text ≡ Ok patterns) ↔ ArePatterns text patterns }
 {}
 
-/// A text is at most one word, has at most one word at its front, and is at most one here text, test and list of
-/// patterns.
+/// States that the grammar is unambiguous: a text is at most one word, has at most one word at its front, and is at
+/// most one here text, test and list of patterns.
 pub fn one_reading()
     ensures word { (text : List ℕ) (a b : List Part) → IsWord text a → IsWord text b → a ≡ b }
     ensures front { (text : List ℕ) (a b : List Part) (m n : ℕ) → IsWordFront text a m → IsWordFront text b n → (a ≡ b) × (m ≡ n) }
@@ -36,8 +36,8 @@ pub fn one_reading()
     ensures patterns { (text : List ℕ) (a b : List (List Piece)) → ArePatterns text a → ArePatterns text b → a ≡ b }
 {}
 
-/// The fault of a reading is the one of its kind, at a place of the text or its end. A test has that of a word exactly
-/// if a word of it is refused.
+/// States which errors each reading function returns, with an offset in the text or at its end. The error of a test is
+/// that of a word if and only if a word of it is rejected.
 pub fn faults_are_placed()
     ensures word { (text : List ℕ) (f : ShellFault) → word_of text ≡ Err f → (at : ℕ) × (f ≡ BadWord at) × (at ≤ length text) }
     ensures front { (text : List ℕ) (f : ShellFault) → word_front_of text ≡ Err f → (at : ℕ) × (f ≡ BadWord at) × (at ≤ length text) }
@@ -46,15 +46,15 @@ pub fn faults_are_placed()
     ensures patterns { (text : List ℕ) (f : ShellFault) → patterns_of text ≡ Err f → (at : ℕ) × (f ≡ BadPattern at) × (at ≤ length text) }
 {}
 
-/// The reading of a text, as a function, is refused exactly if the grammar has no word, no word at the front or no here
-/// text there, and its fault has the place that the grammar names.
+/// States that a reading function returns an error if and only if the text has no word, no word at its front or no here
+/// text, and that the offset is the one that the grammar gives.
 pub fn refusals_are_exact()
     ensures word { (text : List ℕ) (at : ℕ) → (word_of text ≡ Err (BadWord at)) ↔ IsBadWord text at }
     ensures front { (text : List ℕ) (at : ℕ) → (word_front_of text ≡ Err (BadWord at)) ↔ IsBadFront text at }
     ensures here { (text : List ℕ) (at : ℕ) → (here_of text ≡ Err (BadWord at)) ↔ IsBadHere text at }
 {}
 
-/// A text that is cut into the tokens of a test has no bar alone.
+/// States that a text split into the tokens of a test has no lone bar.
 pub fn tests_have_no_bars()
     ensures { (at : ℕ) (text : List ℕ) (tokens : List Token) → AreTokens false at text tokens → list_any is_bar tokens ≡ false }
 {}

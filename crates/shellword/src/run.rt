@@ -1,4 +1,4 @@
-//! The parts of a word or of a here text.
+//! Reads the parts of a word or of a here text.
 
 ghost use Rattle.std.specs.Prelude.{◌≡◌, ℕ, List, ◌∷◌, ◌+◌, ◌++◌, ◌≤◌, drop, length, IfOk, IfErr, OnOk, option_to_list};
 ghost use Rattle.shellword.specs.Faults.{IsWordFault};
@@ -19,7 +19,7 @@ pub(crate) fn is_blank(byte: u8) -> bool
     byte == b' ' || byte == b'\t' || byte == b'\n'
 }
 
-/// Whether the byte ends a word outside quotes.
+/// Returns whether the byte ends a word outside quotes.
 pub(crate) fn ends_word(byte: u8) -> bool
     ensures { result ≡ ends_word byte }
 {
@@ -33,7 +33,7 @@ pub(crate) fn ends_word(byte: u8) -> bool
         || byte == b')'
 }
 
-/// Whether the word or here text ends before the byte.
+/// Returns whether the word or here text ends before the byte.
 fn ends_before(context: Context, byte: u8) -> bool
     ensures { (rest : List ℕ) → result ≡ is_over context (byte ∷ rest) }
 {
@@ -62,7 +62,7 @@ fn push_part(parts: &mut Vec<Part>, part: Option<Part>) -> Result<(), ShellFault
     Ok(())
 }
 
-/// The parts from `start` up to the end of the word or here text, and the place after them.
+/// Reads the parts from `start` to the end of the word or here text. Returns them and the offset after them.
 pub(crate) fn read_run(
     alloc: Global,
     text: &[u8],

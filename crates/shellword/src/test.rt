@@ -21,11 +21,11 @@ use std::collections::VecDeque;
 use std::marker::Model;
 use std::mem;
 
-/// A test that was read: contracts see an element, or a test joined with one element more.
+/// A test. In contracts, its value is an element, or a test joined with another element.
 #[derive(Debug, Drop)]
 pub struct Test {
     first: Element,
-    /// Each further element, with the joint before it.
+    /// Each later element, with the joint before it.
     rest: Vec<(Joint, Element)>,
 }
 
@@ -55,7 +55,7 @@ fn joint_holds(left: bool, joint: Joint, right: bool) -> bool
     }
 }
 
-/// Whether the first element, joined with each of the rest from the left, holds.
+/// Returns whether the first element, joined with each of the rest from the left, is true.
 fn holds_all(
     alloc: Global,
     first: &Element,
@@ -90,14 +90,15 @@ impl Test {
         Ok(self)
     }
 
-    /// The first element, and each further one with the joint before it.
+    /// Returns the first element, and each later one with the joint before it.
     pub fn elements(&self) -> (&Element, &[(Joint, Element)])
         ensures { self.now ≡ nested (single result.0.now) result.1.now }
     {
         (&self.first, self.rest.as_slice())
     }
 
-    /// Whether the test holds of the variables: its joints are of equal rank, from the left.
+    /// Returns whether the test is true with these variables. `&&` and `||` have equal precedence and group from the
+    /// left (POSIX shell, 2.9.3).
     pub fn holds(&self, alloc: Global, vars: &Vars) -> Result<bool, AllocError>
         ensures { IfOk result (λ b. b ≡ truth self.now vars.now) }
     {
@@ -105,7 +106,7 @@ impl Test {
     }
 }
 
-/// A test, or one that `before` holds with its joint, joined with an element.
+/// Joins an element to the test that `before` contains, if any.
 fn with_element(
     alloc: Global,
     before: Option<(Test, Joint)>,
@@ -120,7 +121,8 @@ fn with_element(
     }
 }
 
-/// The test up to the end of an element of these words, which begins at `at`. Takes the words and what is before them.
+/// Ends an element of these words, which begins at offset `at`, and returns the test up to it. Takes the words, and
+/// takes the test from `before`.
 fn end_element(
     alloc: Global,
     before: &mut Option<(Test, Joint)>,
@@ -150,7 +152,7 @@ fn are_newlines(tokens: &mut VecDeque<Token>) -> bool
     true
 }
 
-/// The test up to the newline after these words, if it is the end: newlines alone may be after it.
+/// Ends the test at the newline after these words, if only newlines follow.
 fn end_line(
     alloc: Global,
     before: &mut Option<(Test, Joint)>,
@@ -167,7 +169,8 @@ fn end_line(
     }
 }
 
-/// The test that tokens are, after what `before` holds and the words of an element that begins at 0. Takes them all.
+/// Returns the test that the tokens form, after `before` and the words of an element that begins at offset 0. Takes the
+/// tokens, the words and the test in `before`.
 fn join_all(
     alloc: Global,
     before: &mut Option<(Test, Joint)>,
@@ -187,7 +190,7 @@ fn join_all(
                 *before = Some((test, joint));
                 at = behind;
             }
-            // No text of a test has one: `tests_have_no_bars`.
+            // A test's tokens contain no lone bar: `tests_have_no_bars`.
             Token::Bar(_) => return Err(ShellFault::BadTest(at)),
             Token::Newline if words.is_empty() => {}
             Token::Newline => return end_line(alloc, before, words, at, tokens),
@@ -196,7 +199,7 @@ fn join_all(
     end_element(alloc, before, words, at)
 }
 
-/// The test that the tokens of a text are.
+/// Returns the test that the tokens of a text form.
 fn join_tokens(alloc: Global, mut tokens: VecDeque<Token>) -> Result<Test, ShellFault>
     ensures value { Gives (λ t. t) result (joining None [] 0 tokens.items) }
 {
@@ -214,28 +217,30 @@ fn read_whole(alloc: Global, text: &[u8]) -> Result<Test, ShellFault>
     join_tokens(alloc, tokens)
 }
 
-/// Reads a test: elements joined by `&&` and `||`, of equal rank from the left, with newlines at both ends and
-/// after a joint. An element is `:`, `true`, `false`, `test` with one to four words, or `!` before an element
-/// (POSIX shell, 2.9.3, and `test` by the number of its words).
+/// Reads a test (POSIX shell, 2.9.3, and POSIX, `test`, by the number of its words).
+///
+/// A test is a list of elements joined by `&&` and `||`, which have equal precedence and group from the left. Newlines
+/// may come at both ends and after a joint. An element is `:`, `true`, `false`, `test` with one to four words, or `!`
+/// before an element.
 ///
 /// # Errors
 ///
-/// Returns [`ShellFault::BadWord`] with the place of the first of these, if the text has any: a backquote or a `$` that
-/// [`read_word`](crate::read_word) refuses too; outside quotes, one of `;`, `<`, `>`, `(` and `)`, or an `&` or `|` alone;
-/// the end of the text, if a quote is open there.
+/// Returns [`ShellFault::BadWord`] with the offset of the first of these, if the text has any:
 ///
-/// Otherwise, returns [`ShellFault::BadTest`] if the words and joints are no test. The place is that after the joint before
-/// the element at fault, or 0.
+/// - a backquote or a `$` that is an error of [`read_word`](crate::read_word);
+/// - outside quotes, one of `;`, `<`, `>`, `(` and `)`, or a lone `&` or `|`;
+/// - the end of the text, if a quote is open there.
 ///
-/// Returns [`ShellFault::OutOfMemory`] if memory runs out.
+/// Otherwise, returns [`ShellFault::BadTest`] if the words and joints aren't a test. The offset is that after the joint
+/// before the wrong element, or 0.
 pub fn read_test(alloc: Global, text: &[u8]) -> Result<Test, ShellFault>
-    // The reading, as a function of the text.
+    // The result as one function of the text.
     ensures exact { Gives (λ t. t) result (test_of text.now) }
-    // What is read is there.
-    ensures found { IfOk result (IsTest text.now) }
-    // A test is read, unless memory runs out.
-    ensures only { (test : Joined) → IsTest text.now test → Gives (λ t. t) result (Ok test) }
-    // Which of the two faults is answered, and its place.
+    // If a test is returned, the text is that test.
+    ensures sound { IfOk result (IsTest text.now) }
+    // If the text is a test, it is returned unless memory runs out.
+    ensures complete { (test : Joined) → IsTest text.now test → Gives (λ t. t) result (Ok test) }
+    // Which of the two errors is returned, with an offset in the text or at its end.
     ensures fault { IfErr result (IsFaultOfTest text.now) }
 {
     read_whole(alloc, text)

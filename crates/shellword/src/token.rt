@@ -1,4 +1,4 @@
-//! A text cut into words, joints, bars and newlines.
+//! Splits a text into words, joints, bars and newlines.
 
 ghost use Rattle.std.specs.Prelude.{◌≡◌, ◌∷◌, [], ◌++◌, ◌≤◌, drop, length, slice_index, ◌+◌, ◌<◌, false, IfOk, IfErr, List, ℕ};
 ghost use Rattle.shellword.specs.Faults.{IsWordFault};
@@ -14,16 +14,16 @@ use crate::word::Word;
 use std::alloc::Global;
 use std::collections::VecDeque;
 
-/// How a test and the element after it are joined.
+/// The operator that joins a test and the element after it.
 #[derive(Clone, Copy, Debug, PartialEq, Eq)]
 pub enum Joint {
-    /// `&&`: both hold.
+    /// `&&`: both are true.
     And,
-    /// `||`: one of them holds.
+    /// `||`: one of them is true.
     Or,
 }
 
-/// A word, or what is between words. A joint and a bar have the place after them.
+/// A word, or a separator of words. A joint and a bar have the offset after them.
 #[derive(Drop)]
 pub(crate) enum Token {
     Word(Word),
@@ -47,7 +47,7 @@ fn is_space(byte: u8) -> bool
     byte == b' ' || byte == b'\t'
 }
 
-/// An ampersand at `at`: two of them are a joint, one is none; and the place after it.
+/// Reads the token that begins with the `&` at offset `at`, which must be `&&`. Returns it and the offset after it.
 fn read_ampersand(text: &[u8], at: usize) -> Result<(Token, usize), ShellFault>
     requires { at < length text.now }
     ensures value { Gives (λ r. (r.0, r.1)) result (ampersand_at at (drop (at + 1) text.now)) }
@@ -61,7 +61,8 @@ fn read_ampersand(text: &[u8], at: usize) -> Result<(Token, usize), ShellFault>
     }
 }
 
-/// A bar at `at`: two of them are a joint, one may be a token too; and the place after it.
+/// Reads the token that begins with the `|` at offset `at`: `||`, or a lone bar if those are allowed. Returns it and
+/// the offset after it.
 fn read_bar(text: &[u8], at: usize, lone_bars: bool) -> Result<(Token, usize), ShellFault>
     requires { at < length text.now }
     ensures value { Gives (λ r. (r.0, r.1)) result (bar_at lone_bars at (drop (at + 1) text.now)) }
@@ -77,7 +78,7 @@ fn read_bar(text: &[u8], at: usize, lone_bars: bool) -> Result<(Token, usize), S
     }
 }
 
-/// The word at `at`, where no blank and no operator is; and the place after it.
+/// Reads the word at offset `at`, where no blank and no operator begins. Returns it and the offset after it.
 fn read_word_at(alloc: Global, text: &[u8], at: usize) -> Result<(Token, usize), ShellFault>
     requires within { at < length text.now }
     requires word { ends_word (slice_index text.now at) ≡ false }
@@ -89,8 +90,8 @@ fn read_word_at(alloc: Global, text: &[u8], at: usize) -> Result<(Token, usize),
     Ok((Token::Word(Word::from_parts(parts)), behind))
 }
 
+/// Reads the token at offset `at`, where no space begins. Returns it and the offset after it.
 #[tactic(auto, unfolding(crate::specs::Cut::token_at))]
-/// The token at `at`, where no space is; and the place after it.
 fn read_token(
     alloc: Global,
     text: &[u8],
@@ -111,7 +112,7 @@ fn read_token(
     }
 }
 
-/// All of a text, cut into tokens. A bar alone is refused unless `lone_bars`.
+/// Splits a whole text into tokens. A lone bar is an error unless `lone_bars` is set.
 pub(crate) fn read_tokens(
     alloc: Global,
     text: &[u8],

@@ -8,7 +8,7 @@ use crate::part::Part;
 use deftable::{Bytes, Vars};
 use std::alloc::{AllocError, Global};
 
-/// Appends a variable's value to `out`: nothing, if it is unset.
+/// Appends a variable's value to `out`, or nothing if the variable is unset.
 fn push_variable(out: &mut Vec<u8>, name: &Bytes, vars: &Vars) -> Result<(), AllocError>
     ensures { OnOk result (out.new.items ≡ out.old.items ++ part_value vars.now (Variable name.now)) }
 {
@@ -36,7 +36,7 @@ fn push_value(out: &mut Vec<u8>, part: &Part, vars: &Vars) -> Result<(), AllocEr
     }
 }
 
-/// The values of the parts, joined.
+/// Returns the values of the parts, joined.
 pub(crate) fn value_of_parts(
     alloc: Global,
     parts: &[Part],

@@ -22,7 +22,7 @@ use deftable::{Bytes, Vars};
 use std::alloc::{AllocError, Global};
 use std::marker::Model;
 
-/// A shell word that was read: contracts see the list of its parts.
+/// A shell word. In contracts, its value is the list of its parts.
 #[derive(Debug, Drop)]
 pub struct Word {
     parts: Vec<Part>,
@@ -43,7 +43,7 @@ fn are_blanks(text: &[u8]) -> bool
     text.iter().all(|b| is_blank(*b))
 }
 
-/// Whether bare text is parted before `rest`.
+/// Returns whether a word at the front of bare text may end before `rest`: `rest` is empty, or begins with a blank or `;`.
 fn is_parted(rest: &[u8]) -> bool
     ensures { result ≡ is_parted rest.now }
 {
@@ -103,47 +103,52 @@ fn read_front_word(alloc: Global, text: &[u8]) -> Result<(Word, usize), ShellFau
     }
 }
 
-/// Reads a text that is one word, and then blanks or nothing (POSIX shell, 2.2 and 2.3).
+/// Reads a text that is one word, followed by blanks or nothing (POSIX shell, 2.2 and 2.3).
 ///
 /// # Errors
 ///
-/// Returns [`ShellFault::BadWord`] with the place of the first of these:
+/// Returns [`ShellFault::BadWord`] with the offset of the first of these:
 ///
 /// - a backquote that no backslash and no single quote quotes;
 /// - a `$` that a shell expands and that begins neither `$name` nor `${name}`;
-/// - outside quotes, one of `;`, `&`, `|`, `<`, `>`, `(` and `)`, or a blank with more than blanks after it;
+/// - outside quotes, one of `;`, `&`, `|`, `<`, `>`, `(` and `)`, or a blank that is followed by anything but blanks;
 /// - the end of the text, if a quote is open there.
-///
-/// Returns [`ShellFault::OutOfMemory`] if memory runs out.
 pub fn read_word(alloc: Global, text: &[u8]) -> Result<Word, ShellFault>
-    // The reading, as a function of the text.
+    // The result as one function of the text.
     ensures exact { Gives (λ w. w) result (word_of text.now) }
-    // What is read is there.
-    ensures found { IfOk result (IsWord text.now) }
-    // A word is read, unless memory runs out.
-    ensures only { (parts : List Part) → IsWord text.now parts → Gives (λ w. w) result (Ok parts) }
-    // What is refused is no word, and is at fault there.
-    ensures refused { IfErr result (IsRefusal (IsBadWord text.now)) }
+    // If parts are returned, they are those of the word.
+    ensures sound { IfOk result (IsWord text.now) }
+    // If the text is a word, its parts are returned unless memory runs out.
+    ensures complete { (parts : List Part) → IsWord text.now parts → Gives (λ w. w) result (Ok parts) }
+    // If an error is returned, the text isn't a word because of the byte at that offset, or memory ran out.
+    ensures error_sound { IfErr result (IsRefusal (IsBadWord text.now)) }
     ensures fault { IfErr result (IsWordFault (length text.now)) }
 {
     read_whole(alloc, text)
 }
 
-/// Reads the word at the front of bare text, and returns its length too. The word ends at the end of the text or before
-/// the first blank or `;` outside quotes. It may be empty.
+/// Reads the word at the front of bare text, and returns it with its length (POSIX shell, 2.2 and 2.3; that other
+/// operators are rejected is own).
+///
+/// The word ends at the end of the text or before the first blank or `;` outside quotes. It may be empty. The text
+/// after the word isn't read.
 ///
 /// # Errors
 ///
-/// Returns [`ShellFault::BadWord`] with the place of the first of these: a backquote or a `$` that [`read_word`] refuses
-/// too; outside quotes, one of `&`, `|`, `<`, `>`, `(` and `)`; the end of the text, if a quote is open there. What
-/// follows the word is not read.
+/// Returns [`ShellFault::BadWord`] with the offset of the first of these:
 ///
-/// Returns [`ShellFault::OutOfMemory`] if memory runs out.
+/// - a backquote or a `$` that is an error of [`read_word`];
+/// - outside quotes, one of `&`, `|`, `<`, `>`, `(` and `)`;
+/// - the end of the text, if a quote is open there.
 pub fn read_word_front(alloc: Global, text: &[u8]) -> Result<(Word, usize), ShellFault>
+    // The result as one function of the text.
     ensures exact { Gives (λ r. (r.0, r.1)) result (word_front_of text.now) }
-    ensures found { IfOk result (λ r. IsWordFront text.now r.0 r.1) }
-    ensures only { (parts : List Part) (n : ℕ) → IsWordFront text.now parts n → Gives {Y = List Part × ℕ} (λ r. (r.0, r.1)) result (Ok (parts, n)) }
-    ensures refused { IfErr result (IsRefusal (IsBadFront text.now)) }
+    // If a word is returned, it is at the front of the text, with this length.
+    ensures sound { IfOk result (λ r. IsWordFront text.now r.0 r.1) }
+    // If a word is at the front of the text, it is returned unless memory runs out.
+    ensures complete { (parts : List Part) (n : ℕ) → IsWordFront text.now parts n → Gives {Y = List Part × ℕ} (λ r. (r.0, r.1)) result (Ok (parts, n)) }
+    // If an error is returned, no word is at the front because of the byte at that offset, or memory ran out.
+    ensures error_sound { IfErr result (IsRefusal (IsBadFront text.now)) }
     ensures within { IfOk result (λ r. r.1 ≤ length text.now) }
     ensures fault { IfErr result (IsWordFault (length text.now)) }
 {
@@ -151,7 +156,7 @@ pub fn read_word_front(alloc: Global, text: &[u8]) -> Result<(Word, usize), Shel
 }
 
 impl Word {
-    /// The word without any part, whose value is empty. It takes no memory.
+    /// Returns the word without any part, whose value is empty. It doesn't allocate.
     pub fn empty(alloc: Global) -> Word
         ensures { result ≡ [] }
     {
@@ -166,21 +171,22 @@ impl Word {
         Word { parts }
     }
 
-    /// The parts of the word, in order.
+    /// Returns the parts of the word, in order.
     pub fn parts(&self) -> &[Part]
         ensures { result.now ≡ self.now }
     {
         self.parts.as_slice()
     }
 
-    /// Whether the word is constant, and is this text.
+    /// Returns whether the word is constant and equals this text.
     pub(crate) fn is(&self, text: &[u8]) -> bool
         ensures { result ≡ word_is self.now text.now }
     {
         are_bytes(&self.parts, text)
     }
 
-    /// The word with the values of its variables. An unset variable is empty, and a value is never read again or split.
+    /// Returns the word with each variable replaced by its value (POSIX shell, 2.6.2; that a value is never split is
+    /// own). An unset variable is empty, and a value is never read again.
     pub fn value(&self, alloc: Global, vars: &Vars) -> Result<Bytes, AllocError>
         ensures { IfOk result (λ v. v ≡ word_value self.now vars.now) }
     {

@@ -1,9 +1,10 @@
 //! Forms of arguments, and the text between calls.
 
 use crate::rows::{Call, bracketed, differences, printed, put_number, put_text, yes_or_no};
+use acargs::ParseFault;
 use acargs::arguments::{arg_at, is_given, line, name, text, title};
 use acargs::fault::{quote_fault, shell_fault};
-use acargs::feature::{feature_variable, is_feature, option_variable};
+use acargs::feature::feature_variable;
 use acargs::helping::{help, sole_call};
 use acargs::idle::is_idle;
 use acargs::inside::{call_items, inside};
@@ -12,12 +13,12 @@ use acargs::outputs::outputs;
 use acargs::program::{program, programs, source_text};
 use acargs::shell::{here_text, patterns, test, word};
 use acargs::stand::{NO_EDGE, edge_of, is_statement};
-use acargs::{Help, HelpList, Name, OptionKind, Output, Outputs, ParseFault};
-use deftable::{Bytes, Vars};
+use deftable::{Bytes, Name, Vars};
 use m4quote::{Arg, Item, QuoteFault, read_items};
 use shellword::{Part, ShellFault};
 use std::alloc::{AllocError, Global};
 use std::test::Fail;
+use syntax::{Help, HelpList, OptionKind, Output, Outputs, is_feature, option_variable};
 
 /// An argument at the front of a source.
 fn arg<'a>(text: &'a [u8]) -> Arg<'a> {
@@ -443,20 +444,26 @@ fn put_outputs(out: &mut Vec<u8>, outputs: &[Output]) -> Result<(), AllocError> 
     Ok(())
 }
 
-/// The files that an argument names after the file `old`.
+/// The files that an argument names after the file `old` and the header `header`.
 struct NamedFiles;
 
-fn old_file(alloc: Global) -> Result<Outputs, AllocError> {
+fn one_output(alloc: Global, name: &[u8]) -> Result<Outputs, AllocError> {
     let mut files = Outputs::new(alloc);
-    let name = Bytes::from_slice(alloc, b"old")?;
+    let name = Bytes::from_slice(alloc, name)?;
     let template = Bytes::from_slice(alloc, b"old.in")?;
     files.push(Output { name, template })?;
     Ok(files)
 }
 
+fn named_outputs(alloc: Global, given: &[u8]) -> Result<Outputs, ParseFault> {
+    let own = one_output(alloc, b"old")?;
+    let other = one_output(alloc, b"header")?;
+    outputs(alloc, &own, &other, arg(given))
+}
+
 impl Call for NamedFiles {
     fn answer(&self, alloc: Global, given: &[u8]) -> Result<Vec<u8>, AllocError> {
-        match outputs(alloc, &old_file(alloc)?, arg(given)) {
+        match named_outputs(alloc, given) {
             Ok(files) => {
                 let mut out = Vec::new(alloc);
                 put_number(alloc, &mut out, files.len())?;
@@ -470,7 +477,8 @@ impl Call for NamedFiles {
 
 #[test]
 fn files(rt: HostRuntime) -> Result<(), Fail> {
-    let rows = "[a b:c] => 2 a:a.in b:c\n[old] => 5 at 0\n[a a] => 5 at 0\n[ ] => 5 at 0";
+    let rows =
+        "[a b:c] => 2 a:a.in b:c\n[old] => 5 at 0\n[header] => 5 at 0\n[a a] => 5 at 0\n[ ] => 5 at 0";
     let found = differences(rt.alloc(), &NamedFiles, rows)?;
     assert_eq!(rt; found.as_str(), "");
     Ok(())
@@ -478,7 +486,7 @@ fn files(rt: HostRuntime) -> Result<(), Fail> {
 
 /// A list of files to which those of another are added, and one more.
 fn added_files(alloc: Global) -> Result<Vec<u8>, AllocError> {
-    let old = old_file(alloc)?;
+    let old = one_output(alloc, b"old")?;
     let mut files = Outputs::new(alloc);
     let mut out = yes_or_no(alloc, files.is_empty())?;
     files.push_copies(alloc, old.as_slice())?;

@@ -1,7 +1,7 @@
 //! Command lines and help texts. The crate `cases` has the table of arguments, one by one.
 
 use crate::rows::{Call, differences, printed, put_number, put_text};
-use acargs::{Help, HelpList, ParseFault};
+use acargs::ParseFault;
 use acparse::{Source, parse};
 use deftable::{Bytes, SubstList, Vars, is_shell_name};
 use options::{
@@ -9,6 +9,7 @@ use options::{
 };
 use std::alloc::{AllocError, Global};
 use std::test::Fail;
+use syntax::{Help, HelpList};
 use textcut::parts;
 
 // ---- the calls, in functions without their contracts

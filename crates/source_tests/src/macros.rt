@@ -1,19 +1,17 @@
-//! The table of macros and their readers. What is known after a statement, `note` and `note_question`, shows in the lists
+//! The table of macros and their readers. What statements declare, `declare` and `declare_question`, shows in the lists
 //! of a source (`sources`): their contracts would make each function that calls them slow to prove.
 
 use crate::rows::{Call, differences, printed, put_number, put_text, yes_or_no};
 use acargs::ParseFault;
-use acmacros::macros::{look_up, macro_named, takes};
+use acmacros::placement::{as_statement, bare_fault, check_place};
 use acmacros::rows::{plain, question};
-use acmacros::scene::{as_statement, bare_fault, check_place};
-use acmacros::{
-    Macro, Named, Plain, PlainMacro, Program, ProgramNames, Question, QuestionMacro, Scene, Stage,
-    Try,
-};
+use acmacros::table::{row_named, takes};
+use acmacros::{Macro, Named, PlainMacro, QuestionMacro};
 use deftable::Bytes;
 use m4quote::{Arg, Item, read_items};
 use std::alloc::{AllocError, Global};
 use std::test::Fail;
+use syntax::{Declarations, Plain, Program, ProgramNames, Question, Stage, Try};
 
 // ---- the table
 
@@ -31,12 +29,11 @@ struct Names;
 impl Call for Names {
     fn answer(&self, alloc: Global, name: &[u8]) -> Result<Vec<u8>, AllocError> {
         let mut out = Vec::new(alloc);
-        let Some(named) = macro_named(name) else {
+        let Some(row) = row_named(name) else {
             return Ok(out);
         };
-        put_named(alloc, &mut out, named)?;
-        if let Named::Statement(m) = named {
-            let row = look_up(m);
+        put_named(alloc, &mut out, row.named)?;
+        if let Named::Statement(_) = row.named {
             out.push(b' ')?;
             put_number(alloc, &mut out, row.least)?;
             out.extend_from_slice(b" to ")?;
@@ -78,10 +75,10 @@ fn takes_its_own(alloc: Global, items: &[Item<'_>]) -> Result<Option<bool>, Allo
     let Some(Item::Call { name, args, .. }) = items.first() else {
         return Ok(None);
     };
-    let Some(named) = macro_named(name) else {
+    let Some(row) = row_named(name) else {
         return Ok(None);
     };
-    Ok(Some(takes(alloc, named, args.as_slice())?))
+    Ok(Some(takes(alloc, row, args.as_slice())?))
 }
 
 /// Whether a call has arguments that its macro takes.
@@ -144,11 +141,17 @@ impl Place {
 
 /// Whether a call of this name, or a word that names no macro, may stand there.
 fn allowed(place: &Place, name: &[u8]) -> Result<(), ParseFault> {
-    let Some(named) = macro_named(name) else {
+    let Some(row) = row_named(name) else {
         return Err(bare_fault(place.stage(), 3));
     };
-    let m = as_statement(place.stage(), 3, named)?;
-    check_place(!matches!(place, Place::Inside), place.stage(), m, 3)
+    let m = as_statement(place.stage(), 3, row.named)?;
+    check_place(
+        !matches!(place, Place::Inside),
+        place.stage(),
+        row.top,
+        m,
+        3,
+    )
 }
 
 impl Call for Place {
@@ -244,28 +247,28 @@ fn put_asked(out: &mut Vec<u8>, asked: &Question) -> Result<(), AllocError> {
 
 fn read_plain(
     alloc: Global,
-    scene: &Scene,
+    known: &Declarations,
     m: PlainMacro,
     at: usize,
     args: &[Arg<'_>],
 ) -> Result<Plain, ParseFault> {
-    plain(alloc, scene, m, at, args)
+    plain(alloc, known, m, at, args)
 }
 
 fn read_question(
     alloc: Global,
-    scene: &Scene,
+    known: &Declarations,
     m: QuestionMacro,
     args: &[Arg<'_>],
 ) -> Result<Question, ParseFault> {
-    question(alloc, scene, m, args)
+    question(alloc, known, m, args)
 }
 
-/// What is known where the first call after AC_INIT stands.
-fn open_scene(alloc: Global) -> Scene {
-    let mut scene = Scene::new(alloc);
-    scene.stage = Stage::Open;
-    scene
+/// The declarations after AC_INIT alone.
+fn opened(alloc: Global) -> Declarations {
+    let mut known = Declarations::new(alloc);
+    known.stage = Stage::Open;
+    known
 }
 
 /// The word for a statement, and the programs that it looks for.
@@ -287,19 +290,19 @@ fn plain_call(
     at: usize,
     args: &[Arg<'_>],
 ) -> Result<Vec<u8>, AllocError> {
-    let scene = match m {
-        PlainMacro::Init => Scene::new(alloc),
-        _ => open_scene(alloc),
+    let known = match m {
+        PlainMacro::Init => Declarations::new(alloc),
+        _ => opened(alloc),
     };
-    match read_plain(alloc, &scene, m, at, args) {
+    match read_plain(alloc, &known, m, at, args) {
         Ok(statement) => told_plain(alloc, &statement),
         Err(fault) => printed(alloc, &fault),
     }
 }
 
 fn question_call(alloc: Global, m: QuestionMacro, args: &[Arg<'_>]) -> Result<Vec<u8>, AllocError> {
-    let scene = open_scene(alloc);
-    match read_question(alloc, &scene, m, args) {
+    let known = opened(alloc);
+    match read_question(alloc, &known, m, args) {
         Ok(asked) => told_question(alloc, &asked),
         Err(fault) => printed(alloc, &fault),
     }
@@ -310,7 +313,7 @@ fn first_call(alloc: Global, items: &[Item<'_>]) -> Result<Vec<u8>, AllocError> 
     let Some(Item::Call { name, args, at }) = items.first() else {
         return Vec::from_slice(alloc, b"no call");
     };
-    match macro_named(name) {
+    match row_named(name).map(|row| row.named) {
         Some(Named::Statement(Macro::Plain(m))) => plain_call(alloc, m, *at, args.as_slice()),
         Some(Named::Statement(Macro::Question(m))) => question_call(alloc, m, args.as_slice()),
         _ => Vec::from_slice(alloc, b"another macro"),
@@ -361,20 +364,20 @@ fn readers(rt: HostRuntime) -> Result<(), Fail> {
 }
 
 /// Whether nothing is known, and AC_INIT is still to come.
-fn is_first(scene: &Scene) -> bool {
-    scene.stage == Stage::Before
-        && scene.substituted.names().is_empty()
-        && scene.precious.names().is_empty()
-        && scene.features.names().is_empty()
-        && scene.packages.names().is_empty()
-        && scene.help.as_slice().is_empty()
-        && scene.files.is_empty()
+fn is_first(known: &Declarations) -> bool {
+    known.stage == Stage::Before
+        && known.substituted.names().is_empty()
+        && known.precious.names().is_empty()
+        && known.features.names().is_empty()
+        && known.packages.names().is_empty()
+        && known.help.as_slice().is_empty()
+        && known.files.is_empty()
 }
 
 #[test]
-fn the_first_scene(rt: HostRuntime) {
-    let scene = Scene::new(rt.alloc());
-    assert!(rt; is_first(&scene));
+fn nothing_is_declared_at_first(rt: HostRuntime) {
+    let known = Declarations::new(rt.alloc());
+    assert!(rt; is_first(&known));
 }
 
 /// The names of a search of two programs.

@@ -36,14 +36,14 @@ fn put_help(out: &mut Vec<u8>, help: &[Help]) -> Result<(), AllocError> {
 
 /// Puts how many statements there are, and each list.
 fn put_source(alloc: Global, out: &mut Vec<u8>, source: &Source) -> Result<(), AllocError> {
-    put_number(alloc, out, source.statements.len())?;
-    put_names(out, &source.substituted)?;
-    put_names(out, &source.precious)?;
-    put_names(out, &source.features)?;
-    put_names(out, &source.packages)?;
-    put_help(out, source.help.as_slice())?;
+    put_number(alloc, out, source.statements().len())?;
+    put_names(out, source.substituted())?;
+    put_names(out, source.precious())?;
+    put_names(out, source.features())?;
+    put_names(out, source.packages())?;
+    put_help(out, source.help().as_slice())?;
     out.push(b';')?;
-    for file in source.files.as_slice() {
+    for file in source.files().as_slice() {
         put_text(out, file.name.as_slice())?;
         out.push(b':')?;
         put_text(out, file.template.as_slice())?;

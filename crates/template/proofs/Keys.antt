@@ -7,7 +7,7 @@ use Rattle.deftable.specs.Table.{value_of, with_entry, names_of}
 use Rattle.deftable.proofs.Tables.{All-with_entry, HasShellNames-with_entry, HasShellNames-[]}
 use Rattle.template.specs.Keys.{AreUpTo, AllPass, Passes, longest_of}
 
--- a text for which a fact of every key does not hold is no key
+-- a text for which a property of every key doesn't hold isn't a key
 none-of : (P : List ℕ → Type 0) (es : List (List ℕ × List ℕ)) (k : List ℕ) → AllByRecursion P (names_of es) → (P k → ⊥) → value_of es k ≡ None
 unfolding value_of
 none-of P [] k h against = refl

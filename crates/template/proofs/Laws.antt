@@ -83,7 +83,7 @@ module _ (es : List (List ℕ × List ℕ)) where
 
   -- ---- the relation
 
-  -- what a search for the first `@` answers stands before one
+  -- the result of a search for the first `@` ends before one
   before_at-front : (s k : List ℕ) → before_at s ≡ Some k → (t : List ℕ) × (s ≡ k ++ at_sign ∷ t)
   unfolding before_at
   before_at-front [] k h = absurd cc
@@ -112,7 +112,7 @@ module _ (es : List (List ℕ × List ℕ)) where
             (ap (λ x. Some x) name_is, ap (value_of es) (sym name_is) ∙ is ∙ ap (λ x. Some x) value_is)
       ] refl h
 
-  -- what stands at the front of a text that begins with a key
+  -- the front of a text that begins with a key
   record Front (b : ℕ) (bs k v : List ℕ) : Type 0 where
     rest : List ℕ
     opens : b ≡ at_sign
@@ -156,7 +156,7 @@ and_second : (a b : Bool) → a && b ≡ true → b ≡ true
 and_second true b h = h
 and_second false b h = absurd cc
 
--- a byte of a name is no `@`
+-- a byte of a name isn't `@`
 no_at_byte : (b : ℕ) → continues_name b ≡ true → (b == at_sign) ≡ false
 no_at_byte b h =
     elim (b == at_sign) as (λ x. (b == at_sign) ≡ x → x ≡ false) [
@@ -197,7 +197,7 @@ module _ (es : List (List ℕ × List ℕ)) (names : HasShellNames es) where
   key-HasNoAt : (k v : List ℕ) → value_of es k ≡ Some v → HasNoAt k
   key-HasNoAt k v is = IsShellName-HasNoAt k (value_of-IsShellName es k v names is)
 
-  -- no other text stands in the relation than the function's
+  -- only the function's text satisfies the relation
   pub Fills-only : (text made : List ℕ) → Fills es text made → made ≡ filled es text
   Fills-only [] [] nothing = sym (filled-[] es)
   Fills-only text made (key k v {rest = rest} {made = later} is r) = ap (λ x. v ++ x) (Fills-only rest later r) ∙ sym (filled-key es k rest v (key-HasNoAt k v is) is)
@@ -225,7 +225,7 @@ module _ (es : List (List ℕ × List ℕ)) (names : HasShellNames es) where
             subst (λ x. Fills es x (p.1 ++ filled_behind es (suc (length p.0)) bs)) (sym (ap (λ x. x ∷ bs) w.opens ∙ ap (λ x. at_sign ∷ x) w.follows)) (key p.0 p.1 w.is_key later)
       ] refl
 
-  -- the function's text stands in the relation
+  -- the function's text satisfies the relation
   pub filled-Fills : (text : List ℕ) → Fills es text (filled es text)
   filled-Fills text = Fills-behind text zero
 

@@ -6,7 +6,7 @@ use Rattle.std.proofs.lemmas.List.Sums.{suffix_len_is}
 use Rattle.memchr.specs.Find.{Nowhere, Passes, is_byte}
 use Rattle.template.specs.Place.{is_slash, up}
 
--- one folder more
+-- one directory more
 pub up_more : (n : ℕ) → 0 < n → up (n + 1) ≡ up n ++ codes "/.."
 unfolding up
 up_more zero h = absurd (omega arith)
@@ -31,7 +31,7 @@ negated false h = refl
 not_slash_behind : (file : List ℕ) (k : ℕ) → Nowhere (Passes (is_byte 47) file) (k + 1) (length file) → (j : ℕ) → k + 1 ≤ j → j < length file → not (is_slash (get_or file j 0)) ≡ true
 not_slash_behind file k h j low high = negated (is_slash (get_or file j 0)) (h j low high)
 
--- how many bytes stand behind the last slash
+-- the number of bytes after the last slash
 behind_slash : (file : List ℕ) (k : ℕ) → k < length file → Passes (is_byte 47) file k → Nowhere (Passes (is_byte 47) file) (k + 1) (length file) → suffix_len (λ b. not (is_slash b)) file ≡ length file - (k + 1)
 behind_slash file k inside here behind =
     suffix_len_is (λ b. not (is_slash b)) file (k + 1) 0 (omega arith) (not_slash_behind file k behind)

@@ -1,4 +1,4 @@
--- What a sieve lets through after a text was added.
+-- What a sieve accepts after a text was added.
 use Rattle.std.proofs.Common.{◌≡◌, ◌≢◌, ℕ, ◌*◌, ◌%◌, ◌^◌, ◌<◌, List, length, get_or, set, true, false, eqb, bit_or, refl, sym, ◌∙◌, ap, subst, w64, eqb-true, eq-eqb, get_or-set_same, get_or-set_other}
 use Rattle.std.specs.Int.{bit_at}
 use Rattle.std.proofs.lemmas.Nat.Bits.{bit_at_set_same}

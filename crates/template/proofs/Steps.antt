@@ -30,14 +30,14 @@ at_first text last at lt is =
     ap (λ n. take n (drop last text)) long ∙ ap (λ t. take (suc (at - (last + 1))) t) is
 
 module _ (es : List (List ℕ × List ℕ)) (text : List ℕ) where
-  -- a stretch that fills to itself is held too
+  -- a stretch that fills to itself becomes pending too
   further : (made : List ℕ) (start last at : ℕ) → start ≤ last → last ≤ at → filled es (drop last text) ≡ slice_range text last at ++ filled es (drop at text)
       → made ++ (slice_range text start last ++ filled es (drop last text)) ≡ made ++ (slice_range text start at ++ filled es (drop at text))
   further made start last at le le2 is =
       ap (λ t. made ++ (slice_range text start last ++ t)) is
       ∙ ap (λ t. made ++ t) (sym (append_assoc (slice_range text start last) (slice_range text last at) (filled es (drop at text))) ∙ ap (λ t. t ++ filled es (drop at text)) (joined start last at text le le2))
 
-  -- what is held is written
+  -- pending text is written
   written : (made : List ℕ) (start last : ℕ)
       → (made ++ slice_range text start last) ++ (slice_range text last last ++ filled es (drop last text)) ≡ made ++ (slice_range text start last ++ filled es (drop last text))
   written made start last =
@@ -47,7 +47,7 @@ module _ (es : List (List ℕ × List ℕ)) (text : List ℕ) where
   plain : (last at : ℕ) → last ≤ at → HasNoAt (slice_range text last at) → filled es (drop last text) ≡ slice_range text last at ++ filled es (drop at text)
   plain last at le clean = ap (filled es) (cut last at text le) ∙ filled-plain es (slice_range text last at) (drop at text) clean
 
-  -- the text from an open `@` on, where the next one is known
+  -- the text from an open `@` on, if the next one is given
   between : (last at : ℕ) → last < at → HasAt text last → HasAt text at → drop last text ≡ at_sign ∷ (slice_range text (last + 1) at ++ at_sign ∷ drop (at + 1) text)
   between last at lt is there =
       is ∙ ap (λ t. at_sign ∷ t) (cut (last + 1) at text (omega arith) ∙ ap (λ t. slice_range text (last + 1) at ++ t) there)
@@ -76,7 +76,7 @@ module _ (es : List (List ℕ × List ℕ)) (text : List ℕ) where
     whole = sym (further made start last at h.ordered next.low (plain last at next.low next.clean)) ∙ h.whole;
   }
 
-  -- what is held up to an open `@` is written
+  -- the pending text up to an open `@` is written
   pub comes_written : (made later : List ℕ) (start last : ℕ) → HasComeTo es text made start last true → later ≡ made ++ slice_range text start last → HasComeTo es text later last last true
   comes_written made later start last h is = record {
     ordered = omega arith;

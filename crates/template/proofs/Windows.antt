@@ -1,4 +1,4 @@
--- What the windows on a text say of the `@` in it.
+-- What the windows on a text say about the `@` in it.
 use Rattle.std.proofs.Common.{◌≡◌, ◌≢◌, ◌↔◌, ℕ, suc, ◌+◌, ◌-◌, ◌<◌, ◌≤◌, List, [], ◌∷◌, ◌++◌, Bool, true, false, cond, eqb, map, length, drop, take, get_or, length-take, add-one, arith, refl, sym, ◌∙◌, ap, subst, eqb-true, eq-eqb}
 use borrow.Author.Tests.{ltb-true, ltb-false}
 use Rattle.std.specs.Prelude.{ltb, slice_range, Option, Some, None, IfSome, IfNone}
@@ -59,7 +59,7 @@ IsWindow-start text = record {
 }
 
 module _ (text : List ℕ) (base end marks from : ℕ) (w : IsWindow text base end marks from) where
-  -- what is before a place whose marks are not set
+  -- the text before an offset whose marks aren't set
   clear_below : (at : ℕ) → at ≤ end → ((j : ℕ) → j < 64 → base + j < at → bit_at marks j ≡ 1 → ⊥) → IsClear text from at
   clear_below at le unset k low high is =
       elim (ltb k base) as (λ b. ltb k base ≡ b → ⊥) [
@@ -140,7 +140,7 @@ module _ (text : List ℕ) (base end marks from : ℕ) (w : IsWindow text base e
               | false ↦ λ e. omega (arith, ltb-false k bit e)
             ] refl
 
--- ---- what a search answers
+-- ---- the result of a search
 
 pub IfSome-weaker : {X : Type 0} (P Q : X → Type 0) → ((x : X) → P x → Q x) → (r : Option X) → IfSome r P → IfSome r Q
 IfSome-weaker P Q f None h = tt

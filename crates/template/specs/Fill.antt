@@ -1,14 +1,14 @@
--- A template with the keys of a table filled in (manual, "Setting Output Variables"; that a value is not read again is own).
--- A table is the list of its entries, a key and its value each.
+-- A template with the keys of a table filled in (Autoconf's manual, "Setting Output Variables"; that a value isn't read
+-- again is own). A table is the list of its entries, a key and a value each.
 use Rattle.std.specs.Prelude.{◌≡◌, ℕ, zero, suc, ◌==◌, List, [], ◌∷◌, ◌++◌, Option, Some, None, length, option_map, option_and_then, if◌then◌else◌}
 use Rattle.std.specs.Option.{option_map_or}
 use Rattle.deftable.specs.Table.{value_of}
 
--- the byte `@`
+-- the byte `@` (Autoconf's manual, "Setting Output Variables")
 abbrev pub at_sign : ℕ
 at_sign = 64
 
--- the text begins with a key between two `@`
+-- the text begins with a key between two `@` (Autoconf's manual, "Setting Output Variables")
 pub record BeginsWithKey (es : List (List ℕ × List ℕ)) (text : List ℕ) : Type 0 where
   pub key : List ℕ
   pub value : List ℕ
@@ -16,8 +16,9 @@ pub record BeginsWithKey (es : List (List ℕ × List ℕ)) (text : List ℕ) : 
   pub is_key : value_of es key ≡ Some value
   pub front : text ≡ at_sign ∷ (key ++ at_sign ∷ rest)
 
--- The second text is the first one filled. Nothing is filled with nothing. Where the text begins with a key between two
--- `@`, the key's value stands, and then what follows is filled. Elsewhere the first byte stands, and then the rest is filled.
+-- The second text is the first one filled. The empty text remains empty. If the text begins with a key between two `@`,
+-- they are replaced by the key's value, and the rest is filled. Otherwise the first byte is copied, and the rest is
+-- filled. (Autoconf's manual, "Setting Output Variables")
 pub data Fills (es : List (List ℕ × List ℕ)) : List ℕ → List ℕ → Type 0 where
   nothing : Fills es [] []
   key : (k v : List ℕ) {rest made : List ℕ} → value_of es k ≡ Some v → Fills es rest made → Fills es (at_sign ∷ (k ++ at_sign ∷ rest)) (v ++ made)
@@ -25,27 +26,27 @@ pub data Fills (es : List (List ℕ × List ℕ)) : List ℕ → List ℕ → Ty
 
 -- ---- the same as a function
 
--- the bytes before the first `@`, where there is one
+-- the bytes before the first `@`, if there is one (own)
 unfoldable pub before_at : List ℕ → Option (List ℕ)
 before_at [] = None
 before_at (b ∷ bs) = if b == at_sign then Some [] else option_map (λ k. b ∷ k) (before_at bs)
 
--- a key with its value, where the name is one
+-- a key with its value, if the name is a key (own)
 abbrev pub entry_of : List (List ℕ × List ℕ) → List ℕ → Option (List ℕ × List ℕ)
 entry_of es k = option_map (λ v. (k, v)) (value_of es k)
 
--- the key between two `@` at the front of the text, with its value
+-- the key between two `@` at the front of the text, with its value, if there is one (own)
 unfoldable pub key_at_front : List (List ℕ × List ℕ) → List ℕ → Option (List ℕ × List ℕ)
 key_at_front es [] = None
 key_at_front es (b ∷ bs) = if b == at_sign then option_and_then (entry_of es) (before_at bs) else None
 
--- the text filled from behind its first bytes on, which are those of a key that is written already
+-- the filled text after the first n bytes, which belong to a key that is already replaced (own)
 unfoldable pub filled_behind : List (List ℕ × List ℕ) → ℕ → List ℕ → List ℕ
 filled_behind es n [] = []
 filled_behind es (suc n) (b ∷ bs) = filled_behind es n bs
 filled_behind es zero (b ∷ bs) =
     option_map_or (λ p. p.1 ++ filled_behind es (suc (length p.0)) bs) (key_at_front es (b ∷ bs)) (b ∷ filled_behind es 0 bs)
 
--- the text filled
+-- the filled text (own)
 abbrev pub filled : List (List ℕ × List ℕ) → List ℕ → List ℕ
 filled es text = filled_behind es 0 text

@@ -1,29 +1,29 @@
--- What is written on the way from `@` to `@` of a template.
+-- The state of a filling between one `@` of a template and the next.
 use Rattle.std.specs.Prelude.{◌≡◌, ℕ, ◌+◌, ◌<◌, ◌≤◌, Bool, true, false, ◌==◌, List, ◌∷◌, ◌++◌, length, drop, slice_range, if◌then◌else◌}
 use Rattle.std.specs.List.{AllByRecursion}
 use Rattle.template.specs.Fill.{at_sign, filled}
 
--- no byte is `@`
+-- no byte is `@` (own)
 abbrev pub HasNoAt : List ℕ → Type 0
 HasNoAt s = AllByRecursion (λ b. (b == at_sign) ≡ false) s
 
--- the byte at this place is `@`
+-- the byte at this offset is `@` (own)
 abbrev pub HasAt : List ℕ → ℕ → Type 0
 HasAt text at = drop at text ≡ at_sign ∷ drop (at + 1) text
 
--- the first `@` from a place on is at another
+-- the first `@` from the offset `from` on is at the offset `at` (own)
 pub record HasNextAt (text : List ℕ) (from at : ℕ) : Type 0 where
   pub low : from ≤ at
   pub high : at < length text
   pub clean : HasNoAt (slice_range text from at)
   pub there : HasAt text at
 
--- how far the text has been read: an open `@` at the last place is read
+-- the offset up to which the text has been read: an open `@` at `last` has been read (own)
 abbrev pub read_to : ℕ → Bool → ℕ
 read_to last opened = if opened then last + 1 else last
 
--- A filling has come to the place `last`, at which an open `@` may be: what is written, then the text from `start` up to
--- `last` as it is, and then the rest filled, is the whole filled (own).
+-- A filling has come to the offset `last`, at which there may be an open `@`. The written text, then the text from
+-- `start` to `last` unchanged, and then the rest filled, are together the filled text. (own)
 pub record HasComeTo (es : List (List ℕ × List ℕ)) (text made : List ℕ) (start last : ℕ) (opened : Bool) : Type 0 where
   pub ordered : start ≤ last
   pub within : read_to last opened ≤ length text

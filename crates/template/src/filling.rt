@@ -1,4 +1,5 @@
-// Filling, from one `@` to the next. What is copied is written in runs, not stretch by stretch.
+//! Fills a template, from one `@` to the next. Adjacent pieces that are copied are written together.
+
 ghost use Rattle.std.specs.Prelude.{◌≡◌, ℕ, ◌+◌, ◌-◌, ◌^◌, ◌<◌, ◌≤◌, Some, None, true, List, length, slice_range, IfSome, IfNone, IfOk};
 ghost use Rattle.deftable.specs.Table.{value_of};
 ghost use Rattle.template.specs.Fill.{Fills, filled};
@@ -9,11 +10,11 @@ use crate::table::Table;
 use deftable::Bytes;
 use std::alloc::{AllocError, Global};
 
-// What is held is written once it is so long, while the processor's nearest cache has it.
+/// The length from which pending text is written, while the processor's first cache still contains it.
 const MOST_HELD: usize = 512;
 
-// How far a filling has come: what is before `start` is written, and the text from there up to `last` is to be copied. An `@`
-// at `last` is open if it may begin a key.
+/// The progress of a filling. The text before `start` is written, and the text from `start` to `last` is pending: it
+/// will be copied. If `opened` is set, an `@` is at `last` and may begin a key.
 #[derive(Clone, Copy, Debug)]
 struct Held {
     start: usize,
@@ -22,7 +23,7 @@ struct Held {
 }
 
 impl Held {
-    // How far the text has been read.
+    /// Returns the offset up to which the text has been read.
     fn read_to(self) -> usize
         requires { self.last < 2 ^ 64 - 1 }
         ensures { result ≡ read_to self.last self.opened }
@@ -35,13 +36,13 @@ impl Held {
     }
 }
 
-/// The template `text` with the keys of `table` filled in.
+/// Returns the template `text` with the keys of `table` filled in (Autoconf's manual, "Setting Output Variables").
 ///
-/// It fails only for want of memory. Its time is that of reading the text once, of writing what is made, and of at most one
-/// look into the table for each two neighbouring `@`, only if what is between them is no longer than the longest key. It
-/// reserves as many bytes as the text has, and more if what is made is longer.
+/// The time is that of reading the text once, of writing the result, and of at most one look-up in the table for each
+/// two neighbouring `@`. There is no look-up if the text between them is longer than the longest key. The result
+/// reserves as many bytes as the text has, and grows if it becomes longer.
 pub fn fill(alloc: Global, text: &[u8], table: &Table) -> Result<Vec<u8>, AllocError>
-    ensures found { IfOk result (λ v. Fills table.now text.now v.items) }
+    ensures sound { IfOk result (λ v. Fills table.now text.now v.items) }
     ensures exact { IfOk result (λ v. v.items ≡ filled table.now text.now) }
 {
     let mut made = Vec::with_capacity(alloc, text.len())?;
@@ -56,20 +57,23 @@ pub fn fill(alloc: Global, text: &[u8], table: &Table) -> Result<Vec<u8>, AllocE
         held = step(&mut made, text, table, held, at)?;
     }
     made.extend_from_slice(&text[held.start..])?;
+    // for the proof only
     has_one_filled_text(text, table);
     Ok(made)
 }
 
-/// The law that a template has exactly one filled text: the function `filled` gives one, and there is no other.
+/// States that a template has exactly one filled text: the one that the function `filled` gives.
 pub fn has_one_filled_text(text: &[u8], table: &Table)
     ensures some { Fills table.now text.now (filled table.now text.now) }
-    ensures only { (made : List ℕ) → Fills table.now text.now made → made ≡ filled table.now text.now }
+    ensures unique { (made : List ℕ) → Fills table.now text.now made → made ≡ filled table.now text.now }
 {
+    // for the proof only
     let _ = text;
     let _ = table.longest_key();
 }
 
-// Goes on to the next `@`: writes the value of the key that ends there, or holds the text up to it.
+/// Continues to the next `@`, which is at `at`. If a key ends there, writes its value. Otherwise the text up to there
+/// is pending.
 fn step(
     made: &mut Vec<u8>,
     text: &[u8],
@@ -103,7 +107,7 @@ fn step(
     })
 }
 
-// The value of the key between the open `@` and the next one, if it is a key.
+/// Returns the value of the key between the open `@` and the next one, or `None` if there is none.
 fn value_between<'a>(text: &[u8], table: &'a Table, held: Held, at: usize) -> Option<&'a Bytes>
     requires { HasNextAt text.now (read_to held.last held.opened) at }
     ensures value { IfSome result (λ x. value_of table.now (slice_range text.now (held.last + 1) at) ≡ Some x.now) }

@@ -1,17 +1,22 @@
-//! Templates: texts in which the names of output variables stand between two `@`, and their filling with values.
+//! Fills templates: texts in which `@KEY@` is replaced by the value of an output variable.
 //!
-//! [`fill`] writes the value of a key where `@KEY@` stands and copies all else. A value is not read again, so a value may
-//! hold an `@` or the name of another key. `specs/Fill.antt` says which text a filled template is, twice: as a relation by
-//! cases on the template's front, and as the one text that stands in that relation. Read `table`, then `filling`; its
-//! [`has_one_filled_text`] says that the two are the same. `signs` finds each `@` of a text, and `sieve` rules out most texts
-//! that are no key before they are looked up. `placing` has the variables that each output file has of its own: where it
-//! stands and what it is made from; `specs/Place.antt` says which they are.
+//! [`fill`] writes the value of a key for each `@KEY@`, and copies everything else. A value isn't read again, so it may
+//! contain an `@` or the name of another key.
 //!
 //! ```text
 //! let mut table = Table::new(alloc);
 //! table.set(b"CC", b"cc -O2")?;
 //! let made = fill(alloc, b"CC = @CC@ # not @nope@\n", &table)?; // CC = cc -O2 # not @nope@
 //! ```
+//!
+//! A call that returns a `Result` fails only if memory runs out, and no other call allocates. "own" marks a rule that
+//! no manual gives.
+//!
+//! Read `specs/Fill.antt` first. It defines the filled text of a template twice: as a relation, by cases on the
+//! template's front, and as a function. Then read `table` and `filling`; its [`has_one_filled_text`] says that the two
+//! definitions agree. `signs` finds each `@` of a text, and `sieve` rules out most texts that aren't keys before they
+//! are looked up. `placing` has the variables that differ between output files: the names of directories, and the name
+//! of the template. `specs/Place.antt` defines them.
 #![tactic(auto)]
 
 pub mod filling;

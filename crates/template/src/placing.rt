@@ -1,4 +1,4 @@
-//! What the variables of one output file are: where it stands, where its sources are from there, and what it is made from.
+//! The variables that differ between output files: the names of directories, and the name of the template.
 
 ghost use Rattle.std.specs.Prelude.{◌≡◌, ◌++◌, ◌<◌, IfOk, codes};
 ghost use Rattle.template.specs.Place as words;
@@ -8,26 +8,26 @@ use deftable::Bytes;
 use memchr::memrchr;
 use std::alloc::{AllocError, Global};
 
-/// The variables of one output file that name folders (manual, "Preset Output Variables").
+/// The variables of one output file that name directories (Autoconf's manual, "Preset Output Variables").
 ///
-/// All but an absolute one are to be used in the folder that the file stands in.
+/// A relative name is relative to the directory of the output file.
 #[derive(Debug, Drop)]
 pub struct Place {
-    /// The source folder that goes with the file's own folder.
+    /// The source directory that corresponds to the directory of the output file.
     pub srcdir: Bytes,
-    /// The top of the sources.
+    /// The top directory of the sources.
     pub top_srcdir: Bytes,
-    /// The file's own folder, which is always `.`.
+    /// The directory of the output file, which is always `.`.
     pub builddir: Bytes,
-    /// The top of the build.
+    /// The top directory of the build.
     pub top_builddir: Bytes,
 }
 
-/// Where the output file `file` stands, whose name has its folders with slashes behind them, and where its sources are from
-/// there. `srcdir` is the top of the sources, absolute or as seen from the top of the build. It fails only for want of
-/// memory.
+/// Returns the directory variables of the output file `file` (Autoconf's manual, "Preset Output Variables"). Its name is
+/// relative to the top directory of the build, with one slash after each directory.
 ///
-/// Nothing is made shorter: of `a/f` and `../s` the top of the sources is `../../s`.
+/// `srcdir` is the top directory of the sources, either absolute or relative to the top directory of the build. No name
+/// is simplified: for `a/f` and `../s`, the top directory of the sources is `../../s`.
 #[tactic(auto, unfolding(crate::specs::Place::place_of))]
 pub fn place_vars(alloc: Global, file: &[u8], srcdir: &[u8]) -> Result<Place, AllocError>
     ensures { IfOk result (λ place. place ≡ place_of file.now srcdir.now) }
@@ -44,8 +44,8 @@ pub fn place_vars(alloc: Global, file: &[u8], srcdir: &[u8]) -> Result<Place, Al
     })
 }
 
-/// What an output file says of where it comes from (manual, "Preset Output Variables"): `FILE.  Generated from TEMPLATE by
-/// configure.`, the template named without its folders. It fails only for want of memory.
+/// Returns the value of `configure_input`: `FILE.  Generated from TEMPLATE by configure.`, with the template's name
+/// without its directories (Autoconf's manual, "Preset Output Variables").
 #[tactic(auto, unfolding(crate::specs::Place::configure_input_of))]
 pub fn configure_input(alloc: Global, file: &[u8], template: &[u8]) -> Result<Bytes, AllocError>
     ensures { IfOk result (λ text. text ≡ configure_input_of file.now template.now) }
@@ -57,14 +57,14 @@ pub fn configure_input(alloc: Global, file: &[u8], template: &[u8]) -> Result<By
     Ok(Bytes::from_vec(text))
 }
 
-// How many folders the file stands in.
+/// Returns the number of directories in the file's name.
 fn folder_count(file: &[u8]) -> usize
     ensures { result ≡ words.folder_count file.now }
 {
     file.iter().filter(|byte| **byte == b'/').count()
 }
 
-// The folder that the file stands in, without the slash behind it.
+/// Returns the directory of the file, without the slash after it, or the empty text if it has none.
 fn folder_of(file: &[u8]) -> &[u8]
     ensures { result.now ≡ words.folder_of file.now }
 {
@@ -74,7 +74,7 @@ fn folder_of(file: &[u8]) -> &[u8]
     }
 }
 
-// The file's name without its folders.
+/// Returns the file's name without its directories.
 fn base_name(file: &[u8]) -> &[u8]
     ensures { result.now ≡ words.base_name file.now }
 {
@@ -84,7 +84,7 @@ fn base_name(file: &[u8]) -> &[u8]
     }
 }
 
-// The way up through so many folders.
+/// Returns the relative name of the directory that is n levels up.
 fn up(alloc: Global, folders: usize) -> Result<Vec<u8>, AllocError>
     ensures { IfOk result (λ way. way.items ≡ words.up folders) }
 {
@@ -98,7 +98,7 @@ fn up(alloc: Global, folders: usize) -> Result<Vec<u8>, AllocError>
     Ok(way)
 }
 
-// A folder's name as it is to be written in the folder of the file.
+/// Returns a directory's name, given relative to the top, as it is relative to the file's directory.
 #[tactic(auto, unfolding(crate::specs::Place::seen_from))]
 fn seen_from(alloc: Global, file: &[u8], folder: &[u8]) -> Result<Vec<u8>, AllocError>
     ensures { IfOk result (λ way. way.items ≡ words.seen_from file.now folder.now) }
@@ -116,7 +116,7 @@ fn seen_from(alloc: Global, file: &[u8], folder: &[u8]) -> Result<Vec<u8>, Alloc
     Ok(way)
 }
 
-// The source folder that goes with the file's folder.
+/// Returns the source directory that corresponds to the file's directory.
 #[tactic(auto, unfolding(crate::specs::Place::sources_beside))]
 fn sources_beside(alloc: Global, file: &[u8], srcdir: &[u8]) -> Result<Vec<u8>, AllocError>
     ensures { IfOk result (λ way. way.items ≡ words.sources_beside file.now srcdir.now) }

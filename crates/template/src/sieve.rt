@@ -1,12 +1,13 @@
-// Which texts may be keys, without a look-up.
+//! Rules out texts that can't be keys, without a look-up.
+
 ghost use Rattle.std.specs.Prelude.{◌≡◌, ℕ, List, [], ◌+◌, ◌<◌, ◌↔◌, ◌%◌, IsTrue};
 ghost use Rattle.template.specs.Keys.{Passes};
 ghost use Rattle.template.specs.Keys as keys;
 
 use std::marker::Model;
 
-// Lets through each text that was added, and few others: it has a bit for the first byte of a text together with its last byte
-// and its length.
+/// A set of texts that also accepts a few others. A text has one bit, which its first byte, its last byte and its
+/// length determine.
 #[derive(Debug, Drop)]
 pub(crate) struct Sieve {
     rows: [u64; 64],
@@ -23,7 +24,7 @@ impl Sieve {
         Sieve { rows: [0; 64] }
     }
 
-    // Lets the text through from now on.
+    /// Adds a text, which is accepted from then on.
     pub(crate) fn add(&mut self, text: &[u8])
         ensures added { Passes self.new text.now }
         ensures kept { (other : List ℕ) → Passes self.old other → Passes self.new other }
@@ -32,7 +33,7 @@ impl Sieve {
         self.rows[row] |= 1 << place_of(text);
     }
 
-    // Whether the text may be one of those that were added.
+    /// Returns whether the text may be one of those that were added.
     #[inline(always)]
     #[tactic(auto, unfolding(crate::specs::Keys::Passes))]
     pub(crate) fn lets_through(&self, text: &[u8]) -> bool

@@ -1,4 +1,5 @@
-// The places of each `@` of a text, one after another.
+//! Finds each `@` of a text, from left to right.
+
 ghost use Rattle.std.specs.Prelude.{◌≡◌, ◌≢◌, ◌↔◌, ℕ, ◌+◌, ◌<◌, ◌≤◌, length, IfSome, IfNone, slice_index, drop};
 ghost use Rattle.std.specs.Int.{bit_at};
 ghost use Rattle.template.specs.Hops.{HasNoAt, HasNextAt};
@@ -7,10 +8,10 @@ ghost use Rattle.template.specs.Marks.{IsWindow};
 use memchr::memchr;
 use std::simd::prelude::*;
 
-// How many bytes are looked at together.
+/// The number of bytes that are compared together.
 const WIDTH: usize = 64;
 
-// A part of the text, from `base` up to `end`: bit k of `marks` is set if an `@` that is still to be found is at `base + k`.
+/// The part of the text from `base` to `end`. Bit k of `marks` is set if an `@` that isn't found yet is at `base + k`.
 #[derive(Clone, Copy, Debug)]
 pub(crate) struct Window {
     pub(crate) base: usize,
@@ -19,7 +20,7 @@ pub(crate) struct Window {
 }
 
 impl Window {
-    // Nothing has been looked at.
+    /// Returns the empty window at the start of a text.
     pub(crate) fn new() -> Window
         ensures { result ≡ record { base = 0; end = 0; marks = 0 } }
     {
@@ -31,7 +32,7 @@ impl Window {
     }
 }
 
-// Returns the place of the first `@` from `from` on, and the window in which the next one is looked for.
+/// Returns the offset of the first `@` from `from` on, and the window in which the next one is searched for.
 #[inline(always)]
 pub(crate) fn next_sign(text: &[u8], window: Window, from: usize) -> Option<(usize, Window)>
     requires { IsWindow text.now window.base window.end window.marks from }
@@ -55,7 +56,7 @@ pub(crate) fn next_sign(text: &[u8], window: Window, from: usize) -> Option<(usi
     Some((window.base + bit, later))
 }
 
-// The same, if too few bytes are left for a window.
+/// Returns the same from `from` on, if fewer bytes are left than a window has.
 fn last_sign(text: &[u8], from: usize) -> Option<(usize, Window)>
     requires { from ≤ length text.now }
     ensures found { IfSome result (λ p. HasNextAt text.now from p.0) }
@@ -74,7 +75,7 @@ fn last_sign(text: &[u8], from: usize) -> Option<(usize, Window)>
     ))
 }
 
-// The next bytes of the text as a window.
+/// Returns the window of the bytes from `base` on.
 #[inline(always)]
 fn window_at(text: &[u8], base: usize) -> Window
     requires { base + 64 ≤ length text.now }
@@ -89,7 +90,7 @@ fn window_at(text: &[u8], base: usize) -> Window
     }
 }
 
-// Bit k is set if byte k is `@`.
+/// Returns marks in which bit k is set if byte k is `@`.
 #[inline(always)]
 fn marks(text: &[u8]) -> u64
     requires { 64 ≤ length text.now }
@@ -100,7 +101,7 @@ fn marks(text: &[u8]) -> u64
         .to_bitmask()
 }
 
-// The lowest bit that is set.
+/// Returns the index of the lowest bit that is set.
 #[inline(always)]
 fn lowest(marks: u64) -> usize
     requires { marks ≢ 0 }
@@ -111,7 +112,7 @@ fn lowest(marks: u64) -> usize
     marks.trailing_zeros() as usize
 }
 
-// The marks without one of them.
+/// Returns the marks with one bit cleared.
 #[inline(always)]
 fn without(marks: u64, bit: usize) -> u64
     requires { bit < 64 }

@@ -1,4 +1,5 @@
-// The keys of a template.
+//! The keys of a template.
+
 ghost use Rattle.std.specs.Prelude.{◌≡◌, ℕ, List, [], OnOk, OnErr, option_map};
 ghost use Rattle.deftable.specs.ShellName.{IsShellName};
 ghost use Rattle.deftable.specs.Table.{value_of, with_entry, HasShellNames};
@@ -9,9 +10,9 @@ use deftable::{Bytes, Defs};
 use std::alloc::{AllocError, Global};
 use std::marker::Model;
 
-/// The keys of a template, each with the text that stands for it (manual, "Setting Output Variables").
+/// The keys of a template, each with its value (Autoconf's manual, "Setting Output Variables").
 ///
-/// A key is a shell name, so it holds no `@`.
+/// A key has the form of a shell variable's name, so it contains no `@`.
 #[derive(Debug, Drop)]
 pub struct Table {
     entries: Defs,
@@ -29,7 +30,7 @@ impl Model for Table {
 
 #[tactic(auto, using(crate::proofs::Keys::keys))]
 impl Table {
-    /// No key.
+    /// Returns a table without keys.
     pub fn new(alloc: Global) -> Table
         ensures { result ≡ [] }
     {
@@ -40,7 +41,11 @@ impl Table {
         }
     }
 
-    /// Adds the key, or gives a key that is there another value. It fails only for want of memory.
+    /// Sets the value of a key, which is added if it is new.
+    ///
+    /// # Errors
+    ///
+    /// Fails only if memory runs out, and then leaves the table unchanged.
     pub fn set(&mut self, key: &[u8], value: &[u8]) -> Result<(), AllocError>
         requires { IsShellName key.now }
         ensures ok { OnOk result (self.new ≡ with_entry self.old key.now value.now) }
@@ -52,7 +57,8 @@ impl Table {
         Ok(())
     }
 
-    /// The value of the key, or `None` if it is no key. Most texts that are no key are not looked up.
+    /// Returns the value of the key, or `None` if it isn't in the table. Most texts that aren't keys are ruled out
+    /// without a look-up.
     #[inline]
     pub fn get(&self, key: &[u8]) -> Option<&Bytes>
         ensures value { option_map (λ x. x.now) result ≡ value_of self.now key.now }
@@ -67,7 +73,7 @@ impl Table {
         self.entries.get(key)
     }
 
-    /// The number of bytes of the longest key, or 0 if there is no key. So no longer text is a key.
+    /// Returns the length of the longest key in bytes, or 0 if there is no key.
     pub fn longest_key(&self) -> usize
         ensures exact { result ≡ longest_of self.now }
         ensures bound { AreUpTo result self.now }

@@ -2,10 +2,10 @@
 
 use crate::rows::{check, cut, put_each};
 use crate::tables::{changed, defined};
-use conftest::{
-    Job, JobFault, Words, compile_job, declaration_source, default_includes, function_source,
-    header_source, link_job, path_job, preproc_job, program_source, run_job, second_type_source,
-    type_source,
+use conftest::{Job, JobFault, Words, compile_job, link_job, path_job, preproc_job, run_job};
+use csource::{
+    declaration_source, default_includes, function_source, header_source, program_source,
+    second_type_source, type_source,
 };
 use deftable::{Bytes, Defs, Vars};
 use std::alloc::{AllocError, Global};

@@ -1,5 +1,5 @@
 use Rattle.std.proofs.Common.{◌≡◌, true}
-use Rattle.acargs.specs.Feature.{is_feature, option_variable}
+use Rattle.syntax.specs.Feature.{is_feature, option_variable}
 use Rattle.acargs.proofs.FeatureLemmas.{has_variable}
 use Rattle.acargs.proofs.feature.feature_variable.Goals as goal
 

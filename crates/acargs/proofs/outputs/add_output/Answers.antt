@@ -5,7 +5,7 @@ use Rattle.acargs.proofs.outputs.add_output.Goals as goal
 pub returns-in_err-check_output : goal.returns-in_err-check_output
 returns-in_err-check_output c =
     let p = err_from_is_err_and c.from_residual-in_err-check_output.result c.from_residual-in_err-check_output.ensures.1 in
-    rw (p.1, p.2) (check_fails c.in_err-check_output.field-0.0 _ _ _ _ _ c.in_ok-output.ensures c.in_err-check_output.ensures)
+    rw (p.1, p.2) (check_fails c.in_err-check_output.field-0.0 _ _ _ _ _ _ c.in_ok-output.ensures c.in_err-check_output.ensures)
 
 pub returns : goal.returns
-returns c = check_passes _ _ _ _ _ _ tt c.in_ok-output.ensures c.in_ok-check_output.ensures c.in_ok-push.ensures.ok
+returns c = check_passes _ _ _ _ _ _ _ tt c.in_ok-output.ensures c.in_ok-check_output.ensures c.in_ok-push.ensures.ok

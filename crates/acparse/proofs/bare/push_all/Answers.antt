@@ -1,6 +1,6 @@
 use Rattle.std.proofs.Common.{sym}
-use Rattle.tree.specs.Script.{script_of}
-use Rattle.tree.proofs.ScriptLemmas.{joined_done}
+use Rattle.syntax.specs.Script.{script_of}
+use Rattle.syntax.proofs.ScriptLemmas.{joined_done}
 use Rattle.acparse.proofs.Texts.{assign_more}
 use Rattle.acparse.proofs.bare.push_all.Goals as goal
 

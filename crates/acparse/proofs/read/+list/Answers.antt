@@ -1,6 +1,6 @@
 use Rattle.std.proofs.Common.{rules, map, ◌+◌, arith, ap, sym, ◌∙◌, Ok}
-use Rattle.tree.specs.Known.{after_cases}
-use Rattle.tree.specs.Script.{Cases}
+use Rattle.syntax.specs.Lists.{after_cases}
+use Rattle.syntax.specs.Script.{Cases}
 use Rattle.std.proofs.lemmas.Result.{err_from_is_err_and}
 use Rattle.std.proofs.Math.ListN.{drop_of_length-le}
 use Rattle.m4quote.specs.Entry.{span, view, views}
@@ -56,7 +56,7 @@ read_cases-returns-clause-value t c =
 pub read_cases-returns-clause-after : goal.read_cases-returns-clause-after
 read_cases-returns-clause-after t c =
     default_known _ _ _ c.loop-i.cases.items c.in_ok-last.last c.loop-i.invariant.1.known c.in_ok-last.ensures.after
-    ∙ ap (after_cases c.args.scene.now) (sym c.in_ok-with_last.ensures)
+    ∙ ap (after_cases c.args.known.now) (sym c.in_ok-with_last.ensures)
 
 -- ---- questions
 

@@ -1,4 +1,4 @@
--- A read that failed took nothing.
+-- A read that failed has taken no bytes.
 use Rattle.std.proofs.Common.{◌≡◌, length}
 use Rattle.std.specs.Io.KnownBytes.{Keeps}
 use Rattle.crew.proofs.diagnostics.read_some.Given as goal

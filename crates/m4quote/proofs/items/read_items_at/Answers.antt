@@ -7,22 +7,22 @@ use Rattle.m4quote.proofs.Laws.{outcome_is_spelling, outcome_is_fault, spelling_
 use Rattle.m4quote.proofs.Clauses as clause
 use Rattle.m4quote.proofs.items.read_items_at.Goals as goal
 
-pub returns-clause-found : goal.returns-clause-found
-returns-clause-found c =
+pub returns-clause-sound : goal.returns-clause-sound
+returns-clause-sound c =
     clause.found (λ v. views v.items) c.read_all.result (outcome c.args.at c.args.text.now) c.read_all.ensures
     (IsSpelling c.args.at c.args.text.now) (λ items e. (outcome_is_spelling c.args.at c.args.text.now items).0 e)
 
-pub returns-clause-only : goal.returns-clause-only
-returns-clause-only c = λ items h.
+pub returns-clause-complete : goal.returns-clause-complete
+returns-clause-complete c = λ items h.
     clause.only (λ v. views v.items) c.read_all.result (outcome c.args.at c.args.text.now) c.read_all.ensures items ((outcome_is_spelling c.args.at c.args.text.now items).1 h)
 
-pub returns-clause-fault : goal.returns-clause-fault
-returns-clause-fault c =
+pub returns-clause-error_sound : goal.returns-clause-error_sound
+returns-clause-error_sound c =
     clause.fault (λ v. views v.items) c.read_all.result (outcome c.args.at c.args.text.now) c.read_all.ensures
     (IsFirstFault c.args.at c.args.text.now) (λ f e. (outcome_is_fault c.args.at c.args.text.now f).0 e)
 
-pub returns-clause-named : goal.returns-clause-named
-returns-clause-named c = λ f h.
+pub returns-clause-error_complete : goal.returns-clause-error_complete
+returns-clause-error_complete c = λ f h.
     clause.named (λ v. views v.items) c.read_all.result (outcome c.args.at c.args.text.now) c.read_all.ensures f ((outcome_is_fault c.args.at c.args.text.now f).1 h)
 
 pub returns-clause-parts : goal.returns-clause-parts

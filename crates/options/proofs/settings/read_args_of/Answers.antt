@@ -9,20 +9,20 @@ use Rattle.options.proofs.settings.read_args_of.Goals as goal
 pub returns-clause-exact : goal.returns-clause-exact
 returns-clause-exact c = subst (Gives (λ s. s) c.read_stepwise.result) (stepwise_is_opening _ _ _ _ _) c.read_stepwise.ensures.exact
 
-pub returns-clause-found : goal.returns-clause-found
-returns-clause-found c =
+pub returns-clause-sound : goal.returns-clause-sound
+returns-clause-sound c =
     found _ _ _ (returns-clause-exact c) (IsOpening c.args.features.now c.args.packages.now c.args.precious.now c.args.args.now c.args.env.now)
     (opening_is c.args.features.now c.args.packages.now c.args.precious.now c.args.args.now c.args.env.now)
 
-pub returns-clause-only : goal.returns-clause-only
-returns-clause-only c =
+pub returns-clause-complete : goal.returns-clause-complete
+returns-clause-complete c =
     λ s h. only _ _ _ (returns-clause-exact c) s (is_opening c.args.features.now c.args.packages.now c.args.precious.now c.args.args.now c.args.env.now s h)
 
-pub returns-clause-fault : goal.returns-clause-fault
-returns-clause-fault c =
+pub returns-clause-error_sound : goal.returns-clause-error_sound
+returns-clause-error_sound c =
     fault _ _ _ (returns-clause-exact c) (IsOpeningFault c.args.features.now c.args.packages.now c.args.precious.now c.args.args.now c.args.env.now)
     (opening_fails c.args.features.now c.args.packages.now c.args.precious.now c.args.args.now c.args.env.now)
 
-pub returns-clause-named : goal.returns-clause-named
-returns-clause-named c =
+pub returns-clause-error_complete : goal.returns-clause-error_complete
+returns-clause-error_complete c =
     λ f h. named _ _ _ (returns-clause-exact c) f (fails_opening c.args.features.now c.args.packages.now c.args.precious.now c.args.args.now c.args.env.now f h)

@@ -1,5 +1,5 @@
 use Rattle.std.proofs.Common.{ap, ◌∙◌, sym, subst, arith, length}
-use Rattle.tree.specs.Script.{script_of}
+use Rattle.syntax.specs.Script.{script_of}
 use Rattle.plan.specs.Inside.{StaysInside}
 use Rattle.meaning.specs.State.{no_choice}
 use Rattle.plan.specs.Walk.{walk}

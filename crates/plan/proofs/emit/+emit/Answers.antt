@@ -1,5 +1,5 @@
 use Rattle.std.proofs.Common.{◌++◌, ◌∷◌, ap, ◌∙◌, sym, refl}
-use Rattle.tree.specs.Script.{cases_of}
+use Rattle.syntax.specs.Script.{cases_of}
 use Rattle.plan.specs.Code.{code_of_cases}
 use Rattle.plan.specs.Walk.{Begins}
 use Rattle.plan.proofs.Codes.{code_at, code_choice}

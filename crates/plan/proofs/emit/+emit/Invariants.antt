@@ -1,5 +1,5 @@
 use Rattle.std.proofs.Common.{◌≡◌, ◌++◌, drop}
-use Rattle.tree.specs.Script.{script_of, cases_of}
+use Rattle.syntax.specs.Script.{script_of, cases_of}
 use Rattle.plan.specs.Code.{code_of, code_of_cases}
 use Rattle.plan.proofs.emit.+emit.Given as goal
 

@@ -1,5 +1,5 @@
 use Rattle.std.proofs.Common.{take, drop, ◌+◌}
-use Rattle.tree.specs.Script.{script_of}
+use Rattle.syntax.specs.Script.{script_of}
 use Rattle.runner.specs.Filtered.{usage}
 use Rattle.runner.proofs.Refusals.{parse_refused, not_run_refused, run_found}
 use Rattle.runner.proofs.filtering.answer.Goals as goal
@@ -11,17 +11,17 @@ pub returns-in_err-source-clause-refused : goal.returns-in_err-source-clause-ref
 returns-in_err-source-clause-refused c =
     let input = c.args.input.now in
     let at = c.in-Some.at in
-    parse_refused input (take at input) (drop (at + 3) input) c.in_err-source.field-0.0 c.from_residual.result c.in-Some.ensures.some c.in_err-source.ensures.exact c.in_err-source.ensures.fault c.from_residual.ensures.1
+    parse_refused input (take at input) (drop (at + 3) input) c.in_err-source.field-0.0 c.from_residual.result c.in-Some.ensures.some c.in_err-source.ensures.exact c.in_err-source.ensures.error_sound c.from_residual.ensures.1
 
 pub returns-clause-refused : goal.returns-clause-refused
 returns-clause-refused c =
     let input = c.args.input.now in
     let at = c.in-Some.at in
-    not_run_refused input (take at input) (drop (at + 3) input) (script_of c.in_ok-source.source.statements.items) c.run_source.result c.in-Some.ensures.some c.in_ok-source.ensures.found c.run_source.ensures.refused
+    not_run_refused input (take at input) (drop (at + 3) input) (script_of c.in_ok-source.source) c.run_source.result c.in-Some.ensures.some c.in_ok-source.ensures.sound c.run_source.ensures.refused
 
 pub returns-clause-found : goal.returns-clause-found
 returns-clause-found c =
     let input = c.args.input.now in
     let at = c.in-Some.at in
-    run_found input (take at input) (drop (at + 3) input) (script_of c.in_ok-source.source.statements.items) c.run_source.result (λ a. a.text.items) (λ a. a.status) c.in-Some.ensures.some c.in_ok-source.ensures.found
+    run_found input (take at input) (drop (at + 3) input) (script_of c.in_ok-source.source) c.run_source.result (λ a. a.text.items) (λ a. a.status) c.in-Some.ensures.some c.in_ok-source.ensures.sound
     (rw c.behind_marker.ensures at c.run_source.ensures.run)

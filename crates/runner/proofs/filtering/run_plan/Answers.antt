@@ -2,7 +2,6 @@ use Rattle.std.proofs.Common.{ap, subst, ◌∙◌, []}
 use Rattle.std.proofs.lemmas.Result.{err_from_is_err_and}
 use Rattle.plan.specs.Walk.{walk}
 use Rattle.meaning.specs.State.{no_choice}
-use Rattle.tree.specs.Script.{script_of}
 use Rattle.runner.specs.Filtered.{opened}
 use Rattle.runner.specs.Ran.{RanAlone}
 use Rattle.runner.proofs.Refusals.{template_not_run, memory_not_run}
@@ -24,7 +23,6 @@ returns-in_err-vars-clause-refused c = memory_not_run _ c.from_residual-in_err-v
 
 pub returns-clause-run : goal.returns-clause-run
 returns-clause-run c =
-    let s = script_of c.args.source.now.statements.items in
     let o = c.in_ok-vars.ensures in
     let st = opened o.0 in
     let begun = ap (λ v. walk c.args.plan.now 0 no_choice (record { vars = v; defs = [] })) o.2 ∙ c.requires.meaning st in

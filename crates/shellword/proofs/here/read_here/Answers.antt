@@ -9,11 +9,11 @@ use Rattle.shellword.proofs.Laws.{refusal_of}
 use Rattle.shellword.proofs.WordFaults.{here-bad}
 use Rattle.shellword.proofs.here.read_here.Goals as goal
 
-pub returns-clause-found : goal.returns-clause-found
-returns-clause-found c = told (λ h. h) (IsHere c.args.text.now) c.read_parts.result (here_of c.args.text.now) c.read_parts.ensures.exact (read-here c.args.text.now)
+pub returns-clause-sound : goal.returns-clause-sound
+returns-clause-sound c = told (λ h. h) (IsHere c.args.text.now) c.read_parts.result (here_of c.args.text.now) c.read_parts.ensures.exact (read-here c.args.text.now)
 
-pub returns-clause-only : goal.returns-clause-only
-returns-clause-only c = λ parts h. subst (λ r. Gives (λ h. h) c.read_parts.result r) (here-read c.args.text.now parts h) c.read_parts.ensures.exact
+pub returns-clause-complete : goal.returns-clause-complete
+returns-clause-complete c = λ parts h. subst (λ r. Gives (λ h. h) c.read_parts.result r) (here-read c.args.text.now parts h) c.read_parts.ensures.exact
 
-pub returns-clause-refused : goal.returns-clause-refused
-returns-clause-refused c = refusal_of (IsBadHere c.args.text.now) (λ h. h) c.read_parts.result (here_of c.args.text.now) (here-bad c.args.text.now) c.read_parts.ensures.exact
+pub returns-clause-error_sound : goal.returns-clause-error_sound
+returns-clause-error_sound c = refusal_of (IsBadHere c.args.text.now) (λ h. h) c.read_parts.result (here_of c.args.text.now) (here-bad c.args.text.now) c.read_parts.ensures.exact

@@ -6,8 +6,8 @@ use Rattle.shellword.proofs.Outcome.{told}
 use Rattle.shellword.proofs.TestReading.{test-read, read-test}
 use Rattle.shellword.proofs.test.read_test.Goals as goal
 
-pub returns-clause-found : goal.returns-clause-found
-returns-clause-found c = told (λ t. t) (IsTest c.args.text.now) c.read_whole.result (test_of c.args.text.now) c.read_whole.ensures.exact (read-test c.args.text.now)
+pub returns-clause-sound : goal.returns-clause-sound
+returns-clause-sound c = told (λ t. t) (IsTest c.args.text.now) c.read_whole.result (test_of c.args.text.now) c.read_whole.ensures.exact (read-test c.args.text.now)
 
-pub returns-clause-only : goal.returns-clause-only
-returns-clause-only c = λ test h. subst (λ r. Gives (λ t. t) c.read_whole.result r) (test-read c.args.text.now test h) c.read_whole.ensures.exact
+pub returns-clause-complete : goal.returns-clause-complete
+returns-clause-complete c = λ test h. subst (λ r. Gives (λ t. t) c.read_whole.result r) (test-read c.args.text.now test h) c.read_whole.ensures.exact

@@ -9,11 +9,11 @@ use Rattle.shellword.proofs.Laws.{refusal_of}
 use Rattle.shellword.proofs.WordFaults.{word-bad}
 use Rattle.shellword.proofs.word.read_word.Goals as goal
 
-pub returns-clause-found : goal.returns-clause-found
-returns-clause-found c = told (λ w. w) (IsWord c.args.text.now) c.read_whole.result (word_of c.args.text.now) c.read_whole.ensures.exact (read-word c.args.text.now)
+pub returns-clause-sound : goal.returns-clause-sound
+returns-clause-sound c = told (λ w. w) (IsWord c.args.text.now) c.read_whole.result (word_of c.args.text.now) c.read_whole.ensures.exact (read-word c.args.text.now)
 
-pub returns-clause-only : goal.returns-clause-only
-returns-clause-only c = λ parts h. subst (λ r. Gives (λ w. w) c.read_whole.result r) (word-read c.args.text.now parts h) c.read_whole.ensures.exact
+pub returns-clause-complete : goal.returns-clause-complete
+returns-clause-complete c = λ parts h. subst (λ r. Gives (λ w. w) c.read_whole.result r) (word-read c.args.text.now parts h) c.read_whole.ensures.exact
 
-pub returns-clause-refused : goal.returns-clause-refused
-returns-clause-refused c = refusal_of (IsBadWord c.args.text.now) (λ w. w) c.read_whole.result (word_of c.args.text.now) (word-bad c.args.text.now) c.read_whole.ensures.exact
+pub returns-clause-error_sound : goal.returns-clause-error_sound
+returns-clause-error_sound c = refusal_of (IsBadWord c.args.text.now) (λ w. w) c.read_whole.result (word_of c.args.text.now) (word-bad c.args.text.now) c.read_whole.ensures.exact

@@ -9,12 +9,12 @@ use Rattle.shellword.proofs.Laws.{refusal_of}
 use Rattle.shellword.proofs.WordFaults.{front-bad}
 use Rattle.shellword.proofs.word.read_word_front.Goals as goal
 
-pub returns-clause-found : goal.returns-clause-found
-returns-clause-found c =
+pub returns-clause-sound : goal.returns-clause-sound
+returns-clause-sound c =
     told (λ r. (r.0, r.1)) (λ r. IsWordFront c.args.text.now r.0 r.1) c.read_front_word.result (word_front_of c.args.text.now) c.read_front_word.ensures.exact (read-word_front c.args.text.now)
 
-pub returns-clause-only : goal.returns-clause-only
-returns-clause-only c = λ parts n h. subst (λ r. Gives (λ r. (r.0, r.1)) c.read_front_word.result r) (word_front-read c.args.text.now parts n h) c.read_front_word.ensures.exact
+pub returns-clause-complete : goal.returns-clause-complete
+returns-clause-complete c = λ parts n h. subst (λ r. Gives (λ r. (r.0, r.1)) c.read_front_word.result r) (word_front-read c.args.text.now parts n h) c.read_front_word.ensures.exact
 
-pub returns-clause-refused : goal.returns-clause-refused
-returns-clause-refused c = refusal_of (IsBadFront c.args.text.now) (λ r. (r.0, r.1)) c.read_front_word.result (word_front_of c.args.text.now) (front-bad c.args.text.now) c.read_front_word.ensures.exact
+pub returns-clause-error_sound : goal.returns-clause-error_sound
+returns-clause-error_sound c = refusal_of (IsBadFront c.args.text.now) (λ r. (r.0, r.1)) c.read_front_word.result (word_front_of c.args.text.now) (front-bad c.args.text.now) c.read_front_word.ensures.exact

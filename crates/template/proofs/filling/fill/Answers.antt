@@ -37,5 +37,5 @@ returns-clause-exact c =
     c.in_ok-extend_from_slice.ensures.items ∙ ap (λ t. c.loop-at.made.items ++ t) rest
     ∙ comes_to_end c.args.table.now c.args.text.now c.loop-at.made.items c.loop-at.held.start c.loop-at.held.last c.loop-at.held.opened c.loop-at.invariant.come clean
 
-pub returns-clause-found : goal.returns-clause-found
-returns-clause-found c = subst (Fills c.args.table.now c.args.text.now) (sym (returns-clause-exact c)) c.has_one_filled_text.ensures.some
+pub returns-clause-sound : goal.returns-clause-sound
+returns-clause-sound c = subst (Fills c.args.table.now c.args.text.now) (sym (returns-clause-exact c)) c.has_one_filled_text.ensures.some

@@ -3,7 +3,7 @@ use Rattle.template.specs.Hops.{HasComeTo, read_to}
 use Rattle.template.specs.Marks.{IsWindow}
 use Rattle.template.proofs.filling.fill.Given as goal
 
--- what is written and held, and where the next `@` is looked for
+-- what is written and pending, and where the next `@` is searched for
 abbrev pub invariant-loop-at : goal.invariant-loop-at
 invariant-loop-at l = record {
   come : HasComeTo l.table l.text l.made.items l.held.start l.held.last l.held.opened;

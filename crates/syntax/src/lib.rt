@@ -1,0 +1,33 @@
+//! The syntax tree of a configure.ac, and the lists that its statements declare.
+//!
+//! The parser makes this tree. The crates that give it a meaning, compile it and run it use it, so that neither half
+//! depends on the other. `tree` has the types of statements that hold statements, `statement` those of all others, with
+//! `feature`, `help`, `output` and `program` for their parts. `declarations` has the lists, and how each statement adds
+//! to them. `source` puts both together. Read them in this order.
+//!
+//! Contracts see a list of statements as its first statement and what follows: `specs/Script.antt`. `specs/Lists.antt`
+//! says which lists statements declare, also in cases that a run does not take.
+//!
+//! `AS_IF([test x = y], [a=1], [a=2])` is a `Choose` of two cases: one decided by the test, and one that is always
+//! taken.
+//!
+//! An operation that allocates fails only if memory runs out.
+#![tactic(auto)]
+
+pub mod declarations;
+pub mod feature;
+pub mod help;
+pub mod output;
+pub mod program;
+pub mod source;
+pub mod statement;
+pub mod tree;
+
+pub use declarations::{Declarations, Stage};
+pub use feature::{OptionKind, is_feature, option_variable};
+pub use help::{Help, HelpList};
+pub use output::{Output, Outputs};
+pub use program::{Program, ProgramNames, Try};
+pub use source::Source;
+pub use statement::{Plain, Question};
+pub use tree::{Case, Stmt, Subject, When, choose};

@@ -1,0 +1,98 @@
+//! Outputs of a source, and lists of them.
+
+ghost use Rattle.std.specs.Prelude.{◌≡◌, ℕ, List, [], length, IfOk, OnOk, OnErr, ◌++◌, ◌∷◌, ◌==◌};
+ghost use Rattle.syntax.specs.declared.output.Output.{Output};
+ghost use Rattle.syntax.specs.Output as specs;
+
+use deftable::Bytes;
+use std::alloc::{AllocError, AllocFailed, Global};
+use std::marker::Model;
+
+/// A file to be made, and its template. `parse` accepts only paths below the build directory and the source directory:
+/// not absolute, without `$` and `:`, and with no part that is empty, `.` or `..`.
+#[derive(Debug, Drop)]
+pub struct Output {
+    pub name: Bytes,
+    pub template: Bytes,
+}
+
+impl Output {
+    /// Copies the output.
+    pub fn copy(&self, alloc: Global) -> Result<Output, AllocError>
+        ensures { IfOk result (λ o. o ≡ self.now) }
+    {
+        let name = self.name.copy(alloc)?;
+        let template = self.template.copy(alloc)?;
+        Ok(Output { name, template })
+    }
+}
+
+/// A list of outputs.
+#[derive(Debug, Drop)]
+pub struct Outputs {
+    outputs: Vec<Output>,
+}
+
+impl Model for Outputs {
+    ghost Value = { List Output };
+
+    ghost view = { λ t. t.outputs.items };
+}
+
+impl Outputs {
+    /// Returns an empty list.
+    pub fn new(alloc: Global) -> Self
+        ensures { result ≡ [] }
+    {
+        Outputs {
+            outputs: Vec::new(alloc),
+        }
+    }
+
+    /// Returns the outputs, in order.
+    pub fn as_slice(&self) -> &[Output]
+        ensures { result.now ≡ self.now }
+    {
+        self.outputs.as_slice()
+    }
+
+    /// Returns the number of outputs.
+    pub fn len(&self) -> usize
+        ensures { result ≡ length self.now }
+    {
+        self.outputs.len()
+    }
+
+    /// Returns whether there is no output.
+    pub fn is_empty(&self) -> bool
+        ensures { result ≡ (length self.now == 0) }
+    {
+        self.outputs.is_empty()
+    }
+
+    /// Returns whether an output has this name.
+    pub fn has(&self, name: &[u8]) -> bool
+        ensures { result ≡ specs.has_output self.now name.now }
+    {
+        self.outputs.iter().any(|o| o.name.as_slice() == name)
+    }
+
+    /// Appends an output. If memory runs out, the output is dropped.
+    pub fn push(&mut self, output: Output) -> Result<(), AllocError>
+        ensures ok { OnOk result (self.new ≡ self.old ++ output ∷ []) }
+        ensures err { OnErr result (self.new ≡ self.old) }
+    {
+        self.outputs.push(output)?;
+        Ok(())
+    }
+
+    /// Appends copies of the outputs. If memory runs out, some of them may have been appended.
+    pub fn push_copies(&mut self, alloc: Global, outputs: &[Output]) -> Result<(), AllocError>
+        ensures { OnOk result (self.new ≡ self.old ++ outputs.now) }
+    {
+        for output in outputs {
+            self.outputs.push(output.copy(alloc)?)?;
+        }
+        Ok(())
+    }
+}

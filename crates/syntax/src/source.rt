@@ -1,0 +1,104 @@
+//! A whole source: its statements and its lists.
+
+ghost use Rattle.std.specs.Prelude.{◌≡◌};
+ghost use Rattle.syntax.specs.Lists.{lists_of};
+ghost use Rattle.syntax.specs.Script.{script_of};
+
+use crate::declarations::Declarations;
+use crate::help::HelpList;
+use crate::output::Outputs;
+use crate::tree::Stmt;
+use deftable::SubstList;
+use std::marker::Model;
+
+/// A configure.ac that was read. Contracts see its statements; its lists are those that the statements declare.
+#[derive(Debug, Drop)]
+pub struct Source {
+    statements: Vec<Stmt>,
+    lists: Declarations,
+}
+
+impl Model for Source {
+    ghost use Rattle.std.specs.Prelude.{◌≡◌, List};
+    ghost use Rattle.std.specs.Coded.{codes};
+    ghost use Rattle.syntax.specs.contracts.tree.Stmt as stmt;
+    ghost use Rattle.syntax.specs.declared.tree.Stmt.{Stmt};
+    ghost use Rattle.syntax.specs.Lists.{lists_of};
+    ghost use Rattle.syntax.specs.Script.{script_of};
+
+    ghost Value = { List Stmt };
+
+    ghost coded = { Prim.hlevel (codes, stmt.the_row.coded) };
+
+    ghost view = { λ s. s.statements.items };
+
+    ghost invariant = { λ s. s.lists ≡ lists_of (script_of s.statements.items) };
+}
+
+impl Source {
+    /// Makes a source from its statements and the lists that they declare.
+    pub fn new(statements: Vec<Stmt>, lists: Declarations) -> Source
+        requires { lists ≡ lists_of (script_of statements.items) }
+        ensures { result ≡ statements.items }
+    {
+        Source { statements, lists }
+    }
+
+    /// Returns the statements of the file's own list, in order.
+    pub fn statements(&self) -> &[Stmt]
+        ensures { result.now ≡ self.now }
+    {
+        self.statements.as_slice()
+    }
+
+    /// Returns the output variables of AC_SUBST, AC_ARG_VAR, AC_CHECK_PROG, AC_CHECK_PROGS, AC_PATH_PROG and
+    /// AC_PROG_CC, each once, in the order of their first mention. Statements in cases that a run does not take count
+    /// too.
+    pub fn substituted(&self) -> &SubstList
+        ensures { result.now ≡ (lists_of (script_of self.now)).substituted }
+    {
+        &self.lists.substituted
+    }
+
+    /// Returns the precious variables of AC_ARG_VAR and AC_PROG_CC, in the same way.
+    pub fn precious(&self) -> &SubstList
+        ensures { result.now ≡ (lists_of (script_of self.now)).precious }
+    {
+        &self.lists.precious
+    }
+
+    /// Returns the variables of the features that AC_ARG_ENABLE declares, `enable_NAME`, in the same way.
+    pub fn features(&self) -> &SubstList
+        ensures { result.now ≡ (lists_of (script_of self.now)).features }
+    {
+        &self.lists.features
+    }
+
+    /// Returns the variables of the packages that AC_ARG_WITH declares, `with_NAME`, in the same way.
+    pub fn packages(&self) -> &SubstList
+        ensures { result.now ≡ (lists_of (script_of self.now)).packages }
+    {
+        &self.lists.packages
+    }
+
+    /// Returns the help entries of AC_ARG_ENABLE, AC_ARG_WITH and AC_ARG_VAR, one for each call, in order.
+    pub fn help(&self) -> &HelpList
+        ensures { result.now ≡ (lists_of (script_of self.now)).help }
+    {
+        &self.lists.help
+    }
+
+    /// Returns the files that AC_CONFIG_FILES names, in order, each name once.
+    pub fn files(&self) -> &Outputs
+        ensures { result.now ≡ (lists_of (script_of self.now)).files }
+    {
+        &self.lists.files
+    }
+
+    /// Returns the headers to be made, in order, each name once. No macro that is read yet names one.
+    pub fn headers(&self) -> &Outputs
+        ensures { result.now ≡ (lists_of (script_of self.now)).headers }
+    {
+        &self.lists.headers
+    }
+}

@@ -1,0 +1,105 @@
+//! Statements with no statements in them, and questions.
+
+use crate::feature::OptionKind;
+use crate::help::Help;
+use crate::output::Outputs;
+use crate::program::{Program, ProgramNames, Try};
+use deftable::{Bytes, Name};
+use shellword::{HereText, Word};
+
+/// A statement with no statements in it. Texts are used texts: unquoted, with quadrigraphs replaced.
+#[derive(Debug, Drop)]
+pub enum Plain {
+    /// AC_INIT: the package's names and its version.
+    Init {
+        title: Bytes,
+        version: Bytes,
+        bug: Bytes,
+        tarname: Bytes,
+        url: Bytes,
+    },
+    /// A macro that is accepted and has no effect in a run: AC_PREREQ, AC_CONFIG_SRCDIR, AC_CONFIG_AUX_DIR,
+    /// AC_CONFIG_MACRO_DIR, AC_CONFIG_MACRO_DIRS, AC_LANG.
+    Accepted,
+    /// AC_CONFIG_FILES: files to be made.
+    ConfigFiles {
+        outputs: Outputs,
+    },
+    /// `NAME=WORD`: a shell variable and the word that gives its value.
+    Assign {
+        name: Name,
+        value: Word,
+    },
+    /// AC_SUBST without a value: an output variable.
+    Subst {
+        name: Name,
+    },
+    /// AC_SUBST with a value: an output variable and the word that gives its value.
+    SubstValue {
+        name: Name,
+        value: Word,
+    },
+    /// AC_DEFINE: a C identifier and its value.
+    Define {
+        name: Name,
+        value: Bytes,
+    },
+    /// AC_DEFINE_UNQUOTED: a C identifier and the here text that gives its value.
+    DefineUnquoted {
+        name: Name,
+        value: HereText,
+    },
+    /// AC_MSG_ERROR: the message, and the exit status of the run, from 1 to 255.
+    Error {
+        message: HereText,
+        status: u8,
+    },
+    /// AC_ARG_VAR: a precious variable, which is an output variable too, and its purpose.
+    ArgVar {
+        name: Name,
+        help: Bytes,
+    },
+    /// AC_CHECK_PROG: an output variable, the program to look for, and the variable's values if the program is found
+    /// and if it isn't.
+    CheckProg {
+        variable: Name,
+        program: Bytes,
+        found: HereText,
+        otherwise: Option<HereText>,
+    },
+    /// AC_CHECK_PROGS: an output variable, which gets the name of the first program that is found, and its value if none is.
+    CheckProgs {
+        variable: Name,
+        programs: ProgramNames,
+        otherwise: Option<HereText>,
+    },
+    /// AC_PATH_PROG: an output variable, which gets the full name of the program if it is found, and its value if it isn't.
+    PathProg {
+        variable: Name,
+        program: Bytes,
+        otherwise: Option<HereText>,
+    },
+    /// AC_PROG_CC: the variable CC, which gets the name of the first compiler that is found.
+    ProgCc {
+        programs: ProgramNames,
+    },
+    /// AC_OUTPUT: the end of the run.
+    Output,
+}
+
+/// What a macro asks, if it has statements for each answer.
+#[derive(Debug, Drop)]
+pub enum Question {
+    /// AC_ARG_ENABLE and AC_ARG_WITH: whether the option's variable is set. If it is, the variable `enableval` or
+    /// `withval` gets its value from here on.
+    Given {
+        kind: OptionKind,
+        variable: Name,
+        help: Help,
+    },
+    /// AC_COMPILE_IFELSE, AC_LINK_IFELSE, AC_PREPROC_IFELSE, AC_RUN_IFELSE: whether a program passes.
+    Tries {
+        kind: Try,
+        program: Program,
+    },
+}

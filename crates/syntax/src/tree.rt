@@ -1,0 +1,58 @@
+//! Statements, and cases, which hold statements.
+
+ghost use Rattle.std.specs.Prelude.{◌≡◌, [], ◌∷◌};
+ghost use Rattle.syntax.specs.Script.{script_of, cases_of, Choice, Done};
+
+use crate::statement::{Plain, Question};
+use shellword::{Patterns, Test, Word};
+
+/// What the cases of a choice are decided by.
+#[derive(Debug, Drop)]
+pub enum Subject {
+    /// Nothing in common: each case of AS_IF has its own test.
+    Nothing,
+    /// AS_CASE: a word. The patterns of the cases are matched with its value.
+    Word(Word),
+    /// A macro with statements for each answer: its question.
+    Asked(Question),
+}
+
+/// The condition of a case.
+#[derive(Debug, Drop)]
+pub enum When {
+    /// The test holds.
+    Holds(Test),
+    /// One of the patterns matches the value of the subject's word.
+    Matches(Patterns),
+    /// The answer to the subject's question is yes.
+    Yes,
+    /// The answer to the subject's question is no.
+    No,
+    /// The case is the default, and is always taken.
+    Always,
+}
+
+/// A statement.
+#[derive(Debug, Drop)]
+#[cycle(statements)]
+pub enum Stmt {
+    /// A statement with no statements in it.
+    Plain(Plain),
+    /// AS_IF, AS_CASE, or a macro that asks a question: the statements of the first case whose condition holds, if any.
+    Choose { subject: Subject, cases: Vec<Case> },
+}
+
+/// A case: its condition and its statements.
+#[derive(Debug, Drop)]
+#[cycle(statements)]
+pub struct Case {
+    pub when: When,
+    pub body: Vec<Stmt>,
+}
+
+/// Makes a statement from a subject and its cases.
+pub fn choose(subject: Subject, cases: Vec<Case>) -> Stmt
+    ensures { script_of (result ∷ []) ≡ Choice subject (cases_of cases.items) Done }
+{
+    Stmt::Choose { subject, cases }
+}
