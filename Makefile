@@ -56,6 +56,7 @@ compile: $(conftests)
 	@sh examples/conftests/run.sh $(conftests)
 
 check:
+	@rm -rf out/rooms
 	rt ci
 
 install: $(acrun)

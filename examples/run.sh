@@ -1,13 +1,14 @@
 #!/bin/sh
 # Runs the program on an example: its configure.ac, a line `%%`, and its one template.
-#   run.sh PROGRAM FOLDER
+#   run.sh PROGRAM DIRECTORY
 set -e
 acrun=$(realpath "$1")
 cd "$2"
 set -- *.in
-{ cat configure.ac; echo '%%'; cat "$1"; } > input.tmp
-trap 'rm -f input.tmp' EXIT
+input=$(mktemp) || exit 2
+trap 'rm -f "$input"' EXIT
+{ cat configure.ac; echo '%%'; cat "$1"; } > "$input"
 echo "--- input: configure.ac, a line %%, $1"
-cat input.tmp
+cat "$input"
 echo "--- output: ${1%.in}"
-"$acrun" < input.tmp
+"$acrun" < "$input"
