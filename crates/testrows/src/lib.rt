@@ -1,0 +1,15 @@
+//! What the test crates share: a page that answers are written on, and tables of rows that are tried.
+//!
+//! A row is a line: a text, ` =>`, a blank, and what a call answers to the text. Nothing is after ` =>` if the answer is
+//! empty. An empty line is no row, nor is a line that begins with `// `. `^` and a letter are a control byte, as in `^J` for a
+//! newline.
+//!
+//! Nothing here has a clause: what a test sees is compared when it runs. A call writes its answer on the page without
+//! errors, since each exit of a function makes its proof longer.
+#![tactic(auto)]
+
+pub mod page;
+pub mod table;
+
+pub use page::Page;
+pub use table::{Call, cut, try_rows};

@@ -1,0 +1,68 @@
+//! Tables of texts and answers.
+
+use crate::page::Page;
+use std::alloc::Global;
+use std::str;
+use std::test::Fail;
+
+/// A call that is tried.
+pub trait Call {
+    /// Puts what it answers to a text.
+    fn put(&self, page: &mut Page, given: &[u8]);
+}
+
+/// Returns what is before the first mark and what is after it: the whole text and nothing if it has none.
+pub fn cut<'a>(text: &'a [u8], mark: &[u8]) -> (&'a [u8], &'a [u8]) {
+    for at in 0..text.len() {
+        if let Some(after) = text[at..].strip_prefix(mark) {
+            return (&text[..at], after);
+        }
+    }
+    (text, b"")
+}
+
+/// Puts a text in which each `^` and the byte after it are a control byte.
+fn put_controls(page: &mut Page, text: &[u8]) {
+    let mut is_control = false;
+    for byte in text {
+        if is_control {
+            page.put_byte(*byte & 31);
+        } else if *byte != b'^' {
+            page.put_byte(*byte);
+        }
+        is_control = !is_control && *byte == b'^';
+    }
+}
+
+/// Puts what the row's answer is, if it is another one than the row says.
+fn put_difference<C: Call>(page: &mut Page, call: &C, row: &[u8]) {
+    let (given, wanted) = cut(row, b" =>");
+    let mut text = Page::new(page.alloc());
+    put_controls(&mut text, given);
+    let mut answer = Page::new(page.alloc());
+    put_controls(&mut answer, wanted.strip_prefix(b" ").unwrap_or(wanted));
+    let mut found = Page::new(page.alloc());
+    call.put(&mut found, text.text());
+    if found.is_cut() || text.is_cut() || found.text() != answer.text() {
+        page.put(row);
+        page.put(b" -- but it is ");
+        page.put(found.text());
+        page.put(b"\n");
+    }
+}
+
+/// Tries each row of a table. The error has the rows whose answer is another one.
+pub fn try_rows<C: Call>(alloc: Global, call: &C, table: &[u8]) -> Result<(), Fail> {
+    let mut page = Page::new(alloc);
+    let mut has_row = false;
+    for row in table.split(|byte| *byte == b'\n') {
+        if !row.is_empty() && !row.starts_with(b"// ") {
+            put_difference(&mut page, call, row);
+            has_row = true;
+        }
+    }
+    if has_row && page.text().is_empty() && !page.is_cut() {
+        return Ok(());
+    }
+    Err(Fail::new(str::from_utf8(page.text()).unwrap_or("bytes that are no UTF-8")))
+}
