@@ -50,7 +50,7 @@ fn ends_line(text: &[u8]) -> bool
 }
 
 /// What precedes a call.
-#[derive(Clone, Copy, Debug, PartialEq, Eq)]
+#[derive(Clone, Copy)]
 pub struct Edge {
     /// The offset of the bare text, and its length; 0 if the item is a call.
     pub at: usize,

@@ -3,7 +3,7 @@
 use syntax::{OptionKind, Try};
 
 /// A macro with no statements in its arguments.
-#[derive(Clone, Copy, Debug, PartialEq, Eq)]
+#[derive(Clone, Copy)]
 pub enum PlainMacro {
     /// AC_INIT.
     Init,
@@ -38,7 +38,7 @@ pub enum PlainMacro {
 }
 
 /// A macro of cases, each with statements (Autoconf's manual, "Common Shell Constructs").
-#[derive(Clone, Copy, Debug, PartialEq, Eq)]
+#[derive(Clone, Copy)]
 pub enum ChoiceMacro {
     /// AS_IF.
     If,
@@ -47,7 +47,7 @@ pub enum ChoiceMacro {
 }
 
 /// A macro that asks a question, and has statements for each answer.
-#[derive(Clone, Copy, Debug, PartialEq, Eq)]
+#[derive(Clone, Copy)]
 pub enum QuestionMacro {
     /// AC_ARG_ENABLE and AC_ARG_WITH: whether an option is given.
     Given(OptionKind),
@@ -56,7 +56,7 @@ pub enum QuestionMacro {
 }
 
 /// A macro whose calls are statements. Macros are grouped by which of their arguments hold statements.
-#[derive(Clone, Copy, Debug, PartialEq, Eq)]
+#[derive(Clone, Copy)]
 pub enum Macro {
     /// No argument holds statements.
     Plain(PlainMacro),
@@ -67,7 +67,7 @@ pub enum Macro {
 }
 
 /// A macro that is read only in arguments of other macros.
-#[derive(Clone, Copy, Debug, PartialEq, Eq)]
+#[derive(Clone, Copy)]
 pub enum ArgumentMacro {
     /// AS_HELP_STRING, in the help arguments of AC_ARG_ENABLE and AC_ARG_WITH.
     HelpString,
@@ -79,7 +79,7 @@ pub enum ArgumentMacro {
 }
 
 /// What the name of a macro means.
-#[derive(Clone, Copy, Debug, PartialEq, Eq)]
+#[derive(Clone, Copy)]
 pub enum Named {
     /// A macro whose calls are statements.
     Statement(Macro),

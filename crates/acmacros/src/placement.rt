@@ -11,14 +11,14 @@ use syntax::Stage;
 fn is_init(m: Macro) -> bool
     ensures { result ≡ places.is_init m }
 {
-    m == Macro::Plain(PlainMacro::Init)
+    matches!(m, Macro::Plain(PlainMacro::Init))
 }
 
 /// Returns whether the macro is AC_INIT, or AC_PREREQ, which is allowed before it.
 fn may_begin(m: Macro) -> bool
     ensures { result ≡ places.may_begin m }
 {
-    is_init(m) || m == Macro::Plain(PlainMacro::Prereq)
+    is_init(m) || matches!(m, Macro::Plain(PlainMacro::Prereq))
 }
 
 /// Checks that a call is allowed here. `top` is true if the call is in the file's own list of statements, `own_list` if

@@ -13,7 +13,7 @@ use std::alloc::{AllocError, Global};
 use syntax::{OptionKind, Try};
 
 /// A row of the table, without the name.
-#[derive(Clone, Copy, Debug, PartialEq, Eq)]
+#[derive(Clone, Copy)]
 pub struct Row {
     /// What the name means.
     pub named: Named,

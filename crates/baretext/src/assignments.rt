@@ -7,7 +7,7 @@ use shellword::Word;
 use std::marker::Model;
 
 /// `NAME=WORD`: the variable is set to the value of the word (POSIX shell, 2.9.1).
-#[derive(Debug, Drop)]
+#[derive(Drop)]
 pub struct Assignment {
     /// The name of the variable.
     pub name: Name,
@@ -16,7 +16,7 @@ pub struct Assignment {
 }
 
 /// The assignments of bare text, in the order in which they are made. In contracts, its value is their list.
-#[derive(Debug, Drop)]
+#[derive(Drop)]
 pub struct Assignments {
     list: Vec<Assignment>,
 }

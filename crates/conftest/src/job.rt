@@ -7,7 +7,7 @@ use deftable::Bytes;
 use std::alloc::{AllocError, Global};
 
 /// The work of one child process.
-#[derive(Debug, Drop)]
+#[derive(Drop)]
 pub struct Job {
     /// The words of the command, with the program first.
     pub words: Words,

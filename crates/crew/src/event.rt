@@ -6,7 +6,7 @@ use thiserror::Error;
 
 /// A start that was taken, or the end of a child. `number` is the number of starts attempted up to and including this
 /// event.
-#[derive(Debug, Drop)]
+#[derive(Drop)]
 pub enum CrewEvent {
     /// A job was started in the slot.
     Started {
@@ -23,7 +23,7 @@ pub enum CrewEvent {
 }
 
 /// A call of a [`MemoryCrew`], with its slot.
-#[derive(Clone, Copy, Debug, PartialEq, Eq)]
+#[derive(Clone, Copy, PartialEq, Eq)]
 pub enum Event {
     /// A start that was taken.
     Started(usize),

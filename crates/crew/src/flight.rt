@@ -6,7 +6,7 @@ use crate::reply::Reply;
 use std::marker::Model;
 
 /// A child of a crew in memory, with the reply that it will give, once for the caller and once for the account.
-#[derive(Debug, Drop)]
+#[derive(Drop)]
 pub struct Flight {
     slot: usize,
     reply: Reply,

@@ -20,7 +20,7 @@ use std::marker::Model;
 ///
 /// A start is refused if its reply is [`Reply::StartRefused`] or the list has no more replies, and only then. The calls
 /// of [`Crew`] don't allocate.
-#[derive(Debug, Drop)]
+#[derive(Drop)]
 pub struct MemoryCrew {
     // The replies to come, the next one last. `copies` is equal, for the account.
     replies: Vec<Reply>,

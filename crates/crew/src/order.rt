@@ -7,7 +7,7 @@ use crate::flight::Flight;
 use std::marker::Model;
 
 /// Which child of a crew in memory ends next.
-#[derive(Debug, Drop)]
+#[derive(Drop)]
 pub enum Order {
     /// The child that was started first.
     Oldest,
@@ -18,7 +18,7 @@ pub enum Order {
 }
 
 /// A list of slots.
-#[derive(Debug, Drop)]
+#[derive(Drop)]
 pub struct SlotList {
     reversed: Vec<usize>,
 }

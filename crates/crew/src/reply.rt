@@ -6,7 +6,7 @@ use deftable::Bytes;
 use std::alloc::{AllocError, Global};
 
 /// The result of a job that was given to a crew.
-#[derive(Debug, Drop)]
+#[derive(Drop)]
 pub enum Reply {
     /// The child ended. `status` is its exit status, or 256 if a signal ended it. `text` is what it wrote to standard
     /// error, up to the limit of the crew.

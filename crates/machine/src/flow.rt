@@ -4,7 +4,7 @@ use crate::wait::Wait;
 use conftest::Job;
 
 /// What follows a step, or the replies that it waited for.
-#[derive(Debug, Drop)]
+#[derive(Drop)]
 pub(crate) enum Flow {
     /// The next step, or the one that is `more` steps further.
     Pass { more: usize },

@@ -25,7 +25,7 @@ use std::marker::Model;
 use std::mem;
 
 /// What the caller does next.
-#[derive(Clone, Copy, PartialEq, Eq, Debug)]
+#[derive(Clone, Copy)]
 pub enum Turn {
     /// Give the replies to the jobs that are asked for.
     Ask,
@@ -38,7 +38,7 @@ pub enum Turn {
 }
 
 /// How a run ended.
-#[derive(Clone, Copy, PartialEq, Eq, Debug)]
+#[derive(Clone, Copy, PartialEq, Eq)]
 pub enum Outcome {
     /// AC_OUTPUT, or the end of the plan, was reached.
     Completed,
@@ -49,7 +49,7 @@ pub enum Outcome {
 }
 
 /// What a run leaves.
-#[derive(Debug, Drop)]
+#[derive(Drop)]
 pub struct RunEnd {
     pub outcome: Outcome,
     /// The variables at the end.
@@ -59,7 +59,7 @@ pub struct RunEnd {
 }
 
 /// The state of a machine.
-#[derive(Clone, Copy, PartialEq, Eq, Debug)]
+#[derive(Clone, Copy)]
 pub enum Phase {
     /// The next step can be done.
     Going,

@@ -8,7 +8,7 @@ use std::alloc::Global;
 use std::marker::Model;
 
 /// The value of the subject's word, and the answer to its question.
-#[derive(Debug, Drop)]
+#[derive(Drop)]
 pub(crate) struct About {
     subject: Bytes,
     answer: bool,

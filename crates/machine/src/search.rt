@@ -20,7 +20,7 @@ use textcut::parts;
 const MOST_FOLDERS: usize = 65_536;
 
 /// A search for a program, which sets a variable. Contracts see it as `meaning` defines it.
-#[derive(Debug, Drop)]
+#[derive(Drop)]
 pub(crate) struct Search {
     pub(crate) variable: Bytes,
     /// The cached name.
@@ -41,7 +41,7 @@ impl Model for Search {
 }
 
 /// Directories, in the order in which they are tried.
-#[derive(Debug, Drop)]
+#[derive(Drop)]
 pub(crate) struct Folders {
     /// The directory that is tried first is last.
     folders: Vec<Bytes>,

@@ -20,7 +20,7 @@ use std::marker::Model;
 use syntax::{Program, Try};
 
 /// Variables and definitions. Contracts see them as a state.
-#[derive(Debug, Drop)]
+#[derive(Drop)]
 pub(crate) struct Store {
     vars: Vars,
     defs: Defs,

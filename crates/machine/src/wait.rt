@@ -4,7 +4,7 @@ use crate::search::{Folders, Search};
 use deftable::Bytes;
 
 /// What the reply to the job that is asked for decides.
-#[derive(Debug, Drop)]
+#[derive(Drop)]
 pub(crate) enum Wait {
     /// No job is asked for.
     Nothing,

@@ -11,7 +11,7 @@ use deftable::is_shell_name;
 use syntax::{OptionKind, is_feature};
 
 /// An option with no value.
-#[derive(Clone, Copy, PartialEq, Eq, Debug)]
+#[derive(Clone, Copy)]
 pub enum Switch {
     /// `-C`, `--config-cache`: the cache is `config.cache`.
     ConfigCache,
@@ -28,7 +28,7 @@ pub enum Switch {
 }
 
 /// What an option with a value sets. The value is after a `=`, or the next argument.
-#[derive(Clone, Copy, PartialEq, Eq, Debug)]
+#[derive(Clone, Copy)]
 pub enum Target {
     /// A directory of the installation, or a prefix.
     Folder(Directory),
@@ -39,7 +39,7 @@ pub enum Target {
 }
 
 /// The reading of an argument that isn't the value of the option before it.
-#[derive(Clone, Copy, Debug)]
+#[derive(Clone, Copy)]
 pub(crate) enum Said<'a> {
     /// An option without a value.
     Turns(Switch),
@@ -60,7 +60,7 @@ pub(crate) enum Said<'a> {
 }
 
 /// A feature or a package, and its value.
-#[derive(Clone, Copy, Debug)]
+#[derive(Clone, Copy)]
 pub(crate) struct Choice<'a> {
     pub(crate) kind: OptionKind,
     pub(crate) name: &'a [u8],

@@ -9,7 +9,7 @@ ghost use Rattle.options.specs.Directories as words;
 
 /// A directory that files are installed into, or a prefix of such directories (Autoconf's manual, "Installation Directory
 /// Variables").
-#[derive(Clone, Copy, PartialEq, Eq, Debug)]
+#[derive(Clone, Copy)]
 pub enum Directory {
     /// The prefix of the other directories.
     Prefix,

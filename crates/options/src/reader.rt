@@ -14,7 +14,7 @@ use std::alloc::{AllocError, Global};
 use syntax::option_variable;
 
 /// The result of the arguments that have been read.
-#[derive(Debug, Drop)]
+#[derive(Drop)]
 pub(crate) struct Reader {
     pub(crate) vars: Vars,
     pub(crate) cache_name: Option<Bytes>,

@@ -19,7 +19,7 @@ use deftable::{Bytes, Notes, SubstList, Vars};
 use std::alloc::{AllocError, Global};
 
 /// What a run begins with, before a cache is loaded.
-#[derive(Debug, Drop)]
+#[derive(Drop)]
 pub struct Settings {
     /// The variables: those of the environment, of the directories and of the arguments, and the marks of precious
     /// variables.

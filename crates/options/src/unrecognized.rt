@@ -12,7 +12,7 @@ use std::alloc::{AllocError, Global};
 use std::marker::Model;
 
 /// Options that are not declared, each up to its `=` and with the number of its argument, in order.
-#[derive(Debug, Drop)]
+#[derive(Drop)]
 pub(crate) struct Unrecognized {
     options: Vec<(u64, Bytes)>,
 }

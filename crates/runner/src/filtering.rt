@@ -26,7 +26,7 @@ use syntax::{Output, Source};
 use template::fill;
 
 /// The result of the filter, besides the text that it writes.
-#[derive(Debug, Drop)]
+#[derive(Drop)]
 pub struct Filtered {
     /// The exit status of the program: 0 if the run completes, 3 if it is cut short, and else the source's own.
     pub status: u8,
@@ -100,7 +100,7 @@ fn text_of(
 }
 
 /// The text that is written, and the exit status.
-#[derive(Debug, Drop)]
+#[derive(Drop)]
 struct Written {
     text: Vec<u8>,
     status: u8,

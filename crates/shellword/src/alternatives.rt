@@ -10,7 +10,7 @@ use std::marker::Model;
 
 /// Patterns separated by `|`, as before one list of a shell's `case`. In contracts, its value is the list of the pieces
 /// of each pattern.
-#[derive(Debug, Drop)]
+#[derive(Drop)]
 pub struct Patterns {
     alternatives: Vec<Pattern>,
 }

@@ -11,7 +11,7 @@ use std::alloc::{AllocError, Global};
 use std::collections::VecDeque;
 
 /// The condition of an element of a test.
-#[derive(Debug, Drop)]
+#[derive(Drop)]
 pub enum Condition {
     /// `:` or `true`.
     True,
@@ -28,7 +28,7 @@ pub enum Condition {
 }
 
 /// An element of a test: a condition that must hold, or one that must not.
-#[derive(Debug, Drop)]
+#[derive(Drop)]
 pub struct Element {
     /// Whether the number of `!` before the condition is odd.
     pub negated: bool,

@@ -19,7 +19,7 @@ use std::alloc::{AllocError, Global};
 use std::marker::Model;
 
 /// A text in which variables are replaced, as in a shell's here-document. In contracts, its value is the list of its parts.
-#[derive(Debug, Drop)]
+#[derive(Drop)]
 pub struct HereText {
     parts: Vec<Part>,
 }

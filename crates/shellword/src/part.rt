@@ -3,7 +3,7 @@
 use deftable::Bytes;
 
 /// A part of a word or of a here text.
-#[derive(Debug, Drop)]
+#[derive(Drop)]
 pub enum Part {
     /// A byte outside quotes, which no backslash quotes.
     Plain(u8),

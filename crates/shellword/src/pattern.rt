@@ -19,7 +19,7 @@ use std::collections::VecDeque;
 use std::marker::Model;
 
 /// A piece of a pattern: what it matches.
-#[derive(Clone, Copy, Debug, PartialEq, Eq)]
+#[derive(Clone, Copy)]
 pub enum Piece {
     /// `*`: any bytes, or none.
     AnyBytes,
@@ -30,7 +30,7 @@ pub enum Piece {
 }
 
 /// One pattern of a list of patterns. In contracts, its value is the list of its pieces.
-#[derive(Debug, Drop)]
+#[derive(Drop)]
 pub struct Pattern {
     pieces: Vec<Piece>,
 }

@@ -22,7 +22,7 @@ use std::marker::Model;
 use std::mem;
 
 /// A test. In contracts, its value is an element, or a test joined with another element.
-#[derive(Debug, Drop)]
+#[derive(Drop)]
 pub struct Test {
     first: Element,
     /// Each later element, with the joint before it.

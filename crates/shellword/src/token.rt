@@ -15,7 +15,7 @@ use std::alloc::Global;
 use std::collections::VecDeque;
 
 /// The operator that joins a test and the element after it.
-#[derive(Clone, Copy, Debug, PartialEq, Eq)]
+#[derive(Clone, Copy)]
 pub enum Joint {
     /// `&&`: both are true.
     And,

@@ -23,7 +23,7 @@ use std::alloc::{AllocError, Global};
 use std::marker::Model;
 
 /// A shell word. In contracts, its value is the list of its parts.
-#[derive(Debug, Drop)]
+#[derive(Drop)]
 pub struct Word {
     parts: Vec<Part>,
 }

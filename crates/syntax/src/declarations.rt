@@ -12,7 +12,7 @@ use deftable::{Bytes, Name, SubstList};
 use std::alloc::{AllocError, Global};
 
 /// How far a source is: which of AC_INIT and AC_OUTPUT it has passed.
-#[derive(Clone, Copy, Debug, PartialEq, Eq)]
+#[derive(Clone, Copy)]
 pub enum Stage {
     /// Before AC_INIT.
     Before,
@@ -23,7 +23,7 @@ pub enum Stage {
 }
 
 /// How far a source is after statements, and what they declare.
-#[derive(Debug, Drop)]
+#[derive(Drop)]
 pub struct Declarations {
     pub stage: Stage,
     /// The output variables of AC_SUBST, AC_ARG_VAR, AC_CHECK_PROG, AC_CHECK_PROGS, AC_PATH_PROG and AC_PROG_CC, each once,

@@ -8,7 +8,7 @@ use deftable::Bytes;
 use std::alloc::{AllocError, Global};
 
 /// What an option is for.
-#[derive(Clone, Copy, PartialEq, Eq, Debug)]
+#[derive(Clone, Copy)]
 pub enum OptionKind {
     /// A feature: `--enable-NAME`, `--disable-NAME`.
     Feature,

@@ -9,7 +9,7 @@ use std::marker::Model;
 
 /// The help that a source gives for an option or a variable (Autoconf's manual, "Making Your Help Strings Look
 /// Pretty").
-#[derive(Debug, Drop)]
+#[derive(Drop)]
 pub enum Help {
     /// The option or the variable, and its purpose: `AS_HELP_STRING(left, right)`, and AC_ARG_VAR.
     Entry { left: Bytes, right: Bytes },
@@ -37,7 +37,7 @@ impl Help {
 }
 
 /// The help for the options and variables of a source, in the order of the source.
-#[derive(Debug, Drop)]
+#[derive(Drop)]
 pub struct HelpList {
     entries: Vec<Help>,
 }

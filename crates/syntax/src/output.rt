@@ -10,7 +10,7 @@ use std::marker::Model;
 
 /// A file to be made, and its template. `parse` accepts only paths below the build directory and the source directory:
 /// not absolute, without `$` and `:`, and with no part that is empty, `.` or `..`.
-#[derive(Debug, Drop)]
+#[derive(Drop)]
 pub struct Output {
     pub name: Bytes,
     pub template: Bytes,
@@ -28,7 +28,7 @@ impl Output {
 }
 
 /// A list of outputs.
-#[derive(Debug, Drop)]
+#[derive(Drop)]
 pub struct Outputs {
     outputs: Vec<Output>,
 }

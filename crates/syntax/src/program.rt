@@ -7,7 +7,7 @@ use shellword::HereText;
 use std::marker::Model;
 
 /// Names of programs, in the order of the search. Contracts see the list of their texts.
-#[derive(Debug, Drop)]
+#[derive(Drop)]
 pub struct ProgramNames {
     names: Vec<Bytes>,
 }
@@ -37,7 +37,7 @@ impl ProgramNames {
 }
 
 /// How a program is tried (Autoconf's manual, "Running the Compiler" and the sections after it).
-#[derive(Clone, Copy, PartialEq, Eq, Debug)]
+#[derive(Clone, Copy)]
 pub enum Try {
     /// It is compiled.
     Compile,
@@ -51,7 +51,7 @@ pub enum Try {
 
 /// The text of a program that is tried. In a prologue and in a whole text, each line AC_INCLUDES_DEFAULT has been
 /// replaced by the default includes.
-#[derive(Debug, Drop)]
+#[derive(Drop)]
 pub enum Program {
     /// AC_LANG_PROGRAM: the text before `main`, and the text of its body.
     Program { prologue: HereText, body: HereText },

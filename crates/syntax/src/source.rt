@@ -12,7 +12,7 @@ use deftable::SubstList;
 use std::marker::Model;
 
 /// A configure.ac that was read. Contracts see its statements; its lists are those that the statements declare.
-#[derive(Debug, Drop)]
+#[derive(Drop)]
 pub struct Source {
     statements: Vec<Stmt>,
     lists: Declarations,

@@ -8,7 +8,7 @@ use deftable::{Bytes, Name};
 use shellword::{HereText, Word};
 
 /// A statement with no statements in it. Texts are used texts: unquoted, with quadrigraphs replaced.
-#[derive(Debug, Drop)]
+#[derive(Drop)]
 pub enum Plain {
     /// AC_INIT: the package's names and its version.
     Init {
@@ -88,7 +88,7 @@ pub enum Plain {
 }
 
 /// What a macro asks, if it has statements for each answer.
-#[derive(Debug, Drop)]
+#[derive(Drop)]
 pub enum Question {
     /// AC_ARG_ENABLE and AC_ARG_WITH: whether the option's variable is set. If it is, the variable `enableval` or
     /// `withval` gets its value from here on.

@@ -7,7 +7,7 @@ use crate::statement::{Plain, Question};
 use shellword::{Patterns, Test, Word};
 
 /// What the cases of a choice are decided by.
-#[derive(Debug, Drop)]
+#[derive(Drop)]
 pub enum Subject {
     /// Nothing in common: each case of AS_IF has its own test.
     Nothing,
@@ -18,7 +18,7 @@ pub enum Subject {
 }
 
 /// The condition of a case.
-#[derive(Debug, Drop)]
+#[derive(Drop)]
 pub enum When {
     /// The test holds.
     Holds(Test),
@@ -33,7 +33,7 @@ pub enum When {
 }
 
 /// A statement.
-#[derive(Debug, Drop)]
+#[derive(Drop)]
 #[cycle(statements)]
 pub enum Stmt {
     /// A statement with no statements in it.
@@ -43,7 +43,7 @@ pub enum Stmt {
 }
 
 /// A case: its condition and its statements.
-#[derive(Debug, Drop)]
+#[derive(Drop)]
 #[cycle(statements)]
 pub struct Case {
     pub when: When,

@@ -15,7 +15,7 @@ const MOST_HELD: usize = 512;
 
 /// The progress of a filling. The text before `start` is written, and the text from `start` to `last` is pending: it
 /// will be copied. If `opened` is set, an `@` is at `last` and may begin a key.
-#[derive(Clone, Copy, Debug)]
+#[derive(Clone, Copy)]
 struct Held {
     start: usize,
     last: usize,

@@ -11,7 +11,7 @@ use std::alloc::{AllocError, Global};
 /// The variables of one output file that name directories (Autoconf's manual, "Preset Output Variables").
 ///
 /// A relative name is relative to the directory of the output file.
-#[derive(Debug, Drop)]
+#[derive(Drop)]
 pub struct Place {
     /// The source directory that corresponds to the directory of the output file.
     pub srcdir: Bytes,

@@ -8,7 +8,7 @@ use std::marker::Model;
 
 /// A set of texts that also accepts a few others. A text has one bit, which its first byte, its last byte and its
 /// length determine.
-#[derive(Debug, Drop)]
+#[derive(Drop)]
 pub(crate) struct Sieve {
     rows: [u64; 64],
 }

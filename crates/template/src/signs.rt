@@ -12,7 +12,7 @@ use std::simd::prelude::*;
 const WIDTH: usize = 64;
 
 /// The part of the text from `base` to `end`. Bit k of `marks` is set if an `@` that isn't found yet is at `base + k`.
-#[derive(Clone, Copy, Debug)]
+#[derive(Clone, Copy)]
 pub(crate) struct Window {
     pub(crate) base: usize,
     pub(crate) end: usize,

@@ -13,7 +13,7 @@ use std::marker::Model;
 /// The keys of a template, each with its value (Autoconf's manual, "Setting Output Variables").
 ///
 /// A key has the form of a shell variable's name, so it contains no `@`.
-#[derive(Debug, Drop)]
+#[derive(Drop)]
 pub struct Table {
     entries: Defs,
     longest: usize,
