@@ -1,12 +1,12 @@
 # make          proves every crate, then builds the program
 # make demo     the same, and runs it on the examples
-# make compile  tries the conftests with a real compiler, the one that CC names
+# make compile  tries sample conftests with a real compiler, the one that CC names
 # make check    every proof, every test and every must-fail edit (rt ci)
 # make install  puts the built program at $(prefix)/bin/acrun
 
 prefix = /usr/local
 acrun = crates/acrun/out/acrun
-conftests = crates/conftests/out/conftests
+samples = crates/conftest_samples/out/conftest_samples
 
 # A crate is proved as soon as those that it uses are; out/NAME.proved is made then. The graph is that of crates.txt, of which
 # each line becomes one word here: NAME:DEP,DEP.
@@ -49,11 +49,11 @@ demo: $(acrun)
 	@sh examples/run.sh $(acrun) examples/branches
 	@sh examples/standin/run.sh $(acrun)
 
-$(conftests): out/conftests.proved
-	@sh tools/build.sh conftests
+$(samples): out/conftest_samples.proved
+	@sh tools/build.sh conftest_samples
 
-compile: $(conftests)
-	@sh examples/conftests/run.sh $(conftests)
+compile: $(samples)
+	@sh examples/conftest_samples/run.sh $(samples)
 
 check:
 	@rm -rf out/rooms

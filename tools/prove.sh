@@ -2,7 +2,7 @@
 # Proves a crate, once those that it uses are proved, and builds it as a library for those above it.
 #   prove.sh CRATE ALL_CRATES..
 # rt locks a crate and all those below it while it works, so two crates over the same third one would wait for each other. Each
-# is therefore proved in a room of its own: a folder with crates.txt, links to the crates below, and the crate.
+# is therefore proved in a room of its own: a directory with crates.txt, links to the crates below, and the crate.
 crate=$1
 shift
 root=$PWD

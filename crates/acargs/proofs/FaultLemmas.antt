@@ -3,7 +3,7 @@ use Rattle.std.proofs.Common.{ℕ, ◌+◌, ◌<◌, ◌^◌, List, length, arit
 use Rattle.m4quote.specs.declared.fault.QuoteFault.{QuoteFault}
 use Rattle.m4quote.specs.declared.fault.QuoteFault.TheVariants.{UnclosedQuote, UnclosedParen, StrayClose, Nul, TooLarge, TooDeep, OutOfMemory}
 use Rattle.m4quote.specs.Faults.{IsBracketFault}
-use Rattle.acargs.specs.Fault.{IsWithin}
+use Rattle.acstatement.specs.Fault.{IsWithin}
 
 pub within_from_kind : (base : ℕ) (text : List ℕ) (f : QuoteFault) → base + length text < 2 ^ 64 → IsBracketFault text f → IsWithin base f
 within_from_kind base text (UnclosedQuote at) fits kind = omega arith

@@ -1,10 +1,4 @@
 pub mod Lists
-pub mod Binds
-pub mod IdleLemmas
 pub mod OutputLemmas
 pub mod FaultLemmas
-pub mod InsideLemmas
-pub mod Outside
-pub mod Runs
-pub mod Standings
 pub mod FeatureLemmas

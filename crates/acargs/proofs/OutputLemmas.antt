@@ -2,12 +2,12 @@
 use Rattle.std.proofs.Common.{◌≡◌, ℕ, ◌+◌, ◌<◌, ◌≤◌, List, Bor, length, drop, get_or, map, Bool, true, false, not, nat_lt, [], ◌∷◌, ◌++◌, Result, Ok, refl, ap, ◌∙◌, sym, subst}
 use Rattle.std.proofs.lemmas.List.{drop_more}
 use Rattle.std.proofs.Math.ListN.{drop_of_length-le}
-use Rattle.acargs.specs.declared.fault.ParseFault.{ParseFault}
+use Rattle.acstatement.specs.declared.fault.ParseFault.{ParseFault}
 use Rattle.syntax.specs.declared.output.Output.{Output}
 use Rattle.acargs.specs.Path.{output_in}
 use Rattle.acargs.specs.Outputs.{one_more, wanted, with_fields}
-use Rattle.acargs.specs.Reading.{◌>>=◌, Fails}
-use Rattle.acargs.proofs.Binds.{fails_bind, fails_along}
+use Rattle.acstatement.specs.Reading.{◌>>=◌, Fails}
+use Rattle.acstatement.proofs.Binds.{fails_bind, fails_along}
 
 abbrev pub texts : List (Bor (List ℕ)) → List (List ℕ)
 texts fields = map (λ f. f.now) fields

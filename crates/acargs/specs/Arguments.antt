@@ -6,15 +6,11 @@ use Rattle.m4quote.specs.Scan.{used}
 use Rattle.m4quote.specs.declared.fault.QuoteFault.{QuoteFault}
 use Rattle.deftable.specs.ShellName.{is_shell_name_of}
 use Rattle.textcut.specs.Cuts.{trimmed}
-use Rattle.acargs.specs.declared.fault.ParseFault.{ParseFault}
-use Rattle.acargs.specs.declared.fault.ParseFault.TheVariants.{BadName}
-use Rattle.acargs.specs.Reading.{◌>>=◌, quoted_at, wants}
+use Rattle.acstatement.specs.declared.fault.ParseFault.{ParseFault}
+use Rattle.acstatement.specs.declared.fault.ParseFault.TheVariants.{BadName}
+use Rattle.acstatement.specs.Reading.{◌>>=◌, quoted_at, wants}
 use Rattle.syntax.specs.Texts.{is_empty}
-use Rattle.acargs.specs.Texts.{is_line}
-
--- The argument at i, or an empty one at offset 0 if there is none. (own)
-abbrev pub arg_at : List Span → ℕ → Span
-arg_at args i = slice_index_or args i (record { text = []; at = 0 })
+use Rattle.acstatement.specs.Texts.{is_line}
 
 -- An argument's used text. (Autoconf's manual, "The Autoconf Language")
 abbrev pub text : Span → Result (List ℕ) ParseFault

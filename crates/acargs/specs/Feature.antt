@@ -4,9 +4,9 @@ use Rattle.m4quote.specs.Entry.{Span}
 use Rattle.syntax.specs.Feature.{is_feature, option_variable}
 use Rattle.syntax.specs.declared.feature.OptionKind.{OptionKind}
 use Rattle.acargs.specs.Arguments.{bare_text}
-use Rattle.acargs.specs.Reading.{◌>>=◌, wants}
-use Rattle.acargs.specs.declared.fault.ParseFault.{ParseFault}
-use Rattle.acargs.specs.declared.fault.ParseFault.TheVariants.{BadName}
+use Rattle.acstatement.specs.Reading.{◌>>=◌, wants}
+use Rattle.acstatement.specs.declared.fault.ParseFault.{ParseFault}
+use Rattle.acstatement.specs.declared.fault.ParseFault.TheVariants.{BadName}
 
 -- The variable of the option that an argument names. (Autoconf's manual, "Choosing Package Options")
 unfoldable pub feature_variable : OptionKind → Span → Result (List ℕ) ParseFault

@@ -8,14 +8,15 @@
 use Rattle.std.specs.Prelude.{ℕ, Bool, true, false, ◌&&◌, ◌||◌, ◌==◌, List, [], ◌∷◌, length, Option, Some, None, Result, Ok, Err, codes, if◌then◌else◌}
 use Rattle.std.specs.Str.{bytes_eq}
 use Rattle.m4quote.specs.Entry.{Span, Entry, call, bare}
-use Rattle.acargs.specs.declared.fault.ParseFault.{ParseFault}
-use Rattle.acargs.specs.declared.fault.ParseFault.TheVariants.{UnknownStatement, ArgCount}
+use Rattle.acstatement.specs.declared.fault.ParseFault.{ParseFault}
+use Rattle.acstatement.specs.declared.fault.ParseFault.TheVariants.{UnknownStatement, ArgCount}
 use Rattle.syntax.specs.declared.help.Help.{Help}
 use Rattle.syntax.specs.declared.help.Help.TheVariants as helps
-use Rattle.acargs.specs.Arguments.{arg_at, text}
-use Rattle.acargs.specs.Inside.{are_blank, call_items}
-use Rattle.acargs.specs.Reading.{◌>>=◌, wants}
-use Rattle.acargs.specs.Texts.{is_all_blank}
+use Rattle.acargs.specs.Arguments.{text}
+use Rattle.acstatement.specs.Texts.{arg_at}
+use Rattle.acstatement.specs.Inside.{are_blank, call_items}
+use Rattle.acstatement.specs.Reading.{◌>>=◌, wants}
+use Rattle.acstatement.specs.Texts.{is_all_blank}
 
 -- ---- a call with blanks alone beside it
 

@@ -1,15 +1,8 @@
-pub mod Fault
-pub mod Reading
-pub mod Texts
 pub mod Arguments
 pub mod Path
 pub mod Outputs
-pub mod Idle
-pub mod Stand
 pub mod Shell
 pub mod Numbers
-pub mod Inside
-pub mod Standing
 pub mod Feature
 pub mod Help
 pub mod Programs

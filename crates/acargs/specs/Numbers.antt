@@ -5,10 +5,10 @@ use Rattle.std.specs.List.{list_all}
 use Rattle.std.specs.Str.{bytes_eq}
 use Rattle.m4quote.specs.Entry.{Span}
 use Rattle.textcut.specs.Cuts.{parts}
-use Rattle.acargs.specs.declared.fault.ParseFault.{ParseFault}
-use Rattle.acargs.specs.declared.fault.ParseFault.TheVariants.{BadName, NewerVersion}
+use Rattle.acstatement.specs.declared.fault.ParseFault.{ParseFault}
+use Rattle.acstatement.specs.declared.fault.ParseFault.TheVariants.{BadName, NewerVersion}
 use Rattle.acargs.specs.Arguments.{text, bare_text}
-use Rattle.acargs.specs.Reading.{◌>>=◌, wants}
+use Rattle.acstatement.specs.Reading.{◌>>=◌, wants}
 use Rattle.syntax.specs.Texts.{is_empty}
 
 -- One digit or more. (own)

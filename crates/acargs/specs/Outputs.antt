@@ -2,13 +2,13 @@
 use Rattle.std.specs.Prelude.{ℕ, ◌+◌, not, List, [], ◌∷◌, ◌++◌, length, Result, Ok, nat_lt}
 use Rattle.m4quote.specs.Entry.{Span}
 use Rattle.textcut.specs.Cuts.{fields}
-use Rattle.acargs.specs.declared.fault.ParseFault.{ParseFault}
-use Rattle.acargs.specs.declared.fault.ParseFault.TheVariants.{BadName, TooMany}
+use Rattle.acstatement.specs.declared.fault.ParseFault.{ParseFault}
+use Rattle.acstatement.specs.declared.fault.ParseFault.TheVariants.{BadName, TooMany}
 use Rattle.syntax.specs.declared.output.Output.{Output}
 use Rattle.acargs.specs.Arguments.{text}
 use Rattle.syntax.specs.Output.{has_output}
 use Rattle.acargs.specs.Path.{is_path, output_in}
-use Rattle.acargs.specs.Reading.{◌>>=◌, wants}
+use Rattle.acstatement.specs.Reading.{◌>>=◌, wants}
 
 -- What an output must be to be one more of an argument, in the order of the faults: its name and its template are paths, and
 -- no output has the name yet. `own` are the outputs of its kind before the argument, which has listed `outputs` so far; there

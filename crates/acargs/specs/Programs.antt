@@ -8,10 +8,10 @@ use Rattle.m4quote.specs.Entry.{Span}
 use Rattle.shellword.specs.Scan.{here_of}
 use Rattle.shellword.specs.declared.part.Part.{Part}
 use Rattle.textcut.specs.Cuts.{is_blank, trimmed, fields, parts}
-use Rattle.acargs.specs.declared.fault.ParseFault.{ParseFault}
-use Rattle.acargs.specs.declared.fault.ParseFault.TheVariants.{BadName}
+use Rattle.acstatement.specs.declared.fault.ParseFault.{ParseFault}
+use Rattle.acstatement.specs.declared.fault.ParseFault.TheVariants.{BadName}
 use Rattle.acargs.specs.Arguments.{text, bare_text}
-use Rattle.acargs.specs.Reading.{◌>>=◌, shell_at, wants}
+use Rattle.acstatement.specs.Reading.{◌>>=◌, shell_at, wants}
 use Rattle.syntax.specs.Texts.{is_empty}
 
 -- ---- names of programs

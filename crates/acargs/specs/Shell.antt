@@ -8,9 +8,9 @@ use Rattle.shellword.specs.Test.{test_of}
 use Rattle.shellword.specs.Truth.{Joined}
 use Rattle.shellword.specs.declared.part.Part.{Part}
 use Rattle.shellword.specs.declared.pattern.Piece.{Piece}
-use Rattle.acargs.specs.declared.fault.ParseFault.{ParseFault}
+use Rattle.acstatement.specs.declared.fault.ParseFault.{ParseFault}
 use Rattle.acargs.specs.Arguments.{text}
-use Rattle.acargs.specs.Reading.{◌>>=◌, shell_at}
+use Rattle.acstatement.specs.Reading.{◌>>=◌, shell_at}
 
 -- A used text that is one word. (POSIX shell, "Word Expansions")
 unfoldable pub word : Span → Result (List Part) ParseFault

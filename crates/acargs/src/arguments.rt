@@ -3,25 +3,14 @@
 ghost use Rattle.std.specs.Prelude.{◌≡◌, ◌+◌, ◌≤◌, length, map, Ok, Err, IfOk, IfErr, ℕ, List, []};
 ghost use Rattle.m4quote.specs.Entry.{span};
 ghost use Rattle.acargs.specs.Arguments as forms;
-ghost use Rattle.acargs.specs.Reading.{Gives};
-ghost use Rattle.acargs.specs.Texts as texts;
+ghost use Rattle.acstatement.specs.Reading.{Gives};
+ghost use Rattle.acstatement.specs.Texts as texts;
 
-use crate::fault::{ParseFault, moved_by, quote_fault};
+use acstatement::fault::{ParseFault, moved_by, quote_fault};
 use deftable::{Bytes, Name};
 use m4quote::{Arg, QuoteFault, used_text};
 use std::alloc::{AllocError, Global};
-use textcut::{is_blank, trim};
-
-/// Returns the argument at `i`, or an empty one at offset 0 if there is none.
-pub fn arg_at<'a>(args: &[Arg<'a>], i: usize) -> Arg<'a>
-    ensures { span result ≡ forms.arg_at (map span args.now) i }
-{
-    if i < args.len() {
-        args[i]
-    } else {
-        Arg { text: b"", at: 0 }
-    }
-}
+use textcut::trim;
 
 /// Returns the used text of an argument: its quotes are removed and its quadrigraphs replaced (Autoconf's manual, "The
 /// Autoconf Language").
@@ -109,11 +98,4 @@ fn is_line(text: &[u8]) -> bool
     ensures { result ≡ texts.is_line text.now }
 {
     text.iter().all(|byte| *byte != b'\n')
-}
-
-/// Returns whether the text has blanks alone: spaces, tabs and newlines.
-pub(crate) fn is_all_blank(text: &[u8]) -> bool
-    ensures { result ≡ texts.is_all_blank text.now }
-{
-    text.iter().all(|byte| is_blank(*byte))
 }

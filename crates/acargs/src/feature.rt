@@ -3,10 +3,10 @@
 ghost use Rattle.std.specs.Prelude.{◌≡◌};
 ghost use Rattle.m4quote.specs.Entry.{span};
 ghost use Rattle.acargs.specs.Feature as words;
-ghost use Rattle.acargs.specs.Reading.{Gives};
+ghost use Rattle.acstatement.specs.Reading.{Gives};
 
 use crate::arguments::bare_text;
-use crate::fault::ParseFault;
+use acstatement::fault::ParseFault;
 use deftable::Name;
 use m4quote::Arg;
 use std::alloc::Global;

@@ -3,11 +3,12 @@
 ghost use Rattle.std.specs.Prelude.{◌≡◌, MatchOption, None, Some, map};
 ghost use Rattle.m4quote.specs.Entry.{span, views};
 ghost use Rattle.acargs.specs.Help as words;
-ghost use Rattle.acargs.specs.Reading.{Gives};
+ghost use Rattle.acstatement.specs.Reading.{Gives};
 
-use crate::arguments::{arg_at, is_all_blank, text};
-use crate::fault::ParseFault;
-use crate::inside::{are_blank, call_items};
+use crate::arguments::text;
+use acstatement::fault::ParseFault;
+use acstatement::inside::{are_blank, call_items};
+use acstatement::texts::{arg_at, is_all_blank};
 use m4quote::{Arg, Item};
 use std::alloc::Global;
 use syntax::Help;

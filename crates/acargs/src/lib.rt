@@ -4,10 +4,9 @@
 //! outputs. This crate reads one such form at a time: from an argument, which is a span of the source, to its value or
 //! to the error that a user sees.
 //!
-//! Read `fault` first, then `arguments`, then the forms in any order: `numbers` (versions, statuses and languages),
-//! `shell` (words, tests and patterns), `outputs` (lists of outputs, with `path`), `feature` (options), `program`
-//! (programs and texts that are compiled). Then read `inside` (arguments that hold statements or one call) and
-//! `helping` (help arguments). `idle` and `stand` are about the text around calls, and `facts` has a law.
+//! Read `arguments` first, then the forms in any order: `numbers` (versions, statuses and languages), `shell` (words, tests
+//! and patterns), `outputs` (lists of outputs, with `path`), `feature` (options), `program` (programs and texts that are
+//! compiled) and `helping` (help arguments). The crate `acstatement` has the errors, and arguments that hold statements.
 //!
 //! An argument `[ demo ]` that is read as a title is `demo`; read as a line it is ` demo `.
 //!
@@ -16,18 +15,12 @@
 #![tactic(auto)]
 
 pub mod arguments;
-mod facts;
-pub mod fault;
 pub mod feature;
 pub mod helping;
-pub mod idle;
-pub mod inside;
 pub mod numbers;
 pub mod outputs;
 mod path;
 pub mod program;
 pub mod shell;
-pub mod stand;
 
-pub use facts::inside_laws;
-pub use fault::ParseFault;
+pub use acstatement::ParseFault;

@@ -6,10 +6,10 @@ ghost use Rattle.std.specs.List.{list_all};
 ghost use Rattle.m4quote.specs.Entry.{span};
 ghost use Rattle.textcut.specs.Cuts as cuts;
 ghost use Rattle.acargs.specs.Numbers as forms;
-ghost use Rattle.acargs.specs.Reading.{Gives};
+ghost use Rattle.acstatement.specs.Reading.{Gives};
 
 use crate::arguments::{bare_text, text};
-use crate::fault::ParseFault;
+use acstatement::fault::ParseFault;
 use m4quote::Arg;
 use std::alloc::Global;
 use textcut::parts;

@@ -3,11 +3,11 @@
 ghost use Rattle.std.specs.Prelude.{◌≡◌, map};
 ghost use Rattle.m4quote.specs.Entry.{span};
 ghost use Rattle.acargs.specs.Outputs as specs;
-ghost use Rattle.acargs.specs.Reading.{Gives};
+ghost use Rattle.acstatement.specs.Reading.{Gives};
 
 use crate::arguments::text;
-use crate::fault::ParseFault;
 use crate::path::{is_path, output_in};
+use acstatement::fault::ParseFault;
 use m4quote::Arg;
 use std::alloc::Global;
 use syntax::{Output, Outputs};

@@ -5,10 +5,10 @@ ghost use Rattle.std.specs.List.{list_all};
 ghost use Rattle.m4quote.specs.Entry.{span};
 ghost use Rattle.textcut.specs.Cuts.{fields};
 ghost use Rattle.acargs.specs.Programs as words;
-ghost use Rattle.acargs.specs.Reading.{Gives};
+ghost use Rattle.acstatement.specs.Reading.{Gives};
 
 use crate::arguments::{bare_text, text};
-use crate::fault::{ParseFault, shell_fault};
+use acstatement::fault::{ParseFault, shell_fault};
 use csource::default_includes;
 use deftable::Bytes;
 use m4quote::Arg;

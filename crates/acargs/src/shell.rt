@@ -2,11 +2,11 @@
 
 ghost use Rattle.std.specs.Prelude.{◌≡◌};
 ghost use Rattle.m4quote.specs.Entry.{span};
-ghost use Rattle.acargs.specs.Reading.{Gives};
+ghost use Rattle.acstatement.specs.Reading.{Gives};
 ghost use Rattle.acargs.specs.Shell as forms;
 
 use crate::arguments::text;
-use crate::fault::{ParseFault, shell_fault};
+use acstatement::fault::{ParseFault, shell_fault};
 use m4quote::Arg;
 use shellword::{HereText, Patterns, Test, Word, read_here, read_patterns, read_test, read_word};
 use std::alloc::Global;

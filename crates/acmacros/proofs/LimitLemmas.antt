@@ -10,22 +10,23 @@ use Rattle.deftable.specs.NameList.{with_name, has_name, AreDistinct}
 use Rattle.deftable.proofs.Names.{has_name-with_name, with_name-known, with_name-new, AreDistinct-with_name}
 use Rattle.textcut.specs.Cuts.{fields}
 use Rattle.m4quote.specs.Entry.{Span}
-use Rattle.acargs.specs.declared.fault.ParseFault.TheVariants.{BadName, TooMany}
+use Rattle.acstatement.specs.declared.fault.ParseFault.TheVariants.{BadName, TooMany}
 use Rattle.syntax.specs.declared.output.Output.{Output}
 use Rattle.syntax.specs.declared.feature.OptionKind.{OptionKind}
 use Rattle.syntax.specs.declared.feature.OptionKind.TheVariants.{Feature, Package}
-use Rattle.acargs.specs.Arguments.{arg_at, is_given, line, name, text, title}
+use Rattle.acargs.specs.Arguments.{is_given, line, name, text, title}
+use Rattle.acstatement.specs.Texts.{arg_at}
 use Rattle.acargs.specs.Feature.{feature_variable}
 use Rattle.acargs.specs.Help.{help}
 use Rattle.acargs.specs.Numbers.{language, status, version}
 use Rattle.syntax.specs.Output.{has_output}
 use Rattle.acargs.specs.Path.{is_path, output_in}
 use Rattle.acargs.specs.Programs.{program, programs}
-use Rattle.acargs.specs.Reading.{◌>>=◌, wants}
+use Rattle.acstatement.specs.Reading.{◌>>=◌, wants}
 use Rattle.acargs.specs.Shell.{word, here_text}
 use Rattle.syntax.specs.Texts.{is_empty}
 use Rattle.acargs.specs.Outputs.{outputs, with_fields, one_more, wanted}
-use Rattle.acargs.proofs.Binds.{bind_ok, ok_is, wants_ok}
+use Rattle.acstatement.proofs.Binds.{bind_ok, ok_is, wants_ok}
 use Rattle.acmacros.specs.declared.macros.PlainMacro.{PlainMacro}
 use Rattle.acmacros.specs.declared.macros.PlainMacro.TheVariants as macro
 use Rattle.acmacros.specs.declared.macros.QuestionMacro.{QuestionMacro}

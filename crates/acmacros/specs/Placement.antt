@@ -3,9 +3,9 @@
 use Rattle.std.specs.Prelude.{ℕ, Bool, true, false, not, ◌&&◌, ◌||◌, Result, Ok, Err}
 use Rattle.syntax.specs.declared.declarations.Stage as stages
 use Rattle.syntax.specs.declared.declarations.Stage.TheVariants.{Before, Open, Ended}
-use Rattle.acargs.specs.declared.fault.ParseFault.{ParseFault}
-use Rattle.acargs.specs.declared.fault.ParseFault.TheVariants.{NoInit, AfterOutput, NotAtTop, UnknownStatement}
-use Rattle.acargs.specs.Reading.{wants}
+use Rattle.acstatement.specs.declared.fault.ParseFault.{ParseFault}
+use Rattle.acstatement.specs.declared.fault.ParseFault.TheVariants.{NoInit, AfterOutput, NotAtTop, UnknownStatement}
+use Rattle.acstatement.specs.Reading.{wants}
 use Rattle.acmacros.specs.declared.macros.Macro as macro
 use Rattle.acmacros.specs.declared.macros.Macro.TheVariants.{Plain}
 use Rattle.acmacros.specs.declared.macros.Named.{Named}

@@ -2,19 +2,20 @@
 -- an argument has an error, it is that of the first such argument.
 use Rattle.std.specs.Prelude.{ℕ, List, length, Result, Ok, nat_lt, codes, if◌then◌else◌}
 use Rattle.m4quote.specs.Entry.{Span}
-use Rattle.acargs.specs.declared.fault.ParseFault.{ParseFault}
-use Rattle.acargs.specs.declared.fault.ParseFault.TheVariants.{TooMany}
-use Rattle.acargs.specs.Arguments.{arg_at, text, name, title, line, is_given}
+use Rattle.acstatement.specs.declared.fault.ParseFault.{ParseFault}
+use Rattle.acstatement.specs.declared.fault.ParseFault.TheVariants.{TooMany}
+use Rattle.acargs.specs.Arguments.{text, name, title, line, is_given}
+use Rattle.acstatement.specs.Texts.{arg_at}
 use Rattle.syntax.specs.declared.feature.OptionKind.{OptionKind}
 use Rattle.syntax.specs.declared.feature.OptionKind.TheVariants.{Feature, Package}
 use Rattle.acargs.specs.Feature.{feature_variable}
 use Rattle.acargs.specs.Help.{help}
 use Rattle.acargs.specs.Numbers.{version, status, language}
 use Rattle.acargs.specs.Outputs.{outputs}
-use Rattle.acargs.specs.Reading.{◌>>=◌, wants}
+use Rattle.acstatement.specs.Reading.{◌>>=◌, wants}
 use Rattle.acargs.specs.Shell.{word, here_text}
 use Rattle.syntax.specs.Texts.{is_empty}
-use Rattle.acargs.specs.Texts.{or_else}
+use Rattle.acstatement.specs.Texts.{or_else}
 use Rattle.acmacros.specs.declared.macros.PlainMacro.{PlainMacro}
 use Rattle.acmacros.specs.declared.macros.PlainMacro.TheVariants as macro
 use Rattle.acmacros.specs.declared.macros.QuestionMacro.{QuestionMacro}

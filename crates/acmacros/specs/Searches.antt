@@ -3,11 +3,12 @@ use Rattle.std.specs.Prelude.{ℕ, ◌+◌, Bool, List, [], ◌∷◌, length, O
 use Rattle.deftable.specs.NameList.{has_name}
 use Rattle.m4quote.specs.Entry.{Span}
 use Rattle.shellword.specs.declared.part.Part.{Part}
-use Rattle.acargs.specs.declared.fault.ParseFault.{ParseFault}
-use Rattle.acargs.specs.declared.fault.ParseFault.TheVariants.{TooMany}
-use Rattle.acargs.specs.Arguments.{arg_at, name, is_given}
+use Rattle.acstatement.specs.declared.fault.ParseFault.{ParseFault}
+use Rattle.acstatement.specs.declared.fault.ParseFault.TheVariants.{TooMany}
+use Rattle.acargs.specs.Arguments.{name, is_given}
+use Rattle.acstatement.specs.Texts.{arg_at}
 use Rattle.acargs.specs.Programs.{program, programs}
-use Rattle.acargs.specs.Reading.{◌>>=◌, wants}
+use Rattle.acstatement.specs.Reading.{◌>>=◌, wants}
 use Rattle.acargs.specs.Shell.{here_text}
 use Rattle.syntax.specs.declared.declarations.Declarations as declarations
 use Rattle.syntax.specs.declared.statement.Plain.{Plain}

@@ -3,7 +3,8 @@
 use Rattle.std.specs.Prelude.{ℕ, Bool, true, false, not, ◌&&◌, List, [], ◌∷◌, length, Option, Some, None, nat_le, codes, if◌then◌else◌}
 use Rattle.std.specs.Str.{bytes_eq}
 use Rattle.m4quote.specs.Entry.{Span}
-use Rattle.acargs.specs.Arguments.{arg_at, is_given}
+use Rattle.acargs.specs.Arguments.{is_given}
+use Rattle.acstatement.specs.Texts.{arg_at}
 use Rattle.acmacros.specs.declared.macros.ArgumentMacro.TheVariants.{HelpString, LangProgram, LangSource}
 use Rattle.acmacros.specs.declared.macros.ChoiceMacro.TheVariants.{If, Case}
 use Rattle.acmacros.specs.declared.macros.Macro.TheVariants.{Plain, Choice, Question}

@@ -2,13 +2,13 @@
 -- "Generating Sources").
 use Rattle.std.specs.Prelude.{ℕ, ◌==◌, List, length, Option, Some, None, Result, Ok, Err, nat_le, codes}
 use Rattle.m4quote.specs.Entry.{Span}
-use Rattle.acargs.specs.declared.fault.ParseFault.{ParseFault}
-use Rattle.acargs.specs.declared.fault.ParseFault.TheVariants.{UnknownStatement, ArgCount}
-use Rattle.acargs.specs.Arguments.{arg_at}
+use Rattle.acstatement.specs.declared.fault.ParseFault.{ParseFault}
+use Rattle.acstatement.specs.declared.fault.ParseFault.TheVariants.{UnknownStatement, ArgCount}
+use Rattle.acstatement.specs.Texts.{arg_at}
 use Rattle.acargs.specs.Help.{Called, sole_call}
-use Rattle.acargs.specs.Inside.{call_items}
+use Rattle.acstatement.specs.Inside.{call_items}
 use Rattle.acargs.specs.Programs.{source_text}
-use Rattle.acargs.specs.Reading.{◌>>=◌, wants}
+use Rattle.acstatement.specs.Reading.{◌>>=◌, wants}
 use Rattle.acargs.specs.Shell.{here_text}
 use Rattle.syntax.specs.declared.program.Program.{Program}
 use Rattle.syntax.specs.declared.program.Program.TheVariants as made

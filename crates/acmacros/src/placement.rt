@@ -1,7 +1,7 @@
 //! Which calls are allowed before, between and after AC_INIT and AC_OUTPUT, and at top level or not.
 
 ghost use Rattle.std.specs.Prelude.{◌≡◌};
-ghost use Rattle.acargs.specs.Reading.{Gives};
+ghost use Rattle.acstatement.specs.Reading.{Gives};
 ghost use Rattle.acmacros.specs.Placement as places;
 
 use crate::macros::{Macro, Named, PlainMacro};

@@ -2,7 +2,7 @@
 
 ghost use Rattle.std.specs.Prelude.{◌≡◌, ◌||◌, ◌==◌, length, map, Ok, Err, IfOk, ◌<◌, nat_lt};
 ghost use Rattle.m4quote.specs.Entry.{span};
-ghost use Rattle.acargs.specs.Reading.{Gives};
+ghost use Rattle.acstatement.specs.Reading.{Gives};
 ghost use Rattle.acmacros.specs.PackageName as package_names;
 ghost use Rattle.acmacros.specs.Rows as rows;
 
@@ -10,12 +10,13 @@ use crate::macros::{PlainMacro, QuestionMacro};
 use crate::searches::{check_prog, check_progs, has_room, path_prog, prog_cc};
 use crate::tries::tries;
 use acargs::ParseFault;
-use acargs::arguments::{arg_at, is_given, line, name, text, title};
+use acargs::arguments::{is_given, line, name, text, title};
 use acargs::feature::feature_variable;
 use acargs::helping::help;
 use acargs::numbers::{language, status, version};
 use acargs::outputs::outputs;
 use acargs::shell::{here_text, word};
+use acstatement::texts::arg_at;
 use deftable::{Bytes, Name, SubstList};
 use m4quote::Arg;
 use std::alloc::{AllocError, Global};

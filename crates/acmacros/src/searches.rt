@@ -2,14 +2,15 @@
 
 ghost use Rattle.std.specs.Prelude.{◌≡◌, map, IfOk};
 ghost use Rattle.m4quote.specs.Entry.{span};
-ghost use Rattle.acargs.specs.Reading.{Gives};
+ghost use Rattle.acstatement.specs.Reading.{Gives};
 ghost use Rattle.acmacros.specs.Room as rooms;
 ghost use Rattle.acmacros.specs.Searches as rows;
 
 use acargs::ParseFault;
-use acargs::arguments::{arg_at, is_given, name};
+use acargs::arguments::{is_given, name};
 use acargs::program::{program, programs};
 use acargs::shell::here_text;
+use acstatement::texts::arg_at;
 use deftable::{Bytes, Name, SubstList};
 use m4quote::Arg;
 use shellword::HereText;

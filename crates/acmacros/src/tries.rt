@@ -2,15 +2,15 @@
 
 ghost use Rattle.std.specs.Prelude.{◌≡◌, map};
 ghost use Rattle.m4quote.specs.Entry.{span};
-ghost use Rattle.acargs.specs.Reading.{Gives};
+ghost use Rattle.acstatement.specs.Reading.{Gives};
 ghost use Rattle.acmacros.specs.Tries as rows;
 
 use acargs::ParseFault;
-use acargs::arguments::arg_at;
 use acargs::helping::sole_call;
-use acargs::inside::call_items;
 use acargs::program::source_text;
 use acargs::shell::here_text;
+use acstatement::inside::call_items;
+use acstatement::texts::arg_at;
 use m4quote::Arg;
 use std::alloc::Global;
 use syntax::{Program, Question, Try};

@@ -2,12 +2,12 @@
 use Rattle.std.proofs.Common.{◌≡◌, ℕ, zero, suc, Bool, false, List, [], ◌∷◌, drop, Option, Some, None, Result, Ok, Err, refl, ap, sym, subst, inl, inr, ◌∙◌}
 use Rattle.m4quote.specs.Entry.{Span, Entry, call, bare}
 use Rattle.m4quote.specs.declared.fault.QuoteFault.{QuoteFault}
-use Rattle.acargs.specs.declared.fault.ParseFault.{ParseFault}
-use Rattle.acargs.specs.declared.fault.ParseFault.TheVariants.{UnknownMacro}
-use Rattle.acargs.specs.declared.stand.Edge.{Edge}
-use Rattle.acargs.specs.Reading.{quoted, quote_fault}
-use Rattle.acargs.specs.Stand.{edge_of, no_edge}
-use Rattle.acargs.proofs.Binds.{bind_err, wants_err, err_is}
+use Rattle.acstatement.specs.declared.fault.ParseFault.{ParseFault}
+use Rattle.acstatement.specs.declared.fault.ParseFault.TheVariants.{UnknownMacro}
+use Rattle.acstatement.specs.declared.stand.Edge.{Edge}
+use Rattle.acstatement.specs.Reading.{quoted, quote_fault}
+use Rattle.acstatement.specs.Stand.{edge_of, no_edge}
+use Rattle.acstatement.proofs.Binds.{bind_err, wants_err, err_is}
 use Rattle.acargs.specs.Arguments.{is_given}
 use Rattle.acmacros.specs.declared.macros.ArgumentMacro.{ArgumentMacro}
 use Rattle.acmacros.specs.declared.macros.ChoiceMacro.{ChoiceMacro}

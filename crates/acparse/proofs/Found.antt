@@ -2,11 +2,11 @@
 use Rattle.std.proofs.Common.{◌≡◌, ℕ, zero, suc, Bool, true, false, List, [], ◌∷◌, drop, Option, Some, None, Result, Ok, Err, refl, ap, subst, ◌∙◌}
 use Rattle.m4quote.specs.Entry.{Span, Entry, call, bare}
 use Rattle.m4quote.specs.declared.fault.QuoteFault.{QuoteFault}
-use Rattle.acargs.specs.declared.stand.Edge.{Edge}
-use Rattle.acargs.specs.Idle.{is_idle}
-use Rattle.acargs.specs.Reading.{quoted}
-use Rattle.acargs.specs.Stand.{edge_of, no_edge}
-use Rattle.acargs.proofs.Binds.{bind_ok, ok_is, wants_ok}
+use Rattle.acstatement.specs.declared.stand.Edge.{Edge}
+use Rattle.acstatement.specs.Idle.{is_idle}
+use Rattle.acstatement.specs.Reading.{quoted}
+use Rattle.acstatement.specs.Stand.{edge_of, no_edge}
+use Rattle.acstatement.proofs.Binds.{bind_ok, ok_is, wants_ok}
 use Rattle.acmacros.specs.declared.macros.Macro.{Macro}
 use Rattle.acmacros.specs.declared.macros.ChoiceMacro.{ChoiceMacro}
 use Rattle.acmacros.specs.declared.macros.Macro.TheVariants.{Plain, Choice as A_choice, Question as A_question}
@@ -27,7 +27,7 @@ use Rattle.m4quote.proofs.Laws.{outcome_is_spelling, bare_value_is_value}
 use Rattle.baretext.proofs.Laws.{read-text}
 use Rattle.baretext.specs.Reading.{statements_of}
 use Rattle.baretext.specs.declared.fault.BareFault.{BareFault}
-use Rattle.acargs.specs.declared.fault.ParseFault.{ParseFault}
+use Rattle.acstatement.specs.declared.fault.ParseFault.{ParseFault}
 use Rattle.acargs.specs.Arguments.{is_given}
 use Rattle.syntax.specs.Lists.{after_all, after_cases}
 use Rattle.syntax.specs.Script.{Script, Done, Cases, No_case}

@@ -2,12 +2,13 @@
 use Rattle.std.proofs.Common.{◌≡◌, ℕ, zero, suc, Bool, true, false, List, Result, Ok, Err, refl, sym, subst}
 use Rattle.std.specs.Prelude.{IfOk}
 use Rattle.m4quote.specs.Entry.{Span, Entry}
-use Rattle.acargs.specs.declared.fault.ParseFault.{ParseFault}
-use Rattle.acargs.specs.declared.stand.Edge.{Edge}
-use Rattle.acargs.specs.Arguments.{arg_at, is_given}
-use Rattle.acargs.specs.Reading.{Gives}
+use Rattle.acstatement.specs.declared.fault.ParseFault.{ParseFault}
+use Rattle.acstatement.specs.declared.stand.Edge.{Edge}
+use Rattle.acargs.specs.Arguments.{is_given}
+use Rattle.acstatement.specs.Texts.{arg_at}
+use Rattle.acstatement.specs.Reading.{Gives}
 use Rattle.acargs.specs.Shell.{word}
-use Rattle.acargs.proofs.Binds.{bind_ok, ok_is}
+use Rattle.acstatement.proofs.Binds.{bind_ok, ok_is}
 use Rattle.acmacros.specs.declared.macros.ChoiceMacro.{ChoiceMacro}
 use Rattle.acmacros.specs.declared.macros.ChoiceMacro.TheVariants.{If, Case as As_case}
 use Rattle.syntax.specs.declared.declarations.Declarations as declarations

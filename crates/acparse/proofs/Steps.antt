@@ -6,12 +6,12 @@ use Rattle.std.proofs.lemmas.List.{drop_more, take_all, length-drop}
 use Rattle.m4quote.specs.declared.item.Arg.{Arg}
 use Rattle.m4quote.specs.declared.item.Item.{Item}
 use Rattle.m4quote.specs.Entry.{Span, Entry, span, view, views, call, bare}
-use Rattle.acargs.specs.declared.fault.ParseFault.{ParseFault}
-use Rattle.acargs.specs.declared.fault.ParseFault.TheVariants.{OutOfMemory}
-use Rattle.acargs.specs.declared.stand.Edge.{Edge}
-use Rattle.acargs.specs.Reading.{◌>>=◌, Fails, Gives}
-use Rattle.acargs.specs.Stand.{edge_of, no_edge}
-use Rattle.acargs.proofs.Binds.{bind_ok, ok_is, fails_bind, fails_along}
+use Rattle.acstatement.specs.declared.fault.ParseFault.{ParseFault}
+use Rattle.acstatement.specs.declared.fault.ParseFault.TheVariants.{OutOfMemory}
+use Rattle.acstatement.specs.declared.stand.Edge.{Edge}
+use Rattle.acstatement.specs.Reading.{◌>>=◌, Fails, Gives}
+use Rattle.acstatement.specs.Stand.{edge_of, no_edge}
+use Rattle.acstatement.proofs.Binds.{bind_ok, ok_is, fails_bind, fails_along}
 use Rattle.acmacros.specs.declared.macros.ChoiceMacro.{ChoiceMacro}
 use Rattle.acmacros.specs.declared.macros.Macro.{Macro}
 use Rattle.acmacros.specs.declared.macros.QuestionMacro.{QuestionMacro}

@@ -2,11 +2,11 @@
 use Rattle.std.proofs.Common.{◌≡◌, ℕ, Bool, true, false, cond, List, [], ◌∷◌, ◌++◌, length, Result, Ok, Err, refl, ap, sym, ◌∙◌}
 use Rattle.std.specs.Prelude.{◌==◌}
 use Rattle.baretext.specs.declared.assignments.Assignment.{Assignment}
-use Rattle.acargs.specs.declared.fault.ParseFault.{ParseFault}
-use Rattle.acargs.specs.declared.fault.ParseFault.TheVariants.{OutOfMemory}
-use Rattle.acargs.specs.Idle.{is_idle}
-use Rattle.acargs.specs.Reading.{Fails, Gives}
-use Rattle.acargs.proofs.Binds.{bind_ok, ok_is, fails_bind}
+use Rattle.acstatement.specs.declared.fault.ParseFault.{ParseFault}
+use Rattle.acstatement.specs.declared.fault.ParseFault.TheVariants.{OutOfMemory}
+use Rattle.acstatement.specs.Idle.{is_idle}
+use Rattle.acstatement.specs.Reading.{Fails, Gives}
+use Rattle.acstatement.proofs.Binds.{bind_ok, ok_is, fails_bind}
 use Rattle.syntax.specs.declared.declarations.Declarations as declarations
 use Rattle.syntax.specs.declared.declarations.Stage.{Stage}
 use Rattle.syntax.specs.declared.declarations.Stage.TheVariants.{Before, Open, Ended}

@@ -3,11 +3,11 @@ use Rattle.std.proofs.Common.{◌≡◌, ℕ, true, List, Result, Ok, Err, refl,
 use Rattle.std.specs.Prelude.{IfOk, IfErr}
 use Rattle.m4quote.proofs.Laws.{outcome_is_spelling, outcome_is_fault}
 use Rattle.m4quote.specs.Scan.{outcome}
-use Rattle.acargs.specs.declared.fault.ParseFault.{ParseFault}
-use Rattle.acargs.specs.declared.fault.ParseFault.TheVariants.{OutOfMemory}
-use Rattle.acargs.specs.Reading.{Gives, quoted}
-use Rattle.acargs.specs.Stand.{no_edge}
-use Rattle.acargs.proofs.Binds.{bind_ok, bind_err, then_ok, ok_is, err_is}
+use Rattle.acstatement.specs.declared.fault.ParseFault.{ParseFault}
+use Rattle.acstatement.specs.declared.fault.ParseFault.TheVariants.{OutOfMemory}
+use Rattle.acstatement.specs.Reading.{Gives, quoted}
+use Rattle.acstatement.specs.Stand.{no_edge}
+use Rattle.acstatement.proofs.Binds.{bind_ok, bind_err, then_ok, ok_is, err_is}
 use Rattle.syntax.specs.declared.declarations.Stage.{Stage}
 use Rattle.syntax.specs.declared.declarations.Stage.TheVariants.{Before, Open, Ended}
 use Rattle.syntax.specs.Lists.{start}

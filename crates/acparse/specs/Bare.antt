@@ -6,10 +6,10 @@ use Rattle.baretext.specs.declared.assignments.Assignment.{Assignment}
 use Rattle.baretext.specs.declared.fault.BareFault.{BareFault}
 use Rattle.baretext.specs.declared.fault.BareFault.TheVariants as bare
 use Rattle.baretext.specs.Reading.{statements_of}
-use Rattle.acargs.specs.declared.fault.ParseFault.{ParseFault}
-use Rattle.acargs.specs.declared.fault.ParseFault.TheVariants.{UnknownStatement, OutOfMemory}
-use Rattle.acargs.specs.Idle.{is_idle}
-use Rattle.acargs.specs.Reading.{◌>>=◌, shell_fault}
+use Rattle.acstatement.specs.declared.fault.ParseFault.{ParseFault}
+use Rattle.acstatement.specs.declared.fault.ParseFault.TheVariants.{UnknownStatement, OutOfMemory}
+use Rattle.acstatement.specs.Idle.{is_idle}
+use Rattle.acstatement.specs.Reading.{◌>>=◌, shell_fault}
 use Rattle.syntax.specs.declared.declarations.Stage.{Stage}
 use Rattle.syntax.specs.declared.declarations.Stage.TheVariants.{Before, Open, Ended}
 use Rattle.syntax.specs.declared.statement.Plain.TheVariants.{Assign}

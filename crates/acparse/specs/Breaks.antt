@@ -5,12 +5,12 @@ use Rattle.m4quote.specs.Entry.{Span, Entry, call, bare}
 use Rattle.m4quote.specs.Faults.{IsFirstFault}
 use Rattle.m4quote.specs.Spelling.{IsSpelling}
 use Rattle.m4quote.specs.declared.fault.QuoteFault.{QuoteFault}
-use Rattle.acargs.specs.declared.fault.ParseFault.{ParseFault}
-use Rattle.acargs.specs.declared.fault.ParseFault.TheVariants.{UnknownMacro, UnknownStatement, ArgCount, TooDeep}
-use Rattle.acargs.specs.declared.stand.Edge.{Edge}
-use Rattle.acargs.specs.Inside.{inside}
-use Rattle.acargs.specs.Reading.{quote_fault}
-use Rattle.acargs.specs.Stand.{edge_of, no_edge, is_statement}
+use Rattle.acstatement.specs.declared.fault.ParseFault.{ParseFault}
+use Rattle.acstatement.specs.declared.fault.ParseFault.TheVariants.{UnknownMacro, UnknownStatement, ArgCount, TooDeep}
+use Rattle.acstatement.specs.declared.stand.Edge.{Edge}
+use Rattle.acstatement.specs.Inside.{inside}
+use Rattle.acstatement.specs.Reading.{quote_fault}
+use Rattle.acstatement.specs.Stand.{edge_of, no_edge, is_statement}
 use Rattle.acmacros.specs.declared.macros.ArgumentMacro.{ArgumentMacro}
 use Rattle.acmacros.specs.declared.macros.ChoiceMacro.{ChoiceMacro}
 use Rattle.acmacros.specs.declared.macros.Macro.{Macro}

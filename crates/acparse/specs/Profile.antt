@@ -3,14 +3,15 @@
 use Rattle.std.specs.Prelude.{◌≡◌, ℕ, zero, suc, Bool, true, false, List, [], ◌∷◌, drop, Option, Some, None, Result, Ok, Err, if◌then◌else◌}
 use Rattle.m4quote.specs.Entry.{Span, Entry, call, bare}
 use Rattle.m4quote.specs.Scan.{outcome}
-use Rattle.acargs.specs.declared.fault.ParseFault.{ParseFault}
-use Rattle.acargs.specs.declared.fault.ParseFault.TheVariants.{UnknownMacro, UnknownStatement, ArgCount, NoInit, NoOutput, TooDeep}
-use Rattle.acargs.specs.declared.stand.Edge.{Edge}
-use Rattle.acargs.specs.Arguments.{arg_at, is_given}
-use Rattle.acargs.specs.Inside.{inside}
-use Rattle.acargs.specs.Reading.{◌>>=◌, wants, quoted}
+use Rattle.acstatement.specs.declared.fault.ParseFault.{ParseFault}
+use Rattle.acstatement.specs.declared.fault.ParseFault.TheVariants.{UnknownMacro, UnknownStatement, ArgCount, NoInit, NoOutput, TooDeep}
+use Rattle.acstatement.specs.declared.stand.Edge.{Edge}
+use Rattle.acargs.specs.Arguments.{is_given}
+use Rattle.acstatement.specs.Texts.{arg_at}
+use Rattle.acstatement.specs.Inside.{inside}
+use Rattle.acstatement.specs.Reading.{◌>>=◌, wants, quoted}
 use Rattle.acargs.specs.Shell.{word, shell_test, patterns}
-use Rattle.acargs.specs.Stand.{edge_of, no_edge, is_statement}
+use Rattle.acstatement.specs.Stand.{edge_of, no_edge, is_statement}
 use Rattle.acmacros.specs.declared.macros.ChoiceMacro.{ChoiceMacro}
 use Rattle.acmacros.specs.declared.macros.ChoiceMacro.TheVariants.{If, Case as As_case}
 use Rattle.acmacros.specs.declared.macros.Macro.{Macro}

@@ -4,10 +4,10 @@ use Rattle.m4quote.specs.Entry.{Entry}
 use Rattle.m4quote.specs.Faults.{IsFirstFault}
 use Rattle.m4quote.specs.Spelling.{IsSpelling}
 use Rattle.m4quote.specs.declared.fault.QuoteFault.{QuoteFault}
-use Rattle.acargs.specs.declared.fault.ParseFault.{ParseFault}
-use Rattle.acargs.specs.declared.fault.ParseFault.TheVariants.{NoInit, NoOutput}
-use Rattle.acargs.specs.Reading.{quote_fault}
-use Rattle.acargs.specs.Stand.{no_edge}
+use Rattle.acstatement.specs.declared.fault.ParseFault.{ParseFault}
+use Rattle.acstatement.specs.declared.fault.ParseFault.TheVariants.{NoInit, NoOutput}
+use Rattle.acstatement.specs.Reading.{quote_fault}
+use Rattle.acstatement.specs.Stand.{no_edge}
 use Rattle.syntax.specs.declared.declarations.Stage.TheVariants.{Before, Open, Ended}
 use Rattle.acparse.specs.Breaks.{Breaks, IsBroken}
 use Rattle.syntax.specs.Lists.{start}

@@ -5,11 +5,11 @@ use Rattle.m4quote.specs.Spelling.{IsSpelling}
 use Rattle.m4quote.specs.Used.{IsBareValue}
 use Rattle.baretext.specs.declared.assignments.Assignment.{Assignment}
 use Rattle.baretext.specs.Statements.{IsBareText}
-use Rattle.acargs.specs.declared.stand.Edge.{Edge}
+use Rattle.acstatement.specs.declared.stand.Edge.{Edge}
 use Rattle.acargs.specs.Arguments.{is_given}
-use Rattle.acargs.specs.Idle.{is_idle}
-use Rattle.acargs.specs.Inside.{inside}
-use Rattle.acargs.specs.Stand.{edge_of, no_edge, is_statement}
+use Rattle.acstatement.specs.Idle.{is_idle}
+use Rattle.acstatement.specs.Inside.{inside}
+use Rattle.acstatement.specs.Stand.{edge_of, no_edge, is_statement}
 use Rattle.acmacros.specs.declared.macros.ChoiceMacro.{ChoiceMacro}
 use Rattle.acmacros.specs.declared.macros.Macro.{Macro}
 use Rattle.acmacros.specs.declared.macros.Macro.TheVariants.{Plain, Choice as A_choice, Question as A_question}

@@ -2,17 +2,17 @@
 
 ghost use Rattle.std.specs.Prelude.{◌≡◌, OnOk};
 ghost use Rattle.m4quote.specs.Scan.{bare_value_of};
-ghost use Rattle.acargs.specs.Reading.{Gives};
+ghost use Rattle.acstatement.specs.Reading.{Gives};
 ghost use Rattle.acparse.specs.Bare as words;
 ghost use Rattle.acparse.specs.Profile.{behind};
-ghost use Rattle.acargs.specs.Idle.{is_idle};
+ghost use Rattle.acstatement.specs.Idle.{is_idle};
 ghost use Rattle.acmacros.specs.Placement.{bare_fault};
 ghost use Rattle.syntax.specs.Script.{script_of, joined, Done};
 
 use acargs::ParseFault;
-use acargs::fault::shell_fault;
-use acargs::idle::is_idle;
 use acmacros::placement::bare_fault;
+use acstatement::fault::shell_fault;
+use acstatement::idle::is_idle;
 use baretext::{Assignment, Assignments, BareFault, read_statements};
 use m4quote::{QuoteFault, bare_value};
 use std::alloc::{AllocError, Global};

@@ -2,8 +2,8 @@
 
 ghost use Rattle.std.specs.Prelude.{◌≡◌, ◌≤◌, MatchResult, [], ◌∷◌, map, drop, length, option_to_list, IfOk, Ok};
 ghost use Rattle.m4quote.specs.Entry.{span, view, views};
-ghost use Rattle.acargs.specs.Reading.{Gives, Fails};
-ghost use Rattle.acargs.specs.Stand.{no_edge};
+ghost use Rattle.acstatement.specs.Reading.{Gives, Fails};
+ghost use Rattle.acstatement.specs.Stand.{no_edge};
 ghost use Rattle.acparse.specs.Profile as profile;
 ghost use Rattle.acparse.specs.Profile.{Adds};
 ghost use Rattle.acmacros.specs.declared.macros.Macro.TheVariants.{Plain};
@@ -15,15 +15,16 @@ ghost use Rattle.syntax.specs.Script.{script_of, cases_of, followed, Done};
 
 use crate::bare::read_bare;
 use acargs::ParseFault;
-use acargs::arguments::{arg_at, is_given};
-use acargs::fault::quote_fault;
-use acargs::inside::inside;
+use acargs::arguments::is_given;
 use acargs::shell::{patterns, test, word};
-use acargs::stand::{Edge, NO_EDGE, edge_of, is_statement};
 use acmacros::placement::{as_statement, check_place};
 use acmacros::rows::{plain, question};
 use acmacros::table::{row_named, takes};
 use acmacros::{ChoiceMacro, Macro, PlainMacro, QuestionMacro};
+use acstatement::fault::quote_fault;
+use acstatement::inside::inside;
+use acstatement::stand::{Edge, NO_EDGE, edge_of, is_statement};
+use acstatement::texts::arg_at;
 use m4quote::{Arg, Item, read_items_at};
 use std::alloc::{AllocError, Global};
 use syntax::declarations::{declare, declare_question};

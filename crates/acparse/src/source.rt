@@ -1,8 +1,8 @@
 //! A whole source.
 
 ghost use Rattle.std.specs.Prelude.{◌≡◌, ◌≢◌, IfOk, IfErr, Ok};
-ghost use Rattle.acargs.specs.declared.fault.ParseFault.TheVariants.{OutOfMemory};
-ghost use Rattle.acargs.specs.Reading.{Gives};
+ghost use Rattle.acstatement.specs.declared.fault.ParseFault.TheVariants.{OutOfMemory};
+ghost use Rattle.acstatement.specs.Reading.{Gives};
 ghost use Rattle.syntax.specs.Lists.{after_all, lists_of, start};
 ghost use Rattle.acparse.specs.Profile.{ended, source_of};
 ghost use Rattle.syntax.specs.Script.{Script, script_of};
@@ -11,7 +11,7 @@ ghost use Rattle.syntax.specs.Limits.{HasShortLists};
 
 use crate::read::read_statements;
 use acargs::ParseFault;
-use acargs::fault::quote_fault;
+use acstatement::fault::quote_fault;
 use m4quote::read_items;
 use std::alloc::Global;
 use syntax::{Declarations, Source, Stage, Stmt};

@@ -7,9 +7,14 @@ use std::alloc::{AllocError, Global};
 use std::marker::Model;
 
 /// The words of a command, with the program first. In contracts, its value is the list of their texts.
-#[derive(Drop)]
 pub struct Words {
     words: Vec<Bytes>,
+}
+
+impl Drop for Words {
+    fn drop(self) {
+        let Words { words: _words } = self;
+    }
 }
 
 impl Model for Words {

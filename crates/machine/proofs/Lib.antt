@@ -1,3 +1,2 @@
-pub mod Escapes
 pub mod Searches
 pub mod Goes

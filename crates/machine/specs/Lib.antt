@@ -1,4 +1,3 @@
-pub mod Copies
 pub mod Waits
 pub mod Flows
 pub mod Standing

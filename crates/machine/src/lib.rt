@@ -15,9 +15,8 @@
 //!
 //! Read `specs/Standing` (the position of a machine in a plan, the run that remains from there, and a turn), then
 //! `machine`. Then read `specs/Waits` and `specs/Flows` (what a machine waits for, and what follows a step) with
-//! `stepping` (one step, and what follows its replies) and `search` (programs that are looked for). `store` holds the
-//! variables and the definitions, `scope` the subject of the choice that began last; `package` and `literal` are for
-//! AC_INIT.
+//! `stepping` (one step, and what follows its replies) and `search` (programs that are looked for). The crate `runstate`
+//! has what the steps change.
 //!
 //! The theorem is about one run: the plan's walk, with the variables that the machine was given and no definitions. At
 //! each turn, the run that remains is what the walk leaves to do, and each group of replies leads to the run that
@@ -25,13 +24,9 @@
 #![tactic(auto)]
 
 mod flow;
-mod literal;
 mod machine;
-mod package;
-mod scope;
 mod search;
 mod stepping;
-mod store;
 mod wait;
 
 pub use machine::{Machine, Outcome, Phase, RunEnd, Turn};

@@ -12,14 +12,13 @@ ghost use Rattle.machine.specs.Waits.{given, refused_rest, resumed, waits_for};
 ghost use Rattle.machine.specs.declared.wait.Wait.TheVariants as waits;
 
 use crate::flow::Flow;
-use crate::scope::About;
 use crate::stepping::{do_step, hear};
-use crate::store::Store;
 use crate::wait::Wait;
 use conftest::Job;
 use crew::Reply;
 use deftable::{Defs, Vars};
 use plan::{Plan, Step};
+use runstate::{About, Store};
 use std::alloc::{AllocError, Global};
 use std::marker::Model;
 use std::mem;
@@ -78,7 +77,6 @@ pub enum Phase {
 }
 
 /// A run of a plan. It is between two steps, or within one that waits for replies.
-#[derive(Drop)]
 pub struct Machine {
     alloc: Global,
     phase: Phase,
@@ -94,6 +92,22 @@ pub struct Machine {
     jobs: Vec<Job>,
     /// The reply to each of them, once it is given.
     replies: Vec<Option<Reply>>,
+}
+
+impl Drop for Machine {
+    fn drop(self) {
+        let Machine {
+            alloc: _alloc,
+            phase: _phase,
+            place: _place,
+            about: _about,
+            store: _store,
+            wait: _wait,
+            before: _before,
+            jobs: _jobs,
+            replies: _replies,
+        } = self;
+    }
 }
 
 impl Model for Machine {
@@ -176,8 +190,19 @@ impl Machine {
         requires { IsSome (outcome_of self.phase) }
         ensures { IfSome (outcome_of self.phase) (λ outcome. result ≡ record { outcome = outcome; vars = self.state.vars; defs = self.state.defs }) }
     {
-        let outcome = outcome_at(self.phase);
-        let (vars, defs) = self.store.into_parts();
+        let Machine {
+            alloc: _alloc,
+            phase,
+            place: _place,
+            about: _about,
+            store,
+            wait: _wait,
+            before: _before,
+            jobs: _jobs,
+            replies: _replies,
+        } = self;
+        let outcome = outcome_at(phase);
+        let (vars, defs) = store.into_parts();
         RunEnd {
             outcome,
             vars,

@@ -8,10 +8,10 @@ ghost use Rattle.machine.specs.Flows.{Heeds, Leads, asks_now, passed};
 ghost use Rattle.machine.specs.declared.flow.Flow.TheVariants.{Pass};
 
 use crate::flow::Flow;
-use crate::store::Store;
 use crate::wait::Wait;
 use conftest::{Job, path_job};
 use deftable::Bytes;
+use runstate::Store;
 use std::alloc::{AllocError, Global};
 use std::marker::Model;
 use textcut::parts;

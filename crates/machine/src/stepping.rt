@@ -18,15 +18,13 @@ ghost use Rattle.machine.specs.declared.flow.Flow.TheVariants.{Complete, Pass};
 ghost use Rattle.machine.specs.Waits.{first_refused, given, refused_here, resumed, told, waits_for};
 
 use crate::flow::Flow;
-use crate::package::initialise;
-use crate::scope::About;
 use crate::search::{Folders, Search, end_search, look_for, look_on};
-use crate::store::Store;
 use crate::wait::Wait;
 use conftest::run_job;
 use crew::Reply;
 use deftable::Bytes;
 use plan::Step;
+use runstate::{About, Store, initialise};
 use shellword::{HereText, Word};
 use std::alloc::{AllocError, Global};
 use syntax::{OptionKind, Plain, Program, Question, Subject, Try, When};

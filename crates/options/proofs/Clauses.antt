@@ -1,9 +1,9 @@
 -- The result of a function, in the words of a relation: for the clauses of the public calls.
 use Rattle.std.proofs.Common.{◌≡◌, Result, Ok, Err, refl, subst}
 use Rattle.std.specs.Prelude.{IfOk, IfErr}
-use Rattle.options.specs.Reading.{Gives, Fails}
-use Rattle.options.specs.declared.fault.OptionFault.{OptionFault}
-use Rattle.options.specs.declared.fault.OptionFault.TheVariants.{OutOfMemory}
+use Rattle.commandline.specs.Reading.{Gives, Fails}
+use Rattle.commandline.specs.declared.fault.OptionFault.{OptionFault}
+use Rattle.commandline.specs.declared.fault.OptionFault.TheVariants.{OutOfMemory}
 
 module _ {X Y : Type 0} (view : X → Y) (r : Result X OptionFault) (read : Result Y OptionFault) (given : Gives view r read) where
   -- A value that is returned is right.

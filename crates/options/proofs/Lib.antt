@@ -1,12 +1,6 @@
-pub mod Folders
-pub mod Pieces
-pub mod Words
-pub mod Lines
 pub mod Steps
 pub mod Clauses
 pub mod Laws
 pub mod Rows
-pub mod SlashLemmas
-pub mod Turns
 pub mod Readings
 pub mod Squeezes

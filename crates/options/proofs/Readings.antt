@@ -1,11 +1,11 @@
 -- The result of the arguments that have been read, one argument further.
 use Rattle.std.proofs.Common.{◌≡◌, ℕ, ◌+◌, ◌<◌, ◌≤◌, List, Result, Ok, Err, length, drop, get_or, sym, ap, ◌∙◌, arith}
 use Rattle.std.proofs.Math.ListN.{drop_of_length-le}
-use Rattle.options.proofs.Turns.{next_of}
+use Rattle.commandline.proofs.Turns.{next_of}
 use Rattle.options.specs.Stepwise.{with_argument, with_arguments, at_end}
-use Rattle.options.specs.Reading.{◌>>=◌, Fails, Gives}
-use Rattle.options.specs.declared.fault.OptionFault.{OptionFault}
-use Rattle.options.specs.declared.fault.OptionFault.TheVariants.{OutOfMemory}
+use Rattle.commandline.specs.Reading.{◌>>=◌, Fails, Gives}
+use Rattle.commandline.specs.declared.fault.OptionFault.{OptionFault}
+use Rattle.commandline.specs.declared.fault.OptionFault.TheVariants.{OutOfMemory}
 use Rattle.options.specs.declared.reader.Reader.{Reader}
 
 pub fails_bind : {A B : Type 0} (e : OptionFault) (r : Result A OptionFault) (f : A → Result B OptionFault) → Fails e r → Fails e (r >>= f)

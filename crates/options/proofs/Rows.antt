@@ -3,15 +3,15 @@ use Rattle.std.proofs.Common.{◌≡◌, ℕ, List, [], ◌∷◌, Option, Some,
 use Rattle.deftable.specs.NameList.{has_name}
 use Rattle.deftable.specs.Table.{value_of, with_entry}
 use Rattle.deftable.specs.declared.note.Note.{Note}
-use Rattle.options.specs.Arguments.{switch_of, folder_of, target_of, package_of, choice_of, said_with_value, dashed_of, said_by, value_in, rest_after, given}
-use Rattle.options.specs.CommandLine.{key_of}
-use Rattle.options.specs.Directories.{directories, variable_of, default_of, option_of, directory_named}
+use Rattle.commandline.specs.Arguments.{switch_of, folder_of, target_of, package_of, choice_of, said_with_value, dashed_of, said_by, value_in, rest_after, given}
+use Rattle.commandline.specs.CommandLine.{key_of}
+use Rattle.commandline.specs.Directories.{directories, variable_of, default_of, option_of, directory_named}
 use Rattle.options.specs.Opening.{cache_named, source_directory, setters, set_by, with_unslashed, with_marks, finished, is_declared, run_settings, opened_by, opening}
-use Rattle.options.specs.Slashes.{unslashed, without_slashes}
-use Rattle.options.specs.Srcdir.{srcdir_from, srcdir_of}
+use Rattle.commandline.specs.Slashes.{unslashed, without_slashes}
+use Rattle.commandline.specs.Srcdir.{srcdir_from, srcdir_of}
 use Rattle.options.specs.Unrecognized.{after_comma, listed, warning, notes_of}
-use Rattle.options.specs.declared.fault.OptionFault.{OptionFault}
-use Rattle.options.specs.declared.fault.OptionFault.TheVariants.{Unknown, BadFeature, BadVariable, MissingValue, FatalUnrecognized}
+use Rattle.commandline.specs.declared.fault.OptionFault.{OptionFault}
+use Rattle.commandline.specs.declared.fault.OptionFault.TheVariants.{Unknown, BadFeature, BadVariable, MissingValue, FatalUnrecognized}
 use Rattle.options.specs.declared.settings.Settings.{Settings}
 
 -- The opening for a source with AC_ARG_ENABLE([a-b]) and a precious variable CC.

@@ -1,10 +1,3 @@
-pub mod Directories
-pub mod CommandLine
-pub mod Arguments
-pub mod Said
-pub mod Slashes
-pub mod Srcdir
-pub mod Reading
 pub mod Unrecognized
 pub mod Opening
 pub mod Stepwise

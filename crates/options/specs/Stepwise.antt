@@ -4,20 +4,20 @@ use Rattle.deftable.specs.ShellName.{is_shell_name_of}
 use Rattle.deftable.specs.Table.{with_entry}
 use Rattle.syntax.specs.Feature.{option_variable}
 use Rattle.syntax.specs.declared.feature.OptionKind.{OptionKind}
-use Rattle.options.specs.Arguments.{Said, Turns, Gives, Awaits, Chooses, Misnames, Assigns, Misassigns, Nothing, said_by}
-use Rattle.options.specs.Directories.{directories, variable_of, default_of}
+use Rattle.commandline.specs.Arguments.{Said, Turns, Gives, Awaits, Chooses, Misnames, Assigns, Misassigns, Nothing, said_by}
+use Rattle.commandline.specs.Directories.{directories, variable_of, default_of}
 use Rattle.options.specs.Opening.{cache_named, is_declared, checking_in, finished}
-use Rattle.options.specs.Reading.{◌>>=◌}
-use Rattle.options.specs.Srcdir.{srcdir_of}
+use Rattle.commandline.specs.Reading.{◌>>=◌}
+use Rattle.commandline.specs.Srcdir.{srcdir_of}
 use Rattle.options.specs.Unrecognized.{notes_of}
 use Rattle.deftable.specs.declared.note.Note.{Note}
-use Rattle.options.specs.declared.argument.Switch.{Switch}
-use Rattle.options.specs.declared.argument.Switch.TheVariants.{ConfigCache, Quiet, NoCreate, Help, Version, Ignored}
-use Rattle.options.specs.declared.argument.Target.{Target}
-use Rattle.options.specs.declared.argument.Target.TheVariants.{Folder, Srcdir, CacheFile}
-use Rattle.options.specs.declared.directory.Directory.{Directory}
-use Rattle.options.specs.declared.fault.OptionFault.{OptionFault}
-use Rattle.options.specs.declared.fault.OptionFault.TheVariants.{Unknown, BadFeature, BadVariable, MissingValue}
+use Rattle.commandline.specs.declared.argument.Switch.{Switch}
+use Rattle.commandline.specs.declared.argument.Switch.TheVariants.{ConfigCache, Quiet, NoCreate, Help, Version, Ignored}
+use Rattle.commandline.specs.declared.argument.Target.{Target}
+use Rattle.commandline.specs.declared.argument.Target.TheVariants.{Folder, Srcdir, CacheFile}
+use Rattle.commandline.specs.declared.directory.Directory.{Directory}
+use Rattle.commandline.specs.declared.fault.OptionFault.{OptionFault}
+use Rattle.commandline.specs.declared.fault.OptionFault.TheVariants.{Unknown, BadFeature, BadVariable, MissingValue}
 use Rattle.options.specs.declared.reader.Reader.{Reader}
 use Rattle.options.specs.declared.settings.Settings.{Settings}
 

@@ -3,17 +3,17 @@
 ghost use Rattle.std.specs.Prelude.{◌≡◌, ◌≢◌, Ok, Err, IfOk, IfErr};
 ghost use Rattle.options.specs.HelpText.{help_text as text_of};
 ghost use Rattle.options.specs.Opening.{opening, IsOpening, IsOpeningFault};
-ghost use Rattle.options.specs.Reading.{Gives};
-ghost use Rattle.options.specs.Srcdir.{srcdir_of};
-ghost use Rattle.options.specs.declared.fault.OptionFault as faults;
-ghost use Rattle.options.specs.declared.fault.OptionFault.TheVariants.{OutOfMemory};
+ghost use Rattle.commandline.specs.Reading.{Gives};
+ghost use Rattle.commandline.specs.Srcdir.{srcdir_of};
+ghost use Rattle.commandline.specs.declared.fault.OptionFault as faults;
+ghost use Rattle.commandline.specs.declared.fault.OptionFault.TheVariants.{OutOfMemory};
 ghost use Rattle.syntax.specs.Lists.{lists_of};
 ghost use Rattle.syntax.specs.Script.{script_of};
 ghost use Rattle.options.specs.declared.settings.Settings as settings;
 
-use crate::fault::OptionFault;
 use crate::help::help_text_of;
 use crate::settings::{Settings, read_args_of};
+use commandline::fault::OptionFault;
 use deftable::Bytes;
 use std::alloc::{AllocError, Global};
 use syntax::Source;

@@ -12,29 +12,22 @@
 //! // settings.vars: prefix is /usr, enable_a_b is yes, bindir is ${exec_prefix}/bin
 //! ```
 //!
-//! The rules are `specs/CommandLine.antt` (which settings arguments give, and which argument has an error) and
-//! `specs/Opening.antt` (what a run begins with), with `specs/Directories.antt`, `specs/Unrecognized.antt` and
-//! `specs/HelpText.antt`. `specs/Arguments.antt` and `specs/Stepwise.antt` follow the code. `proofs/Laws.antt` and
-//! `proofs/Steps.antt` prove that they agree with the rules, and `proofs/Rows.antt` has worked examples.
+//! The crate `commandline` reads each argument: its rules say which settings arguments give, and which argument has an
+//! error. The rules here are `specs/Opening.antt` (what a run begins with), `specs/Unrecognized.antt` and
+//! `specs/HelpText.antt`. `specs/Stepwise.antt` follows the code. `proofs/Laws.antt` and `proofs/Steps.antt` prove that it
+//! agrees with the rules, and `proofs/Rows.antt` has worked examples.
 //!
-//! In the code, read `directory` and `argument`, then `reader`, `opening` and `settings`, then the rest in any order.
+//! In the code, read `reader`, `opening` and `settings`, then the rest in any order.
 #![tactic(auto)]
 
-mod argument;
 mod declared;
-mod directory;
-mod fault;
 mod help;
 mod opening;
 mod reader;
 mod settings;
-mod slashes;
-mod srcdir;
 mod unrecognized;
 
+pub use commandline::{Directory, OptionFault, directories, srcdir_of};
 pub use declared::{help_text, read_args};
-pub use directory::{Directory, directories};
-pub use fault::OptionFault;
 pub use help::help_text_of;
 pub use settings::{Settings, read_args_of};
-pub use srcdir::srcdir_of;

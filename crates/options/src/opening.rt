@@ -2,14 +2,14 @@
 
 ghost use Rattle.std.specs.Prelude.{◌≡◌, ℕ, List, [], ◌++◌, None, IfOk, OnOk, fold, unwrap_or, codes, option_map};
 ghost use Rattle.deftable.specs.Table.{value_of};
-ghost use Rattle.options.specs.Directories.{directories as all_directories};
+ghost use Rattle.commandline.specs.Directories.{directories as all_directories};
 ghost use Rattle.options.specs.Opening as words;
 ghost use Rattle.options.specs.Stepwise as steps;
 
-use crate::directory::{Directory, directories};
 use crate::reader::Reader;
-use crate::slashes::without_slashes;
 use crate::unrecognized::Unrecognized;
+use commandline::directory::{Directory, directories};
+use commandline::slashes::without_slashes;
 use deftable::{Bytes, Vars, is_shell_name};
 use std::alloc::{AllocError, Global};
 

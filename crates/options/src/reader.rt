@@ -3,12 +3,12 @@
 ghost use Rattle.std.specs.Prelude.{◌≡◌, ◌+◌, ◌||◌, Option, IfOk, OnOk};
 ghost use Rattle.options.specs.Opening.{cache_named as cache_of, is_declared as declared_of};
 ghost use Rattle.options.specs.Stepwise as words;
-ghost use Rattle.options.specs.Reading.{Gives};
-ghost use Rattle.options.specs.Said.{said_of};
+ghost use Rattle.commandline.specs.Reading.{Gives};
+ghost use Rattle.commandline.specs.Said.{said_of};
 
-use crate::argument::{Choice, Said, Switch, Target, said_by};
-use crate::fault::OptionFault;
 use crate::unrecognized::Unrecognized;
+use commandline::argument::{Choice, Said, Switch, Target, said_by};
+use commandline::fault::OptionFault;
 use deftable::{Bytes, SubstList, Vars};
 use std::alloc::{AllocError, Global};
 use syntax::option_variable;

@@ -2,19 +2,19 @@
 
 ghost use Rattle.std.specs.Prelude.{◌≡◌, ◌≢◌, Ok, Err, IfOk, IfErr, OnOk};
 ghost use Rattle.options.specs.Opening.{checking_in, finished, opening, IsOpening, IsOpeningFault};
-ghost use Rattle.options.specs.Reading.{Gives};
-ghost use Rattle.options.specs.Srcdir.{srcdir_of};
+ghost use Rattle.commandline.specs.Reading.{Gives};
+ghost use Rattle.commandline.specs.Srcdir.{srcdir_of};
 ghost use Rattle.options.specs.Stepwise as words;
 ghost use Rattle.options.specs.Unrecognized.{notes_of};
-ghost use Rattle.options.specs.declared.fault.OptionFault as faults;
-ghost use Rattle.options.specs.declared.fault.OptionFault.TheVariants.{OutOfMemory};
+ghost use Rattle.commandline.specs.declared.fault.OptionFault as faults;
+ghost use Rattle.commandline.specs.declared.fault.OptionFault.TheVariants.{OutOfMemory};
 ghost use Rattle.options.specs.declared.settings.Settings as settings;
 
-use crate::fault::OptionFault;
 use crate::opening::{finish_vars, reader_before, value_or_empty};
 use crate::reader::Reader;
-use crate::srcdir::srcdir_of;
 use crate::unrecognized::notes_of;
+use commandline::fault::OptionFault;
+use commandline::srcdir::srcdir_of;
 use deftable::{Bytes, Notes, SubstList, Vars};
 use std::alloc::{AllocError, Global};
 

@@ -3,18 +3,23 @@
 ghost use Rattle.std.specs.Prelude.{◌≡◌, ℕ, List, [], ◌∷◌, ◌++◌, Ok, Some, IfOk, OnOk, OnErr, option_map};
 ghost use Rattle.std.specs.List.{flat_map};
 ghost use Rattle.std.specs.Str.{bytes_eq};
-ghost use Rattle.options.specs.Reading.{Gives};
+ghost use Rattle.commandline.specs.Reading.{Gives};
 ghost use Rattle.options.specs.Unrecognized as words;
 
-use crate::fault::OptionFault;
+use commandline::fault::OptionFault;
 use deftable::{Bytes, Note, Notes, Stream};
 use std::alloc::{AllocError, Global};
 use std::marker::Model;
 
 /// Options that are not declared, each up to its `=` and with the number of its argument, in order.
-#[derive(Drop)]
 pub(crate) struct Unrecognized {
     options: Vec<(u64, Bytes)>,
+}
+
+impl Drop for Unrecognized {
+    fn drop(self) {
+        let Unrecognized { options: _options } = self;
+    }
 }
 
 impl Model for Unrecognized {

@@ -38,9 +38,14 @@ pub enum Step<'a> {
 /// The steps of a source, which borrow from its statements. Contracts see the list of their effects: every jump goes
 /// forward and stays inside, every name that a step defines has the form of one, and all steps together ask for at most
 /// 2^36 jobs.
-#[derive(Drop)]
 pub struct Plan<'a> {
     steps: Vec<Step<'a>>,
+}
+
+impl Drop for Plan<'_> {
+    fn drop(self) {
+        let Plan { steps: _steps } = self;
+    }
 }
 
 impl<'a> Model for Plan<'a> {

@@ -1,12 +1,14 @@
 -- Errors of the filter and of its parts.
 use Rattle.std.proofs.Common.{◌≡◌, ◌≢◌, ◌≤◌, ◌<◌, ◌↔◌, ℕ, List, Option, Some, None, Result, Ok, Err, ◌⊎◌, inl, inr, refl, sym, subst, ◌∙◌}
 use Rattle.std.specs.Prelude.{IfOk, IfErr, IfSome, IsErrAnd}
-use Rattle.acargs.specs.declared.fault.ParseFault.{ParseFault}
-use Rattle.acargs.specs.declared.fault.ParseFault.TheVariants as parse_faults
-use Rattle.acargs.specs.Reading.{Fails}
+use Rattle.acstatement.specs.declared.fault.ParseFault.{ParseFault}
+use Rattle.acstatement.specs.declared.fault.ParseFault.TheVariants as parse_faults
+use Rattle.acstatement.specs.Reading.{Fails}
 use Rattle.acparse.specs.Profile.{source_of}
 use Rattle.syntax.specs.Script.{Script}
 use Rattle.acparse.specs.Source.{IsSource, IsSourceFault}
+use Rattle.input.specs.declared.fault.ReadFault.{ReadFault}
+use Rattle.input.specs.declared.fault.ReadFault.TheVariants as reads
 use Rattle.plan.specs.Weight.{heaviest, weight}
 use Rattle.plan.specs.declared.fault.PlanFault.{PlanFault}
 use Rattle.plan.specs.declared.fault.PlanFault.TheVariants.{TooLong}
@@ -16,7 +18,7 @@ use Rattle.runner.specs.declared.fault.FilterFault.{FilterFault}
 use Rattle.runner.specs.declared.fault.FilterFault.TheVariants.{Read, Write, Run, OutOfMemory}
 use Rattle.runner.specs.Filtered.{IsRun, IsFiltered, IsInputFault, IsRefused, fault, unread, unwritten, memory, parse, not_run, no_memory_to_parse, IsNotRun, too_long, missing, no_memory}
 use Rattle.runner.specs.Outputs.{IsTemplateFault, is_missing, out_of_memory}
-use Rattle.runner.specs.Parted.{IsParted}
+use Rattle.input.specs.Parted.{IsParted}
 
 pub memory_fault : {A : Type 0} (s : Script) (r : Result A FilterFault) → IsErrAnd r (λ e. e ≡ OutOfMemory) → IfErr r (IsTemplateFault s)
 memory_fault s (Ok x) h = absurd h
@@ -72,7 +74,9 @@ pub input_refused : (o : Option (List ℕ)) (text items : List ℕ) (e : FilterF
 input_refused None text items e whole same is = tt
 input_refused (Some input) text items e whole same is = subst (λ t. IsRefused t e) (whole ∙ same) (fault is)
 
-pub read_fault : (o : Option (List ℕ)) (e : FilterFault) → (e ≡ Read) ⊎ (e ≡ OutOfMemory) → IfSome o (λ input. IsRefused input e)
-read_fault None e h = tt
-read_fault (Some input) e (inl is) = subst (IsRefused input) (sym is) unread
-read_fault (Some input) e (inr is) = subst (IsRefused input) (sym is) memory
+pub read_refused : {A : Type 0} (o : Option (List ℕ)) (f : ReadFault) (r : Result A FilterFault) → IsErrAnd r (λ e. (f ≡ reads.Read → e ≡ Read) × (f ≡ reads.OutOfMemory → e ≡ OutOfMemory))
+    → IfErr r (λ e. IfSome o (λ input. IsRefused input e))
+read_refused o f (Ok x) h = absurd h
+read_refused None f (Err e) h = tt
+read_refused (Some input) reads.Read (Err e) h = subst (IsRefused input) (sym (h.0 refl)) unread
+read_refused (Some input) reads.OutOfMemory (Err e) h = subst (IsRefused input) (sym (h.1 refl)) memory

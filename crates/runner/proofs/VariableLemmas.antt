@@ -2,8 +2,8 @@
 use Rattle.std.proofs.Common.{◌≡◌, ℕ, ◌+◌, ◌<◌, ◌≤◌, List, length, drop, map, get_or, sym, ap, ◌∙◌}
 use Rattle.std.proofs.lemmas.List.{drop_more}
 use Rattle.std.proofs.Math.ListN.{drop_of_length-le}
-use Rattle.options.specs.Directories.{variable_of}
-use Rattle.options.specs.declared.directory.Directory.{Directory}
+use Rattle.commandline.specs.Directories.{variable_of}
+use Rattle.commandline.specs.declared.directory.Directory.{Directory}
 use Rattle.runner.specs.Outputs.{with_variable, with_variables}
 
 pub variables_more : (vars table table' : List (List ℕ × List ℕ)) (i : ℕ) (names : List (List ℕ)) (name seen : List ℕ) → i < length names → name ≡ get_or names i name → seen ≡ name → table' ≡ with_variable vars table seen

@@ -1,14 +1,14 @@
 -- The result of the filter for its input.
 use Rattle.std.specs.Prelude.{◌≡◌, ◌≢◌, ◌≤◌, ◌<◌, ℕ, List, [], Result, Ok, Err}
-use Rattle.acargs.specs.declared.fault.ParseFault as parse_fault
-use Rattle.acargs.specs.declared.fault.ParseFault.TheVariants as parse_faults
+use Rattle.acstatement.specs.declared.fault.ParseFault as parse_fault
+use Rattle.acstatement.specs.declared.fault.ParseFault.TheVariants as parse_faults
 use Rattle.acparse.specs.Profile.{source_of}
 use Rattle.acparse.specs.Source.{IsSource, IsSourceFault}
 use Rattle.meaning.specs.Meaning.{meaning}
 use Rattle.meaning.specs.State.{State}
 use Rattle.machine.specs.declared.machine.RunEnd.{RunEnd}
 use Rattle.options.specs.Opening.{opening}
-use Rattle.options.specs.declared.fault.OptionFault.{OptionFault}
+use Rattle.commandline.specs.declared.fault.OptionFault.{OptionFault}
 use Rattle.options.specs.declared.settings.Settings.{Settings}
 use Rattle.syntax.specs.Lists.{start}
 use Rattle.syntax.specs.Lists.{after_all}
@@ -18,7 +18,7 @@ use Rattle.runner.specs.declared.fault.Fault.TheVariants.{Parse, Plan, NoTemplat
 use Rattle.runner.specs.declared.fault.FilterFault.{FilterFault}
 use Rattle.runner.specs.declared.fault.FilterFault.TheVariants.{Read, Usage, Run, Write, OutOfMemory}
 use Rattle.runner.specs.Outputs.{ArePresent, IsWritten, IsMissing}
-use Rattle.runner.specs.Parted.{IsParted, HasNoMarker}
+use Rattle.input.specs.Parted.{IsParted, HasNoMarker}
 use Rattle.runner.specs.Ran.{RanAlone, status_of}
 use Rattle.syntax.specs.Script.{Script}
 

@@ -1,5 +1,4 @@
-pub mod Parted
 pub mod Outputs
 pub mod Ran
-pub mod Standin
+pub mod Commands
 pub mod Filtered

@@ -4,7 +4,7 @@ use Rattle.deftable.specs.Table.{value_of, with_entry}
 use Rattle.syntax.specs.declared.output.Output.{Output}
 use Rattle.machine.specs.declared.machine.Outcome.{Outcome}
 use Rattle.machine.specs.declared.machine.Outcome.TheVariants as outcome
-use Rattle.options.specs.Directories.{directory_names}
+use Rattle.commandline.specs.Directories.{directory_names}
 use Rattle.template.specs.Fill.{Fills}
 use Rattle.template.specs.Place.{place_of, configure_input_of}
 use Rattle.template.specs.declared.placing.Place.{Place}

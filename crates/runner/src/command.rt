@@ -3,13 +3,14 @@
 ghost use Rattle.std.specs.Prelude.{◌≡◌, ◌≢◌, ◌⊎◌, ℕ, List, [], drop, true, false, IfSome};
 ghost use Rattle.std.specs.Io.KnownBytes.{Appends};
 ghost use Rattle.runner.specs.Filtered.{IsFiltered};
-ghost use Rattle.runner.specs.Standin as meant;
-ghost use Rattle.runner.specs.Standin.{calls_standin, IsAnswered};
+ghost use Rattle.runner.specs.Commands as meant;
+ghost use Rattle.runner.specs.Commands.{calls_standin};
+ghost use Rattle.standin.specs.Standin.{IsAnswered};
 
 use crate::fault::{Fault, FilterFault};
 use crate::filtering::{Filtered, filter};
-use crate::standin::standin;
 use deftable::Bytes;
+use standin::standin;
 use std::alloc::{AllocError, Global};
 use std::env::{Env, FillError};
 use std::io::{self, Read, Write};

@@ -1,13 +1,15 @@
 //! Why a run has no result.
 
 ghost use Rattle.std.specs.Prelude.{◌≡◌, ◌≢◌};
-ghost use Rattle.acargs.specs.declared.fault.ParseFault.TheVariants.{OutOfMemory as NoMemory};
+ghost use Rattle.acstatement.specs.declared.fault.ParseFault.TheVariants.{OutOfMemory as NoMemory};
+ghost use Rattle.input.specs.declared.fault.ReadFault.TheVariants.{Read as Unread, OutOfMemory as NoReadMemory};
 ghost use Rattle.plan.specs.declared.fault.PlanFault.TheVariants.{TooLong, OutOfMemory as NoPlanMemory};
 ghost use Rattle.runner.specs.declared.fault.Fault.TheVariants.{Parse, Plan};
-ghost use Rattle.runner.specs.declared.fault.FilterFault.TheVariants.{OutOfMemory, Run};
+ghost use Rattle.runner.specs.declared.fault.FilterFault.TheVariants.{OutOfMemory, Read, Run};
 
-use acargs::ParseFault;
+use acparse::ParseFault;
 use deftable::Bytes;
+use input::ReadFault;
 use plan::PlanFault;
 use std::alloc::{AllocError, AllocFailed};
 use thiserror::Error;
@@ -60,6 +62,17 @@ impl<T: Drop> From<AllocFailed<T>> for FilterFault {
 
     fn from(_e: AllocFailed<T>) -> FilterFault {
         FilterFault::OutOfMemory
+    }
+}
+
+impl From<ReadFault> for FilterFault {
+    ghost from_gives = { λ f e. (f ≡ Unread → e ≡ Read) × (f ≡ NoReadMemory → e ≡ OutOfMemory) };
+
+    fn from(fault: ReadFault) -> FilterFault {
+        match fault {
+            ReadFault::Read => FilterFault::Read,
+            ReadFault::OutOfMemory => FilterFault::OutOfMemory,
+        }
     }
 }
 

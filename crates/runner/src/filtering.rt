@@ -12,11 +12,11 @@ ghost use Rattle.runner.specs.Filtered.{IsRun, IsNotRun, IsFiltered, IsInputFaul
 ghost use Rattle.runner.specs.Outputs.{ArePresent, IsFileText, IsWritten, IsTemplateFault, files_of, names_of, is_other};
 
 use crate::fault::{Fault, FilterFault};
-use crate::input::{marker_place, read_input};
 use crate::outputs::file_table;
 use crate::running::{run_alone, status_of as exit_status};
 use acparse::parse;
 use deftable::Vars;
+use input::{marker_place, read_input};
 use options::read_args;
 use plan::{Plan, compile};
 use proberun::{Outcome, RunEnd};
@@ -44,7 +44,7 @@ fn find_other<'a>(files: &'a [Output], template: &[u8]) -> Option<&'a Output>
 }
 
 /// Returns the text after the marker that begins at `at`.
-fn behind_marker(input: &[u8], at: usize) -> &[u8]
+fn after_marker(input: &[u8], at: usize) -> &[u8]
     requires { at ≤ length input.now }
     ensures { result.now ≡ drop (at + 3) input.now }
 {
@@ -157,7 +157,7 @@ fn answer(alloc: Global, input: &[u8]) -> Result<Written, FilterFault>
         return Err(FilterFault::Usage);
     };
     let source = parse(alloc, &input[..at])?;
-    run_source(alloc, &source, behind_marker(input, at))
+    run_source(alloc, &source, after_marker(input, at))
 }
 
 /// Reads a configure.ac, a line that is exactly `%%` and the template of its first file. Runs the source, without

@@ -1,11 +1,11 @@
 //! The program's commands, apart from the streams and the files that they use.
 //!
 //! `filter` takes a text through the whole engine: it reads a configure.ac, a line `%%` and a template, and writes the
-//! filled template. `standin` answers in place of a compiler, from the text of the conftest alone. `command` chooses
-//! between them by the program's arguments.
+//! filled template. `command` chooses between it and the stand-in for a compiler, the crate `standin`, by the program's
+//! arguments.
 //!
-//! Read `fault`, `input` (reading, and the split at `%%`), `running` (what the run of a plan leaves), `outputs` (the
-//! table that templates are filled from) and `filtering`, then `texts` and `standin`, then `command`.
+//! Read `fault`, `running` (what the run of a plan leaves), `outputs` (the table that templates are filled from) and
+//! `filtering`, then `command`.
 //!
 //! From the lines `AC_INIT([demo],[1.0])`, `AC_CONFIG_FILES([out])`, `AC_OUTPUT`, `%%` and `@PACKAGE_NAME@`, `filter`
 //! writes `demo` and a newline.
@@ -14,11 +14,8 @@
 pub mod command;
 pub mod fault;
 pub mod filtering;
-pub mod input;
 pub mod outputs;
 pub mod running;
-pub mod standin;
-mod texts;
 
 pub use fault::{Fault, FilterFault};
 pub use filtering::{Filtered, filter};

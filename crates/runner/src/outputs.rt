@@ -4,7 +4,7 @@ ghost use Rattle.std.specs.Prelude.{◌≡◌, OnOk, IfOk, [], codes, map, unwra
 ghost use Rattle.deftable.specs.NameList.{AreShellNames};
 ghost use Rattle.deftable.specs.ShellName.{IsShellName};
 ghost use Rattle.deftable.specs.Table.{value_of, with_entry};
-ghost use Rattle.options.specs.Directories.{variable_of};
+ghost use Rattle.commandline.specs.Directories.{variable_of};
 ghost use Rattle.template.specs.Place.{configure_input_of, place_of};
 ghost use Rattle.runner.specs.Outputs as words;
 

@@ -10,9 +10,16 @@ use std::marker::Model;
 
 /// Patterns separated by `|`, as before one list of a shell's `case`. In contracts, its value is the list of the pieces
 /// of each pattern.
-#[derive(Drop)]
 pub struct Patterns {
     alternatives: Vec<Pattern>,
+}
+
+impl Drop for Patterns {
+    fn drop(self) {
+        let Patterns {
+            alternatives: _alternatives,
+        } = self;
+    }
 }
 
 impl Model for Patterns {

@@ -19,9 +19,14 @@ use std::alloc::{AllocError, Global};
 use std::marker::Model;
 
 /// A text in which variables are replaced, as in a shell's here-document. In contracts, its value is the list of its parts.
-#[derive(Drop)]
 pub struct HereText {
     parts: Vec<Part>,
+}
+
+impl Drop for HereText {
+    fn drop(self) {
+        let HereText { parts: _parts } = self;
+    }
 }
 
 impl Model for HereText {

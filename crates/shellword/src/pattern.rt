@@ -30,9 +30,14 @@ pub enum Piece {
 }
 
 /// One pattern of a list of patterns. In contracts, its value is the list of its pieces.
-#[derive(Drop)]
 pub struct Pattern {
     pieces: Vec<Piece>,
+}
+
+impl Drop for Pattern {
+    fn drop(self) {
+        let Pattern { pieces: _pieces } = self;
+    }
 }
 
 impl Model for Pattern {

@@ -22,11 +22,19 @@ use std::marker::Model;
 use std::mem;
 
 /// A test. In contracts, its value is an element, or a test joined with another element.
-#[derive(Drop)]
 pub struct Test {
     first: Element,
     /// Each later element, with the joint before it.
     rest: Vec<(Joint, Element)>,
+}
+
+impl Drop for Test {
+    fn drop(self) {
+        let Test {
+            first: _first,
+            rest: _rest,
+        } = self;
+    }
 }
 
 impl Model for Test {

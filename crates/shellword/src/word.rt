@@ -23,9 +23,14 @@ use std::alloc::{AllocError, Global};
 use std::marker::Model;
 
 /// A shell word. In contracts, its value is the list of its parts.
-#[derive(Drop)]
 pub struct Word {
     parts: Vec<Part>,
+}
+
+impl Drop for Word {
+    fn drop(self) {
+        let Word { parts: _parts } = self;
+    }
 }
 
 impl Model for Word {

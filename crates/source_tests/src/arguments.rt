@@ -2,17 +2,18 @@
 
 use crate::rows::{Call, bracketed, differences, printed, put_number, put_text, yes_or_no};
 use acargs::ParseFault;
-use acargs::arguments::{arg_at, is_given, line, name, text, title};
-use acargs::fault::{quote_fault, shell_fault};
+use acargs::arguments::{is_given, line, name, text, title};
 use acargs::feature::feature_variable;
 use acargs::helping::{help, sole_call};
-use acargs::idle::is_idle;
-use acargs::inside::{call_items, inside};
 use acargs::numbers::{language, status, version};
 use acargs::outputs::outputs;
 use acargs::program::{program, programs, source_text};
 use acargs::shell::{here_text, patterns, test, word};
-use acargs::stand::{NO_EDGE, edge_of, is_statement};
+use acstatement::fault::{quote_fault, shell_fault};
+use acstatement::idle::is_idle;
+use acstatement::inside::{call_items, inside};
+use acstatement::stand::{NO_EDGE, edge_of, is_statement};
+use acstatement::texts::arg_at;
 use deftable::{Bytes, Name, Vars};
 use m4quote::{Arg, Item, QuoteFault, read_items};
 use shellword::{Part, ShellFault};

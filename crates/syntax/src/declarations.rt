@@ -23,7 +23,6 @@ pub enum Stage {
 }
 
 /// How far a source is after statements, and what they declare.
-#[derive(Drop)]
 pub struct Declarations {
     pub stage: Stage,
     /// The output variables of AC_SUBST, AC_ARG_VAR, AC_CHECK_PROG, AC_CHECK_PROGS, AC_PATH_PROG and AC_PROG_CC, each once,
@@ -41,6 +40,21 @@ pub struct Declarations {
     pub files: Outputs,
     /// The headers to be made, in the same way. No macro that is read yet names one.
     pub headers: Outputs,
+}
+
+impl Drop for Declarations {
+    fn drop(self) {
+        let Declarations {
+            stage: _stage,
+            substituted: _substituted,
+            precious: _precious,
+            features: _features,
+            packages: _packages,
+            help: _help,
+            files: _files,
+            headers: _headers,
+        } = self;
+    }
 }
 
 impl Declarations {

@@ -37,9 +37,14 @@ impl Help {
 }
 
 /// The help for the options and variables of a source, in the order of the source.
-#[derive(Drop)]
 pub struct HelpList {
     entries: Vec<Help>,
+}
+
+impl Drop for HelpList {
+    fn drop(self) {
+        let HelpList { entries: _entries } = self;
+    }
 }
 
 impl Model for HelpList {

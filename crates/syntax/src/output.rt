@@ -28,9 +28,14 @@ impl Output {
 }
 
 /// A list of outputs.
-#[derive(Drop)]
 pub struct Outputs {
     outputs: Vec<Output>,
+}
+
+impl Drop for Outputs {
+    fn drop(self) {
+        let Outputs { outputs: _outputs } = self;
+    }
 }
 
 impl Model for Outputs {

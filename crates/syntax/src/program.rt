@@ -7,9 +7,14 @@ use shellword::HereText;
 use std::marker::Model;
 
 /// Names of programs, in the order of the search. Contracts see the list of their texts.
-#[derive(Drop)]
 pub struct ProgramNames {
     names: Vec<Bytes>,
+}
+
+impl Drop for ProgramNames {
+    fn drop(self) {
+        let ProgramNames { names: _names } = self;
+    }
 }
 
 impl Model for ProgramNames {

@@ -12,10 +12,18 @@ use deftable::SubstList;
 use std::marker::Model;
 
 /// A configure.ac that was read. Contracts see its statements; its lists are those that the statements declare.
-#[derive(Drop)]
 pub struct Source {
     statements: Vec<Stmt>,
     lists: Declarations,
+}
+
+impl Drop for Source {
+    fn drop(self) {
+        let Source {
+            statements: _statements,
+            lists: _lists,
+        } = self;
+    }
 }
 
 impl Model for Source {

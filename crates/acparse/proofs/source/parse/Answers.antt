@@ -1,5 +1,5 @@
 use Rattle.std.proofs.Common.{subst}
-use Rattle.acargs.specs.Reading.{Gives}
+use Rattle.acstatement.specs.Reading.{Gives}
 use Rattle.syntax.specs.Script.{script_of}
 use Rattle.acparse.proofs.ListLimits.{lists_fit}
 use Rattle.acparse.proofs.Whole.{is_found, is_fault, source_only}

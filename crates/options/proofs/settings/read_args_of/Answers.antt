@@ -3,7 +3,7 @@ use Rattle.options.proofs.Clauses.{found, only, fault, named}
 use Rattle.options.proofs.Laws.{opening_is, is_opening, opening_fails, fails_opening}
 use Rattle.options.proofs.Steps.{stepwise_is_opening}
 use Rattle.options.specs.Opening.{IsOpening, IsOpeningFault}
-use Rattle.options.specs.Reading.{Gives}
+use Rattle.commandline.specs.Reading.{Gives}
 use Rattle.options.proofs.settings.read_args_of.Goals as goal
 
 pub returns-clause-exact : goal.returns-clause-exact

@@ -1,11 +1,9 @@
 use Rattle.std.proofs.lemmas.Result.{err_from_is_err_and}
-use Rattle.runner.proofs.Refusals.{input_refused, read_fault, write_refused}
+use Rattle.runner.proofs.Refusals.{input_refused, read_refused, write_refused}
 use Rattle.runner.proofs.filtering.filter.Goals as goal
 
 pub returns-in_err-input-clause-refused : goal.returns-in_err-input-clause-refused
-returns-in_err-input-clause-refused g c =
-    let p = err_from_is_err_and c.from_residual.result c.from_residual.ensures.1 in
-    rw (p.1, p.2) (read_fault _ _ c.in_err-input.ensures.err)
+returns-in_err-input-clause-refused g c = read_refused _ _ _ c.from_residual.ensures.1
 
 pub returns-then-is_err-clause-refused : goal.returns-then-is_err-clause-refused
 returns-then-is_err-clause-refused g c = write_refused _ c.as_slice.result.now _ _ _ c.as_slice.ensures.value c.in_ok-input.ensures.ok c.in_ok-answer.ensures.found

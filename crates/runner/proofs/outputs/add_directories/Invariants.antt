@@ -1,5 +1,5 @@
 use Rattle.std.proofs.Common.{◌≡◌, drop, map}
-use Rattle.options.specs.Directories.{variable_of}
+use Rattle.commandline.specs.Directories.{variable_of}
 use Rattle.runner.specs.Outputs.{with_variables}
 use Rattle.runner.proofs.outputs.add_directories.Given as goal
 

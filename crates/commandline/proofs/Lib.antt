@@ -1,0 +1,6 @@
+pub mod Pieces
+pub mod Words
+pub mod Lines
+pub mod SlashLemmas
+pub mod Turns
+pub mod SourceDirectories

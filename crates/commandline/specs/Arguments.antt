@@ -1,0 +1,158 @@
+-- How one argument of a command line is read, as a function, and so what all of them give.
+use Rattle.std.specs.Prelude.{ℕ, ◌+◌, ◌||◌, ◌==◌, List, [], ◌∷◌, Option, Some, None, Result, Ok, Err, unwrap_or, option_map, codes, if◌then◌else◌}
+use Rattle.std.specs.Str.{bytes_eq}
+use Rattle.deftable.specs.ShellName.{is_shell_name_of}
+use Rattle.syntax.specs.Feature.{is_feature}
+use Rattle.syntax.specs.declared.feature.OptionKind.{OptionKind}
+use Rattle.syntax.specs.declared.feature.OptionKind.TheVariants.{Feature, Package}
+use Rattle.commandline.specs.CommandLine.{Setting, Variable, Choice, Switched, valued, key_of, is_dashed, enabling, disabling}
+use Rattle.commandline.specs.Directories.{directory_named}
+use Rattle.commandline.specs.Reading.{◌>>=◌}
+use Rattle.commandline.specs.declared.argument.Target.{Target}
+use Rattle.commandline.specs.declared.argument.Target.TheVariants.{Folder, Srcdir, CacheFile}
+use Rattle.commandline.specs.declared.argument.Switch.{Switch}
+use Rattle.commandline.specs.declared.argument.Switch.TheVariants.{ConfigCache, Quiet, NoCreate, Help, Version, Ignored}
+use Rattle.commandline.specs.declared.fault.OptionFault.{OptionFault}
+use Rattle.commandline.specs.declared.fault.OptionFault.TheVariants.{Unknown, BadFeature, BadVariable, MissingValue}
+
+-- The reading of an argument that isn't the value of the option before it. (own)
+pub data Said : Type 0 where
+  -- an option without a value
+  Turns : (switch : Switch) → Said
+  -- an option with its value
+  Gives : (target : Target) → (value : List ℕ) → Said
+  -- an option whose value is the next argument
+  Awaits : (target : Target) → Said
+  -- a feature or a package, its value, and the text before the `=`
+  Chooses : (kind : OptionKind) → (name : List ℕ) → (value : List ℕ) → (option : List ℕ) → Said
+  -- a feature or a package whose name has not the form of one
+  Misnames : Said
+  -- a variable and its value
+  Assigns : (name : List ℕ) → (value : List ℕ) → Said
+  -- a value for a name that is no shell name
+  Misassigns : Said
+  -- neither a known option nor an assignment
+  Nothing : Said
+
+-- The text after the first `=`, if there is one. (own)
+unfoldable pub value_in : List ℕ → Option (List ℕ)
+value_in [] = None
+value_in (b ∷ bs) = if b == 61 then Some bs else value_in bs
+
+-- What follows the front, if the text begins with it. (own)
+unfoldable pub rest_after : List ℕ → List ℕ → Option (List ℕ)
+rest_after [] text = Some text
+rest_after (c ∷ cs) [] = None
+rest_after (c ∷ cs) (b ∷ bs) = if b == c then rest_after cs bs else None
+
+-- The options without a value. (Autoconf's manual, "configure Invocation")
+unfoldable pub switch_of : List ℕ → Option Switch
+switch_of argument =
+    if bytes_eq argument (codes "-C") || bytes_eq argument (codes "--config-cache") then Some ConfigCache
+    else (if bytes_eq argument (codes "-q") || bytes_eq argument (codes "--quiet") || bytes_eq argument (codes "--silent") then Some Quiet
+    else (if bytes_eq argument (codes "-n") || bytes_eq argument (codes "--no-create") then Some NoCreate
+    else (if bytes_eq argument (codes "-h") || bytes_eq argument (codes "--help") then Some Help
+    else (if bytes_eq argument (codes "-V") || bytes_eq argument (codes "--version") then Some Version
+    else (if bytes_eq argument (codes "-v") || bytes_eq argument (codes "--verbose") || bytes_eq argument (codes "--no-recursion") then Some Ignored
+    else None)))))
+
+-- The option of a directory, given without its dashes. (Autoconf's manual, "Installation Directory Variables")
+abbrev pub folder_named : List ℕ → Option Target
+folder_named option = option_map (λ directory. Folder directory) (directory_named option)
+
+-- The options of directories. (Autoconf's manual, "Installation Directory Variables")
+unfoldable pub folder_of : List ℕ → Option Target
+folder_of key = elim (rest_after (codes "--") key) [ Some option ↦ folder_named option | None ↦ None ]
+
+-- The options with a value. (Autoconf's manual, "configure Invocation")
+unfoldable pub target_of : List ℕ → Option Target
+target_of key =
+    if bytes_eq key (codes "--srcdir") then Some Srcdir
+    else (if bytes_eq key (codes "--cache-file") then Some CacheFile
+    else folder_of key)
+
+-- A feature or a package with its value, if its name has the form of one. (own)
+abbrev pub chosen : OptionKind → List ℕ → List ℕ → List ℕ → Said
+chosen kind name value option = if is_feature name then Chooses kind name value option else Misnames
+
+-- A feature or a package that is turned on, by the text after `--enable-` or `--with-`. (Autoconf's manual, "Package
+-- Options")
+abbrev pub enabled : OptionKind → List ℕ → List ℕ → Said
+enabled kind rest argument = chosen kind (key_of rest) (unwrap_or (value_in rest) (codes "yes")) (key_of argument)
+
+-- A feature or a package that is turned off, by the text after `--disable-` or `--without-`. (Autoconf's manual,
+-- "Package Options")
+abbrev pub disabled : OptionKind → List ℕ → List ℕ → Said
+disabled kind rest argument = chosen kind rest (codes "no") (key_of argument)
+
+-- The options of packages. (Autoconf's manual, "External Software")
+unfoldable pub package_of : List ℕ → Said
+package_of argument = elim (rest_after (enabling Package) argument) [
+  | Some rest ↦ enabled Package rest argument
+  | None ↦ elim (rest_after (disabling Package) argument) [ Some rest ↦ disabled Package rest argument | None ↦ Nothing ]
+]
+
+-- The options of features and packages. (Autoconf's manual, "Package Options")
+unfoldable pub choice_of : List ℕ → Said
+choice_of argument = elim (rest_after (enabling Feature) argument) [
+  | Some rest ↦ enabled Feature rest argument
+  | None ↦ elim (rest_after (disabling Feature) argument) [ Some rest ↦ disabled Feature rest argument | None ↦ package_of argument ]
+]
+
+-- An option with a value, in one argument or in two. (own)
+abbrev pub given_or_awaited : Target → Option (List ℕ) → Said
+given_or_awaited target (Some value) = Gives target value
+given_or_awaited target None = Awaits target
+
+-- The options with a value, or for features and packages. (own)
+unfoldable pub said_with_value : List ℕ → Said
+said_with_value argument = elim (target_of (key_of argument)) [
+  | Some target ↦ given_or_awaited target (value_in argument)
+  | None ↦ choice_of argument
+]
+
+-- The reading of an argument that begins with `-`. (own)
+unfoldable pub dashed_of : List ℕ → Said
+dashed_of argument = elim (switch_of argument) [ Some switch ↦ Turns switch | None ↦ said_with_value argument ]
+
+-- `NAME=VALUE`, if there is a value. (Autoconf's manual, "configure Invocation")
+abbrev pub assigned : List ℕ → Option (List ℕ) → Said
+assigned name None = Nothing
+assigned name (Some value) = if is_shell_name_of name then Assigns name value else Misassigns
+
+-- The reading of an argument. (Autoconf's manual, "configure Invocation")
+unfoldable pub said_by : List ℕ → Said
+said_by argument = if is_dashed argument then dashed_of argument else assigned (key_of argument) (value_in argument)
+
+-- ---- all arguments
+
+-- What argument i gives by itself, by its reading. (own)
+abbrev pub alone : ℕ → Said → Result Setting OptionFault
+alone i (Turns switch) = Ok (Switched switch)
+alone i (Gives target value) = Ok (valued target value)
+alone i (Awaits target) = Err (MissingValue i)
+alone i (Chooses kind name value option) = Ok (Choice i kind name value option)
+alone i Misnames = Err (BadFeature i)
+alone i (Assigns name value) = Ok (Variable name value)
+alone i Misassigns = Err (BadVariable i)
+alone i Nothing = Err (Unknown i)
+
+-- The option that needs the next argument as its value, after an argument with this reading. (own)
+abbrev pub awaited_by : Said → Option Target
+awaited_by (Awaits target) = Some target
+awaited_by other = None
+
+-- A setting, and those after it. (own)
+abbrev pub and_then : Result Setting OptionFault → Result (List Setting) OptionFault → Result (List Setting) OptionFault
+and_then first rest = first >>= λ setting. rest >>= λ settings. Ok (setting ∷ settings)
+
+-- The settings that arguments give, or their first error, after i other arguments, the last of which may be an option
+-- that needs a value. (own)
+unfoldable pub given : Option Target → ℕ → List (List ℕ) → Result (List Setting) OptionFault
+given None i [] = Ok []
+given (Some target) i [] = Err (MissingValue i)
+given (Some target) i (value ∷ more) = and_then (Ok (valued target value)) (given None (i + 1) more)
+given None i (word ∷ more) = elim (awaited_by (said_by word)) [
+  | Some target ↦ given (Some target) (i + 1) more
+  | None ↦ and_then (alone (i + 1) (said_by word)) (given None (i + 1) more)
+]

@@ -1,0 +1,14 @@
+//! What the steps of a run change: its variables and definitions, and the subject of the choice that began last.
+//!
+//! `store` holds the variables and the definitions, and contracts see them as a state of the meaning. `scope` is the subject of
+//! a choice. `package` and `literal` are for AC_INIT. The crate `machine` takes the steps.
+#![tactic(auto)]
+
+mod literal;
+pub mod package;
+pub mod scope;
+pub mod store;
+
+pub use package::initialise;
+pub use scope::About;
+pub use store::Store;
