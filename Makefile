@@ -23,10 +23,13 @@ ifeq ($(filter -j% --jobs%,$(MAKEFLAGS)),)
 MAKEFLAGS += --jobs=$(shell nproc)
 endif
 
-left := $(filter-out $(patsubst out/%.proved,%,$(wildcard out/*.proved)),$(needed))
-ifneq ($(left),)
+# A crate that changed, or that uses one that did, is to be proved again.
+stale := $(foreach name,$(needed),$(if $(wildcard out/$(name).proved),$(if $(shell find crates.txt $(call sources,$(name)) -newer out/$(name).proved -print -quit),$(name)),$(name)))
+$(foreach pass,1 2 3 4 5 6 7 8 9 10,$(eval stale := $(sort $(stale) $(foreach name,$(needed),$(if $(filter $(stale),$(call uses,$(name))),$(name))))))
+ifneq ($(stale),)
 ifneq ($(filter-out check,$(or $(MAKECMDGOALS),all)),)
-$(info Proving $(words $(left)) crates, each as soon as those that it uses are proved. All of them take 15 to 30 minutes on four processors.)
+$(shell rm -f $(patsubst %,out/%.proved,$(stale)))
+$(info Proving $(words $(stale)) crates, each as soon as those that it uses are proved. All of them take 15 minutes on four processors.)
 endif
 endif
 
