@@ -1,88 +1,67 @@
 //! textcut: texts cut at blanks and separators.
 
-use crate::rows::{check, put_quoted, quoted};
-use std::alloc::{AllocError, Global};
 use std::test::Fail;
+use testrows::{Call, Page, cut, try_rows};
 use textcut::{fields, is_blank, parts, trim};
 
-fn blanks(alloc: Global) -> Result<Vec<u8>, AllocError> {
-    let mut found = Vec::new(alloc);
+/// `trim`, `fields` or `parts` and a text, for `parts` with the separator before it; or `blanks` alone, for every byte that is
+/// one.
+const TEXTS: &[u8] = b"
+blanks => [^I^J ]
+
+trim  \t^J^Ja b\tc^J^J  => [a b\tc]
+trim  \xff \xc3  => [\xff \xc3]
+trim ^J\xe2\x80  => [\xe2\x80]
+trim  \r\x0b\x0c  => [\r\x0b\x0c]
+trim  \t^J => []
+trim  => []
+
+fields  stdio.h\t^Junistd.h^J => [stdio.h][unistd.h]
+fields \xff a\r\x0b\x0c\xc3^J\xe2\x80 => [\xff][a\r\x0b\x0c\xc3][\xe2\x80]
+fields  \t^J =>
+fields  =>
+
+parts :/bin::/usr/bin: => [/bin][][/usr/bin][]
+parts \xff\xc3\xff \xe2\x80\xff => [\xc3][ \xe2\x80][]
+parts : ^J => [ ^J]
+parts : => []
+";
+
+fn put_blanks(page: &mut Page) {
+    page.put(b"[");
     for byte in 0..=u8::MAX {
         if is_blank(byte) {
-            found.push(byte)?;
+            page.put_byte(byte);
         }
     }
-    Ok(found)
+    page.put(b"]");
 }
 
-#[test]
-fn three_bytes_are_blanks(rt: HostRuntime) -> Result<(), Fail> {
-    let found = blanks(rt.alloc())?;
-    assert_eq!(rt; found.as_slice(), b"\t\n ".as_slice());
-    Ok(())
-}
-
-const TRIMMED: &[u8] = b"
- \t~~a b\tc~~  => 'a b\tc'
- \xff \xc3  => '\xff \xc3'
-~\xe2\x80  => '\xe2\x80'
- \r\x0b\x0c  => '\r\x0b\x0c'
- \t~ => ''
- => ''
-";
-
-fn trimmed(alloc: Global, text: &[u8]) -> Result<Vec<u8>, AllocError> {
-    quoted(alloc, trim(text))
-}
-
-#[test]
-fn both_ends_are_trimmed(rt: HostRuntime) -> Result<(), Fail> {
-    check(&rt, rt.alloc(), TRIMMED, &trimmed)
-}
-
-/// Each of these in quotes.
-fn each_quoted(alloc: Global, texts: &[&[u8]]) -> Result<Vec<u8>, AllocError> {
-    let mut out = Vec::new(alloc);
-    for text in texts {
-        put_quoted(&mut out, text)?;
-    }
-    Ok(out)
-}
-
-const FIELDS: &[u8] = b"
- stdio.h\t~unistd.h~ => 'stdio.h''unistd.h'
-\xff a\r\x0b\x0c\xc3~\xe2\x80 => '\xff''a\r\x0b\x0c\xc3''\xe2\x80'
- \t~ => 
- => 
-";
-
-fn fields_of(alloc: Global, text: &[u8]) -> Result<Vec<u8>, AllocError> {
-    let found = fields(alloc, text)?;
-    each_quoted(alloc, found.as_slice())
-}
-
-#[test]
-fn fields_are_between_blanks(rt: HostRuntime) -> Result<(), Fail> {
-    check(&rt, rt.alloc(), FIELDS, &fields_of)
-}
-
-/// The separator, and then the text.
-const PARTS: &[u8] = b"
-:/bin::/usr/bin: => '/bin''''/usr/bin'''
-\xff\xc3\xff \xe2\x80\xff => '\xc3'' \xe2\x80'''
-: ~ => ' ~'
-: => ''
-";
-
-fn parts_of(alloc: Global, given: &[u8]) -> Result<Vec<u8>, AllocError> {
-    let Some((separator, text)) = given.split_first() else {
-        return Ok(Vec::new(alloc));
+fn put_pieces(page: &mut Page, text: &[u8], separator: Option<u8>) {
+    let pieces = match separator {
+        Some(separator) => parts(page.alloc(), text, separator),
+        None => fields(page.alloc(), text),
     };
-    let found = parts(alloc, text, *separator)?;
-    each_quoted(alloc, found.as_slice())
+    if let Some(pieces) = page.given(pieces) {
+        page.put_texts(pieces.as_slice());
+    }
+}
+
+struct Textcut;
+
+impl Call for Textcut {
+    fn put(&self, page: &mut Page, given: &[u8]) {
+        let (call, text) = cut(given, b" ");
+        match (call.first(), text) {
+            (Some(b'b'), _) => put_blanks(page),
+            (Some(b't'), _) => page.put_text(trim(text)),
+            (Some(b'p'), [separator, text @ ..]) => put_pieces(page, text, Some(*separator)),
+            _ => put_pieces(page, text, None),
+        }
+    }
 }
 
 #[test]
-fn parts_are_between_separators(rt: HostRuntime) -> Result<(), Fail> {
-    check(&rt, rt.alloc(), PARTS, &parts_of)
+fn texts_are_cut(rt: HostRuntime) -> Result<(), Fail> {
+    try_rows(rt.alloc(), &Textcut, TEXTS)
 }

@@ -1,253 +1,157 @@
-//! conftest: the jobs that a run asks for, and the programs that tests try.
+//! csource and conftest: test programs, and the jobs that a run asks for.
 
-use crate::rows::{check, cut, put_each};
 use crate::tables::{changed, defined};
 use conftest::{Job, JobFault, Words, compile_job, link_job, path_job, preproc_job, run_job};
 use csource::{
     declaration_source, default_includes, function_source, header_source, program_source,
     second_type_source, type_source,
 };
-use deftable::{Bytes, Defs, Vars};
+use deftable::{Bytes, Defs};
 use std::alloc::{AllocError, Global};
 use std::test::Fail;
+use testrows::{Call, Page, cut, try_rows};
 
-fn put_fault(alloc: Global, out: &mut Vec<u8>, fault: JobFault) -> Result<(), AllocError> {
-    let shown = format!(in alloc; "{fault}")?;
-    out.extend_from_slice(shown.as_bytes())?;
-    Ok(())
-}
-
-/// The words of a job, or the number of what is wrong.
-fn put_words(
-    alloc: Global,
-    out: &mut Vec<u8>,
-    job: Result<Job, JobFault>,
-) -> Result<(), AllocError> {
-    match job {
-        Ok(job) => put_each(out, job.words.as_slice()),
-        Err(fault) => put_fault(alloc, out, fault),
-    }
-}
-
-fn put_compiled(
-    alloc: Global,
-    out: &mut Vec<u8>,
-    vars: &Vars,
-    number: u64,
-) -> Result<(), AllocError> {
-    let defs = Defs::new(alloc);
-    put_words(alloc, out, compile_job(alloc, vars, &defs, b"x", number))
-}
-
-fn put_linked(
-    alloc: Global,
-    out: &mut Vec<u8>,
-    vars: &Vars,
-    number: u64,
-) -> Result<(), AllocError> {
-    let defs = Defs::new(alloc);
-    put_words(alloc, out, link_job(alloc, vars, &defs, b"x", number))
-}
-
-fn put_preprocessed(
-    alloc: Global,
-    out: &mut Vec<u8>,
-    vars: &Vars,
-    number: u64,
-) -> Result<(), AllocError> {
-    let defs = Defs::new(alloc);
-    put_words(alloc, out, preproc_job(alloc, vars, &defs, b"x", number))
-}
-
-/// The words that compile, link and preprocess, a line for each.
-fn put_lines(alloc: Global, out: &mut Vec<u8>, vars: &Vars, number: u64) -> Result<(), AllocError> {
-    put_compiled(alloc, out, vars, number)?;
-    out.push(b'\n')?;
-    put_linked(alloc, out, vars, number)?;
-    out.push(b'\n')?;
-    put_preprocessed(alloc, out, vars, number)
-}
-
-fn words_under(alloc: Global, vars: &Vars, number: u64) -> Result<Vec<u8>, AllocError> {
-    let mut out = Vec::new(alloc);
-    put_lines(alloc, &mut out, vars, number)?;
-    Ok(out)
-}
-
-fn words_of(alloc: Global, assignments: &[u8], number: u64) -> Result<Vec<u8>, AllocError> {
-    let vars = changed(alloc, assignments)?;
-    words_under(alloc, &vars, number)
-}
-
-/// Variables, and what compiles, links and preprocesses.
-const WORDS: &[u8] = b"
-CC=cc;CFLAGS=-O;LIBS=-lm => cc|-c|-O|conftest.c|~cc|-o|conftest|-O|conftest.c|-lm|~cc|-E|conftest.c|
-CC=cc;CPP=cpp => cc|-c|conftest.c|~cc|-o|conftest|conftest.c|~cpp|conftest.c|
+/// `words` and variables: the commands that compile, link and preprocess, or the number of what is wrong. `twelfth` and
+/// variables: those of job 12. `run` and one digit: the command of that job. `path` and a file: the command that looks for it.
+/// `list` and two words.
+const COMMANDS: &[u8] = b"
+words CC=cc;CFLAGS=-O;LIBS=-lm => cc|-c|-O|conftest.c|^Jcc|-o|conftest|-O|conftest.c|-lm|^Jcc|-E|conftest.c|
+words CC=cc;CPP=cpp => cc|-c|conftest.c|^Jcc|-o|conftest|conftest.c|^Jcpp|conftest.c|
 // A value is parted at blanks, and quotes in it are not read.
-CC= ccache\tcc~;CPP= \t;CFLAGS=-O -g;CPPFLAGS='-D A';LDFLAGS=-L. -s;LIBS=-la -lb => ccache|cc|-c|-O|-g|'-D|A'|conftest.c|~ccache|cc|-o|conftest|-O|-g|'-D|A'|-L.|-s|conftest.c|-la|-lb|~ccache|cc|-E|'-D|A'|conftest.c|
+words CC= ccache\tcc^J;CPP= \t;CFLAGS=-O -g;CPPFLAGS='-D A';LDFLAGS=-L. -s;LIBS=-la -lb => ccache|cc|-c|-O|-g|'-D|A'|conftest.c|^Jccache|cc|-o|conftest|-O|-g|'-D|A'|-L.|-s|conftest.c|-la|-lb|^Jccache|cc|-E|'-D|A'|conftest.c|
 // Without a compiler there is no such job, but CPP preprocesses alone.
-CFLAGS=-O => 1~1~1
-CC= ~ => 1~1~1
-CC= ~;CPP=cpp => 1~1~cpp|conftest.c|
+words CFLAGS=-O => 1^J1^J1
+words CC= ^J => 1^J1^J1
+words CC= ^J;CPP=cpp => 1^J1^Jcpp|conftest.c|
+
+twelfth CC=cc => cc|-c|conftest12.c|^Jcc|-o|conftest12|conftest12.c|^Jcc|-E|conftest12.c|
+twelfth CC= ccache\tcc^J;CPP= \t;CFLAGS=-O -g;CPPFLAGS='-D A';LDFLAGS=-L. -s;LIBS=-la -lb => ccache|cc|-c|-O|-g|'-D|A'|conftest12.c|^Jccache|cc|-o|conftest12|-O|-g|'-D|A'|-L.|-s|conftest12.c|-la|-lb|^Jccache|cc|-E|'-D|A'|conftest12.c|
+
+run 0 => ./conftest|
+run 2 => ./conftest2|
+path /x/p => sh|-c|test -f \"$1\" && test -x \"$1\"|sh|/x/p|
+
+// A word of a vector, one that is pushed after it, and a copy of both; and no words.
+list cc -c => cc|-c|^J
 ";
 
-fn words_of_0(alloc: Global, assignments: &[u8]) -> Result<Vec<u8>, AllocError> {
-    words_of(alloc, assignments, 0)
-}
-
-#[test]
-fn words_of_a_compiler(rt: HostRuntime) -> Result<(), Fail> {
-    check(&rt, rt.alloc(), WORDS, &words_of_0)
-}
-
-const WORDS_OF_12: &[u8] = b"
-CC=cc => cc|-c|conftest12.c|~cc|-o|conftest12|conftest12.c|~cc|-E|conftest12.c|
-CC= ccache\tcc~;CPP= \t;CFLAGS=-O -g;CPPFLAGS='-D A';LDFLAGS=-L. -s;LIBS=-la -lb => ccache|cc|-c|-O|-g|'-D|A'|conftest12.c|~ccache|cc|-o|conftest12|-O|-g|'-D|A'|-L.|-s|conftest12.c|-la|-lb|~ccache|cc|-E|'-D|A'|conftest12.c|
-";
-
-fn words_of_12(alloc: Global, assignments: &[u8]) -> Result<Vec<u8>, AllocError> {
-    words_of(alloc, assignments, 12)
-}
-
-#[test]
-fn words_of_a_numbered_job(rt: HostRuntime) -> Result<(), Fail> {
-    check(&rt, rt.alloc(), WORDS_OF_12, &words_of_12)
-}
-
-/// The words of a job, and on further lines the name and the text of its file.
-fn shown(alloc: Global, job: &Job) -> Result<Vec<u8>, AllocError> {
-    let mut out = Vec::new(alloc);
-    put_each(&mut out, job.words.as_slice())?;
-    if let Some((name, text)) = &job.file {
-        out.push(b'\n')?;
-        out.extend_from_slice(name.as_slice())?;
-        out.push(b'\n')?;
-        out.extend_from_slice(text.as_slice())?;
+/// Puts each word with a bar after it.
+fn put_words(page: &mut Page, words: &Words) {
+    for word in words.as_slice() {
+        page.put(word.as_slice());
+        page.put(b"|");
     }
-    Ok(out)
 }
 
-fn runs(alloc: Global, number: u64, wanted: &[u8]) -> Result<bool, AllocError> {
-    let found = shown(alloc, &run_job(alloc, number)?)?;
-    Ok(found.as_slice() == wanted)
-}
-
-fn finds(alloc: Global, file: &[u8], wanted: &[u8]) -> Result<bool, AllocError> {
-    let found = shown(alloc, &path_job(alloc, file)?)?;
-    Ok(found.as_slice() == wanted)
-}
-
-#[test]
-fn jobs_without_a_file(rt: HostRuntime) -> Result<(), Fail> {
-    let alloc = rt.alloc();
-    assert!(rt; runs(alloc, 0, b"./conftest|")?);
-    assert!(rt; runs(alloc, 2, b"./conftest2|")?);
-    assert!(rt;
-        finds(
-            alloc,
-            b"/x/p",
-            b"sh|-c|test -f \"$1\" && test -x \"$1\"|sh|/x/p|"
-        )?
-    );
-    Ok(())
-}
-
-/// A job's copy, or the number of what is wrong.
-fn shown_copy(alloc: Global, job: Result<Job, JobFault>) -> Result<Vec<u8>, AllocError> {
+/// Puts the command, or the number of what is wrong.
+fn put_command(page: &mut Page, job: Result<Job, JobFault>) {
     match job {
-        Ok(job) => shown(alloc, &job.copy(alloc)?),
-        Err(fault) => {
-            let mut out = Vec::new(alloc);
-            put_fault(alloc, &mut out, fault)?;
-            Ok(out)
+        Ok(job) => put_words(page, &job.words),
+        Err(fault) => page.put_shown(&fault),
+    }
+}
+
+fn put_commands(page: &mut Page, variables: &[u8], number: u64) {
+    let alloc = page.alloc();
+    let vars = changed(page, variables);
+    let defs = Defs::new(alloc);
+    put_command(page, compile_job(alloc, &vars, &defs, b"x", number));
+    page.put(b"\n");
+    put_command(page, link_job(alloc, &vars, &defs, b"x", number));
+    page.put(b"\n");
+    put_command(page, preproc_job(alloc, &vars, &defs, b"x", number));
+}
+
+/// Puts the command of a job, and on further lines the name and the text of its file.
+fn put_job(page: &mut Page, job: &Job) {
+    put_words(page, &job.words);
+    if let Some((name, text)) = &job.file {
+        page.put(b"\n");
+        page.put(name.as_slice());
+        page.put(b"\n");
+        page.put(text.as_slice());
+    }
+}
+
+fn put_given_job(page: &mut Page, job: Result<Job, AllocError>) {
+    if let Some(job) = page.given(job) {
+        put_job(page, &job);
+    }
+}
+
+/// Returns a word of a vector, one that is pushed after it, and a copy of both.
+fn two_words(alloc: Global, first: &[u8], second: &[u8]) -> Result<Words, AllocError> {
+    let mut words = Words::from_vec(Vec::from_array(alloc, [Bytes::from_slice(alloc, first)?])?);
+    words.push(second)?;
+    words.copy(alloc)
+}
+
+fn put_two_words(page: &mut Page, first: &[u8], second: &[u8]) {
+    let alloc = page.alloc();
+    if let Some(words) = page.given(two_words(alloc, first, second)) {
+        put_words(page, &words);
+        page.put(b"\n");
+        put_words(page, &Words::new(alloc));
+    }
+}
+
+struct Commands;
+
+impl Call for Commands {
+    fn put(&self, page: &mut Page, given: &[u8]) {
+        let alloc = page.alloc();
+        let (call, text) = cut(given, b" ");
+        match (call.first(), text) {
+            (Some(b'w'), _) => put_commands(page, text, 0),
+            (Some(b't'), _) => put_commands(page, text, 12),
+            (Some(b'r'), _) => put_given_job(
+                page,
+                run_job(alloc, if text.starts_with(b"0") { 0 } else { 2 }),
+            ),
+            (Some(b'p'), _) => put_given_job(page, path_job(alloc, text)),
+            _ => {
+                let (first, second) = cut(text, b" ");
+                put_two_words(page, first, second);
+            }
         }
     }
 }
 
-fn shown_compiled(
-    alloc: Global,
-    vars: &Vars,
-    defs: &Defs,
-    source: &[u8],
-) -> Result<Vec<u8>, AllocError> {
-    shown_copy(alloc, compile_job(alloc, vars, defs, source, 1))
-}
-
-fn compiled_under(
-    alloc: Global,
-    vars: &Vars,
-    definitions: &[u8],
-    source: &[u8],
-) -> Result<Vec<u8>, AllocError> {
-    let defs = defined(alloc, definitions)?;
-    shown_compiled(alloc, vars, &defs, source)
-}
-
-/// What the compiler `cc` is asked for job 1.
-fn compiled(alloc: Global, definitions: &[u8], source: &[u8]) -> Result<Vec<u8>, AllocError> {
-    let vars = changed(alloc, b"CC=cc")?;
-    compiled_under(alloc, &vars, definitions, source)
-}
-
-/// The definitions of a source that says its name and version.
-const DEMO: &[u8] =
-    b"PACKAGE_NAME=\"demo\";PACKAGE_TARNAME=\"demo\";PACKAGE_VERSION=\"1.0\";PACKAGE_STRING=\"demo 1.0\";PACKAGE_BUGREPORT=\"\";PACKAGE_URL=\"\"";
-
-const DEMO_TEST: &[u8] = b"cc|-c|conftest1.c|
-conftest1.c
-/* confdefs.h */
-#define PACKAGE_NAME \"demo\"
-#define PACKAGE_TARNAME \"demo\"
-#define PACKAGE_VERSION \"1.0\"
-#define PACKAGE_STRING \"demo 1.0\"
-#define PACKAGE_BUGREPORT \"\"
-#define PACKAGE_URL \"\"
-#include <stddef.h>
-#include <stdio.h>
-#include <stdlib.h>
-#include <string.h>
-#include <sys/types.h>
-#include <sys/stat.h>
-";
-
-fn is_demo_test(alloc: Global) -> Result<bool, AllocError> {
-    let source = header_source(alloc, default_includes(), b"sys/stat.h")?;
-    let found = compiled(alloc, DEMO, source.as_slice())?;
-    Ok(found.as_slice() == DEMO_TEST)
-}
-
-// A header test of the first entry of a list, for a source that has said its name and version.
 #[test]
-fn a_header_test(rt: HostRuntime) -> Result<(), Fail> {
-    assert!(rt; is_demo_test(rt.alloc())?);
-    Ok(())
+fn commands_of_jobs(rt: HostRuntime) -> Result<(), Fail> {
+    try_rows(rt.alloc(), &Commands, COMMANDS)
 }
 
-const ENDED: &[u8] = b"
-int x;~ => cc|-c|conftest1.c|~conftest1.c~/* confdefs.h */~int x;~
-int x; => cc|-c|conftest1.c|~conftest1.c~/* confdefs.h */~int x;~
- => cc|-c|conftest1.c|~conftest1.c~/* confdefs.h */~~
-";
-
-fn without_definitions(alloc: Global, source: &[u8]) -> Result<Vec<u8>, AllocError> {
-    compiled(alloc, b"", source)
-}
-
-#[test]
-fn a_source_is_ended_by_a_newline(rt: HostRuntime) -> Result<(), Fail> {
-    check(&rt, rt.alloc(), ENDED, &without_definitions)
-}
-
-/// The kind of a source, its front, and a name or a body.
+/// `compile` and a source: the job that compiles it with `cc`. `definitions` and some: the job of a test of a header under
+/// them. `source` and the kind of a source, its front, and a name or a body: that source.
 const SOURCES: &[u8] = b"
-program,, => ~int~main (void)~{~~  ;~  return 0;~}~
-program,x,y; => x~int~main (void)~{~y;~  ;~  return 0;~}~
-header,x,a.h => x~#include <a.h>
-function,,f => #undef f~char f (void);~int~main (void)~{~return f ();~  ;~  return 0;~}~
-declaration,#include <a.h>,s => #include <a.h>~int~main (void)~{~#ifndef s~  (void) s;~#endif~  ;~  return 0;~}~
-type,x,char * => x~int~main (void)~{~if (sizeof (char *)) return 0;~  ;~  return 0;~}~
-second,x,char * => x~int~main (void)~{~if (sizeof ((char *))) return 0;~  ;~  return 0;~}~
+// A source is ended by a newline.
+compile int x;^J => cc|-c|conftest1.c|^Jconftest1.c^J/* confdefs.h */^Jint x;^J
+compile int x; => cc|-c|conftest1.c|^Jconftest1.c^J/* confdefs.h */^Jint x;^J
+compile  => cc|-c|conftest1.c|^Jconftest1.c^J/* confdefs.h */^J^J
+
+// A header test of the first entry of a list, for a source that has given its name and version.
+definitions PACKAGE_NAME=\"demo\";PACKAGE_TARNAME=\"demo\";PACKAGE_VERSION=\"1.0\";PACKAGE_STRING=\"demo 1.0\";PACKAGE_BUGREPORT=\"\";PACKAGE_URL=\"\" => cc|-c|conftest1.c|^Jconftest1.c^J/* confdefs.h */^J#define PACKAGE_NAME \"demo\"^J#define PACKAGE_TARNAME \"demo\"^J#define PACKAGE_VERSION \"1.0\"^J#define PACKAGE_STRING \"demo 1.0\"^J#define PACKAGE_BUGREPORT \"\"^J#define PACKAGE_URL \"\"^J#include <stddef.h>^J#include <stdio.h>^J#include <stdlib.h>^J#include <string.h>^J#include <sys/types.h>^J#include <sys/stat.h>^J
+
+source program,, => ^Jint^Jmain (void)^J{^J^J  ;^J  return 0;^J}^J
+source program,x,y; => x^Jint^Jmain (void)^J{^Jy;^J  ;^J  return 0;^J}^J
+source header,x,a.h => x^J#include <a.h>
+source function,,f => #undef f^Jchar f (void);^Jint^Jmain (void)^J{^Jreturn f ();^J  ;^J  return 0;^J}^J
+source declaration,#include <a.h>,s => #include <a.h>^Jint^Jmain (void)^J{^J#ifndef s^J  (void) s;^J#endif^J  ;^J  return 0;^J}^J
+source type,x,char * => x^Jint^Jmain (void)^J{^Jif (sizeof (char *)) return 0;^J  ;^J  return 0;^J}^J
+source second,x,char * => x^Jint^Jmain (void)^J{^Jif (sizeof ((char *))) return 0;^J  ;^J  return 0;^J}^J
 ";
+
+/// Puts a copy of the job that compiles a source with `cc`, or what is wrong.
+fn put_compiled(page: &mut Page, definitions: &[u8], source: &[u8]) {
+    let alloc = page.alloc();
+    let vars = changed(page, b"CC=cc");
+    let defs = defined(page, definitions);
+    match compile_job(alloc, &vars, &defs, source, 1) {
+        Ok(job) => put_given_job(page, job.copy(alloc)),
+        Err(fault) => page.put_shown(&fault),
+    }
+}
 
 fn source_of(alloc: Global, kind: &[u8], front: &[u8], name: &[u8]) -> Result<Bytes, AllocError> {
     match kind.first() {
@@ -260,36 +164,35 @@ fn source_of(alloc: Global, kind: &[u8], front: &[u8], name: &[u8]) -> Result<By
     }
 }
 
-fn source_in(alloc: Global, given: &[u8]) -> Result<Vec<u8>, AllocError> {
+fn put_source(page: &mut Page, given: &[u8]) {
     let (kind, rest) = cut(given, b",");
     let (front, name) = cut(rest, b",");
-    let source = source_of(alloc, kind, front, name)?;
-    Ok(source.into_vec())
+    if let Some(source) = page.given(source_of(page.alloc(), kind, front, name)) {
+        page.put(source.as_slice());
+    }
+}
+
+fn put_header_test(page: &mut Page, definitions: &[u8]) {
+    let source = header_source(page.alloc(), default_includes(), b"sys/stat.h");
+    if let Some(source) = page.given(source) {
+        put_compiled(page, definitions, source.as_slice());
+    }
+}
+
+struct Sources;
+
+impl Call for Sources {
+    fn put(&self, page: &mut Page, given: &[u8]) {
+        let (call, text) = cut(given, b" ");
+        match call.first() {
+            Some(b'c') => put_compiled(page, b"", text),
+            Some(b'd') => put_header_test(page, text),
+            _ => put_source(page, text),
+        }
+    }
 }
 
 #[test]
-fn sources(rt: HostRuntime) -> Result<(), Fail> {
-    check(&rt, rt.alloc(), SOURCES, &source_in)
-}
-
-/// A word of a vector, one behind it, and a copy of both.
-fn some_words(alloc: Global) -> Result<Words, AllocError> {
-    let mut all = Vec::new(alloc);
-    all.push(Bytes::from_slice(alloc, b"cc")?)?;
-    let mut words = Words::from_vec(all);
-    words.push(b"-c")?;
-    words.copy(alloc)
-}
-
-fn has_some_words(alloc: Global) -> Result<bool, AllocError> {
-    let words = some_words(alloc)?;
-    let mut out = Vec::new(alloc);
-    put_each(&mut out, words.as_slice())?;
-    Ok(out.as_slice() == b"cc|-c|".as_slice() && Words::new(alloc).as_slice().is_empty())
-}
-
-#[test]
-fn words_of_a_vector(rt: HostRuntime) -> Result<(), Fail> {
-    assert!(rt; has_some_words(rt.alloc())?);
-    Ok(())
+fn sources_of_tests(rt: HostRuntime) -> Result<(), Fail> {
+    try_rows(rt.alloc(), &Sources, SOURCES)
 }

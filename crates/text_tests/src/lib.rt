@@ -1,8 +1,9 @@
-//! Tests of the crates that hold and cut texts: deftable, textcut, m4quote, conftest and template.
+//! Tests of the crates that hold and cut texts: deftable, textcut, m4quote, csource, conftest and template.
 //!
 //! They have what no clause says: an ordinary answer of each call, with ample memory; worked examples, each answer found by
-//! hand from the rules; and printed text. An example is a row of a table, which `rows` reads. What calls a crate stands in
-//! functions without a contract, so the proof of a test sees no contract of that crate.
+//! hand from the rules; and printed text. An example is a row of a table that `testrows` reads, and a row begins with a word
+//! for its call. What calls a crate stands in functions without a contract, so the proof of a test sees no contract of that
+//! crate.
 #![tactic(auto)]
 
 #[cfg(test)]
@@ -11,8 +12,6 @@ mod cuts;
 mod jobs;
 #[cfg(test)]
 mod quoting;
-#[cfg(test)]
-mod rows;
 #[cfg(test)]
 mod tables;
 #[cfg(test)]

@@ -1,254 +1,221 @@
 //! m4quote: a source as items, and what arguments and bare text mean.
 
-use crate::rows::{check, put_quoted, quoted};
 use m4quote::{
     Arg, Item, QuoteFault, bare_value, cpp_name, read_items, read_items_at, sh_name, used_text,
 };
-use std::alloc::{AllocError, Global};
 use std::test::Fail;
+use testrows::{Call, Page, cut, try_rows};
 
-fn put_place(alloc: Global, out: &mut Vec<u8>, at: usize) -> Result<(), AllocError> {
-    let place = format!(in alloc; " at {at}")?;
-    out.extend_from_slice(place.as_bytes())?;
-    Ok(())
-}
-
-fn put_argument(alloc: Global, out: &mut Vec<u8>, arg: &Arg<'_>) -> Result<(), AllocError> {
-    out.extend_from_slice(b" (")?;
-    put_quoted(out, arg.text)?;
-    put_place(alloc, out, arg.at)?;
-    out.extend_from_slice(b")")?;
-    Ok(())
-}
-
-fn put_arguments(alloc: Global, out: &mut Vec<u8>, args: &[Arg<'_>]) -> Result<(), AllocError> {
-    for arg in args {
-        put_argument(alloc, out, arg)?;
-    }
-    Ok(())
-}
-
-/// A call is shown by its name with each argument in parentheses behind it, bare text in quotes.
-fn put_item(alloc: Global, out: &mut Vec<u8>, item: &Item<'_>) -> Result<(), AllocError> {
-    match item {
-        Item::Call { name, args, at } => {
-            out.extend_from_slice(name)?;
-            put_place(alloc, out, *at)?;
-            put_arguments(alloc, out, args.as_slice())
-        }
-        Item::Bare { text, at } => {
-            put_quoted(out, text)?;
-            put_place(alloc, out, *at)
-        }
-    }
-}
-
-fn shown_items(alloc: Global, items: &[Item<'_>]) -> Result<Vec<u8>, AllocError> {
-    let mut out = Vec::new(alloc);
-    for item in items {
-        put_item(alloc, &mut out, item)?;
-        out.push(b';')?;
-    }
-    Ok(out)
-}
-
-fn shown_fault(alloc: Global, fault: QuoteFault) -> Result<Vec<u8>, AllocError> {
-    let shown = format!(in alloc; "{fault}")?;
-    Vec::from_slice(alloc, shown.as_bytes())
-}
-
-fn items_of(alloc: Global, text: &[u8]) -> Result<Vec<u8>, AllocError> {
-    match read_items(alloc, text) {
-        Ok(items) => shown_items(alloc, items.as_slice()),
-        Err(fault) => shown_fault(alloc, fault),
-    }
-}
-
+/// `items` and a text: a call by its name with each argument in parentheses after it, and bare text in brackets; or the fault.
+/// `at` and a text: the same of the text at offset 100 of a file.
 const ITEMS: &[u8] = b"
-AC_X([a], [b] # it, (~) => AC_X at 0 ('[a]' at 5) ('[b] # it, (~' at 10);
+items AC_X([a], [b] # it, (^J) => AC_X at 0 ([[a]] at 5) ([[b] # it, (^J] at 10);
 // Commas in quotes, inner parentheses and `dnl` lines are ordinary, and an empty argument is one.
-m4_x((a,b), [c,d],dnl e,f~,) => m4_x at 0 ('(a,b)' at 5) ('[c,d]' at 12) ('dnl e,f~' at 18) ('' at 27);
+items m4_x((a,b), [c,d],dnl e,f^J,) => m4_x at 0 ([(a,b)] at 5) ([[c,d]] at 12) ([dnl e,f^J] at 18) ([] at 27);
 // A blank parts a name from the parenthesis.
-m4_x(,)AC_Y()AC_Z () => m4_x at 0 ('' at 5) ('' at 6);AC_Y at 7 ('' at 12);AC_Z at 13;' ()' at 17;
+items m4_x(,)AC_Y()AC_Z () => m4_x at 0 ([] at 5) ([] at 6);AC_Y at 7 ([] at 12);AC_Z at 13;[ ()] at 17;
 // A dropped line parts bare text.
-a[,]b dnl x~c AC_Y d => 'a[,]b ' at 0;'c ' at 12;AC_Y at 14;' d' at 18;
+items a[,]b dnl x^Jc AC_Y d => [a[,]b ] at 0;[c ] at 12;AC_Y at 14;[ d] at 18;
 // A name in quotes, in a comment or inside a word is none.
-[AC_X] # AC_X~xAC_X [dnl]~ => '[AC_X] # AC_X~xAC_X [dnl]~' at 0;
-AC_INIT([x],[1] => 2 at 7
-] => 3 at 0
-[a[b] => 1 at 0
+items [AC_X] # AC_X^JxAC_X [dnl]^J => [[AC_X] # AC_X^JxAC_X [dnl]^J] at 0;
+items AC_INIT([x],[1] => 2 at 7
+items ] => 3 at 0
+items [a[b] => 1 at 0
 // The outermost parenthesis is the call's.
-(AC_X(( => 2 at 5
+items (AC_X(( => 2 at 5
 // An open quote is named before an open parenthesis.
-AC_X([a => 1 at 5
-// What only the end shows doesn't come before a NUL, and what stands behind a NUL never does.
-[\0 => 4 at 1
-a\0] => 4 at 1
-]\0 => 3 at 0
-# \0 => 4 at 2
-// A bracket in a comment or a `dnl` line is none; behind it one is.
-# ]~] => 3 at 4
-dnl ]~] => 3 at 6
-xdnl ]~ => 3 at 5
+items AC_X([a => 1 at 5
+// What only the end shows doesn't come before a NUL, and what follows a NUL never does.
+items [\0 => 4 at 1
+items a\0] => 4 at 1
+items ]\0 => 3 at 0
+items # \0 => 4 at 2
+// A bracket in a comment or a `dnl` line is none; after it one is.
+items # ]^J] => 3 at 4
+items dnl ]^J] => 3 at 6
+items xdnl ]^J => 3 at 5
+
+// Offsets are those of the file.
+at x AC_X( [a],b) => [x ] at 100;AC_X at 102 ([[a]] at 108) ([b] at 112);
+at AC_X([a])] => 3 at 109
+at AC_X([a] => 2 at 104
+at AC_X([a => 1 at 105
+at a\0 => 4 at 101
 ";
+
+/// `count` and each front of a call with two arguments and one without a parenthesis: its fault, or how many items it has.
+const FRONTS: &[u8] = b"
+count  => 0 items
+count A => 1 items
+count AC => 1 items
+count AC_ => 1 items
+count AC_I => 1 items
+count AC_IN => 1 items
+count AC_INI => 1 items
+count AC_INIT => 1 items
+count AC_INIT( => 2 at 7
+count AC_INIT([ => 1 at 8
+count AC_INIT([d => 1 at 8
+count AC_INIT([de => 1 at 8
+count AC_INIT([dem => 1 at 8
+count AC_INIT([demo => 1 at 8
+count AC_INIT([demo] => 2 at 7
+count AC_INIT([demo], => 2 at 7
+count AC_INIT([demo],[ => 1 at 15
+count AC_INIT([demo],[1 => 1 at 15
+count AC_INIT([demo],[1. => 1 at 15
+count AC_INIT([demo],[1.0 => 1 at 15
+count AC_INIT([demo],[1.0] => 2 at 7
+count AC_INIT([demo],[1.0]) => 1 items
+count AC_INIT([demo],[1.0])^J => 2 items
+count AC_INIT([demo],[1.0])^JA => 2 items
+count AC_INIT([demo],[1.0])^JAC => 2 items
+count AC_INIT([demo],[1.0])^JAC_ => 3 items
+count AC_INIT([demo],[1.0])^JAC_O => 3 items
+count AC_INIT([demo],[1.0])^JAC_OU => 3 items
+count AC_INIT([demo],[1.0])^JAC_OUT => 3 items
+count AC_INIT([demo],[1.0])^JAC_OUTP => 3 items
+count AC_INIT([demo],[1.0])^JAC_OUTPU => 3 items
+count AC_INIT([demo],[1.0])^JAC_OUTPUT => 3 items
+count AC_INIT([demo],[1.0])^JAC_OUTPUT^J => 4 items
+";
+
+fn put_place(page: &mut Page, at: usize) {
+    page.put(b" at ");
+    page.put_number(at);
+}
+
+fn put_arguments(page: &mut Page, args: &[Arg<'_>]) {
+    for arg in args {
+        page.put(b" (");
+        page.put_text(arg.text);
+        put_place(page, arg.at);
+        page.put(b")");
+    }
+}
+
+fn put_items(page: &mut Page, items: &[Item<'_>]) {
+    for item in items {
+        match item {
+            Item::Call { name, args, at } => {
+                page.put(name);
+                put_place(page, *at);
+                put_arguments(page, args.as_slice());
+            }
+            Item::Bare { text, at } => {
+                page.put_text(text);
+                put_place(page, *at);
+            }
+        }
+        page.put(b";");
+    }
+}
+
+struct Items;
+
+impl Call for Items {
+    fn put(&self, page: &mut Page, given: &[u8]) {
+        let (call, text) = cut(given, b" ");
+        let items = if call.starts_with(b"at") {
+            read_items_at(page.alloc(), text, 100)
+        } else {
+            read_items(page.alloc(), text)
+        };
+        match items {
+            Ok(items) if call.starts_with(b"count") => {
+                page.put_number(items.len());
+                page.put(b" items");
+            }
+            Ok(items) => put_items(page, items.as_slice()),
+            Err(fault) => page.put_shown(&fault),
+        }
+    }
+}
 
 #[test]
 fn items_and_faults(rt: HostRuntime) -> Result<(), Fail> {
-    check(&rt, rt.alloc(), ITEMS, &items_of)
-}
-
-fn items_at_100(alloc: Global, text: &[u8]) -> Result<Vec<u8>, AllocError> {
-    match read_items_at(alloc, text, 100) {
-        Ok(items) => shown_items(alloc, items.as_slice()),
-        Err(fault) => shown_fault(alloc, fault),
-    }
-}
-
-const ITEMS_AT_100: &[u8] = b"
-x AC_X( [a],b) => 'x ' at 100;AC_X at 102 ('[a]' at 108) ('b' at 112);
-AC_X([a])] => 3 at 109
-AC_X([a] => 2 at 104
-AC_X([a => 1 at 105
-a\0 => 4 at 101
-";
-
-#[test]
-fn places_are_those_of_the_file(rt: HostRuntime) -> Result<(), Fail> {
-    check(&rt, rt.alloc(), ITEMS_AT_100, &items_at_100)
-}
-
-/// Each front of a call with two arguments and one without a parenthesis: its fault, or how many items it has.
-const FRONTS: &[u8] = b"
- => 0 items
-A => 1 items
-AC => 1 items
-AC_ => 1 items
-AC_I => 1 items
-AC_IN => 1 items
-AC_INI => 1 items
-AC_INIT => 1 items
-AC_INIT( => 2 at 7
-AC_INIT([ => 1 at 8
-AC_INIT([d => 1 at 8
-AC_INIT([de => 1 at 8
-AC_INIT([dem => 1 at 8
-AC_INIT([demo => 1 at 8
-AC_INIT([demo] => 2 at 7
-AC_INIT([demo], => 2 at 7
-AC_INIT([demo],[ => 1 at 15
-AC_INIT([demo],[1 => 1 at 15
-AC_INIT([demo],[1. => 1 at 15
-AC_INIT([demo],[1.0 => 1 at 15
-AC_INIT([demo],[1.0] => 2 at 7
-AC_INIT([demo],[1.0]) => 1 items
-AC_INIT([demo],[1.0])~ => 2 items
-AC_INIT([demo],[1.0])~A => 2 items
-AC_INIT([demo],[1.0])~AC => 2 items
-AC_INIT([demo],[1.0])~AC_ => 3 items
-AC_INIT([demo],[1.0])~AC_O => 3 items
-AC_INIT([demo],[1.0])~AC_OU => 3 items
-AC_INIT([demo],[1.0])~AC_OUT => 3 items
-AC_INIT([demo],[1.0])~AC_OUTP => 3 items
-AC_INIT([demo],[1.0])~AC_OUTPU => 3 items
-AC_INIT([demo],[1.0])~AC_OUTPUT => 3 items
-AC_INIT([demo],[1.0])~AC_OUTPUT~ => 4 items
-";
-
-fn shown_count(alloc: Global, count: usize) -> Result<Vec<u8>, AllocError> {
-    let shown = format!(in alloc; "{count} items")?;
-    Vec::from_slice(alloc, shown.as_bytes())
-}
-
-fn count_of(alloc: Global, text: &[u8]) -> Result<Vec<u8>, AllocError> {
-    match read_items(alloc, text) {
-        Ok(items) => shown_count(alloc, items.len()),
-        Err(fault) => shown_fault(alloc, fault),
-    }
+    try_rows(rt.alloc(), &Items, ITEMS)
 }
 
 #[test]
 fn each_front_of_a_source(rt: HostRuntime) -> Result<(), Fail> {
-    check(&rt, rt.alloc(), FRONTS, &count_of)
+    try_rows(rt.alloc(), &Items, FRONTS)
 }
 
-const USED: &[u8] = b"
-[@<:@@S|@x@:>@] => '[$x]'
-[@%:@@{:@@:}@@&t@.] => '#().'
-[a[3]] => 'a3'
-[[a[3]]] => 'a[3]'
-[a dnl b~]c => 'a c'
-a[b => 1 at 1
-a]b => 3 at 1
+/// `used` and an argument, `value` and bare text: what it means. `names` and a text: it as a part of a shell variable's name,
+/// and as one of a preprocessor symbol. `faults` alone: each fault, with an offset of its own.
+const MEANINGS: &[u8] = b"
+used [@<:@@S|@x@:>@] => [[$x]]
+used [@%:@@{:@@:}@@&t@.] => [#().]
+used [a[3]] => [a3]
+used [[a[3]]] => [a[3]]
+used [a dnl b^J]c => [a c]
+used a[b => 1 at 1
+used a]b => 3 at 1
 // The comment that the second reading meets hides a bracket from it.
-a[#[~]] => 3 at 0
-";
+used a[#[^J]] => 3 at 0
 
-fn used_of(alloc: Global, arg: &[u8]) -> Result<Vec<u8>, AllocError> {
-    match used_text(alloc, arg) {
-        Ok(used) => quoted(alloc, used.as_slice()),
-        Err(fault) => shown_fault(alloc, fault),
-    }
-}
-
-#[test]
-fn used_texts(rt: HostRuntime) -> Result<(), Fail> {
-    check(&rt, rt.alloc(), USED, &used_of)
-}
-
-const VALUES: &[u8] = b"
-a[b[c]]@%:@ dnl x~y => 'ab[c]# y'
+value a[b[c]]@%:@ dnl x^Jy => [ab[c]# y]
 // What a quadrigraph leaves is not read again.
-@@&t@<:@ => '@<:@'
-[] => ''
-a[ => 1 at 1
-a] => 3 at 1
+value @@&t@<:@ => [@<:@]
+value [] => []
+value a[ => 1 at 1
+value a] => 3 at 1
+
+names char * => char_p CHAR_P
+names sys/stat.h => sys_stat_h SYS_STAT_H
+names c++ => cpp C__
+
+faults => 1 at 3;2 at 12;3 at 0;4 at 7;5;6;memory;
 ";
 
-fn value_of(alloc: Global, text: &[u8]) -> Result<Vec<u8>, AllocError> {
-    match bare_value(alloc, text) {
-        Ok(value) => quoted(alloc, value.as_slice()),
-        Err(fault) => shown_fault(alloc, fault),
+fn put_names(page: &mut Page, text: &[u8]) {
+    let name = page.given(sh_name(page.alloc(), text));
+    let symbol = page.given(cpp_name(page.alloc(), text));
+    if let (Some(name), Some(symbol)) = (&name, &symbol) {
+        page.put(name.as_slice());
+        page.put(b" ");
+        page.put(symbol.as_slice());
+    }
+}
+
+fn put_faults(page: &mut Page) {
+    for fault in [
+        QuoteFault::UnclosedQuote(3),
+        QuoteFault::UnclosedParen(12),
+        QuoteFault::StrayClose(0),
+        QuoteFault::Nul(7),
+        QuoteFault::TooLarge,
+        QuoteFault::TooDeep,
+        QuoteFault::OutOfMemory,
+    ] {
+        page.put_shown(&fault);
+        page.put(b";");
+    }
+}
+
+fn put_meaning(page: &mut Page, meaning: Result<Vec<u8>, QuoteFault>) {
+    match meaning {
+        Ok(text) => page.put_text(text.as_slice()),
+        Err(fault) => page.put_shown(&fault),
+    }
+}
+
+struct Meanings;
+
+impl Call for Meanings {
+    fn put(&self, page: &mut Page, given: &[u8]) {
+        let (call, text) = cut(given, b" ");
+        match call.first() {
+            Some(b'u') => put_meaning(page, used_text(page.alloc(), text)),
+            Some(b'v') => put_meaning(page, bare_value(page.alloc(), text)),
+            Some(b'n') => put_names(page, text),
+            _ => put_faults(page),
+        }
     }
 }
 
 #[test]
-fn values_of_bare_text(rt: HostRuntime) -> Result<(), Fail> {
-    check(&rt, rt.alloc(), VALUES, &value_of)
-}
-
-/// The text as a part of a shell variable's name, and as one of a preprocessor symbol.
-const NAMES: &[u8] = b"
-char * => char_p CHAR_P
-sys/stat.h => sys_stat_h SYS_STAT_H
-c++ => cpp C__
-";
-
-fn names_of(alloc: Global, text: &[u8]) -> Result<Vec<u8>, AllocError> {
-    let mut names = sh_name(alloc, text)?;
-    names.push(b' ')?;
-    names.extend_from_slice(cpp_name(alloc, text)?.as_slice())?;
-    Ok(names)
-}
-
-#[test]
-fn names(rt: HostRuntime) -> Result<(), Fail> {
-    check(&rt, rt.alloc(), NAMES, &names_of)
-}
-
-fn is_shown(alloc: Global, fault: QuoteFault, wanted: &[u8]) -> Result<bool, AllocError> {
-    let shown = shown_fault(alloc, fault)?;
-    Ok(shown.as_slice() == wanted)
-}
-
-#[test]
-fn faults_are_shown(rt: HostRuntime) -> Result<(), Fail> {
-    let alloc = rt.alloc();
-    assert!(rt; is_shown(alloc, QuoteFault::UnclosedQuote(3), b"1 at 3")?);
-    assert!(rt; is_shown(alloc, QuoteFault::UnclosedParen(12), b"2 at 12")?);
-    assert!(rt; is_shown(alloc, QuoteFault::StrayClose(0), b"3 at 0")?);
-    assert!(rt; is_shown(alloc, QuoteFault::Nul(7), b"4 at 7")?);
-    assert!(rt; is_shown(alloc, QuoteFault::TooLarge, b"5")?);
-    assert!(rt; is_shown(alloc, QuoteFault::TooDeep, b"6")?);
-    assert!(rt; is_shown(alloc, QuoteFault::OutOfMemory, b"memory")?);
-    Ok(())
+fn meanings_of_texts(rt: HostRuntime) -> Result<(), Fail> {
+    try_rows(rt.alloc(), &Meanings, MEANINGS)
 }

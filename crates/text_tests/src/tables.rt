@@ -1,11 +1,33 @@
 //! deftable: byte texts, and the tables that hold them by name.
 
-use crate::rows::{check, cut, pieces, put_each};
 use deftable::{Bytes, Defs, Name, Note, Notes, Stream, SubstList, Vars, is_shell_name};
 use std::alloc::{AllocError, Global};
 use std::cmp::Ordering;
 use std::hash::{DefaultHasher, Hash, Hasher};
 use std::test::Fail;
+use testrows::{Call, Page, cut, try_rows};
+
+/// `text` and two texts with a comma between them: the length of the first and whether it is empty, a copy of it, and of this
+/// copy and the second text how they are ordered, whether they are equal, whether the copy is below the second, and whether
+/// the second is above the copy. `name` and a text: whether it has the form of a name, and the name that it becomes.
+const TEXTS: &[u8] = b"
+text a\0\xff,a\0\xff => 3 no [a\0\xff] equal yes no no
+text a,a\0\xff => 1 no [a] less no yes yes
+text a,\xff => 1 no [a] less no yes yes
+text , => 0 yes [] equal yes no no
+
+name a => yes [a]
+name _ => yes [_]
+name _0 => yes [_0]
+name ac_cv_header_Stdio_h => yes [ac_cv_header_Stdio_h]
+name HAVE_A_1 => yes [HAVE_A_1]
+name  => no none
+name 0a => no none
+name a-b => no none
+name a  => no none
+name = => no none
+name \xc3\xa9 => no none
+";
 
 fn hash_of(text: &Bytes) -> u64 {
     let mut state = DefaultHasher::new();
@@ -13,277 +35,230 @@ fn hash_of(text: &Bytes) -> u64 {
     state.finish()
 }
 
-fn are_equal(a: &Bytes, b: &Bytes) -> bool {
-    a == b && a.as_slice() == b.as_slice() && hash_of(a) == hash_of(b)
+/// Puts how two texts compare. Equal texts have the same hash.
+fn put_order(page: &mut Page, first: &Bytes, second: &Bytes) {
+    page.put(match first.cmp(second) {
+        Ordering::Less => b" less ",
+        Ordering::Equal => b" equal ",
+        Ordering::Greater => b" greater ",
+    });
+    page.put_yes(first == second && hash_of(first) == hash_of(second));
+    page.put(b" ");
+    page.put_yes(first != second && first < second);
+    page.put(b" ");
+    page.put_yes(second > first);
 }
 
-fn is_before(a: &Bytes, b: &Bytes) -> bool {
-    a != b && a.cmp(b) == Ordering::Less && a < b && b > a
+fn copied(alloc: Global, text: &Bytes) -> Result<Bytes, AllocError> {
+    let clone = text.copy(alloc)?.clone()?;
+    Ok(Bytes::from_vec(clone.into_vec()))
 }
 
-fn copies_are_equal(alloc: Global, text: &[u8]) -> Result<bool, AllocError> {
-    let text = Bytes::from_slice(alloc, text)?;
-    let copy = text.copy(alloc)?;
-    let clone = copy.clone()?;
-    let same = Bytes::from_vec(copy.into_vec());
-    Ok(are_equal(&clone, &text) && are_equal(&same, &text))
+fn put_copy(page: &mut Page, first: &Bytes, second: &Bytes) {
+    page.put_number(first.len());
+    page.put(b" ");
+    page.put_yes(first.is_empty());
+    page.put(b" ");
+    if let Some(copy) = page.given(copied(page.alloc(), first)) {
+        page.put_text(copy.as_slice());
+        put_order(page, &copy, second);
+    }
 }
 
-/// The number of a text's bytes, and whether there is none.
-fn size_of(alloc: Global, text: &[u8]) -> Result<(usize, bool), AllocError> {
-    let text = Bytes::from_slice(alloc, text)?;
-    Ok((text.len(), text.is_empty()))
+/// Returns the text. If it is empty or memory runs out, it is a new one.
+fn text_of(page: &mut Page, text: &[u8]) -> Bytes {
+    let alloc = page.alloc();
+    if text.is_empty() {
+        return Bytes::new(alloc);
+    }
+    page.given(Bytes::from_slice(alloc, text))
+        .unwrap_or(Bytes::new(alloc))
 }
 
-fn are_in_order(alloc: Global, first: &[u8], second: &[u8]) -> Result<bool, AllocError> {
-    let first = Bytes::from_slice(alloc, first)?;
-    let second = Bytes::from_slice(alloc, second)?;
-    Ok(is_before(&first, &second))
+fn put_name(page: &mut Page, text: &[u8]) {
+    page.put_yes(is_shell_name(text));
+    page.put(b" ");
+    match Name::new(text_of(page, text)) {
+        Some(name) => page.put_text(name.as_slice()),
+        None => page.put(b"none"),
+    }
+}
+
+struct Texts;
+
+impl Call for Texts {
+    fn put(&self, page: &mut Page, given: &[u8]) {
+        let (call, text) = cut(given, b" ");
+        if call.starts_with(b"name") {
+            return put_name(page, text);
+        }
+        let (first, second) = cut(text, b",");
+        let first = text_of(page, first);
+        let second = text_of(page, second);
+        put_copy(page, &first, &second);
+    }
 }
 
 #[test]
-fn texts(rt: HostRuntime) -> Result<(), Fail> {
-    let alloc = rt.alloc();
-    assert!(rt; Bytes::new(alloc).is_empty());
-    assert_eq!(rt; size_of(alloc, b"a\0\xff")?, (3, false));
-    assert!(rt; copies_are_equal(alloc, b"a\0\xff")?);
-    assert!(rt; are_in_order(alloc, b"a", b"a\0\xff")?);
-    assert!(rt; are_in_order(alloc, b"a", b"\xff")?);
-    Ok(())
+fn texts_and_names(rt: HostRuntime) -> Result<(), Fail> {
+    try_rows(rt.alloc(), &Texts, TEXTS)
 }
 
-const SHELL_NAMES: &[u8] = b"
-a => a name
-_ => a name
-_0 => a name
-ac_cv_header_Stdio_h => a name
-HAVE_A_1 => a name
- => none
-0a => none
-a-b => none
-a  => none
-= => none
-\xc3\xa9 => none
+/// A table and steps with semicolons between them, and at its end what the table holds, in order. A step `NAME=VALUE` sets
+/// an entry, `!NAME` takes one away, and `?NAME` puts what the table holds at that point under the name.
+const TABLES: &[u8] = b"
+vars !CC =>
+vars CC=cc => CC=cc;
+vars CC=cc;LIBS=;CC=gcc => CC=gcc;LIBS=;
+vars CC=cc;LIBS=;CC=gcc;!CC => LIBS=;
+vars CC=cc;LIBS=;CC=gcc;!CC;!CC => LIBS=;
+vars CC=cc;LIBS=;!CC;CC=gcc => LIBS=;CC=gcc;
+vars LIBS=;?CC => none LIBS=;
+// A variable that is set to nothing is set.
+vars CC=cc;LIBS=;CC=gcc;?CC;?LIBS => [gcc] [] CC=gcc;LIBS=;
+vars CC=cc;LIBS=;!CC;?CC => none LIBS=;
+
+defs A=1 => A=1;
+defs A=1;B=;A=2 => A=2;B=;
+defs A=1;B=;A=2;?A;?C => [2] none A=2;B=;
+
+// A name is listed once.
+list CC;LIBS;CC;?LIBS;?LIB => yes no CC;LIBS;
+
+// Notes on standard output and on standard error keep their order.
+notes 1first;2second => 1first;2second;
 ";
 
-/// Whether a text has the form of a name, and whether it becomes one.
-fn name_of(alloc: Global, text: &[u8]) -> Result<Vec<u8>, AllocError> {
-    let has_form = is_shell_name(text);
-    let name = Name::new(Bytes::from_slice(alloc, text)?);
-    let is_kept = match &name {
-        Some(name) => name.as_slice() == text,
-        None => false,
-    };
-    let shown = if has_form && is_kept {
-        b"a name".as_slice()
-    } else if has_form || name.is_some() {
-        b"one of both".as_slice()
-    } else {
-        b"none".as_slice()
-    };
-    Vec::from_slice(alloc, shown)
-}
-
-#[test]
-fn shell_names(rt: HostRuntime) -> Result<(), Fail> {
-    check(&rt, rt.alloc(), SHELL_NAMES, &name_of)
-}
-
-fn put_entry(out: &mut Vec<u8>, name: &[u8], value: &[u8]) -> Result<(), AllocError> {
-    out.extend_from_slice(name)?;
-    out.push(b'=')?;
-    out.extend_from_slice(value)?;
-    out.push(b';')?;
-    Ok(())
-}
-
-/// Sets a variable, or takes one away: `CC=cc`, `!CC`.
-fn change(vars: &mut Vars, step: &[u8]) -> Result<(), AllocError> {
-    if let Some(name) = step.strip_prefix(b"!") {
-        vars.unset(name);
-        return Ok(());
+/// Puts the value, or that there is none.
+fn put_value(page: &mut Page, value: Option<&Bytes>) {
+    match value {
+        Some(value) => page.put_text(value.as_slice()),
+        None => page.put(b"none"),
     }
-    let (name, value) = cut(step, b"=");
-    vars.set(name, value)
+    page.put(b" ");
 }
 
-/// The variables after steps with semicolons between them.
-pub fn changed(alloc: Global, steps: &[u8]) -> Result<Vars, AllocError> {
-    let mut vars = Vars::new(alloc);
-    for step in &pieces(alloc, steps, b';')? {
-        change(&mut vars, step)?;
+fn put_entry(page: &mut Page, entry: (&[u8], &[u8])) {
+    page.put(entry.0);
+    page.put(b"=");
+    page.put(entry.1);
+    page.put(b";");
+}
+
+/// Takes a step on variables.
+fn change(page: &mut Page, vars: &mut Vars, step: &[u8]) {
+    match step {
+        [b'!', name @ ..] => vars.unset(name),
+        [b'?', name @ ..] => put_value(page, vars.get(name)),
+        _ => {
+            let (name, value) = cut(step, b"=");
+            page.given(vars.set(name, value));
+        }
     }
-    Ok(vars)
 }
 
-fn vars_after(alloc: Global, steps: &[u8]) -> Result<Vec<u8>, AllocError> {
-    let vars = changed(alloc, steps)?;
-    let mut out = Vec::new(alloc);
+/// Returns the variables after steps with semicolons between them.
+pub fn changed(page: &mut Page, steps: &[u8]) -> Vars {
+    let mut vars = Vars::new(page.alloc());
+    for step in steps.split(|byte| *byte == b';') {
+        change(page, &mut vars, step);
+    }
+    vars
+}
+
+fn put_vars(page: &mut Page, steps: &[u8]) {
+    let vars = changed(page, steps);
     for i in 0..vars.len() {
-        let (name, value) = vars.at(i);
-        put_entry(&mut out, name, value)?;
-    }
-    Ok(out)
-}
-
-const VARIABLES: &[u8] = b"
-!CC => 
-CC=cc => CC=cc;
-CC=cc;LIBS=;CC=gcc => CC=gcc;LIBS=;
-CC=cc;LIBS=;CC=gcc;!CC => LIBS=;
-CC=cc;LIBS=;CC=gcc;!CC;!CC => LIBS=;
-CC=cc;LIBS=;!CC;CC=gcc => LIBS=;CC=gcc;
-";
-
-#[test]
-fn variables(rt: HostRuntime) -> Result<(), Fail> {
-    check(&rt, rt.alloc(), VARIABLES, &vars_after)
-}
-
-/// Whether a value is this one, or not there.
-fn is_value(value: Option<&Bytes>, wanted: Option<&[u8]>) -> bool {
-    match (value, wanted) {
-        (Some(value), Some(wanted)) => value.as_slice() == wanted,
-        (None, None) => true,
-        _ => false,
+        put_entry(page, vars.at(i));
     }
 }
 
-/// Whether a variable has this value after these steps.
-fn has_value(
-    alloc: Global,
-    steps: &[u8],
-    name: &[u8],
-    wanted: Option<&[u8]>,
-) -> Result<bool, AllocError> {
-    let vars = changed(alloc, steps)?;
-    Ok(is_value(vars.get(name), wanted))
-}
-
-#[test]
-fn values_of_variables(rt: HostRuntime) -> Result<(), Fail> {
-    let alloc = rt.alloc();
-    assert!(rt; has_value(alloc, b"LIBS=", b"CC", None)?);
-    assert!(rt; has_value(alloc, b"CC=cc;LIBS=;CC=gcc", b"CC", Some(b"gcc"))?);
-    // A variable that is set to nothing is set.
-    assert!(rt; has_value(alloc, b"CC=cc;LIBS=;CC=gcc", b"LIBS", Some(b""))?);
-    assert!(rt; has_value(alloc, b"CC=cc;LIBS=;!CC", b"CC", None)?);
-    Ok(())
-}
-
-fn define(defs: &mut Defs, definition: &[u8]) -> Result<(), AllocError> {
-    let (name, value) = cut(definition, b"=");
-    if is_shell_name(name) {
-        defs.define(name, value)?;
+/// Takes a step on definitions.
+fn define(page: &mut Page, defs: &mut Defs, step: &[u8]) {
+    let (name, value) = cut(step, b"=");
+    if let Some(name) = name.strip_prefix(b"?") {
+        put_value(page, defs.get(name));
+    } else if is_shell_name(name) {
+        page.given(defs.define(name, value));
     }
-    Ok(())
 }
 
-/// The definitions of `NAME=VALUE;NAME=VALUE`.
-pub fn defined(alloc: Global, definitions: &[u8]) -> Result<Defs, AllocError> {
-    let mut defs = Defs::new(alloc);
-    for definition in &pieces(alloc, definitions, b';')? {
-        define(&mut defs, definition)?;
+/// Returns the definitions after steps with semicolons between them.
+pub fn defined(page: &mut Page, steps: &[u8]) -> Defs {
+    let mut defs = Defs::new(page.alloc());
+    for step in steps.split(|byte| *byte == b';') {
+        define(page, &mut defs, step);
     }
-    Ok(defs)
+    defs
 }
 
-fn defs_after(alloc: Global, definitions: &[u8]) -> Result<Vec<u8>, AllocError> {
-    let defs = defined(alloc, definitions)?;
-    let mut out = Vec::new(alloc);
+fn put_defs(page: &mut Page, steps: &[u8]) {
+    let defs = defined(page, steps);
     for i in 0..defs.len() {
-        let (name, value) = defs.at(i);
-        put_entry(&mut out, name, value)?;
+        put_entry(page, defs.at(i));
     }
-    Ok(out)
 }
 
-const DEFINITIONS: &[u8] = b"
-A=1 => A=1;
-A=1;B=;A=2 => A=2;B=;
-";
-
-fn has_definition(
-    alloc: Global,
-    definitions: &[u8],
-    name: &[u8],
-    wanted: Option<&[u8]>,
-) -> Result<bool, AllocError> {
-    let defs = defined(alloc, definitions)?;
-    Ok(is_value(defs.get(name), wanted))
-}
-
-#[test]
-fn definitions_keep_their_places(rt: HostRuntime) -> Result<(), Fail> {
-    let alloc = rt.alloc();
-    check(&rt, alloc, DEFINITIONS, &defs_after)?;
-    assert!(rt; has_definition(alloc, b"A=1;B=;A=2", b"A", Some(b"2"))?);
-    assert!(rt; has_definition(alloc, b"A=1;B=;A=2", b"C", None)?);
-    Ok(())
-}
-
-fn add(list: &mut SubstList, name: &[u8]) -> Result<(), AllocError> {
-    if is_shell_name(name) {
-        list.add(name)?;
+fn add(page: &mut Page, list: &mut SubstList, step: &[u8]) {
+    if let Some(name) = step.strip_prefix(b"?") {
+        page.put_yes(list.has(name));
+        page.put(b" ");
+    } else if is_shell_name(step) {
+        page.given(list.add(step));
     }
-    Ok(())
 }
 
-fn listed(alloc: Global, names: &[u8]) -> Result<SubstList, AllocError> {
-    let mut list = SubstList::new(alloc);
-    for name in &pieces(alloc, names, b' ')? {
-        add(&mut list, name)?;
+fn put_list(page: &mut Page, steps: &[u8]) {
+    let mut list = SubstList::new(page.alloc());
+    for step in steps.split(|byte| *byte == b';') {
+        add(page, &mut list, step);
     }
-    Ok(list)
+    for name in list.names() {
+        page.put(name.as_slice());
+        page.put(b";");
+    }
 }
 
-fn names_after(alloc: Global, names: &[u8]) -> Result<Vec<u8>, AllocError> {
-    let list = listed(alloc, names)?;
-    let mut out = Vec::new(alloc);
-    put_each(&mut out, list.names())?;
-    Ok(out)
+fn tell(page: &mut Page, notes: &mut Notes, step: &[u8]) {
+    let (stream, text) = match step {
+        [b'2', text @ ..] => (Stream::Err, text),
+        text => (Stream::Out, text.strip_prefix(b"1").unwrap_or(text)),
+    };
+    let text = text_of(page, text);
+    page.given(notes.push(Note { stream, text }));
 }
 
-fn has_listed(alloc: Global, names: &[u8], name: &[u8]) -> Result<bool, AllocError> {
-    let list = listed(alloc, names)?;
-    Ok(list.has(name))
-}
-
-#[test]
-fn a_name_is_listed_once(rt: HostRuntime) -> Result<(), Fail> {
-    let alloc = rt.alloc();
-    let names = names_after(alloc, b"CC LIBS CC")?;
-    assert_eq!(rt; names.as_slice(), b"CC|LIBS|".as_slice());
-    assert!(rt; has_listed(alloc, b"CC LIBS CC", b"LIBS")?);
-    assert!(rt; !has_listed(alloc, b"CC LIBS CC", b"LIB")?);
-    Ok(())
-}
-
-fn tell(alloc: Global, notes: &mut Notes, stream: Stream, text: &[u8]) -> Result<(), AllocError> {
-    let text = Bytes::from_slice(alloc, text)?;
-    notes.push(Note { stream, text })
-}
-
-fn two_notes(alloc: Global) -> Result<Vec<u8>, AllocError> {
-    let mut notes = Notes::new(alloc);
-    tell(alloc, &mut notes, Stream::Out, b"first")?;
-    tell(alloc, &mut notes, Stream::Err, b"second")?;
-    let mut out = Vec::new(alloc);
+fn put_notes(page: &mut Page, steps: &[u8]) {
+    let mut notes = Notes::new(page.alloc());
+    for step in steps.split(|byte| *byte == b';') {
+        tell(page, &mut notes, step);
+    }
     for note in notes.as_slice() {
-        let stream = if note.stream == Stream::Out {
-            b'1'
+        page.put(if note.stream == Stream::Out {
+            b"1"
         } else {
-            b'2'
-        };
-        out.push(stream)?;
-        out.extend_from_slice(note.text.as_slice())?;
+            b"2"
+        });
+        page.put(note.text.as_slice());
+        page.put(b";");
     }
-    Ok(out)
+}
+
+struct Tables;
+
+impl Call for Tables {
+    fn put(&self, page: &mut Page, given: &[u8]) {
+        let (table, steps) = cut(given, b" ");
+        match table.first() {
+            Some(b'v') => put_vars(page, steps),
+            Some(b'd') => put_defs(page, steps),
+            Some(b'l') => put_list(page, steps),
+            _ => put_notes(page, steps),
+        }
+    }
 }
 
 #[test]
-fn notes_keep_their_order(rt: HostRuntime) -> Result<(), Fail> {
-    let found = two_notes(rt.alloc())?;
-    assert_eq!(rt; found.as_slice(), b"1first2second".as_slice());
-    Ok(())
+fn tables_keep_their_order(rt: HostRuntime) -> Result<(), Fail> {
+    try_rows(rt.alloc(), &Tables, TABLES)
 }
