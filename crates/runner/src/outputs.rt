@@ -73,7 +73,7 @@ fn add_directories(
 }
 
 /// Adds the output variables that every source has, with their values.
-#[tactic(auto, unfolding(crate::specs::Outputs::preset_variables, options::specs::Directories::directory_names))]
+#[tactic(auto, unfolding(crate::specs::Outputs::preset_variables, commandline::specs::Directories::directory_names))]
 fn add_preset(table: &mut Table, vars: &Vars) -> Result<(), AllocError>
     requires { table.old ≡ [] }
     ensures { OnOk result (table.new ≡ words.preset_variables vars.now) }
