@@ -1,13 +1,13 @@
 //! What the engine makes of what a case gives, as text.
 
 use crate::engine::{help_of, put_fault_line, read_source, run_filter, srcdir_in};
-use crate::given::Given;
-use crate::pages::{put_number, put_text};
+use crate::given::{Given, arguments_of};
+use crate::pages::{note_cut, put_error, put_fault, put_text};
 use crate::runs::{put_opening, put_run, put_variables};
 use crate::tree_words::{put_counts, put_lists, put_statements};
-use acparse::{ParseFault, Source, Stmt};
+use acparse::{Source, Stmt};
 use runner::{FilterFault, Filtered};
-use std::alloc::{AllocError, Global};
+use testrows::Page;
 
 /// What a case may want to see.
 #[derive(Clone, Copy)]
@@ -28,7 +28,7 @@ pub enum Kind {
     Opened,
     /// The help text.
     Help,
-    /// The folder of the source.
+    /// The directory of the source.
     Srcdir,
     /// What a run does and leaves.
     Ran,
@@ -48,7 +48,7 @@ const ANSWERS: [(&[u8], Kind); 10] = [
     (b"ran", Kind::Ran),
 ];
 
-/// The answer that a section of this name is.
+/// Returns the answer that a section of this name is.
 pub fn kind_of(name: &[u8]) -> Option<Kind> {
     for (answer, kind) in &ANSWERS {
         if *answer == name {
@@ -59,18 +59,13 @@ pub fn kind_of(name: &[u8]) -> Option<Kind> {
 }
 
 impl Kind {
-    /// Whether newlines at the end of the answer count.
+    /// Returns whether newlines at the end of the answer count.
     pub fn is_exact(self) -> bool {
         matches!(self, Kind::Filtered | Kind::Help)
     }
 }
 
-fn put_fault(alloc: Global, out: &mut Vec<u8>, fault: ParseFault) -> Result<(), AllocError> {
-    let line = format!(in alloc; "parse {fault}")?;
-    out.extend_from_slice(line.as_bytes())
-}
-
-/// The statements of a source, without AC_INIT and AC_OUTPUT if the case gives the lines between them.
+/// Returns the statements of a source, without AC_INIT and AC_OUTPUT if the case gives the lines between them.
 fn own_statements(source: &Source, is_lines: bool) -> &[Stmt] {
     match source.statements() {
         [_, own @ .., _] if is_lines => own,
@@ -78,153 +73,133 @@ fn own_statements(source: &Source, is_lines: bool) -> &[Stmt] {
     }
 }
 
-fn put_tree(
-    alloc: Global,
-    out: &mut Vec<u8>,
-    source: &Source,
-    is_lines: bool,
-) -> Result<(), AllocError> {
-    put_statements(alloc, out, 0, own_statements(source, is_lines))?;
-    put_lists(out, source)
+fn put_help(page: &mut Page, source: &Source) {
+    if let Some(help) = page.given(help_of(page.alloc(), source)) {
+        page.put(help.as_slice());
+    }
 }
 
-/// What a source that is read gives of these kinds.
-fn put_read(
-    alloc: Global,
-    out: &mut Vec<u8>,
-    kind: Kind,
-    given: &Given,
-    source: &Source,
-) -> Result<(), AllocError> {
+/// Puts what a source that is read gives of these kinds.
+fn put_read(page: &mut Page, kind: Kind, given: &Given, source: &Source) {
     match kind {
-        Kind::Parsed => put_tree(alloc, out, source, given.is_lines),
-        Kind::Counted => put_counts(alloc, out, own_statements(source, given.is_lines), source),
-        Kind::Variables => put_variables(alloc, out, source),
-        Kind::Opened => put_opening(alloc, out, given, source),
-        Kind::Ran => put_run(alloc, out, given, source),
-        Kind::Help => out.extend_from_slice(help_of(alloc, source)?.as_slice()),
-        Kind::Fronts | Kind::Sources | Kind::Filtered | Kind::Srcdir => Ok(()),
-    }
-}
-
-/// What a source gives, or its fault.
-fn put_source(
-    alloc: Global,
-    out: &mut Vec<u8>,
-    kind: Kind,
-    given: &Given,
-) -> Result<(), AllocError> {
-    match read_source(alloc, given.source.as_slice()) {
-        Ok(source) => put_read(alloc, out, kind, given, &source),
-        Err(fault) => put_fault(alloc, out, fault),
-    }
-}
-
-/// The number of statements of a text, or its fault.
-fn put_front(alloc: Global, out: &mut Vec<u8>, text: &[u8]) -> Result<(), AllocError> {
-    match read_source(alloc, text) {
-        Ok(source) => {
-            put_number(alloc, out, source.statements().len() as u64)?;
-            out.extend_from_slice(b" statements")
+        Kind::Parsed => {
+            put_statements(page, 0, own_statements(source, given.is_lines));
+            put_lists(page, source);
         }
-        Err(fault) => put_fault(alloc, out, fault),
+        Kind::Counted => put_counts(page, own_statements(source, given.is_lines), source),
+        Kind::Variables => put_variables(page, source),
+        Kind::Opened => put_opening(page, given, source),
+        Kind::Ran => put_run(page, given, source),
+        Kind::Help => put_help(page, source),
+        Kind::Fronts | Kind::Sources | Kind::Filtered | Kind::Srcdir => {}
     }
 }
 
-/// The fronts of these lengths that are the same.
-fn put_range(
-    alloc: Global,
-    out: &mut Vec<u8>,
-    first: usize,
-    last: usize,
-    answer: &[u8],
-) -> Result<(), AllocError> {
-    put_number(alloc, out, first as u64)?;
+/// Puts what a source gives, or its fault.
+fn put_source(page: &mut Page, kind: Kind, given: &Given) {
+    match read_source(page.alloc(), given.source()) {
+        Ok(source) => put_read(page, kind, given, &source),
+        Err(fault) => put_fault(page, b"parse ", &fault),
+    }
+}
+
+/// Puts the number of statements of a text, or its fault.
+fn put_front(page: &mut Page, text: &[u8]) {
+    match read_source(page.alloc(), text) {
+        Ok(source) => {
+            page.put_number(source.statements().len());
+            page.put(b" statements");
+        }
+        Err(fault) => put_fault(page, b"parse ", &fault),
+    }
+}
+
+/// Puts the fronts of these lengths, which are the same.
+fn put_range(page: &mut Page, first: usize, last: usize, answer: &[u8]) {
+    page.put_number(first);
     if first != last {
-        out.extend_from_slice(b" to ")?;
-        put_number(alloc, out, last as u64)?;
+        page.put(b" to ");
+        page.put_number(last);
     }
-    out.extend_from_slice(b": ")?;
-    out.extend_from_slice(answer)?;
-    out.push(b'\n')?;
-    Ok(())
+    page.put(b": ");
+    page.put(answer);
+    page.put(b"\n");
 }
 
-fn put_fronts(alloc: Global, out: &mut Vec<u8>, text: &[u8]) -> Result<(), AllocError> {
+fn put_fronts(page: &mut Page, text: &[u8]) {
     let mut first = 0;
-    let mut answer = Vec::new(alloc);
-    put_front(alloc, &mut answer, b"")?;
+    let mut answer = Page::new(page.alloc());
+    put_front(&mut answer, b"");
     for len in 1..text.len() + 1 {
-        let mut next = Vec::new(alloc);
-        put_front(alloc, &mut next, &text[..len])?;
-        if next.as_slice() != answer.as_slice() {
-            put_range(alloc, out, first, len - 1, answer.as_slice())?;
+        let mut next = Page::new(page.alloc());
+        put_front(&mut next, &text[..len]);
+        note_cut(page, &next);
+        if next.text() != answer.text() {
+            put_range(page, first, len - 1, answer.text());
             first = len;
             answer = next;
         }
     }
-    put_range(alloc, out, first, text.len(), answer.as_slice())
+    put_range(page, first, text.len(), answer.text());
 }
 
-fn put_sources(alloc: Global, out: &mut Vec<u8>, text: &[u8]) -> Result<(), AllocError> {
+fn put_sources(page: &mut Page, text: &[u8]) {
     for len in 0..text.len() + 1 {
-        if read_source(alloc, &text[..len]).is_ok() {
-            put_number(alloc, out, len as u64)?;
-            out.push(b'\n')?;
+        let mut front = Page::new(page.alloc());
+        put_front(&mut front, &text[..len]);
+        note_cut(page, &front);
+        if front.text().ends_with(b" statements") {
+            page.put_number(len);
+            page.put(b"\n");
         }
     }
-    Ok(())
 }
 
-/// The fault line, without the name of the program and the newline.
-fn put_filter_fault(
-    alloc: Global,
-    out: &mut Vec<u8>,
-    fault: &FilterFault,
-) -> Result<(), AllocError> {
-    let mut line = Vec::new(alloc);
+/// Puts the fault line, without the name of the program and the newline.
+fn put_filter_fault(page: &mut Page, fault: &FilterFault) {
+    let mut line = Vec::new(page.alloc());
     put_fault_line(&mut line, fault);
     let line = line.as_slice();
     let line = line.strip_prefix(b"acrun: ").unwrap_or(line);
-    put_text(out, line.strip_suffix(b"\n").unwrap_or(line))
+    put_error(page, line.strip_suffix(b"\n").unwrap_or(line));
 }
 
-/// The status, what belongs on standard error, and what is written.
-fn put_filtered_text(
-    alloc: Global,
-    out: &mut Vec<u8>,
-    answer: &Filtered,
-    written: &[u8],
-) -> Result<(), AllocError> {
-    put_number(alloc, out, u64::from(answer.status))?;
+/// Puts the status, what belongs on standard error, and what is written.
+fn put_filtered_text(page: &mut Page, answer: &Filtered, written: &[u8]) {
+    page.put_shown(&answer.status);
     if !answer.errors.is_empty() {
-        out.push(b' ')?;
-        put_text(out, answer.errors.as_slice())?;
+        page.put(b" ");
+        put_text(page, answer.errors.as_slice());
     }
     if !written.is_empty() {
-        out.push(b'\n')?;
-        out.extend_from_slice(written)?;
-    }
-    Ok(())
-}
-
-fn put_filtered(alloc: Global, out: &mut Vec<u8>, input: &[u8]) -> Result<(), AllocError> {
-    let mut written = Vec::new(alloc);
-    match run_filter(alloc, input, &mut written) {
-        Ok(answer) => put_filtered_text(alloc, out, &answer, written.as_slice()),
-        Err(fault) => put_filter_fault(alloc, out, &fault),
+        page.put(b"\n");
+        page.put(written);
     }
 }
 
-/// The answer of a kind.
-pub fn answer(alloc: Global, kind: Kind, given: &Given) -> Result<Vec<u8>, AllocError> {
-    let mut out = Vec::new(alloc);
+fn put_filtered(page: &mut Page, given: &Given) {
+    let mut input = Page::new(page.alloc());
+    given.put_input(&mut input);
+    note_cut(page, &input);
+    let mut written = Vec::new(page.alloc());
+    match run_filter(page.alloc(), input.text(), &mut written) {
+        Ok(answer) => put_filtered_text(page, &answer, written.as_slice()),
+        Err(fault) => put_filter_fault(page, &fault),
+    }
+}
+
+fn put_srcdir(page: &mut Page, given: &Given) {
+    let arguments = arguments_of(page, &given.case);
+    put_text(page, srcdir_in(arguments.as_slice()));
+}
+
+/// Puts the answer of a kind.
+pub fn put_answer(page: &mut Page, kind: Kind, given: &Given) {
     match kind {
-        Kind::Fronts => put_fronts(alloc, &mut out, given.source.as_slice())?,
-        Kind::Sources => put_sources(alloc, &mut out, given.source.as_slice())?,
-        Kind::Filtered => put_filtered(alloc, &mut out, given.input.as_slice())?,
-        Kind::Srcdir => put_text(&mut out, srcdir_in(given.arguments.as_slice()))?,
-        _ => put_source(alloc, &mut out, kind, given)?,
+        Kind::Fronts => put_fronts(page, given.source()),
+        Kind::Sources => put_sources(page, given.source()),
+        Kind::Filtered => put_filtered(page, given),
+        Kind::Srcdir => put_srcdir(page, given),
+        _ => put_source(page, kind, given),
     }
-    Ok(out)
 }

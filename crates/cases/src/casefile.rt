@@ -4,10 +4,8 @@
 //! text before it, nor is the file's last one. Sections before the first case hold for each case that has none of the same
 //! name. Lines before the first of both are comments.
 
-use crate::texts::{repeated, unescaped};
-use deftable::Bytes;
-use std::alloc::{AllocError, Global};
-use textcut::parts;
+use crate::texts::{put_repeated, put_unescaped};
+use testrows::{Page, cut};
 
 /// How the text of a section is written.
 #[derive(Clone, Copy)]
@@ -19,119 +17,103 @@ enum Form {
     Repeated,
 }
 
-#[derive(Drop)]
-pub struct Section {
-    pub name: Bytes,
+#[derive(Clone, Copy)]
+pub struct Section<'a> {
+    pub name: &'a [u8],
     form: Form,
-    lines: Vec<Bytes>,
+    text: &'a [u8],
 }
 
-#[derive(Drop)]
-pub struct Case {
-    pub name: Bytes,
-    pub sections: Vec<Section>,
+#[derive(Clone, Copy)]
+pub struct Case<'a> {
+    pub name: &'a [u8],
+    /// Its sections, each with the newline before it.
+    pub sections: &'a [u8],
+    /// The sections that hold for each case.
+    defaults: &'a [u8],
 }
 
-#[derive(Drop)]
-pub struct CaseFile {
-    /// What holds for each case.
-    pub defaults: Vec<Section>,
-    pub cases: Vec<Case>,
-}
-
-/// A name without what says how its text is written.
-fn form_of(header: &[u8]) -> (&[u8], Form) {
-    if let Some(name) = header.strip_suffix(b" (escaped)") {
-        return (name, Form::Escaped);
-    }
-    match header.strip_suffix(b" (repeated)") {
-        Some(name) => (name, Form::Repeated),
-        None => (header, Form::Plain),
-    }
-}
-
-fn new_section(alloc: Global, header: &[u8]) -> Result<Section, AllocError> {
-    let (name, form) = form_of(header);
-    Ok(Section {
-        name: Bytes::from_slice(alloc, name)?,
-        form,
-        lines: Vec::new(alloc),
-    })
-}
-
-fn joined(alloc: Global, lines: &[Bytes]) -> Result<Vec<u8>, AllocError> {
-    let mut text = Vec::new(alloc);
-    for (i, line) in lines.iter().enumerate() {
-        if i > 0 {
-            text.push(b'\n')?;
-        }
-        text.extend_from_slice(line.as_slice())?;
-    }
-    Ok(text)
-}
-
-impl Section {
-    /// The text that is meant.
-    pub fn text(&self, alloc: Global) -> Result<Vec<u8>, AllocError> {
-        let text = joined(alloc, self.lines.as_slice())?;
-        match self.form {
-            Form::Plain => Ok(text),
-            Form::Escaped => unescaped(alloc, text.as_slice()),
-            Form::Repeated => repeated(alloc, text.as_slice()),
+/// Returns a text before the first mark, and from the mark on.
+fn split_before<'a>(text: &'a [u8], mark: &[u8]) -> (&'a [u8], &'a [u8]) {
+    for at in 0..text.len() {
+        if text[at..].starts_with(mark) {
+            return (&text[..at], &text[at..]);
         }
     }
+    (text, b"")
 }
 
-fn add_line(sections: &mut Vec<Section>, line: Bytes) -> Result<(), AllocError> {
-    if let Some(section) = sections.last_mut() {
-        section.lines.push(line)?;
-    }
-    Ok(())
-}
-
-impl CaseFile {
-    fn begin_case(&mut self, alloc: Global, name: &[u8]) -> Result<(), AllocError> {
-        let name = Bytes::from_slice(alloc, name)?;
-        let sections = Vec::new(alloc);
-        self.cases.push(Case { name, sections })?;
-        Ok(())
-    }
-
-    fn begin_section(&mut self, section: Section) -> Result<(), AllocError> {
-        match self.cases.last_mut() {
-            Some(case) => case.sections.push(section)?,
-            None => self.defaults.push(section)?,
-        }
-        Ok(())
-    }
-
-    fn add_line(&mut self, line: Bytes) -> Result<(), AllocError> {
-        match self.cases.last_mut() {
-            Some(case) => add_line(&mut case.sections, line),
-            None => add_line(&mut self.defaults, line),
-        }
-    }
-
-    fn read_line(&mut self, alloc: Global, line: &[u8]) -> Result<(), AllocError> {
-        if let Some(name) = line.strip_prefix(b"=== ") {
-            return self.begin_case(alloc, name);
-        }
-        match line.strip_prefix(b"--- ") {
-            Some(header) => self.begin_section(new_section(alloc, header)?),
-            None => self.add_line(Bytes::from_slice(alloc, line)?),
-        }
-    }
-}
-
-/// The cases of a file.
-pub fn read_cases(alloc: Global, text: &[u8]) -> Result<CaseFile, AllocError> {
-    let text = text.strip_suffix(b"\n").unwrap_or(text);
-    let mut file = CaseFile {
-        defaults: Vec::new(alloc),
-        cases: Vec::new(alloc),
+/// Returns the first of sections, and those after it.
+pub fn next_section(sections: &[u8]) -> Option<(Section<'_>, &[u8])> {
+    let (section, rest) = split_before(sections.strip_prefix(b"\n--- ")?, b"\n--- ");
+    let (header, text) = cut(section, b"\n");
+    let (name, form) = if let Some(name) = header.strip_suffix(b" (escaped)") {
+        (name, Form::Escaped)
+    } else if let Some(name) = header.strip_suffix(b" (repeated)") {
+        (name, Form::Repeated)
+    } else {
+        (header, Form::Plain)
     };
-    for line in &parts(alloc, text, b'\n')? {
-        file.read_line(alloc, line)?;
+    Some((Section { name, form, text }, rest))
+}
+
+/// Returns the section of this name.
+fn find_section<'a>(sections: &'a [u8], name: &[u8]) -> Option<Section<'a>> {
+    let mut rest = sections;
+    for _ in 0..sections.len() {
+        let (section, later) = next_section(rest)?;
+        if section.name == name {
+            return Some(section);
+        }
+        rest = later;
     }
-    Ok(file)
+    None
+}
+
+impl Section<'_> {
+    /// Puts the text that is meant.
+    pub fn put(&self, page: &mut Page) {
+        match self.form {
+            Form::Plain => page.put(self.text),
+            Form::Escaped => put_unescaped(page, self.text, 0),
+            Form::Repeated => put_repeated(page, self.text),
+        }
+    }
+}
+
+impl Case<'_> {
+    /// Returns the section of the case itself that has this name.
+    pub fn own(&self, name: &[u8]) -> Option<Section<'_>> {
+        find_section(self.sections, name)
+    }
+
+    /// Returns the section of this name, of the case or for each case.
+    pub fn section(&self, name: &[u8]) -> Option<Section<'_>> {
+        match self.own(name) {
+            Some(section) => Some(section),
+            None => find_section(self.defaults, name),
+        }
+    }
+}
+
+/// Returns the sections that hold for each case of a file, and its cases. The text has a newline before its first line.
+pub fn read_file(text: &[u8]) -> (&[u8], &[u8]) {
+    let (head, cases) = split_before(text.strip_suffix(b"\n").unwrap_or(text), b"\n=== ");
+    let (_, defaults) = split_before(head, b"\n--- ");
+    (defaults, cases)
+}
+
+/// Returns the first of cases, and those after it.
+pub fn next_case<'a>(defaults: &'a [u8], cases: &'a [u8]) -> Option<(Case<'a>, &'a [u8])> {
+    let (case, rest) = split_before(cases.strip_prefix(b"\n=== ")?, b"\n=== ");
+    let (head, sections) = split_before(case, b"\n--- ");
+    let (name, _) = cut(head, b"\n");
+    Some((
+        Case {
+            name,
+            sections,
+            defaults,
+        },
+        rest,
+    ))
 }

@@ -1,7 +1,6 @@
 //! The calls of the engine, each in a function without a contract: what is proved of them is not needed here, and would make
 //! each function that calls them slow to check.
 
-use crate::given::Given;
 use crate::recorder::Recorder;
 use acparse::{ParseFault, Source, parse};
 use crew::{MemoryCrew, Order, Reply};
@@ -11,6 +10,7 @@ use plan::{Plan, PlanFault, compile};
 use proberun::{RunEnd, run};
 use runner::{FilterFault, Filtered, command, filter};
 use std::alloc::{AllocError, Global};
+use testrows::Page;
 
 pub fn read_source(alloc: Global, text: &[u8]) -> Result<Source, ParseFault> {
     parse(alloc, text)
@@ -51,27 +51,18 @@ pub fn put_fault_line(out: &mut Vec<u8>, fault: &FilterFault) {
 #[derive(Drop)]
 pub struct Ran {
     pub end: RunEnd,
-    pub calls: Vec<u8>,
-}
-
-fn copied(alloc: Global, replies: &[Reply]) -> Result<Vec<Reply>, AllocError> {
-    let mut all = Vec::new(alloc);
-    for reply in replies {
-        all.push(reply.copy(alloc)?)?;
-    }
-    Ok(all)
+    pub calls: Page,
 }
 
 fn run_plan(
     alloc: Global,
     plan: &Plan,
     vars: Vars,
-    replies: &[Reply],
+    replies: Vec<Reply>,
     window: usize,
 ) -> Result<Ran, AllocError> {
-    let replies = copied(alloc, replies)?;
     let crew = MemoryCrew::new(alloc, replies, Order::Oldest)?;
-    let lines = Vec::new(alloc);
+    let lines = Page::new(alloc);
     let mut recorder = Recorder { crew, lines };
     let end = run(alloc, plan, vars, &mut recorder, window.max(1).min(16))?;
     Ok(Ran {
@@ -80,13 +71,14 @@ fn run_plan(
     })
 }
 
-/// Runs a source from these variables over a crew of the case's replies.
+/// Runs a source from these variables over a crew of these replies.
 pub fn run_source(
     alloc: Global,
     source: &Source,
     vars: Vars,
-    given: &Given,
+    replies: Vec<Reply>,
+    window: usize,
 ) -> Result<Ran, PlanFault> {
     let plan = compile(alloc, source)?;
-    Ok(run_plan(alloc, &plan, vars, given.replies.as_slice(), given.window)?)
+    Ok(run_plan(alloc, &plan, vars, replies, window)?)
 }

@@ -1,232 +1,202 @@
 //! What a case gives: a source, and what it is read or run with.
 
-use crate::casefile::{Case, Section};
-use crate::texts::{cut_at, number_of};
+use crate::casefile::Case;
+use crate::pages::note_cut;
+use crate::texts::number_of;
 use crew::Reply;
 use deftable::Bytes;
-use std::alloc::{AllocError, Global};
+use testrows::{Page, cut};
 use textcut::{fields, parts};
 
 /// The mark in a source, for whose offset an answer has it too.
 pub const MARK: u8 = b'^';
 
 #[derive(Drop)]
-pub struct Given {
-    pub source: Vec<u8>,
+pub struct Given<'a> {
+    pub case: Case<'a>,
+    /// The source, or instead of it the filter's input, without the mark.
+    text: Page,
+    /// Whether the text is the filter's input.
+    is_input: bool,
     /// Whether the case gives lines between AC_INIT and AC_OUTPUT, and no whole source.
     pub is_lines: bool,
-    /// The filter's input.
-    pub input: Vec<u8>,
-    /// The offset of the mark, in the source or the input, without it.
+    /// The offset of the mark in the text.
     pub mark: Option<usize>,
-    pub arguments: Vec<Bytes>,
-    pub environment: Vec<(Bytes, Bytes)>,
-    pub replies: Vec<Reply>,
-    pub window: usize,
 }
 
-fn find_in<'a>(sections: &'a [Section], name: &[u8]) -> Option<&'a Section> {
-    sections
-        .iter()
-        .find(|section| section.name.as_slice() == name)
-}
-
-/// The text of a section of the case, or of the file's own section of that name.
-fn text_of(
-    alloc: Global,
-    defaults: &[Section],
-    case: &Case,
-    name: &[u8],
-) -> Result<Option<Vec<u8>>, AllocError> {
-    if let Some(section) = find_in(case.sections.as_slice(), name) {
-        return Ok(Some(section.text(alloc)?));
+impl Given<'_> {
+    pub fn source(&self) -> &[u8] {
+        if self.is_input { b"" } else { self.text.text() }
     }
-    match find_in(defaults, name) {
-        Some(section) => Ok(Some(section.text(alloc)?)),
-        None => Ok(None),
+
+    /// Puts the filter's input: the source, a line `%%` and the template.
+    pub fn put_input(&self, page: &mut Page) {
+        page.put(self.text.text());
+        if self.is_input {
+            return;
+        }
+        if !self.text.text().ends_with(b"\n") {
+            page.put(b"\n");
+        }
+        page.put(b"%%\n");
+        if let Some(section) = self.case.section(b"template") {
+            section.put(page);
+        }
     }
 }
 
-/// The source of these lines: AC_INIT before them, AC_OUTPUT after them, and with a template its file.
-pub fn source_of(alloc: Global, lines: &[u8], has_template: bool) -> Result<Vec<u8>, AllocError> {
-    let mut source = Vec::from_slice(alloc, b"AC_INIT([x],[1])\n")?;
+/// Puts the source of these lines: AC_INIT before them, AC_OUTPUT after them, and with a template its file.
+pub fn put_source_of(page: &mut Page, lines: &[u8], has_template: bool) {
+    page.put(b"AC_INIT([x],[1])\n");
     if has_template {
-        source.extend_from_slice(b"AC_CONFIG_FILES([f])\n")?;
+        page.put(b"AC_CONFIG_FILES([f])\n");
     }
-    source.extend_from_slice(lines)?;
-    source.extend_from_slice(b"\nAC_OUTPUT\n")?;
-    Ok(source)
+    page.put(lines);
+    page.put(b"\nAC_OUTPUT\n");
 }
 
-/// The source, a line `%%` and the template.
-fn input_of(alloc: Global, source: &[u8], template: &[u8]) -> Result<Vec<u8>, AllocError> {
-    let mut input = Vec::from_slice(alloc, source)?;
-    if !source.ends_with(b"\n") {
-        input.push(b'\n')?;
+/// Puts the source that a case gives: nothing if it gives none.
+fn put_source(page: &mut Page, case: &Case<'_>, has_template: bool) {
+    if let Some(section) = case.own(b"source") {
+        return section.put(page);
     }
-    input.extend_from_slice(b"%%\n")?;
-    input.extend_from_slice(template)?;
-    Ok(input)
+    if let Some(section) = case.section(b"lines") {
+        let mut lines = Page::new(page.alloc());
+        section.put(&mut lines);
+        note_cut(page, &lines);
+        put_source_of(page, lines.text(), has_template);
+    }
 }
 
-/// A text without its first mark, and the offset of that.
-fn without_mark(alloc: Global, text: Vec<u8>) -> Result<(Vec<u8>, Option<usize>), AllocError> {
-    let (before, behind) = cut_at(text.as_slice(), MARK);
-    if before.len() == text.len() {
-        return Ok((text, None));
+/// Puts the source that a case gives, or instead of it the filter's input, and returns whether it is that.
+fn put_written(page: &mut Page, case: &Case<'_>, has_template: bool) -> bool {
+    match case.section(b"input") {
+        Some(section) => section.put(page),
+        None => put_source(page, case, has_template),
     }
-    let mut out = Vec::from_slice(alloc, before)?;
-    let mark = out.len();
-    out.extend_from_slice(behind)?;
-    Ok((out, Some(mark)))
+    case.section(b"input").is_some()
 }
 
-fn lines_of(alloc: Global, text: &[u8]) -> Result<Vec<Bytes>, AllocError> {
-    let mut lines = Vec::new(alloc);
+/// Puts a text without its first mark, and returns the offset of that. If there is no mark to be taken out, it is the whole.
+fn put_unmarked(page: &mut Page, text: &[u8], is_marked: bool) -> Option<usize> {
+    let (before, after) = cut(text, &[MARK]);
+    if !is_marked || before.len() == text.len() {
+        page.put(text);
+        return None;
+    }
+    page.put(before);
+    page.put(after);
+    Some(before.len())
+}
+
+/// Returns what a case gives. `is_marked` says whether an answer of it has a mark.
+pub fn read_given<'a>(page: &mut Page, case: &Case<'a>, is_marked: bool) -> Given<'a> {
+    let has_template = case.section(b"template").is_some();
+    let mut written = Page::new(page.alloc());
+    let is_input = put_written(&mut written, case, has_template);
+    let mut text = Page::new(page.alloc());
+    let mark = put_unmarked(&mut text, written.text(), is_marked);
+    note_cut(page, &written);
+    note_cut(page, &text);
+    Given {
+        case: *case,
+        text,
+        is_input,
+        is_lines: case.own(b"source").is_none(),
+        mark,
+    }
+}
+
+/// Returns the text of a section of the case: none if there is no such section.
+fn text_of(page: &mut Page, case: &Case<'_>, name: &[u8]) -> Page {
+    let mut text = Page::new(page.alloc());
+    if let Some(section) = case.section(name) {
+        section.put(&mut text);
+    }
+    note_cut(page, &text);
+    text
+}
+
+/// Returns the lines of a text: none of an empty one.
+fn lines_of<'a>(page: &mut Page, text: &'a [u8]) -> Vec<&'a [u8]> {
+    let alloc = page.alloc();
     if text.is_empty() {
-        return Ok(lines);
+        return Vec::new(alloc);
     }
-    for line in &parts(alloc, text, b'\n')? {
-        lines.push(Bytes::from_slice(alloc, line)?)?;
-    }
-    Ok(lines)
+    page.given(parts(alloc, text, b'\n'))
+        .unwrap_or(Vec::new(alloc))
 }
 
-fn entries_of(alloc: Global, lines: &[Bytes]) -> Result<Vec<(Bytes, Bytes)>, AllocError> {
-    let mut entries = Vec::new(alloc);
-    for line in lines {
-        let (name, value) = cut_at(line.as_slice(), b'=');
-        let name = Bytes::from_slice(alloc, name)?;
-        let value = Bytes::from_slice(alloc, value)?;
-        entries.push((name, value))?;
+fn add_argument(page: &mut Page, arguments: &mut Vec<Bytes>, line: &[u8]) {
+    if let Some(line) = page.given(Bytes::from_slice(page.alloc(), line)) {
+        if arguments.push(line).is_err() {
+            page.cut();
+        }
     }
-    Ok(entries)
 }
 
-fn reply_of(alloc: Global, word: &[u8]) -> Reply {
-    match word {
+/// Returns the arguments that a case gives.
+pub fn arguments_of(page: &mut Page, case: &Case<'_>) -> Vec<Bytes> {
+    let text = text_of(page, case, b"arguments");
+    let lines = lines_of(page, text.text());
+    let mut arguments = Vec::new(page.alloc());
+    for line in lines.as_slice() {
+        add_argument(page, &mut arguments, line);
+    }
+    arguments
+}
+
+fn add_variable(page: &mut Page, environment: &mut Vec<(Bytes, Bytes)>, line: &[u8]) {
+    let (name, value) = cut(line, b"=");
+    let name = page.given(Bytes::from_slice(page.alloc(), name));
+    let value = page.given(Bytes::from_slice(page.alloc(), value));
+    if let (Some(name), Some(value)) = (name, value) {
+        if environment.push((name, value)).is_err() {
+            page.cut();
+        }
+    }
+}
+
+/// Returns the environment that a case gives.
+pub fn environment_of(page: &mut Page, case: &Case<'_>) -> Vec<(Bytes, Bytes)> {
+    let text = text_of(page, case, b"environment");
+    let lines = lines_of(page, text.text());
+    let mut environment = Vec::new(page.alloc());
+    for line in lines.as_slice() {
+        add_variable(page, &mut environment, line);
+    }
+    environment
+}
+
+fn add_reply(page: &mut Page, replies: &mut Vec<Reply>, word: &[u8]) {
+    let reply = match word {
         b"S" => Reply::StartRefused,
         b"E" => Reply::EndRefused,
         digits => Reply::Answer {
             status: number_of(digits).min(256) as u32,
-            text: Bytes::new(alloc),
+            text: Bytes::new(page.alloc()),
         },
+    };
+    if replies.push(reply).is_err() {
+        page.cut();
     }
 }
 
-fn replies_of(alloc: Global, text: &[u8]) -> Result<Vec<Reply>, AllocError> {
+/// Returns the replies that a case gives.
+pub fn replies_of(page: &mut Page, case: &Case<'_>) -> Vec<Reply> {
+    let alloc = page.alloc();
+    let text = text_of(page, case, b"replies");
     let mut replies = Vec::new(alloc);
-    for word in &fields(alloc, text)? {
-        replies.push(reply_of(alloc, word))?;
+    if let Some(words) = page.given(fields(alloc, text.text())) {
+        for word in words.as_slice() {
+            add_reply(page, &mut replies, word);
+        }
     }
-    Ok(replies)
+    replies
 }
 
-fn source_in(
-    alloc: Global,
-    defaults: &[Section],
-    case: &Case,
-    has_template: bool,
-) -> Result<Vec<u8>, AllocError> {
-    if let Some(section) = find_in(case.sections.as_slice(), b"source") {
-        return section.text(alloc);
-    }
-    match text_of(alloc, defaults, case, b"lines")? {
-        Some(lines) => source_of(alloc, lines.as_slice(), has_template),
-        None => Ok(Vec::new(alloc)),
-    }
-}
-
-/// The lines of a section; none if there is no such section.
-fn lines_in(
-    alloc: Global,
-    defaults: &[Section],
-    case: &Case,
-    name: &[u8],
-) -> Result<Vec<Bytes>, AllocError> {
-    match text_of(alloc, defaults, case, name)? {
-        Some(text) => lines_of(alloc, text.as_slice()),
-        None => Ok(Vec::new(alloc)),
-    }
-}
-
-fn entries_in(
-    alloc: Global,
-    defaults: &[Section],
-    case: &Case,
-) -> Result<Vec<(Bytes, Bytes)>, AllocError> {
-    let lines = lines_in(alloc, defaults, case, b"environment")?;
-    entries_of(alloc, lines.as_slice())
-}
-
-fn replies_in(alloc: Global, defaults: &[Section], case: &Case) -> Result<Vec<Reply>, AllocError> {
-    match text_of(alloc, defaults, case, b"replies")? {
-        Some(text) => replies_of(alloc, text.as_slice()),
-        None => Ok(Vec::new(alloc)),
-    }
-}
-
-/// The window; 1 if the case has none.
-fn window_in(alloc: Global, defaults: &[Section], case: &Case) -> Result<usize, AllocError> {
-    match text_of(alloc, defaults, case, b"window")? {
-        Some(text) => Ok(number_of(text.as_slice())),
-        None => Ok(1),
-    }
-}
-
-/// Takes the mark away if an answer of the case has one.
-fn marked(
-    alloc: Global,
-    is_marked: bool,
-    text: Vec<u8>,
-) -> Result<(Vec<u8>, Option<usize>), AllocError> {
-    if is_marked {
-        without_mark(alloc, text)
-    } else {
-        Ok((text, None))
-    }
-}
-
-/// The source, the filter's input, and the offset of the mark in the input, or in the source if no input is given.
-fn texts_in(
-    alloc: Global,
-    defaults: &[Section],
-    case: &Case,
-    is_marked: bool,
-) -> Result<(Vec<u8>, Vec<u8>, Option<usize>), AllocError> {
-    if let Some(input) = text_of(alloc, defaults, case, b"input")? {
-        let (input, mark) = marked(alloc, is_marked, input)?;
-        return Ok((Vec::new(alloc), input, mark));
-    }
-    let template = text_of(alloc, defaults, case, b"template")?;
-    let source = source_in(alloc, defaults, case, template.is_some())?;
-    let (source, mark) = marked(alloc, is_marked, source)?;
-    let template = template.unwrap_or(Vec::new(alloc));
-    let input = input_of(alloc, source.as_slice(), template.as_slice())?;
-    Ok((source, input, mark))
-}
-
-/// Whether the source is lines between AC_INIT and AC_OUTPUT.
-fn is_lines(case: &Case) -> bool {
-    find_in(case.sections.as_slice(), b"source").is_none()
-}
-
-/// What a case gives. `is_marked` says whether an answer of it has a mark.
-pub fn read_given(
-    alloc: Global,
-    defaults: &[Section],
-    case: &Case,
-    is_marked: bool,
-) -> Result<Given, AllocError> {
-    let (source, input, mark) = texts_in(alloc, defaults, case, is_marked)?;
-    Ok(Given {
-        source,
-        is_lines: is_lines(case),
-        input,
-        mark,
-        arguments: lines_in(alloc, defaults, case, b"arguments")?,
-        environment: entries_in(alloc, defaults, case)?,
-        replies: replies_in(alloc, defaults, case)?,
-        window: window_in(alloc, defaults, case)?,
-    })
+/// Returns the window that a case gives: 0 if it gives none.
+pub fn window_of(page: &mut Page, case: &Case<'_>) -> usize {
+    let text = text_of(page, case, b"window");
+    number_of(text.text())
 }

@@ -21,18 +21,24 @@ mod shell_words;
 mod texts;
 mod tree_words;
 
+use report::{Report, check_file};
 use std::io::{self, Write};
 use std::process::ExitCode;
 use std::{env, fs};
+
+/// Checks the cases of the file of this name.
+fn check(rt: &HostRuntime, name: &str) -> io::Result<Report> {
+    let text = fs::read(rt, name)?;
+    Ok(check_file(rt.alloc(), name.as_bytes(), text.as_slice())?)
+}
 
 fn main(rt: HostRuntime) -> io::Result<ExitCode> {
     let mut output = io::writer(&rt);
     let mut all_right = true;
     for name in env::args(&rt)?.skip(1) {
-        let text = fs::read(&rt, name.as_str())?;
-        let found = report::check_file(rt.alloc(), name.as_str().as_bytes(), text.as_slice())?;
-        output.write_all(found.text.as_slice())?;
-        all_right = all_right && found.is_right;
+        let found = check(&rt, name.as_str())?;
+        output.write_all(found.page.text())?;
+        all_right &= found.is_right;
     }
     Ok(ExitCode::from(u8::from(!all_right)))
 }

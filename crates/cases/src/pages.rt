@@ -1,90 +1,81 @@
 //! Texts as answers have them: lines of printable ASCII, in which any other byte is written by an escape.
 
-use std::alloc::{AllocError, Global};
+use std::fmt::Display;
+use testrows::Page;
 
 const DIGITS: &[u8; 16] = b"0123456789abcdef";
 
-/// Two hexadecimal digits.
-fn put_hex(out: &mut Vec<u8>, byte: u8) -> Result<(), AllocError> {
-    out.push(DIGITS[(byte / 16) as usize])?;
-    out.push(DIGITS[(byte % 16) as usize])?;
-    Ok(())
+/// Puts a byte: `\n`, `\t` and `\\` are written so, and `\xHH` any other that is not printable.
+pub fn put_byte(page: &mut Page, byte: u8) {
+    if byte >= b' ' && byte <= b'~' && byte != b'\\' {
+        return page.put_byte(byte);
+    }
+    page.put(match byte {
+        b'\n' => b"\\n",
+        b'\t' => b"\\t",
+        b'\\' => b"\\\\",
+        _ => b"\\x",
+    });
+    if !matches!(byte, b'\n' | b'\t' | b'\\') {
+        page.put_byte(DIGITS[(byte / 16) as usize]);
+        page.put_byte(DIGITS[(byte % 16) as usize]);
+    }
 }
 
-/// A byte that is written as an escape.
-fn put_escape(out: &mut Vec<u8>, byte: u8) -> Result<(), AllocError> {
-    if byte == b'\n' {
-        return out.extend_from_slice(b"\\n");
-    }
-    if byte == b'\t' {
-        return out.extend_from_slice(b"\\t");
-    }
-    if byte == b'\\' {
-        return out.extend_from_slice(b"\\\\");
-    }
-    out.extend_from_slice(b"\\x")?;
-    put_hex(out, byte)
-}
-
-/// Whether a byte is written as it is.
-fn is_plain(byte: u8) -> bool {
-    byte >= b' ' && byte <= b'~' && byte != b'\\'
-}
-
-/// A byte: `\n`, `\t` and `\\` are written so, and `\xHH` any other that is not printable.
-pub fn put_byte(out: &mut Vec<u8>, byte: u8) -> Result<(), AllocError> {
-    if !is_plain(byte) {
-        return put_escape(out, byte);
-    }
-    out.push(byte)?;
-    Ok(())
-}
-
-pub fn put_text(out: &mut Vec<u8>, text: &[u8]) -> Result<(), AllocError> {
+pub fn put_text(page: &mut Page, text: &[u8]) {
     for byte in text {
-        put_byte(out, *byte)?;
+        put_byte(page, *byte);
     }
-    Ok(())
 }
 
-/// A text in brackets, after a blank.
-pub fn put_bracketed(out: &mut Vec<u8>, text: &[u8]) -> Result<(), AllocError> {
-    out.extend_from_slice(b" [")?;
-    put_text(out, text)?;
-    out.extend_from_slice(b"]")
+/// Puts a text in brackets, after a blank.
+pub fn put_bracketed(page: &mut Page, text: &[u8]) {
+    page.put(b" [");
+    put_text(page, text);
+    page.put(b"]");
 }
 
-/// `NAME=VALUE`
-pub fn put_value(out: &mut Vec<u8>, name: &[u8], value: &[u8]) -> Result<(), AllocError> {
-    put_text(out, name)?;
-    out.extend_from_slice(b"=")?;
-    put_text(out, value)
+/// Puts `NAME=VALUE`.
+pub fn put_value(page: &mut Page, name: &[u8], value: &[u8]) {
+    put_text(page, name);
+    page.put(b"=");
+    put_text(page, value);
 }
 
-/// A number in decimal digits.
-pub fn put_number(alloc: Global, out: &mut Vec<u8>, number: u64) -> Result<(), AllocError> {
-    let digits = format!(in alloc; "{number}")?;
-    out.extend_from_slice(digits.as_bytes())
+/// Puts a word, a number and a newline.
+pub fn put_count(page: &mut Page, word: &[u8], count: usize) {
+    page.put(word);
+    page.put_number(count);
+    page.put(b"\n");
 }
 
-/// A word, a blank, a number and a newline.
-pub fn put_count(
-    alloc: Global,
-    out: &mut Vec<u8>,
-    word: &[u8],
-    count: usize,
-) -> Result<(), AllocError> {
-    out.extend_from_slice(word)?;
-    out.push(b' ')?;
-    put_number(alloc, out, count as u64)?;
-    out.push(b'\n')?;
-    Ok(())
-}
-
-/// Two blanks for each level.
-pub fn put_indent(out: &mut Vec<u8>, depth: usize) -> Result<(), AllocError> {
+/// Puts two blanks for each level.
+pub fn put_indent(page: &mut Page, depth: usize) {
     for _ in 0..depth {
-        out.extend_from_slice(b"  ")?;
+        page.put(b"  ");
     }
-    Ok(())
+}
+
+/// Cuts the page if the other one is cut.
+pub fn note_cut(page: &mut Page, other: &Page) {
+    if other.is_cut() {
+        page.cut();
+    }
+}
+
+/// Puts what is wrong. If it is that memory ran out, which each error prints as `memory`, the page is cut.
+pub fn put_error(page: &mut Page, error: &[u8]) {
+    if error == b"memory".as_slice() {
+        page.cut();
+    }
+    put_text(page, error);
+}
+
+/// Puts a word and an error.
+pub fn put_fault<T: Display>(page: &mut Page, word: &[u8], fault: &T) {
+    let mut error = Page::new(page.alloc());
+    error.put_shown(fault);
+    note_cut(page, &error);
+    page.put(word);
+    put_error(page, error.text());
 }

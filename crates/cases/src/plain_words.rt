@@ -3,92 +3,50 @@
 use crate::pages::{put_bracketed, put_text};
 use crate::shell_words::{put_here, put_word};
 use acparse::{Help, Outputs};
-use deftable::{Bytes, Name};
-use shellword::{HereText, Word};
-use std::alloc::{AllocError, Global};
+use shellword::HereText;
 use syntax::{Plain, ProgramNames};
+use testrows::Page;
 
-/// AC_INIT's texts, in its order.
-fn put_init(out: &mut Vec<u8>, texts: [&Bytes; 5]) -> Result<(), AllocError> {
-    out.extend_from_slice(b"init")?;
-    for text in texts {
-        put_bracketed(out, text.as_slice())?;
-    }
-    Ok(())
-}
-
-fn put_named(out: &mut Vec<u8>, word: &[u8], name: &Name) -> Result<(), AllocError> {
-    out.extend_from_slice(word)?;
-    out.extend_from_slice(name.as_slice())
-}
-
-fn put_assigned(
-    out: &mut Vec<u8>,
-    word: &[u8],
-    name: &Name,
-    value: &Word,
-) -> Result<(), AllocError> {
-    put_named(out, word, name)?;
-    out.push(b'=')?;
-    put_word(out, value)
-}
-
-fn put_error(
-    alloc: Global,
-    out: &mut Vec<u8>,
-    message: &HereText,
-    status: u8,
-) -> Result<(), AllocError> {
-    let head = format!(in alloc; "error {status}")?;
-    out.extend_from_slice(head.as_bytes())?;
-    put_here(out, message)
-}
-
-/// Each file with its template.
-pub fn put_files(out: &mut Vec<u8>, files: &Outputs) -> Result<(), AllocError> {
+/// Puts each file with its template.
+pub fn put_files(page: &mut Page, files: &Outputs) {
     for file in files.as_slice() {
-        out.push(b' ')?;
-        put_text(out, file.name.as_slice())?;
-        out.push(b':')?;
-        put_text(out, file.template.as_slice())?;
+        page.put(b" ");
+        put_text(page, file.name.as_slice());
+        page.put(b":");
+        put_text(page, file.template.as_slice());
     }
-    Ok(())
 }
 
-/// Help: an entry's two texts, or one text.
-pub fn put_help(out: &mut Vec<u8>, help: &Help) -> Result<(), AllocError> {
+/// Puts help: an entry's two texts, or one text.
+pub fn put_help(page: &mut Page, help: &Help) {
     match help {
         Help::Entry { left, right } => {
-            put_bracketed(out, left.as_slice())?;
-            put_bracketed(out, right.as_slice())
+            put_bracketed(page, left.as_slice());
+            put_bracketed(page, right.as_slice());
         }
-        Help::Text { text } => put_bracketed(out, text.as_slice()),
+        Help::Text { text } => put_bracketed(page, text.as_slice()),
     }
 }
 
-fn put_programs(out: &mut Vec<u8>, programs: &ProgramNames) -> Result<(), AllocError> {
+fn put_programs(page: &mut Page, programs: &ProgramNames) {
     for program in programs.as_slice() {
-        put_bracketed(out, program.as_slice())?;
-    }
-    Ok(())
-}
-
-fn put_otherwise(out: &mut Vec<u8>, otherwise: &Option<HereText>) -> Result<(), AllocError> {
-    match otherwise {
-        None => Ok(()),
-        Some(text) => {
-            out.extend_from_slice(b" otherwise")?;
-            put_here(out, text)
-        }
+        put_bracketed(page, program.as_slice());
     }
 }
 
-/// A statement that looks for programs.
-fn put_search(out: &mut Vec<u8>, statement: &Plain) -> Result<(), AllocError> {
+fn put_otherwise(page: &mut Page, otherwise: &Option<HereText>) {
+    if let Some(text) = otherwise {
+        page.put(b" otherwise");
+        put_here(page, text);
+    }
+}
+
+/// Puts a statement that looks for programs.
+fn put_search(page: &mut Page, statement: &Plain) {
     match statement {
         Plain::ProgCc { programs } => {
-            out.extend_from_slice(b"compiler")?;
-            put_programs(out, programs)
+            page.put(b"compiler");
+            put_programs(page, programs);
         }
         Plain::CheckProg {
             variable,
@@ -96,58 +54,76 @@ fn put_search(out: &mut Vec<u8>, statement: &Plain) -> Result<(), AllocError> {
             found,
             otherwise,
         } => {
-            put_named(out, b"program ", variable)?;
-            put_bracketed(out, program.as_slice())?;
-            out.extend_from_slice(b" found")?;
-            put_here(out, found)?;
-            put_otherwise(out, otherwise)
+            page.put(b"program ");
+            page.put(variable.as_slice());
+            put_bracketed(page, program.as_slice());
+            page.put(b" found");
+            put_here(page, found);
+            put_otherwise(page, otherwise);
         }
         Plain::CheckProgs {
             variable,
             programs,
             otherwise,
         } => {
-            put_named(out, b"programs ", variable)?;
-            put_programs(out, programs)?;
-            put_otherwise(out, otherwise)
+            page.put(b"programs ");
+            page.put(variable.as_slice());
+            put_programs(page, programs);
+            put_otherwise(page, otherwise);
         }
         Plain::PathProg {
             variable,
             program,
             otherwise,
         } => {
-            put_named(out, b"path ", variable)?;
-            put_bracketed(out, program.as_slice())?;
-            put_otherwise(out, otherwise)
+            page.put(b"path ");
+            page.put(variable.as_slice());
+            put_bracketed(page, program.as_slice());
+            put_otherwise(page, otherwise);
         }
-        _ => Ok(()),
+        _ => {}
     }
 }
 
-/// A statement that sets something.
-fn put_setting(out: &mut Vec<u8>, statement: &Plain) -> Result<(), AllocError> {
+/// Puts a statement that sets something.
+fn put_setting(page: &mut Page, statement: &Plain) {
     match statement {
-        Plain::Assign { name, value } => put_assigned(out, b"", name, value),
-        Plain::Subst { name } => put_named(out, b"subst ", name),
-        Plain::SubstValue { name, value } => put_assigned(out, b"subst ", name, value),
+        Plain::Assign { name, value } => {
+            page.put(name.as_slice());
+            page.put(b"=");
+            put_word(page, value);
+        }
+        Plain::Subst { name } => {
+            page.put(b"subst ");
+            page.put(name.as_slice());
+        }
+        Plain::SubstValue { name, value } => {
+            page.put(b"subst ");
+            page.put(name.as_slice());
+            page.put(b"=");
+            put_word(page, value);
+        }
         Plain::Define { name, value } => {
-            put_named(out, b"define ", name)?;
-            put_bracketed(out, value.as_slice())
+            page.put(b"define ");
+            page.put(name.as_slice());
+            put_bracketed(page, value.as_slice());
         }
         Plain::DefineUnquoted { name, value } => {
-            put_named(out, b"define unquoted ", name)?;
-            put_here(out, value)
+            page.put(b"define unquoted ");
+            page.put(name.as_slice());
+            put_here(page, value);
         }
         Plain::ArgVar { name, help } => {
-            put_named(out, b"precious ", name)?;
-            put_bracketed(out, help.as_slice())
+            page.put(b"precious ");
+            page.put(name.as_slice());
+            put_bracketed(page, help.as_slice());
         }
-        _ => Ok(()),
+        _ => {}
     }
 }
 
-/// A statement on one line, without its newline.
-pub fn put_plain(alloc: Global, out: &mut Vec<u8>, statement: &Plain) -> Result<(), AllocError> {
+/// Puts a statement on one line, without its newline.
+pub fn put_plain(page: &mut Page, statement: &Plain) {
     match statement {
         Plain::Init {
             title,
@@ -155,23 +131,34 @@ pub fn put_plain(alloc: Global, out: &mut Vec<u8>, statement: &Plain) -> Result<
             bug,
             tarname,
             url,
-        } => put_init(out, [title, version, bug, tarname, url]),
-        Plain::Accepted => out.extend_from_slice(b"accepted"),
-        Plain::Output => out.extend_from_slice(b"output"),
-        Plain::ConfigFiles { outputs } => {
-            out.extend_from_slice(b"files")?;
-            put_files(out, outputs)
+        } => {
+            page.put(b"init");
+            put_bracketed(page, title.as_slice());
+            put_bracketed(page, version.as_slice());
+            put_bracketed(page, bug.as_slice());
+            put_bracketed(page, tarname.as_slice());
+            put_bracketed(page, url.as_slice());
         }
-        Plain::Error { message, status } => put_error(alloc, out, message, *status),
+        Plain::Accepted => page.put(b"accepted"),
+        Plain::Output => page.put(b"output"),
+        Plain::ConfigFiles { outputs } => {
+            page.put(b"files");
+            put_files(page, outputs);
+        }
+        Plain::Error { message, status } => {
+            page.put(b"error ");
+            page.put_shown(status);
+            put_here(page, message);
+        }
         Plain::Assign { .. }
         | Plain::Subst { .. }
         | Plain::SubstValue { .. }
         | Plain::Define { .. }
         | Plain::DefineUnquoted { .. }
-        | Plain::ArgVar { .. } => put_setting(out, statement),
+        | Plain::ArgVar { .. } => put_setting(page, statement),
         Plain::ProgCc { .. }
         | Plain::CheckProg { .. }
         | Plain::CheckProgs { .. }
-        | Plain::PathProg { .. } => put_search(out, statement),
+        | Plain::PathProg { .. } => put_search(page, statement),
     }
 }

@@ -2,67 +2,57 @@
 
 ghost use Rattle.std.specs.Prelude.{◌≡◌};
 
-use crate::pages::put_text;
+use crate::pages::{note_cut, put_text};
 use conftest::Job;
 use crew::{Crew, MemoryCrew, Refused, Reply};
-use std::alloc::AllocError;
+use testrows::Page;
 
-/// A crew in memory, with a line for each start, each that is refused and each end. A line that memory runs out for is
-/// left out.
+/// A crew in memory, with a line for each start, each that is refused and each end.
 #[derive(Drop)]
 pub struct Recorder {
     pub crew: MemoryCrew,
-    pub lines: Vec<u8>,
+    pub lines: Page,
 }
 
-/// A word of a command, in quotes if it has a blank.
-fn put_command_word(out: &mut Vec<u8>, word: &[u8]) -> Result<(), AllocError> {
-    if !word.contains(&b' ') {
-        return put_text(out, word);
-    }
-    out.push(b'\'')?;
-    put_text(out, word)?;
-    out.push(b'\'')?;
-    Ok(())
-}
-
-fn put_command(out: &mut Vec<u8>, job: &Job) -> Result<(), AllocError> {
+/// Puts a command, after a blank. A word that has a blank is in quotes.
+fn put_command(page: &mut Page, job: &Job) {
     for word in job.words.as_slice() {
-        out.push(b' ')?;
-        put_command_word(out, word.as_slice())?;
+        let quote = if word.as_slice().contains(&b' ') {
+            b"'".as_slice()
+        } else {
+            b"".as_slice()
+        };
+        page.put(b" ");
+        page.put(quote);
+        put_text(page, word.as_slice());
+        page.put(quote);
     }
-    Ok(())
-}
-
-/// A call in a slot, with its command.
-fn put_call(
-    lines: &mut Vec<u8>,
-    word: &str,
-    slot: usize,
-    command: &[u8],
-) -> Result<(), AllocError> {
-    let head = format!(in *lines.allocator(); "{word} {slot}")?;
-    lines.extend_from_slice(head.as_bytes())?;
-    lines.extend_from_slice(command)?;
-    lines.push(b'\n')?;
-    Ok(())
+    page.put(b"\n");
 }
 
 impl Crew for Recorder {
     ghost account = { λ r. r.crew.account };
 
     fn start(&mut self, slot: usize, job: Job) -> Result<(), Refused> {
-        let mut command = Vec::new(*self.lines.allocator());
-        let _ = put_command(&mut command, &job);
+        let mut command = Page::new(self.lines.alloc());
+        put_command(&mut command, &job);
         let answer = self.crew.start(slot, job);
-        let word = if answer.is_ok() { "start" } else { "refused" };
-        let _ = put_call(&mut self.lines, word, slot, command.as_slice());
+        self.lines.put(if answer.is_ok() {
+            b"start "
+        } else {
+            b"refused "
+        });
+        self.lines.put_number(slot);
+        self.lines.put(command.text());
+        note_cut(&mut self.lines, &command);
         answer
     }
 
     fn next(&mut self) -> (usize, Reply) {
         let (slot, reply) = self.crew.next();
-        let _ = put_call(&mut self.lines, "end", slot, b"");
+        self.lines.put(b"end ");
+        self.lines.put_number(slot);
+        self.lines.put(b"\n");
         (slot, reply)
     }
 }

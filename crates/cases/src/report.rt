@@ -1,14 +1,15 @@
 //! The check of a file of cases, and its report.
 
-use crate::answers::{Kind, answer, kind_of};
-use crate::casefile::{Case, CaseFile, Section, read_cases};
+use crate::answers::{Kind, kind_of, put_answer};
+use crate::casefile::{Case, Section, next_case, next_section, read_file};
 use crate::given::{Given, MARK, read_given};
-use crate::pages::put_number;
+use crate::pages::note_cut;
 use std::alloc::{AllocError, Global};
+use testrows::Page;
 
 #[derive(Drop)]
 pub struct Report {
-    pub text: Vec<u8>,
+    pub page: Page,
     pub is_right: bool,
 }
 
@@ -33,36 +34,41 @@ fn is_given(name: &[u8]) -> bool {
     false
 }
 
-/// Whether an answer of the case has a mark.
-fn is_marked(alloc: Global, case: &Case) -> Result<bool, AllocError> {
-    for section in case.sections.as_slice() {
-        if kind_of(section.name.as_slice()).is_some() {
-            let text = section.text(alloc)?;
-            if text.as_slice().contains(&MARK) {
-                return Ok(true);
-            }
+/// Returns whether an answer of the case has a mark.
+fn is_marked(page: &mut Page, case: &Case<'_>) -> bool {
+    let mut answers = Page::new(page.alloc());
+    let mut rest = case.sections;
+    for _ in 0..case.sections.len() {
+        let Some((section, later)) = next_section(rest) else {
+            break;
+        };
+        if kind_of(section.name).is_some() {
+            section.put(&mut answers);
         }
+        rest = later;
     }
-    Ok(false)
+    note_cut(page, &answers);
+    answers.text().contains(&MARK)
 }
 
-/// A text with the offset in the place of each mark.
-fn with_offset(alloc: Global, text: &[u8], mark: Option<usize>) -> Result<Vec<u8>, AllocError> {
+/// Puts what a section wants, with the offset in the place of each mark.
+fn put_wanted(page: &mut Page, section: &Section<'_>, mark: Option<usize>) {
     let Some(offset) = mark else {
-        return Vec::from_slice(alloc, text);
+        return section.put(page);
     };
-    let mut out = Vec::new(alloc);
-    for byte in text {
+    let mut text = Page::new(page.alloc());
+    section.put(&mut text);
+    note_cut(page, &text);
+    for byte in text.text() {
         if *byte == MARK {
-            put_number(alloc, &mut out, offset as u64)?;
+            page.put_number(offset);
         } else {
-            out.push(*byte)?;
+            page.put_byte(*byte);
         }
     }
-    Ok(out)
 }
 
-/// A text without newlines at its end.
+/// Returns a text without newlines at its end.
 fn without_newlines(text: &[u8]) -> &[u8] {
     let count = text.iter().rev().take_while(|b| **b == b'\n').count();
     &text[..text.len().saturating_sub(count)]
@@ -75,133 +81,118 @@ fn are_same(kind: Kind, wanted: &[u8], found: &[u8]) -> bool {
     without_newlines(wanted) == without_newlines(found)
 }
 
-/// A line about a case: the file's name, the case's, and two words.
-fn put_line(
-    out: &mut Vec<u8>,
-    file: &[u8],
-    case: &Case,
-    word: &[u8],
-    what: &[u8],
-) -> Result<(), AllocError> {
-    out.extend_from_slice(file)?;
-    out.extend_from_slice(b": ")?;
-    out.extend_from_slice(case.name.as_slice())?;
-    out.extend_from_slice(b": ")?;
-    out.extend_from_slice(word)?;
-    out.extend_from_slice(what)?;
-    out.push(b'\n')?;
-    Ok(())
+/// Puts a line about a case: the name of the file and of the case, and two words.
+fn put_line(page: &mut Page, file: &[u8], case: &Case<'_>, word: &[u8], what: &[u8]) {
+    page.put(file);
+    page.put(b": ");
+    page.put(case.name);
+    page.put(b": ");
+    page.put(word);
+    page.put(what);
+    page.put(b"\n");
 }
 
-fn put_block(out: &mut Vec<u8>, word: &[u8], text: &[u8]) -> Result<(), AllocError> {
-    out.extend_from_slice(word)?;
-    out.extend_from_slice(text)?;
+fn put_block(page: &mut Page, word: &[u8], text: &[u8]) {
+    page.put(word);
+    page.put(text);
     if !text.ends_with(b"\n") {
-        out.push(b'\n')?;
+        page.put(b"\n");
     }
-    Ok(())
 }
 
-/// Whether an answer is what a section wants; if not, both are reported.
+/// Returns whether an answer is what a section wants. If not, it puts both.
 fn check_answer(
-    alloc: Global,
-    out: &mut Vec<u8>,
+    page: &mut Page,
     file: &[u8],
-    case: &Case,
+    case: &Case<'_>,
     given: &Given,
-    section: &Section,
+    section: &Section<'_>,
     kind: Kind,
-) -> Result<bool, AllocError> {
-    let wanted = section.text(alloc)?;
-    let wanted = with_offset(alloc, wanted.as_slice(), given.mark)?;
-    let found = answer(alloc, kind, given)?;
-    if are_same(kind, wanted.as_slice(), found.as_slice()) {
-        return Ok(true);
+) -> bool {
+    let mut wanted = Page::new(page.alloc());
+    put_wanted(&mut wanted, section, given.mark);
+    let mut found = Page::new(page.alloc());
+    put_answer(&mut found, kind, given);
+    note_cut(page, &wanted);
+    note_cut(page, &found);
+    let is_right = are_same(kind, wanted.text(), found.text());
+    if !is_right {
+        put_line(page, file, case, b"differs: ", section.name);
+        put_block(page, b"--- wanted\n", wanted.text());
+        put_block(page, b"--- found\n", found.text());
     }
-    put_line(out, file, case, b"differs: ", section.name.as_slice())?;
-    put_block(out, b"--- wanted\n", wanted.as_slice())?;
-    put_block(out, b"--- found\n", found.as_slice())?;
-    Ok(false)
+    is_right
 }
 
-/// Whether a case is as it should be.
-fn check_case(
-    alloc: Global,
-    out: &mut Vec<u8>,
-    file: &[u8],
-    defaults: &[Section],
-    case: &Case,
-) -> Result<bool, AllocError> {
-    let given = read_given(alloc, defaults, case, is_marked(alloc, case)?)?;
+/// Returns whether a case is as it should be. If not, it puts what differs.
+fn check_case(page: &mut Page, file: &[u8], case: &Case<'_>) -> bool {
+    let is_marked = is_marked(page, case);
+    let given = read_given(page, case, is_marked);
     let mut is_right = true;
-    let mut answers = 0u64;
-    for section in case.sections.as_slice() {
-        if let Some(kind) = kind_of(section.name.as_slice()) {
-            answers = answers.saturating_add(1);
-            let same = check_answer(alloc, out, file, case, &given, section, kind)?;
-            is_right = is_right && same;
-        } else if !is_given(section.name.as_slice()) {
-            put_line(
-                out,
-                file,
-                case,
-                b"no such section: ",
-                section.name.as_slice(),
-            )?;
+    let mut has_answer = false;
+    let mut rest = case.sections;
+    for _ in 0..case.sections.len() {
+        let Some((section, later)) = next_section(rest) else {
+            break;
+        };
+        if let Some(kind) = kind_of(section.name) {
+            has_answer = true;
+            is_right &= check_answer(page, file, case, &given, &section, kind);
+        } else if !is_given(section.name) {
+            put_line(page, file, case, b"no such section: ", section.name);
             is_right = false;
         }
+        rest = later;
     }
-    if answers == 0 {
-        put_line(out, file, case, b"no answer is wanted", b"")?;
-        is_right = false;
+    if !has_answer {
+        put_line(page, file, case, b"no answer is wanted", b"");
     }
-    Ok(is_right)
+    is_right && has_answer
 }
 
-/// The number of cases that differ.
-fn check_cases(
-    alloc: Global,
-    out: &mut Vec<u8>,
-    file: &[u8],
-    cases: &CaseFile,
-) -> Result<usize, AllocError> {
+/// Puts the last line about a file.
+fn put_summary(page: &mut Page, file: &[u8], count: usize, wrong: usize) {
+    page.put(file);
+    page.put(b": ");
+    page.put_number(count);
+    page.put(b" cases, ");
+    if wrong == 0 {
+        return page.put(b"all as they should be\n");
+    }
+    page.put_number(wrong);
+    page.put(b" differ\n");
+}
+
+/// Puts what differs in the cases of a file, how many cases there are and how many differ. Returns whether none does.
+fn check_cases(page: &mut Page, file: &[u8], text: &[u8]) -> bool {
+    let (defaults, cases) = read_file(text);
+    let mut rest = cases;
+    let mut count: usize = 0;
     let mut wrong: usize = 0;
-    for case in cases.cases.as_slice() {
-        if !check_case(alloc, out, file, cases.defaults.as_slice(), case)? {
+    for _ in 0..cases.len() {
+        let Some((case, later)) = next_case(defaults, rest) else {
+            break;
+        };
+        count = count.saturating_add(1);
+        if !check_case(page, file, &case) {
             wrong = wrong.saturating_add(1);
         }
+        rest = later;
     }
-    Ok(wrong)
-}
-
-/// The last line about a file.
-fn put_summary(
-    alloc: Global,
-    out: &mut Vec<u8>,
-    file: &[u8],
-    count: usize,
-    wrong: usize,
-) -> Result<(), AllocError> {
-    out.extend_from_slice(file)?;
-    out.extend_from_slice(b": ")?;
-    put_number(alloc, out, count as u64)?;
-    out.extend_from_slice(b" cases, ")?;
-    if wrong == 0 {
-        return out.extend_from_slice(b"all as they should be\n");
-    }
-    put_number(alloc, out, wrong as u64)?;
-    out.extend_from_slice(b" differ\n")
+    put_summary(page, file, count, wrong);
+    wrong == 0
 }
 
 /// Checks the cases of a file, and says how many there are and how many differ.
 pub fn check_file(alloc: Global, file: &[u8], text: &[u8]) -> Result<Report, AllocError> {
-    let cases = read_cases(alloc, text)?;
-    let mut out = Vec::new(alloc);
-    let wrong = check_cases(alloc, &mut out, file, &cases)?;
-    let count = cases.cases.len();
-    put_summary(alloc, &mut out, file, count, wrong)?;
-    Ok(Report {
-        text: out,
-        is_right: wrong == 0,
-    })
+    let mut whole = Page::new(alloc);
+    whole.put(b"\n");
+    whole.put(text);
+    let mut page = Page::new(alloc);
+    note_cut(&mut page, &whole);
+    let is_right = check_cases(&mut page, file, whole.text());
+    if page.is_cut() {
+        return Err(AllocError);
+    }
+    Ok(Report { page, is_right })
 }

@@ -4,140 +4,125 @@
 //! backslash before it.
 
 use crate::pages::put_byte;
-use shellword::{Condition, Element, HereText, Joint, Part, Pattern, Patterns, Piece, Test, Word};
-use std::alloc::AllocError;
+use shellword::{Condition, Element, HereText, Joint, Part, Patterns, Piece, Test, Word};
+use testrows::Page;
 
-/// A byte of a word.
-fn put_word_byte(out: &mut Vec<u8>, byte: u8) -> Result<(), AllocError> {
+/// Puts a byte of a word.
+fn put_word_byte(page: &mut Page, byte: u8) {
     if byte == b'\'' || byte == b'$' {
-        out.push(b'\\')?;
+        page.put_byte(b'\\');
     }
-    put_byte(out, byte)
+    put_byte(page, byte);
 }
 
-fn put_part(out: &mut Vec<u8>, part: &Part) -> Result<(), AllocError> {
+fn put_part(page: &mut Page, part: &Part) {
     match part {
-        Part::Plain(byte) | Part::Quoted(byte) => put_word_byte(out, *byte),
+        Part::Plain(byte) | Part::Quoted(byte) => put_word_byte(page, *byte),
         Part::Variable(name) => {
-            out.extend_from_slice(b"${")?;
-            out.extend_from_slice(name.as_slice())?;
-            out.extend_from_slice(b"}")
+            page.put(b"${");
+            page.put(name.as_slice());
+            page.put(b"}");
         }
     }
 }
 
-/// The parts of a word; what is quoted is in single quotes.
-fn put_parts(out: &mut Vec<u8>, parts: &[Part]) -> Result<(), AllocError> {
+/// Puts a word. What is quoted is in single quotes, and `''` is the empty word.
+pub fn put_word(page: &mut Page, word: &Word) {
+    if word.parts().is_empty() {
+        page.put(b"''");
+    }
     let mut quoted = false;
-    for part in parts {
+    for part in word.parts() {
         let is_quoted = matches!(part, Part::Quoted(_));
         if is_quoted != quoted {
-            out.push(b'\'')?;
+            page.put(b"'");
         }
         quoted = is_quoted;
-        put_part(out, part)?;
+        put_part(page, part);
     }
     if quoted {
-        out.push(b'\'')?;
+        page.put(b"'");
     }
-    Ok(())
 }
 
-/// A word; `''` is the empty one.
-pub fn put_word(out: &mut Vec<u8>, word: &Word) -> Result<(), AllocError> {
-    if word.parts().is_empty() {
-        return out.extend_from_slice(b"''");
-    }
-    put_parts(out, word.parts())
-}
-
-/// A text with variables, in brackets after a blank.
-pub fn put_here(out: &mut Vec<u8>, text: &HereText) -> Result<(), AllocError> {
-    out.extend_from_slice(b" [")?;
+/// Puts a text with variables, in brackets after a blank.
+pub fn put_here(page: &mut Page, text: &HereText) {
+    page.put(b" [");
     for part in text.parts() {
-        put_part(out, part)?;
+        put_part(page, part);
     }
-    out.extend_from_slice(b"]")
+    page.put(b"]");
 }
 
-fn put_two(
-    out: &mut Vec<u8>,
-    left: &Word,
-    operator: &[u8],
-    right: &Word,
-) -> Result<(), AllocError> {
-    put_word(out, left)?;
-    out.extend_from_slice(operator)?;
-    put_word(out, right)
+fn put_two(page: &mut Page, left: &Word, operator: &[u8], right: &Word) {
+    put_word(page, left);
+    page.put(operator);
+    put_word(page, right);
 }
 
-fn put_condition(out: &mut Vec<u8>, condition: &Condition) -> Result<(), AllocError> {
-    match condition {
-        Condition::True => out.extend_from_slice(b"true"),
-        Condition::False => out.extend_from_slice(b"false"),
+fn put_element(page: &mut Page, element: &Element) {
+    if element.negated {
+        page.put(b"! ");
+    }
+    match &element.condition {
+        Condition::True => page.put(b"true"),
+        Condition::False => page.put(b"false"),
         Condition::Nonempty(word) => {
-            out.extend_from_slice(b"-n ")?;
-            put_word(out, word)
+            page.put(b"-n ");
+            put_word(page, word);
         }
         Condition::Empty(word) => {
-            out.extend_from_slice(b"-z ")?;
-            put_word(out, word)
+            page.put(b"-z ");
+            put_word(page, word);
         }
-        Condition::Equal(left, right) => put_two(out, left, b" = ", right),
-        Condition::Different(left, right) => put_two(out, left, b" != ", right),
+        Condition::Equal(left, right) => put_two(page, left, b" = ", right),
+        Condition::Different(left, right) => put_two(page, left, b" != ", right),
     }
 }
 
-fn put_element(out: &mut Vec<u8>, element: &Element) -> Result<(), AllocError> {
-    if element.negated {
-        out.extend_from_slice(b"! ")?;
-    }
-    put_condition(out, &element.condition)
-}
-
-/// A test.
-pub fn put_test(out: &mut Vec<u8>, test: &Test) -> Result<(), AllocError> {
+/// Puts a test.
+pub fn put_test(page: &mut Page, test: &Test) {
     let (first, rest) = test.elements();
-    put_element(out, first)?;
+    put_element(page, first);
     for (joint, element) in rest {
-        match joint {
-            Joint::And => out.extend_from_slice(b" && ")?,
-            Joint::Or => out.extend_from_slice(b" || ")?,
-        }
-        put_element(out, element)?;
+        page.put(match joint {
+            Joint::And => b" && ",
+            Joint::Or => b" || ",
+        });
+        put_element(page, element);
     }
-    Ok(())
 }
 
-fn put_piece(out: &mut Vec<u8>, piece: Piece) -> Result<(), AllocError> {
+fn put_piece(page: &mut Page, piece: Piece) {
     match piece {
-        Piece::AnyBytes => out.push(b'*')?,
-        Piece::OneByte => out.push(b'?')?,
-        Piece::Byte(b'*') => out.extend_from_slice(b"\\*")?,
-        Piece::Byte(b'?') => out.extend_from_slice(b"\\?")?,
-        Piece::Byte(b'|') => out.extend_from_slice(b"\\|")?,
-        Piece::Byte(byte) => put_word_byte(out, byte)?,
-    }
-    Ok(())
-}
-
-fn put_pattern(out: &mut Vec<u8>, pattern: &Pattern) -> Result<(), AllocError> {
-    if pattern.pieces().is_empty() {
-        return out.extend_from_slice(b"''");
-    }
-    for piece in pattern.pieces() {
-        put_piece(out, *piece)?;
-    }
-    Ok(())
-}
-
-/// Patterns, with a bar between each two.
-pub fn put_patterns(out: &mut Vec<u8>, patterns: &Patterns) -> Result<(), AllocError> {
-    for (i, pattern) in patterns.as_slice().iter().enumerate() {
-        if i > 0 {
-            out.extend_from_slice(b" | ")?;
+        Piece::AnyBytes => page.put(b"*"),
+        Piece::OneByte => page.put(b"?"),
+        Piece::Byte(byte) => {
+            if matches!(byte, b'*' | b'?' | b'|') {
+                page.put(b"\\");
+            }
+            put_word_byte(page, byte);
         }
-        put_pattern(out, pattern)?;
     }
-    Ok(())
+}
+
+fn put_pattern(page: &mut Page, pieces: &[Piece]) {
+    if pieces.is_empty() {
+        page.put(b"''");
+    }
+    for piece in pieces {
+        put_piece(page, *piece);
+    }
+}
+
+/// Puts patterns, with a bar between each two.
+pub fn put_patterns(page: &mut Page, patterns: &Patterns) {
+    let mut is_first = true;
+    for pattern in patterns.as_slice() {
+        if !is_first {
+            page.put(b" | ");
+        }
+        is_first = false;
+        put_pattern(page, pattern.pieces());
+    }
 }

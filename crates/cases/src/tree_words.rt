@@ -4,176 +4,138 @@ use crate::pages::{put_count, put_indent};
 use crate::plain_words::{put_files, put_help, put_plain};
 use crate::shell_words::{put_here, put_patterns, put_test, put_word};
 use acparse::{Case, Help, Source, Stmt, Subject, When};
-use deftable::{Name, SubstList};
-use std::alloc::{AllocError, Global};
+use deftable::SubstList;
 use syntax::{OptionKind, Program, Question, Try};
+use testrows::Page;
 
-fn try_word(kind: Try) -> &'static [u8] {
-    match kind {
-        Try::Compile => b"compile",
-        Try::Link => b"link",
-        Try::Preproc => b"preprocess",
-        Try::Run => b"run",
-    }
-}
-
-fn put_program(out: &mut Vec<u8>, program: &Program) -> Result<(), AllocError> {
+fn put_program(page: &mut Page, program: &Program) {
     match program {
         Program::Program { prologue, body } => {
-            out.extend_from_slice(b" program")?;
-            put_here(out, prologue)?;
-            put_here(out, body)
+            page.put(b" program");
+            put_here(page, prologue);
+            put_here(page, body);
         }
         Program::Source { text } => {
-            out.extend_from_slice(b" source")?;
-            put_here(out, text)
+            page.put(b" source");
+            put_here(page, text);
         }
     }
 }
 
-fn put_given(
-    out: &mut Vec<u8>,
-    kind: OptionKind,
-    variable: &Name,
-    help: &Help,
-) -> Result<(), AllocError> {
-    match kind {
-        OptionKind::Feature => out.extend_from_slice(b"feature ")?,
-        OptionKind::Package => out.extend_from_slice(b"package ")?,
+fn put_question(page: &mut Page, question: &Question) {
+    match question {
+        Question::Given {
+            kind,
+            variable,
+            help,
+        } => {
+            page.put(match kind {
+                OptionKind::Feature => b"feature ",
+                OptionKind::Package => b"package ",
+            });
+            page.put(variable.as_slice());
+            put_help(page, help);
+        }
+        Question::Tries { kind, program } => {
+            page.put(match kind {
+                Try::Compile => b"compile",
+                Try::Link => b"link",
+                Try::Preproc => b"preprocess",
+                Try::Run => b"run",
+            });
+            put_program(page, program);
+        }
     }
-    out.extend_from_slice(variable.as_slice())?;
-    put_help(out, help)
 }
 
-fn put_subject(out: &mut Vec<u8>, subject: &Subject) -> Result<(), AllocError> {
+fn put_subject(page: &mut Page, subject: &Subject) {
     match subject {
-        Subject::Nothing => out.extend_from_slice(b"if"),
+        Subject::Nothing => page.put(b"if"),
         Subject::Word(word) => {
-            out.extend_from_slice(b"case ")?;
-            put_word(out, word)
+            page.put(b"case ");
+            put_word(page, word);
         }
-        Subject::Asked(
-            Question::Given {
-                kind,
-                variable,
-                help,
-            },
-        ) => put_given(out, *kind, variable, help),
-        Subject::Asked(Question::Tries { kind, program }) => {
-            out.extend_from_slice(try_word(*kind))?;
-            put_program(out, program)
-        }
+        Subject::Asked(question) => put_question(page, question),
     }
 }
 
-fn put_when(out: &mut Vec<u8>, when: &When) -> Result<(), AllocError> {
+fn put_when(page: &mut Page, when: &When) {
     match when {
         When::Holds(test) => {
-            out.extend_from_slice(b"test ")?;
-            put_test(out, test)
+            page.put(b"test ");
+            put_test(page, test);
         }
         When::Matches(patterns) => {
-            out.extend_from_slice(b"patterns ")?;
-            put_patterns(out, patterns)
+            page.put(b"patterns ");
+            put_patterns(page, patterns);
         }
-        When::Yes => out.extend_from_slice(b"yes"),
-        When::No => out.extend_from_slice(b"no"),
-        When::Always => out.extend_from_slice(b"default"),
+        When::Yes => page.put(b"yes"),
+        When::No => page.put(b"no"),
+        When::Always => page.put(b"default"),
     }
 }
 
 #[cycle(tree)]
-fn put_case(alloc: Global, out: &mut Vec<u8>, depth: usize, case: &Case) -> Result<(), AllocError> {
-    put_indent(out, depth)?;
-    put_when(out, &case.when)?;
-    out.push(b'\n')?;
-    put_statements(alloc, out, depth.saturating_add(1), case.body.as_slice())
-}
-
-#[cycle(tree)]
-fn put_cases(
-    alloc: Global,
-    out: &mut Vec<u8>,
-    depth: usize,
-    cases: &[Case],
-) -> Result<(), AllocError> {
+fn put_cases(page: &mut Page, depth: usize, cases: &[Case]) {
     for case in cases {
-        put_case(alloc, out, depth, case)?;
-    }
-    Ok(())
-}
-
-#[cycle(tree)]
-fn put_statement(
-    alloc: Global,
-    out: &mut Vec<u8>,
-    depth: usize,
-    statement: &Stmt,
-) -> Result<(), AllocError> {
-    put_indent(out, depth)?;
-    match statement {
-        Stmt::Plain(plain) => {
-            put_plain(alloc, out, plain)?;
-            out.push(b'\n')?;
-            Ok(())
-        }
-        Stmt::Choose { subject, cases } => {
-            put_subject(out, subject)?;
-            out.push(b'\n')?;
-            put_cases(alloc, out, depth.saturating_add(1), cases.as_slice())
-        }
+        put_indent(page, depth);
+        put_when(page, &case.when);
+        page.put(b"\n");
+        put_statements(page, depth.saturating_add(1), case.body.as_slice());
     }
 }
 
-/// A line for each statement, those in it below it.
+/// Puts a line for each statement, those in it below it.
 #[cycle(tree)]
-pub fn put_statements(
-    alloc: Global,
-    out: &mut Vec<u8>,
-    depth: usize,
-    statements: &[Stmt],
-) -> Result<(), AllocError> {
+pub fn put_statements(page: &mut Page, depth: usize, statements: &[Stmt]) {
     for statement in statements {
-        put_statement(alloc, out, depth, statement)?;
+        put_indent(page, depth);
+        match statement {
+            Stmt::Plain(plain) => {
+                put_plain(page, plain);
+                page.put(b"\n");
+            }
+            Stmt::Choose { subject, cases } => {
+                put_subject(page, subject);
+                page.put(b"\n");
+                put_cases(page, depth.saturating_add(1), cases.as_slice());
+            }
+        }
     }
-    Ok(())
 }
 
-fn put_names(out: &mut Vec<u8>, word: &[u8], list: &SubstList) -> Result<(), AllocError> {
+fn put_names(page: &mut Page, word: &[u8], list: &SubstList) {
     if list.names().is_empty() {
-        return Ok(());
+        return;
     }
-    out.extend_from_slice(word)?;
+    page.put(word);
     for name in list.names() {
-        out.push(b' ')?;
-        out.extend_from_slice(name.as_slice())?;
+        page.put(b" ");
+        page.put(name.as_slice());
     }
-    out.push(b'\n')?;
-    Ok(())
+    page.put(b"\n");
 }
 
-fn put_all_help(out: &mut Vec<u8>, entries: &[Help]) -> Result<(), AllocError> {
+fn put_all_help(page: &mut Page, entries: &[Help]) {
     for help in entries {
-        out.extend_from_slice(b"help:")?;
-        put_help(out, help)?;
-        out.push(b'\n')?;
+        page.put(b"help:");
+        put_help(page, help);
+        page.put(b"\n");
     }
-    Ok(())
 }
 
-/// The lists of a source that are not empty.
-pub fn put_lists(out: &mut Vec<u8>, source: &Source) -> Result<(), AllocError> {
-    put_names(out, b"substituted:", source.substituted())?;
-    put_names(out, b"precious:", source.precious())?;
-    put_names(out, b"features:", source.features())?;
-    put_names(out, b"packages:", source.packages())?;
-    put_all_help(out, source.help().as_slice())?;
+/// Puts the lists of a source that are not empty.
+pub fn put_lists(page: &mut Page, source: &Source) {
+    put_names(page, b"substituted:", source.substituted());
+    put_names(page, b"precious:", source.precious());
+    put_names(page, b"features:", source.features());
+    put_names(page, b"packages:", source.packages());
+    put_all_help(page, source.help().as_slice());
     if !source.files().is_empty() {
-        out.extend_from_slice(b"files:")?;
-        put_files(out, source.files())?;
-        out.push(b'\n')?;
+        page.put(b"files:");
+        put_files(page, source.files());
+        page.put(b"\n");
     }
-    Ok(())
 }
 
 fn case_count(statements: &[Stmt]) -> usize {
@@ -186,36 +148,21 @@ fn case_count(statements: &[Stmt]) -> usize {
     count
 }
 
-fn put_count_of(
-    alloc: Global,
-    out: &mut Vec<u8>,
-    word: &[u8],
-    count: usize,
-) -> Result<(), AllocError> {
-    if count == 0 {
-        return Ok(());
+/// Puts a count that is not 0.
+fn put_count_of(page: &mut Page, word: &[u8], count: usize) {
+    if count > 0 {
+        put_count(page, word, count);
     }
-    put_count(alloc, out, word, count)
 }
 
-/// How many statements there are, how many cases they have, and how long each list is that is not empty.
-pub fn put_counts(
-    alloc: Global,
-    out: &mut Vec<u8>,
-    statements: &[Stmt],
-    source: &Source,
-) -> Result<(), AllocError> {
-    put_count(alloc, out, b"statements", statements.len())?;
-    put_count_of(alloc, out, b"cases", case_count(statements))?;
-    put_count_of(
-        alloc,
-        out,
-        b"substituted",
-        source.substituted().names().len(),
-    )?;
-    put_count_of(alloc, out, b"precious", source.precious().names().len())?;
-    put_count_of(alloc, out, b"features", source.features().names().len())?;
-    put_count_of(alloc, out, b"packages", source.packages().names().len())?;
-    put_count_of(alloc, out, b"help", source.help().as_slice().len())?;
-    put_count_of(alloc, out, b"files", source.files().len())
+/// Puts how many statements there are, how many cases they have, and how long each list is that is not empty.
+pub fn put_counts(page: &mut Page, statements: &[Stmt], source: &Source) {
+    put_count(page, b"statements ", statements.len());
+    put_count_of(page, b"cases ", case_count(statements));
+    put_count_of(page, b"substituted ", source.substituted().names().len());
+    put_count_of(page, b"precious ", source.precious().names().len());
+    put_count_of(page, b"features ", source.features().names().len());
+    put_count_of(page, b"packages ", source.packages().names().len());
+    put_count_of(page, b"help ", source.help().as_slice().len());
+    put_count_of(page, b"files ", source.files().len());
 }
