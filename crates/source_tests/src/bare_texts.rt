@@ -1,213 +1,169 @@
 //! Bare text.
 
-use crate::rows::{Call, differences, printed, put_number, put_text};
+use crate::told::{put_if, set};
 use baretext::{Assignment, Assignments, read_statements};
 use deftable::Vars;
-use std::alloc::{AllocError, Global};
 use std::test::Fail;
+use testrows::{Call, Named, Page, try_rows};
 
-/// Puts each assignment with its value once the assignments before it are made.
-fn put_assignments(
-    alloc: Global,
-    out: &mut Vec<u8>,
-    list: &[Assignment],
-) -> Result<(), AllocError> {
-    let mut vars = Vars::new(alloc);
+/// What is told of the assignments of a text.
+enum Told {
+    /// Each with its value once the assignments before it are made.
+    Assigned,
+    /// How many there are, whether there is none, and each as it is taken from the list.
+    Taken,
+    /// How many there are if the text stands 100,000 times.
+    Long,
+}
+
+const CALLS: [(&[u8], Told); 3] = [
+    (b"assigned", Told::Assigned),
+    (b"taken", Told::Taken),
+    (b"long", Told::Long),
+];
+
+/// Puts an assignment, and makes it.
+fn put_assignment(page: &mut Page, vars: &mut Vars, assignment: &Assignment) {
+    let name = assignment.name.as_slice();
+    if let Some(value) = page.given(assignment.value.value(page.alloc(), vars)) {
+        put_if(page, !page.text().is_empty(), b" ");
+        page.put(name);
+        page.put_text(value.as_slice());
+        set(page, vars, name, value.as_slice());
+    }
+}
+
+fn put_assignments(page: &mut Page, list: &[Assignment]) {
+    let mut vars = Vars::new(page.alloc());
     for assignment in list {
-        let name = assignment.name.as_slice();
-        let value = assignment.value.value(alloc, &vars)?;
-        if !out.is_empty() {
-            out.push(b' ')?;
+        put_assignment(page, &mut vars, assignment);
+    }
+}
+
+impl Told {
+    fn put_list(&self, page: &mut Page, list: Assignments) {
+        match self {
+            Told::Assigned => put_assignments(page, list.as_slice()),
+            Told::Taken => {
+                page.put_number(list.len());
+                put_if(page, list.is_empty(), b" none");
+                put_assignments(page, list.into_vec().as_slice());
+            }
+            Told::Long => page.put_number(list.len()),
         }
-        out.extend_from_slice(name)?;
-        put_text(out, value.as_slice())?;
-        vars.set(name, value.as_slice())?;
-    }
-    Ok(())
-}
-
-/// The assignments of a text, or its fault.
-struct Assigned;
-
-impl Call for Assigned {
-    fn answer(&self, alloc: Global, text: &[u8]) -> Result<Vec<u8>, AllocError> {
-        let list = match read_statements(alloc, text) {
-            Ok(list) => list,
-            Err(fault) => return printed(alloc, &fault),
-        };
-        let mut out = Vec::new(alloc);
-        put_assignments(alloc, &mut out, list.as_slice())?;
-        Ok(out)
     }
 }
 
-const STATEMENT_ROWS: &str = r##"
- =>
-^J;; ;^I^J =>
-: =>
- :^I# c =>
-:;:^Ja=1;: => a[1]
-a=1;b=2 => a[1] b[2]
-a=x b=$a^Ic=${b}y => a[x] b[x] c[xy]
-a= => a[]
-a= b=;c= => a[] b[] c[]
-a=1 a=2 => a[1] a[2]
-a='$b' => a[$b]
-a='1;^J2' b="3;^J4" => a[1;^J2] b[3;^J4]
-a='#'"# " => a[## ]
-a== => a[=]
-_A9=$.~*?[ => _A9[$.~*?[]
+impl Call for Told {
+    fn put(&self, page: &mut Page, given: &[u8]) {
+        let mut text = Page::new(page.alloc());
+        let times = if let Told::Long = self { 100_000 } else { 1 };
+        for _ in 0..times {
+            text.put(given);
+        }
+        match read_statements(page.alloc(), text.text()) {
+            Ok(list) => self.put_list(page, list),
+            Err(fault) => page.put_shown(&fault),
+        }
+    }
+}
+
+const ROWS: &[u8] = br##"
+assigned  =>
+assigned ^J;; ;^I^J =>
+assigned : =>
+assigned  :^I# c =>
+assigned :;:^Ja=1;: => a[1]
+assigned a=1;b=2 => a[1] b[2]
+assigned a=x b=$a^Ic=${b}y => a[x] b[x] c[xy]
+assigned a= => a[]
+assigned a= b=;c= => a[] b[] c[]
+assigned a=1 a=2 => a[1] a[2]
+assigned a='$b' => a[$b]
+assigned a='1;^J2' b="3;^J4" => a[1;^J2] b[3;^J4]
+assigned a='#'"# " => a[## ]
+assigned a== => a[=]
+assigned _A9=$.~*?[ => _A9[$.~*?[]
 // comments
-# a=1; ' " ` (^Jb=2 => b[2]
-a=1 # b=2; ' " ` (^Jc=3 => a[1] c[3]
-a=1;#;b=2^Jc=3 => a[1] c[3]
-a=#x => a[#x]
-a=1#x => a[1#x]
+assigned # a=1; ' " ` (^Jb=2 => b[2]
+assigned a=1 # b=2; ' " ` (^Jc=3 => a[1] c[3]
+assigned a=1;#;b=2^Jc=3 => a[1] c[3]
+assigned a=#x => a[#x]
+assigned a=1#x => a[1#x]
 // a carriage return is a byte like any other
-a=1^M^Jb=2^M^J => a[1^M] b[2^M]
-^M^J => 1 at 0
-:^M^J => 1 at 0
+assigned a=1^M^Jb=2^M^J => a[1^M] b[2^M]
+assigned ^M^J => 1 at 0
+assigned :^M^J => 1 at 0
 // backslashes that quote
-a=\;b => a[;b]
-a=\ b=1 => a[ b=1]
-a=\'b => a['b]
-a=\"b => a["b]
-a="\"; b" => a["; b]
-a=x\ => a[x\]
-\# => 1 at 0
+assigned a=\;b => a[;b]
+assigned a=\ b=1 => a[ b=1]
+assigned a=\'b => a['b]
+assigned a=\"b => a["b]
+assigned a="\"; b" => a["; b]
+assigned a=x\ => a[x\]
+assigned \# => 1 at 0
+// refused
+assigned : a=b => 1 at 2
+assigned a=b : => 1 at 4
+assigned : : => 1 at 2
+assigned :# => 1 at 0
+assigned :a => 1 at 0
+assigned foo ( => 1 at 0
+assigned a=1 && b=2 => 1 at 4
+assigned "a"=x => 1 at 0
+assigned && x => 1 at 0
+assigned 1a=x => 1 at 0
+assigned =x => 1 at 0
+assigned a+=x => 1 at 0
+assigned a =x => 1 at 0
+assigned a=1 b => 1 at 4
+assigned a=1^Jif x => 1 at 4
+assigned a=1& => 2.1 at 3
+assigned a=(x) => 2.1 at 2
+assigned a=`b` => 2.1 at 2
+assigned a=$1 => 2.1 at 2
+assigned a='x;^J => 2.1 at 6
+assigned b="x => 2.1 at 4
+// the first fault counts
+assigned b=1; a=(x) foo => 2.1 at 7
+assigned foo; a=(x) => 1 at 0
+// a backslash and a newline
+assigned \^J =>
+assigned a=1\^J2 => a[12]
+assigned a=1 \^Jb=2 => a[1] b[2]
+assigned a=1\^J\^J b=2 => a[1] b[2]
+assigned a="1\^J2" => a[12]
+assigned a='1\^J2' => a[1\^J2]
+assigned # c\^Ja=1 => a[1]
+assigned x=1^Jy=$\^Jx => x[1] y[1]
+assigned x=1^Jy=${\^Jx\^J} => x[1] y[1]
+assigned xy=1^Jz=$x\^Jy => xy[1] z[1]
+assigned na\^Jme\^J=1 => name[1]
+assigned :\^J;a=1 => a[1]
+// a quoted backslash quotes nothing
+assigned a=\\^Jb=2 => a[\] b[2]
+assigned a="\\^J2" => a[\^J2]
+// whether a word starts after one is as it is without it
+assigned a=1 \^J# c => a[1]
+assigned a=1\^J# c => 1 at 5
+assigned a=1\^J#c => a[1#c]
+// how many there are, whether there is none, and each as it is taken from the list
+taken  => 0 none
+taken a=1 b= => 2 a[1] b[]
+// a long text: a line that continues on the next, 100,000 times
+long name=x\^Jy; => 100000
 "##;
 
 #[test]
 fn statements(rt: HostRuntime) -> Result<(), Fail> {
-    let found = differences(rt.alloc(), &Assigned, STATEMENT_ROWS)?;
-    assert_eq!(rt; found.as_str(), "");
-    Ok(())
-}
-
-const REFUSED_ROWS: &str = r##"
-: a=b => 1 at 2
-a=b : => 1 at 4
-: : => 1 at 2
-:# => 1 at 0
-:a => 1 at 0
-foo ( => 1 at 0
-a=1 && b=2 => 1 at 4
-"a"=x => 1 at 0
-&& x => 1 at 0
-1a=x => 1 at 0
-=x => 1 at 0
-a+=x => 1 at 0
-a =x => 1 at 0
-a=1 b => 1 at 4
-a=1^Jif x => 1 at 4
-a=1& => 2.1 at 3
-a=(x) => 2.1 at 2
-a=`b` => 2.1 at 2
-a=$1 => 2.1 at 2
-a='x;^J => 2.1 at 6
-b="x => 2.1 at 4
-// the first fault counts
-b=1; a=(x) foo => 2.1 at 7
-foo; a=(x) => 1 at 0
-"##;
-
-#[test]
-fn refused(rt: HostRuntime) -> Result<(), Fail> {
-    let found = differences(rt.alloc(), &Assigned, REFUSED_ROWS)?;
-    assert_eq!(rt; found.as_str(), "");
-    Ok(())
-}
-
-const CONTINUATION_ROWS: &str = r##"
-\^J =>
-a=1\^J2 => a[12]
-a=1 \^Jb=2 => a[1] b[2]
-a=1\^J\^J b=2 => a[1] b[2]
-a="1\^J2" => a[12]
-a='1\^J2' => a[1\^J2]
-# c\^Ja=1 => a[1]
-x=1^Jy=$\^Jx => x[1] y[1]
-x=1^Jy=${\^Jx\^J} => x[1] y[1]
-xy=1^Jz=$x\^Jy => xy[1] z[1]
-na\^Jme\^J=1 => name[1]
-:\^J;a=1 => a[1]
-// a quoted backslash quotes nothing
-a=\\^Jb=2 => a[\] b[2]
-a="\\^J2" => a[\^J2]
-// whether a word starts after one is as it is without it
-a=1 \^J# c => a[1]
-a=1\^J# c => 1 at 5
-a=1\^J#c => a[1#c]
-"##;
-
-#[test]
-fn continuations(rt: HostRuntime) -> Result<(), Fail> {
-    let found = differences(rt.alloc(), &Assigned, CONTINUATION_ROWS)?;
-    assert_eq!(rt; found.as_str(), "");
-    Ok(())
+    try_rows(rt.alloc(), &Named(&CALLS), ROWS)
 }
 
 #[test]
 fn any_byte(rt: HostRuntime) -> Result<(), Fail> {
-    let found = Assigned.answer(rt.alloc(), b"a=\xff\0\x80")?;
-    assert!(rt; found.as_slice() == b"a[\xff\0\x80]".as_slice());
-    Ok(())
-}
-
-/// The names and values of a list, in the order of the text.
-fn put_taken(alloc: Global, out: &mut Vec<u8>, list: Assignments) -> Result<(), AllocError> {
-    let vars = Vars::new(alloc);
-    for assignment in list.into_vec() {
-        let Assignment { name, value } = assignment;
-        out.push(b' ')?;
-        out.extend_from_slice(name.as_slice())?;
-        put_text(out, value.value(alloc, &vars)?.as_slice())?;
-    }
-    Ok(())
-}
-
-/// How many assignments a text has, whether there is none, and each as it is taken from the list; or the fault.
-struct Taken;
-
-impl Call for Taken {
-    fn answer(&self, alloc: Global, text: &[u8]) -> Result<Vec<u8>, AllocError> {
-        let list = match read_statements(alloc, text) {
-            Ok(list) => list,
-            Err(fault) => return printed(alloc, &fault),
-        };
-        let mut out = Vec::new(alloc);
-        put_number(alloc, &mut out, list.len())?;
-        if list.is_empty() {
-            out.extend_from_slice(b" none")?;
-        }
-        put_taken(alloc, &mut out, list)?;
-        Ok(out)
-    }
-}
-
-const TAKEN_ROWS: &str = r##"
- => 0 none
-a=1 b= => 2 a[1] b[]
-"##;
-
-#[test]
-fn lists(rt: HostRuntime) -> Result<(), Fail> {
-    let found = differences(rt.alloc(), &Taken, TAKEN_ROWS)?;
-    assert_eq!(rt; found.as_str(), "");
-    Ok(())
-}
-
-/// How many assignments are in 100,000 lines, of which each continues on the next.
-fn long_text(alloc: Global) -> Result<usize, Fail> {
-    let mut text = Vec::new(alloc);
-    for _ in 0..100_000 {
-        text.extend_from_slice(b"name=x\\\ny;")?;
-    }
-    Ok(read_statements(alloc, &text)?.len())
-}
-
-#[test]
-fn a_long_text(rt: HostRuntime) -> Result<(), Fail> {
-    assert_eq!(rt; long_text(rt.alloc())?, 100_000);
-    Ok(())
+    try_rows(
+        rt.alloc(),
+        &Told::Assigned,
+        b"a=\xff^@\x80 => a[\xff^@\x80]",
+    )
 }

@@ -1,10 +1,10 @@
 //! Tests of the crates that read configure.ac and the command line: an ordinary answer of each call, with ample memory,
-//! worked examples, and what no clause says, as the text of a fault.
+//! worked examples, and what no clause says, as the text of an error.
 //!
-//! `rows` has the form of a table: a text and what a call answers to it, a row for each. There is a file for each crate:
-//! `shell_words` for shellword, `bare_texts` for baretext, `arguments` for acargs, `macros` for acmacros, `sources` for
-//! acparse, and `command_lines` for options. Each calls its crate in functions without clauses, so that its tests are proved
-//! without the contracts of those calls. The crate `cases` has more sources and command lines, in files.
+//! Each test is a table of rows, in the form that the crate `testrows` reads. A row begins with the name of a call. There is a
+//! module for each crate: `shell_words` for shellword, `bare_texts` for baretext, `arguments` for acargs, `macros` for
+//! acmacros, `sources` for acparse, and `command_lines` for options. `told` has how answers are written. The crate `cases` has
+//! more sources and command lines, in files.
 #![tactic(auto)]
 
 #[cfg(test)]
@@ -16,8 +16,8 @@ mod command_lines;
 #[cfg(test)]
 mod macros;
 #[cfg(test)]
-mod rows;
-#[cfg(test)]
 mod shell_words;
 #[cfg(test)]
 mod sources;
+#[cfg(test)]
+mod told;

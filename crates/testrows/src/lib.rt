@@ -12,4 +12,4 @@ pub mod page;
 pub mod table;
 
 pub use page::Page;
-pub use table::{Call, cut, try_rows};
+pub use table::{Call, Named, cut, try_rows};

@@ -11,6 +11,21 @@ pub trait Call {
     fn put(&self, page: &mut Page, given: &[u8]);
 }
 
+/// Calls by their names. A text begins with the name of its call and a blank.
+pub struct Named<'a, C>(pub &'a [(&'a [u8], C)]);
+
+impl<C: Call> Call for Named<'_, C> {
+    fn put(&self, page: &mut Page, given: &[u8]) {
+        let (name, text) = cut(given, b" ");
+        for (known, call) in self.0 {
+            if *known == name {
+                return call.put(page, text);
+            }
+        }
+        page.put(b"no such call");
+    }
+}
+
 /// Returns what is before the first mark and what is after it: the whole text and nothing if it has none.
 pub fn cut<'a>(text: &'a [u8], mark: &[u8]) -> (&'a [u8], &'a [u8]) {
     for at in 0..text.len() {
