@@ -1,13 +1,13 @@
 //! csource and conftest: test programs, and the jobs that a run asks for.
 
-use crate::tables::{changed, defined};
+use crate::tables::Tables;
 use conftest::{Job, JobFault, Words, compile_job, link_job, path_job, preproc_job, run_job};
 use csource::{
     declaration_source, default_includes, function_source, header_source, program_source,
     second_type_source, type_source,
 };
-use deftable::{Bytes, Defs};
-use std::alloc::{AllocError, Global};
+use deftable::Bytes;
+use std::alloc::AllocError;
 use std::test::Fail;
 use testrows::{Call, Page, cut, try_rows};
 
@@ -51,15 +51,29 @@ fn put_command(page: &mut Page, job: Result<Job, JobFault>) {
     }
 }
 
-fn put_commands(page: &mut Page, variables: &[u8], number: u64) {
+/// Puts the commands that compile, link and preprocess.
+fn put_three(page: &mut Page, tables: &Tables, number: u64) {
     let alloc = page.alloc();
-    let vars = changed(page, variables);
-    let defs = Defs::new(alloc);
-    put_command(page, compile_job(alloc, &vars, &defs, b"x", number));
+    put_command(
+        page,
+        compile_job(alloc, &tables.vars, &tables.defs, b"x", number),
+    );
     page.put(b"\n");
-    put_command(page, link_job(alloc, &vars, &defs, b"x", number));
+    put_command(
+        page,
+        link_job(alloc, &tables.vars, &tables.defs, b"x", number),
+    );
     page.put(b"\n");
-    put_command(page, preproc_job(alloc, &vars, &defs, b"x", number));
+    put_command(
+        page,
+        preproc_job(alloc, &tables.vars, &tables.defs, b"x", number),
+    );
+}
+
+fn put_commands(page: &mut Page, variables: &[u8], number: u64) {
+    let mut tables = Tables::new(page.alloc());
+    tables.take(page, b"vars", variables);
+    put_three(page, &tables, number);
 }
 
 /// Puts the command of a job, and on further lines the name and the text of its file.
@@ -79,20 +93,21 @@ fn put_given_job(page: &mut Page, job: Result<Job, AllocError>) {
     }
 }
 
-/// Returns a word of a vector, one that is pushed after it, and a copy of both.
-fn two_words(alloc: Global, first: &[u8], second: &[u8]) -> Result<Words, AllocError> {
-    let mut words = Words::from_vec(Vec::from_array(alloc, [Bytes::from_slice(alloc, first)?])?);
-    words.push(second)?;
-    words.copy(alloc)
-}
-
 fn put_two_words(page: &mut Page, first: &[u8], second: &[u8]) {
     let alloc = page.alloc();
-    if let Some(words) = page.given(two_words(alloc, first, second)) {
-        put_words(page, &words);
-        page.put(b"\n");
-        put_words(page, &Words::new(alloc));
+    let mut all = Vec::new(alloc);
+    if let Some(first) = page.given(Bytes::from_slice(alloc, first)) {
+        if all.push(first).is_err() {
+            page.cut();
+        }
     }
+    let mut words = Words::from_vec(all);
+    page.given(words.push(second));
+    if let Some(copy) = page.given(words.copy(alloc)) {
+        put_words(page, &copy);
+    }
+    page.put(b"\n");
+    put_words(page, &Words::new(alloc));
 }
 
 struct Commands;
@@ -142,40 +157,43 @@ source type,x,char * => x^Jint^Jmain (void)^J{^Jif (sizeof (char *)) return 0;^J
 source second,x,char * => x^Jint^Jmain (void)^J{^Jif (sizeof ((char *))) return 0;^J  ;^J  return 0;^J}^J
 ";
 
-/// Puts a copy of the job that compiles a source with `cc`, or what is wrong.
-fn put_compiled(page: &mut Page, definitions: &[u8], source: &[u8]) {
+/// Puts a copy of the job that compiles a source, or what is wrong.
+fn put_compiled_by(page: &mut Page, tables: &Tables, source: &[u8]) {
     let alloc = page.alloc();
-    let vars = changed(page, b"CC=cc");
-    let defs = defined(page, definitions);
-    match compile_job(alloc, &vars, &defs, source, 1) {
+    match compile_job(alloc, &tables.vars, &tables.defs, source, 1) {
         Ok(job) => put_given_job(page, job.copy(alloc)),
         Err(fault) => page.put_shown(&fault),
     }
 }
 
-fn source_of(alloc: Global, kind: &[u8], front: &[u8], name: &[u8]) -> Result<Bytes, AllocError> {
-    match kind.first() {
-        Some(b'p') => program_source(alloc, front, name),
-        Some(b'h') => header_source(alloc, front, name),
-        Some(b'f') => function_source(alloc, name),
-        Some(b'd') => declaration_source(alloc, front, name),
-        Some(b't') => type_source(alloc, front, name),
-        _ => second_type_source(alloc, front, name),
-    }
-}
-
-fn put_source(page: &mut Page, given: &[u8]) {
-    let (kind, rest) = cut(given, b",");
-    let (front, name) = cut(rest, b",");
-    if let Some(source) = page.given(source_of(page.alloc(), kind, front, name)) {
-        page.put(source.as_slice());
-    }
+fn put_compiled(page: &mut Page, definitions: &[u8], source: &[u8]) {
+    let mut tables = Tables::new(page.alloc());
+    tables.take(page, b"vars", b"CC=cc");
+    tables.take(page, b"defs", definitions);
+    put_compiled_by(page, &tables, source);
 }
 
 fn put_header_test(page: &mut Page, definitions: &[u8]) {
     let source = header_source(page.alloc(), default_includes(), b"sys/stat.h");
     if let Some(source) = page.given(source) {
         put_compiled(page, definitions, source.as_slice());
+    }
+}
+
+fn put_source(page: &mut Page, given: &[u8]) {
+    let alloc = page.alloc();
+    let (kind, rest) = cut(given, b",");
+    let (front, name) = cut(rest, b",");
+    let source = match kind.first() {
+        Some(b'p') => program_source(alloc, front, name),
+        Some(b'h') => header_source(alloc, front, name),
+        Some(b'f') => function_source(alloc, name),
+        Some(b'd') => declaration_source(alloc, front, name),
+        Some(b't') => type_source(alloc, front, name),
+        _ => second_type_source(alloc, front, name),
+    };
+    if let Some(source) = page.given(source) {
+        page.put(source.as_slice());
     }
 }
 

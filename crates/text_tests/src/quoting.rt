@@ -3,6 +3,7 @@
 use m4quote::{
     Arg, Item, QuoteFault, bare_value, cpp_name, read_items, read_items_at, sh_name, used_text,
 };
+use std::alloc::AllocError;
 use std::test::Fail;
 use testrows::{Call, Page, cut, try_rows};
 
@@ -111,23 +112,29 @@ fn put_items(page: &mut Page, items: &[Item<'_>]) {
     }
 }
 
+fn put_count(page: &mut Page, count: usize) {
+    page.put_number(count);
+    page.put(b" items");
+}
+
+fn put_read(page: &mut Page, items: Result<Vec<Item<'_>>, QuoteFault>, is_counted: bool) {
+    match items {
+        Ok(items) if is_counted => put_count(page, items.len()),
+        Ok(items) => put_items(page, items.as_slice()),
+        Err(fault) => page.put_shown(&fault),
+    }
+}
+
 struct Items;
 
 impl Call for Items {
     fn put(&self, page: &mut Page, given: &[u8]) {
+        let alloc = page.alloc();
         let (call, text) = cut(given, b" ");
-        let items = if call.starts_with(b"at") {
-            read_items_at(page.alloc(), text, 100)
-        } else {
-            read_items(page.alloc(), text)
-        };
-        match items {
-            Ok(items) if call.starts_with(b"count") => {
-                page.put_number(items.len());
-                page.put(b" items");
-            }
-            Ok(items) => put_items(page, items.as_slice()),
-            Err(fault) => page.put_shown(&fault),
+        match call.first() {
+            Some(b'a') => put_read(page, read_items_at(alloc, text, 100), false),
+            Some(b'c') => put_read(page, read_items(alloc, text), true),
+            _ => put_read(page, read_items(alloc, text), false),
         }
     }
 }
@@ -169,14 +176,16 @@ names c++ => cpp C__
 faults => 1 at 3;2 at 12;3 at 0;4 at 7;5;6;memory;
 ";
 
-fn put_names(page: &mut Page, text: &[u8]) {
-    let name = page.given(sh_name(page.alloc(), text));
-    let symbol = page.given(cpp_name(page.alloc(), text));
-    if let (Some(name), Some(symbol)) = (&name, &symbol) {
+fn put_name(page: &mut Page, name: Result<Vec<u8>, AllocError>) {
+    if let Some(name) = page.given(name) {
         page.put(name.as_slice());
-        page.put(b" ");
-        page.put(symbol.as_slice());
     }
+}
+
+fn put_names(page: &mut Page, text: &[u8]) {
+    put_name(page, sh_name(page.alloc(), text));
+    page.put(b" ");
+    put_name(page, cpp_name(page.alloc(), text));
 }
 
 fn put_faults(page: &mut Page) {

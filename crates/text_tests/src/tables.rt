@@ -7,14 +7,13 @@ use std::hash::{DefaultHasher, Hash, Hasher};
 use std::test::Fail;
 use testrows::{Call, Page, cut, try_rows};
 
-/// `text` and two texts with a comma between them: the length of the first and whether it is empty, a copy of it, and of this
-/// copy and the second text how they are ordered, whether they are equal, whether the copy is below the second, and whether
-/// the second is above the copy. `name` and a text: whether it has the form of a name, and the name that it becomes.
+/// `text` and two texts with a comma between them: the length of the first and whether it is empty, a copy of it, and how the
+/// copy compares with the second. `name` and a text: whether it has the form of a name, and the name that it becomes.
 const TEXTS: &[u8] = b"
-text a\0\xff,a\0\xff => 3 no [a\0\xff] equal yes no no
-text a,a\0\xff => 1 no [a] less no yes yes
-text a,\xff => 1 no [a] less no yes yes
-text , => 0 yes [] equal yes no no
+text a\0\xff,a\0\xff => 3 no [a\0\xff] same
+text a,a\0\xff => 1 no [a] before
+text a,\xff => 1 no [a] before
+text , => 0 yes [] same
 
 name a => yes [a]
 name _ => yes [_]
@@ -35,18 +34,13 @@ fn hash_of(text: &Bytes) -> u64 {
     state.finish()
 }
 
-/// Puts how two texts compare. Equal texts have the same hash.
+/// Puts `same` or `before` if every comparison of two texts says so. Equal texts have the same hash.
 fn put_order(page: &mut Page, first: &Bytes, second: &Bytes) {
     page.put(match first.cmp(second) {
-        Ordering::Less => b" less ",
-        Ordering::Equal => b" equal ",
-        Ordering::Greater => b" greater ",
+        Ordering::Equal if first == second && hash_of(first) == hash_of(second) => b"same",
+        Ordering::Less if first != second && first < second && second > first => b"before",
+        _ => b"otherwise",
     });
-    page.put_yes(first == second && hash_of(first) == hash_of(second));
-    page.put(b" ");
-    page.put_yes(first != second && first < second);
-    page.put(b" ");
-    page.put_yes(second > first);
 }
 
 fn copied(alloc: Global, text: &Bytes) -> Result<Bytes, AllocError> {
@@ -61,6 +55,7 @@ fn put_copy(page: &mut Page, first: &Bytes, second: &Bytes) {
     page.put(b" ");
     if let Some(copy) = page.given(copied(page.alloc(), first)) {
         page.put_text(copy.as_slice());
+        page.put(b" ");
         put_order(page, &copy, second);
     }
 }
@@ -129,13 +124,96 @@ list CC;LIBS;CC;?LIBS;?LIB => yes no CC;LIBS;
 notes 1first;2second => 1first;2second;
 ";
 
-/// Puts the value, or that there is none.
-fn put_value(page: &mut Page, value: Option<&Bytes>) {
-    match value {
-        Some(value) => page.put_text(value.as_slice()),
-        None => page.put(b"none"),
+/// Tables, as steps make them.
+#[derive(Drop)]
+pub struct Tables {
+    pub vars: Vars,
+    pub defs: Defs,
+    list: SubstList,
+    notes: Notes,
+}
+
+impl Tables {
+    pub fn new(alloc: Global) -> Tables {
+        Tables {
+            vars: Vars::new(alloc),
+            defs: Defs::new(alloc),
+            list: SubstList::new(alloc),
+            notes: Notes::new(alloc),
+        }
     }
-    page.put(b" ");
+
+    /// Puts what a table holds under a name.
+    fn put_value(&self, page: &mut Page, table: &[u8], name: &[u8]) {
+        let value = match table.first() {
+            Some(b'v') => self.vars.get(name),
+            Some(b'd') => self.defs.get(name),
+            _ => return page.put_yes(self.list.has(name)),
+        };
+        match value {
+            Some(value) => page.put_text(value.as_slice()),
+            None => page.put(b"none"),
+        }
+    }
+
+    fn add(&mut self, page: &mut Page, table: &[u8], entry: &[u8]) {
+        let (name, value) = cut(entry, b"=");
+        let added = match table.first() {
+            Some(b'v') => self.vars.set(name, value),
+            Some(b'd') if is_shell_name(name) => self.defs.define(name, value),
+            Some(b'l') if is_shell_name(name) => self.list.add(name),
+            _ => Ok(()),
+        };
+        page.given(added);
+    }
+
+    /// Adds a note. Its stream is that of the number before its text.
+    fn tell(&mut self, page: &mut Page, note: &[u8]) {
+        let (stream, text) = match note {
+            [b'1', text @ ..] => (Stream::Out, text),
+            [b'2', text @ ..] => (Stream::Err, text),
+            text => (Stream::Out, text),
+        };
+        let text = text_of(page, text);
+        page.given(self.notes.push(Note { stream, text }));
+    }
+
+    /// Takes steps with semicolons between them on a table.
+    pub fn take(&mut self, page: &mut Page, table: &[u8], steps: &[u8]) {
+        for step in steps.split(|byte| *byte == b';') {
+            match step {
+                [b'!', name @ ..] => self.vars.unset(name),
+                [b'?', name @ ..] => {
+                    self.put_value(page, table, name);
+                    page.put(b" ");
+                }
+                _ if table.starts_with(b"notes") => self.tell(page, step),
+                _ => self.add(page, table, step),
+            }
+        }
+    }
+
+    /// Puts what they hold.
+    fn put(&self, page: &mut Page) {
+        for i in 0..self.vars.len() {
+            put_entry(page, self.vars.at(i));
+        }
+        for i in 0..self.defs.len() {
+            put_entry(page, self.defs.at(i));
+        }
+        for name in self.list.names() {
+            page.put(name.as_slice());
+            page.put(b";");
+        }
+        for note in self.notes.as_slice() {
+            page.put(match note.stream {
+                Stream::Out => b"1",
+                Stream::Err => b"2",
+            });
+            page.put(note.text.as_slice());
+            page.put(b";");
+        }
+    }
 }
 
 fn put_entry(page: &mut Page, entry: (&[u8], &[u8])) {
@@ -145,120 +223,18 @@ fn put_entry(page: &mut Page, entry: (&[u8], &[u8])) {
     page.put(b";");
 }
 
-/// Takes a step on variables.
-fn change(page: &mut Page, vars: &mut Vars, step: &[u8]) {
-    match step {
-        [b'!', name @ ..] => vars.unset(name),
-        [b'?', name @ ..] => put_value(page, vars.get(name)),
-        _ => {
-            let (name, value) = cut(step, b"=");
-            page.given(vars.set(name, value));
-        }
-    }
-}
+struct Steps;
 
-/// Returns the variables after steps with semicolons between them.
-pub fn changed(page: &mut Page, steps: &[u8]) -> Vars {
-    let mut vars = Vars::new(page.alloc());
-    for step in steps.split(|byte| *byte == b';') {
-        change(page, &mut vars, step);
-    }
-    vars
-}
-
-fn put_vars(page: &mut Page, steps: &[u8]) {
-    let vars = changed(page, steps);
-    for i in 0..vars.len() {
-        put_entry(page, vars.at(i));
-    }
-}
-
-/// Takes a step on definitions.
-fn define(page: &mut Page, defs: &mut Defs, step: &[u8]) {
-    let (name, value) = cut(step, b"=");
-    if let Some(name) = name.strip_prefix(b"?") {
-        put_value(page, defs.get(name));
-    } else if is_shell_name(name) {
-        page.given(defs.define(name, value));
-    }
-}
-
-/// Returns the definitions after steps with semicolons between them.
-pub fn defined(page: &mut Page, steps: &[u8]) -> Defs {
-    let mut defs = Defs::new(page.alloc());
-    for step in steps.split(|byte| *byte == b';') {
-        define(page, &mut defs, step);
-    }
-    defs
-}
-
-fn put_defs(page: &mut Page, steps: &[u8]) {
-    let defs = defined(page, steps);
-    for i in 0..defs.len() {
-        put_entry(page, defs.at(i));
-    }
-}
-
-fn add(page: &mut Page, list: &mut SubstList, step: &[u8]) {
-    if let Some(name) = step.strip_prefix(b"?") {
-        page.put_yes(list.has(name));
-        page.put(b" ");
-    } else if is_shell_name(step) {
-        page.given(list.add(step));
-    }
-}
-
-fn put_list(page: &mut Page, steps: &[u8]) {
-    let mut list = SubstList::new(page.alloc());
-    for step in steps.split(|byte| *byte == b';') {
-        add(page, &mut list, step);
-    }
-    for name in list.names() {
-        page.put(name.as_slice());
-        page.put(b";");
-    }
-}
-
-fn tell(page: &mut Page, notes: &mut Notes, step: &[u8]) {
-    let (stream, text) = match step {
-        [b'2', text @ ..] => (Stream::Err, text),
-        text => (Stream::Out, text.strip_prefix(b"1").unwrap_or(text)),
-    };
-    let text = text_of(page, text);
-    page.given(notes.push(Note { stream, text }));
-}
-
-fn put_notes(page: &mut Page, steps: &[u8]) {
-    let mut notes = Notes::new(page.alloc());
-    for step in steps.split(|byte| *byte == b';') {
-        tell(page, &mut notes, step);
-    }
-    for note in notes.as_slice() {
-        page.put(if note.stream == Stream::Out {
-            b"1"
-        } else {
-            b"2"
-        });
-        page.put(note.text.as_slice());
-        page.put(b";");
-    }
-}
-
-struct Tables;
-
-impl Call for Tables {
+impl Call for Steps {
     fn put(&self, page: &mut Page, given: &[u8]) {
         let (table, steps) = cut(given, b" ");
-        match table.first() {
-            Some(b'v') => put_vars(page, steps),
-            Some(b'd') => put_defs(page, steps),
-            Some(b'l') => put_list(page, steps),
-            _ => put_notes(page, steps),
-        }
+        let mut tables = Tables::new(page.alloc());
+        tables.take(page, table, steps);
+        tables.put(page);
     }
 }
 
 #[test]
 fn tables_keep_their_order(rt: HostRuntime) -> Result<(), Fail> {
-    try_rows(rt.alloc(), &Tables, TABLES)
+    try_rows(rt.alloc(), &Steps, TABLES)
 }

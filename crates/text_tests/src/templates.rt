@@ -2,7 +2,7 @@
 
 use deftable::is_shell_name;
 use std::test::Fail;
-use template::{Table, configure_input, fill, has_one_filled_text, place_vars};
+use template::{Place, Table, configure_input, fill, has_one_filled_text, place_vars};
 use testrows::{Call, Page, cut, try_rows};
 
 /// `fill`, the value of VAR and a template: what it makes if also A is `1` and B is empty. `repeat` and two texts with a comma
@@ -76,7 +76,8 @@ fn put_repeated(page: &mut Page, piece: &[u8]) {
     }
 }
 
-fn put_is_filled(page: &mut Page, piece: &[u8], wanted: &[u8], table: &Table) {
+fn put_is_filled(page: &mut Page, pieces: &[u8], table: &Table) {
+    let (piece, wanted) = cut(pieces, b",");
     let mut text = Page::new(page.alloc());
     put_repeated(&mut text, piece);
     let mut made = Page::new(page.alloc());
@@ -96,37 +97,30 @@ fn put_entry(page: &mut Page, table: &Table, key: &[u8]) {
     }
 }
 
+fn put_answer(page: &mut Page, call: &[u8], text: &[u8], table: &Table) {
+    match call.first() {
+        Some(b'f') => {
+            page.put(b"[");
+            put_filled(page, text, table);
+            page.put(b"]");
+        }
+        Some(b'r') => put_is_filled(page, text, table),
+        Some(b'k') => put_entry(page, table, text),
+        _ => page.put_number(table.longest_key()),
+    }
+}
+
 struct Filling;
 
 impl Call for Filling {
     fn put(&self, page: &mut Page, given: &[u8]) {
-        let (call, text) = cut(given, b" ");
-        let (first, second) = cut(
-            text,
-            if call.starts_with(b"repeat") {
-                b","
-            } else {
-                b" "
-            },
-        );
-        let table = table_of(
-            page,
-            if call.starts_with(b"fill") {
-                first
-            } else {
-                b"v"
-            },
-        );
-        match call.first() {
-            Some(b'f') => {
-                page.put(b"[");
-                put_filled(page, second, &table);
-                page.put(b"]");
-            }
-            Some(b'r') => put_is_filled(page, first, second, &table),
-            Some(b'k') => put_entry(page, &table, text),
-            _ => page.put_number(table.longest_key()),
-        }
+        let (call, rest) = cut(given, b" ");
+        let (value, text) = match call {
+            b"fill" => cut(rest, b" "),
+            _ => (b"v".as_slice(), rest),
+        };
+        let table = table_of(page, value);
+        put_answer(page, call, text, &table);
     }
 }
 
@@ -150,15 +144,19 @@ made a/out a/b/out.in => a/out.  Generated from out.in by configure.
 made out in => out.  Generated from in by configure.
 ";
 
-fn put_place(page: &mut Page, file: &[u8], srcdir: &[u8]) {
-    if let Some(place) = page.given(place_vars(page.alloc(), file, srcdir)) {
-        page.put(place.srcdir.as_slice());
-        page.put(b" ");
-        page.put(place.top_srcdir.as_slice());
-        page.put(b" ");
-        page.put(place.builddir.as_slice());
-        page.put(b" ");
-        page.put(place.top_builddir.as_slice());
+fn put_place(page: &mut Page, place: &Place) {
+    page.put(place.srcdir.as_slice());
+    page.put(b" ");
+    page.put(place.top_srcdir.as_slice());
+    page.put(b" ");
+    page.put(place.builddir.as_slice());
+    page.put(b" ");
+    page.put(place.top_builddir.as_slice());
+}
+
+fn put_made(page: &mut Page, file: &[u8], source: &[u8]) {
+    if let Some(line) = page.given(configure_input(page.alloc(), file, source)) {
+        page.put(line.as_slice());
     }
 }
 
@@ -168,10 +166,10 @@ impl Call for Placing {
     fn put(&self, page: &mut Page, given: &[u8]) {
         let (call, rest) = cut(given, b" ");
         let (file, source) = cut(rest, b" ");
-        if call.starts_with(b"place") {
-            put_place(page, file, source);
-        } else if let Some(line) = page.given(configure_input(page.alloc(), file, source)) {
-            page.put(line.as_slice());
+        if call.starts_with(b"made") {
+            put_made(page, file, source);
+        } else if let Some(place) = page.given(place_vars(page.alloc(), file, source)) {
+            put_place(page, &place);
         }
     }
 }
