@@ -1,13 +1,13 @@
 //! What the engine makes of what a case gives, as text.
 
 use crate::engine::{help_of, put_fault_line, read_source, run_filter, srcdir_in};
-use crate::given::{Given, arguments_of};
+use crate::given::{Given, arguments_of, lines_of, put_source_of};
 use crate::pages::{note_cut, put_error, put_fault, put_text};
-use crate::runs::{put_opening, put_run, put_variables};
+use crate::runs::{put_new_lines, put_opening, put_run, put_variables};
 use crate::tree_words::{put_counts, put_lists, put_statements};
 use acparse::{Source, Stmt};
 use runner::{FilterFault, Filtered};
-use testrows::Page;
+use testrows::{Page, cut};
 
 /// What a case may want to see.
 #[derive(Clone, Copy)]
@@ -32,6 +32,8 @@ pub enum Kind {
     Srcdir,
     /// What a run does and leaves.
     Ran,
+    /// The same, with all variables.
+    RanWhole,
 }
 
 /// The sections that are answers.
@@ -89,27 +91,21 @@ fn put_read(page: &mut Page, kind: Kind, given: &Given, source: &Source) {
         Kind::Counted => put_counts(page, own_statements(source, given.is_lines), source),
         Kind::Variables => put_variables(page, source),
         Kind::Opened => put_opening(page, given, source),
-        Kind::Ran => put_run(page, given, source),
+        Kind::Ran => put_run(page, given, source, false),
+        Kind::RanWhole => put_run(page, given, source, true),
         Kind::Help => put_help(page, source),
-        Kind::Fronts | Kind::Sources | Kind::Filtered | Kind::Srcdir => {}
-    }
-}
-
-/// Puts what a source gives, or its fault.
-fn put_source(page: &mut Page, kind: Kind, given: &Given) {
-    match read_source(page.alloc(), given.source()) {
-        Ok(source) => put_read(page, kind, given, &source),
-        Err(fault) => put_fault(page, b"parse ", &fault),
-    }
-}
-
-/// Puts the number of statements of a text, or its fault.
-fn put_front(page: &mut Page, text: &[u8]) {
-    match read_source(page.alloc(), text) {
-        Ok(source) => {
+        Kind::Fronts | Kind::Sources => {
             page.put_number(source.statements().len());
             page.put(b" statements");
         }
+        Kind::Filtered | Kind::Srcdir => {}
+    }
+}
+
+/// Puts what a text that is a source gives, or its fault.
+fn put_source(page: &mut Page, kind: Kind, given: &Given, text: &[u8]) {
+    match read_source(page.alloc(), text) {
+        Ok(source) => put_read(page, kind, given, &source),
         Err(fault) => put_fault(page, b"parse ", &fault),
     }
 }
@@ -126,13 +122,14 @@ fn put_range(page: &mut Page, first: usize, last: usize, answer: &[u8]) {
     page.put(b"\n");
 }
 
-fn put_fronts(page: &mut Page, text: &[u8]) {
+fn put_fronts(page: &mut Page, given: &Given) {
+    let text = given.source();
     let mut first = 0;
     let mut answer = Page::new(page.alloc());
-    put_front(&mut answer, b"");
+    put_source(&mut answer, Kind::Fronts, given, b"");
     for len in 1..text.len() + 1 {
         let mut next = Page::new(page.alloc());
-        put_front(&mut next, &text[..len]);
+        put_source(&mut next, Kind::Fronts, given, &text[..len]);
         note_cut(page, &next);
         if next.text() != answer.text() {
             put_range(page, first, len - 1, answer.text());
@@ -143,16 +140,41 @@ fn put_fronts(page: &mut Page, text: &[u8]) {
     put_range(page, first, text.len(), answer.text());
 }
 
-fn put_sources(page: &mut Page, text: &[u8]) {
+fn put_sources(page: &mut Page, given: &Given) {
+    let text = given.source();
     for len in 0..text.len() + 1 {
         let mut front = Page::new(page.alloc());
-        put_front(&mut front, &text[..len]);
+        put_source(&mut front, Kind::Sources, given, &text[..len]);
         note_cut(page, &front);
         if front.text().ends_with(b" statements") {
             page.put_number(len);
             page.put(b"\n");
         }
     }
+}
+
+/// Puts what a run of the source does and leaves. If the case gives lines between AC_INIT and AC_OUTPUT, it puts no variable
+/// and no definition that these two leave by themselves.
+fn put_ran(page: &mut Page, given: &Given) {
+    let mut whole = Page::new(page.alloc());
+    put_source(&mut whole, Kind::Ran, given, given.source());
+    let mut usual = Page::new(page.alloc());
+    if given.is_lines {
+        put_usual(&mut usual, given);
+    }
+    note_cut(page, &whole);
+    note_cut(page, &usual);
+    let lines = lines_of(page, whole.text());
+    let (_, usual) = cut(usual.text(), b"\n");
+    put_new_lines(page, lines.as_slice(), usual);
+}
+
+/// Puts a line, and what AC_INIT and AC_OUTPUT leave by themselves.
+fn put_usual(page: &mut Page, given: &Given) {
+    let mut source = Page::new(page.alloc());
+    put_source_of(&mut source, b"", false);
+    note_cut(page, &source);
+    put_source(page, Kind::RanWhole, given, source.text());
 }
 
 /// Puts the fault line, without the name of the program and the newline.
@@ -196,10 +218,11 @@ fn put_srcdir(page: &mut Page, given: &Given) {
 /// Puts the answer of a kind.
 pub fn put_answer(page: &mut Page, kind: Kind, given: &Given) {
     match kind {
-        Kind::Fronts => put_fronts(page, given.source()),
-        Kind::Sources => put_sources(page, given.source()),
+        Kind::Fronts => put_fronts(page, given),
+        Kind::Sources => put_sources(page, given),
         Kind::Filtered => put_filtered(page, given),
         Kind::Srcdir => put_srcdir(page, given),
-        _ => put_source(page, kind, given),
+        Kind::Ran => put_ran(page, given),
+        _ => put_source(page, kind, given, given.source()),
     }
 }

@@ -118,7 +118,7 @@ fn text_of(page: &mut Page, case: &Case<'_>, name: &[u8]) -> Page {
 }
 
 /// Returns the lines of a text: none of an empty one.
-fn lines_of<'a>(page: &mut Page, text: &'a [u8]) -> Vec<&'a [u8]> {
+pub fn lines_of<'a>(page: &mut Page, text: &'a [u8]) -> Vec<&'a [u8]> {
     let alloc = page.alloc();
     if text.is_empty() {
         return Vec::new(alloc);
@@ -127,12 +127,11 @@ fn lines_of<'a>(page: &mut Page, text: &'a [u8]) -> Vec<&'a [u8]> {
         .unwrap_or(Vec::new(alloc))
 }
 
-fn add_argument(page: &mut Page, arguments: &mut Vec<Bytes>, line: &[u8]) {
-    if let Some(line) = page.given(Bytes::from_slice(page.alloc(), line)) {
-        if arguments.push(line).is_err() {
-            page.cut();
-        }
-    }
+/// Returns the text: nothing if memory runs out.
+fn bytes_of(page: &mut Page, text: &[u8]) -> Bytes {
+    let alloc = page.alloc();
+    page.given(Bytes::from_slice(alloc, text))
+        .unwrap_or(Bytes::new(alloc))
 }
 
 /// Returns the arguments that a case gives.
@@ -141,20 +140,11 @@ pub fn arguments_of(page: &mut Page, case: &Case<'_>) -> Vec<Bytes> {
     let lines = lines_of(page, text.text());
     let mut arguments = Vec::new(page.alloc());
     for line in lines.as_slice() {
-        add_argument(page, &mut arguments, line);
-    }
-    arguments
-}
-
-fn add_variable(page: &mut Page, environment: &mut Vec<(Bytes, Bytes)>, line: &[u8]) {
-    let (name, value) = cut(line, b"=");
-    let name = page.given(Bytes::from_slice(page.alloc(), name));
-    let value = page.given(Bytes::from_slice(page.alloc(), value));
-    if let (Some(name), Some(value)) = (name, value) {
-        if environment.push((name, value)).is_err() {
+        if arguments.push(bytes_of(page, line)).is_err() {
             page.cut();
         }
     }
+    arguments
 }
 
 /// Returns the environment that a case gives.
@@ -163,7 +153,12 @@ pub fn environment_of(page: &mut Page, case: &Case<'_>) -> Vec<(Bytes, Bytes)> {
     let lines = lines_of(page, text.text());
     let mut environment = Vec::new(page.alloc());
     for line in lines.as_slice() {
-        add_variable(page, &mut environment, line);
+        let (name, value) = cut(line, b"=");
+        let name = bytes_of(page, name);
+        let value = bytes_of(page, value);
+        if environment.push((name, value)).is_err() {
+            page.cut();
+        }
     }
     environment
 }

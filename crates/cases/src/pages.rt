@@ -7,18 +7,16 @@ const DIGITS: &[u8; 16] = b"0123456789abcdef";
 
 /// Puts a byte: `\n`, `\t` and `\\` are written so, and `\xHH` any other that is not printable.
 pub fn put_byte(page: &mut Page, byte: u8) {
-    if byte >= b' ' && byte <= b'~' && byte != b'\\' {
-        return page.put_byte(byte);
-    }
-    page.put(match byte {
-        b'\n' => b"\\n",
-        b'\t' => b"\\t",
-        b'\\' => b"\\\\",
-        _ => b"\\x",
-    });
-    if !matches!(byte, b'\n' | b'\t' | b'\\') {
-        page.put_byte(DIGITS[(byte / 16) as usize]);
-        page.put_byte(DIGITS[(byte % 16) as usize]);
+    match byte {
+        b'\n' => page.put(b"\\n"),
+        b'\t' => page.put(b"\\t"),
+        b'\\' => page.put(b"\\\\"),
+        b' '..=b'~' => page.put_byte(byte),
+        _ => {
+            page.put(b"\\x");
+            page.put_byte(DIGITS[(byte / 16) as usize]);
+            page.put_byte(DIGITS[(byte % 16) as usize]);
+        }
     }
 }
 
@@ -78,4 +76,14 @@ pub fn put_fault<T: Display>(page: &mut Page, word: &[u8], fault: &T) {
     note_cut(page, &error);
     page.put(word);
     put_error(page, error.text());
+}
+
+/// Returns whether one of the texts is this one.
+pub fn has(texts: &[&[u8]], text: &[u8]) -> bool {
+    for each in texts {
+        if *each == text {
+            return true;
+        }
+    }
+    false
 }

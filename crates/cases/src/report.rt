@@ -3,7 +3,7 @@
 use crate::answers::{Kind, kind_of, put_answer};
 use crate::casefile::{Case, Section, next_case, next_section, read_file};
 use crate::given::{Given, MARK, read_given};
-use crate::pages::note_cut;
+use crate::pages::{has, note_cut};
 use std::alloc::{AllocError, Global};
 use testrows::Page;
 
@@ -24,15 +24,6 @@ const GIVEN: [&[u8]; 8] = [
     b"replies",
     b"window",
 ];
-
-fn is_given(name: &[u8]) -> bool {
-    for given in &GIVEN {
-        if *given == name {
-            return true;
-        }
-    }
-    false
-}
 
 /// Returns whether an answer of the case has a mark.
 fn is_marked(page: &mut Page, case: &Case<'_>) -> bool {
@@ -138,7 +129,7 @@ fn check_case(page: &mut Page, file: &[u8], case: &Case<'_>) -> bool {
         if let Some(kind) = kind_of(section.name) {
             has_answer = true;
             is_right &= check_answer(page, file, case, &given, &section, kind);
-        } else if !is_given(section.name) {
+        } else if !has(&GIVEN, section.name) {
             put_line(page, file, case, b"no such section: ", section.name);
             is_right = false;
         }

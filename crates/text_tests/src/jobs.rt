@@ -1,12 +1,11 @@
 //! csource and conftest: test programs, and the jobs that a run asks for.
 
-use crate::tables::Tables;
+use crate::tables::{Tables, text_of};
 use conftest::{Job, JobFault, Words, compile_job, link_job, path_job, preproc_job, run_job};
 use csource::{
     declaration_source, default_includes, function_source, header_source, program_source,
     second_type_source, type_source,
 };
-use deftable::Bytes;
 use std::alloc::AllocError;
 use std::test::Fail;
 use testrows::{Call, Page, cut, try_rows};
@@ -70,12 +69,6 @@ fn put_three(page: &mut Page, tables: &Tables, number: u64) {
     );
 }
 
-fn put_commands(page: &mut Page, variables: &[u8], number: u64) {
-    let mut tables = Tables::new(page.alloc());
-    tables.take(page, b"vars", variables);
-    put_three(page, &tables, number);
-}
-
 /// Puts the command of a job, and on further lines the name and the text of its file.
 fn put_job(page: &mut Page, job: &Job) {
     put_words(page, &job.words);
@@ -93,13 +86,37 @@ fn put_given_job(page: &mut Page, job: Result<Job, AllocError>) {
     }
 }
 
+/// Puts a copy of the job that compiles a source, or what is wrong.
+fn put_compiled(page: &mut Page, tables: &Tables, source: &[u8], number: u64) {
+    let alloc = page.alloc();
+    match compile_job(alloc, &tables.vars, &tables.defs, source, number) {
+        Ok(job) => put_given_job(page, job.copy(alloc)),
+        Err(fault) => page.put_shown(&fault),
+    }
+}
+
+/// Puts under these variables and definitions the job that compiles the source, or without one the three commands.
+fn put_under(
+    page: &mut Page,
+    variables: &[u8],
+    definitions: &[u8],
+    source: Option<&[u8]>,
+    number: u64,
+) {
+    let mut tables = Tables::new(page.alloc());
+    tables.take(page, b"vars", variables);
+    tables.take(page, b"defs", definitions);
+    match source {
+        Some(source) => put_compiled(page, &tables, source, number),
+        None => put_three(page, &tables, number),
+    }
+}
+
 fn put_two_words(page: &mut Page, first: &[u8], second: &[u8]) {
     let alloc = page.alloc();
     let mut all = Vec::new(alloc);
-    if let Some(first) = page.given(Bytes::from_slice(alloc, first)) {
-        if all.push(first).is_err() {
-            page.cut();
-        }
+    if all.push(text_of(page, first)).is_err() {
+        page.cut();
     }
     let mut words = Words::from_vec(all);
     page.given(words.push(second));
@@ -117,8 +134,8 @@ impl Call for Commands {
         let alloc = page.alloc();
         let (call, text) = cut(given, b" ");
         match (call.first(), text) {
-            (Some(b'w'), _) => put_commands(page, text, 0),
-            (Some(b't'), _) => put_commands(page, text, 12),
+            (Some(b'w'), _) => put_under(page, text, b"", None, 0),
+            (Some(b't'), _) => put_under(page, text, b"", None, 12),
             (Some(b'r'), _) => put_given_job(
                 page,
                 run_job(alloc, if text.starts_with(b"0") { 0 } else { 2 }),
@@ -157,26 +174,10 @@ source type,x,char * => x^Jint^Jmain (void)^J{^Jif (sizeof (char *)) return 0;^J
 source second,x,char * => x^Jint^Jmain (void)^J{^Jif (sizeof ((char *))) return 0;^J  ;^J  return 0;^J}^J
 ";
 
-/// Puts a copy of the job that compiles a source, or what is wrong.
-fn put_compiled_by(page: &mut Page, tables: &Tables, source: &[u8]) {
-    let alloc = page.alloc();
-    match compile_job(alloc, &tables.vars, &tables.defs, source, 1) {
-        Ok(job) => put_given_job(page, job.copy(alloc)),
-        Err(fault) => page.put_shown(&fault),
-    }
-}
-
-fn put_compiled(page: &mut Page, definitions: &[u8], source: &[u8]) {
-    let mut tables = Tables::new(page.alloc());
-    tables.take(page, b"vars", b"CC=cc");
-    tables.take(page, b"defs", definitions);
-    put_compiled_by(page, &tables, source);
-}
-
 fn put_header_test(page: &mut Page, definitions: &[u8]) {
     let source = header_source(page.alloc(), default_includes(), b"sys/stat.h");
     if let Some(source) = page.given(source) {
-        put_compiled(page, definitions, source.as_slice());
+        put_under(page, b"CC=cc", definitions, Some(source.as_slice()), 1);
     }
 }
 
@@ -203,7 +204,7 @@ impl Call for Sources {
     fn put(&self, page: &mut Page, given: &[u8]) {
         let (call, text) = cut(given, b" ");
         match call.first() {
-            Some(b'c') => put_compiled(page, b"", text),
+            Some(b'c') => put_under(page, b"CC=cc", b"", Some(text), 1),
             Some(b'd') => put_header_test(page, text),
             _ => put_source(page, text),
         }

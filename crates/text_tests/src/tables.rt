@@ -61,7 +61,7 @@ fn put_copy(page: &mut Page, first: &Bytes, second: &Bytes) {
 }
 
 /// Returns the text. If it is empty or memory runs out, it is a new one.
-fn text_of(page: &mut Page, text: &[u8]) -> Bytes {
+pub fn text_of(page: &mut Page, text: &[u8]) -> Bytes {
     let alloc = page.alloc();
     if text.is_empty() {
         return Bytes::new(alloc);
