@@ -1,6 +1,6 @@
 //! Forms of arguments, and the text between calls.
 
-use crate::told::{Told, put_made};
+use crate::told::{Next, Told, put_made, put_next};
 use acargs::ParseFault;
 use acargs::arguments::{is_given, line, name, text, title};
 use acargs::feature::feature_variable;
@@ -17,7 +17,7 @@ use acstatement::texts::arg_at;
 use m4quote::{Arg, Item, QuoteFault, read_items};
 use shellword::ShellFault;
 use std::test::Fail;
-use syntax::{Help, HelpList, OptionKind, Outputs, is_feature, option_variable};
+use syntax::{Help, HelpList, OptionKind, Output, Outputs, is_feature, option_variable};
 use testrows::{Call, Named, Page, try_rows};
 
 // ---- texts, names and numbers
@@ -76,18 +76,27 @@ impl Call for Reader {
             Reader::Name => put_made(page, name(alloc, arg)),
             Reader::Feature => put_made(page, feature_variable(alloc, OptionKind::Feature, arg)),
             Reader::Package => put_made(page, feature_variable(alloc, OptionKind::Package, arg)),
-            Reader::Program => put_made(page, program(alloc, arg)),
-            Reader::Programs => put_made(page, programs(alloc, arg)),
             Reader::Version => put_made(page, version(alloc, arg)),
             Reader::Status => put_made(page, status(alloc, arg)),
             Reader::Language => put_made(page, language(alloc, arg)),
+            _ => self.put_further(page, arg),
+        }
+    }
+}
+
+impl Reader {
+    fn put_further(&self, page: &mut Page, arg: Arg<'_>) {
+        let alloc = page.alloc();
+        match self {
+            Reader::Program => put_made(page, program(alloc, arg)),
+            Reader::Programs => put_made(page, programs(alloc, arg)),
             Reader::Word => put_made(page, word(alloc, arg)),
             Reader::Here => put_made(page, here_text(alloc, arg)),
             Reader::Source => put_made(page, source_text(alloc, arg)),
             Reader::Test => put_made(page, test(alloc, arg)),
             Reader::Patterns => put_made(page, patterns(alloc, arg)),
             Reader::Inside => put_made(page, inside(alloc, arg)),
-            Reader::Help => put_made(page, help(alloc, arg)),
+            _ => put_made(page, help(alloc, arg)),
         }
     }
 }
@@ -236,6 +245,16 @@ fn stands(items: &[Item<'_>]) -> bool {
     false
 }
 
+/// What is told of the calls among items.
+impl Next<Vec<Item<'_>>> for Other {
+    fn put_of(&self, page: &mut Page, items: &Vec<Item<'_>>) {
+        match self {
+            Other::Calls => put_calls(page, items),
+            _ => page.put_yes(stands(items)),
+        }
+    }
+}
+
 /// Returns the files that an argument names.
 fn files_of(page: &mut Page, given: &[u8]) -> Outputs {
     let none = Outputs::new(page.alloc());
@@ -252,33 +271,45 @@ fn put_files(page: &mut Page, arg: Arg<'_>) {
     put_made(page, outputs(page.alloc(), &own, &other, arg));
 }
 
+/// Adds files to a list twice: all at once, and one after another.
+fn add_files(page: &mut Page, files: &mut Outputs, added: &[Output]) {
+    page.given(files.push_copies(page.alloc(), added));
+    for file in added {
+        if let Some(copy) = page.given(file.copy(page.alloc())) {
+            page.given(files.push(copy));
+        }
+    }
+}
+
 /// A list of files to which those of another are added, and one more.
 fn put_added(page: &mut Page, given: &[u8]) {
     let old = files_of(page, given);
     let mut files = Outputs::new(page.alloc());
     page.put_yes(files.is_empty());
-    page.given(files.push_copies(page.alloc(), old.as_slice()));
-    for file in old.as_slice() {
-        if let Some(copy) = page.given(file.copy(page.alloc())) {
-            page.given(files.push(copy));
-        }
-    }
+    add_files(page, &mut files, old.as_slice());
     page.put_yes(files.is_empty());
     page.put_yes(files.has(b"old"));
     page.put_yes(files.has(b"old.in"));
     files.tell(page);
 }
 
-/// Puts a list that has the help twice.
-fn put_twice(page: &mut Page, help: Help) {
-    let mut list = HelpList::new(page.alloc());
+/// Adds a copy to a list of help.
+fn add_copy(page: &mut Page, list: &mut HelpList, help: &Help) {
     if let Some(copy) = page.given(help.copy(page.alloc())) {
         page.given(list.push(copy));
     }
-    page.given(list.push(help));
-    for help in list.as_slice() {
-        help.tell(page);
-        page.put(b";");
+}
+
+/// A list that has the help twice.
+impl Next<Help> for Other {
+    fn put_of(&self, page: &mut Page, help: &Help) {
+        let mut list = HelpList::new(page.alloc());
+        add_copy(page, &mut list, help);
+        add_copy(page, &mut list, help);
+        for help in list.as_slice() {
+            help.tell(page);
+            page.put(b";");
+        }
     }
 }
 
@@ -322,21 +353,12 @@ impl Call for Other {
         match self {
             Other::Given => put_given(page, arg),
             Other::Option => put_option(page, given),
-            Other::Calls => match call_items(alloc, arg) {
-                Ok(items) => put_calls(page, &items),
-                Err(fault) => page.put_shown(&fault),
-            },
+            Other::Calls => put_next(page, call_items(alloc, arg), self),
             Other::Idle => put_made(page, is_idle(alloc, given)),
-            Other::Stands => match read_items(alloc, given) {
-                Ok(items) => page.put_yes(stands(&items)),
-                Err(fault) => page.put_shown(&fault),
-            },
+            Other::Stands => put_next(page, read_items(alloc, given), self),
             Other::Files => put_files(page, arg),
             Other::Added => put_added(page, given),
-            Other::HelpTwice => match help(alloc, arg) {
-                Ok(help) => put_twice(page, help),
-                Err(fault) => page.put_shown(&fault),
-            },
+            Other::HelpTwice => put_next(page, help(alloc, arg), self),
             Other::Errors => put_errors(page),
             Other::Offsets => put_kept(page),
         }

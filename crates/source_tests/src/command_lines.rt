@@ -1,7 +1,7 @@
 //! Command lines and help texts. The crate `cases` has the table of arguments, one by one.
 
 use crate::sources::read_source;
-use crate::told::{Told, add, put_if, put_made};
+use crate::told::{Next, Told, add, put_if, put_made, put_next};
 use acparse::Source;
 use deftable::{Bytes, Vars};
 use options::{
@@ -152,22 +152,31 @@ const READERS: [(&[u8], Reader); 7] = [
     (b"memory", Reader::Memory),
 ];
 
-impl Reader {
-    /// Puts the settings of a command line over a source, or the help of the source.
-    fn put_over(&self, page: &mut Page, source: &Source, arguments: &[Bytes]) {
+/// A call of a source and the arguments of a command line.
+#[derive(Drop)]
+struct Over<'a> {
+    reader: &'a Reader,
+    arguments: &'a [Bytes],
+}
+
+impl Next<Source> for Over<'_> {
+    fn put_of(&self, page: &mut Page, source: &Source) {
         let alloc = page.alloc();
-        match self {
-            Reader::Lists => put_made(page, read_settings_of_lists(alloc, source, arguments)),
-            Reader::Source => put_made(page, read_settings(alloc, source, arguments)),
+        match self.reader {
+            Reader::Lists => put_made(page, read_settings_of_lists(alloc, source, self.arguments)),
+            Reader::Source => put_made(page, read_settings(alloc, source, self.arguments)),
             _ => put_help(page, source),
         }
     }
+}
 
-    fn put_read(&self, page: &mut Page, text: &[u8], arguments: &[Bytes]) {
-        match read_source(page.alloc(), text) {
-            Ok(source) => self.put_over(page, &source, arguments),
-            Err(fault) => page.put_shown(&fault),
-        }
+impl Reader {
+    fn put_over(&self, page: &mut Page, text: &[u8], arguments: &[Bytes]) {
+        let over = Over {
+            reader: self,
+            arguments,
+        };
+        put_next(page, read_source(page.alloc(), text), &over);
     }
 }
 
@@ -175,9 +184,9 @@ impl Call for Reader {
     fn put(&self, page: &mut Page, line: &[u8]) {
         let arguments = arguments_of(page, line);
         match self {
-            Reader::Lists => self.put_read(page, DECLARING, &arguments),
-            Reader::Source => self.put_read(page, SOURCE, &arguments),
-            Reader::Help => self.put_read(page, line, &arguments),
+            Reader::Lists => self.put_over(page, DECLARING, &arguments),
+            Reader::Source => self.put_over(page, SOURCE, &arguments),
+            Reader::Help => self.put_over(page, line, &arguments),
             Reader::Srcdir => put_srcdir(page, &arguments),
             Reader::Directory => put_directory(page, line),
             Reader::Directories => page.put_number(directories().len()),

@@ -1,11 +1,11 @@
 //! The table of macros and their readers. What statements declare, `declare` and `declare_question`, shows in the lists
 //! of a source (`sources`): their contracts would make each function that calls them slow to prove.
 
-use crate::told::{Told, add, put_each, put_if, put_made};
+use crate::told::{Next, Told, add, put_each, put_if, put_made, put_next, put_of};
 use acargs::ParseFault;
 use acmacros::placement::{as_statement, bare_fault, check_place};
 use acmacros::rows::{plain, question};
-use acmacros::table::{Row, row_named, takes};
+use acmacros::table::{row_named, takes};
 use acmacros::{ArgumentMacro, ChoiceMacro, Macro, Named, PlainMacro, QuestionMacro};
 use m4quote::{Arg, Item, read_items};
 use std::alloc::Global;
@@ -35,8 +35,11 @@ fn meaning(named: Named) -> &'static [u8] {
     }
 }
 
-/// Puts what a row's name names, how many arguments it takes, and whether it is the file's own list's alone.
-fn put_row(page: &mut Page, row: Row) {
+/// Puts what a name names, how many arguments it takes, and whether it is the file's own list's alone.
+fn put_row_named(page: &mut Page, name: &[u8]) {
+    let Some(row) = row_named(name) else {
+        return;
+    };
     page.put(meaning(row.named));
     page.put_number(row.least);
     page.put(b" to ");
@@ -117,28 +120,44 @@ impl Told for Question {
 
 fn read_plain(
     alloc: Global,
+    known: &Declarations,
     m: PlainMacro,
     at: usize,
     args: &[Arg<'_>],
 ) -> Result<Plain, ParseFault> {
-    plain(alloc, &Declarations::new(alloc), m, at, args)
+    plain(alloc, known, m, at, args)
 }
 
 fn read_question(
     alloc: Global,
+    known: &Declarations,
     m: QuestionMacro,
     args: &[Arg<'_>],
 ) -> Result<Question, ParseFault> {
-    question(alloc, &Declarations::new(alloc), m, args)
+    question(alloc, known, m, args)
 }
 
-/// Puts what a call is read as, if it is a statement.
-fn put_read(page: &mut Page, named: Named, at: usize, args: &[Arg<'_>]) {
-    let alloc = page.alloc();
-    match named {
-        Named::Statement(Macro::Plain(m)) => put_made(page, read_plain(alloc, m, at, args)),
-        Named::Statement(Macro::Question(m)) => put_made(page, read_question(alloc, m, args)),
-        _ => page.put(b"another macro"),
+/// A call of a macro.
+#[derive(Drop)]
+struct Called<'a> {
+    named: Named,
+    at: usize,
+    args: &'a [Arg<'a>],
+}
+
+/// What the call is read as, if it is a statement.
+impl Next<Declarations> for Called<'_> {
+    fn put_of(&self, page: &mut Page, known: &Declarations) {
+        let alloc = page.alloc();
+        match self.named {
+            Named::Statement(Macro::Plain(m)) => {
+                put_made(page, read_plain(alloc, known, m, self.at, self.args));
+            }
+            Named::Statement(Macro::Question(m)) => {
+                put_made(page, read_question(alloc, known, m, self.args));
+            }
+            _ => page.put(b"another macro"),
+        }
     }
 }
 
@@ -190,9 +209,16 @@ const READERS: [(&[u8], Reader); 9] = [
     (b"programs", Reader::Programs),
 ];
 
-impl Reader {
-    /// Puts what is told of the first call of a text.
-    fn put_call(&self, page: &mut Page, items: &[Item<'_>]) {
+/// Whether nothing is declared.
+impl Next<Declarations> for Reader {
+    fn put_of(&self, page: &mut Page, known: &Declarations) {
+        page.put_yes(is_first(known));
+    }
+}
+
+/// What is told of the first call of a text.
+impl Next<Vec<Item<'_>>> for Reader {
+    fn put_of(&self, page: &mut Page, items: &Vec<Item<'_>>) {
         let Some(Item::Call { name, args, at }) = items.first() else {
             return page.put(b"no call");
         };
@@ -201,7 +227,14 @@ impl Reader {
         };
         match self {
             Reader::Takes => put_made(page, takes(page.alloc(), row, args.as_slice())),
-            _ => put_read(page, row.named, *at, args.as_slice()),
+            _ => {
+                let called = Called {
+                    named: row.named,
+                    at: *at,
+                    args: args.as_slice(),
+                };
+                put_of(page, Declarations::new(page.alloc()), &called);
+            }
         }
     }
 }
@@ -210,20 +243,13 @@ impl Call for Reader {
     fn put(&self, page: &mut Page, text: &[u8]) {
         let alloc = page.alloc();
         match self {
-            Reader::Row => {
-                if let Some(row) = row_named(text) {
-                    put_row(page, row);
-                }
-            }
-            Reader::Takes | Reader::Reads => match read_items(alloc, text) {
-                Ok(items) => self.put_call(page, &items),
-                Err(fault) => page.put_shown(&fault),
-            },
+            Reader::Row => put_row_named(page, text),
+            Reader::Takes | Reader::Reads => put_next(page, read_items(alloc, text), self),
             Reader::Top => put_made(page, allowed(true, Stage::Open, text)),
             Reader::Inside => put_made(page, allowed(false, Stage::Open, text)),
             Reader::Before => put_made(page, allowed(true, Stage::Before, text)),
             Reader::After => put_made(page, allowed(true, Stage::Ended, text)),
-            Reader::First => page.put_yes(is_first(&Declarations::new(alloc))),
+            Reader::First => put_of(page, Declarations::new(alloc), self),
             Reader::Programs => put_programs(page),
         }
     }

@@ -1,10 +1,10 @@
 //! Words, here texts, tests and patterns.
 
-use crate::told::{Told, put_made, variables};
+use crate::told::{Next, Told, put_made, put_next, variables};
 use deftable::Vars;
 use shellword::{
-    Element, Joint, Pattern, Patterns, Test, Word, read_here, read_patterns, read_test, read_word,
-    read_word_front,
+    Element, HereText, Joint, Pattern, Patterns, Test, Word, read_here, read_patterns, read_test,
+    read_word, read_word_front,
 };
 use std::test::Fail;
 use testrows::{Call, Named, Page, cut, try_rows};
@@ -36,26 +36,23 @@ const READERS: [(&[u8], Reader); 10] = [
     (b"no_list", Reader::NoList),
 ];
 
-/// Puts the value of a word, of the word at the front after its length, or of a here text.
-fn put_value(page: &mut Page, reader: &Reader, vars: &Vars, text: &[u8]) {
-    let alloc = page.alloc();
-    match reader {
-        Reader::Front => match read_word_front(alloc, text) {
-            Ok((word, len)) => {
-                page.put_number(len);
-                page.put(b" ");
-                put_made(page, word.value(alloc, vars));
-            }
-            Err(fault) => page.put_shown(&fault),
-        },
-        Reader::Here => match read_here(alloc, text) {
-            Ok(here) => put_made(page, here.value(alloc, vars)),
-            Err(fault) => page.put_shown(&fault),
-        },
-        _ => match read_word(alloc, text) {
-            Ok(word) => put_made(page, word.value(alloc, vars)),
-            Err(fault) => page.put_shown(&fault),
-        },
+impl Next<Word> for Vars {
+    fn put_of(&self, page: &mut Page, word: &Word) {
+        put_made(page, word.value(page.alloc(), self));
+    }
+}
+
+impl Next<HereText> for Vars {
+    fn put_of(&self, page: &mut Page, here: &HereText) {
+        put_made(page, here.value(page.alloc(), self));
+    }
+}
+
+impl Next<(Word, usize)> for Vars {
+    fn put_of(&self, page: &mut Page, front: &(Word, usize)) {
+        page.put_number(front.1);
+        page.put(b" ");
+        self.put_of(page, &front.0);
     }
 }
 
@@ -66,71 +63,88 @@ fn put_element(page: &mut Page, vars: &Vars, element: &Element) {
     put_made(page, element.condition.holds(page.alloc(), vars));
 }
 
-/// Puts each element of a test, with its joint before it.
-fn put_elements(page: &mut Page, vars: &Vars, test: &Test) {
-    let (first, rest) = test.elements();
-    put_element(page, vars, first);
-    for (joint, element) in rest {
-        page.put(match joint {
-            Joint::And => b" and ",
-            Joint::Or => b" or ",
-        });
-        put_element(page, vars, element);
+/// Each element, with its joint before it.
+impl Next<Test> for Vars {
+    fn put_of(&self, page: &mut Page, test: &Test) {
+        let (first, rest) = test.elements();
+        put_element(page, self, first);
+        for (joint, element) in rest {
+            page.put(match joint {
+                Joint::And => b" and ",
+                Joint::Or => b" or ",
+            });
+            put_element(page, self, element);
+        }
     }
 }
 
-/// Puts whether each pattern matches a text, as `y` or `n`.
-fn put_matches(page: &mut Page, patterns: &[Pattern], text: &[u8]) {
-    for pattern in patterns {
-        page.put(if pattern.matches(text) { b"y" } else { b"n" });
+/// A text that is matched.
+#[derive(Drop)]
+struct Matched<'a>(&'a [u8]);
+
+/// Whether each pattern matches the text, as `y` or `n`.
+impl Next<Vec<Pattern>> for Matched<'_> {
+    fn put_of(&self, page: &mut Page, patterns: &Vec<Pattern>) {
+        for pattern in patterns {
+            page.put(if pattern.matches(self.0) { b"y" } else { b"n" });
+        }
     }
 }
 
-impl Call for Reader {
-    fn put(&self, page: &mut Page, text: &[u8]) {
+fn put_list(page: &mut Page, text: &[u8]) {
+    match read_patterns(page.alloc(), text) {
+        Ok(patterns) => Patterns::from_vec(patterns).tell(page),
+        Err(fault) => page.put_shown(&fault),
+    }
+}
+
+/// Puts how many parts the empty word has, and its value.
+fn put_empty(page: &mut Page, vars: &Vars) {
+    let word = Word::empty(page.alloc());
+    page.put_number(word.parts().len());
+    put_made(page, word.value(page.alloc(), vars));
+}
+
+/// Puts whether a list without patterns matches the empty text, and the list.
+fn put_no_list(page: &mut Page) {
+    let none = Patterns::from_vec(Vec::new(page.alloc()));
+    page.put_yes(none.matches(b""));
+    page.put(b" ");
+    none.tell(page);
+}
+
+/// Puts whether each pattern matches a text. The text is before ` in `, and the patterns after it.
+fn put_matches(page: &mut Page, given: &[u8]) {
+    let (text, list) = cut(given, b" in ");
+    put_next(page, read_patterns(page.alloc(), list), &Matched(text));
+}
+
+impl Reader {
+    fn put_with(&self, page: &mut Page, vars: &Vars, text: &[u8]) {
         let alloc = page.alloc();
         match self {
-            Reader::Word | Reader::Front | Reader::Here => {
-                let vars = variables(page);
-                put_value(page, self, &vars, text);
-            }
+            Reader::Word => put_next(page, read_word(alloc, text), vars),
+            Reader::Front => put_next(page, read_word_front(alloc, text), vars),
+            Reader::Here => put_next(page, read_here(alloc, text), vars),
             Reader::Parts => {
                 put_made(page, read_word(alloc, text));
                 page.put(b" here ");
                 put_made(page, read_here(alloc, text));
             }
-            Reader::Empty => {
-                let word = Word::empty(alloc);
-                page.put_number(word.parts().len());
-                put_made(page, word.value(alloc, &Vars::new(alloc)));
-            }
+            Reader::Empty => put_empty(page, vars),
             Reader::Test => put_made(page, read_test(alloc, text)),
-            Reader::Elements => match read_test(alloc, text) {
-                Ok(test) => {
-                    let vars = variables(page);
-                    put_elements(page, &vars, &test);
-                }
-                Err(fault) => page.put_shown(&fault),
-            },
-            // The text is before ` in `, and the list after it.
-            Reader::Matches => {
-                let (text, list) = cut(text, b" in ");
-                match read_patterns(alloc, list) {
-                    Ok(patterns) => put_matches(page, &patterns, text),
-                    Err(fault) => page.put_shown(&fault),
-                }
-            }
-            Reader::List => match read_patterns(alloc, text) {
-                Ok(patterns) => Patterns::from_vec(patterns).tell(page),
-                Err(fault) => page.put_shown(&fault),
-            },
-            Reader::NoList => {
-                let none = Patterns::from_vec(Vec::new(alloc));
-                page.put_yes(none.matches(text));
-                page.put(b" ");
-                none.tell(page);
-            }
+            Reader::Elements => put_next(page, read_test(alloc, text), vars),
+            Reader::Matches => put_matches(page, text),
+            Reader::List => put_list(page, text),
+            Reader::NoList => put_no_list(page),
         }
+    }
+}
+
+impl Call for Reader {
+    fn put(&self, page: &mut Page, text: &[u8]) {
+        let vars = variables(page);
+        self.put_with(page, &vars, text);
     }
 }
 

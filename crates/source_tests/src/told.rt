@@ -26,6 +26,29 @@ pub fn put_if(page: &mut Page, is_so: bool, text: &[u8]) {
     page.put(if is_so { text } else { b"" });
 }
 
+/// A call that goes on with what another call makes.
+pub trait Next<T> {
+    /// Puts what it tells of the value.
+    fn put_of(&self, page: &mut Page, made: &T);
+}
+
+/// Puts what the next call tells of a value. The caller doesn't hold it, so that its proof has none of the value's parts.
+pub fn put_of<T: Drop, N: Next<T>>(page: &mut Page, made: T, next: &N) {
+    next.put_of(page, &made);
+}
+
+/// Puts what the next call tells of what a call made, or the error.
+pub fn put_next<T: Drop, F: Display + Drop, N: Next<T>>(
+    page: &mut Page,
+    made: Result<T, F>,
+    next: &N,
+) {
+    match made {
+        Ok(made) => next.put_of(page, &made),
+        Err(fault) => page.put_shown(&fault),
+    }
+}
+
 impl Told for () {
     fn tell(&self, page: &mut Page) {
         page.put(b"accepted");
