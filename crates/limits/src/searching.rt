@@ -1,53 +1,104 @@
 //! The limit of a search along PATH: 65,536 directories.
 
-use crate::texts::repeated;
-use acparse::parse;
-use crew::{Event, MemoryCrew, Order, Reply};
+ghost use Rattle.std.specs.Prelude.{◌≡◌, []};
+
+use crate::texts::{number_of, put_parts};
+use acparse::{Source, parse};
+use crew::{Crew, Event, MemoryCrew, Order, Reply};
 use deftable::{Bytes, Vars};
-use plan::compile;
+use plan::{Plan, compile};
 use proberun::{Outcome, run};
-use std::alloc::{AllocError, Global};
 use std::test::Fail;
+use testrows::{Call, Page, cut, try_rows};
 
-/// So many replies of status 1, and then one of status 0.
-fn replies(alloc: Global, failures: usize) -> Result<Vec<Reply>, AllocError> {
-    let mut replies = Vec::with_capacity(alloc, failures.saturating_add(1))?;
+/// Returns so many replies of status 1, and then one of status 0.
+fn replies(page: &mut Page, failures: usize) -> Vec<Reply> {
+    let mut replies = Vec::new(page.alloc());
     for i in 0..failures.saturating_add(1) {
-        let status = if i < failures { 1 } else { 0 };
-        replies.push(Reply::Answer {
-            status,
-            text: Bytes::new(alloc),
-        })?;
+        let reply = Reply::Answer {
+            status: if i < failures { 1 } else { 0 },
+            text: Bytes::new(page.alloc()),
+        };
+        if replies.push(reply).is_err() {
+            page.cut();
+        }
     }
-    Ok(replies)
+    replies
 }
 
-/// Whether a run over a PATH of so many directories finds a program in the last one, and how many children it starts.
-fn finds(alloc: Global, directories: usize) -> Result<(bool, usize), Fail> {
-    let text = b"AC_INIT([x],[1])\nAC_PATH_PROG([P],[p])\nAC_OUTPUT".as_slice();
-    let source = parse(alloc, text)?;
-    let plan = compile(alloc, &source)?;
-    let mut vars = Vars::new(alloc);
-    let others = directories.saturating_sub(1);
-    vars.set(b"PATH", &repeated(alloc, b"", b"/a:", others, b"/b")?)?;
-    let mut crew = MemoryCrew::new(alloc, replies(alloc, others)?, Order::Oldest)?;
-    let end = run(alloc, &plan, vars, &mut crew, 1)?;
-    let found = match end.vars.get(b"P") {
-        Some(value) => value.as_slice() == b"/b/p".as_slice(),
-        None => false,
-    };
-    let started = crew
-        .events()
-        .iter()
-        .filter(|event| **event == Event::Started(0))
-        .count();
-    Ok((found && end.outcome == Outcome::Completed, started))
+/// Puts whether a run over a crew that has done nothing ends with the program of the last directory.
+fn put_found<C: Crew>(page: &mut Page, plan: &Plan, vars: Vars, crew: &mut C)
+    requires fresh { C.account crew.old ≡ record { events = []; attempts = 0; failures = 0 } }
+{
+    match run(page.alloc(), plan, vars, crew, 1) {
+        Ok(end) => page.put_yes(
+            end.outcome == Outcome::Completed
+                && end
+                    .vars
+                    .get(b"P")
+                    .is_some_and(|program| program.as_slice() == b"/b/p".as_slice()),
+        ),
+        Err(_) => page.cut(),
+    }
 }
+
+/// Puts how many children a crew started in its first slot.
+fn put_started(page: &mut Page, events: &[Event]) {
+    let mut started: usize = 0;
+    for event in events {
+        if let Event::Started(0) = event {
+            started = started.saturating_add(1);
+        }
+    }
+    page.put(b", ");
+    page.put_number(started);
+}
+
+/// Puts whether a search in the parts of a PATH of so many directories finds the program in the last one, and how many
+/// children it starts.
+fn put_search(page: &mut Page, plan: &Plan, given: &[u8]) {
+    let (count, parts) = cut(given, b"|");
+    let mut path = Page::new(page.alloc());
+    put_parts(&mut path, parts);
+    let mut vars = Vars::new(page.alloc());
+    page.given(vars.set(b"PATH", path.text()));
+    let replies = replies(page, number_of(count).saturating_sub(1));
+    match MemoryCrew::new(page.alloc(), replies, Order::Oldest) {
+        Ok(mut crew) => {
+            put_found(page, plan, vars, &mut crew);
+            put_started(page, crew.events());
+        }
+        Err(_) => page.cut(),
+    }
+}
+
+fn put_search_of_source(page: &mut Page, source: &Source, given: &[u8]) {
+    match compile(page.alloc(), source) {
+        Ok(plan) => put_search(page, &plan, given),
+        Err(fault) => page.put_shown(&fault),
+    }
+}
+
+/// A search along PATH: how many directories it has, and its parts.
+struct Search;
+
+impl Call for Search {
+    fn put(&self, page: &mut Page, given: &[u8]) {
+        let text = b"AC_INIT([x],[1])\nAC_PATH_PROG([P],[p])\nAC_OUTPUT".as_slice();
+        match parse(page.alloc(), text) {
+            Ok(source) => put_search_of_source(page, &source, given),
+            Err(fault) => page.put_shown(&fault),
+        }
+    }
+}
+
+// The 65,537th directory is not searched.
+const SEARCHES: &[u8] = b"\
+65536|65535*/a:|/b => yes, 65536
+65537|65536*/a:|/b => no, 65536
+";
 
 #[test]
 fn directories_of_a_search(rt: HostRuntime) -> Result<(), Fail> {
-    assert_eq!(rt; finds(rt.alloc(), 65_536)?, (true, 65_536));
-    // The 65,537th directory is not searched.
-    assert_eq!(rt; finds(rt.alloc(), 65_537)?, (false, 65_536));
-    Ok(())
+    try_rows(rt.alloc(), &Search, SEARCHES)
 }

@@ -1,64 +1,44 @@
-//! Texts of a given size.
+//! Texts of a given size, in parts with `|` between them.
 
-use std::alloc::{AllocError, Global};
+use testrows::{Page, cut};
 
-/// `front`, then `piece` so many times, then `back`.
-pub fn repeated(
-    alloc: Global,
-    front: &[u8],
-    piece: &[u8],
-    count: usize,
-    back: &[u8],
-) -> Result<Vec<u8>, AllocError> {
-    let mut text = Vec::from_slice(alloc, front)?;
-    for _ in 0..count {
-        text.extend_from_slice(piece)?;
+/// Returns the number that a text of digits spells.
+pub fn number_of(text: &[u8]) -> usize {
+    let mut number: usize = 0;
+    for byte in text {
+        let digit = byte.wrapping_sub(b'0');
+        number = number.saturating_mul(10).saturating_add(digit as usize);
     }
-    text.extend_from_slice(back)?;
-    Ok(text)
+    number
 }
 
-/// `front`, then so many different names of five bytes, each between `before` and `after`, then `back`.
-pub fn named(
-    alloc: Global,
-    front: &[u8],
-    before: &[u8],
-    count: usize,
-    after: &[u8],
-    back: &[u8],
-) -> Result<Vec<u8>, AllocError> {
-    let mut text = Vec::from_slice(alloc, front)?;
-    for i in 0..count {
-        text.extend_from_slice(before)?;
-        text.push(b'v')?;
-        for digit in [i / 1000, i / 100, i / 10, i] {
-            text.push(b"0123456789"[digit % 10])?;
+/// Puts a piece, with the name of five bytes that has this number in place of each `%`.
+fn put_piece(page: &mut Page, piece: &[u8], number: usize) {
+    for byte in piece {
+        if *byte == b'%' {
+            page.put_byte(b'v');
+            for digit in [number / 1000, number / 100, number / 10, number] {
+                page.put_byte(b"0123456789"[digit % 10]);
+            }
+        } else {
+            page.put_byte(*byte);
         }
-        text.extend_from_slice(after)?;
     }
-    text.extend_from_slice(back)?;
-    Ok(text)
 }
 
-/// `open` so many times, then `middle`, then `close` so many times.
-pub fn nested(
-    alloc: Global,
-    open: &[u8],
-    count: usize,
-    middle: &[u8],
-    close: &[u8],
-) -> Result<Vec<u8>, AllocError> {
-    let mut text = repeated(alloc, b"", open, count, middle)?;
-    for _ in 0..count {
-        text.extend_from_slice(close)?;
+/// Puts the parts of a text. `COUNT*PIECE` is so many times the piece, with numbers from 0 on.
+pub fn put_parts(page: &mut Page, parts: &[u8]) {
+    for part in parts.split(|byte| *byte == b'|') {
+        let (count, piece) = cut(part, b"*");
+        if piece.is_empty() {
+            page.put(part);
+        }
+        for number in 0..if piece.is_empty() {
+            0
+        } else {
+            number_of(count)
+        } {
+            put_piece(page, piece, number);
+        }
     }
-    Ok(text)
-}
-
-/// A source with these lines between AC_INIT and AC_OUTPUT. They begin at byte 17.
-pub fn source_with(alloc: Global, lines: &[u8]) -> Result<Vec<u8>, AllocError> {
-    let mut text = Vec::from_slice(alloc, b"AC_INIT([x],[1])\n")?;
-    text.extend_from_slice(lines)?;
-    text.extend_from_slice(b"\nAC_OUTPUT\n")?;
-    Ok(text)
 }

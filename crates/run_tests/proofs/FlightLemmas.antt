@@ -1,5 +1,5 @@
 -- How many children are in flight, for callers that start and end them in loops.
-use Rattle.std.proofs.Common.{◌≡◌, ◌≢◌, ℕ, zero, suc, ◌+◌, ◌<◌, ◌≤◌, true, false, cond, eqb, List, [], ◌∷◌, ◌++◌, length, get_or, refl, sym, ap, ◌∙◌, ⊎_elim, arith, length-append}
+use Rattle.std.proofs.Common.{◌≡◌, ◌≢◌, ℕ, zero, suc, ◌+◌, ◌<◌, ◌≤◌, true, false, cond, eqb, List, [], ◌∷◌, ◌++◌, length, get_or, refl, sym, ap, subst, ◌∙◌, ⊎_elim, arith, length-append}
 use Rattle.std.specs.Prelude.{remove}
 use Rattle.std.proofs.lemmas.Bool.{cases_eq}
 use Rattle.std.proofs.lemmas.Bool.Decides.{nat_tests}
@@ -22,13 +22,20 @@ pub record Flies (n : ℕ) (es : List CrewEvent) : Type 0 where
 pub flies_none : (es : List CrewEvent) → es ≡ [] → Flies 0 es
 flies_none es is = record { slots = []; busy_slots = lists_none [] es refl is; count = refl }
 
-pub flies_start : (n : ℕ) (es es' : List CrewEvent) (slot : ℕ) (job : Job) (number : ℕ) → Flies n es → busy slot es ≡ false → es' ≡ es ++ Started slot job number ∷ [] → Flies (n + 1) es'
-flies_start n es es' slot job number h free is =
+pub flies_start : (n m : ℕ) (es es' : List CrewEvent) (slot : ℕ) (job : Job) (number : ℕ) → Flies n es → busy slot es ≡ false → es' ≡ es ++ Started slot job number ∷ [] → m ≡ n + 1 → Flies m es'
+flies_start n m es es' slot job number h free is more =
     record {
       slots = h.slots ++ slot ∷ [];
       busy_slots = lists_start h.slots (h.slots ++ slot ∷ []) es es' slot job number h.busy_slots free refl is;
-      count = length-append h.slots (slot ∷ []) ∙ ap (λ k. k + 1) h.count;
+      count = length-append h.slots (slot ∷ []) ∙ ap (λ k. k + 1) h.count ∙ sym more;
     }
+
+-- a refused start
+pub flies_same : (n m : ℕ) (es es' : List CrewEvent) → Flies n es → es' ≡ es → m ≡ n → Flies m es'
+flies_same n m es es' h is same = subst (λ k. Flies k es') (sym same) (subst (λ events. Flies n events) (sym is) h)
+
+pub free_same : (es es' : List CrewEvent) (slot : ℕ) → ((s : ℕ) → slot ≤ s → busy s es ≡ false) → es' ≡ es → (s : ℕ) → slot + 1 ≤ s → busy s es' ≡ false
+free_same es es' slot free is s above = ap (busy s) is ∙ free s (omega arith)
 
 -- where a slot that the list has stands
 record Stands (s : ℕ) (xs : List ℕ) : Type 0 where

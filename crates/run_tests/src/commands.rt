@@ -3,241 +3,62 @@
 
 ghost use Rattle.std.specs.Io.{WritesAtMost};
 
-use crate::texts::{number_of, part, put_number, rows, words_of};
+use crate::crews::{Work, job_of, put_real_children};
+use crate::streams::{Sheet, pipe_of};
+use crate::texts::{bytes_of, parts_of};
+use conftest::Job;
 use deftable::Bytes;
-use runner::{FilterFault, Filtered, command, filter};
-use std::alloc::{AllocError, Global};
+use runner::{command, filter};
+use standin::standin;
 use std::env::{Env, FillError};
-use std::io::{self, Read, Write};
+use std::io::{Read, Write};
 use std::test::Fail;
+use std::{fs, str};
+use testrows::{Call, Page, cut, try_rows};
 
-const DEMO: &[u8] =
-    b"AC_INIT([demo],[1.0])\nAC_CONFIG_FILES([out])\nAC_OUTPUT\n%%\n@PACKAGE_STRING@ @nope@\n";
+// ---- the filter and the stand-in, by themselves
 
-// ---- the calls, in functions without a contract
-
-fn filtered<R: Read, W: Write>(
-    alloc: Global,
-    reader: &mut R,
-    writer: &mut W,
-) -> Result<Filtered, FilterFault> {
-    filter(alloc, reader, writer)
-}
-
-/// The exit status of the program.
-pub fn status_of<R: Read, W: Write, E: Write>(
-    rt: &HostRuntime,
-    words: &[Bytes],
-    input: &mut R,
-    output: &mut W,
-    errors: &mut E,
-) -> u8 {
-    command::run(rt.alloc(), rt, words, input, output, errors)
-}
-
-// ---- the filter
-
-/// What the filter answers: its status, or its fault.
-fn answer<R: Read, W: Write>(
-    alloc: Global,
-    reader: &mut R,
-    writer: &mut W,
-) -> Result<Vec<u8>, AllocError> {
-    let mut out = Vec::new(alloc);
-    match filtered(alloc, reader, writer) {
-        Ok(answer) => {
-            put_number(alloc, &mut out, u64::from(answer.status))?;
-            out.extend_from_slice(answer.errors.as_slice())?;
-        }
-        Err(fault) => {
-            let line = format!(in alloc; "{fault}")?;
-            out.extend_from_slice(line.as_bytes())?;
-        }
-    }
-    Ok(out)
-}
-
-#[test]
-fn the_first_file(rt: HostRuntime) -> Result<(), Fail> {
-    let mut reader = DEMO;
-    let mut written = Vec::from_slice(rt.alloc(), b"> ")?;
-    let found = answer(rt.alloc(), &mut reader, &mut written)?;
-    assert_eq!(rt; found.as_slice(), b"0".as_slice());
-    assert_eq!(rt; written.as_slice(), b"> demo 1.0 @nope@\n".as_slice());
-    Ok(())
-}
-
-/// Is interrupted so many times, gives so many newlines, one in a read, and then its end, if it doesn't fail.
-#[derive(Drop)]
-struct Newlines {
-    interrupted: usize,
-    left: usize,
-    fails: bool,
-}
-
-impl Read for Newlines {
-    fn read(&mut self, buf: &mut [u8]) -> io::Result<usize> {
-        if self.interrupted > 0 {
-            self.interrupted -= 1;
-            return Err(io::Error::from(io::ErrorKind::Interrupted));
-        }
-        match buf.first_mut() {
-            Some(place) if self.left > 0 => {
-                *place = b'\n';
-                self.left -= 1;
-                Ok(1)
-            }
-            _ if self.fails => Err(io::Error::from(io::ErrorKind::BrokenPipe)),
-            _ => Ok(0),
-        }
-    }
-}
-
-/// A stream that always fails.
-#[derive(Drop)]
-struct Broken;
-
-impl Read for Broken {
-    fn read(&mut self, _buf: &mut [u8]) -> io::Result<usize> {
-        Err(io::Error::from(io::ErrorKind::BrokenPipe))
-    }
-}
-
-impl Write for Broken {
-    fn write(&mut self, _buf: &[u8]) -> io::Result<usize> {
-        Err(io::Error::from(io::ErrorKind::BrokenPipe))
-    }
-
-    fn flush(&mut self) -> io::Result<()> {
-        Ok(())
-    }
-}
-
-/// What the filter answers on the reads of a row: how often it is interrupted, how many newlines it gives, whether it fails.
-fn answer_on(alloc: Global, row: &[u8]) -> Result<Vec<u8>, AllocError> {
-    let mut reader = Newlines {
-        interrupted: number_of(part(alloc, row, 0)?.as_slice()),
-        left: number_of(part(alloc, row, 1)?.as_slice()),
-        fails: part(alloc, row, 2)?.len() > 0,
+/// Puts what the filter answers, its status or its fault, and what is written after `>`.
+fn put_filtered<R: Read>(page: &mut Page, input: &mut R, fails: &[u8]) {
+    let mut kept = Page::new(page.alloc());
+    kept.put(b">");
+    let mut output = Sheet {
+        kept,
+        fails: !fails.is_empty(),
     };
-    let mut written = Vec::new(alloc);
-    answer(alloc, &mut reader, &mut written)
-}
-
-// The last of 65,536 reads may be the end. A read that is interrupted is one of them.
-const READS: &[u8] = b"\
-0|65535||usage;\
-0|65536||file standard input;\
-3|65532||usage;\
-3|65533||file standard input;\
-2|5|fails|file standard input";
-
-#[test]
-fn reads(rt: HostRuntime) -> Result<(), Fail> {
-    for row in &rows(rt.alloc(), READS)? {
-        let found = answer_on(rt.alloc(), row)?;
-        assert_eq!(rt; found.as_slice(), part(rt.alloc(), row, 3)?.as_slice());
+    match &filter(page.alloc(), input, &mut output) {
+        Ok(answer) => {
+            page.put_shown(&answer.status);
+            page.put(answer.errors.as_slice());
+        }
+        Err(fault) => page.put_shown(fault),
     }
-    let mut written = Vec::new(rt.alloc());
-    let found = answer(rt.alloc(), &mut Broken, &mut written)?;
-    assert_eq!(rt; found.as_slice(), b"file standard input".as_slice());
-    Ok(())
+    page.put(output.kept.text());
 }
 
-/// What the filter answers on a text where nothing can be written.
-fn answer_to_none(alloc: Global, mut text: &[u8]) -> Result<Vec<u8>, AllocError> {
-    answer(alloc, &mut text, &mut Broken)
-}
-
-#[test]
-fn a_writer_that_fails(rt: HostRuntime) -> Result<(), Fail> {
-    let found = answer_to_none(rt.alloc(), DEMO)?;
-    assert_eq!(rt; found.as_slice(), b"file standard output".as_slice());
-    // What isn't right is told first.
-    let found = answer_to_none(rt.alloc(), b"%%")?;
-    assert_eq!(rt; found.as_slice(), b"parse 8".as_slice());
-    Ok(())
-}
-
-// ---- the program
-
-fn put_stream(out: &mut Vec<u8>, word: &[u8], text: &[u8]) -> Result<(), AllocError> {
-    if text.is_empty() {
-        return Ok(());
+/// Puts the status of the stand-in, and how many bytes it says.
+fn put_standin(page: &mut Page, rt: &HostRuntime, words: &[Bytes]) {
+    let mut errors = Sheet {
+        kept: Page::new(page.alloc()),
+        fails: false,
+    };
+    match standin(page.alloc(), rt, words, &mut errors) {
+        Ok(status) => page.put_shown(&status),
+        Err(_) => page.cut(),
     }
-    out.extend_from_slice(word)?;
-    out.extend_from_slice(text)
-}
-
-/// What the program does: `STATUS out OUTPUT err ERRORS`, without a stream on which nothing is written.
-pub fn done<R: Read>(
-    rt: &HostRuntime,
-    words: &[Bytes],
-    input: &mut R,
-) -> Result<Vec<u8>, AllocError> {
-    let mut output = Vec::new(rt.alloc());
-    let mut errors = Vec::new(rt.alloc());
-    let status = status_of(rt, words, input, &mut output, &mut errors);
-    let mut out = Vec::new(rt.alloc());
-    put_number(rt.alloc(), &mut out, u64::from(status))?;
-    put_stream(&mut out, b" out ", output.as_slice())?;
-    put_stream(&mut out, b" err ", errors.as_slice())?;
-    Ok(out)
-}
-
-#[test]
-fn the_program(rt: HostRuntime) -> Result<(), Fail> {
-    let words = Vec::new(rt.alloc());
-    let mut input = DEMO;
-    let found = done(&rt, words.as_slice(), &mut input)?;
-    assert_eq!(rt; found.as_slice(), b"0 out demo 1.0 @nope@\n".as_slice());
-    let found = done(&rt, words.as_slice(), &mut Broken)?;
-    assert_eq!(rt;
-        found.as_slice(),
-        b"2 err acrun: file standard input\n".as_slice()
-    );
-    Ok(())
-}
-
-#[test]
-fn an_output_that_cannot_be_written(rt: HostRuntime) -> Result<(), Fail> {
-    let words = Vec::new(rt.alloc());
-    let mut input = DEMO;
-    let mut errors = Vec::new(rt.alloc());
-    let status = status_of(&rt, words.as_slice(), &mut input, &mut Broken, &mut errors);
-    assert_eq!(rt; status, 2);
-    assert_eq!(rt;
-        errors.as_slice(),
-        b"acrun: file standard output\n".as_slice()
-    );
-    // Where a fault can't be told, the status tells it.
-    let mut output = Vec::new(rt.alloc());
-    let status = status_of(&rt, words.as_slice(), &mut Broken, &mut output, &mut Broken);
-    assert_eq!(rt; status, 2);
-    Ok(())
-}
-
-#[test]
-fn arguments_that_are_not_known(rt: HostRuntime) -> Result<(), Fail> {
-    let table = b",standin;x,standin;configure,standin;standin2,standin;-j2,standin";
-    for row in &rows(rt.alloc(), table)? {
-        let words = words_of(rt.alloc(), row)?;
-        let mut input = DEMO;
-        let found = done(&rt, words.as_slice(), &mut input)?;
-        assert_eq!(rt; found.as_slice(), b"2 err acrun: usage\n".as_slice());
-    }
-    Ok(())
+    page.put(b" ");
+    page.put_number(errors.kept.text().len());
 }
 
 // ---- the words of the program
 
-/// A process with these arguments.
+/// A process with these arguments, its name first.
 #[derive(Drop)]
-struct Process {
-    arguments: Vec<Bytes>,
+struct Process<'a> {
+    arguments: &'a [Bytes],
 }
 
-fn put(text: &[u8], buf: &mut [u8]) -> Result<usize, FillError>
+fn copied_to(buf: &mut [u8], text: &[u8]) -> Result<usize, FillError>
     ensures { WritesAtMost result buf.new }
 {
     if text.len() > buf.len() {
@@ -247,10 +68,10 @@ fn put(text: &[u8], buf: &mut [u8]) -> Result<usize, FillError>
     Ok(text.len())
 }
 
-impl Env for Process {
+impl Env for Process<'_> {
     fn arg(&self, i: usize, buf: &mut [u8]) -> Result<usize, FillError> {
         match self.arguments.get(i) {
-            Some(argument) => put(argument.as_slice(), buf),
+            Some(argument) => copied_to(buf, argument.as_slice()),
             None => Err(FillError::NotPresent),
         }
     }
@@ -264,21 +85,192 @@ impl Env for Process {
     }
 }
 
-/// A process with the program's name and these arguments, the last of 3,000 bytes.
-fn process_with(alloc: Global, arguments: &[u8]) -> Result<Process, AllocError> {
-    let mut arguments = words_of(alloc, arguments)?;
-    let long = Vec::from_elem(alloc, b'l', 3000)?;
-    arguments.push(Bytes::from_vec(long))?;
-    Ok(Process { arguments })
+fn put_same(page: &mut Page, words: &[Bytes], arguments: &[Bytes]) {
+    page.put_number(words.len());
+    for (word, argument) in words.iter().zip(arguments.iter().skip(1)) {
+        page.put(b" ");
+        page.put_yes(word.as_slice() == argument.as_slice());
+    }
 }
 
-#[test]
-fn words_of_the_program(rt: HostRuntime) -> Result<(), Fail> {
-    let process = process_with(rt.alloc(), b"acrun,a,,\xff\0 b")?;
-    let words = command::words(rt.alloc(), &process)?;
-    assert_eq!(rt; words.len(), 4);
-    for (word, argument) in words.iter().zip(process.arguments.iter().skip(1)) {
-        assert_eq!(rt; word.as_slice(), argument.as_slice());
+/// Puts how many words the program finds in these arguments, and whether each is the argument.
+fn put_words(page: &mut Page, arguments: &[Bytes]) {
+    match &command::words(page.alloc(), &Process { arguments }) {
+        Ok(words) => put_same(page, words.as_slice(), arguments),
+        Err(_) => page.cut(),
     }
-    Ok(())
+}
+
+// ---- the program
+
+/// The input if a row has none.
+const DEMO: &[u8] =
+    b"AC_INIT([demo],[1.0])\nAC_CONFIG_FILES([out])\nAC_OUTPUT\n%%\n@PACKAGE_STRING@ @nope@\n";
+
+/// Returns the exit status of the program. It has no contract, so its callers don't see the long one of the command.
+pub fn status_of<R: Read, W: Write, E: Write>(
+    rt: &HostRuntime,
+    words: &[Bytes],
+    input: &mut R,
+    output: &mut W,
+    errors: &mut E,
+) -> u8 {
+    command::run(rt.alloc(), rt, words, input, output, errors)
+}
+
+fn put_stream(page: &mut Page, word: &[u8], text: &[u8]) {
+    if !text.is_empty() {
+        page.put(word);
+        page.put(text);
+    }
+}
+
+/// Puts what the program does: `STATUS out OUTPUT err ERRORS`, without a stream on which nothing is written.
+fn put_program<R: Read>(
+    page: &mut Page,
+    rt: &HostRuntime,
+    words: &[Bytes],
+    input: &mut R,
+    fails: &[u8],
+) {
+    let mut output = Sheet {
+        kept: Page::new(page.alloc()),
+        fails: fails == b"output".as_slice(),
+    };
+    let mut errors = Sheet {
+        kept: Page::new(page.alloc()),
+        fails: fails == b"errors".as_slice(),
+    };
+    let status = status_of(rt, words, input, &mut output, &mut errors);
+    page.put_shown(&status);
+    put_stream(page, b" out ", output.kept.text());
+    put_stream(page, b" err ", errors.kept.text());
+}
+
+/// Puts what the filter or the program does with an input.
+fn put_answer<R: Read>(
+    page: &mut Page,
+    rt: &HostRuntime,
+    words: &[Bytes],
+    input: &mut R,
+    fails: &[u8],
+    is_filter: bool,
+) {
+    if is_filter {
+        put_filtered(page, input, fails);
+    } else {
+        put_program(page, rt, words, input, fails);
+    }
+}
+
+/// Puts what the filter or the program does with the input of a row: a pipe, a text, or [`DEMO`] if it is empty.
+fn put_answer_to(
+    page: &mut Page,
+    rt: &HostRuntime,
+    words: &[Bytes],
+    input: &[u8],
+    fails: &[u8],
+    is_filter: bool,
+) {
+    let mut text = if input.is_empty() { DEMO } else { input };
+    match &mut pipe_of(input, b'\n') {
+        Some(pipe) => put_answer(page, rt, words, pipe, fails, is_filter),
+        None => put_answer(page, rt, words, &mut text, fails, is_filter),
+    }
+}
+
+/// Puts what a command does with these words, which begin with its name.
+fn put_command(
+    page: &mut Page,
+    rt: &HostRuntime,
+    command: &[u8],
+    job: &Job,
+    input: &[u8],
+    fails: &[u8],
+) {
+    let words = job.words.as_slice();
+    match command {
+        b"sh" => put_real_children(page, rt, &Work::Children { count: 1, job }),
+        b"words" => put_words(page, words),
+        b"compiler" => put_standin(page, rt, words),
+        _ => put_answer_to(
+            page,
+            rt,
+            words,
+            input,
+            fails,
+            command == b"filter".as_slice(),
+        ),
+    }
+}
+
+/// Writes a file.
+pub fn write_file(page: &mut Page, rt: &HostRuntime, name: &[u8], text: &[u8]) {
+    let text = bytes_of(page, text);
+    if fs::write(rt, str::from_utf8(name).unwrap_or(""), text.as_slice()).is_err() {
+        page.put(b"not written, ");
+    }
+}
+
+/// Writes files with `|` between them: a name, a blank and a text.
+fn write_files(page: &mut Page, rt: &HostRuntime, files: &[u8]) {
+    for file in &parts_of(page, files, b'|') {
+        let (name, text) = cut(file, b" ");
+        write_file(page, rt, name, text);
+    }
+}
+
+/// The program.
+///
+/// A row has the words, with commas between them, the input, which stream fails, and the files that are written first: a
+/// name, a blank and a text. What is left out at the end is empty. As the first word, `filter` calls the filter by itself,
+/// `compiler` the stand-in, and `words` the reader of the program's words. The words of `sh` are a child of a crew.
+#[derive(Drop)]
+pub struct Program<'a> {
+    pub rt: &'a HostRuntime,
+}
+
+impl Call for Program<'_> {
+    fn put(&self, page: &mut Page, given: &[u8]) {
+        let (words, rest) = cut(given, b"|");
+        let (input, rest) = cut(rest, b"|");
+        let (fails, files) = cut(rest, b"|");
+        write_files(page, self.rt, files);
+        let job = job_of(page, words, b"");
+        put_command(page, self.rt, cut(words, b",").0, &job, input, fails);
+    }
+}
+
+const COMMANDS: &[u8] = b"\
+// the filter, and a pipe or a text in place of the demo
+filter => 0>demo 1.0 @nope@^J
+// The last of 65,536 reads may be the end. A read that is interrupted is one of them.
+filter|65535 1 => usage>
+filter|65536 1 => file standard input>
+filter|65532 1 0 3 => usage>
+filter|65533 1 0 3 => file standard input>
+filter|5 1 6 2 => file standard input>
+filter|0 1 1 => file standard input>
+filter||output => file standard output>
+// What isn't right is told before that nothing can be written.
+filter|%%|output => parse 8>
+// the words of the program, the last one of more than a mebibyte
+words,a,,\xff\0 b,~ => 4 yes yes yes yes
+// the program
+ => 0 out demo 1.0 @nope@^J
+|0 1 1 => 2 err acrun: file standard input^J
+||output => 2 err acrun: file standard output^J
+// Where a fault can't be told, the status tells it.
+|0 1 1|errors => 2
+// arguments that are not known
+,standin => 2 err acrun: usage^J
+x,standin => 2 err acrun: usage^J
+configure,standin => 2 err acrun: usage^J
+standin2,standin => 2 err acrun: usage^J
+-j2,standin => 2 err acrun: usage^J
+";
+
+#[test]
+fn commands(rt: HostRuntime) -> Result<(), Fail> {
+    try_rows(rt.alloc(), &Program { rt: &rt }, COMMANDS)
 }

@@ -1,10 +1,10 @@
 //! Tests of the crates that run a source: real children, streams that fail, and an ordinary answer of each call.
 //!
 //! No clause can say that memory is left, what the system answers, or how a fault is printed. `crews` has crews in memory and
-//! real children, `broken_children` those whose pipe or end fails, `plans` what a source weighs and its steps, `machines` a machine that a test answers, `runs` whole runs,
-//! `commands` the filter and the program's commands over streams that fail, and `stand_ins` the stand-in for a compiler, as a
-//! child too. `texts` reads the rows of a test, `engine` calls what has long contracts, and `folders` gives a test a folder of
-//! its own.
+//! real children, `broken_children` those whose pipe or end fails, `plans` what a source weighs and its steps, `runs` whole
+//! runs, also by a machine that a test answers (`machines`), `commands` the filter and the program's commands over streams that
+//! fail, and `stand_ins` the stand-in for a compiler, as a child too. `texts` reads the parts of a row, `streams` has the
+//! streams that fail, and `directories` gives a test a directory of its own.
 #![tactic(auto)]
 
 #[cfg(test)]
@@ -14,9 +14,7 @@ mod commands;
 #[cfg(test)]
 mod crews;
 #[cfg(test)]
-mod engine;
-#[cfg(test)]
-mod folders;
+mod directories;
 #[cfg(test)]
 mod machines;
 #[cfg(test)]
@@ -25,5 +23,7 @@ mod plans;
 mod runs;
 #[cfg(test)]
 mod stand_ins;
+#[cfg(test)]
+mod streams;
 #[cfg(test)]
 mod texts;

@@ -1,105 +1,68 @@
 //! A machine whose first job a test answers or cuts. The crate `cases` has runs of sources, statement by statement.
 
-ghost use Rattle.std.specs.Prelude.{◌≡◌, [], ◌∷◌, None, length, OnOk};
-ghost use Rattle.machine.specs.Standing.{Fits};
+ghost use Rattle.std.specs.Prelude.{◌≡◌, [], ◌∷◌, None, length, IsSome};
+ghost use Rattle.std.specs.Bool.{OnTrue};
+ghost use Rattle.machine.specs.Standing.{Fits, outcome_of};
 
-use crate::engine::{end_text, plan_of, read};
-use crate::texts::vars_of;
-use acparse::Source;
+use crate::runs::{put_run_end, vars_of};
+use crate::texts::number_of;
 use crew::Reply;
-use deftable::{Bytes, Vars};
-use machine::{Machine, RunEnd, Turn};
+use deftable::Bytes;
+use machine::{Machine, Turn};
 use plan::Plan;
-use std::alloc::{AllocError, Global};
-use std::test::Fail;
+use std::alloc::Global;
+use testrows::Page;
 
-/// Replies to the only job that is asked by this exit status, or cuts it if there is none.
-fn reply(alloc: Global, machine: &mut Machine, status: Option<u32>)
+/// Replies to the only job that is asked by this exit status, or cuts it if the text is empty.
+fn reply(alloc: Global, machine: &mut Machine, status: &[u8])
     requires { machine.old.replies ≡ None ∷ [] }
     ensures same { machine.new ≡ record machine.old { replies = machine.new.replies } }
     ensures one { length machine.new.replies ≡ 1 }
 {
-    match status {
-        Some(status) => machine.give(
-            0,
-            Reply::Answer {
-                status,
-                text: Bytes::new(alloc),
-            },
-        ),
-        None => machine.cut(),
+    if status.is_empty() {
+        machine.cut();
+    } else {
+        let reply = Reply::Answer {
+            status: number_of(status).min(256) as u32,
+            text: Bytes::new(alloc),
+        };
+        machine.give(0, reply);
     }
 }
 
-/// Replies to what is asked next, and counts the jobs that are asked.
-fn answer(
-    alloc: Global,
-    machine: &mut Machine,
-    plan: &Plan,
-    status: Option<u32>,
-) -> Result<usize, AllocError>
+/// Replies to what is asked next, puts how many jobs are asked, and tells whether any is.
+fn is_answered(page: &mut Page, machine: &mut Machine, plan: &Plan, status: &[u8]) -> bool
     requires { Fits plan.now machine.old }
-    ensures { OnOk result (Fits plan.now machine.new) }
+    ensures { OnTrue result (Fits plan.now machine.new) }
 {
-    match machine.advance(plan)? {
-        Turn::Ask => {
-            let asked = machine.asked().len();
-            reply(alloc, machine, status);
-            Ok(asked)
+    match machine.advance(plan) {
+        Ok(Turn::Ask) => {
+            page.put_number(machine.asked().len());
+            page.put(b" asked, ");
+            reply(page.alloc(), machine, status);
+            true
         }
-        Turn::Done | Turn::Stopped(_) | Turn::Cut(_) => Ok(0),
+        _ => false,
     }
 }
 
-/// What a machine leaves that asks nothing more.
-fn end_of(mut machine: Machine, plan: &Plan) -> Result<RunEnd, Fail>
-    requires { Fits plan.now machine }
+/// Tells whether nothing more is asked.
+fn is_at_end(machine: &mut Machine, plan: &Plan) -> bool
+    requires { Fits plan.now machine.old }
+    ensures { OnTrue result (IsSome (outcome_of machine.new.phase)) }
 {
-    match machine.advance(plan)? {
-        Turn::Ask => Err(Fail::new("more is asked")),
-        Turn::Done | Turn::Stopped(_) | Turn::Cut(_) => Ok(machine.end()),
+    match machine.advance(plan) {
+        Ok(Turn::Ask) | Err(_) => false,
+        Ok(Turn::Done | Turn::Stopped(_) | Turn::Cut(_)) => true,
     }
 }
 
-/// What a plan of one job leaves.
-fn walked(alloc: Global, plan: &Plan, vars: Vars, status: Option<u32>) -> Result<RunEnd, Fail> {
-    let mut machine = Machine::new(alloc, plan, vars);
-    if answer(alloc, &mut machine, plan, status)? != 1 {
-        return Err(Fail::new("not one job is asked"));
+/// Puts how many jobs a plan asks for first, and what it leaves after the only one is answered by this exit status, or cut
+/// if the text is empty.
+pub fn put_walked(page: &mut Page, plan: &Plan, compiler: &[u8], status: &[u8]) {
+    let vars = vars_of(page, compiler);
+    let mut machine = Machine::new(page.alloc(), plan, vars);
+    if is_answered(page, &mut machine, plan, status) && is_at_end(&mut machine, plan) {
+        put_run_end(page, &machine.end());
     }
-    end_of(machine, plan)
-}
-
-fn left_by_plan(alloc: Global, plan: &Plan, status: Option<u32>) -> Result<Vec<u8>, Fail> {
-    let vars = vars_of(alloc, b"CC=cc")?;
-    let end = walked(alloc, plan, vars, status)?;
-    Ok(end_text(alloc, &end)?)
-}
-
-fn left_by_source(alloc: Global, source: &Source, status: Option<u32>) -> Result<Vec<u8>, Fail> {
-    let plan = plan_of(alloc, source)?;
-    left_by_plan(alloc, &plan, status)
-}
-
-/// What is left where a program is linked with this exit status, or its job is cut.
-fn left(alloc: Global, status: Option<u32>) -> Result<Vec<u8>, Fail> {
-    let source = read(
-        alloc,
-        b"AC_LINK_IFELSE([AC_LANG_PROGRAM([],[])],[r=1],[r=2])",
-    )?;
-    left_by_source(alloc, &source, status)
-}
-
-#[test]
-fn a_reply(rt: HostRuntime) -> Result<(), Fail> {
-    let found = left(rt.alloc(), Some(0))?;
-    assert_eq!(rt; found.as_slice(), b"completed r=1".as_slice());
-    Ok(())
-}
-
-#[test]
-fn a_cut(rt: HostRuntime) -> Result<(), Fail> {
-    let found = left(rt.alloc(), None)?;
-    assert_eq!(rt; found.as_slice(), b"cut 1".as_slice());
-    Ok(())
 }

@@ -1,138 +1,146 @@
 //! What a source weighs, and the steps of a small one.
 
-use crate::engine::plan_of_statements;
-use crate::texts::{number_of, part, put_number, rows};
+use crate::texts::{add, bytes_of, number_of};
 use acparse::Stmt;
-use deftable::Bytes;
-use plan::{PlanFault, Step};
+use plan::{PlanFault, Step, compile_statements};
 use shellword::Patterns;
-use std::alloc::{AllocError, Global};
 use std::test::Fail;
 use syntax::{Case, Plain, ProgramNames, Subject, When, choose};
+use testrows::{Call, Page, cut, try_rows};
 
-/// So many statements.
-fn outputs(alloc: Global, count: usize) -> Result<Vec<Stmt>, AllocError> {
-    let mut statements = Vec::new(alloc);
+/// Adds so many statements.
+fn add_outputs(page: &mut Page, statements: &mut Vec<Stmt>, count: usize) {
     for _ in 0..count {
-        statements.push(Stmt::Plain(Plain::Output))?;
+        add(page, statements, Stmt::Plain(Plain::Output));
     }
-    Ok(statements)
 }
 
-/// A choice of one case, whose list of patterns and list of statements are empty, and of a default if one is wanted.
-fn choice(alloc: Global, has_default: bool) -> Result<Stmt, AllocError> {
-    let mut cases = Vec::new(alloc);
-    cases.push(Case {
-        when: When::Matches(Patterns::from_vec(Vec::new(alloc))),
-        body: Vec::new(alloc),
-    })?;
+/// Returns a case whose list of patterns and list of statements are empty.
+fn empty_case(page: &mut Page) -> Case {
+    Case {
+        when: When::Matches(Patterns::from_vec(Vec::new(page.alloc()))),
+        body: Vec::new(page.alloc()),
+    }
+}
+
+/// Returns a default of one statement.
+fn default_case(page: &mut Page) -> Case {
+    let mut body = Vec::new(page.alloc());
+    add_outputs(page, &mut body, 1);
+    Case {
+        when: When::Always,
+        body,
+    }
+}
+
+/// Returns a choice of an empty case, and of a default if one is wanted.
+fn choice(page: &mut Page, has_default: bool) -> Stmt {
+    let mut cases = Vec::new(page.alloc());
+    let case = empty_case(page);
+    add(page, &mut cases, case);
     if has_default {
-        cases.push(Case {
-            when: When::Always,
-            body: outputs(alloc, 1)?,
-        })?;
+        let case = default_case(page);
+        add(page, &mut cases, case);
     }
-    Ok(choose(Subject::Nothing, cases))
+    choose(Subject::Nothing, cases)
 }
 
-/// AC_PROG_CC of two compilers.
-fn compilers(alloc: Global) -> Result<Stmt, AllocError> {
-    let mut names = Vec::new(alloc);
-    names.push(Bytes::from_slice(alloc, b"gcc")?)?;
-    names.push(Bytes::from_slice(alloc, b"cc")?)?;
-    Ok(Stmt::Plain(Plain::ProgCc {
+/// Returns AC_PROG_CC of two compilers.
+fn compilers(page: &mut Page) -> Stmt {
+    let mut names = Vec::new(page.alloc());
+    let name = bytes_of(page, b"gcc");
+    add(page, &mut names, name);
+    let name = bytes_of(page, b"cc");
+    add(page, &mut names, name);
+    Stmt::Plain(Plain::ProgCc {
         programs: ProgramNames::from_vec(names),
-    }))
+    })
 }
 
-/// A statement by its name in a row.
-fn named(alloc: Global, name: &[u8]) -> Result<Stmt, AllocError> {
+/// Returns a statement by its name.
+fn named(page: &mut Page, name: &[u8]) -> Stmt {
     match name {
-        b"choice" => choice(alloc, false),
-        b"default" => choice(alloc, true),
-        b"compilers" => compilers(alloc),
-        _ => Ok(Stmt::Plain(Plain::Accepted)),
+        b"choice" => choice(page, false),
+        b"default" => choice(page, true),
+        b"compilers" => compilers(page),
+        _ => Stmt::Plain(Plain::Accepted),
     }
 }
 
-/// How many steps there are, or why there is no plan.
-fn steps(alloc: Global, statements: &[Stmt]) -> Result<Vec<u8>, AllocError> {
-    let mut out = Vec::new(alloc);
-    match plan_of_statements(alloc, statements) {
-        Ok(plan) => put_number(alloc, &mut out, plan.steps().len() as u64)?,
-        Err(fault) => {
-            let line = format!(in alloc; "fault {fault}")?;
-            out.extend_from_slice(line.as_bytes())?;
-        }
-    }
-    Ok(out)
-}
-
-/// The steps of a row: so many statements, and another one if it is named.
-fn steps_of(alloc: Global, row: &[u8]) -> Result<Vec<u8>, AllocError> {
-    let count = number_of(part(alloc, row, 0)?.as_slice());
-    let mut statements = outputs(alloc, count)?;
-    let name = part(alloc, row, 1)?;
-    if !name.as_slice().is_empty() {
-        statements.push(named(alloc, name.as_slice())?)?;
-    }
-    steps(alloc, statements.as_slice())
-}
-
-// So many statements, and the last one. A source weighs 65,535 at most. A choice and its case weigh 2, a default 1 more, and
-// what is in it counts. A list of two programs weighs 3.
-const WEIGHTS: &[u8] = b"\
-65535||65535;65535|accepted|fault 1;\
-65533|choice|65536;65534|choice|fault 1;\
-65531|default|65537;65532|default|fault 1;\
-65532|compilers|65535;65533|compilers|fault 1";
-
-#[test]
-fn the_heaviest_source(rt: HostRuntime) -> Result<(), Fail> {
-    for row in &rows(rt.alloc(), WEIGHTS)? {
-        let found = steps_of(rt.alloc(), row)?;
-        assert_eq!(rt; found.as_slice(), part(rt.alloc(), row, 2)?.as_slice());
-    }
-    Ok(())
-}
-
-/// How many steps a step passes, or `-` if it is no jump.
-fn put_jump(alloc: Global, out: &mut Vec<u8>, step: &Step) -> Result<(), AllocError> {
+/// Puts how many steps a step passes, or `-` if it is no jump.
+fn put_jump(page: &mut Page, step: &Step) {
+    page.put(b" ");
     match step {
-        Step::Do(_) | Step::Look { .. } | Step::Default { .. } | Step::Subject(_) => {
-            out.extend_from_slice(b"-")
-        }
-        Step::SkipUnless { steps, .. } | Step::Skip { steps } => {
-            put_number(alloc, out, *steps as u64)
+        Step::Do(_) | Step::Look { .. } | Step::Default { .. } | Step::Subject(_) => page.put(b"-"),
+        Step::SkipUnless { steps, .. } | Step::Skip { steps } => page.put_number(*steps),
+    }
+}
+
+/// Puts how many steps there are, and the jumps of up to ten.
+fn put_jumps(page: &mut Page, steps: &[Step]) {
+    page.put_number(steps.len());
+    if steps.len() <= 10 {
+        for step in steps {
+            put_jump(page, step);
         }
     }
 }
 
-fn jumps(alloc: Global, statements: &[Stmt]) -> Result<Vec<u8>, Fail> {
-    let plan = plan_of_statements(alloc, statements)?;
-    let mut out = Vec::new(alloc);
-    for step in plan.steps() {
-        put_jump(alloc, &mut out, step)?;
-        out.extend_from_slice(b" ")?;
+/// Puts the steps of a plan, or why there is no plan.
+fn put_steps(page: &mut Page, statements: &[Stmt]) {
+    match &compile_statements(page.alloc(), statements) {
+        Ok(plan) => put_jumps(page, plan.steps()),
+        Err(fault) => {
+            page.put(b"fault ");
+            page.put_shown(fault);
+        }
     }
-    Ok(out)
 }
 
-#[test]
-fn the_steps_of_a_choice(rt: HostRuntime) -> Result<(), Fail> {
-    let alloc = rt.alloc();
-    let mut statements = Vec::new(alloc);
-    statements.push(choice(alloc, true)?)?;
-    statements.push(Stmt::Plain(Plain::Output))?;
-    // the subject, the first case without a statement, the default with one, and AC_OUTPUT
-    let wanted = b"- 1 3 2 - 0 - ".as_slice();
-    assert_eq!(rt; jumps(alloc, statements.as_slice())?.as_slice(), wanted);
-    Ok(())
+/// Puts the plan of so many statements, another one if it is named, and so many after it.
+fn put_plan(page: &mut Page, given: &[u8]) {
+    let (before, rest) = cut(given, b"|");
+    let (name, after) = cut(rest, b"|");
+    let mut statements = Vec::new(page.alloc());
+    add_outputs(page, &mut statements, number_of(before));
+    if !name.is_empty() {
+        let statement = named(page, name);
+        add(page, &mut statements, statement);
+    }
+    add_outputs(page, &mut statements, number_of(after));
+    put_steps(page, statements.as_slice());
 }
 
+/// The plan of some statements, or `memory` for the fault that no statements make.
+struct Plans;
+
+impl Call for Plans {
+    fn put(&self, page: &mut Page, given: &[u8]) {
+        if given == b"memory".as_slice() {
+            page.put_shown(&PlanFault::OutOfMemory);
+        } else {
+            put_plan(page, given);
+        }
+    }
+}
+
+const STEPS: &[u8] = b"\
+// A source weighs 65,535 at most. A choice and its case weigh 2, a default 1 more, and what is in it counts. A list of two
+// programs weighs 3.
+65535 => 65535
+65535|accepted => fault 1
+65533|choice => 65536
+65534|choice => fault 1
+65531|default => 65537
+65532|default => fault 1
+65532|compilers => 65535
+65533|compilers => fault 1
+// the subject, the first case without a statement, the default with one, and AC_OUTPUT
+0|default|1 => 7 - 1 3 2 - 0 -
+memory => memory
+";
+
 #[test]
-fn faults_print(rt: HostRuntime) -> Result<(), Fail> {
-    let text = format!(in rt.alloc(); "{}, {}", PlanFault::TooLong, PlanFault::OutOfMemory)?;
-    assert_eq!(rt; text.as_bytes(), b"1, memory".as_slice());
-    Ok(())
+fn plans_of_statements(rt: HostRuntime) -> Result<(), Fail> {
+    try_rows(rt.alloc(), &Plans, STEPS)
 }

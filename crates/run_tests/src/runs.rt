@@ -1,117 +1,139 @@
-//! Whole runs: small sources over crews in memory, each answer found by hand, and over real children.
+//! Whole runs: small sources over crews in memory, each answer found by hand, over real children, and by a machine that is
+//! answered once.
 
-use crate::engine::{end_text, plan_of, put_events, read, run_in_memory, run_in_processes};
-use crate::folders::{enter, leave};
-use crate::texts::{number_of, part, replies_of, rows, vars_of};
-use acparse::Source;
-use crew::{Event, Reply};
+ghost use Rattle.std.specs.Prelude.{◌≡◌, ◌≤◌, []};
+
+use crate::crews::{Work, put_in_memory, put_real_children};
+use crate::directories::try_rows_in;
+use crate::machines::put_walked;
+use crate::texts::number_of;
+use acparse::{Source, parse};
+use crew::Crew;
 use deftable::Vars;
-use plan::Plan;
-use proberun::RunEnd;
-use std::alloc::{AllocError, Global};
+use plan::{Plan, compile};
+use proberun::{Outcome, RunEnd, run};
 use std::test::Fail;
+use testrows::{Call, Page, cut};
+
+/// Puts what a run leaves: its outcome, and those of these variables that are set.
+pub fn put_run_end(page: &mut Page, end: &RunEnd) {
+    match end.outcome {
+        Outcome::Completed => page.put(b"completed"),
+        Outcome::Stopped(status) => {
+            page.put(b"stopped ");
+            page.put_shown(&status);
+        }
+        Outcome::CutShort(number) => {
+            page.put(b"cut ");
+            page.put_shown(&number);
+        }
+    }
+    for name in [b"r".as_slice(), b"s", b"x", b"prefix", b"exec_prefix"] {
+        if let Some(value) = end.vars.get(name) {
+            page.put(b" ");
+            page.put(name);
+            page.put(b"=");
+            page.put(value.as_slice());
+        }
+    }
+}
+
+/// Returns the variable `CC`, if its value isn't empty.
+pub fn vars_of(page: &mut Page, compiler: &[u8]) -> Vars {
+    let mut vars = Vars::new(page.alloc());
+    if !compiler.is_empty() {
+        page.given(vars.set(b"CC", compiler));
+    }
+    vars
+}
+
+/// Puts what a run over a crew that has done nothing leaves.
+pub fn put_run_over<C: Crew>(
+    page: &mut Page,
+    crew: &mut C,
+    plan: &Plan,
+    compiler: &[u8],
+    window: usize,
+)
+    requires some { 1 ≤ window }
+    requires few { window ≤ 16 }
+    requires fresh { C.account crew.old ≡ record { events = []; attempts = 0; failures = 0 } }
+{
+    let vars = vars_of(page, compiler);
+    match &run(page.alloc(), plan, vars, crew, window) {
+        Ok(end) => put_run_end(page, end),
+        Err(_) => page.cut(),
+    }
+}
+
+/// Puts what the run of a plan leaves: its window, or `children` or `machine`, the value of `CC`, and the replies.
+fn put_run(page: &mut Page, rt: &HostRuntime, plan: &Plan, how: &[u8]) {
+    let (way, rest) = cut(how, b"|");
+    let (compiler, replies) = cut(rest, b"|");
+    let work = Work::Run {
+        plan,
+        compiler,
+        window: number_of(way),
+    };
+    match way {
+        b"children" => put_real_children(page, rt, &work),
+        b"machine" => put_walked(page, plan, compiler, replies),
+        _ => put_in_memory(page, replies, b"oldest", &work),
+    }
+}
+
+fn put_run_of_source(page: &mut Page, rt: &HostRuntime, source: &Source, how: &[u8]) {
+    match &compile(page.alloc(), source) {
+        Ok(plan) => put_run(page, rt, plan, how),
+        Err(fault) => page.put_shown(fault),
+    }
+}
+
+fn put_run_of_text(page: &mut Page, rt: &HostRuntime, text: &[u8], how: &[u8]) {
+    match &parse(page.alloc(), text) {
+        Ok(source) => put_run_of_source(page, rt, source, how),
+        Err(fault) => page.put_shown(fault),
+    }
+}
+
+/// The run of a source: its lines between AC_INIT and AC_OUTPUT, if they are not [`TWO`], and how it runs.
+#[derive(Drop)]
+struct Runs<'a> {
+    rt: &'a HostRuntime,
+}
+
+impl Call for Runs<'_> {
+    fn put(&self, page: &mut Page, given: &[u8]) {
+        let (lines, how) = cut(given, b"|");
+        let mut text = Page::new(page.alloc());
+        text.put(b"AC_INIT([demo],[1.0])\n");
+        text.put(if lines.is_empty() { TWO } else { lines });
+        text.put(b"\nAC_OUTPUT\n");
+        put_run_of_text(page, self.rt, text.text(), how);
+    }
+}
 
 // Whether a program compiles sets `r`, and then whether it runs sets `s`.
 const TWO: &[u8] = b"AC_COMPILE_IFELSE([AC_LANG_PROGRAM([],[])],[r=1],[r=2])
 AC_RUN_IFELSE([AC_LANG_PROGRAM([],[])],[s=1],[s=2])";
 
-fn vars_in(alloc: Global, row: &[u8]) -> Result<Vars, AllocError> {
-    let text = part(alloc, row, 1)?;
-    vars_of(alloc, text.as_slice())
-}
-
-fn replies_in(alloc: Global, row: &[u8]) -> Result<Vec<Reply>, AllocError> {
-    let text = part(alloc, row, 2)?;
-    replies_of(alloc, text.as_slice())
-}
-
-fn window_in(alloc: Global, row: &[u8]) -> Result<usize, AllocError> {
-    let text = part(alloc, row, 0)?;
-    Ok(number_of(text.as_slice()))
-}
-
-/// Runs a plan with a row's window, its variables and its replies.
-fn ended(alloc: Global, plan: &Plan, row: &[u8]) -> Result<(RunEnd, Vec<Event>), AllocError> {
-    let window = window_in(alloc, row)?;
-    let replies = replies_in(alloc, row)?;
-    let vars = vars_in(alloc, row)?;
-    run_in_memory(alloc, plan, vars, replies, window)
-}
-
-fn end_and_events(alloc: Global, end: &RunEnd, events: &[Event]) -> Result<Vec<u8>, AllocError> {
-    let mut out = end_text(alloc, end)?;
-    put_events(alloc, &mut out, events)?;
-    Ok(out)
-}
-
-fn left_by_plan(alloc: Global, plan: &Plan, row: &[u8]) -> Result<Vec<u8>, AllocError> {
-    let (end, events) = ended(alloc, plan, row)?;
-    end_and_events(alloc, &end, events.as_slice())
-}
-
-fn left_by_source(alloc: Global, source: &Source, row: &[u8]) -> Result<Vec<u8>, Fail> {
-    let plan = plan_of(alloc, source)?;
-    Ok(left_by_plan(alloc, &plan, row)?)
-}
-
-/// What the two choices leave, and what the crew did.
-fn left(alloc: Global, row: &[u8]) -> Result<Vec<u8>, Fail> {
-    let source = read(alloc, TWO)?;
-    left_by_source(alloc, &source, row)
-}
-
-// The window, the variables before the run, the replies, and what is left and done. A program that is to be run is linked
-// first.
 const RUNS: &[u8] = b"\
-1|CC=cc|0 0 1|completed r=1 s=2, start 0, end 0, start 0, end 0, start 0, end 0;\
-3|CC=cc|0 0 1|completed r=1 s=2, start 0, end 0, start 0, end 0, start 0, end 0;\
-1|CC=cc|1 S|cut 2 r=2, start 0, end 0, refused 0;\
-3|CC=cc|E 0|cut 1, start 0, end 0;\
-1|CC=cc||cut 1;\
-1||0|stopped 1";
+// A program that is to be run is linked first.
+|1|cc|0 0 1 => completed r=1 s=2, start 0, end 0, start 0, end 0, start 0, end 0
+|3|cc|0 0 1 => completed r=1 s=2, start 0, end 0, start 0, end 0, start 0, end 0
+|1|cc|1 S => cut 2 r=2, start 0, end 0, refused 0
+|3|cc|E 0 => cut 1, start 0, end 0
+|1|cc| => cut 1
+|1||0 => stopped 1
+// A compiler that can't be started cuts the run. A shell is found in the second directory of PATH.
+CC=/nowhere/cc^JAC_COMPILE_IFELSE([AC_LANG_PROGRAM([],[])],[r=1],[r=2])|children => cut 1
+PATH=/nowhere:/bin^JAC_PATH_PROG([r],[sh])|children => completed r=/bin/sh
+// a machine whose only job is answered, and is cut
+AC_LINK_IFELSE([AC_LANG_PROGRAM([],[])],[r=1],[r=2])|machine|cc|0 => 1 asked, completed r=1
+AC_LINK_IFELSE([AC_LANG_PROGRAM([],[])],[r=1],[r=2])|machine|cc| => 1 asked, cut 1
+";
 
 #[test]
-fn over_a_crew_in_memory(rt: HostRuntime) -> Result<(), Fail> {
-    for row in &rows(rt.alloc(), RUNS)? {
-        let found = left(rt.alloc(), row)?;
-        assert_eq!(rt; found.as_slice(), part(rt.alloc(), row, 3)?.as_slice());
-    }
-    Ok(())
-}
-
-fn run_by_children(rt: &HostRuntime, plan: &Plan) -> Result<RunEnd, Fail> {
-    let system = rt.clone()?;
-    Ok(run_in_processes(rt.alloc(), system, plan, Vars::new(rt.alloc()))?)
-}
-
-fn plan_by_children(rt: &HostRuntime, plan: &Plan) -> Result<Vec<u8>, Fail> {
-    let end = run_by_children(rt, plan)?;
-    Ok(end_text(rt.alloc(), &end)?)
-}
-
-fn source_by_children(rt: &HostRuntime, source: &Source) -> Result<Vec<u8>, Fail> {
-    let plan = plan_of(rt.alloc(), source)?;
-    plan_by_children(rt, &plan)
-}
-
-/// What the run of these lines over real children leaves.
-fn left_by_children(rt: &HostRuntime, lines: &[u8]) -> Result<Vec<u8>, Fail> {
-    let source = read(rt.alloc(), lines)?;
-    source_by_children(rt, &source)
-}
-
-// The lines of a source, and what its run leaves. A compiler that can't be started cuts the run. A shell is found in the
-// second directory of PATH.
-const CHILDREN: &[u8] = b"\
-CC=/nowhere/cc\nAC_COMPILE_IFELSE([AC_LANG_PROGRAM([],[])],[r=1],[r=2])|cut 1;\
-PATH=/nowhere:/bin\nAC_PATH_PROG([r],[sh])|completed r=/bin/sh";
-
-#[test]
-fn over_processes(rt: HostRuntime) -> Result<(), Fail> {
-    enter(&rt, "over_processes")?;
-    for row in &rows(rt.alloc(), CHILDREN)? {
-        let found = left_by_children(&rt, part(rt.alloc(), row, 0)?.as_slice())?;
-        assert_eq!(rt; found.as_slice(), part(rt.alloc(), row, 1)?.as_slice());
-    }
-    leave(&rt, "over_processes")
+fn runs_of_sources(rt: HostRuntime) -> Result<(), Fail> {
+    try_rows_in(&rt, "runs", &Runs { rt: &rt }, RUNS)
 }

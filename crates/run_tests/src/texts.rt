@@ -1,27 +1,11 @@
-//! A test's table as one text, and what its rows give.
-//!
-//! A row ends at `;`, and `|` stands between its parts.
+//! What the parts of a row give.
 
-use crew::Reply;
-use deftable::{Bytes, Vars};
-use std::alloc::{AllocError, Global};
-use textcut::{fields, parts};
+use conftest::Words;
+use deftable::Bytes;
+use testrows::Page;
+use textcut::parts;
 
-/// The rows of a table.
-pub fn rows(alloc: Global, table: &[u8]) -> Result<Vec<&[u8]>, AllocError> {
-    parts(alloc, table, b';')
-}
-
-/// The part of a row at `i`, from 0; nothing if it has none.
-pub fn part(alloc: Global, row: &[u8], i: usize) -> Result<Bytes, AllocError> {
-    let all = parts(alloc, row, b'|')?;
-    match all.get(i) {
-        Some(text) => Bytes::from_slice(alloc, text),
-        None => Ok(Bytes::new(alloc)),
-    }
-}
-
-/// The number that a text of digits spells.
+/// Returns the number that a text of digits spells.
 pub fn number_of(text: &[u8]) -> usize {
     let mut number: usize = 0;
     for byte in text {
@@ -31,57 +15,56 @@ pub fn number_of(text: &[u8]) -> usize {
     number
 }
 
-pub fn put_number(alloc: Global, out: &mut Vec<u8>, number: u64) -> Result<(), AllocError> {
-    let digits = format!(in alloc; "{number}")?;
-    out.extend_from_slice(digits.as_bytes())
+/// Adds an item to a list.
+pub fn add<T: Drop>(page: &mut Page, list: &mut Vec<T>, item: T) {
+    if list.push(item).is_err() {
+        page.cut();
+    }
 }
 
-/// The words of a text with commas between them; they may be empty.
-pub fn words_of(alloc: Global, text: &[u8]) -> Result<Vec<Bytes>, AllocError> {
-    let mut words = Vec::new(alloc);
-    for word in &parts(alloc, text, b',')? {
-        words.push(Bytes::from_slice(alloc, word)?)?;
+/// Returns the parts of a text between these bytes. They may be empty, but an empty text has none.
+pub fn parts_of<'a>(page: &mut Page, text: &'a [u8], separator: u8) -> Vec<&'a [u8]> {
+    if !text.is_empty() {
+        if let Some(parts) = page.given(parts(page.alloc(), text, separator)) {
+            return parts;
+        }
     }
-    Ok(words)
+    Vec::new(page.alloc())
 }
 
-/// A text before and behind its first byte of this value; if it has none, the whole text and nothing.
-pub fn cut_at(text: &[u8], byte: u8) -> (&[u8], &[u8]) {
-    let len = text.iter().take_while(|b| **b != byte).count();
-    let len = len.min(text.len());
-    (&text[..len], &text[text.len().min(len.saturating_add(1))..])
+/// Returns the words of a text with commas between them. Each `~` is as in [`bytes_of`].
+pub fn words_of(page: &mut Page, text: &[u8]) -> Words {
+    let mut words = Vec::new(page.alloc());
+    for word in &parts_of(page, text, b',') {
+        let word = bytes_of(page, word);
+        add(page, &mut words, word);
+    }
+    Words::from_vec(words)
 }
 
-/// A reply: `STATUS:TEXT`, or `S` for a start that is refused and `E` for an end that is.
-pub fn reply_of(alloc: Global, word: &[u8]) -> Result<Reply, AllocError> {
-    if word == b"S".as_slice() {
-        return Ok(Reply::StartRefused);
+/// Returns the text, with 1,048,574 times `a` in place of each `~`.
+pub fn bytes_of(page: &mut Page, text: &[u8]) -> Bytes {
+    let mut bytes = Vec::new(page.alloc());
+    for byte in text {
+        let (piece, count) = if *byte == b'~' {
+            (b'a', 1_048_574)
+        } else {
+            (*byte, 1)
+        };
+        page.given(bytes.resize(bytes.len().saturating_add(count), piece));
     }
-    if word == b"E".as_slice() {
-        return Ok(Reply::EndRefused);
-    }
-    let (status, text) = cut_at(word, b':');
-    Ok(Reply::Answer {
-        status: number_of(status).min(256) as u32,
-        text: Bytes::from_slice(alloc, text)?,
-    })
+    Bytes::from_vec(bytes)
 }
 
-/// Replies with blanks between them.
-pub fn replies_of(alloc: Global, text: &[u8]) -> Result<Vec<Reply>, AllocError> {
-    let mut replies = Vec::new(alloc);
-    for word in &fields(alloc, text)? {
-        replies.push(reply_of(alloc, word)?)?;
+/// Puts a text. Of more than 48 bytes only their number, the first 16 and the last 16 are put.
+pub fn put_cut(page: &mut Page, text: &[u8]) {
+    if text.len() <= 48 {
+        page.put(text);
+    } else {
+        page.put_number(text.len());
+        page.put(b" bytes ");
+        page.put(&text[..16]);
+        page.put(b" .. ");
+        page.put(&text[text.len() - 16..]);
     }
-    Ok(replies)
-}
-
-/// Variables `NAME=VALUE` with blanks between them.
-pub fn vars_of(alloc: Global, text: &[u8]) -> Result<Vars, AllocError> {
-    let mut vars = Vars::new(alloc);
-    for word in &fields(alloc, text)? {
-        let (name, value) = cut_at(word, b'=');
-        vars.set(name, value)?;
-    }
-    Ok(vars)
 }

@@ -1,15 +1,16 @@
 use Rattle.std.proofs.Common.{◌≡◌, ℕ, ◌+◌, ◌≤◌, false}
 use Rattle.crew.specs.Events.{busy}
 use Rattle.run_tests.proofs.FlightLemmas.{Flies}
-use Rattle.run_tests.proofs.crews.ends_of.Given as goal
+use Rattle.run_tests.proofs.crews.put_ends.Given as goal
 
 abbrev pub invariant-starts : goal.invariant-starts
 invariant-starts g l =
     record {
-      flies : Flies l.slot (g.C.Crew.account l.crew).events;
+      flies : Flies l.flying (g.C.Crew.account l.crew).events;
+      few : l.flying ≤ l.slot;
       free : (s : ℕ) → l.slot ≤ s → busy s (g.C.Crew.account l.crew).events ≡ false;
-      attempts : (g.C.Crew.account l.crew).attempts ≡ l.slot;
-      failures : (g.C.Crew.account l.crew).failures ≡ 0;
+      attempts : (g.C.Crew.account l.crew).attempts ≤ l.slot;
+      failures : (g.C.Crew.account l.crew).failures ≤ l.slot;
     }
 
 abbrev pub invariant-ends : goal.invariant-ends
@@ -17,6 +18,6 @@ invariant-ends g l =
     record {
       left : ℕ;
       flies : Flies left (g.C.Crew.account l.crew).events;
-      count : left + l.counter ≡ l.count;
-      failures : (g.C.Crew.account l.crew).failures ≤ l.counter;
+      count : left + l.counter ≡ l.flying;
+      failures : (g.C.Crew.account l.crew).failures ≤ 16 + l.counter;
     }
