@@ -30,7 +30,7 @@ standin,c,bad.o, => 0
 standin,bad.c,none.c => 0
 standin,bad.c,\xff.c => 0
 standin,bad.c,a^@.c => 0
-// The answer is the first in the list, wherever it stands in the conftest. Empty lines don't count. Texts may lack a newline
+// The answer is the first in the list, wherever it is in the conftest. Empty lines don't count. Texts may lack a newline
 // at their end, and have bytes of any kind. The line that asks children to meet is the first one, and has nothing more in it.
 standin,-c,-O,conftest.c|||standin.txt sys/stat.h^J|conftest.c #include <sys/stat.h>^J => 1 err sys/stat.h^J
 standin,-c,-O,conftest.c|||standin.txt sys/stat.h^J|conftest.c #include <sys/types.h>^J => 0

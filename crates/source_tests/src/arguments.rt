@@ -237,8 +237,8 @@ fn stands(items: &[Item<'_>]) -> bool {
     let mut edge = NO_EDGE;
     for (i, item) in items.iter().enumerate() {
         if let Item::Call { name, args, at } = item {
-            let behind = items.get(i.saturating_add(1)..).unwrap_or(&[]);
-            return is_statement(edge, name, args.as_slice(), *at, behind);
+            let rest = items.get(i.saturating_add(1)..).unwrap_or(&[]);
+            return is_statement(edge, name, args.as_slice(), *at, rest);
         }
         edge = edge_of(item);
     }

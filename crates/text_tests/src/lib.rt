@@ -2,7 +2,7 @@
 //!
 //! They have what no clause says: an ordinary answer of each call, with ample memory; worked examples, each answer found by
 //! hand from the rules; and printed text. An example is a row of a table that `testrows` reads, and a row begins with a word
-//! for its call. What calls a crate stands in functions without a contract, so the proof of a test sees no contract of that
+//! for its call. What calls a crate is in functions without a contract, so the proof of a test sees no contract of that
 //! crate.
 #![tactic(auto)]
 
