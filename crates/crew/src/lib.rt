@@ -22,12 +22,15 @@
 //! only tests check; what the crew asks of a launcher is proved for every launcher. `specs/Launch.antt` defines these
 //! requests for a job, and `specs/Ending.antt` the reply at the end of a child. `children` keeps the account, and uses
 //! `child` and `diagnostics`. Both crews use `failures`, which counts refused calls, and `room`.
+//!
+//! `entry` is for whoever runs jobs over a crew: the log of the pieces that were printed and of the children.
 #![tactic(auto)]
 
 mod calls;
 mod child;
 mod children;
 mod diagnostics;
+mod entry;
 mod event;
 mod failures;
 mod flight;
@@ -39,6 +42,7 @@ mod reply;
 mod room;
 
 pub use calls::Crew;
+pub use entry::{Entry, Log};
 pub use event::{CrewEvent, Event, Refused};
 pub use memory::MemoryCrew;
 pub use order::{Order, SlotList};

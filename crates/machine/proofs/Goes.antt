@@ -1,11 +1,11 @@
 -- A machine goes from step to step.
 use Rattle.std.proofs.Common.{◌≡◌, ℕ, zero, suc, ◌+◌, ◌<◌, ◌≤◌, List, [], ◌∷◌, length, map, get_or, Option, Some, None, Result, Ok, Err, IfOk, refl, sym, ap, ◌∙◌, subst, arith}
-use Rattle.std.specs.Prelude.{replicate}
+use Rattle.std.specs.Prelude.{replicate, option_map}
 use Rattle.std.specs.declared.alloc.AllocError.{AllocError}
 use Rattle.std.proofs.Math.Path.{fun_ext}
 use Rattle.std.proofs.lemmas.List.{length-map}
 use Rattle.crew.specs.declared.reply.Reply.{Reply}
-use Rattle.meaning.specs.State.{State, Scope, Goes_on, Run, Ends, Asks}
+use Rattle.meaning.specs.State.{State, Scope, Goes_on, Cut, Run, Ends, Asks}
 use Rattle.plan.specs.declared.step.Step.{Step}
 use Rattle.plan.specs.Walk.{Instruction, act, walk, shown}
 use Rattle.plan.specs.Inside.{StaysInside, reach, asks_of, asks_after}
@@ -18,7 +18,8 @@ use Rattle.machine.specs.declared.wait.Wait.TheVariants as waits
 use Rattle.machine.specs.Flows.{Leads, Heeds, passed, asks_now}
 use Rattle.machine.specs.Moves.{arrived, turn_by}
 use Rattle.machine.specs.Standing.{Standing, with_phase, run_left, left_in, CutsAt, Refusals, asks_in, asks_left, Holds, Turned}
-use Rattle.machine.specs.Waits.{given, first_refused, resumed, waits_for}
+use Rattle.meaning.specs.Play.{first_refused, first_number, refused_after, last_words}
+use Rattle.machine.specs.Waits.{given, resumed, waits_for}
 
 -- One step, at an offset.
 walk_at : (steps : List Step) (k : ℕ) (s : Step) (c : Scope) (st : State) → k < length steps → s ≡ get_or steps k s
@@ -79,76 +80,75 @@ leads_pass (flow.Stop status) run c st e h next = cc
 leads_pass (flow.Cut number) run c st e h next = cc
 
 -- Nothing is refused if nothing was asked for.
-heeds_none : (f : Flow) (replies : List Reply) (before : ℕ) → first_refused replies ≡ None → Heeds f [] 0 → Heeds f replies before
-heeds_none (flow.Pass more) replies before none h = none
-heeds_none (flow.Ask job wait) replies before none h = none
-heeds_none flow.Complete replies before none h = none
-heeds_none (flow.Stop status) replies before none h = none
-heeds_none (flow.Cut number) replies before none h = let e = h.1 in cc
-
 no_refusal : (replies : List (Option Reply)) → length replies ≡ 0 → first_refused (given replies) ≡ None
 no_refusal [] e = refl
 no_refusal (r ∷ rs) e = absurd (omega arith)
 
--- The move of a machine that has done a step, or taken replies.
-pub record Moves (plan : List Instruction) (f : Flow) (old m : Standing) (run : (ℕ → Scope → State → Run) → Run) : Type 0 where
+-- The move of a machine that has done a step, or taken replies. `refused` is the number of the first refused child, if it
+-- is among those replies.
+pub record Moves (plan : List Instruction) (f : Flow) (old m : Standing) (refused : Option ℕ) (run : (ℕ → Scope → State → Run) → Run) : Type 0 where
   pub leads : Leads f run m.scope m.state
   pub place : m.place + 1 ≤ length plan
   pub jobs : m.jobs ≡ []
   pub replies : m.replies ≡ []
-  pub whole : run (λ k. walk plan (m.place + 1 + k)) ≡ run_left plan old
-  pub heeds : Heeds f (given old.replies) old.before
+  pub whole : last_words m.before refused (run (λ k. walk plan (m.place + 1 + k))) ≡ run_left plan old
+  pub heeds : Heeds f refused
   pub before : m.before ≡ old.before + length old.jobs
   pub asks : asks_now f + asks_after plan (m.place + 1) ≤ asks_left plan old
   pub counted : old.before + (length old.jobs + asks_left plan old) ≤ asks_after plan 0
-  pub cuts : (number : ℕ) → ((k : ℕ) × (first_refused (given old.replies) ≡ Some k) × (number ≡ old.before + k)) → CutsAt old.phase number old
+  pub none : refused ≡ None → first_refused (given old.replies) ≡ None
+  pub cuts : (number : ℕ) → refused ≡ Some number → CutsAt old.phase number old
 
 -- A turn.
-lands_by : (plan : List Instruction) (f : Flow) (t : Turn) (old m : Standing) (run : (ℕ → Scope → State → Run) → Run) → turn_by f ≡ Some t → Moves plan f old m run → Turned plan t old (arrived f m)
-lands_by plan (flow.Pass more) t old m run e h = cc
-lands_by plan (flow.Ask job wait) t old m run e h =
+lands_by : (plan : List Instruction) (f : Flow) (t : Turn) (old m : Standing) (refused : Option ℕ) (run : (ℕ → Scope → State → Run) → Run) → turn_by f ≡ Some t
+    → Moves plan f old m refused run → Turned plan t old (arrived f m)
+lands_by plan (flow.Pass more) t old m refused run e h = cc
+lands_by plan (flow.Ask job wait) t old m refused run e h =
     let is : turn.Ask ≡ t = cc in
     let n : m.place + 1 + 0 ≡ m.place + 1 = omega arith in
     subst (λ x. Turned plan x old (arrived (flow.Ask job wait) m)) is (record {
       same =
-          ap (λ k. Asks (job ∷ []) (λ rs. resumed wait rs (walk plan k) m.scope m.state)) (sym n)
-          ∙ sym (h.leads (λ k. walk plan (m.place + 1 + k))) ∙ h.whole;
+          ap (λ k. Asks (job ∷ []) (λ rs. last_words (m.before + 1) (refused_after m.before rs) (resumed wait (job ∷ []) rs (walk plan k) m.scope m.state))) (sym n)
+          ∙ sym (ap (λ r. last_words m.before r (Asks (job ∷ []) (λ rs. resumed wait (job ∷ []) rs (walk plan (m.place + 1 + 0)) m.scope m.state))) h.heeds)
+          ∙ sym (ap (last_words m.before refused) (h.leads (λ k. walk plan (m.place + 1 + k)))) ∙ h.whole;
       shows = (refl, refl);
       outcome = refl;
-      refusals = h.heeds;
+      refusals = h.none h.heeds;
       before = h.before;
       fresh = refl;
       fits = record { jobs = refl; replies = refl; place = h.place; counted = omega (arith, h.before, h.asks, h.counted) };
       ahead = omega (arith, h.asks);
     })
-lands_by plan flow.Complete t old m run e h =
+lands_by plan flow.Complete t old m refused run e h =
     let is : turn.Done ≡ t = cc in
     subst (λ x. Turned plan x old (arrived flow.Complete m)) is (record {
-      same = sym (h.leads (λ k. walk plan (m.place + 1 + k))) ∙ h.whole;
+      same = sym (ap (last_words m.before refused) (h.leads (λ k. walk plan (m.place + 1 + k)))) ∙ h.whole;
       shows = (refl, h.jobs, refl);
       outcome = refl;
-      refusals = h.heeds;
+      refusals = h.none h.heeds;
       before = h.before;
       fresh = h.replies ∙ sym (ap (λ l. replicate (length l) None) h.jobs);
       fits = record { jobs = ap length h.jobs; replies = ap length h.replies; place = omega (arith, h.place); counted = omega (arith, h.before, ap length h.jobs, h.counted) };
       ahead = omega (arith, ap length h.jobs);
     })
-lands_by plan (flow.Stop status) t old m run e h =
+lands_by plan (flow.Stop status) t old m refused run e h =
     let is : turn.Stopped status ≡ t = cc in
     subst (λ x. Turned plan x old (arrived (flow.Stop status) m)) is (record {
-      same = sym (h.leads (λ k. walk plan (m.place + 1 + k))) ∙ h.whole;
+      same = sym (ap (last_words m.before refused) (h.leads (λ k. walk plan (m.place + 1 + k)))) ∙ h.whole;
       shows = (refl, h.jobs, refl, refl);
       outcome = refl;
-      refusals = h.heeds;
+      refusals = h.none h.heeds;
       before = h.before;
       fresh = h.replies ∙ sym (ap (λ l. replicate (length l) None) h.jobs);
       fits = record { jobs = ap length h.jobs; replies = ap length h.replies; place = omega (arith, h.place); counted = omega (arith, h.before, ap length h.jobs, h.counted) };
       ahead = omega (arith, ap length h.jobs);
     })
-lands_by plan (flow.Cut number) t old m run e h =
+lands_by plan (flow.Cut number) t old m refused run e h =
     let is : turn.Cut number ≡ t = cc in
     subst (λ x. Turned plan x old (arrived (flow.Cut number) m)) is (record {
-      same = sym (h.leads (λ k. walk plan (m.place + 1 + k))) ∙ h.whole;
+      same =
+          sym (ap (λ r. last_words m.before r (Ends Cut m.state)) h.heeds)
+          ∙ sym (ap (last_words m.before refused) (h.leads (λ k. walk plan (m.place + 1 + k)))) ∙ h.whole;
       shows = (refl, h.jobs, refl);
       outcome = refl;
       refusals = h.cuts number h.heeds;
@@ -158,8 +158,9 @@ lands_by plan (flow.Cut number) t old m run e h =
       ahead = omega (arith, ap length h.jobs);
     })
 
-pub lands : (plan : List Instruction) (f : Flow) (t : Turn) (old m new : Standing) (run : (ℕ → Scope → State → Run) → Run) → turn_by f ≡ Some t → new ≡ arrived f m → Moves plan f old m run → Turned plan t old new
-lands plan f t old m new run e is h = subst (Turned plan t old) (sym is) (lands_by plan f t old m run e h)
+pub lands : (plan : List Instruction) (f : Flow) (t : Turn) (old m new : Standing) (refused : Option ℕ) (run : (ℕ → Scope → State → Run) → Run) → turn_by f ≡ Some t → new ≡ arrived f m
+    → Moves plan f old m refused run → Turned plan t old new
+lands plan f t old m new refused run e is h = subst (Turned plan t old) (sym is) (lands_by plan f t old m refused run e h)
 
 -- The loop of steps: the machine has come from `first` to `now`.
 pub record Comes (plan : List Instruction) (first now : Standing) : Type 0 where
@@ -174,8 +175,8 @@ pub record Comes (plan : List Instruction) (first now : Standing) : Type 0 where
 pub stepped : (steps : List Step) (s : Step) (f : Flow) (first now m : Standing) → now.place < length steps → s ≡ get_or steps now.place s
     → Holds 0 (map shown steps) (with_phase phase.Going first) → Comes (map shown steps) first now
     → m ≡ record now { phase = phase.Failed; scope = m.scope; state = m.state }
-    → asks_now f ≤ asks_of (shown s) → Heeds f [] 0 → Leads f (λ next. act (shown s) next now.scope now.state) m.scope m.state
-    → Moves (map shown steps) f (with_phase phase.Going first) m (λ next. act (shown s) next now.scope now.state)
+    → asks_now f ≤ asks_of (shown s) → Heeds f None → Leads f (λ next. act (shown s) next now.scope now.state) m.scope m.state
+    → Moves (map shown steps) f (with_phase phase.Going first) m None (λ next. act (shown s) next now.scope now.state)
 stepped steps s f first now m lt is holds h moved asks heeds leads =
     let plan = map shown steps in
     let place : m.place ≡ now.place = ap (λ x. x.place) moved in
@@ -185,13 +186,15 @@ stepped steps s f first now m lt is holds h moved asks heeds leads =
       jobs = ap (λ x. x.jobs) moved ∙ h.jobs;
       replies = ap (λ x. x.replies) moved ∙ h.replies;
       whole =
-          ap (λ n. act (shown s) (λ k. walk plan (n + 1 + k)) now.scope now.state) place
-          ∙ sym (walk_at steps now.place s now.scope now.state lt is) ∙ h.same;
-      heeds = heeds_none f (given first.replies) first.before (no_refusal first.replies holds.replies) heeds;
+          ap (λ n. last_words n None (act (shown s) (λ k. walk plan (m.place + 1 + k)) now.scope now.state)) (ap (λ x. x.before) moved ∙ h.before)
+          ∙ ap (last_words first.before None) (ap (λ n. act (shown s) (λ k. walk plan (n + 1 + k)) now.scope now.state) place
+          ∙ sym (walk_at steps now.place s now.scope now.state lt is) ∙ h.same);
+      heeds = heeds;
       before = omega (arith, ap (λ x. x.before) moved, h.before, holds.jobs);
       asks = omega (arith, asks, asks_here steps now.place s lt is, h.ahead, ap (λ n. asks_after plan (n + 1)) place);
       counted = holds.counted;
-      cuts = λ number c. c;
+      none = λ e. no_refusal first.replies holds.replies;
+      cuts = λ number e. cc;
     }
 
 -- The step is passed.
@@ -225,7 +228,7 @@ pub past : (steps : List Step) (first now new : Standing) → length steps ≤ n
     → new ≡ with_phase phase.Past now → Turned (map shown steps) turn.Done (with_phase phase.Going first) new
 past steps first now new le holds h is =
     subst (Turned (map shown steps) turn.Done (with_phase phase.Going first)) (sym is) (record {
-      same = sym (walk_past steps now.place now.scope now.state le) ∙ h.same;
+      same = ap (last_words first.before None) (sym (walk_past steps now.place now.scope now.state le) ∙ h.same);
       shows = (refl, h.jobs, refl);
       outcome = refl;
       refusals = no_refusal first.replies holds.replies;
@@ -235,27 +238,41 @@ past steps first now new le holds h is =
       ahead = omega (arith, ap length h.jobs);
     })
 
+-- The number of the first refused child of the run, from that among the replies.
+number_from : (before : ℕ) (later : Option ℕ) (number : ℕ) → option_map (λ k. before + k) later ≡ Some number → (k : ℕ) × (later ≡ Some k) × (number ≡ before + k)
+number_from before None number e = cc
+number_from before (Some k) number e = (k, refl, cc)
+
+none_from : (before : ℕ) (later : Option ℕ) → option_map (λ k. before + k) later ≡ None → later ≡ None
+none_from before None e = refl
+none_from before (Some k) e = cc
+
 -- The replies have been taken.
 pub told_all : (plan : List Instruction) (f : Flow) (old m : Standing) → old.phase ≡ phase.Asking → Holds 1 plan old
     → m ≡ record old { phase = phase.Failed; scope = m.scope; state = m.state; wait = waits.Nothing; before = old.before + 1; jobs = []; replies = [] }
-    → asks_now f ≤ waits_for old.wait → Heeds f (given old.replies) old.before
-    → Leads f (λ next. resumed old.wait (given old.replies) (next 0) old.scope old.state) m.scope m.state
-    → Moves plan f old m (λ next. resumed old.wait (given old.replies) (next 0) old.scope old.state)
+    → asks_now f ≤ waits_for old.wait → Heeds f (refused_after old.before (given old.replies))
+    → Leads f (λ next. resumed old.wait old.jobs (given old.replies) (next 0) old.scope old.state) m.scope m.state
+    → Moves plan f old m (refused_after old.before (given old.replies)) (λ next. resumed old.wait old.jobs (given old.replies) (next 0) old.scope old.state)
 told_all plan f old m asking holds moved asks heeds leads =
     let place : m.place ≡ old.place = ap (λ x. x.place) moved in
     let n : m.place + 1 + 0 ≡ old.place + 1 = omega arith in
+    let before : m.before ≡ old.before + length old.jobs = omega (arith, ap (λ x. x.before) moved, holds.jobs) in
     let left : asks_left plan old ≡ waits_for old.wait + asks_after plan (old.place + 1) = ap (λ p. asks_in p plan old) asking in
     record {
       leads = leads;
       place = omega (arith, place, holds.place);
       jobs = ap (λ x. x.jobs) moved;
       replies = ap (λ x. x.replies) moved;
-      whole = ap (λ k. resumed old.wait (given old.replies) (walk plan k) old.scope old.state) n ∙ sym (ap (λ p. left_in p plan old) asking);
+      whole =
+          ap (λ b. last_words b (refused_after old.before (given old.replies)) (resumed old.wait old.jobs (given old.replies) (walk plan (m.place + 1 + 0)) old.scope old.state)) before
+          ∙ ap (λ k. last_words (old.before + length old.jobs) (refused_after old.before (given old.replies)) (resumed old.wait old.jobs (given old.replies) (walk plan k) old.scope old.state)) n
+          ∙ sym (ap (λ p. left_in p plan old) asking);
       heeds = heeds;
-      before = omega (arith, ap (λ x. x.before) moved, holds.jobs);
+      before = before;
       asks = omega (arith, asks, left, ap (λ k. asks_after plan (k + 1)) place);
       counted = holds.counted;
-      cuts = λ number c. subst (λ p. CutsAt p number old) (sym asking) c;
+      none = none_from old.before (first_refused (given old.replies));
+      cuts = λ number e. subst (λ p. CutsAt p number old) (sym asking) (number_from old.before (first_refused (given old.replies)) number e);
     }
 
 refusals_after : (t : Turn) (old mid : Standing) → first_refused (given old.replies) ≡ None → mid.replies ≡ [] → Refusals t (with_phase phase.Going mid) → Refusals t old
@@ -264,17 +281,17 @@ refusals_after turn.Done old mid none empty h = none
 refusals_after (turn.Stopped status) old mid none empty h = none
 refusals_after (turn.Cut number) old mid none empty h = let e : None ≡ Some h.0 = sym (ap (λ l. first_refused (given l)) empty) ∙ h.1 in cc
 
-none_heard : (f : Flow) (replies : List Reply) (before : ℕ) → turn_by f ≡ None → Heeds f replies before → first_refused replies ≡ None
-none_heard (flow.Pass more) replies before e h = h
-none_heard (flow.Ask job wait) replies before e h = cc
-none_heard flow.Complete replies before e h = cc
-none_heard (flow.Stop status) replies before e h = cc
-none_heard (flow.Cut number) replies before e h = cc
+none_heard : (f : Flow) (refused : Option ℕ) → turn_by f ≡ None → Heeds f refused → refused ≡ None
+none_heard (flow.Pass more) refused e h = h
+none_heard (flow.Ask job wait) refused e h = cc
+none_heard flow.Complete refused e h = cc
+none_heard (flow.Stop status) refused e h = cc
+none_heard (flow.Cut number) refused e h = cc
 
 -- The replies have been taken, and the machine is before the next step.
 pub record Onward (plan : List Instruction) (old mid : Standing) : Type 0 where
   pub none : first_refused (given old.replies) ≡ None
-  pub same : walk plan mid.place mid.scope mid.state ≡ run_left plan old
+  pub same : last_words mid.before None (walk plan mid.place mid.scope mid.state) ≡ run_left plan old
   pub jobs : mid.jobs ≡ []
   pub replies : mid.replies ≡ []
   pub before : mid.before ≡ old.before + length old.jobs
@@ -282,15 +299,18 @@ pub record Onward (plan : List Instruction) (old mid : Standing) : Type 0 where
   pub ahead : asks_after plan mid.place ≤ asks_left plan old
   pub counted : old.before + (length old.jobs + asks_left plan old) ≤ asks_after plan 0
 
-pub onward : (plan : List Instruction) (f : Flow) (old m mid : Standing) (run : (ℕ → Scope → State → Run) → Run) → turn_by f ≡ None → mid ≡ arrived f m → passed f ≤ 0 → Moves plan f old m run → Onward plan old mid
-onward plan f old m mid run none arrives within h =
-    let e : mid ≡ record m { place = m.place + (1 + passed f) } = arrives ∙ arrived_pass f m none in
+pub onward : (plan : List Instruction) (f : Flow) (old m mid : Standing) (refused : Option ℕ) (run : (ℕ → Scope → State → Run) → Run) → turn_by f ≡ None → mid ≡ arrived f m → passed f ≤ 0
+    → Moves plan f old m refused run → Onward plan old mid
+onward plan f old m mid refused run passes arrives within h =
+    let e : mid ≡ record m { place = m.place + (1 + passed f) } = arrives ∙ arrived_pass f m passes in
     let n : m.place + (1 + passed f) ≡ m.place + 1 + passed f = omega arith in
+    let none = none_heard f refused passes h.heeds in
     record {
-      none = none_heard f (given old.replies) old.before none h.heeds;
+      none = h.none none;
       same =
-          ap (λ x. walk plan x.place x.scope x.state) e ∙ ap (λ k. walk plan k m.scope m.state) n
-          ∙ sym (leads_pass f run m.scope m.state none h.leads (λ k. walk plan (m.place + 1 + k))) ∙ h.whole;
+          ap (λ x. last_words x.before None (walk plan x.place x.scope x.state)) e ∙ ap (λ k. last_words m.before None (walk plan k m.scope m.state)) n
+          ∙ sym (ap (λ r. last_words m.before r (walk plan (m.place + 1 + passed f) m.scope m.state)) none)
+          ∙ sym (ap (last_words m.before refused) (leads_pass f run m.scope m.state passes h.leads (λ k. walk plan (m.place + 1 + k)))) ∙ h.whole;
       jobs = ap (λ x. x.jobs) e ∙ h.jobs;
       replies = ap (λ x. x.replies) e ∙ h.replies;
       before = ap (λ x. x.before) e ∙ h.before;

@@ -10,11 +10,14 @@ use Rattle.shellword.specs.Value.{word_value}
 use Rattle.syntax.specs.declared.statement.Plain as plain
 use Rattle.syntax.specs.declared.statement.Plain.TheVariants.{CheckProg, PathProg}
 use Rattle.meaning.specs.State.{State, Scope, Run, Ends, Goes_on, then_run}
-use Rattle.meaning.specs.Meaning.{effect, check_prog, path_prog, has_value, is_full_name, looks}
+use Rattle.meaning.specs.Meaning.{effect, check_prog, path_prog, program_test, has_value, is_full_name, looks}
 use Rattle.plan.specs.Walk.{own_effect}
 use Rattle.machine.specs.declared.flow.Flow.{Flow}
+use Rattle.machine.specs.declared.flow.Flow.TheVariants as flow
 use Rattle.machine.specs.Flows.{Leads, asks_now}
-use Rattle.meaning.specs.Search.{Search, ends_empty, without_last_empty, directory_of, directories_of, value_or_empty, searched, looked_up, cached_search, program_test}
+use Rattle.meaning.specs.Directories.{ends_empty, without_last_empty, directory_of, directories_of}
+use Rattle.meaning.specs.Rows.{Search, value_or_empty}
+use Rattle.machine.specs.Waits.{searched}
 
 -- The last part.
 pub last_at : (xs : List (Bor (List ℕ))) (d : Bor (List ℕ)) (i : ℕ) → i + 1 ≡ length xs → (length (get_or xs i d).now == 0) ≡ ends_empty (map (λ part. part.now) xs)
@@ -49,11 +52,7 @@ few_directories path =
     let l = without_last_empty (parts 58 path) in
     subst (λ k. k ≤ 65536) (sym (length-map (take 65536 l) directory_of)) (take_few 65536 l)
 
--- A search that is not cached.
-pub not_cached : (s : Search) (own : Bool) (st : State) → value_of st.vars s.name ≡ None → own ≡ false
-    → searched s (directories_of (value_or_empty st (codes "PATH"))) st ≡ program_test s own st
-not_cached s own st none is = sym (ap (λ b. looked_up s b st) is) ∙ sym (ap (λ v. cached_search v s own st) none)
-
+-- A program of a list that is looked for.
 pub looks_test : (variable program : List ℕ) (always own wanted : Bool) (st : State) → wanted ≡ (always || not own) → own ≡ has_value st variable → wanted ≡ true
     → program_test (check_prog variable program program None) (has_value st variable) st ≡ looks variable program always st
 looks_test variable program always own wanted st is has yes_wanted =
@@ -61,8 +60,23 @@ looks_test variable program always own wanted st is has yes_wanted =
     sym (ap (λ b. cond b (program_test (check_prog variable program program None) (has_value st variable) st) (Ends Goes_on st)) e)
 
 -- A flow that continues a run continues an equal one.
-pub led : (f : Flow) (about : Scope) (st : State) (run run' : Run) → run ≡ run' → Leads f (λ next. then_run run (next 0 about)) about st → Leads f (λ next. then_run run' (next 0 about)) about st
-led f about st run run' e h = subst (λ r. Leads f (λ next. then_run r (next 0 about)) about st) e h
+pub led : (f : Flow) (c : Scope) (st : State) (run run' : (ℕ → Scope → State → Run) → Run) → ((next : ℕ → Scope → State → Run) → run next ≡ run' next) → Leads f run c st → Leads f run' c st
+led (flow.Pass more) c st run run' e h = λ next. sym (e next) ∙ h next
+led (flow.Ask job wait) c st run run' e h = λ next. sym (e next) ∙ h next
+led flow.Complete c st run run' e h = λ next. sym (e next) ∙ h next
+led (flow.Stop status) c st run run' e h = λ next. sym (e next) ∙ h next
+led (flow.Cut number) c st run run' e h = λ next. sym (e next) ∙ h next
+
+pub led_one : (r : Result Flow AllocError) (c : Scope) (st : State) (run run' : (ℕ → Scope → State → Run) → Run) → ((next : ℕ → Scope → State → Run) → run next ≡ run' next)
+    → IfOk r (λ f. Leads f run c st) → IfOk r (λ f. Leads f run' c st)
+led_one (Ok f) c st run run' e h = led f c st run run' e h
+led_one (Err x) c st run run' e h = h
+
+pub led_ok : (r : Result Flow AllocError) (st : State) (run run' : Scope → (ℕ → Scope → State → Run) → Run)
+    → ((c : Scope) (next : ℕ → Scope → State → Run) → run c next ≡ run' c next)
+    → IfOk r (λ f. (c : Scope) → Leads f (run c) c st) → IfOk r (λ f. (c : Scope) → Leads f (run' c) c st)
+led_ok (Ok f) st run run' e h = λ c. led f c st (run c) (run' c) (e c) (h c)
+led_ok (Err x) st run run' e h = h
 
 pub few_ok : (r : Result Flow AllocError) (n m : ℕ) → n ≤ m → IfOk r (λ f. asks_now f ≤ n) → IfOk r (λ f. asks_now f ≤ m)
 few_ok (Ok f) n m le h = omega (arith, le, h)
@@ -70,18 +84,15 @@ few_ok (Err e) n m le h = h
 
 -- A directory is tried, and the others are left.
 pub asked_in : (r : Result Flow AllocError) (s : Search) (directory : List ℕ) (rest left : List (List ℕ)) (st : State) → left ≡ directory ∷ rest
-    → IfOk r (λ f. (about : Scope) (now : State) → Leads f (λ next. then_run (searched s (directory ∷ rest) now) (next 0 about)) about now)
-    → IfOk r (λ f. (about : Scope) → Leads f (λ next. then_run (searched s left st) (next 0 about)) about st)
-asked_in (Ok f) s directory rest left st e h = λ about. led f about st _ _ (ap (λ l. searched s l st) (sym e)) (h about st)
+    → IfOk r (λ f. (about : Scope) (now : State) → Leads f (λ next. searched s (directory ∷ rest) now (next 0 about)) about now)
+    → IfOk r (λ f. (about : Scope) → Leads f (λ next. searched s left st (next 0 about)) about st)
+asked_in (Ok f) s directory rest left st e h = λ about. led f about st _ _ (λ next. ap (λ l. searched s l st (next 0 about)) (sym e)) (h about st)
 asked_in (Err x) s directory rest left st e h = h
 
 -- What holds for every choice holds for this one.
 pub for_scope : (r : Result Flow AllocError) (run : Scope → (ℕ → Scope → State → Run) → Run) (about : Scope) (st : State) → IfOk r (λ f. (a : Scope) → Leads f (run a) a st) → IfOk r (λ f. Leads f (run about) about st)
 for_scope (Ok f) run about st h = h about
 for_scope (Err x) run about st h = h
-
-pub led_ok : (r : Result Flow AllocError) (st : State) (run run' : Run) → run ≡ run' → IfOk r (λ f. (about : Scope) → Leads f (λ next. then_run run (next 0 about)) about st) → IfOk r (λ f. (about : Scope) → Leads f (λ next. then_run run' (next 0 about)) about st)
-led_ok r st run run' e h = subst (λ x. IfOk r (λ f. (about : Scope) → Leads f (λ next. then_run x (next 0 about)) about st)) e h
 
 pub check_effect : (statement : plain.Plain) (variable program : List ℕ) (f : List Part) (o : Option (List Part)) (seen found : List ℕ) (otherwise : Option (List ℕ)) (st : State)
     → statement ≡ CheckProg variable program f o → seen ≡ variable → found ≡ word_value f st.vars → otherwise ≡ option_map (λ t. word_value t st.vars) o

@@ -1,15 +1,14 @@
 -- What follows a step, or the replies that it waited for.
-use Rattle.std.specs.Prelude.{◌≡◌, ℕ, ◌+◌, List, ◌∷◌, [], Some, None}
-use Rattle.crew.specs.declared.reply.Reply.{Reply}
+use Rattle.std.specs.Prelude.{◌≡◌, ℕ, ◌+◌, ◌∷◌, [], Option, Some, None}
 use Rattle.meaning.specs.State.{State, Scope, Completed, Stopped, Cut, Run, Ends, Asks}
 use Rattle.machine.specs.declared.flow.Flow.{Flow}
 use Rattle.machine.specs.declared.flow.Flow.TheVariants as flow
-use Rattle.machine.specs.Waits.{first_refused, resumed, waits_for}
+use Rattle.machine.specs.Waits.{resumed, waits_for}
 
 -- A run of a step, as a function of what follows it, continues as the flow says, with this subject and state. (own)
 abbrev pub Leads : Flow → ((ℕ → Scope → State → Run) → Run) → Scope → State → Type 0
 Leads (flow.Pass more) run scope st = (next : ℕ → Scope → State → Run) → run next ≡ next more scope st
-Leads (flow.Ask job wait) run scope st = (next : ℕ → Scope → State → Run) → run next ≡ Asks (job ∷ []) (λ replies. resumed wait replies (next 0) scope st)
+Leads (flow.Ask job wait) run scope st = (next : ℕ → Scope → State → Run) → run next ≡ Asks (job ∷ []) (λ replies. resumed wait (job ∷ []) replies (next 0) scope st)
 Leads flow.Complete run scope st = (next : ℕ → Scope → State → Run) → run next ≡ Ends Completed st
 Leads (flow.Stop status) run scope st = (next : ℕ → Scope → State → Run) → run next ≡ Ends (Stopped status) st
 Leads (flow.Cut number) run scope st = (next : ℕ → Scope → State → Run) → run next ≡ Ends Cut st
@@ -30,11 +29,10 @@ asks_now flow.Complete = 0
 asks_now (flow.Stop status) = 0
 asks_now (flow.Cut number) = 0
 
--- A run is cut short exactly if a reply is refused; the number is that of the first refused child of the run, in which
--- n were asked for before these replies. (own)
-abbrev pub Heeds : Flow → List Reply → ℕ → Type 0
-Heeds (flow.Cut number) replies before = (k : ℕ) × (first_refused replies ≡ Some k) × (number ≡ before + k)
-Heeds (flow.Pass more) replies before = first_refused replies ≡ None
-Heeds (flow.Ask job wait) replies before = first_refused replies ≡ None
-Heeds flow.Complete replies before = first_refused replies ≡ None
-Heeds (flow.Stop status) replies before = first_refused replies ≡ None
+-- A run is cut short exactly if a child was refused, at its number. (own)
+abbrev pub Heeds : Flow → Option ℕ → Type 0
+Heeds (flow.Cut number) refused = refused ≡ Some number
+Heeds (flow.Pass more) refused = refused ≡ None
+Heeds (flow.Ask job wait) refused = refused ≡ None
+Heeds flow.Complete refused = refused ≡ None
+Heeds (flow.Stop status) refused = refused ≡ None

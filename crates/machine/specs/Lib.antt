@@ -1,4 +1,5 @@
 pub mod Waits
+pub mod Known
 pub mod Flows
 pub mod Standing
 pub mod Moves

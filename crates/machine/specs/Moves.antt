@@ -5,15 +5,16 @@ use Rattle.machine.specs.declared.flow.Flow.TheVariants as flow
 use Rattle.machine.specs.declared.machine.Phase.TheVariants as phase
 use Rattle.machine.specs.declared.machine.Turn.{Turn}
 use Rattle.machine.specs.declared.machine.Turn.TheVariants as turn
+use Rattle.meaning.specs.Play.{with_cut_line}
 use Rattle.machine.specs.Standing.{Standing}
 
--- The machine after it goes to what follows a step. (own)
+-- The machine after it goes to what follows a step; a cut prints its line. (own)
 abbrev pub arrived : Flow → Standing → Standing
 arrived (flow.Pass more) m = record m { place = m.place + (1 + more) }
 arrived (flow.Ask job wait) m = record m { phase = phase.Asking; wait = wait; jobs = job ∷ []; replies = None ∷ [] }
 arrived flow.Complete m = record m { phase = phase.Completed }
 arrived (flow.Stop status) m = record m { phase = phase.Stopped status }
-arrived (flow.Cut number) m = record m { phase = phase.Cut number }
+arrived (flow.Cut number) m = record m { phase = phase.Cut number; state = with_cut_line (Some number) m.state }
 
 -- The turn of the machine, unless the next step can be done. (own)
 abbrev pub turn_by : Flow → Option Turn

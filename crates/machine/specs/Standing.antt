@@ -12,7 +12,8 @@ use Rattle.machine.specs.declared.machine.Turn.TheVariants as turn
 use Rattle.machine.specs.declared.machine.Outcome.{Outcome}
 use Rattle.machine.specs.declared.machine.Outcome.TheVariants as outcome
 use Rattle.machine.specs.declared.wait.Wait.{Wait}
-use Rattle.machine.specs.Waits.{given, first_refused, resumed, waits_for}
+use Rattle.meaning.specs.Play.{first_refused, refused_after, last_words}
+use Rattle.machine.specs.Waits.{given, resumed, waits_for}
 
 -- A machine, as contracts see it: its place is the number of steps that are passed; while it asks, `jobs` are asked
 -- for, after `before` others, and `replies` has room for the reply to each. (own)
@@ -30,16 +31,22 @@ pub record Standing : Type 0 where
 abbrev pub with_phase : Phase → Standing → Standing
 with_phase p m = record m { phase = p }
 
+-- The run that remains for a machine once it has these replies to the jobs that it asks for. (own)
+abbrev pub run_under : List Reply → List Instruction → Standing → Run
+run_under replies plan m =
+    last_words (m.before + length m.jobs) (refused_after m.before replies) (resumed m.wait m.jobs replies (walk plan (m.place + 1)) m.scope m.state)
+
 -- The run that remains for a machine: the walk from its place on, or its end, or the jobs that it asks for and what
--- follows their replies; once memory ran out, it has no meaning. (own)
+-- follows their replies; once memory ran out, it has no meaning. If it is cut short, its last words are the line of the
+-- cut. (own)
 abbrev pub run_in : Phase → List Instruction → Standing → Run
-run_in phase.Going plan m = walk plan m.place m.scope m.state
-run_in phase.Asking plan m = Asks m.jobs (λ replies. resumed m.wait replies (walk plan (m.place + 1)) m.scope m.state)
+run_in phase.Going plan m = last_words m.before None (walk plan m.place m.scope m.state)
+run_in phase.Asking plan m = Asks m.jobs (λ replies. run_under replies plan m)
 run_in phase.Past plan m = Ends Goes_on m.state
 run_in phase.Completed plan m = Ends Completed m.state
 run_in (phase.Stopped status) plan m = Ends (Stopped status) m.state
 run_in (phase.Cut number) plan m = Ends Cut m.state
-run_in phase.Failed plan m = walk plan m.place m.scope m.state
+run_in phase.Failed plan m = last_words m.before None (walk plan m.place m.scope m.state)
 
 -- The run that remains for a machine, in its own phase. (own)
 abbrev pub run_at : List Instruction → Standing → Run
@@ -47,7 +54,7 @@ run_at plan m = run_in m.phase plan m
 
 -- The run that remains once the given replies are taken. (own)
 abbrev pub left_in : Phase → List Instruction → Standing → Run
-left_in phase.Asking plan m = resumed m.wait (given m.replies) (walk plan (m.place + 1)) m.scope m.state
+left_in phase.Asking plan m = run_under (given m.replies) plan m
 left_in p plan m = run_in p plan m
 
 -- The same, in the machine's own phase. (own)

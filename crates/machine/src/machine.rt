@@ -1,8 +1,9 @@
 //! The machine and its turns.
 
-ghost use Rattle.std.specs.Prelude.{◌≡◌, ◌+◌, ◌<◌, ◌≤◌, ◌^◌, List, [], ◌∷◌, Some, None, unwrap_or, IfOk, IsOk, IsErr, OnOk, OnErr, IsSome, IfSome, length, map, replicate, slice_get, slice_set};
+ghost use Rattle.std.specs.Prelude.{◌≡◌, ◌+◌, ◌<◌, ◌≤◌, ◌^◌, List, [], ◌∷◌, Some, None, unwrap_or, IfOk, IsOk, IsErr, OnOk, OnErr, IsSome, IfSome, length, map, option_to_list, replicate, slice_get, slice_set};
 ghost use Rattle.crew.specs.declared.reply.Reply.TheVariants.{StartRefused};
-ghost use Rattle.meaning.specs.State.{Scope, State, no_choice};
+ghost use Rattle.meaning.specs.Play.{refused_after, with_cut_line};
+ghost use Rattle.meaning.specs.State.{Scope, State, no_choice, opened};
 ghost use Rattle.plan.specs.Inside.{StaysInside, asks_after, asks_of, reach};
 ghost use Rattle.plan.specs.Walk.{act, shown};
 ghost use Rattle.machine.specs.Flows.{Heeds, Leads, asks_now, passed};
@@ -15,9 +16,10 @@ use crate::flow::Flow;
 use crate::stepping::{do_step, hear};
 use crate::wait::Wait;
 use conftest::Job;
-use crew::Reply;
-use deftable::{Defs, Vars};
+use crew::{Log, Reply};
+use deftable::{Defs, Notes, Vars};
 use plan::{Plan, Step};
+use runstate::pieces::report_cut;
 use runstate::{About, Store};
 use std::alloc::{AllocError, Global};
 use std::marker::Model;
@@ -55,6 +57,10 @@ pub struct RunEnd {
     pub vars: Vars,
     /// The definitions, for the config header.
     pub defs: Defs,
+    /// What was printed.
+    pub messages: Notes,
+    /// The same pieces, and the children that were asked for.
+    pub log: Log,
 }
 
 /// The state of a machine.
@@ -123,7 +129,7 @@ impl Machine {
     /// Creates a machine before the first step of the plan, with these variables and no definitions. It allocates
     /// nothing.
     pub fn new(alloc: Global, _plan: &Plan, vars: Vars) -> Machine
-        ensures { result ≡ record { phase = Phase.Going; place = 0; scope = no_choice; state = record { vars = vars; defs = [] }; wait = waits.Nothing; before = 0; jobs = []; replies = [] } }
+        ensures { result ≡ record { phase = Phase.Going; place = 0; scope = no_choice; state = opened vars; wait = waits.Nothing; before = 0; jobs = []; replies = [] } }
     {
         Machine {
             alloc,
@@ -188,7 +194,7 @@ impl Machine {
     /// Returns the result of a run that is at its end.
     pub fn end(self) -> RunEnd
         requires { IsSome (outcome_of self.phase) }
-        ensures { IfSome (outcome_of self.phase) (λ outcome. result ≡ record { outcome = outcome; vars = self.state.vars; defs = self.state.defs }) }
+        ensures { IfSome (outcome_of self.phase) (λ outcome. result ≡ record { outcome = outcome; vars = self.state.vars; defs = self.state.defs; messages = self.state.messages; log = self.state.log }) }
     {
         let Machine {
             alloc: _alloc,
@@ -202,11 +208,13 @@ impl Machine {
             replies: _replies,
         } = self;
         let outcome = outcome_at(phase);
-        let (vars, defs) = store.into_parts();
+        let (vars, defs, messages, log) = store.into_parts();
         RunEnd {
             outcome,
             vars,
             defs,
+            messages,
+            log,
         }
     }
 
@@ -223,14 +231,14 @@ impl Machine {
         ensures err { OnErr result (self.new ≡ record self.old { phase = Phase.Failed; scope = self.new.scope; state = self.new.state }) }
         ensures within { IfOk result (λ flow. passed flow ≤ reach (shown step.now)) }
         ensures asks { IfOk result (λ flow. asks_now flow ≤ asks_of (shown step.now)) }
-        ensures heeds { IfOk result (λ flow. Heeds flow [] 0) }
+        ensures heeds { IfOk result (λ flow. Heeds flow None) }
         ensures leads { IfOk result (λ flow. Leads flow (λ next. act (shown step.now) next self.old.scope self.old.state) self.new.scope self.new.state) }
     {
         self.phase = Phase::Failed;
         do_step(self.alloc, &mut self.store, &mut self.about, step)
     }
 
-    // Takes the replies to the jobs that were asked for.
+    // Takes the reply to the job that was asked for.
     fn hear(&mut self) -> Result<Flow, AllocError>
         requires jobs { length self.old.jobs ≡ 1 }
         requires replies { length self.old.replies ≡ 1 }
@@ -239,21 +247,22 @@ impl Machine {
         ensures err { OnErr result (self.new ≡ record self.old { phase = Phase.Failed; scope = self.new.scope; state = self.new.state; wait = waits.Nothing; before = self.old.before + 1; jobs = []; replies = [] }) }
         ensures within { IfOk result (λ flow. passed flow ≤ 0) }
         ensures asks { IfOk result (λ flow. asks_now flow ≤ waits_for self.old.wait) }
-        ensures heeds { IfOk result (λ flow. Heeds flow (given self.old.replies) self.old.before) }
-        ensures leads { IfOk result (λ flow. Leads flow (λ next. resumed self.old.wait (given self.old.replies) (next 0) self.old.scope self.old.state) self.new.scope self.new.state) }
+        ensures heeds { IfOk result (λ flow. Heeds flow (refused_after self.old.before (given self.old.replies))) }
+        ensures leads { IfOk result (λ flow. Leads flow (λ next. resumed self.old.wait self.old.jobs (given self.old.replies) (next 0) self.old.scope self.old.state) self.new.scope self.new.state) }
     {
         self.phase = Phase::Failed;
         let before = self.before;
         self.before = before + 1;
-        self.jobs = Vec::new(self.alloc);
-        let replies = mem::replace(&mut self.replies, Vec::new(self.alloc));
+        let job = only_job(mem::replace(&mut self.jobs, Vec::new(self.alloc)));
+        let reply = only_reply(mem::replace(&mut self.replies, Vec::new(self.alloc)));
         let wait = mem::replace(&mut self.wait, Wait::Nothing);
         hear(
             self.alloc,
             &mut self.store,
             &mut self.about,
             wait,
-            replies.as_slice(),
+            job,
+            reply,
             before,
         )
     }
@@ -286,12 +295,23 @@ impl Machine {
         Ok(Some(Turn::Ask))
     }
 
+    // Prints the line of the cut, and ends the run there.
+    fn cut_at(&mut self, number: u64) -> Result<Option<Turn>, AllocError>
+        ensures turn { IfOk result (λ turn. turn ≡ Some (Turn.Cut number)) }
+        ensures moved { OnOk result (self.new ≡ record self.old { phase = Phase.Cut number; state = with_cut_line (Some number) self.old.state }) }
+        ensures err { OnErr result (self.new ≡ record self.old { state = self.new.state }) }
+    {
+        report_cut(self.alloc, &mut self.store, number)?;
+        self.phase = Phase::Cut(number);
+        Ok(Some(Turn::Cut(number)))
+    }
+
     // Goes to what follows a step. Returns a turn unless the next step can be done.
     fn arrive(&mut self, flow: Flow) -> Result<Option<Turn>, AllocError>
         requires room { self.old.place + (1 + passed flow) < 2 ^ 64 }
         ensures turn { IfOk result (λ turn. turn ≡ turn_by flow) }
         ensures moved { OnOk result (self.new ≡ arrived flow self.old) }
-        ensures err { OnErr result (self.new ≡ self.old) }
+        ensures err { OnErr result (self.new ≡ record self.old { state = self.new.state }) }
     {
         match flow {
             Flow::Pass { more } => {
@@ -307,10 +327,7 @@ impl Machine {
                 self.phase = Phase::Stopped(status);
                 Ok(Some(Turn::Stopped(status)))
             }
-            Flow::Cut { number } => {
-                self.phase = Phase::Cut(number);
-                Ok(Some(Turn::Cut(number)))
-            }
+            Flow::Cut { number } => self.cut_at(number),
         }
     }
 
@@ -355,6 +372,25 @@ impl Machine {
             Some(turn) => Ok(turn),
             None => self.go_on(steps),
         }
+    }
+}
+
+// Returns the only job.
+fn only_job(mut jobs: Vec<Job>) -> Option<Job>
+    requires { length jobs.items ≡ 1 }
+    ensures { option_to_list result ≡ jobs.items }
+{
+    jobs.pop()
+}
+
+// Returns the only reply. A missing one is a refused start.
+fn only_reply(mut replies: Vec<Option<Reply>>) -> Reply
+    requires { length replies.items ≡ 1 }
+    ensures { result ∷ [] ≡ given replies.items }
+{
+    match replies.pop() {
+        Some(Some(reply)) => reply,
+        Some(None) | None => Reply::StartRefused,
     }
 }
 

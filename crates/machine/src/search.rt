@@ -1,10 +1,16 @@
 //! Searches for programs along PATH (Autoconf's manual, "Generic Programs").
 
-ghost use Rattle.std.specs.Prelude.{◌≡◌, ◌≤◌, ◌+◌, ◌++◌, ◌∷◌, [], Some, IfOk, OnOk, IfSome, IfNone, if◌then◌else◌, length, option_map, codes, map, take};
+ghost use Rattle.std.specs.Prelude.{◌≡◌, ◌≤◌, ◌+◌, ◌++◌, ◌∷◌, [], None, Some, IfOk, OnOk, IfSome, IfNone, if◌then◌else◌, length, option_map, codes, map, take};
 ghost use Rattle.conftest.specs.Probe.{path_of};
-ghost use Rattle.meaning.specs.State.{Ends, Goes_on, Scope, State, then_run};
-ghost use Rattle.meaning.specs.Search.{ends_empty, directory_of, directories_of, program_test, searched, settled_as, value_or_empty, without_last_empty};
+ghost use Rattle.deftable.specs.Table as tables;
+ghost use Rattle.meaning.specs.Directories.{ends_empty, directory_of, directories_of, without_last_empty};
+ghost use Rattle.meaning.specs.Meaning.{program_test};
+ghost use Rattle.meaning.specs.Rows.{message_of, text_or_no, value_or_empty};
+ghost use Rattle.meaning.specs.State.{Run, Scope, State, then_run, with_variable};
+ghost use Rattle.meaning.specs.Tests.{checking, with_result, with_value};
 ghost use Rattle.machine.specs.Flows.{Heeds, Leads, asks_now, passed};
+ghost use Rattle.machine.specs.Known.{IsCached, IsKnown};
+ghost use Rattle.machine.specs.Waits.{finished, searched};
 ghost use Rattle.machine.specs.declared.flow.Flow.TheVariants.{Pass};
 
 use crate::flow::Flow;
@@ -12,6 +18,7 @@ use crate::wait::Wait;
 use conftest::{Job, path_job};
 use deftable::Bytes;
 use runstate::Store;
+use runstate::pieces::{begin_search, end_cached, end_search};
 use std::alloc::{AllocError, Global};
 use std::marker::Model;
 use textcut::parts;
@@ -33,7 +40,7 @@ pub(crate) struct Search {
 }
 
 impl Model for Search {
-    ghost use Rattle.meaning.specs.Search.{Search};
+    ghost use Rattle.meaning.specs.Rows.{Search};
 
     ghost Value = { Search };
 
@@ -129,22 +136,50 @@ fn directories_in(alloc: Global, parts: &[&[u8]]) -> Result<Vec<Bytes>, AllocErr
     Ok(directories)
 }
 
+/// Gives the name of a search its value, if there is one.
+fn keep(store: &mut Store, name: &[u8], value: Option<&Bytes>) -> Result<(), AllocError>
+    ensures { OnOk result (store.new ≡ with_value name.now (option_map (λ v. v.now) value.entry) store.old) }
+{
+    match value {
+        Some(value) => store.set(name, value.as_slice()),
+        None => Ok(()),
+    }
+}
+
+/// Prints the value of a search's name, and gives it to the variable.
+fn publish(alloc: Global, store: &mut Store, search: &Search) -> Result<(), AllocError>
+    ensures { OnOk result (store.new ≡ with_variable search.now.variable (value_or_empty store.old search.now.name) (with_result (text_or_no (value_or_empty store.old search.now.name)) store.old)) }
+{
+    let value = store.value_or_empty(alloc, search.name.as_slice())?;
+    end_search(alloc, store, value.as_slice())?;
+    store.set(search.variable.as_slice(), value.as_slice())
+}
+
 /// Ends a search with the value that its name gets, if there is one.
-pub(crate) fn settle(
+fn finish(
+    alloc: Global,
     store: &mut Store,
     search: &Search,
     value: Option<&Bytes>,
 ) -> Result<(), AllocError>
-    ensures { OnOk result (store.new ≡ settled_as search.now (option_map (λ v. v.now) value.entry) store.old) }
+    ensures { OnOk result (store.new ≡ finished search.now (option_map (λ v. v.now) value.entry) store.old) }
 {
-    match value {
-        Some(value) => {
-            store.set(search.name.as_slice(), value.as_slice())?;
-            store.set(search.variable.as_slice(), value.as_slice())?;
-        }
-        None => store.set(search.variable.as_slice(), b"")?,
-    }
-    Ok(())
+    keep(store, search.name.as_slice(), value)?;
+    publish(alloc, store, search)
+}
+
+/// Ends a search with this value. The next step follows.
+pub(crate) fn pass_search(
+    alloc: Global,
+    store: &mut Store,
+    search: &Search,
+    value: Option<&Bytes>,
+) -> Result<Flow, AllocError>
+    ensures passes { IfOk result (λ flow. flow ≡ Pass 0) }
+    ensures finishes { OnOk result (store.new ≡ finished search.now (option_map (λ v. v.now) value.entry) store.old) }
+{
+    finish(alloc, store, search, value)?;
+    Ok(Flow::Pass { more: 0 })
 }
 
 /// Returns a program's name within a directory.
@@ -154,19 +189,6 @@ fn file_in(alloc: Global, directory: &Bytes, program: &Bytes) -> Result<Bytes, A
     let mut file = Vec::from_slice(alloc, directory.as_slice())?;
     file.extend_from_slice(program.as_slice())?;
     Ok(Bytes::from_vec(file))
-}
-
-/// Ends a search with this value. The next step follows.
-pub(crate) fn end_search(
-    store: &mut Store,
-    search: &Search,
-    value: Option<&Bytes>,
-) -> Result<Flow, AllocError>
-    ensures passes { IfOk result (λ flow. flow ≡ Pass 0) }
-    ensures settles { OnOk result (store.new ≡ settled_as search.now (option_map (λ v. v.now) value.entry) store.old) }
-{
-    settle(store, search, value)?;
-    Ok(Flow::Pass { more: 0 })
 }
 
 /// Returns a program's name within a directory, and the job that looks for it there.
@@ -179,11 +201,16 @@ fn try_in(alloc: Global, directory: &Bytes, program: &Bytes) -> Result<(Bytes, J
 }
 
 /// Asks whether this directory has the program. `left` are the directories after it.
-fn ask_in(alloc: Global, directory: &Bytes, search: Search, left: Directories) -> Result<Flow, AllocError>
+fn ask_in(
+    alloc: Global,
+    directory: &Bytes,
+    search: Search,
+    left: Directories,
+) -> Result<Flow, AllocError>
     ensures within { IfOk result (λ flow. passed flow ≤ 0) }
     ensures asks { IfOk result (λ flow. asks_now flow ≤ 1 + length left) }
-    ensures heeds { IfOk result (λ flow. Heeds flow [] 0) }
-    ensures leads { IfOk result (λ flow. (about : Scope) (st : State) → Leads flow (λ next. then_run (searched search (directory.now ∷ left) st) (next 0 about)) about st) }
+    ensures heeds { IfOk result (λ flow. Heeds flow None) }
+    ensures leads { IfOk result (λ flow. (about : Scope) (st : State) → Leads flow (λ next. searched search (directory.now ∷ left) st (next 0 about)) about st) }
 {
     let (file, job) = try_in(alloc, directory, &search.program)?;
     Ok(Flow::Ask {
@@ -201,12 +228,12 @@ pub(crate) fn look_on(
 ) -> Result<Flow, AllocError>
     ensures within { IfOk result (λ flow. passed flow ≤ 0) }
     ensures asks { IfOk result (λ flow. asks_now flow ≤ length left) }
-    ensures heeds { IfOk result (λ flow. Heeds flow [] 0) }
-    ensures leads { IfOk result (λ flow. (about : Scope) → Leads flow (λ next. then_run (searched search left store.old) (next 0 about)) about store.new) }
+    ensures heeds { IfOk result (λ flow. Heeds flow None) }
+    ensures leads { IfOk result (λ flow. (about : Scope) → Leads flow (λ next. searched search left store.old (next 0 about)) about store.new) }
 {
     match left.take_first() {
         Some(directory) => ask_in(alloc, &directory, search, left),
-        None => end_search(store, &search, search.otherwise.as_ref()),
+        None => pass_search(alloc, store, &search, search.otherwise.as_ref()),
     }
 }
 
@@ -222,53 +249,91 @@ fn path_directories(alloc: Global, store: &Store) -> Result<Directories, AllocEr
 fn search_path(alloc: Global, store: &mut Store, search: Search) -> Result<Flow, AllocError>
     ensures within { IfOk result (λ flow. passed flow ≤ 0) }
     ensures asks { IfOk result (λ flow. asks_now flow ≤ 65536) }
-    ensures heeds { IfOk result (λ flow. Heeds flow [] 0) }
-    ensures leads { IfOk result (λ flow. (about : Scope) → Leads flow (λ next. then_run (searched search (directories_of (value_or_empty store.old (codes "PATH"))) store.old) (next 0 about)) about store.new) }
+    ensures heeds { IfOk result (λ flow. Heeds flow None) }
+    ensures leads { IfOk result (λ flow. (about : Scope) → Leads flow (λ next. searched search (directories_of (value_or_empty store.old (codes "PATH"))) store.old (next 0 about)) about store.new) }
 {
     let directories = path_directories(alloc, store)?;
     look_on(alloc, store, search, directories)
 }
 
-/// Ends a search with its variable's own value.
-fn settle_own(alloc: Global, store: &mut Store, search: &Search) -> Result<(), AllocError>
-    ensures { OnOk result (store.new ≡ settled_as search.now (Some (value_or_empty store.old search.now.variable)) store.old) }
-{
-    let value = store.value_or_empty(alloc, search.variable.as_slice())?;
-    settle(store, search, Some(&value))
-}
-
-/// Ends a search that needs no child: its name is set, or its variable has a value that counts (`own`). Returns whether
-/// it is one.
-fn settle_known(
+/// Prints the value of a name that is set, and gives it to the variable.
+fn publish_cached(
     alloc: Global,
     store: &mut Store,
     search: &Search,
-    own: bool,
-) -> Result<bool, AllocError>
-    ensures { IfOk result (λ known. program_test search.now own store.old ≡ if known then Ends Goes_on store.new else searched search.now (directories_of (value_or_empty store.new (codes "PATH"))) store.new) }
+    value: &Bytes,
+) -> Result<(), AllocError>
+    ensures { OnOk result (store.new ≡ with_variable search.now.variable value.now (with_result (codes "(cached) " ++ text_or_no value.now) store.old)) }
 {
-    if store.copy_value(alloc, search.name.as_slice(), search.variable.as_slice())? {
-        return Ok(true);
-    }
-    if own {
-        settle_own(alloc, store, search)?;
-    }
-    Ok(own)
+    end_cached(alloc, store, value.as_slice())?;
+    store.set(search.variable.as_slice(), value.as_slice())
 }
 
-/// Runs a cached search: it needs no child if its name is set, or if its variable has a value that counts (`own`).
+/// Returns the value of a search's name, if it is set.
+fn kept_value(alloc: Global, store: &Store, search: &Search) -> Result<Option<Bytes>, AllocError>
+    ensures { IfOk result (λ v. v ≡ tables.value_of store.now.vars search.now.name) }
+{
+    store.value_of(alloc, search.name.as_slice())
+}
+
+/// If the name of a search is set, prints its value and gives it to the variable. Returns whether it is set.
+fn finish_cached(alloc: Global, store: &mut Store, search: &Search) -> Result<bool, AllocError>
+    ensures { IfOk result (λ is_set. IsCached (tables.value_of store.old.vars search.now.name) search.now is_set store.old store.new) }
+{
+    let Some(value) = kept_value(alloc, store, search)? else {
+        return Ok(false);
+    };
+    publish_cached(alloc, store, search, &value)?;
+    Ok(true)
+}
+
+/// Ends a search with its variable's own value.
+fn finish_own(alloc: Global, store: &mut Store, search: &Search) -> Result<(), AllocError>
+    ensures { OnOk result (store.new ≡ finished search.now (Some (value_or_empty store.old search.now.variable)) store.old) }
+{
+    let value = store.value_or_empty(alloc, search.variable.as_slice())?;
+    finish(alloc, store, search, Some(&value))
+}
+
+/// Ends a search that needs no child: its name is set, or its variable has a value that counts. Returns whether it is one.
+fn finish_known(
+    alloc: Global,
+    store: &mut Store,
+    search: &Search,
+    counts: bool,
+) -> Result<bool, AllocError>
+    ensures { IfOk result (λ known. IsKnown search.now counts known store.old store.new) }
+{
+    if finish_cached(alloc, store, search)? {
+        return Ok(true);
+    }
+    if counts {
+        finish_own(alloc, store, search)?;
+    }
+    Ok(counts)
+}
+
+/// Prints that a program is looked for.
+fn begin(alloc: Global, store: &mut Store, search: &Search) -> Result<(), AllocError>
+    ensures { OnOk result (store.new ≡ checking (codes "for " ++ search.now.program) store.old) }
+{
+    begin_search(alloc, store, search.program.as_slice())
+}
+
+/// Runs a cached search. It needs no child if its name is set, or if its variable has a value that counts.
 pub(crate) fn look_for(
     alloc: Global,
     store: &mut Store,
     search: Search,
-    own: bool,
+    counts: bool,
 ) -> Result<Flow, AllocError>
     ensures within { IfOk result (λ flow. passed flow ≤ 0) }
     ensures asks { IfOk result (λ flow. asks_now flow ≤ 65536) }
-    ensures heeds { IfOk result (λ flow. Heeds flow [] 0) }
-    ensures leads { IfOk result (λ flow. (about : Scope) → Leads flow (λ next. then_run (program_test search own store.old) (next 0 about)) about store.new) }
+    ensures heeds { IfOk result (λ flow. Heeds flow None) }
+    ensures leads { IfOk result (λ flow. (about : Scope) → Leads flow (λ next. then_run (program_test search counts store.old) (next 0 about)) about store.new) }
 {
-    let known = settle_known(alloc, store, &search, own)?;
+    begin(alloc, store, &search)?;
+    let known = finish_known(alloc, store, &search, counts)?;
     if known {
         return Ok(Flow::Pass { more: 0 });
     }

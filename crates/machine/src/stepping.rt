@@ -1,29 +1,34 @@
 //! One step, and what follows the replies to its jobs.
 
-ghost use Rattle.std.specs.Prelude.{◌≡◌, unwrap_or, ◌≤◌, ◌<◌, ◌+◌, ◌^◌, ◌++◌, ◌||◌, not, [], IfOk, IsOk, OnOk, Some, if◌then◌else◌, length, option_map};
-ghost use Rattle.crew.specs.declared.reply.Reply.TheVariants.{StartRefused};
+ghost use Rattle.std.specs.Prelude.{◌≡◌, unwrap_or, ◌≤◌, ◌<◌, ◌+◌, ◌^◌, ◌++◌, ◌∷◌, ◌||◌, not, [], IfOk, IsOk, OnOk, None, Some, if◌then◌else◌, length, option_map, option_to_list};
 ghost use Rattle.deftable.specs.ShellName.{IsShellName};
 ghost use Rattle.deftable.specs.Table as tables;
-ghost use Rattle.meaning.specs.Asking.{only_reply, success};
-ghost use Rattle.meaning.specs.Meaning.{asked, begun, check_prog, defaulted, has_value, is_full_name, is_taken, looks, path_prog, value_name, with_definition, with_prefixes};
+ghost use Rattle.deftable.specs.declared.note.Stream.TheVariants as streams;
+ghost use Rattle.meaning.specs.Asking.{no_compiler, success};
+ghost use Rattle.meaning.specs.Asking as meant;
+ghost use Rattle.meaning.specs.Meaning.{asked, begun, check_prog, defaulted, error_line, has_value, is_full_name, is_taken, looks, path_prog, program_test, value_name, with_prefixes};
 ghost use Rattle.meaning.specs.Meaning as meanings;
-ghost use Rattle.meaning.specs.State.{Ends, Goes_on, Scope, answered, then_run};
-ghost use Rattle.meaning.specs.Search.{program_test, searched, settled_as, value_or_empty, with_variable};
-ghost use Rattle.meaning.specs.Tries.{text_of, tried};
+ghost use Rattle.meaning.specs.Play.{refused_after, refused_here};
+ghost use Rattle.meaning.specs.Rows.{value_or_empty};
+ghost use Rattle.meaning.specs.State as states;
+ghost use Rattle.meaning.specs.State.{Scope, answered, as_is, then_run, told, with_child, with_definition, with_variable};
+ghost use Rattle.conftest.specs.Probe.{job_of};
+ghost use Rattle.meaning.specs.Tries.{first_probe, text_of, tried};
 ghost use Rattle.shellword.specs.Value.{word_value};
 ghost use Rattle.plan.specs.Inside.{asks_about, asks_by, asks_of, asks_to_try, reach};
 ghost use Rattle.plan.specs.Walk.{act, own_effect, shown};
 ghost use Rattle.machine.specs.Flows.{Heeds, Leads, asks_now, passed};
-ghost use Rattle.machine.specs.declared.flow.Flow.TheVariants.{Complete, Pass};
-ghost use Rattle.machine.specs.Waits.{first_refused, given, refused_here, resumed, told, waits_for};
+ghost use Rattle.machine.specs.declared.flow.Flow.TheVariants.{Complete, Cut, Pass, Stop};
+ghost use Rattle.machine.specs.Waits.{early_in, finished, resumed, searched, told_to, waits_for, with_asked};
 
 use crate::flow::Flow;
-use crate::search::{Directories, Search, end_search, look_for, look_on};
+use crate::search::{Directories, Search, look_for, look_on, pass_search};
 use crate::wait::Wait;
-use conftest::run_job;
+use conftest::{Job, run_job};
 use crew::Reply;
 use deftable::Bytes;
 use plan::Step;
+use runstate::pieces::{break_test, report_error, report_no_compiler};
 use runstate::{About, Store, initialise};
 use shellword::{HereText, Word};
 use std::alloc::{AllocError, Global};
@@ -117,7 +122,7 @@ fn check_program(
 ) -> Result<Flow, AllocError>
     ensures within { IfOk result (λ flow. passed flow ≤ 0) }
     ensures asks { IfOk result (λ flow. asks_now flow ≤ 65536) }
-    ensures heeds { IfOk result (λ flow. Heeds flow [] 0) }
+    ensures heeds { IfOk result (λ flow. Heeds flow None) }
     ensures leads { IfOk result (λ flow. (about : Scope) → Leads flow (λ next. then_run (program_test (check_prog variable.now program.now found otherwise) (has_value store.old variable.now) store.old) (next 0 about)) about store.new) }
 {
     let own = store.has_value(variable);
@@ -137,7 +142,7 @@ fn find_program(
 ) -> Result<Flow, AllocError>
     ensures within { IfOk result (λ flow. passed flow ≤ 0) }
     ensures asks { IfOk result (λ flow. asks_now flow ≤ 65536) }
-    ensures heeds { IfOk result (λ flow. Heeds flow [] 0) }
+    ensures heeds { IfOk result (λ flow. Heeds flow None) }
     ensures leads { IfOk result (λ flow. (about : Scope) → Leads flow (λ next. then_run (program_test (path_prog variable.now program.now otherwise) (is_full_name (value_or_empty store.old variable.now)) store.old) (next 0 about)) about store.new) }
 {
     let own = store.has_full_name(variable);
@@ -158,7 +163,7 @@ fn check_for(
 ) -> Result<Flow, AllocError>
     ensures within { IfOk result (λ flow. passed flow ≤ 0) }
     ensures asks { IfOk result (λ flow. asks_now flow ≤ 65536) }
-    ensures heeds { IfOk result (λ flow. Heeds flow [] 0) }
+    ensures heeds { IfOk result (λ flow. Heeds flow None) }
     ensures leads { IfOk result (λ flow. (about : Scope) → Leads flow (λ next. then_run (program_test (check_prog variable.now program.now (word_value found.now store.old.vars) (option_map (λ t. word_value t store.old.vars) otherwise.now)) (has_value store.old variable.now) store.old) (next 0 about)) about store.new) }
 {
     let found = store.here_text(alloc, found)?;
@@ -176,7 +181,7 @@ fn find_for(
 ) -> Result<Flow, AllocError>
     ensures within { IfOk result (λ flow. passed flow ≤ 0) }
     ensures asks { IfOk result (λ flow. asks_now flow ≤ 65536) }
-    ensures heeds { IfOk result (λ flow. Heeds flow [] 0) }
+    ensures heeds { IfOk result (λ flow. Heeds flow None) }
     ensures leads { IfOk result (λ flow. (about : Scope) → Leads flow (λ next. then_run (program_test (path_prog variable.now program.now (option_map (λ t. word_value t store.old.vars) otherwise.now)) (is_full_name (value_or_empty store.old variable.now)) store.old) (next 0 about)) about store.new) }
 {
     let otherwise = value_of(alloc, store, otherwise)?;
@@ -214,6 +219,21 @@ fn complete(store: &mut Store) -> Result<Flow, AllocError>
     Ok(Flow::Complete)
 }
 
+/// Stops the run with an exit status, after the line of the error is printed.
+fn stop(
+    alloc: Global,
+    store: &mut Store,
+    message: &HereText,
+    status: u8,
+) -> Result<Flow, AllocError>
+    ensures stops { IfOk result (λ flow. flow ≡ Stop status) }
+    ensures prints { OnOk result (store.new ≡ told streams.Err (error_line (word_value message.now store.old.vars)) store.old) }
+{
+    let text = store.here_text(alloc, message)?;
+    report_error(alloc, store, text.as_slice())?;
+    Ok(Flow::Stop { status })
+}
+
 /// Continues with the next step, if `done` is no error.
 fn pass(done: Result<(), AllocError>) -> Result<Flow, AllocError>
     ensures passes { IfOk result (λ flow. flow ≡ Pass 0) }
@@ -228,7 +248,7 @@ fn pass(done: Result<(), AllocError>) -> Result<Flow, AllocError>
 fn execute(alloc: Global, store: &mut Store, statement: &Plain) -> Result<Flow, AllocError>
     ensures within { IfOk result (λ flow. passed flow ≤ 0) }
     ensures asks { IfOk result (λ flow. asks_now flow ≤ asks_by statement.now) }
-    ensures heeds { IfOk result (λ flow. Heeds flow [] 0) }
+    ensures heeds { IfOk result (λ flow. Heeds flow None) }
     ensures leads { IfOk result (λ flow. (about : Scope) → Leads flow (λ next. then_run (own_effect statement.now store.old) (next 0 about)) about store.new) }
 {
     match statement {
@@ -260,7 +280,7 @@ fn execute(alloc: Global, store: &mut Store, statement: &Plain) -> Result<Flow, 
         Plain::DefineUnquoted { name, value } => {
             pass(define_value(alloc, store, name.as_slice(), value))
         }
-        Plain::Error { status, .. } => Ok(Flow::Stop { status: *status }),
+        Plain::Error { message, status } => stop(alloc, store, message, *status),
         Plain::CheckProg {
             variable,
             program,
@@ -293,7 +313,7 @@ fn look(
 ) -> Result<Flow, AllocError>
     ensures within { IfOk result (λ flow. passed flow ≤ 0) }
     ensures asks { IfOk result (λ flow. asks_now flow ≤ 65536) }
-    ensures heeds { IfOk result (λ flow. Heeds flow [] 0) }
+    ensures heeds { IfOk result (λ flow. Heeds flow None) }
     ensures leads { IfOk result (λ flow. (about : Scope) → Leads flow (λ next. then_run (looks variable.now program.now always store.old) (next 0 about)) about store.new) }
 {
     let own = store.has_value(variable);
@@ -334,21 +354,42 @@ fn value_name(kind: OptionKind) -> &'static [u8]
     }
 }
 
+/// Stops the run because there is no compiler.
+fn stop_without_compiler(alloc: Global, store: &mut Store) -> Result<Flow, AllocError>
+    ensures stops { IfOk result (λ flow. flow ≡ Stop 1) }
+    ensures prints { OnOk result (store.new ≡ told streams.Err no_compiler store.old) }
+{
+    report_no_compiler(alloc, store)?;
+    Ok(Flow::Stop { status: 1 })
+}
+
+/// Returns the first job of a program, or `None` if there is no compiler.
+fn first_job(
+    alloc: Global,
+    store: &Store,
+    kind: Try,
+    program: &Program,
+) -> Result<Option<Job>, AllocError>
+    ensures { IfOk result (λ job. job ≡ job_of (first_probe kind (text_of program.now store.now.vars)) 0 store.now.vars store.now.defs) }
+{
+    let text = store.program_text(alloc, program)?;
+    store.job_to_try(alloc, kind, text.as_slice())
+}
+
 /// Tries a program.
 fn try_program(
     alloc: Global,
-    store: &Store,
+    store: &mut Store,
     kind: Try,
     program: &Program,
 ) -> Result<Flow, AllocError>
     ensures within { IfOk result (λ flow. passed flow ≤ 0) }
     ensures asks { IfOk result (λ flow. asks_now flow ≤ asks_to_try kind) }
-    ensures heeds { IfOk result (λ flow. Heeds flow [] 0) }
-    ensures leads { IfOk result (λ flow. (about : Scope) → Leads flow (λ next. tried kind (text_of program.now store.now.vars) store.now (λ passed. next 0 (answered passed) store.now)) about store.now) }
+    ensures heeds { IfOk result (λ flow. Heeds flow None) }
+    ensures leads { IfOk result (λ flow. (about : Scope) → Leads flow (λ next. tried as_is kind (text_of program.now store.old.vars) store.old (λ passed. next 0 (answered passed))) about store.new) }
 {
-    let text = store.program_text(alloc, program)?;
-    let Some(job) = store.job_to_try(alloc, kind, text.as_slice())? else {
-        return Ok(Flow::Stop { status: 1 });
+    let Some(job) = first_job(alloc, store, kind, program)? else {
+        return stop_without_compiler(alloc, store);
     };
     let wait = match kind {
         Try::Compile | Try::Link | Try::Preproc => Wait::Answer,
@@ -382,8 +423,8 @@ fn ask(
 ) -> Result<Flow, AllocError>
     ensures within { IfOk result (λ flow. passed flow ≤ 0) }
     ensures asks { IfOk result (λ flow. asks_now flow ≤ asks_about (Subject.Asked question.now)) }
-    ensures heeds { IfOk result (λ flow. Heeds flow [] 0) }
-    ensures leads { IfOk result (λ flow. Leads flow (λ next. asked question.now store.old (next 0)) about.new store.new) }
+    ensures heeds { IfOk result (λ flow. Heeds flow None) }
+    ensures leads { IfOk result (λ flow. Leads flow (λ next. asked as_is question.now store.old (next 0)) about.new store.new) }
 {
     match question {
         Question::Given { kind, variable, .. } => {
@@ -407,8 +448,8 @@ fn begin(
 ) -> Result<Flow, AllocError>
     ensures within { IfOk result (λ flow. passed flow ≤ 0) }
     ensures asks { IfOk result (λ flow. asks_now flow ≤ asks_about subject.now) }
-    ensures heeds { IfOk result (λ flow. Heeds flow [] 0) }
-    ensures leads { IfOk result (λ flow. Leads flow (λ next. begun subject.now store.old (next 0)) about.new store.new) }
+    ensures heeds { IfOk result (λ flow. Heeds flow None) }
+    ensures leads { IfOk result (λ flow. Leads flow (λ next. begun as_is subject.now store.old (next 0)) about.new store.new) }
 {
     match subject {
         Subject::Nothing => *about = About::nothing(alloc),
@@ -460,7 +501,7 @@ pub(crate) fn do_step(
 ) -> Result<Flow, AllocError>
     ensures within { IfOk result (λ flow. passed flow ≤ reach (shown step.now)) }
     ensures asks { IfOk result (λ flow. asks_now flow ≤ asks_of (shown step.now)) }
-    ensures heeds { IfOk result (λ flow. Heeds flow [] 0) }
+    ensures heeds { IfOk result (λ flow. Heeds flow None) }
     ensures leads { IfOk result (λ flow. Leads flow (λ next. act (shown step.now) next about.old store.old) about.new store.new) }
 {
     match step {
@@ -478,12 +519,12 @@ pub(crate) fn do_step(
 }
 
 /// Returns whether the child with this reply succeeded, or `None` if it didn't answer.
-fn success(reply: &Option<Reply>) -> Option<bool>
-    ensures { result ≡ success (unwrap_or reply.now StartRefused) }
+fn success(reply: &Reply) -> Option<bool>
+    ensures { result ≡ success reply.now }
 {
     match reply {
-        Some(Reply::Answer { status, .. }) => Some(*status == 0),
-        Some(Reply::StartRefused) | Some(Reply::EndRefused) | None => None,
+        Reply::Answer { status, .. } => Some(*status == 0),
+        Reply::StartRefused | Reply::EndRefused => None,
     }
 }
 
@@ -498,14 +539,14 @@ fn tell_search(
 ) -> Result<Flow, AllocError>
     ensures within { IfOk result (λ flow. passed flow ≤ 0) }
     ensures asks { IfOk result (λ flow. asks_now flow ≤ length left) }
-    ensures heeds { IfOk result (λ flow. Heeds flow [] 0) }
-    ensures leads { IfOk result (λ flow. (about : Scope) → Leads flow (λ next. then_run (if found then Ends Goes_on (settled_as search (Some (unwrap_or search.found file)) store.old) else searched search left store.old) (next 0 about)) about store.new) }
+    ensures heeds { IfOk result (λ flow. Heeds flow None) }
+    ensures leads { IfOk result (λ flow. (about : Scope) → Leads flow (λ next. if found then next 0 about (finished search (Some (unwrap_or search.found file)) store.old) else searched search left store.old (next 0 about)) about store.new) }
 {
     if !found {
         return look_on(alloc, store, search, left);
     }
     let value = search.found.as_ref().unwrap_or(&file);
-    end_search(store, &search, Some(value))
+    pass_search(alloc, store, &search, Some(value))
 }
 
 /// Continues with whether the child succeeded.
@@ -518,8 +559,8 @@ fn tell(
 ) -> Result<Flow, AllocError>
     ensures within { IfOk result (λ flow. passed flow ≤ 0) }
     ensures asks { IfOk result (λ flow. asks_now flow ≤ waits_for wait) }
-    ensures heeds { IfOk result (λ flow. Heeds flow [] 0) }
-    ensures leads { IfOk result (λ flow. Leads flow (λ next. told wait succeeded (next 0) about.old store.old) about.new store.new) }
+    ensures heeds { IfOk result (λ flow. Heeds flow None) }
+    ensures leads { IfOk result (λ flow. Leads flow (λ next. told_to wait succeeded (next 0) about.old store.old) about.new store.new) }
 {
     match wait {
         Wait::Nothing => Ok(Flow::Pass { more: 0 }),
@@ -546,24 +587,73 @@ fn tell(
     }
 }
 
+/// Ends what is waited for, because the reply is refused.
+fn break_off(alloc: Global, store: &mut Store, wait: &Wait) -> Result<(), AllocError>
+    ensures { OnOk result (store.new ≡ early_in wait.now states.Cut store.old) }
+{
+    match wait {
+        Wait::Directory { search, .. } => break_test(alloc, store, search.name.as_slice()),
+        Wait::Nothing | Wait::Answer | Wait::Link => Ok(()),
+    }
+}
+
+/// Cuts the run short at the child of this number.
+fn cut(alloc: Global, store: &mut Store, wait: &Wait, number: u64) -> Result<Flow, AllocError>
+    ensures cuts { IfOk result (λ flow. flow ≡ Cut number) }
+    ensures breaks { OnOk result (store.new ≡ early_in wait.now states.Cut store.old) }
+{
+    break_off(alloc, store, wait)?;
+    Ok(Flow::Cut { number })
+}
+
+/// Continues with the reply to a job that was asked for, after `before` other children.
+fn hear_reply(
+    alloc: Global,
+    store: &mut Store,
+    about: &mut About,
+    wait: Wait,
+    heard: Option<bool>,
+    before: u64,
+) -> Result<Flow, AllocError>
+    requires { before + 1 < 2 ^ 64 }
+    ensures within { IfOk result (λ flow. passed flow ≤ 0) }
+    ensures asks { IfOk result (λ flow. asks_now flow ≤ waits_for wait) }
+    ensures heeds { IfOk result (λ flow. Heeds flow (option_map (λ k. before + k) (refused_here heard None))) }
+    ensures leads { IfOk result (λ flow. Leads flow (λ next. meant.heard (early_in wait) heard store.old (λ b now. told_to wait b (next 0) about.old now)) about.new store.new) }
+{
+    match heard {
+        Some(succeeded) => tell(alloc, store, about, wait, succeeded),
+        None => cut(alloc, store, &wait, before + 1),
+    }
+}
+
+/// Adds the job that was asked for to the log, with its reply.
+fn log_asked(store: &mut Store, job: Option<Job>, reply: Reply) -> Result<(), AllocError>
+    ensures { OnOk result (store.new ≡ with_asked (option_to_list job) (reply ∷ []) store.old) }
+{
+    match job {
+        Some(job) => store.log_child(job, reply),
+        None => Ok(()),
+    }
+}
+
 /// Continues with the reply to the job that was asked for, after `before` other children.
 pub(crate) fn hear(
     alloc: Global,
     store: &mut Store,
     about: &mut About,
     wait: Wait,
-    replies: &[Option<Reply>],
+    job: Option<Job>,
+    reply: Reply,
     before: u64,
 ) -> Result<Flow, AllocError>
-    requires one { length replies.now ≡ 1 }
-    requires room { before + 1 < 2 ^ 64 }
+    requires { before + 1 < 2 ^ 64 }
     ensures within { IfOk result (λ flow. passed flow ≤ 0) }
     ensures asks { IfOk result (λ flow. asks_now flow ≤ waits_for wait) }
-    ensures heeds { IfOk result (λ flow. Heeds flow (given replies.now) before) }
-    ensures leads { IfOk result (λ flow. Leads flow (λ next. resumed wait (given replies.now) (next 0) about.old store.old) about.new store.new) }
+    ensures heeds { IfOk result (λ flow. Heeds flow (refused_after before (reply ∷ []))) }
+    ensures leads { IfOk result (λ flow. Leads flow (λ next. resumed wait (option_to_list job) (reply ∷ []) (next 0) about.old store.old) about.new store.new) }
 {
-    match success(&replies[0]) {
-        Some(succeeded) => tell(alloc, store, about, wait, succeeded),
-        None => Ok(Flow::Cut { number: before + 1 }),
-    }
+    let heard = success(&reply);
+    log_asked(store, job, reply)?;
+    hear_reply(alloc, store, about, wait, heard, before)
 }

@@ -1,7 +1,9 @@
 pub mod State
 pub mod Asking
+pub mod Tests
+pub mod Directories
+pub mod Rows
 pub mod Play
 pub mod Package
 pub mod Tries
-pub mod Search
 pub mod Meaning

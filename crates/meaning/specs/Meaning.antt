@@ -1,6 +1,7 @@
 -- The meaning of statements.
 use Rattle.std.specs.Prelude.{ℕ, ◌==◌, ◌&&◌, ◌||◌, length, [], ◌∷◌, ◌++◌, option_map, Bool, true, false, not, List, Option, Some, None, bytes_eq, codes, if◌then◌else◌}
-use Rattle.deftable.specs.Table.{value_of, with_entry}
+use Rattle.deftable.specs.declared.note.Stream.TheVariants as streams
+use Rattle.deftable.specs.Table.{value_of}
 use Rattle.shellword.specs.Matching.{matches_any}
 use Rattle.shellword.specs.Truth.{truth}
 use Rattle.shellword.specs.Value.{word_value}
@@ -16,13 +17,10 @@ use Rattle.syntax.specs.declared.tree.When.{When}
 use Rattle.syntax.specs.declared.tree.When.TheVariants.{Holds, Matches, Yes, No, Always}
 use Rattle.syntax.specs.Script.{Script, Done, Then, Choice, Cases, No_case, Case}
 use Rattle.meaning.specs.Package.{initialised}
-use Rattle.meaning.specs.Search.{Search, with_variable, value_or_empty, program_test}
+use Rattle.meaning.specs.State.{State, Scope, no_choice, about, answered, told, with_variable, with_definition, How, as_is, Run, Ends, Goes_on, Completed, Stopped, then_run}
+use Rattle.meaning.specs.Rows.{Search, Program, value_or_empty, value_if, row_of}
+use Rattle.meaning.specs.Tests.{tested}
 use Rattle.meaning.specs.Tries.{text_of, tried}
-use Rattle.meaning.specs.State.{State, Scope, no_choice, about, answered, Run, Ends, Goes_on, Completed, Stopped, then_run}
-
--- A name defined as a value; a new definition replaces an old one. (Autoconf's manual, "Defining Symbols")
-abbrev pub with_definition : List ℕ → List ℕ → State → State
-with_definition name value st = record { vars = st.vars; defs = with_entry st.defs name value }
 
 -- The prefix is set, and is still `NONE`. (own)
 abbrev pub is_unsettled : Option (List ℕ) → Bool
@@ -69,6 +67,10 @@ is_full_name [] = false
 is_full_name (a ∷ []) = is_slash a
 is_full_name (a ∷ b ∷ more) = is_slash a || (b == 58 && starts_slash more)
 
+-- The test of a program; `counts` says whether the variable's own value counts. (Autoconf's manual, "Generic Programs")
+abbrev pub program_test : Search → Bool → State → Run
+program_test s counts st = tested (row_of (Program s (value_if counts (value_or_empty st s.variable))) st) st
+
 -- One program of several: the first is always looked for, a later one only if the variable is still empty. (Autoconf's
 -- manual, "Generic Programs")
 abbrev pub looks : List ℕ → List ℕ → Bool → State → Run
@@ -87,9 +89,13 @@ abbrev pub defaulted : List ℕ → Option (List ℕ) → State → State
 defaulted variable None st = st
 defaulted variable (Some value) st = if has_value st variable then st else with_variable variable value st
 
+-- The line of an error. (Autoconf's manual, "Printing Messages")
+abbrev pub error_line : List ℕ → List ℕ
+error_line message = codes "configure: error: " ++ message ++ codes "\n"
+
 -- A statement: AC_INIT sets the package's variables and definitions; an assignment and AC_SUBST with a value set a
 -- variable to the value of a word; the macros of programs look for them; AC_DEFINE defines a name as a text,
--- AC_DEFINE_UNQUOTED as the value of one; AC_MSG_ERROR stops the run; AC_OUTPUT gives prefix and exec_prefix their
+-- AC_DEFINE_UNQUOTED as the value of one; AC_MSG_ERROR prints its line and stops the run; AC_OUTPUT gives prefix and exec_prefix their
 -- values and completes the run; and the others have no effect. (Autoconf's manual, the sections of the macros)
 unfoldable pub effect : plain.Plain → State → Run
 effect (Init title version bug tarname url) st = Ends Goes_on (initialised title version bug tarname url st)
@@ -100,7 +106,7 @@ effect (Subst name) st = Ends Goes_on st
 effect (SubstValue name value) st = Ends Goes_on (with_variable name (word_value value st.vars) st)
 effect (Define name value) st = Ends Goes_on (with_definition name value st)
 effect (DefineUnquoted name value) st = Ends Goes_on (with_definition name (word_value value st.vars) st)
-effect (Error message status) st = Ends (Stopped status) st
+effect (Error message status) st = Ends (Stopped status) (told streams.Err (error_line (word_value message st.vars)) st)
 effect (ArgVar name help) st = Ends Goes_on st
 effect (CheckProg variable program found otherwise) st =
     program_test (check_prog variable program (word_value found st.vars) (option_map (λ t. word_value t st.vars) otherwise)) (has_value st variable) st
@@ -124,15 +130,16 @@ given (Some value) kind st go = go (answered true) (with_variable (value_name ki
 
 -- A question, and how the run continues with the answer: an option is given if its variable is set, and a program that
 -- is tried passes if its children succeed. (Autoconf's manual, "Running the Compiler")
-abbrev pub asked : asks.Question → State → (Scope → State → Run) → Run
-asked (Tries kind program) st go = tried kind (text_of program st.vars) st (λ passed. go (answered passed) st)
-asked (Given kind variable help) st go = given (value_of st.vars variable) kind st go
+abbrev pub asked : (How → State → State) → asks.Question → State → (Scope → State → Run) → Run
+asked early (Tries kind program) st go = tried early kind (text_of program st.vars) st (λ passed. go (answered passed))
+asked early (Given kind variable help) st go = given (value_of st.vars variable) kind st go
 
--- A choice begins with its subject: nothing, the value of a word, or the answer to a question. (own)
-unfoldable pub begun : Subject → State → (Scope → State → Run) → Run
-begun Nothing st go = go no_choice st
-begun (Word word) st go = go (about (word_value word st.vars)) st
-begun (Asked question) st go = asked question st go
+-- A choice begins with its subject: nothing, the value of a word, or the answer to a question; `early` changes the state
+-- of a run that ends here. (own)
+unfoldable pub begun : (How → State → State) → Subject → State → (Scope → State → Run) → Run
+begun early Nothing st go = go no_choice st
+begun early (Word word) st go = go (about (word_value word st.vars)) st
+begun early (Asked question) st go = asked early question st go
 
 -- A case is taken if its test holds, if one of its patterns matches the value of the subject, if it is for the answer,
 -- or if it is the default. (Autoconf's manual, "Common Shell Constructs")
@@ -148,7 +155,7 @@ unfoldable mutual
   pub meaning : Script → State → Run
   meaning Done st = Ends Goes_on st
   meaning (Then s rest) st = then_run (effect s st) (meaning rest)
-  meaning (Choice subject cases rest) st = begun subject st (λ scope now. then_run (chosen cases scope now) (meaning rest))
+  meaning (Choice subject cases rest) st = begun as_is subject st (λ scope now. then_run (chosen cases scope now) (meaning rest))
 
   -- The statements of the first case that is taken, if any. (own)
   pub chosen : Cases → Scope → State → Run

@@ -1,7 +1,6 @@
 -- What AC_INIT sets (Autoconf's manual, "Initializing configure").
 use Rattle.std.specs.Prelude.{ℕ, ◌||◌, ◌==◌, List, [], ◌∷◌, ◌++◌, codes, if◌then◌else◌}
-use Rattle.deftable.specs.Table.{with_entry}
-use Rattle.meaning.specs.State.{State}
+use Rattle.meaning.specs.State.{State, with_variable, with_definition}
 
 -- A byte within a string literal of C: a quote and a backslash get a backslash before them. (ISO C, "String literals")
 abbrev pub escaped_byte : ℕ → List ℕ
@@ -18,7 +17,7 @@ literal text = 34 ∷ (escaped text ++ 34 ∷ [])
 
 -- An output variable of the package, which is a definition too. (Autoconf's manual, "Initializing configure")
 abbrev pub with_package : State → List ℕ → List ℕ → State
-with_package st name value = record { vars = with_entry st.vars name value; defs = with_entry st.defs name (literal value) }
+with_package st name value = with_definition name (literal value) (with_variable name value st)
 
 -- A package's title and version, separated by a space. (Autoconf's manual, "Initializing configure")
 abbrev pub package_string : List ℕ → List ℕ → List ℕ

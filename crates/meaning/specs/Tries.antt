@@ -23,13 +23,13 @@ first_probe Preproc source = probe.Preprocess source
 first_probe Run source = probe.Link source
 
 -- What follows the first child: if a program was linked to be run, it is run. (Autoconf's manual, "Runtime")
-abbrev pub after_first : kinds.Try → state.State → (Bool → state.Run) → Bool → state.Run
-after_first Run st go linked = if linked then child (probe.run_of 0) st go else go false
-after_first Compile st go passed = go passed
-after_first Link st go passed = go passed
-after_first Preproc st go passed = go passed
+abbrev pub after_first : (state.How → state.State → state.State) → kinds.Try → (Bool → state.State → state.Run) → Bool → state.State → state.Run
+after_first early Run go linked st = if linked then child early (probe.run_of 0) st go else go false st
+after_first early Compile go passed st = go passed st
+after_first early Link go passed st = go passed st
+after_first early Preproc go passed st = go passed st
 
 -- A program is tried by one child and, if it is to be run, by one more for the executable. (Autoconf's manual, "Running
 -- the Compiler" and "Runtime")
-abbrev pub tried : kinds.Try → List ℕ → state.State → (Bool → state.Run) → state.Run
-tried kind source st go = compiled (probe.job_of (first_probe kind source) 0 st.vars st.defs) st (after_first kind st go)
+abbrev pub tried : (state.How → state.State → state.State) → kinds.Try → List ℕ → state.State → (Bool → state.State → state.Run) → state.Run
+tried early kind source st go = compiled early (probe.job_of (first_probe kind source) 0 st.vars st.defs) st (after_first early kind go)

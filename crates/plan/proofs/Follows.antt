@@ -15,7 +15,7 @@ use Rattle.syntax.specs.declared.tree.Subject as what
 use Rattle.syntax.specs.declared.tree.Subject.TheVariants.{Nothing, Word, Asked}
 use Rattle.syntax.specs.declared.tree.When.{When}
 use Rattle.syntax.specs.Script.{Script, Done, Then, Choice, Cases, No_case, Case}
-use Rattle.meaning.specs.State.{State, Scope, no_choice, answered, Goes_on, Completed, Stopped, Cut, Run, Ends, Asks, then_run}
+use Rattle.meaning.specs.State.{State, Scope, no_choice, answered, with_child, as_is, Goes_on, Completed, Stopped, Cut, Run, Ends, Asks, then_run}
 use Rattle.meaning.specs.Meaning.{effect, looks, looks_all, given, asked, begun, is_taken, meaning, chosen}
 use Rattle.meaning.specs.Asking.{success, only_reply, heard, child, compiled}
 use Rattle.meaning.specs.Tries.{first_probe, after_first, tried}
@@ -39,40 +39,43 @@ then_ends (Ends Cut st) = refl
 then_ends (Asks jobs ask) = ap (Asks jobs) (fun_ext (λ replies. then_ends (ask replies)))
 
 -- What follows a child.
-heard_then : (answer : Option Bool) (st : State) (go : Bool → Run) (f : State → Run) → then_run (heard answer st go) f ≡ heard answer st (λ b. then_run (go b) f)
+heard_then : (answer : Option Bool) (st : State) (go : Bool → State → Run) (f : State → Run)
+    → then_run (heard as_is answer st go) f ≡ heard as_is answer st (λ b now. then_run (go b now) f)
 heard_then None st go f = refl
 heard_then (Some b) st go f = refl
 
-child_then : (job : Job) (st : State) (go : Bool → Run) (f : State → Run) → then_run (child job st go) f ≡ child job st (λ b. then_run (go b) f)
-child_then job st go f = ap (Asks (job ∷ [])) (fun_ext (λ replies. heard_then (success (only_reply replies)) st go f))
+child_then : (job : Job) (st : State) (go : Bool → State → Run) (f : State → Run) → then_run (child as_is job st go) f ≡ child as_is job st (λ b now. then_run (go b now) f)
+child_then job st go f = ap (Asks (job ∷ [])) (fun_ext (λ replies. heard_then (success (only_reply replies)) (with_child job (only_reply replies) st) go f))
 
-compiled_then : (job : Option Job) (st : State) (go : Bool → Run) (f : State → Run) → then_run (compiled job st go) f ≡ compiled job st (λ b. then_run (go b) f)
+compiled_then : (job : Option Job) (st : State) (go : Bool → State → Run) (f : State → Run) → then_run (compiled as_is job st go) f ≡ compiled as_is job st (λ b now. then_run (go b now) f)
 compiled_then None st go f = refl
 compiled_then (Some job) st go f = child_then job st go f
 
 -- What follows a try.
-after_first_then : (kind : kinds.Try) (st : State) (go : Bool → Run) (f : State → Run) (b : Bool) → then_run (after_first kind st go b) f ≡ after_first kind st (λ c. then_run (go c) f) b
-after_first_then kinds_are.Run st go f true = child_then (run_of 0) st go f
-after_first_then kinds_are.Run st go f false = refl
-after_first_then kinds_are.Compile st go f b = refl
-after_first_then kinds_are.Link st go f b = refl
-after_first_then kinds_are.Preproc st go f b = refl
+after_first_then : (kind : kinds.Try) (go : Bool → State → Run) (f : State → Run) (b : Bool) (st : State)
+    → then_run (after_first as_is kind go b st) f ≡ after_first as_is kind (λ c now. then_run (go c now) f) b st
+after_first_then kinds_are.Run go f true st = child_then (run_of 0) st go f
+after_first_then kinds_are.Run go f false st = refl
+after_first_then kinds_are.Compile go f b st = refl
+after_first_then kinds_are.Link go f b st = refl
+after_first_then kinds_are.Preproc go f b st = refl
 
-tried_then : (kind : kinds.Try) (source : List ℕ) (st : State) (go : Bool → Run) (f : State → Run) → then_run (tried kind source st go) f ≡ tried kind source st (λ b. then_run (go b) f)
+tried_then : (kind : kinds.Try) (source : List ℕ) (st : State) (go : Bool → State → Run) (f : State → Run)
+    → then_run (tried as_is kind source st go) f ≡ tried as_is kind source st (λ b now. then_run (go b now) f)
 tried_then kind source st go f =
-    compiled_then (job_of (first_probe kind source) 0 st.vars st.defs) st (after_first kind st go) f
-    ∙ ap (compiled (job_of (first_probe kind source) 0 st.vars st.defs) st) (fun_ext (after_first_then kind st go f))
+    compiled_then (job_of (first_probe kind source) 0 st.vars st.defs) st (after_first as_is kind go) f
+    ∙ ap (compiled as_is (job_of (first_probe kind source) 0 st.vars st.defs) st) (fun_ext (λ b. fun_ext (after_first_then kind go f b)))
 
 -- What follows the beginning of a choice.
 given_then : (value : Option (List ℕ)) (kind : OptionKind) (st : State) (go : Scope → State → Run) (f : State → Run) → then_run (given value kind st go) f ≡ given value kind st (λ scope now. then_run (go scope now) f)
 given_then None kind st go f = refl
 given_then (Some value) kind st go f = refl
 
-asked_then : (question : asks.Question) (st : State) (go : Scope → State → Run) (f : State → Run) → then_run (asked question st go) f ≡ asked question st (λ scope now. then_run (go scope now) f)
+asked_then : (question : asks.Question) (st : State) (go : Scope → State → Run) (f : State → Run) → then_run (asked as_is question st go) f ≡ asked as_is question st (λ scope now. then_run (go scope now) f)
 asked_then (Given kind variable help) st go f = given_then _ kind st go f
-asked_then (Tries kind program) st go f = tried_then kind _ st (λ b. go (answered b) st) f
+asked_then (Tries kind program) st go f = tried_then kind _ st (λ b. go (answered b)) f
 
-begun_then : (subject : what.Subject) (st : State) (go : Scope → State → Run) (f : State → Run) → then_run (begun subject st go) f ≡ begun subject st (λ scope now. then_run (go scope now) f)
+begun_then : (subject : what.Subject) (st : State) (go : Scope → State → Run) (f : State → Run) → then_run (begun as_is subject st go) f ≡ begun as_is subject st (λ scope now. then_run (go scope now) f)
 unfolding begun
 begun_then Nothing st go f = refl
 begun_then (Word word) st go f = refl
@@ -162,7 +165,7 @@ mutual
       ∙ sym (then_then (effect s st) (meaning script) next)
   follows (Choice subject cases script) rest next h scope st =
       let c = code_of_cases cases in let r = code_of script in
-      ap (begun subject st) (fun_ext (λ about. fun_ext (λ now.
+      ap (begun as_is subject st) (fun_ext (λ about. fun_ext (λ now.
       ap (λ l. walk l 0 about now) (append_assoc c r rest)
       ∙ chooses cases (r ++ rest) (λ s. then_run (meaning script s) next) (follows script rest next h) about now
       ∙ sym (then_then (chosen cases about now) (meaning script) next))))

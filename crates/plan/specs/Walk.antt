@@ -7,7 +7,7 @@ use Rattle.syntax.specs.declared.statement.Plain.TheVariants.{CheckProgs, ProgCc
 use Rattle.syntax.specs.declared.tree.Subject as subject
 use Rattle.syntax.specs.declared.tree.When.{When}
 use Rattle.syntax.specs.Script.{Script}
-use Rattle.meaning.specs.State.{State, Scope, no_choice, Run, Ends, Goes_on, then_run}
+use Rattle.meaning.specs.State.{State, Scope, no_choice, as_is, Run, Ends, Goes_on, then_run}
 use Rattle.meaning.specs.Meaning.{effect, begun, is_taken, looks, defaulted, meaning}
 use Rattle.plan.specs.declared.step.Step.{Step}
 use Rattle.plan.specs.declared.step.Step.TheVariants.{Do, Look, Default, Subject, SkipUnless, Skip}
@@ -42,7 +42,7 @@ abbrev pub act : Instruction → (ℕ → Scope → State → Run) → Scope →
 act (Does statement) next scope st = then_run (own_effect statement st) (next 0 scope)
 act (Looks variable program always) next scope st = then_run (looks variable program always st) (next 0 scope)
 act (Defaults variable value) next scope st = next 0 scope (defaulted variable (option_map (λ text. word_value text st.vars) value) st)
-act (Begins subject) next scope st = begun subject st (next 0)
+act (Begins subject) next scope st = begun as_is subject st (next 0)
 act (Skips_unless when steps) next scope st = if is_taken when scope st.vars then next 0 scope st else next steps scope st
 act (Skips steps) next scope st = next steps scope st
 

@@ -4,11 +4,11 @@ use Rattle.std.proofs.lemmas.List.{length-drop}
 use Rattle.conftest.specs.declared.job.Job.{Job}
 use Rattle.crew.specs.declared.reply.Reply.{Reply}
 use Rattle.crew.specs.Events.{replies_in}
-use Rattle.meaning.specs.State.{Run, Ends, Asks}
-use Rattle.meaning.specs.Play.{Played, play, after, all_jobs}
+use Rattle.meaning.specs.State.{State, Run, Ends, Asks}
+use Rattle.meaning.specs.Play.{Played, play, after, all_jobs, first_refused}
+use Rattle.machine.specs.declared.machine.Outcome.{Outcome}
 use Rattle.machine.specs.declared.machine.RunEnd.{RunEnd}
-use Rattle.machine.specs.Waits.{first_refused}
-use Rattle.proberun.specs.Ran.{outcome_from}
+use Rattle.proberun.specs.Ran.{outcome_from, state_of}
 use Rattle.proberun.specs.Agreeing.{Agree, RunsAgree}
 use Rattle.proberun.proofs.RunLemmas.{length-replies}
 
@@ -57,12 +57,15 @@ same_play (Asks jobs next) xs ys a b g =
     ap (after (jobs ∷ [])) (same_play (next (take n xs)) (drop n xs) (drop n ys) x.1 back (agree_drop n xs ys g))
     ∙ ap (λ l. after (jobs ∷ []) (play (next l) (drop n ys))) front
 
-same_end : (end other : RunEnd) → end.outcome ≡ other.outcome → end.vars ≡ other.vars → end.defs ≡ other.defs → end ≡ other
-same_end end other o v d =
-    let a : end ≡ record { outcome = other.outcome; vars = end.vars; defs = end.defs } = ap (λ x. record { outcome = x; vars = end.vars; defs = end.defs }) o in
-    let b : record { outcome = other.outcome; vars = end.vars; defs = end.defs } ≡ record { outcome = other.outcome; vars = other.vars; defs = end.defs } = ap (λ x. record { outcome = other.outcome; vars = x; defs = end.defs }) v in
-    let c : record { outcome = other.outcome; vars = other.vars; defs = end.defs } ≡ other = ap (λ x. record { outcome = other.outcome; vars = other.vars; defs = x }) d in
-    a ∙ b ∙ c
+-- What a run leaves, from its outcome and the state in which it ends.
+abbrev left : Outcome → State → RunEnd
+left o st = record { outcome = o; vars = st.vars; defs = st.defs; messages = st.messages; log = st.log }
+
+same_end : (end other : RunEnd) → end.outcome ≡ other.outcome → state_of end ≡ state_of other → end ≡ other
+same_end end other o s =
+    let a : left end.outcome (state_of end) ≡ left other.outcome (state_of end) = ap (λ x. left x (state_of end)) o in
+    let b : left other.outcome (state_of end) ≡ left other.outcome (state_of other) = ap (left other.outcome) s in
+    a ∙ b
 
 pub runs_agree : RunsAgree
 runs_agree run window other_window before now other_before other_now end other_end one other g =
@@ -79,4 +82,4 @@ runs_agree run window other_window before now other_before other_now end other_e
     let replies : xs ≡ ys = agree_all xs ys count g in
     let outcomes : Some end.outcome ≡ Some other_end.outcome =
     sym one.outcome ∙ ap (λ h. outcome_from h (first_refused xs)) how ∙ ap (λ l. outcome_from other.how (first_refused l)) replies ∙ other.outcome in
-    (groups, same_end end other_end (cc) (ap (λ p. p.state.vars) same) (ap (λ p. p.state.defs) same))
+    (groups, same_end end other_end (cc) (ap (λ p. p.state) same))

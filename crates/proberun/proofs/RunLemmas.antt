@@ -10,12 +10,11 @@ use Rattle.conftest.specs.declared.job.Job.{Job}
 use Rattle.crew.specs.declared.reply.Reply.{Reply}
 use Rattle.crew.specs.declared.reply.Reply.TheVariants.{Answer, StartRefused, EndRefused}
 use Rattle.meaning.specs.State.{Run, Asks}
-use Rattle.meaning.specs.Play.{Played, play, after, all_jobs}
+use Rattle.meaning.specs.Play.{Played, play, after, all_jobs, first_refused, refused_here}
 use Rattle.crew.specs.declared.event.CrewEvent.{CrewEvent}
 use Rattle.crew.specs.declared.event.CrewEvent.TheVariants.{Started, Ended}
 use Rattle.crew.specs.Events.{Account, Fate, Unstarted, Running, Replied, fate_after, fate_of, ended_by, busy_after, busy, IsIdle, reply_in, replies_in, flying_after}
 use Rattle.meaning.specs.Asking.{success}
-use Rattle.machine.specs.Waits.{first_refused, refused_here}
 use Rattle.proberun.specs.Starts.{StartsAre, TakesLeast, Fills, EndsGroup, failures_in}
 use Rattle.proberun.proofs.EventLemmas.{least-both, fills-both, fills-weaken, ends_left, ends_last}
 use Rattle.proberun.specs.Serving.{Served, failed_count}
@@ -201,12 +200,12 @@ answered_both (x ∷ xs) ys a b =
     answered_here (success x) (first_refused xs) (first_refused (xs ++ ys)) a
     ∙ ap (option_map suc) (answered_both xs ys (answered_rest (success x) (first_refused xs) a) b)
 
-pub refused_after : (xs ys : List Reply) (k : ℕ) → first_refused xs ≡ None → first_refused ys ≡ Some k → first_refused (xs ++ ys) ≡ Some (length xs + k)
-refused_after [] ys k a b = let z : k ≡ 0 + k = omega arith in b ∙ ap Some z
-refused_after (x ∷ xs) ys k a b =
+pub refused_later : (xs ys : List Reply) (k : ℕ) → first_refused xs ≡ None → first_refused ys ≡ Some k → first_refused (xs ++ ys) ≡ Some (length xs + k)
+refused_later [] ys k a b = let z : k ≡ 0 + k = omega arith in b ∙ ap Some z
+refused_later (x ∷ xs) ys k a b =
     let n : suc (length xs + k) ≡ length (x ∷ xs) + k = omega arith in
     answered_here (success x) (first_refused xs) (first_refused (xs ++ ys)) a
-    ∙ ap (option_map suc) (refused_after xs ys k (answered_rest (success x) (first_refused xs) a) b)
+    ∙ ap (option_map suc) (refused_later xs ys k (answered_rest (success x) (first_refused xs) a) b)
     ∙ ap Some n
 
 -- Nothing has happened yet.

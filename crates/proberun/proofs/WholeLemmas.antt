@@ -1,12 +1,12 @@
 -- The machine and the crew, from group to group.
-use Rattle.std.proofs.Common.{◌≡◌, ℕ, ◌+◌, ◌≤◌, List, [], ◌∷◌, length, map, Option, Some, None, refl, sym, ap, ◌∙◌, subst, arith}
+use Rattle.std.proofs.Common.{◌≡◌, ℕ, ◌+◌, ◌≤◌, List, [], ◌∷◌, length, map, Option, Some, None, Result, Ok, Err, OnErr, refl, sym, ap, ◌∙◌, subst, arith}
 use Rattle.std.specs.Prelude.{IsSome}
 use Rattle.std.proofs.lemmas.List.{append-nil}
 use Rattle.std.proofs.lemmas.List.Sums.{fold-append}
 use Rattle.crew.specs.declared.reply.Reply.{Reply}
 use Rattle.crew.specs.Events.{Account, IsIdle, replies_in, in_flight, flying_after}
 use Rattle.meaning.specs.State.{State, How, Goes_on, Completed, Stopped, Cut, Run, Ends, Asks, no_choice}
-use Rattle.meaning.specs.Play.{play, after, all_jobs}
+use Rattle.meaning.specs.Play.{play, after, all_jobs, first_refused, whole}
 use Rattle.plan.specs.Walk.{Instruction, walk}
 use Rattle.plan.specs.Inside.{asks_after}
 use Rattle.machine.specs.declared.machine.Phase.{Phase}
@@ -16,12 +16,12 @@ use Rattle.machine.specs.declared.machine.Turn.TheVariants as turn
 use Rattle.machine.specs.declared.machine.Outcome.TheVariants as outcome
 use Rattle.machine.specs.declared.machine.RunEnd.{RunEnd}
 use Rattle.machine.specs.declared.wait.Wait.TheVariants as waits
-use Rattle.machine.specs.Waits.{given, first_refused, resumed}
-use Rattle.machine.specs.Standing.{Standing, run_in, run_at, left_in, run_left, Shows, CutsAt, Refusals, Holds, Fits, fits_in, asks_in, asks_left, Turned, outcome_of}
+use Rattle.machine.specs.Waits.{given}
+use Rattle.machine.specs.Standing.{Standing, run_under, run_in, run_at, left_in, run_left, Shows, CutsAt, Refusals, Holds, Fits, fits_in, asks_in, asks_left, Turned, outcome_of}
 use Rattle.proberun.specs.Serving.{Served, failed_count}
-use Rattle.proberun.specs.Ran.{Ran, outcome_from}
-use Rattle.proberun.specs.Progress.{Progress, Heeded, Moving, Leaves}
-use Rattle.proberun.proofs.RunLemmas.{progress_begins, progress_same, progress_heard, progress_group, length-replies, answered_both, refused_after, no_failures}
+use Rattle.proberun.specs.Ran.{Ran, outcome_from, state_of}
+use Rattle.proberun.specs.Progress.{Progress, Heeded, HasBegun, Moving, Leaves}
+use Rattle.proberun.proofs.RunLemmas.{progress_begins, progress_same, progress_heard, progress_group, length-replies, answered_both, refused_later, no_failures}
 
 -- A machine that is ready for its next turn.
 pub record Ready (w : ℕ) (plan : List Instruction) (run : Run) (before now : Account) (m : Standing) (left : ℕ) : Type 0 where
@@ -30,9 +30,9 @@ pub record Ready (w : ℕ) (plan : List Instruction) (run : Run) (before now : A
   pub moving : Moving m.phase
   pub asks : asks_left plan m ≡ left
 
-pub begins : (w : ℕ) (plan : List Instruction) (m : Standing) (st : State) (now : Account) → m ≡ record { phase = phase.Going; place = 0; scope = no_choice; state = st; wait = waits.Nothing; before = 0; jobs = []; replies = [] } → IsIdle now.events → Ready w plan (walk plan 0 no_choice st) now now m (asks_after plan 0)
+pub begins : (w : ℕ) (plan : List Instruction) (m : Standing) (st : State) (now : Account) → m ≡ record { phase = phase.Going; place = 0; scope = no_choice; state = st; wait = waits.Nothing; before = 0; jobs = []; replies = [] } → IsIdle now.events → Ready w plan (whole (walk plan 0 no_choice st)) now now m (asks_after plan 0)
 begins w plan m st now is idle =
-    subst (λ x. Ready w plan (walk plan 0 no_choice st) now now x (asks_after plan 0)) (sym is)
+    subst (λ x. Ready w plan (whole (walk plan 0 no_choice st)) now now x (asks_after plan 0)) (sym is)
     (record { progress = progress_begins w _ _ now refl idle; fits = record { jobs = refl; replies = refl; place = omega arith; counted = omega arith }; moving = tt; asks = refl })
 
 given-map : (rs : List Reply) → given (map Some rs) ≡ rs
@@ -77,7 +77,7 @@ no_failure_yet w plan run before mid old m t p =
 
 -- What follows the replies to the jobs that a machine asks for.
 abbrev next_of : List Instruction → Standing → List Reply → Run
-next_of plan m replies = resumed m.wait replies (walk plan (m.place + 1)) m.scope m.state
+next_of plan m replies = run_under replies plan m
 
 after_replies : (plan : List Instruction) (m : Standing) (rs : List Reply) → m.phase ≡ phase.Asking → run_left plan (record m { replies = map Some rs }) ≡ next_of plan m rs
 after_replies plan m rs asking =
@@ -145,37 +145,34 @@ place_by (turn.Stopped status) m all h moving r = ap first_refused h.whole ∙ a
 place_by (turn.Cut number) m all h moving r =
     let at = cuts_at m.phase number m moving r in
     let n : length h.earlier + at.0 ≡ number = omega (arith, h.count, at.2) in
-    ap first_refused h.whole ∙ refused_after h.earlier (given m.replies) at.0 h.answered at.1 ∙ ap Some n
-
-abbrev state_in : RunEnd → State
-state_in end = record { vars = end.vars; defs = end.defs }
+    ap first_refused h.whole ∙ refused_later h.earlier (given m.replies) at.0 h.answered at.1 ∙ ap Some n
 
 record Ending (r : Run) (refused : Option ℕ) (end : RunEnd) : Type 0 where
   pub how : How
-  pub is : r ≡ Ends how (state_in end)
+  pub is : r ≡ Ends how (state_of end)
   pub outcome : outcome_from how refused ≡ Some end.outcome
 
 ending : (t : Turn) (r : Run) (m : Standing) (end : RunEnd) (refused : Option ℕ) → (t ≡ turn.Ask → ⊥) → Shows t r m → Leaves m.phase m end → PlaceBy t refused → Ending r refused end
 ending turn.Ask r m end refused ne h leaves place = absurd (ne refl)
 ending turn.Done (Ends Goes_on st) m end refused ne h leaves place =
-    let is : end ≡ record { outcome = outcome.Completed; vars = m.state.vars; defs = m.state.defs } = subst (λ p. Leaves p m end) h.0 leaves in
-    record { how = Goes_on; is = ap (Ends Goes_on) (sym h.2 ∙ sym (ap state_in is)); outcome = ap (outcome_from Goes_on) place ∙ ap (λ e. Some e.outcome) (sym is) }
+    let is : end ≡ record { outcome = outcome.Completed; vars = m.state.vars; defs = m.state.defs; messages = m.state.messages; log = m.state.log } = subst (λ p. Leaves p m end) h.0 leaves in
+    record { how = Goes_on; is = ap (Ends Goes_on) (sym h.2 ∙ sym (ap state_of is)); outcome = ap (outcome_from Goes_on) place ∙ ap (λ e. Some e.outcome) (sym is) }
 ending turn.Done (Ends Completed st) m end refused ne h leaves place =
-    let is : end ≡ record { outcome = outcome.Completed; vars = m.state.vars; defs = m.state.defs } = subst (λ p. Leaves p m end) h.0 leaves in
-    record { how = Completed; is = ap (Ends Completed) (sym h.2 ∙ sym (ap state_in is)); outcome = ap (outcome_from Completed) place ∙ ap (λ e. Some e.outcome) (sym is) }
+    let is : end ≡ record { outcome = outcome.Completed; vars = m.state.vars; defs = m.state.defs; messages = m.state.messages; log = m.state.log } = subst (λ p. Leaves p m end) h.0 leaves in
+    record { how = Completed; is = ap (Ends Completed) (sym h.2 ∙ sym (ap state_of is)); outcome = ap (outcome_from Completed) place ∙ ap (λ e. Some e.outcome) (sym is) }
 ending turn.Done (Ends (Stopped s) st) m end refused ne h leaves place = absurd h
 ending turn.Done (Ends Cut st) m end refused ne h leaves place = absurd h
 ending turn.Done (Asks jobs next) m end refused ne h leaves place = absurd h
 ending (turn.Stopped s) (Ends (Stopped status) st) m end refused ne h leaves place =
-    let is : end ≡ record { outcome = outcome.Stopped status; vars = m.state.vars; defs = m.state.defs } = subst (λ p. Leaves p m end) h.0 leaves in
-    record { how = Stopped status; is = ap (Ends (Stopped status)) (sym h.2 ∙ sym (ap state_in is)); outcome = ap (outcome_from (Stopped status)) place ∙ ap (λ e. Some e.outcome) (sym is) }
+    let is : end ≡ record { outcome = outcome.Stopped status; vars = m.state.vars; defs = m.state.defs; messages = m.state.messages; log = m.state.log } = subst (λ p. Leaves p m end) h.0 leaves in
+    record { how = Stopped status; is = ap (Ends (Stopped status)) (sym h.2 ∙ sym (ap state_of is)); outcome = ap (outcome_from (Stopped status)) place ∙ ap (λ e. Some e.outcome) (sym is) }
 ending (turn.Stopped s) (Ends Goes_on st) m end refused ne h leaves place = absurd h
 ending (turn.Stopped s) (Ends Completed st) m end refused ne h leaves place = absurd h
 ending (turn.Stopped s) (Ends Cut st) m end refused ne h leaves place = absurd h
 ending (turn.Stopped s) (Asks jobs next) m end refused ne h leaves place = absurd h
 ending (turn.Cut number) (Ends Cut st) m end refused ne h leaves place =
-    let is : end ≡ record { outcome = outcome.CutShort number; vars = m.state.vars; defs = m.state.defs } = subst (λ p. Leaves p m end) h.0 leaves in
-    record { how = Cut; is = ap (Ends Cut) (sym h.2 ∙ sym (ap state_in is)); outcome = ap (outcome_from Cut) place ∙ ap (λ e. Some e.outcome) (sym is) }
+    let is : end ≡ record { outcome = outcome.CutShort number; vars = m.state.vars; defs = m.state.defs; messages = m.state.messages; log = m.state.log } = subst (λ p. Leaves p m end) h.0 leaves in
+    record { how = Cut; is = ap (Ends Cut) (sym h.2 ∙ sym (ap state_of is)); outcome = ap (outcome_from Cut) place ∙ ap (λ e. Some e.outcome) (sym is) }
 ending (turn.Cut number) (Ends Goes_on st) m end refused ne h leaves place = absurd h
 ending (turn.Cut number) (Ends Completed st) m end refused ne h leaves place = absurd h
 ending (turn.Cut number) (Ends (Stopped s) st) m end refused ne h leaves place = absurd h
@@ -185,7 +182,7 @@ pub ends : (w : ℕ) (plan : List Instruction) (run : Run) (before now : Account
 ends w plan run before now old m t end ne turned moving p leaves =
     let rs = replies_in before.attempts (length (all_jobs p.groups)) p.since in
     let e = ending t (run_at plan m) m end (first_refused rs) ne turned.shows leaves (place_by t old rs p.heeded moving turned.refusals) in
-    let left : run_left plan old ≡ Ends e.how (state_in end) = sym turned.same ∙ e.is in
+    let left : run_left plan old ≡ Ends e.how (state_of end) = sym turned.same ∙ e.is in
     record {
       since = p.since;
       events = p.events;
@@ -194,7 +191,7 @@ ends w plan run before now old m t end ne turned moving p leaves =
       starts = p.starts;
       how = e.how;
       meaning = ap (play run) (sym (append-nil rs)) ∙ p.plays [] ∙ ap (λ r. after p.groups (play r [])) left
-          ∙ ap (λ g. record { how = e.how; state = state_in end; groups = g }) (append-nil p.groups);
+          ∙ ap (λ g. record { how = e.how; state = state_of end; groups = g }) (append-nil p.groups);
       outcome = e.outcome;
       fills = p.fills;
       least = p.least;
@@ -211,3 +208,11 @@ at_end plan turn.Ask old m ne h = absurd (ne refl)
 at_end plan turn.Done old m ne h = subst IsSome (sym h.outcome) refl
 at_end plan (turn.Stopped status) old m ne h = subst IsSome (sym h.outcome) refl
 at_end plan (turn.Cut number) old m ne h = subst IsSome (sym h.outcome) refl
+
+-- A run before its first start.
+pub not_started : (w : ℕ) (run : Run) (now : Account) → IsIdle now.events → HasBegun w run now now
+not_started w run now idle = record { left = run; asked = 0; latest = []; progress = progress_begins w run run now refl idle }
+
+pub any_err : {T E : Type 0} (P : Type 0) (r : Result T E) → P → OnErr r P
+any_err P (Ok x) p = tt
+any_err P (Err e) p = p

@@ -5,13 +5,12 @@ use Rattle.crew.specs.declared.reply.Reply.{Reply}
 use Rattle.crew.specs.declared.event.CrewEvent.{CrewEvent}
 use Rattle.crew.specs.Events.{Account, IsIdle, replies_in, flying_after}
 use Rattle.meaning.specs.State.{Run, State, no_choice}
-use Rattle.meaning.specs.Play.{play, after, all_jobs}
+use Rattle.meaning.specs.Play.{play, after, all_jobs, first_refused}
 use Rattle.machine.specs.declared.machine.Phase.{Phase}
 use Rattle.machine.specs.declared.machine.Phase.TheVariants as phase
 use Rattle.machine.specs.declared.machine.RunEnd.{RunEnd}
 use Rattle.machine.specs.declared.wait.Wait.TheVariants as waits
 use Rattle.machine.specs.Standing.{Standing, outcome_of}
-use Rattle.machine.specs.Waits.{first_refused}
 use Rattle.proberun.specs.Starts.{StartsAre, TakesLeast, Fills, EndsGroup, failures_in}
 
 -- All replies so far are those of the jobs before, of which none is refused, and then the latest ones. (own)
@@ -36,6 +35,13 @@ pub record Progress (window : ℕ) (run left : Run) (asked : ℕ) (latest : List
   pub fills : Fills window (EndsGroup before.attempts groups) 0 since
   pub failures : now.failures ≡ before.failures + failures_in (replies_in before.attempts (length (all_jobs groups)) since)
 
+-- A run that has begun, and may be at any group of its jobs. (own)
+pub record HasBegun (window : ℕ) (run : Run) (before now : Account) : Type 0 where
+  pub left : Run
+  pub asked : ℕ
+  pub latest : List Reply
+  pub progress : Progress window run left asked latest before now
+
 -- A machine that is not at an end. (own)
 abbrev pub Moving : Phase → Type 0
 Moving phase.Going = Unit {0}
@@ -48,4 +54,4 @@ before_steps st = record { phase = phase.Going; place = 0; scope = no_choice; st
 
 -- What a machine leaves in a phase that is an end. (own)
 abbrev pub Leaves : Phase → Standing → RunEnd → Type 0
-Leaves p m end = IfSome (outcome_of p) (λ o. end ≡ record { outcome = o; vars = m.state.vars; defs = m.state.defs })
+Leaves p m end = IfSome (outcome_of p) (λ o. end ≡ record { outcome = o; vars = m.state.vars; defs = m.state.defs; messages = m.state.messages; log = m.state.log })

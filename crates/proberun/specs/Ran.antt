@@ -3,12 +3,11 @@ use Rattle.std.specs.Prelude.{◌≡◌, ℕ, ◌+◌, List, ◌++◌, length, O
 use Rattle.conftest.specs.declared.job.Job.{Job}
 use Rattle.crew.specs.declared.event.CrewEvent.{CrewEvent}
 use Rattle.crew.specs.Events.{Account, replies_in}
-use Rattle.meaning.specs.State.{How, Goes_on, Completed, Stopped, Cut, Run}
-use Rattle.meaning.specs.Play.{play, all_jobs}
+use Rattle.meaning.specs.State.{State, How, Goes_on, Completed, Stopped, Cut, Run}
+use Rattle.meaning.specs.Play.{play, all_jobs, first_refused}
 use Rattle.machine.specs.declared.machine.Outcome.{Outcome}
 use Rattle.machine.specs.declared.machine.Outcome.TheVariants as outcome
 use Rattle.machine.specs.declared.machine.RunEnd.{RunEnd}
-use Rattle.machine.specs.Waits.{first_refused}
 use Rattle.proberun.specs.Starts.{StartsAre, TakesLeast, Fills, EndsGroup, failures_in}
 
 -- The outcome of a run, by how it ends and by the number, from 1, of the first refused reply among those to all its
@@ -19,6 +18,10 @@ outcome_from Completed None = Some outcome.Completed
 outcome_from (Stopped status) None = Some (outcome.Stopped status)
 outcome_from Cut (Some number) = Some (outcome.CutShort number)
 outcome_from how refused = None
+
+-- The state in which a run ends. (own)
+abbrev pub state_of : RunEnd → State
+state_of end = record { vars = end.vars; defs = end.defs; messages = end.messages; log = end.log }
 
 -- A run over a crew, between two accounts, and what it leaves. (own)
 pub record Ran (window : ℕ) (run : Run) (before now : Account) (end : RunEnd) : Type 0 where
@@ -32,7 +35,7 @@ pub record Ran (window : ℕ) (run : Run) (before now : Account) (end : RunEnd) 
   -- the run is played with the replies in the events, and leaves its end
   pub how : How
   pub meaning : play run (replies_in before.attempts (length (all_jobs groups)) since)
-      ≡ record { how = how; state = record { vars = end.vars; defs = end.defs }; groups = groups }
+      ≡ record { how = how; state = state_of end; groups = groups }
   pub outcome : outcome_from how (first_refused (replies_in before.attempts (length (all_jobs groups)) since)) ≡ Some end.outcome
   -- whenever a child ends, the window is full, unless the last job of a group was attempted; each start takes the least
   -- free slot

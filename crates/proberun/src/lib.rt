@@ -4,7 +4,7 @@
 //! let plan = compile(alloc, &source)?;
 //! let mut crew = ProcessCrew::new(rt, alloc)?;
 //! let end = run(alloc, &plan, vars, &mut crew, 4)?;       // at most four children at once
-//! // end.outcome, end.vars and end.defs
+//! // end.outcome, end.vars, end.defs, end.messages and end.log
 //! ```
 //!
 //! Read `specs/Ran` (a run over a crew) with `specs/Starts` (the events of one), then `running`, then `serving` with

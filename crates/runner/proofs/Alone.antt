@@ -5,8 +5,8 @@ use Rattle.std.proofs.lemmas.List.{append-nil}
 use Rattle.conftest.specs.declared.job.Job.{Job}
 use Rattle.crew.specs.declared.reply.Reply.{Reply}
 use Rattle.crew.specs.declared.reply.Reply.TheVariants.{StartRefused}
-use Rattle.machine.specs.Standing.{Standing, run_in, run_at, left_in, run_left, Shows, CutsAt, Refusals, Holds, Fits, fits_in, Turned, outcome_of, outcome_by}
-use Rattle.machine.specs.Waits.{given, refused_rest, first_refused, resumed}
+use Rattle.machine.specs.Standing.{Standing, run_under, run_in, run_at, left_in, run_left, Shows, CutsAt, Refusals, Holds, Fits, fits_in, Turned, outcome_of, outcome_by}
+use Rattle.machine.specs.Waits.{given, refused_rest, early_in, with_asked}
 use Rattle.machine.specs.declared.machine.Outcome.{Outcome}
 use Rattle.machine.specs.declared.machine.Outcome.TheVariants as outcome
 use Rattle.machine.specs.declared.machine.Phase.{Phase}
@@ -15,26 +15,26 @@ use Rattle.machine.specs.declared.machine.RunEnd.{RunEnd}
 use Rattle.machine.specs.declared.machine.Turn.{Turn}
 use Rattle.machine.specs.declared.machine.Turn.TheVariants as turn
 use Rattle.machine.specs.declared.wait.Wait.TheVariants as waits
-use Rattle.meaning.specs.Play.{play}
+use Rattle.meaning.specs.Play.{play, first_refused, refused_after, with_cut_line, whole}
 use Rattle.meaning.specs.State.{State, How, Goes_on, Completed, Stopped, Cut, Run, Ends, Asks, no_choice}
 use Rattle.plan.specs.Walk.{Instruction, walk}
-use Rattle.proberun.specs.Ran.{outcome_from}
+use Rattle.proberun.specs.Ran.{outcome_from, state_of}
 use Rattle.runner.specs.Ran.{RanAlone, refusals}
 
 -- What a machine leaves at its end.
 abbrev pub Leaves : Standing → RunEnd → Type 0
-Leaves m end = IfSome (outcome_of m.phase) (λ o. end ≡ record { outcome = o; vars = m.state.vars; defs = m.state.defs })
+Leaves m end = IfSome (outcome_of m.phase) (λ o. end ≡ record { outcome = o; vars = m.state.vars; defs = m.state.defs; messages = m.state.messages; log = m.state.log })
 
-left_by : (o : Option Outcome) (p : Outcome) (m : Standing) (end : RunEnd) → o ≡ Some p → IfSome o (λ o. end ≡ record { outcome = o; vars = m.state.vars; defs = m.state.defs })
-    → end ≡ record { outcome = p; vars = m.state.vars; defs = m.state.defs }
-left_by o p m end e h = let q : IfSome (Some p) (λ o. end ≡ record { outcome = o; vars = m.state.vars; defs = m.state.defs }) = subst (λ x. IfSome x (λ o. end ≡ record { outcome = o; vars = m.state.vars; defs = m.state.defs })) e h in q
+left_by : (o : Option Outcome) (p : Outcome) (m : Standing) (end : RunEnd) → o ≡ Some p → IfSome o (λ o. end ≡ record { outcome = o; vars = m.state.vars; defs = m.state.defs; messages = m.state.messages; log = m.state.log })
+    → end ≡ record { outcome = p; vars = m.state.vars; defs = m.state.defs; messages = m.state.messages; log = m.state.log }
+left_by o p m end e h = let q : IfSome (Some p) (λ o. end ≡ record { outcome = o; vars = m.state.vars; defs = m.state.defs; messages = m.state.messages; log = m.state.log }) = subst (λ x. IfSome x (λ o. end ≡ record { outcome = o; vars = m.state.vars; defs = m.state.defs; messages = m.state.messages; log = m.state.log })) e h in q
 
 -- A run that asks for nothing.
-at_once : (r : Run) (how : How) (m : Standing) (o : Outcome) (end : RunEnd) → r ≡ Ends how m.state → outcome_from how None ≡ Some o → end ≡ record { outcome = o; vars = m.state.vars; defs = m.state.defs } → RanAlone r end
+at_once : (r : Run) (how : How) (m : Standing) (o : Outcome) (end : RunEnd) → r ≡ Ends how m.state → outcome_from how None ≡ Some o → end ≡ record { outcome = o; vars = m.state.vars; defs = m.state.defs; messages = m.state.messages; log = m.state.log } → RanAlone r end
 at_once r how m o end is out left = record {
   groups = [];
   how = how;
-  meaning = ap (λ x. play x []) is ∙ ap (λ (e : RunEnd). record { how = how; state = record { vars = e.vars; defs = e.defs }; groups = [] }) (sym left);
+  meaning = ap (λ x. play x []) is ∙ ap (λ (e : RunEnd). record { how = how; state = state_of e; groups = [] }) (sym left);
   outcome = out ∙ ap (λ (e : RunEnd). Some e.outcome) (sym left);
 }
 
@@ -62,9 +62,9 @@ ends_by (turn.Cut number) r old m end s o h going none not_ask left =
 
 pub alone_at_once : (plan : List Instruction) (t : Turn) (old m : Standing) (st : State) (end : RunEnd)
     → old ≡ record { phase = phase.Going; place = 0; scope = no_choice; state = st; wait = waits.Nothing; before = 0; jobs = []; replies = [] }
-    → Turned plan t old m → (t ≡ turn.Ask → ⊥) → Leaves m end → RanAlone (walk plan 0 no_choice st) end
+    → Turned plan t old m → (t ≡ turn.Ask → ⊥) → Leaves m end → RanAlone (whole (walk plan 0 no_choice st)) end
 alone_at_once plan t old m st end is turned not_ask left =
-    let begins : run_left plan old ≡ walk plan 0 no_choice st = ap (run_left plan) is in
+    let begins : run_left plan old ≡ whole (walk plan 0 no_choice st) = ap (run_left plan) is in
     subst (λ r. RanAlone r end) (turned.same ∙ begins)
     (ends_by t (run_at plan m) old m end turned.shows turned.outcome turned.refusals (ap (λ (x : Standing). x.phase) is) (ap (λ (x : Standing). x.replies) is) not_ask left)
 
@@ -72,7 +72,11 @@ alone_at_once plan t old m st end is turned not_ask left =
 
 -- What follows the replies to the jobs that a machine asks for.
 abbrev next_of : List Instruction → Standing → List Reply → Run
-next_of plan m replies = resumed m.wait replies (walk plan (m.place + 1)) m.scope m.state
+next_of plan m replies = run_under replies plan m
+
+-- The state of a machine that is cut short because the start of its job is refused.
+abbrev last_of : Standing → State
+last_of m = with_cut_line (refused_after m.before (StartRefused ∷ [])) (early_in m.wait Cut (with_asked m.jobs (StartRefused ∷ []) m.state))
 
 fits_at : (p : Phase) (plan : List Instruction) (m : Standing) → p ≡ phase.Asking → fits_in p plan m → Holds 1 plan m
 fits_at p plan m e h = let q : fits_in phase.Asking plan m = subst (λ x. fits_in x plan m) e h in q
@@ -102,9 +106,9 @@ alone_refused plan t m cut new end asking fits first fresh is turned left =
     let given_is : given cut.replies ≡ StartRefused ∷ [] =
     ap (λ (x : Standing). given x.replies) is ∙ ap (λ l. given (refused_rest l)) (fresh ∙ ap (λ n. replicate n None) at.jobs) in
     let phase_is : cut.phase ≡ phase.Asking = ap (λ (x : Standing). x.phase) is ∙ asking in
-    let rest : run_left plan cut ≡ Ends Cut m.state =
-    ap (λ p. left_in p plan cut) phase_is ∙ ap (λ l. resumed cut.wait l (walk plan (cut.place + 1)) cut.scope cut.state) given_is ∙ ap (λ (x : Standing). Ends Cut x.state) is in
-    let c = cut_by t m.state new (subst (λ r. Shows t r new) (turned.same ∙ rest) turned.shows) in
+    let rest : run_left plan cut ≡ Ends Cut (last_of m) =
+    ap (λ p. left_in p plan cut) phase_is ∙ ap (λ l. run_under l plan cut) given_is ∙ ap (λ (x : Standing). Ends Cut (last_of x)) is in
+    let c = cut_by t (last_of m) new (subst (λ r. Shows t r new) (turned.same ∙ rest) turned.shows) in
     let number = c.0 in
     let o : outcome_of new.phase ≡ Some (outcome.CutShort number) = turned.outcome ∙ ap outcome_by c.1 in
     let e = left_by _ _ new end o left in
@@ -114,12 +118,12 @@ alone_refused plan t m cut new end asking fits first fresh is turned left =
     let before : cut.before ≡ 0 = ap (λ (x : Standing). x.before) is ∙ first in
     let is_one : number ≡ 1 = omega (arith, k.2, one, before) in
     let refused = one_refusal m.jobs at.jobs in
-    let state_is : record { vars = end.vars; defs = end.defs } ≡ m.state = ap (λ (x : RunEnd). record { vars = x.vars; defs = x.defs }) e ∙ c.2 in
+    let state_is : state_of end ≡ last_of m = ap state_of e ∙ c.2 in
     record {
       groups = m.jobs ∷ [];
       how = Cut;
       meaning = ap (play (run_at plan m)) refused ∙ ap (λ p. play (run_in p plan m) (StartRefused ∷ [])) asking
-          ∙ played 1 m.jobs (next_of plan m) m.state refl at.jobs refl
+          ∙ played 1 m.jobs (next_of plan m) (last_of m) refl at.jobs refl
           ∙ ap (λ s. record { how = Cut; state = s; groups = m.jobs ∷ [] }) (sym state_is);
       outcome = ap (λ l. outcome_from Cut (first_refused l)) refused ∙ ap (λ n. Some (outcome.CutShort n)) (sym is_one) ∙ ap (λ (x : RunEnd). Some x.outcome) (sym e);
     }
@@ -132,7 +136,7 @@ cut_has_end plan t m cut new asking fits fresh is turned =
     let given_is : given cut.replies ≡ StartRefused ∷ [] =
     ap (λ (x : Standing). given x.replies) is ∙ ap (λ l. given (refused_rest l)) (fresh ∙ ap (λ n. replicate n None) at.jobs) in
     let phase_is : cut.phase ≡ phase.Asking = ap (λ (x : Standing). x.phase) is ∙ asking in
-    let rest : run_left plan cut ≡ Ends Cut m.state =
-    ap (λ p. left_in p plan cut) phase_is ∙ ap (λ l. resumed cut.wait l (walk plan (cut.place + 1)) cut.scope cut.state) given_is ∙ ap (λ (x : Standing). Ends Cut x.state) is in
-    let c = cut_by t m.state new (subst (λ r. Shows t r new) (turned.same ∙ rest) turned.shows) in
+    let rest : run_left plan cut ≡ Ends Cut (last_of m) =
+    ap (λ p. left_in p plan cut) phase_is ∙ ap (λ l. run_under l plan cut) given_is ∙ ap (λ (x : Standing). Ends Cut (last_of x)) is in
+    let c = cut_by t (last_of m) new (subst (λ r. Shows t r new) (turned.same ∙ rest) turned.shows) in
     (c.0, turned.outcome ∙ ap outcome_by c.1)

@@ -56,19 +56,19 @@ pub memory_not_run : {A : Type 0} (s : Script) (r : Result A FilterFault) → Is
 memory_not_run s (Ok x) h = absurd h
 memory_not_run s (Err e) h = subst (IsNotRun s) (sym h) no_memory
 
-pub run_found : {A : Type 0} (input source template : List ℕ) (s : Script) (r : Result A FilterFault) (text : A → List ℕ) (status : A → ℕ) → IsParted input source template → IsSource source s
-    → IfOk r (λ a. IsRun s template (text a) (status a)) → IfOk r (λ a. IsFiltered input (text a) (status a))
-run_found input source template s (Ok a) text status parted is h = record { source = source; template = template; parted = parted; statements = s; is_source = is; run = h }
-run_found input source template s (Err e) text status parted is h = tt
+pub run_found : {A : Type 0} (input source template : List ℕ) (s : Script) (r : Result A FilterFault) (text errors : A → List ℕ) (status : A → ℕ) → IsParted input source template → IsSource source s
+    → IfOk r (λ a. IsRun s template (text a) (errors a) (status a)) → IfOk r (λ a. IsFiltered input (text a) (errors a) (status a))
+run_found input source template s (Ok a) text errors status parted is h = record { source = source; template = template; parted = parted; statements = s; is_source = is; run = h }
+run_found input source template s (Err e) text errors status parted is h = tt
 
 pub not_run_refused : {A : Type 0} (input source template : List ℕ) (s : Script) (r : Result A FilterFault) → IsParted input source template → IsSource source s → IfErr r (IsNotRun s) → IfErr r (IsInputFault input)
 not_run_refused input source template s (Ok x) parted is h = tt
 not_run_refused input source template s (Err e) parted is h = not_run parted is h
 
 -- The input is the text that was read.
-pub write_refused : (o : Option (List ℕ)) (text items out : List ℕ) (status : ℕ) → text ≡ items → IfSome o (λ input. items ≡ input) → IsFiltered text out status → IfSome o (λ input. IsRefused input Write)
-write_refused None text items out status whole same is = tt
-write_refused (Some input) text items out status whole same is = subst (λ t. IsRefused t Write) (whole ∙ same) (unwritten is)
+pub write_refused : (o : Option (List ℕ)) (text items out errors : List ℕ) (status : ℕ) → text ≡ items → IfSome o (λ input. items ≡ input) → IsFiltered text out errors status → IfSome o (λ input. IsRefused input Write)
+write_refused None text items out errors status whole same is = tt
+write_refused (Some input) text items out errors status whole same is = subst (λ t. IsRefused t Write) (whole ∙ same) (unwritten is)
 
 pub input_refused : (o : Option (List ℕ)) (text items : List ℕ) (e : FilterFault) → text ≡ items → IfSome o (λ input. items ≡ input) → IsInputFault text e → IfSome o (λ input. IsRefused input e)
 input_refused None text items e whole same is = tt

@@ -5,7 +5,8 @@ use Rattle.acstatement.specs.declared.fault.ParseFault.TheVariants as parse_faul
 use Rattle.acparse.specs.Profile.{source_of}
 use Rattle.acparse.specs.Source.{IsSource, IsSourceFault}
 use Rattle.meaning.specs.Meaning.{meaning}
-use Rattle.meaning.specs.State.{State}
+use Rattle.meaning.specs.Play.{whole}
+use Rattle.meaning.specs.State.{opened}
 use Rattle.machine.specs.declared.machine.RunEnd.{RunEnd}
 use Rattle.options.specs.Opening.{opening}
 use Rattle.commandline.specs.declared.fault.OptionFault.{OptionFault}
@@ -17,6 +18,7 @@ use Rattle.plan.specs.declared.fault.PlanFault.TheVariants.{TooLong}
 use Rattle.runner.specs.declared.fault.Fault.TheVariants.{Parse, Plan, NoTemplate}
 use Rattle.runner.specs.declared.fault.FilterFault.{FilterFault}
 use Rattle.runner.specs.declared.fault.FilterFault.TheVariants.{Read, Usage, Run, Write, OutOfMemory}
+use Rattle.runner.specs.Errors.{errors_text}
 use Rattle.runner.specs.Outputs.{ArePresent, IsWritten, IsMissing}
 use Rattle.input.specs.Parted.{IsParted, HasNoMarker}
 use Rattle.runner.specs.Ran.{RanAlone, status_of}
@@ -28,30 +30,29 @@ settings_of s =
     let known = after_all start s in
     opening known.features known.packages known.precious [] []
 
--- The state that the statements begin with: these settings' variables, and no definition. (own)
-abbrev pub opened : Settings → State
-opened settings = record { vars = settings.vars; defs = [] }
-
 -- The statements are run, without arguments and environment, and with each start of a child refused: they are not too
--- heavy, the templates exist, and this is the text that is written, and the exit status. (own)
-pub record IsRun (s : Script) (template out : List ℕ) (status : ℕ) : Type 0 where
+-- heavy, the templates exist, and this is the text that is written, the text for standard error, and the exit status.
+-- (own)
+pub record IsRun (s : Script) (template out errors : List ℕ) (status : ℕ) : Type 0 where
   pub fits : weight s ≤ heaviest
   pub settings : Settings
   pub opens : settings_of s ≡ Ok settings
   pub present : ArePresent s
   pub end : RunEnd
-  pub ran : RanAlone (meaning s (opened settings)) end
+  pub ran : RanAlone (whole (meaning s (opened settings.vars))) end
   pub written : IsWritten s template end.outcome end.vars out
+  pub told : errors ≡ errors_text end.messages
   pub exits : status ≡ status_of end.outcome
 
--- The input is a source and a template, and this is the text that its run writes, and the exit status. (own)
-pub record IsFiltered (input out : List ℕ) (status : ℕ) : Type 0 where
+-- The input is a source and a template, and this is the text that its run writes, the text for standard error, and the
+-- exit status. (own)
+pub record IsFiltered (input out errors : List ℕ) (status : ℕ) : Type 0 where
   pub source : List ℕ
   pub template : List ℕ
   pub parted : IsParted input source template
   pub statements : Script
   pub is_source : IsSource source statements
-  pub run : IsRun statements template out status
+  pub run : IsRun statements template out errors status
 
 -- Why statements are not run: they are too heavy, or else a template doesn't exist, or memory runs out. (own)
 pub data IsNotRun (s : Script) : FilterFault → Type 0 where
@@ -71,6 +72,6 @@ pub data IsInputFault (input : List ℕ) : FilterFault → Type 0 where
 -- read, which the contract of a reader has no name for, or memory runs out. (own)
 pub data IsRefused (input : List ℕ) : FilterFault → Type 0 where
   fault : {e : FilterFault} → IsInputFault input e → IsRefused input e
-  unwritten : {out : List ℕ} {status : ℕ} → IsFiltered input out status → IsRefused input Write
+  unwritten : {out errors : List ℕ} {status : ℕ} → IsFiltered input out errors status → IsRefused input Write
   unread : IsRefused input Read
   memory : IsRefused input OutOfMemory

@@ -1,3 +1,4 @@
+pub mod Errors
 pub mod Outputs
 pub mod Ran
 pub mod Commands

@@ -95,9 +95,7 @@ pub fn run<F: Files, R: Read, W: Write, E: Write>(
 ) -> u8
     // Without arguments: unless the status is 2, what is written and the status are those of the source's meaning.
     ensures written { words.now ≡ [] → (result ≡ 2) ⊎ IfSome (R.remaining input.old)
-        (λ text. (out : List ℕ) × IsFiltered text out result × Appends (W.contents output.old) (W.contents output.new) out) }
-    // Without arguments: unless the status is 2, nothing is written on standard error.
-    ensures quiet { words.now ≡ [] → (result ≡ 2) ⊎ (errors.new ≡ errors.old) }
+        (λ text. (out : List ℕ) × (said : List ℕ) × IsFiltered text out said result × Appends (W.contents output.old) (W.contents output.new) out × (said ≡ [] → errors.new ≡ errors.old)) }
     // If memory runs out, the stand-in's status is 2, else it is its answer.
     ensures standin { calls_standin words.now ≡ true → (result ≡ 2) ⊎ IsAnswered (drop 1 words.now) result }
     ensures silent { calls_standin words.now ≡ true → result ≡ 0 → errors.new ≡ errors.old }
@@ -129,8 +127,7 @@ fn filtered<R: Read, W: Write, E: Write>(
     errors: &mut E,
 ) -> u8
     ensures written { (result ≡ 2) ⊎ IfSome (R.remaining input.old)
-        (λ text. (out : List ℕ) × IsFiltered text out result × Appends (W.contents output.old) (W.contents output.new) out) }
-    ensures quiet { (result ≡ 2) ⊎ (errors.new ≡ errors.old) }
+        (λ text. (out : List ℕ) × (said : List ℕ) × IsFiltered text out said result × Appends (W.contents output.old) (W.contents output.new) out × (said ≡ [] → errors.new ≡ errors.old)) }
 {
     match filter(alloc, input, output) {
         Ok(

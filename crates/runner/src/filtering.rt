@@ -11,6 +11,7 @@ ghost use Rattle.runner.specs.declared.fault.FilterFault.{FilterFault};
 ghost use Rattle.runner.specs.Filtered.{IsRun, IsNotRun, IsFiltered, IsInputFault, IsRefused, settings_of};
 ghost use Rattle.runner.specs.Outputs.{ArePresent, IsFileText, IsWritten, IsTemplateFault, files_of, names_of, is_other};
 
+use crate::errors::errors_text;
 use crate::fault::{Fault, FilterFault};
 use crate::outputs::file_table;
 use crate::running::{run_alone, status_of as exit_status};
@@ -99,10 +100,11 @@ fn text_of(
     }
 }
 
-/// The text that is written, and the exit status.
+/// The text that is written, the text for standard error, and the exit status.
 #[derive(Drop)]
 struct Written {
     text: Vec<u8>,
+    errors: Vec<u8>,
     status: u8,
 }
 
@@ -126,22 +128,24 @@ fn run_plan(
 ) -> Result<Written, FilterFault>
     requires fits { weight (script_of source.now) ≤ heaviest }
     requires meaning { DoesWhat plan.now (script_of source.now) }
-    ensures run { IfOk result (λ a. IsRun (script_of source.now) template.now a.text.items a.status) }
+    ensures run { IfOk result (λ a. IsRun (script_of source.now) template.now a.text.items a.errors.items a.status) }
     ensures refused { IfErr result (IsNotRun (script_of source.now)) }
 {
     check_templates(alloc, source)?;
     let vars = opening(alloc, source)?;
     let end = run_alone(alloc, plan, vars)?;
     let text = text_of(alloc, source, template, &end)?;
+    let errors = errors_text(alloc, end.messages.as_slice())?;
     Ok(Written {
         text,
+        errors,
         status: exit_status(end.outcome),
     })
 }
 
 /// Runs a source in this way.
 fn run_source(alloc: Global, source: &Source, template: &[u8]) -> Result<Written, FilterFault>
-    ensures run { IfOk result (λ a. IsRun (script_of source.now) template.now a.text.items a.status) }
+    ensures run { IfOk result (λ a. IsRun (script_of source.now) template.now a.text.items a.errors.items a.status) }
     ensures refused { IfErr result (IsNotRun (script_of source.now)) }
 {
     let plan = compile(alloc, source)?;
@@ -150,7 +154,7 @@ fn run_source(alloc: Global, source: &Source, template: &[u8]) -> Result<Written
 
 /// Returns what the run of the input writes, or why it isn't run.
 fn answer(alloc: Global, input: &[u8]) -> Result<Written, FilterFault>
-    ensures found { IfOk result (λ a. IsFiltered input.now a.text.items a.status) }
+    ensures found { IfOk result (λ a. IsFiltered input.now a.text.items a.errors.items a.status) }
     ensures refused { IfErr result (IsInputFault input.now) }
 {
     let Some(at) = marker_place(input) else {
@@ -182,10 +186,9 @@ pub fn filter<R: Read, W: Write>(
     reader: &mut R,
     writer: &mut W,
 ) -> Result<Filtered, FilterFault>
-    // If it succeeds, what is written and the status are those of the source's meaning.
+    // If it succeeds, what is written, the text for standard error and the status are those of the source's meaning.
     ensures written { IfOk result (λ f. IfSome (R.remaining reader.old)
-        (λ input. (out : List ℕ) × IsFiltered input out f.status × Appends (W.contents writer.old) (W.contents writer.new) out)) }
-    ensures errors { IfOk result (λ f. f.errors.items ≡ []) }
+        (λ input. (out : List ℕ) × IsFiltered input out f.errors.items f.status × Appends (W.contents writer.old) (W.contents writer.new) out)) }
     // If it fails, and not because of the writer, the writer is unchanged.
     ensures untouched { IfErr result (λ e. e ≢ FilterFault.Write → writer.new ≡ writer.old) }
     // If it fails, the input has an error, can't be read, or its text can't be written, or memory ran out.
@@ -198,6 +201,6 @@ pub fn filter<R: Read, W: Write>(
     }
     Ok(Filtered {
         status: answer.status,
-        errors: Vec::new(alloc),
+        errors: answer.errors,
     })
 }

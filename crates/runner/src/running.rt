@@ -4,11 +4,12 @@
 //! for are refused at once, in the same way as by a crew that refuses every start. So its clause says what the run
 //! leaves without the account of a crew. `proberun::run` is for a crew with children, which end in some order.
 
-ghost use Rattle.std.specs.Prelude.{◌≡◌, [], None, length, replicate, IfOk};
+ghost use Rattle.std.specs.Prelude.{◌≡◌, None, length, replicate, IfOk};
 ghost use Rattle.machine.specs.Standing.{Fits, run_at};
 ghost use Rattle.machine.specs.declared.machine.Phase.TheVariants as phases;
 ghost use Rattle.plan.specs.Walk.{walk};
-ghost use Rattle.meaning.specs.State.{no_choice};
+ghost use Rattle.meaning.specs.Play.{whole};
+ghost use Rattle.meaning.specs.State.{no_choice, opened};
 ghost use Rattle.runner.specs.Ran as words;
 ghost use Rattle.runner.specs.Ran.{RanAlone};
 
@@ -37,7 +38,7 @@ fn refused(mut machine: Machine, plan: &Plan) -> Result<RunEnd, AllocError>
 ///
 /// Fails only if memory runs out.
 pub fn run_alone(alloc: Global, plan: &Plan, vars: Vars) -> Result<RunEnd, AllocError>
-    ensures { IfOk result (RanAlone (walk plan.now 0 no_choice (record { vars = vars; defs = [] }))) }
+    ensures { IfOk result (RanAlone (whole (walk plan.now 0 no_choice (opened vars)))) }
 {
     let mut machine = Machine::new(alloc, plan, vars);
     match machine.advance(plan)? {

@@ -1,28 +1,32 @@
-//! The variables and the definitions of a run.
+//! The variables and the definitions of a run, its messages and its log.
 
-ghost use Rattle.std.specs.Prelude.{◌≡◌, [], IfOk, OnOk, option_map};
+ghost use Rattle.std.specs.Prelude.{◌≡◌, ◌++◌, IfOk, OnOk, option_map};
 ghost use Rattle.deftable.specs.ShellName.{IsShellName};
 ghost use Rattle.deftable.specs.Table.{value_of};
 ghost use Rattle.shellword.specs.Truth.{truth};
 ghost use Rattle.shellword.specs.Value.{word_value};
-ghost use Rattle.meaning.specs.Meaning.{has_value, is_full_name, is_slash, is_unsettled, settled, starts_slash, with_prefixes, with_definition};
-ghost use Rattle.meaning.specs.Search.{value_or_empty, with_variable};
+ghost use Rattle.meaning.specs.Meaning.{has_value, is_full_name, is_slash, is_unsettled, settled, starts_slash, with_prefixes};
+ghost use Rattle.meaning.specs.Rows.{value_or_empty};
+ghost use Rattle.meaning.specs.State.{opened, told, with_child, with_definition, with_variable, without_variable};
 ghost use Rattle.meaning.specs.Tries.{first_probe, text_of};
 ghost use Rattle.conftest.specs.Probe.{job_of};
 ghost use Rattle.runstate.specs.Copies.{Copied};
 
 use conftest::{Job, JobFault, compile_job, link_job, preproc_job};
+use crew::{Entry, Log, Reply};
 use csource::program_source;
-use deftable::{Bytes, Defs, Vars};
+use deftable::{Bytes, Defs, Note, Notes, Stream, Vars};
 use shellword::{HereText, Test, Word};
 use std::alloc::{AllocError, Global};
 use std::marker::Model;
 use syntax::{Program, Try};
 
-/// Variables and definitions. Contracts see them as a state.
+/// Variables and definitions, the messages that were printed, and the log. Contracts see them as a state.
 pub struct Store {
     vars: Vars,
     defs: Defs,
+    messages: Notes,
+    log: Log,
 }
 
 impl Drop for Store {
@@ -30,6 +34,8 @@ impl Drop for Store {
         let Store {
             vars: _vars,
             defs: _defs,
+            messages: _messages,
+            log: _log,
         } = self;
     }
 }
@@ -39,18 +45,50 @@ impl Model for Store {
 
     ghost Value = { State };
 
-    ghost view = { λ s. record { vars = s.vars; defs = s.defs } };
+    ghost view = { λ s. record { vars = s.vars; defs = s.defs; messages = s.messages; log = s.log } };
 }
 
 impl Store {
-    /// Returns a store with these variables and no definitions.
+    /// Returns a store with these variables, and nothing else.
     pub fn new(alloc: Global, vars: Vars) -> Store
-        ensures { result ≡ record { vars = vars; defs = [] } }
+        ensures { result ≡ opened vars }
     {
         Store {
             vars,
             defs: Defs::new(alloc),
+            messages: Notes::new(alloc),
+            log: Log::new(alloc),
         }
+    }
+
+    fn put_piece(&mut self, alloc: Global, stream: Stream, text: Bytes) -> Result<(), AllocError>
+        ensures { OnOk result (self.new ≡ told stream text self.old) }
+    {
+        let copy = text.copy(alloc)?;
+        self.messages.push(Note { stream, text })?;
+        self.log.push(Entry::Said(Note { stream, text: copy }))
+    }
+
+    /// Adds a piece to the messages, and to the log: a text between two others.
+    pub fn tell(
+        &mut self,
+        alloc: Global,
+        stream: Stream,
+        before: &[u8],
+        text: &[u8],
+        after: &[u8],
+    ) -> Result<(), AllocError>
+        ensures { OnOk result (self.new ≡ told stream (before.now ++ text.now ++ after.now) self.old) }
+    {
+        let piece = joined(alloc, before, text, after)?;
+        self.put_piece(alloc, stream, piece)
+    }
+
+    /// Adds a child to the log.
+    pub fn log_child(&mut self, job: Job, reply: Reply) -> Result<(), AllocError>
+        ensures { OnOk result (self.new ≡ with_child job reply self.old) }
+    {
+        self.log.push(Entry::Child { job, reply })
     }
 
     /// Sets a variable.
@@ -58,6 +96,13 @@ impl Store {
         ensures { OnOk result (self.new ≡ with_variable name.now value.now self.old) }
     {
         self.vars.set(name, value)
+    }
+
+    /// Unsets a variable.
+    pub fn unset(&mut self, name: &[u8])
+        ensures { self.new ≡ without_variable name.now self.old }
+    {
+        self.vars.unset(name);
     }
 
     /// Returns the value of a variable, if it is set.
@@ -204,13 +249,27 @@ impl Store {
         test.holds(alloc, &self.vars)
     }
 
-    /// Returns the variables and the definitions.
-    pub fn into_parts(self) -> (Vars, Defs)
-        ensures { record { vars = result.0; defs = result.1 } ≡ self }
+    /// Returns the variables, the definitions, the messages and the log.
+    pub fn into_parts(self) -> (Vars, Defs, Notes, Log)
+        ensures { record { vars = result.0; defs = result.1; messages = result.2; log = result.3 } ≡ self }
     {
-        let Store { vars, defs } = self;
-        (vars, defs)
+        let Store {
+            vars,
+            defs,
+            messages,
+            log,
+        } = self;
+        (vars, defs, messages, log)
     }
+}
+
+fn joined(alloc: Global, before: &[u8], text: &[u8], after: &[u8]) -> Result<Bytes, AllocError>
+    ensures { IfOk result (λ t. t ≡ before.now ++ text.now ++ after.now) }
+{
+    let mut out = Vec::from_slice(alloc, before)?;
+    out.extend_from_slice(text)?;
+    out.extend_from_slice(after)?;
+    Ok(Bytes::from_vec(out))
 }
 
 fn is_slash(byte: u8) -> bool

@@ -1,5 +1,5 @@
 use Rattle.std.proofs.Common.{◌≡◌, ◌++◌, map, drop}
-use Rattle.meaning.specs.Search.{directory_of}
+use Rattle.meaning.specs.Directories.{directory_of}
 use Rattle.machine.proofs.search.directories_in.Given as goal
 
 abbrev pub invariant-loop-part : goal.invariant-loop-part

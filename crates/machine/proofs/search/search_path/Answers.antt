@@ -1,6 +1,7 @@
 use Rattle.std.proofs.Common.{ap, length, arith}
-use Rattle.meaning.specs.Search.{searched, value_or_empty}
 use Rattle.std.specs.Prelude.{codes}
+use Rattle.meaning.specs.Rows.{value_or_empty}
+use Rattle.machine.specs.Waits.{searched}
 use Rattle.machine.proofs.Searches.{few_directories, few_ok, led_ok}
 use Rattle.machine.proofs.search.search_path.Goals as goal
 
@@ -10,4 +11,4 @@ returns-clause-asks c =
 
 pub returns-clause-leads : goal.returns-clause-leads
 returns-clause-leads c =
-    led_ok _ _ _ _ (ap (λ f. searched c.args.search f c.args.store.now) c.in_ok-directories.ensures) c.look_on.ensures.leads
+    led_ok _ _ _ _ (λ about next. ap (λ f. searched c.args.search f c.args.store.now (next 0 about)) c.in_ok-directories.ensures) c.look_on.ensures.leads

@@ -41,5 +41,6 @@ returns-in_default g c = record {
   idle = c.groups.invariant.progress.idle;
   landed = all_landed _ _ _ _ _ _ _ c.groups.invariant.progress;
   ended = at_end _ _ _ _ c.in_default.not-Ask c.in_ok-advance.ensures.turned;
+  begun = tt;
   ran = λ end leaves. ends (length c.args.slots.now) _ _ _ _ _ _ _ end c.in_default.not-Ask c.in_ok-advance.ensures.turned c.groups.invariant.moving c.groups.invariant.progress leaves;
 }

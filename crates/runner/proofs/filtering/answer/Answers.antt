@@ -23,5 +23,5 @@ pub returns-clause-found : goal.returns-clause-found
 returns-clause-found c =
     let input = c.args.input.now in
     let at = c.in-Some.at in
-    run_found input (take at input) (drop (at + 3) input) (script_of c.in_ok-source.source) c.run_source.result (λ a. a.text.items) (λ a. a.status) c.in-Some.ensures.some c.in_ok-source.ensures.sound
+    run_found input (take at input) (drop (at + 3) input) (script_of c.in_ok-source.source) c.run_source.result (λ a. a.text.items) (λ a. a.errors.items) (λ a. a.status) c.in-Some.ensures.some c.in_ok-source.ensures.sound
     (rw c.after_marker.ensures at c.run_source.ensures.run)

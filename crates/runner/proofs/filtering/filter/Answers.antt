@@ -6,7 +6,7 @@ pub returns-in_err-input-clause-refused : goal.returns-in_err-input-clause-refus
 returns-in_err-input-clause-refused g c = read_refused _ _ _ c.from_residual.ensures.1
 
 pub returns-then-is_err-clause-refused : goal.returns-then-is_err-clause-refused
-returns-then-is_err-clause-refused g c = write_refused _ c.as_slice.result.now _ _ _ c.as_slice.ensures.value c.in_ok-input.ensures.ok c.in_ok-answer.ensures.found
+returns-then-is_err-clause-refused g c = write_refused _ c.as_slice.result.now _ _ _ _ c.as_slice.ensures.value c.in_ok-input.ensures.ok c.in_ok-answer.ensures.found
 
 pub returns-in_err-answer-clause-refused : goal.returns-in_err-answer-clause-refused
 returns-in_err-answer-clause-refused g c =

@@ -12,7 +12,7 @@ arrive-requires c =
 pub returns-in-Some-clause-turned : goal.returns-in-Some-clause-turned
 returns-in-Some-clause-turned c =
     let is = c.index-steps-place.is ∙ ap (λ k. get_or c.args.steps.now k c.index-steps-place.result) c.place-in-steps.ensures in
-    lands _ c.in_ok-flow.flow c.in-Some.turn _ c.step.new.self _ _ (sym c.in_ok-turn.ensures.turn ∙ c.in-Some.is) c.in_ok-turn.ensures.moved
+    lands _ c.in_ok-flow.flow c.in-Some.turn _ c.step.new.self _ _ _ (sym c.in_ok-turn.ensures.turn ∙ c.in-Some.is) c.in_ok-turn.ensures.moved
     (stepped c.args.steps.now c.index-steps-place.result c.in_ok-flow.flow c.args.self.now c.steps.self c.step.new.self (omega (arith, c.place.ensures, c.steps-test.true)) is c.requires.holds c.steps.invariant c.in_ok-flow.ensures.same c.in_ok-flow.ensures.asks c.in_ok-flow.ensures.heeds c.in_ok-flow.ensures.leads)
 
 pub steps-preserved : goal.steps-preserved
