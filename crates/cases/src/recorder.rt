@@ -15,7 +15,7 @@ pub struct Recorder {
 }
 
 /// Puts a command, after a blank. A word that has a blank is in quotes.
-fn put_command(page: &mut Page, job: &Job) {
+pub fn put_command(page: &mut Page, job: &Job) {
     for word in job.words.as_slice() {
         let quote = if word.as_slice().contains(&b' ') {
             b"'".as_slice()
@@ -27,7 +27,6 @@ fn put_command(page: &mut Page, job: &Job) {
         put_text(page, word.as_slice());
         page.put(quote);
     }
-    page.put(b"\n");
 }
 
 impl Crew for Recorder {
@@ -44,6 +43,7 @@ impl Crew for Recorder {
         });
         self.lines.put_number(slot);
         self.lines.put(command.text());
+        self.lines.put(b"\n");
         note_cut(&mut self.lines, &command);
         answer
     }

@@ -3,8 +3,11 @@
 use crate::engine::{Ran, read_settings, run_source};
 use crate::given::{Given, arguments_of, environment_of, lines_of, replies_of, window_of};
 use crate::pages::{has, note_cut, put_bracketed, put_fault, put_text, put_value};
+use crate::recorder::put_command;
 use acparse::Source;
-use deftable::{Defs, Stream, Vars};
+use conftest::Job;
+use crew::{Entry, Log, Reply};
+use deftable::{Defs, Note, Stream, Vars};
 use options::{OptionFault, Settings};
 use plan::PlanFault;
 use proberun::Outcome;
@@ -65,12 +68,17 @@ fn put_settings(page: &mut Page, settings: &Settings) {
     put_switch(page, settings.help, b"help\n");
     put_switch(page, settings.version, b"version\n");
     for note in settings.notes.as_slice() {
-        let word = match note.stream {
-            Stream::Out => b"output".as_slice(),
-            Stream::Err => b"error".as_slice(),
-        };
-        put_named(page, word, note.text.as_slice());
+        put_note(page, note);
     }
+}
+
+/// Puts a piece that is printed, with its stream.
+fn put_note(page: &mut Page, note: &Note) {
+    let word = match note.stream {
+        Stream::Out => b"output".as_slice(),
+        Stream::Err => b"error".as_slice(),
+    };
+    put_named(page, word, note.text.as_slice());
 }
 
 /// Puts each variable of a run without arguments and environment.
@@ -156,6 +164,46 @@ fn put_ran(page: &mut Page, ran: &Ran, before: &[u8]) {
     page.put(ran.calls.text());
     put_changes(page, &ran.end.vars, before);
     put_definitions(page, &ran.end.defs);
+}
+
+/// Puts a job and the reply to it.
+fn put_child(page: &mut Page, job: &Job, reply: &Reply) {
+    page.put(b"child");
+    put_command(page, job);
+    match reply {
+        Reply::Answer { status, .. } => {
+            page.put(b": ");
+            page.put_shown(status);
+        }
+        Reply::StartRefused => page.put(b": start refused"),
+        Reply::EndRefused => page.put(b": end refused"),
+    }
+    page.put(b"\n");
+}
+
+/// Puts the entries of a log, a line each.
+fn put_log(page: &mut Page, log: &Log) {
+    for entry in log.as_slice() {
+        match entry {
+            Entry::Said(note) => put_note(page, note),
+            Entry::Child { job, reply } => put_child(page, job, reply),
+        }
+    }
+}
+
+/// Puts the log of a run, or the fault of the arguments or of the plan.
+pub fn put_logged(page: &mut Page, given: &Given, source: &Source) {
+    match settings_of(page, given, source) {
+        Ok(settings) => put_log_from(page, given, source, settings.vars),
+        Err(fault) => put_fault(page, b"option ", &fault),
+    }
+}
+
+fn put_log_from(page: &mut Page, given: &Given, source: &Source, vars: Vars) {
+    match ran(page, given, source, vars) {
+        Ok(ran) => put_log(page, &ran.end.log),
+        Err(fault) => put_fault(page, b"plan ", &fault),
+    }
 }
 
 /// Puts what a run from these variables does and leaves that is not in the lines before, or the fault of its plan.

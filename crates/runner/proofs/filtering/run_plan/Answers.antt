@@ -3,6 +3,7 @@ use Rattle.std.proofs.lemmas.Result.{err_from_is_err_and}
 use Rattle.plan.specs.Walk.{walk}
 use Rattle.meaning.specs.Play.{whole}
 use Rattle.meaning.specs.State.{no_choice, opened}
+use Rattle.runner.specs.Errors.{errors_text}
 use Rattle.runner.specs.Ran.{RanAlone}
 use Rattle.runner.proofs.Refusals.{template_not_run, memory_not_run}
 use Rattle.runner.proofs.filtering.run_plan.Goals as goal
@@ -37,6 +38,6 @@ returns-clause-run c =
       end = c.in_ok-end.end;
       ran = subst (λ r. RanAlone r c.in_ok-end.end) begun c.in_ok-end.ensures;
       written = c.in_ok-text.ensures;
-      told = c.in_ok-errors.ensures;
+      told = c.in_ok-errors.ensures ∙ ap errors_text c.as_slice.ensures;
       exits = c.status_of.ensures;
     }
