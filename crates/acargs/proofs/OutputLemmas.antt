@@ -12,7 +12,7 @@ use Rattle.acstatement.proofs.Binds.{fails_bind, fails_along}
 abbrev pub texts : List (Bor (List ℕ)) → List (List ℕ)
 texts fields = map (λ f. f.now) fields
 
--- the reading of the fields from i on, as it stands behind the field there
+-- the reading of the fields from i on, as it stands after the field there
 at_field : (at : ℕ) (own other outs : List Output) (i : ℕ) (fields : List (Bor (List ℕ))) (d : Bor (List ℕ)) → i < length fields
     → with_fields at own other outs (texts (drop i fields)) ≡ (one_more at own other outs (get_or fields i d).now >>= λ first. with_fields at own other first (texts (drop (i + 1) fields)))
 unfolding with_fields

@@ -28,7 +28,7 @@ use Rattle.m4quote.proofs.Laws.{outcome_is_spelling, outcome_is_fault}
 use Rattle.m4quote.specs.Scan.{outcome}
 use Rattle.syntax.specs.Lists.{after_all, after_cases}
 use Rattle.syntax.specs.Script.{Script, Cases}
-use Rattle.acparse.specs.Breaks.{WithinBreaks, MayNotStand, unknown, other_arguments, in_arguments_alone, not_here, in_text, CasesBreak, in_condition, in_body, behind_case, in_default, ActionBreaks, in_action, ItemBreaks, other_text, may_not_stand, argument, in_subject, in_cases, in_question, in_yes, in_no, Breaks, here, behind, TextBreaks, no_items, in_items, IsBroken}
+use Rattle.acparse.specs.Breaks.{WithinBreaks, MayNotStand, unknown, other_arguments, in_arguments_alone, not_here, in_text, CasesBreak, in_condition, in_body, after_case, in_default, ActionBreaks, in_action, ItemBreaks, other_text, may_not_stand, argument, in_subject, in_cases, in_question, in_yes, in_no, Breaks, here, following, TextBreaks, no_items, in_items, IsBroken}
 use Rattle.acparse.specs.Profile.{Bodies, body_of, items_of, item_of, call_of, checked, known, case_args, case_if, cases_in, choice_of, action_in, action_args, asked_of}
 use Rattle.acparse.specs.Statements.{Within, MayStand, IsBody}
 use Rattle.acparse.proofs.Found.{Reads, known_some, is_of_statement, may_stand, action_found, item_found, body_found, quoted_ok}
@@ -98,7 +98,7 @@ cases_break bodies Inside Broken ok bad m (w ∷ a ∷ more) c f e =
       | inr x ↦ elim (bind_err _ _ _ x.2) [
         | inl h ↦ in_body x.1 (bad c a f h)
         | inr y ↦ elim (bind_err _ _ _ y.2) [
-          | inl h ↦ behind_case x.1 (ok c a y.0 y.1) (cases_break bodies Inside Broken ok bad m more (after_all c y.0) f h)
+          | inl h ↦ after_case x.1 (ok c a y.0 y.1) (cases_break bodies Inside Broken ok bad m more (after_all c y.0) f h)
           | inr z ↦ absurd (no_cases_end _ f z.2)
         ]
       ]
@@ -165,7 +165,7 @@ items_break top bodies Inside Broken ok bad (item ∷ items) c edge f e =
     elim (bind_err _ _ _ e) [
       | inl h ↦ here (item_breaks top bodies Inside Broken ok bad c edge item items f h)
       | inr x ↦ elim (bind_err _ _ _ x.2) [
-        | inl h ↦ behind (item_found top bodies Inside ok c edge item items x.0 x.1) (items_break top bodies Inside Broken ok bad items (after_all c x.0) (edge_of item) f h)
+        | inl h ↦ following (item_found top bodies Inside ok c edge item items x.0 x.1) (items_break top bodies Inside Broken ok bad items (after_all c x.0) (edge_of item) f h)
         | inr z ↦ absurd (no_end _ f z.2)
       ]
     ]

@@ -28,17 +28,17 @@ use Rattle.syntax.specs.Lists.{after_all, after_cases}
 use Rattle.syntax.specs.Script.{Script, Done, Choice, Cases, No_case, Case, joined, followed, script_of, cases_of}
 use Rattle.syntax.proofs.ScriptLemmas.{script_push, joined_done, joined_assoc, after_joined, cases_push, followed_assoc, after_followed}
 use Rattle.acparse.specs.Bare.{bare_of}
-use Rattle.acparse.specs.Profile.{Bodies, Adds, behind, when_of, case_of, cases_in, action_in, action_args, answers_in, asked_of, items_of, item_of, call_of, checked}
+use Rattle.acparse.specs.Profile.{Bodies, Adds, following, when_of, case_of, cases_in, action_in, action_args, answers_in, asked_of, items_of, item_of, call_of, checked}
 use Rattle.acparse.proofs.Texts.{bare_known, fails_inside}
 
 -- ---- items
 
 -- The statements so far, followed by those of the rest of the items, are the list.
 pub record Items (top : Bool) (bodies : Bodies) (before c : declarations.Declarations) (edge : Edge) (out : Script) (all rest : List Entry) : Type 0 where
-  pub value : behind out (items_of top bodies c edge rest) ≡ items_of top bodies before no_edge all
+  pub value : following out (items_of top bodies c edge rest) ≡ items_of top bodies before no_edge all
   pub known : after_all before out ≡ c
 
-regroup : (out first : Script) (read : Result Script ParseFault) → behind out (read >>= λ r. Ok (joined first r)) ≡ behind (joined out first) read
+regroup : (out first : Script) (read : Result Script ParseFault) → following out (read >>= λ r. Ok (joined first r)) ≡ following (joined out first) read
 regroup out first (Ok r) = ap (λ (s : Script). Ok s) (sym (joined_assoc out first r))
 regroup out first (Err f) = refl
 
@@ -47,10 +47,10 @@ items_next : (top : Bool) (bodies : Bodies) (before c c' : declarations.Declarat
 unfolding items_of
 items_next top bodies before c c' edge out out' all item rest i a =
     let step = λ (s : Script). items_of top bodies (after_all c s) (edge_of item) rest >>= λ r. Ok (joined s r) in
-    let one : behind out (item_of top bodies c edge item rest >>= step) ≡ behind (joined out a.first) (items_of top bodies (after_all c a.first) (edge_of item) rest) =
-    ap (λ x. behind out (x >>= step)) a.value ∙ regroup out a.first (items_of top bodies (after_all c a.first) (edge_of item) rest) in
+    let one : following out (item_of top bodies c edge item rest >>= step) ≡ following (joined out a.first) (items_of top bodies (after_all c a.first) (edge_of item) rest) =
+    ap (λ x. following out (x >>= step)) a.value ∙ regroup out a.first (items_of top bodies (after_all c a.first) (edge_of item) rest) in
     record {
-      value = ap (λ s. behind s (items_of top bodies c' (edge_of item) rest)) a.list ∙ ap (λ k. behind (joined out a.first) (items_of top bodies k (edge_of item) rest)) a.known ∙ sym one ∙ i.value;
+      value = ap (λ s. following s (items_of top bodies c' (edge_of item) rest)) a.list ∙ ap (λ k. following (joined out a.first) (items_of top bodies k (edge_of item) rest)) a.known ∙ sym one ∙ i.value;
       known = ap (after_all before) a.list ∙ after_joined out a.first before ∙ ap (λ k. after_all k a.first) i.known ∙ sym a.known;
     }
 
@@ -63,7 +63,7 @@ pub items_done : (top : Bool) (bodies : Bodies) (before c : declarations.Declara
     → rest ≡ [] → Items top bodies before c edge out all rest → items_of top bodies before no_edge all ≡ Ok out
 unfolding items_of
 items_done top bodies before c edge out all rest eq i =
-    sym i.value ∙ ap (λ l. behind out (items_of top bodies c edge l)) eq ∙ ap (λ (s : Script). Ok s) (joined_done out)
+    sym i.value ∙ ap (λ l. following out (items_of top bodies c edge l)) eq ∙ ap (λ (s : Script). Ok s) (joined_done out)
 
 -- ---- as the loop over items uses them
 
@@ -97,7 +97,7 @@ call_adds top bodies c c' at edge name args item next m out out' s is check valu
 }
 
 pub bare_adds : (r : Result (Unit {0}) ParseFault) (top : Bool) (bodies : Bodies) (c : declarations.Declarations) (at : ℕ) (edge : Edge) (text : List ℕ) (item : Entry) (next : List Entry) (out out' : Script)
-    → item ≡ bare text at → Gives (λ _. out') r (behind out (bare_of c.stage at text))
+    → item ≡ bare text at → Gives (λ _. out') r (following out (bare_of c.stage at text))
     → MatchResult r (λ _. Adds c c out out' (item_of top bodies c edge item next)) (λ e. Fails e (item_of top bodies c edge item next))
 bare_adds (Ok x) top bodies c at edge text item next out out' is h =
     let f = bind_ok (bare_of c.stage at text) (λ s. Ok (joined out s)) out' h in
@@ -113,15 +113,15 @@ bare_adds (Err e) top bodies c at edge text item next out out' is h =
 -- ---- cases
 
 -- Cases, and those that are read after them.
-abbrev pub behind_cases : Cases → Result Cases ParseFault → Result Cases ParseFault
-behind_cases front read = read >>= λ more. Ok (followed front more)
+abbrev pub following_cases : Cases → Result Cases ParseFault → Result Cases ParseFault
+following_cases front read = read >>= λ more. Ok (followed front more)
 
 -- The cases so far, followed by those of the rest of the arguments, are all.
 pub record Choices (bodies : Bodies) (m : ChoiceMacro) (before c : declarations.Declarations) (out : Cases) (all rest : List Span) : Type 0 where
-  pub value : behind_cases out (cases_in bodies m c rest) ≡ cases_in bodies m before all
+  pub value : following_cases out (cases_in bodies m c rest) ≡ cases_in bodies m before all
   pub known : after_cases before out ≡ c
 
-regroup_cases : (out first : Cases) (read : Result Cases ParseFault) → behind_cases out (read >>= λ r. Ok (followed first r)) ≡ behind_cases (followed out first) read
+regroup_cases : (out first : Cases) (read : Result Cases ParseFault) → following_cases out (read >>= λ r. Ok (followed first r)) ≡ following_cases (followed out first) read
 regroup_cases out first (Ok r) = ap (λ (s : Cases). Ok s) (sym (followed_assoc out first r))
 regroup_cases out first (Err f) = refl
 
@@ -134,12 +134,12 @@ cases_next bodies m before c c' cases cases' x all w a more i when_is body_is kn
     let one = Case x.when body No_case in
     let last = λ (when : When) (b : Script). cases_in bodies m (after_all c b) more >>= λ others. Ok (Case when b others) in
     let out = cases_of cases in
-    let step : behind_cases out (when_of m w >>= λ when. bodies c a >>= last when) ≡ behind_cases (followed out one) (cases_in bodies m (after_all c body) more) =
-    ap (λ r. behind_cases out (r >>= λ when. bodies c a >>= last when)) when_is ∙ ap (λ r. behind_cases out (r >>= last x.when)) body_is
+    let step : following_cases out (when_of m w >>= λ when. bodies c a >>= last when) ≡ following_cases (followed out one) (cases_in bodies m (after_all c body) more) =
+    ap (λ r. following_cases out (r >>= λ when. bodies c a >>= last when)) when_is ∙ ap (λ r. following_cases out (r >>= last x.when)) body_is
     ∙ regroup_cases out one (cases_in bodies m (after_all c body) more) in
     let new : cases_of cases' ≡ followed out one = ap cases_of list ∙ cases_push cases x in
     record {
-      value = ap (λ o. behind_cases o (cases_in bodies m c' more)) new ∙ ap (λ k. behind_cases (followed out one) (cases_in bodies m k more)) known ∙ sym step ∙ i.value;
+      value = ap (λ o. following_cases o (cases_in bodies m c' more)) new ∙ ap (λ k. following_cases (followed out one) (cases_in bodies m k more)) known ∙ sym step ∙ i.value;
       known = ap (after_cases before) new ∙ after_followed out one before ∙ ap (λ k. after_all k body) i.known ∙ sym known;
     }
 
@@ -200,7 +200,7 @@ case_fails e bodies m c here more w a is h =
 pub cases_done : (bodies : Bodies) (m : ChoiceMacro) (before c : declarations.Declarations) (cases : List case.Case) (last : Option case.Case) (all here seen : List Span)
     → Choices bodies m before c (cases_of cases) all here → seen ≡ here → cases_in bodies m c seen ≡ Ok (cases_of (option_to_list last))
     → cases_in bodies m before all ≡ Ok (followed (cases_of cases) (cases_of (option_to_list last)))
-cases_done bodies m before c cases last all here seen i same h = sym i.value ∙ ap (λ s. behind_cases (cases_of cases) (cases_in bodies m c s)) (sym same) ∙ ap (behind_cases (cases_of cases)) h
+cases_done bodies m before c cases last all here seen i same h = sym i.value ∙ ap (λ s. following_cases (cases_of cases) (cases_in bodies m c s)) (sym same) ∙ ap (following_cases (cases_of cases)) h
 
 pub default_known : (before c c' : declarations.Declarations) (cases : List case.Case) (last : Option case.Case) → after_cases before (cases_of cases) ≡ c → c' ≡ after_cases c (cases_of (option_to_list last))
     → c' ≡ after_cases before (followed (cases_of cases) (cases_of (option_to_list last)))

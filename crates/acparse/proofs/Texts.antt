@@ -23,7 +23,7 @@ use Rattle.syntax.specs.Lists.{after_all}
 use Rattle.syntax.specs.Script.{Script, Done, Then, Cases, No_case, Case, joined, stmt_then, script_of}
 use Rattle.syntax.proofs.ScriptLemmas.{script_push, joined_assoc, joined_done}
 use Rattle.acparse.specs.Bare.{bare_at, assigned, of_value, idle_or, bare_of}
-use Rattle.acparse.specs.Profile.{behind, is_done, case_if}
+use Rattle.acparse.specs.Profile.{following, is_done, case_if}
 
 assigned_push : (list : List Assignment) (a : Assignment) → assigned (list ++ a ∷ []) ≡ joined (assigned list) (Then (Assign a.name a.value) Done)
 assigned_push [] a = refl
@@ -40,12 +40,12 @@ assign_more before out out' seen a e h =
 
 -- Text without effect, if no statement is allowed.
 pub idle_adds : (at : ℕ) (text : List ℕ) (out : Script) (stage : Stage) (r : Result (Unit {0}) ParseFault) → (stage ≡ Open → ⊥) → Gives (λ _. Done) r (idle_or (is_idle text) (bare_fault stage at))
-    → Gives (λ _. out) r (behind out (bare_of stage at text))
+    → Gives (λ _. out) r (following out (bare_of stage at text))
 unfolding bare_of
 idle_adds at text out Open r n h = absurd (n refl)
-idle_adds at text out Before (Ok x) n h = ap (behind out) h ∙ ap (λ (s : Script). Ok s) (joined_done out)
+idle_adds at text out Before (Ok x) n h = ap (following out) h ∙ ap (λ (s : Script). Ok s) (joined_done out)
 idle_adds at text out Before (Err f) n h = fails_bind f _ _ h
-idle_adds at text out Ended (Ok x) n h = ap (behind out) h ∙ ap (λ (s : Script). Ok s) (joined_done out)
+idle_adds at text out Ended (Ok x) n h = ap (following out) h ∙ ap (λ (s : Script). Ok s) (joined_done out)
 idle_adds at text out Ended (Err f) n h = fails_bind f _ _ h
 
 pub before_open : (stage : Stage) → stage ≡ Before → stage ≡ Open → ⊥
@@ -79,11 +79,11 @@ bare_known c Before at text s e = idle_known c (is_idle text) _ s e
 bare_known c Open at text s e = value_known c at (bare_value_of text) s e
 bare_known c Ended at text s e = idle_known c (is_idle text) _ s e
 
-failed : (out : Script) (r : Result Script ParseFault) (x : ParseFault) → behind out r ≡ Err x → r ≡ Err x
+failed : (out : Script) (r : Result Script ParseFault) (x : ParseFault) → following out r ≡ Err x → r ≡ Err x
 failed out (Ok s) x h = absurd cc
 failed out (Err f) x h = h
 
-pub fails_inside : (x : ParseFault) (out : Script) (r : Result Script ParseFault) → Fails x (behind out r) → Fails x r
+pub fails_inside : (x : ParseFault) (out : Script) (r : Result Script ParseFault) → Fails x (following out r) → Fails x r
 fails_inside OutOfMemory out r h = tt
 fails_inside x out r h = failed out r x h
 

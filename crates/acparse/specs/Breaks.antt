@@ -41,12 +41,12 @@ WithinBreaks = declarations.Declarations → Span → ParseFault → Type 0
 
 -- A call is no statement here: its macro is unknown, takes other arguments, is read only in arguments, or isn't allowed
 -- here, or the call isn't separate from other text. (own)
-pub data MayNotStand (top : Bool) (stage : Stage) (edge : Edge) (name : List ℕ) (args : List Span) (at : ℕ) (behind : List Entry) : ParseFault → Type 0 where
-  unknown : row_named name ≡ None → MayNotStand top stage edge name args at behind (UnknownMacro at)
-  other_arguments : {row : Row} → row_named name ≡ Some row → takes row args ≡ false → MayNotStand top stage edge name args at behind (ArgCount at)
-  in_arguments_alone : {row : Row} {m : ArgumentMacro} → row_named name ≡ Some row → row.named ≡ An_argument m → MayNotStand top stage edge name args at behind (bare_fault stage at)
-  not_here : {row : Row} {m : Macro} {f : ParseFault} → row_named name ≡ Some row → row.named ≡ Statement m → placed top stage row.top m at ≡ Err f → MayNotStand top stage edge name args at behind f
-  in_text : {row : Row} {m : Macro} → row_named name ≡ Some row → row.named ≡ Statement m → is_statement edge name args at behind ≡ false → MayNotStand top stage edge name args at behind (UnknownStatement at)
+pub data MayNotStand (top : Bool) (stage : Stage) (edge : Edge) (name : List ℕ) (args : List Span) (at : ℕ) (following : List Entry) : ParseFault → Type 0 where
+  unknown : row_named name ≡ None → MayNotStand top stage edge name args at following (UnknownMacro at)
+  other_arguments : {row : Row} → row_named name ≡ Some row → takes row args ≡ false → MayNotStand top stage edge name args at following (ArgCount at)
+  in_arguments_alone : {row : Row} {m : ArgumentMacro} → row_named name ≡ Some row → row.named ≡ An_argument m → MayNotStand top stage edge name args at following (bare_fault stage at)
+  not_here : {row : Row} {m : Macro} {f : ParseFault} → row_named name ≡ Some row → row.named ≡ Statement m → placed top stage row.top m at ≡ Err f → MayNotStand top stage edge name args at following f
+  in_text : {row : Row} {m : Macro} → row_named name ≡ Some row → row.named ≡ Statement m → is_statement edge name args at following ≡ false → MayNotStand top stage edge name args at following (UnknownStatement at)
 
 -- An argument among cases has an error, and those before it have none. (own)
 pub data CasesBreak (Inside : Within) (Broken : WithinBreaks) (m : ChoiceMacro) : declarations.Declarations → List Span → ParseFault → Type 0 where
@@ -54,7 +54,7 @@ pub data CasesBreak (Inside : Within) (Broken : WithinBreaks) (m : ChoiceMacro) 
       → when_of m condition ≡ Err f → CasesBreak Inside Broken m c (condition ∷ arg ∷ more) f
   in_body : {c : declarations.Declarations} {condition arg : Span} {more : List Span} {when : When} {f : ParseFault}
       → when_of m condition ≡ Ok when → Broken c arg f → CasesBreak Inside Broken m c (condition ∷ arg ∷ more) f
-  behind_case : {c : declarations.Declarations} {condition arg : Span} {more : List Span} {when : When} {body : Script} {f : ParseFault}
+  after_case : {c : declarations.Declarations} {condition arg : Span} {more : List Span} {when : When} {body : Script} {f : ParseFault}
       → when_of m condition ≡ Ok when → Inside c arg body → CasesBreak Inside Broken m (after_all c body) more f
       → CasesBreak Inside Broken m c (condition ∷ arg ∷ more) f
   in_default : {c : declarations.Declarations} {arg : Span} {f : ParseFault} → Broken c arg f → CasesBreak Inside Broken m c (arg ∷ []) f
@@ -66,32 +66,32 @@ pub data ActionBreaks (Broken : WithinBreaks) : declarations.Declarations → Li
 -- An item has an error: bare text isn't statements, a call isn't allowed, or an argument of it doesn't have its form.
 -- (own)
 pub data ItemBreaks (top : Bool) (Inside : Within) (Broken : WithinBreaks) (c : declarations.Declarations) (edge : Edge) : Entry → List Entry → ParseFault → Type 0 where
-  other_text : {text : List ℕ} {at : ℕ} {behind : List Entry} {f : ParseFault} → bare_of c.stage at text ≡ Err f → ItemBreaks top Inside Broken c edge (bare text at) behind f
-  may_not_stand : {name : List ℕ} {args : List Span} {at : ℕ} {behind : List Entry} {f : ParseFault}
-      → MayNotStand top c.stage edge name args at behind f → ItemBreaks top Inside Broken c edge (call name args at) behind f
-  argument : {name : List ℕ} {args : List Span} {at : ℕ} {behind : List Entry} {m : PlainMacro} {f : ParseFault}
-      → MayStand top c.stage edge name args at behind (Plain m) → plain_of c m at args ≡ Err f → ItemBreaks top Inside Broken c edge (call name args at) behind f
-  in_subject : {name : List ℕ} {args : List Span} {at : ℕ} {behind : List Entry} {m : ChoiceMacro} {f : ParseFault}
-      → MayStand top c.stage edge name args at behind (A_choice m) → subject_of m args ≡ Err f → ItemBreaks top Inside Broken c edge (call name args at) behind f
-  in_cases : {name : List ℕ} {args : List Span} {at : ℕ} {behind : List Entry} {m : ChoiceMacro} {subject : Subject} {f : ParseFault}
-      → MayStand top c.stage edge name args at behind (A_choice m) → subject_of m args ≡ Ok subject → CasesBreak Inside Broken m c (case_args m args) f
-      → ItemBreaks top Inside Broken c edge (call name args at) behind f
-  in_question : {name : List ℕ} {args : List Span} {at : ℕ} {behind : List Entry} {m : QuestionMacro} {f : ParseFault}
-      → MayStand top c.stage edge name args at behind (A_question m) → question_of c m args ≡ Err f → ItemBreaks top Inside Broken c edge (call name args at) behind f
-  in_yes : {name : List ℕ} {args : List Span} {at : ℕ} {behind : List Entry} {m : QuestionMacro} {q : Question} {f : ParseFault}
-      → MayStand top c.stage edge name args at behind (A_question m) → question_of c m args ≡ Ok q → ActionBreaks Broken (after_question c q) (action_args m args) f
-      → ItemBreaks top Inside Broken c edge (call name args at) behind f
-  in_no : {name : List ℕ} {args : List Span} {at : ℕ} {behind : List Entry} {m : QuestionMacro} {q : Question} {first : Cases} {f : ParseFault}
-      → MayStand top c.stage edge name args at behind (A_question m) → question_of c m args ≡ Ok q
+  other_text : {text : List ℕ} {at : ℕ} {following : List Entry} {f : ParseFault} → bare_of c.stage at text ≡ Err f → ItemBreaks top Inside Broken c edge (bare text at) following f
+  may_not_stand : {name : List ℕ} {args : List Span} {at : ℕ} {following : List Entry} {f : ParseFault}
+      → MayNotStand top c.stage edge name args at following f → ItemBreaks top Inside Broken c edge (call name args at) following f
+  argument : {name : List ℕ} {args : List Span} {at : ℕ} {following : List Entry} {m : PlainMacro} {f : ParseFault}
+      → MayStand top c.stage edge name args at following (Plain m) → plain_of c m at args ≡ Err f → ItemBreaks top Inside Broken c edge (call name args at) following f
+  in_subject : {name : List ℕ} {args : List Span} {at : ℕ} {following : List Entry} {m : ChoiceMacro} {f : ParseFault}
+      → MayStand top c.stage edge name args at following (A_choice m) → subject_of m args ≡ Err f → ItemBreaks top Inside Broken c edge (call name args at) following f
+  in_cases : {name : List ℕ} {args : List Span} {at : ℕ} {following : List Entry} {m : ChoiceMacro} {subject : Subject} {f : ParseFault}
+      → MayStand top c.stage edge name args at following (A_choice m) → subject_of m args ≡ Ok subject → CasesBreak Inside Broken m c (case_args m args) f
+      → ItemBreaks top Inside Broken c edge (call name args at) following f
+  in_question : {name : List ℕ} {args : List Span} {at : ℕ} {following : List Entry} {m : QuestionMacro} {f : ParseFault}
+      → MayStand top c.stage edge name args at following (A_question m) → question_of c m args ≡ Err f → ItemBreaks top Inside Broken c edge (call name args at) following f
+  in_yes : {name : List ℕ} {args : List Span} {at : ℕ} {following : List Entry} {m : QuestionMacro} {q : Question} {f : ParseFault}
+      → MayStand top c.stage edge name args at following (A_question m) → question_of c m args ≡ Ok q → ActionBreaks Broken (after_question c q) (action_args m args) f
+      → ItemBreaks top Inside Broken c edge (call name args at) following f
+  in_no : {name : List ℕ} {args : List Span} {at : ℕ} {following : List Entry} {m : QuestionMacro} {q : Question} {first : Cases} {f : ParseFault}
+      → MayStand top c.stage edge name args at following (A_question m) → question_of c m args ≡ Ok q
       → IsAction Inside Yes (after_question c q) (action_args m args) first
       → ActionBreaks Broken (after_cases (after_question c q) first) (drop 1 (action_args m args)) f
-      → ItemBreaks top Inside Broken c edge (call name args at) behind f
+      → ItemBreaks top Inside Broken c edge (call name args at) following f
 
 -- The first item with an error, after items that have statements. (own)
 pub data Breaks (top : Bool) (Inside : Within) (Broken : WithinBreaks) : declarations.Declarations → Edge → List Entry → ParseFault → Type 0 where
   here : {c : declarations.Declarations} {edge : Edge} {item : Entry} {items : List Entry} {f : ParseFault}
       → ItemBreaks top Inside Broken c edge item items f → Breaks top Inside Broken c edge (item ∷ items) f
-  behind : {c : declarations.Declarations} {edge : Edge} {item : Entry} {items : List Entry} {first : Script} {f : ParseFault}
+  following : {c : declarations.Declarations} {edge : Edge} {item : Entry} {items : List Entry} {first : Script} {f : ParseFault}
       → IsItem top Inside c edge item items first → Breaks top Inside Broken (after_all c first) (edge_of item) items f
       → Breaks top Inside Broken c edge (item ∷ items) f
 

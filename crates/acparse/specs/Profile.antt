@@ -39,15 +39,15 @@ abbrev pub Bodies : Type 0
 Bodies = declarations.Declarations → Span → Result Script ParseFault
 
 -- Statements were read and appended to a list, and what they declare was added. (own)
-pub record Adds (before behind : declarations.Declarations) (old new : Script) (read : Result Script ParseFault) : Type 0 where
+pub record Adds (before following : declarations.Declarations) (old new : Script) (read : Result Script ParseFault) : Type 0 where
   pub first : Script
   pub value : read ≡ Ok first
   pub list : new ≡ joined old first
-  pub known : behind ≡ after_all before first
+  pub known : following ≡ after_all before first
 
 -- Statements, and those that are read after them. (own)
-abbrev pub behind : Script → Result Script ParseFault → Result Script ParseFault
-behind front read = read >>= λ s. Ok (joined front s)
+abbrev pub following : Script → Result Script ParseFault → Result Script ParseFault
+following front read = read >>= λ s. Ok (joined front s)
 
 -- ---- choices
 
@@ -147,12 +147,12 @@ known at (Some row) = Ok row
 -- name is known, it takes these arguments, its calls are statements, one is allowed here, and this one is separate from
 -- other text. (own)
 unfoldable pub checked : Bool → Stage → Edge → List ℕ → List Span → ℕ → List Entry → Result Macro ParseFault
-checked top stage edge name args at behind = do
+checked top stage edge name args at following = do
   row ← known at (row_named name)
   _ ← wants (takes row args) (ArgCount at)
   m ← as_statement stage at row.named
   _ ← placed top stage row.top m at
-  _ ← wants (is_statement edge name args at behind) (UnknownStatement at)
+  _ ← wants (is_statement edge name args at following) (UnknownStatement at)
   Ok m
 
 -- The statement of a call of a macro with its name at this offset. (own)
@@ -165,9 +165,9 @@ call_of bodies c (A_question m) at args = asked_of bodies m c args
 
 -- The statements of an item between what precedes it and the items after it. (own)
 abbrev pub item_of : Bool → Bodies → declarations.Declarations → Edge → Entry → List Entry → Result Script ParseFault
-item_of top bodies c edge (bare text at) behind = bare_of c.stage at text
-item_of top bodies c edge (call name args at) behind = do
-  m ← checked top c.stage edge name args at behind
+item_of top bodies c edge (bare text at) following = bare_of c.stage at text
+item_of top bodies c edge (call name args at) following = do
+  m ← checked top c.stage edge name args at following
   call_of bodies c m at args
 
 -- The statements of items, one after another. (own)

@@ -40,13 +40,13 @@ abbrev pub Within : Type 1
 Within = declarations.Declarations → Span → Script → Type 0
 
 -- A call of the macro is a statement between what precedes it and the items after it. (own)
-pub record MayStand (top : Bool) (stage : Stage) (edge : Edge) (name : List ℕ) (args : List Span) (at : ℕ) (behind : List Entry) (m : Macro) : Type 0 where
+pub record MayStand (top : Bool) (stage : Stage) (edge : Edge) (name : List ℕ) (args : List Span) (at : ℕ) (following : List Entry) (m : Macro) : Type 0 where
   pub row : Row
   pub known : row_named name ≡ Some row
   pub named : row.named ≡ Statement m
   pub taken : takes row args ≡ true
   pub in_place : placed top stage row.top m at ≡ Ok tt
-  pub parted : is_statement edge name args at behind ≡ true
+  pub parted : is_statement edge name args at following ≡ true
 
 -- Bare text has these statements: the assignments in its value; before AC_INIT and after AC_OUTPUT, none. (own)
 pub data IsBare : Stage → List ℕ → Script → Type 0 where
@@ -70,18 +70,18 @@ pub data IsAction (Inside : Within) (when : When) : declarations.Declarations �
 
 -- An item has these statements. (own)
 pub data IsItem (top : Bool) (Inside : Within) (c : declarations.Declarations) (edge : Edge) : Entry → List Entry → Script → Type 0 where
-  bare_text : {text : List ℕ} {at : ℕ} {behind : List Entry} {s : Script} → IsBare c.stage text s → IsItem top Inside c edge (bare text at) behind s
-  plain_call : {name : List ℕ} {args : List Span} {at : ℕ} {behind : List Entry} {m : PlainMacro} {s : plain.Plain}
-      → MayStand top c.stage edge name args at behind (Plain m) → plain_of c m at args ≡ Ok s
-      → IsItem top Inside c edge (call name args at) behind (Then s Done)
-  choice : {name : List ℕ} {args : List Span} {at : ℕ} {behind : List Entry} {m : ChoiceMacro} {subject : Subject} {cases : Cases}
-      → MayStand top c.stage edge name args at behind (A_choice m) → subject_of m args ≡ Ok subject → AreCases Inside m c (case_args m args) cases
-      → IsItem top Inside c edge (call name args at) behind (Choice subject cases Done)
-  question : {name : List ℕ} {args : List Span} {at : ℕ} {behind : List Entry} {m : QuestionMacro} {q : Question} {first other : Cases}
-      → MayStand top c.stage edge name args at behind (A_question m) → question_of c m args ≡ Ok q
+  bare_text : {text : List ℕ} {at : ℕ} {following : List Entry} {s : Script} → IsBare c.stage text s → IsItem top Inside c edge (bare text at) following s
+  plain_call : {name : List ℕ} {args : List Span} {at : ℕ} {following : List Entry} {m : PlainMacro} {s : plain.Plain}
+      → MayStand top c.stage edge name args at following (Plain m) → plain_of c m at args ≡ Ok s
+      → IsItem top Inside c edge (call name args at) following (Then s Done)
+  choice : {name : List ℕ} {args : List Span} {at : ℕ} {following : List Entry} {m : ChoiceMacro} {subject : Subject} {cases : Cases}
+      → MayStand top c.stage edge name args at following (A_choice m) → subject_of m args ≡ Ok subject → AreCases Inside m c (case_args m args) cases
+      → IsItem top Inside c edge (call name args at) following (Choice subject cases Done)
+  question : {name : List ℕ} {args : List Span} {at : ℕ} {following : List Entry} {m : QuestionMacro} {q : Question} {first other : Cases}
+      → MayStand top c.stage edge name args at following (A_question m) → question_of c m args ≡ Ok q
       → IsAction Inside Yes (after_question c q) (action_args m args) first
       → IsAction Inside No (after_cases (after_question c q) first) (drop 1 (action_args m args)) other
-      → IsItem top Inside c edge (call name args at) behind (Choice (Asked q) (followed first other) Done)
+      → IsItem top Inside c edge (call name args at) following (Choice (Asked q) (followed first other) Done)
 
 -- Items have these statements, one after another. (own)
 pub data AreStatements (top : Bool) (Inside : Within) : declarations.Declarations → Edge → List Entry → Script → Type 0 where

@@ -4,7 +4,7 @@ ghost use Rattle.std.specs.Prelude.{◌≡◌, OnOk};
 ghost use Rattle.m4quote.specs.Scan.{bare_value_of};
 ghost use Rattle.acstatement.specs.Reading.{Gives};
 ghost use Rattle.acparse.specs.Bare as words;
-ghost use Rattle.acparse.specs.Profile.{behind};
+ghost use Rattle.acparse.specs.Profile.{following};
 ghost use Rattle.acstatement.specs.Idle.{is_idle};
 ghost use Rattle.acmacros.specs.Placement.{bare_fault};
 ghost use Rattle.syntax.specs.Script.{script_of, joined, Done};
@@ -75,7 +75,7 @@ pub(crate) fn read_bare(
     text: &[u8],
     out: &mut Vec<Stmt>,
 ) -> Result<(), ParseFault>
-    ensures { Gives (λ _. script_of out.new.items) result (behind (script_of out.old.items) (words.bare_of stage at text.now)) }
+    ensures { Gives (λ _. script_of out.new.items) result (following (script_of out.old.items) (words.bare_of stage at text.now)) }
 {
     match stage {
         Stage::Open => {

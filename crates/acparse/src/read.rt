@@ -31,7 +31,7 @@ use syntax::declarations::{declare, declare_question};
 use syntax::{Case, Declarations, Question, Stage, Stmt, Subject, When, choose};
 
 /// Returns the macro of a call, if the call is a statement between what precedes it (`edge`) and the items after it
-/// (`behind`).
+/// (`following`).
 #[tactic(auto, unfolding(crate::specs::Profile::checked))]
 fn check_call(
     alloc: Global,
@@ -41,9 +41,9 @@ fn check_call(
     name: &[u8],
     args: &[Arg<'_>],
     at: usize,
-    behind: &[Item<'_>],
+    following: &[Item<'_>],
 ) -> Result<Macro, ParseFault>
-    ensures { Gives (λ m. m) result (profile.checked top stage edge name.now (map span args.now) at (views behind.now)) }
+    ensures { Gives (λ m. m) result (profile.checked top stage edge name.now (map span args.now) at (views following.now)) }
 {
     let Some(row) = row_named(name) else {
         return Err(ParseFault::UnknownMacro(at));
@@ -53,7 +53,7 @@ fn check_call(
     }
     let m = as_statement(stage, at, row.named)?;
     check_place(top, stage, row.top, m, at)?;
-    if !is_statement(edge, name, args, at, behind) {
+    if !is_statement(edge, name, args, at, following) {
         return Err(ParseFault::UnknownStatement(at));
     }
     Ok(m)
@@ -126,7 +126,7 @@ fn action_args<'a, 'b>(m: QuestionMacro, args: &'b [Arg<'a>]) -> &'b [Arg<'a>]
 }
 
 /// Returns the arguments after the first.
-fn behind_first<'a, 'b>(args: &'b [Arg<'a>]) -> &'b [Arg<'a>]
+fn after_first<'a, 'b>(args: &'b [Arg<'a>]) -> &'b [Arg<'a>]
     ensures { map span result.now ≡ drop 1 (map span args.now) }
 {
     &args[args.len().min(1)..]
@@ -299,7 +299,7 @@ fn read_answers(
     ensures after { IfOk result (λ v. known.new ≡ after_cases known.old (cases_of v.items)) }
 {
     let first = read_action(alloc, room, known, true, args)?;
-    let read = read_action(alloc, room, known, false, behind_first(args));
+    let read = read_action(alloc, room, known, false, after_first(args));
     read.and_then(|other| Ok(both(alloc, first, other)?))
 }
 
@@ -372,7 +372,7 @@ fn read_call(
     }
 }
 
-/// Appends the statements of an item between what precedes it (`edge`) and the items after it (`behind`).
+/// Appends the statements of an item between what precedes it (`edge`) and the items after it (`following`).
 #[cycle(list)]
 fn read_item(
     alloc: Global,
@@ -381,16 +381,16 @@ fn read_item(
     known: &mut Declarations,
     edge: Edge,
     item: &Item<'_>,
-    behind: &[Item<'_>],
+    following: &[Item<'_>],
     out: &mut Vec<Stmt>,
 ) -> Result<(), ParseFault>
-    ensures { MatchResult result (λ _. Adds known.old known.new (script_of out.old.items) (script_of out.new.items) (profile.item_of top (profile.body_of room) known.old edge (view item.now) (views behind.now)))
-        (λ e. Fails e (profile.item_of top (profile.body_of room) known.old edge (view item.now) (views behind.now))) }
+    ensures { MatchResult result (λ _. Adds known.old known.new (script_of out.old.items) (script_of out.new.items) (profile.item_of top (profile.body_of room) known.old edge (view item.now) (views following.now)))
+        (λ e. Fails e (profile.item_of top (profile.body_of room) known.old edge (view item.now) (views following.now))) }
 {
     match item {
         Item::Bare { text, at } => read_bare(alloc, known.stage, *at, text, out),
         Item::Call { name, args, at } => {
-            let m = check_call(alloc, top, known.stage, edge, name, args, *at, behind)?;
+            let m = check_call(alloc, top, known.stage, edge, name, args, *at, following)?;
             let s = read_call(alloc, room, known, m, *at, args)?;
             out.push(s)?;
             Ok(())

@@ -149,13 +149,13 @@ arguments-cover (more {at} {n} {m} {text} {after} {args} inside ends later) =
     let len = one_fits at n 44 text after inside ends refl in
     let arg_len = arg_length at n 44 text after inside ends refl in
     let rest = arguments-cover later in
-    let behind : drop (blank_len text + n + 1) text ≡ after = sym (drop-drop 1 (blank_len text + n) text) ∙ ap (drop 1) ends in
+    let following : drop (blank_len text + n + 1) text ≡ after = sym (drop-drop 1 (blank_len text + n) text) ∙ ap (drop 1) ends in
     record {
       fits = omega (arith, len, rest.fits);
       count =
           ap brackets (take-add (blank_len text + n + 1) m text) ∙ brackets-append (take (blank_len text + n + 1) text) (take m (drop (blank_len text + n + 1) text))
-          ∙ rw (one_count at n 44 text after inside ends refl, behind, rest.count) refl;
-      found = λ k lt is. found_in k lt is rest.found behind (one_found at n 44 text after inside ends refl k);
+          ∙ rw (one_count at n 44 text after inside ends refl, following, rest.count) refl;
+      found = λ k lt is. found_in k lt is rest.found following (one_found at n 44 text after inside ends refl k);
       within = λ p h. elim (split (HasByteAt p) (argument_of at text n) args h) [
         | inl first ↦ (omega (arith, first), omega (arith, first, arg_len))
         | inr next ↦ (let w = rest.within p next in (omega (arith, w), omega (arith, w)))
@@ -167,13 +167,13 @@ arguments-cover (more {at} {n} {m} {text} {after} {args} inside ends later) =
         → drop (blank_len text + n + 1) text ≡ after
         → (k < blank_len text + n + 1 → is_bracket (get_or text k 0) ≡ true → HasByteAt (at + k) (argument_of at text n))
         → Any (HasByteAt (at + k)) (argument_of at text n ∷ args)
-    found_in k lt is rest behind first =
+    found_in k lt is rest following first =
         elim (cases_lt k (blank_len text + n + 1)) [
           | inl low ↦ here (HasByteAt (at + k)) (argument_of at text n) args (first low is)
           | inr high ↦
               let j : ℕ = k - (blank_len text + n + 1) in
               let byte : get_or after j 0 ≡ get_or text k 0 =
-              ap (λ (t : List ℕ). get_or t j 0) (sym behind) ∙ get_or-drop (blank_len text + n + 1) text j 0 ∙ ap (λ m. get_or text m 0) (let e : blank_len text + n + 1 + j ≡ k = omega arith in e) in
+              ap (λ (t : List ℕ). get_or t j 0) (sym following) ∙ get_or-drop (blank_len text + n + 1) text j 0 ∙ ap (λ m. get_or text m 0) (let e : blank_len text + n + 1 + j ≡ k = omega arith in e) in
               there (HasByteAt (at + k)) (argument_of at text n) args
               (subst (λ p. Any (HasByteAt p) args) (let e : at + (blank_len text + n + 1) + j ≡ at + k = omega arith in e) (rest j (omega arith) (ap is_bracket byte ∙ is)))
         ]
@@ -188,8 +188,8 @@ record Counts (at : ℕ) (text : List ℕ) (items : List Entry) : Type 0 where
   from : HasBracketsInCallsAlone at text items → brackets text ≤ in_calls items
 
 -- After n bytes, the rest of a text has its brackets in calls.
-behind_alone : (at n : ℕ) (text : List ℕ) (items : List Entry) → n ≤ length text → HasBracketsInCallsAlone at text items → HasBracketsInCallsAlone (at + n) (drop n text) items
-behind_alone at n text items fits alone = λ k lt is.
+after_alone : (at n : ℕ) (text : List ℕ) (items : List Entry) → n ≤ length text → HasBracketsInCallsAlone at text items → HasBracketsInCallsAlone (at + n) (drop n text) items
+after_alone at n text items fits alone = λ k lt is.
     (let there : Any (IsInCall (at + (n + k))) items = alone (n + k) (omega (arith, lt, length-drop n text)) (ap is_bracket (sym (get_or-drop n text k 0)) ∙ is) in
     subst (λ p. Any (IsInCall p) items) (let e : at + (n + k) ≡ at + n + k = omega arith in e) there)
 
@@ -216,7 +216,7 @@ longer at n text items fits rest =
           (let early : k < n = omega (arith, lt, len) in
           let h = rest.low (at + k) (alone k (omega (arith, early)) (ap is_bracket (sym (get_or-take n text k 0 early)) ∙ is)) in
           omega (arith, h, early))) in
-          omega (arith, parts, none, rest.from (behind_alone at n text items fits alone)));
+          omega (arith, parts, none, rest.from (after_alone at n text items fits alone)));
     }
 
 -- A call before them, whose arguments are in the first m bytes.
@@ -236,7 +236,7 @@ with_call at m text name args place items first rest =
       ];
       from = λ alone.
           (let later : HasBracketsInCallsAlone (at + m) (drop m text) items = λ k lt is.
-          (elim (split (IsInCall (at + m + k)) item items (behind_alone at m text (item ∷ items) first.fits alone k lt is)) [
+          (elim (split (IsInCall (at + m + k)) item items (after_alone at m text (item ∷ items) first.fits alone k lt is)) [
             | inl in_this ↦ absurd (omega (arith, (first.within (at + m + k) in_this).1))
             | inr in_later ↦ in_later
           ]) in

@@ -6,14 +6,14 @@ use Rattle.textcut.specs.Cuts.{is_blank}
 
 -- Whether a comment is open after a byte, or nothing if the byte is neither a blank nor in a comment; a comment ends
 -- with its line. (POSIX shell, "Token Recognition")
-abbrev pub behind_byte : Bool → ℕ → Option Bool
-behind_byte true b = Some (not (b == 10))
-behind_byte false b = if b == 35 then Some true else (if is_blank b then Some false else None)
+abbrev pub after_byte : Bool → ℕ → Option Bool
+after_byte true b = Some (not (b == 10))
+after_byte false b = if b == 35 then Some true else (if is_blank b then Some false else None)
 
 -- The text has blanks and comments alone, given whether a comment is open before it. (own)
 unfoldable pub is_idle_from : Bool → List ℕ → Bool
 is_idle_from in_comment [] = true
-is_idle_from in_comment (b ∷ bs) = elim (behind_byte in_comment b) [ Some comment ↦ is_idle_from comment bs | None ↦ false ]
+is_idle_from in_comment (b ∷ bs) = elim (after_byte in_comment b) [ Some comment ↦ is_idle_from comment bs | None ↦ false ]
 
 -- The value can be read, and has blanks and comments alone. (own)
 abbrev pub is_idle_value : Result (List ℕ) QuoteFault → Bool

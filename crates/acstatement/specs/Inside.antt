@@ -13,13 +13,13 @@ use Rattle.acstatement.specs.Texts.{is_all_blank, is_bracket}
 -- ---- one quoted run
 
 -- How many brackets are open after a byte.
-abbrev pub depth_behind : ℕ → ℕ → ℕ
-depth_behind depth b = if b == 91 then depth + 1 else (if b == 93 then depth - 1 else depth)
+abbrev pub depth_after : ℕ → ℕ → ℕ
+depth_after depth b = if b == 91 then depth + 1 else (if b == 93 then depth - 1 else depth)
 
 -- The open brackets are all closed by the last byte, and not earlier.
 abbrev pub closes_at_end : ℕ → List ℕ → Bool
 closes_at_end depth [] = depth == 0
-closes_at_end depth (b ∷ bs) = nat_lt 0 depth && closes_at_end (depth_behind depth b) bs
+closes_at_end depth (b ∷ bs) = nat_lt 0 depth && closes_at_end (depth_after depth b) bs
 
 -- The text is one quoted run.
 abbrev pub is_run : List ℕ → Bool

@@ -43,11 +43,11 @@ call_reaches name args at to =
     else to - (arg_at args (length args - 1)).at == length (arg_at args (length args - 1)).text + 1
 
 -- What follows the call is blank, or begins as a line may end, or comes after a dropped line. (own)
-abbrev pub is_free_behind : List ℕ → List Span → ℕ → List Entry → Bool
-is_free_behind name args at [] = true
-is_free_behind name args at (call name' args' to ∷ items) = true
-is_free_behind name args at (bare text to ∷ items) = not (call_reaches name args at to) || is_all_blank text || begins_line text
+abbrev pub is_free_after : List ℕ → List Span → ℕ → List Entry → Bool
+is_free_after name args at [] = true
+is_free_after name args at (call name' args' to ∷ items) = true
+is_free_after name args at (bare text to ∷ items) = not (call_reaches name args at to) || is_all_blank text || begins_line text
 
 -- A call, between what precedes it and the items after it, is a statement. (own)
 unfoldable pub is_statement : Edge → List ℕ → List Span → ℕ → List Entry → Bool
-is_statement edge name args at behind = (edge.free || not (reaches edge at)) && is_free_behind name args at behind
+is_statement edge name args at after = (edge.free || not (reaches edge at)) && is_free_after name args at after

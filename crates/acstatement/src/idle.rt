@@ -8,8 +8,8 @@ use std::alloc::{AllocError, Global};
 use textcut::is_blank;
 
 /// Returns whether a comment is open after this byte, or `None` if the byte is neither a blank nor in a comment.
-fn behind_byte(in_comment: bool, byte: u8) -> Option<bool>
-    ensures { result ≡ words.behind_byte in_comment byte }
+fn after_byte(in_comment: bool, byte: u8) -> Option<bool>
+    ensures { result ≡ words.after_byte in_comment byte }
 {
     if in_comment {
         Some(byte != b'\n')
@@ -28,7 +28,7 @@ fn is_idle_value(value: &[u8]) -> bool
 {
     let mut in_comment = false;
     for byte in value {
-        match behind_byte(in_comment, *byte) {
+        match after_byte(in_comment, *byte) {
             None => return false,
             Some(comment) => in_comment = comment,
         }

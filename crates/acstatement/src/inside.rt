@@ -15,9 +15,9 @@ use std::alloc::Global;
 use textcut::{is_blank, trim};
 
 /// Returns how many brackets are open after this byte.
-fn depth_behind(depth: usize, byte: u8) -> usize
+fn depth_after(depth: usize, byte: u8) -> usize
     requires { depth + 1 < 2 ^ 64 }
-    ensures { result ≡ words.depth_behind depth byte }
+    ensures { result ≡ words.depth_after depth byte }
 {
     match byte {
         b'[' => depth + 1,
@@ -35,7 +35,7 @@ fn closes_at_end(text: &[u8]) -> bool
         if depth == 0 {
             return false;
         }
-        depth = depth_behind(depth, *byte);
+        depth = depth_after(depth, *byte);
     }
     depth == 0
 }

@@ -98,8 +98,8 @@ fn call_reaches(name: &[u8], args: &[Arg<'_>], at: usize, to: usize) -> bool
 }
 
 /// Returns whether a statement may be followed by these items.
-fn is_free_behind(name: &[u8], args: &[Arg<'_>], at: usize, items: &[Item<'_>]) -> bool
-    ensures { result ≡ words.is_free_behind name.now (map span args.now) at (views items.now) }
+fn is_free_after(name: &[u8], args: &[Arg<'_>], at: usize, items: &[Item<'_>]) -> bool
+    ensures { result ≡ words.is_free_after name.now (map span args.now) at (views items.now) }
 {
     match items {
         [] => true,
@@ -120,9 +120,9 @@ pub fn is_statement(
     name: &[u8],
     args: &[Arg<'_>],
     at: usize,
-    behind: &[Item<'_>],
+    after: &[Item<'_>],
 ) -> bool
-    ensures { result ≡ words.is_statement edge name.now (map span args.now) at (views behind.now) }
+    ensures { result ≡ words.is_statement edge name.now (map span args.now) at (views after.now) }
 {
-    (edge.free || !reaches(edge, at)) && is_free_behind(name, args, at, behind)
+    (edge.free || !reaches(edge, at)) && is_free_after(name, args, at, after)
 }

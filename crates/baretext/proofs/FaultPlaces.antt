@@ -45,8 +45,8 @@ value-fault start rest f e =
     let q = front_faults rest p.0 p.1 in
     subst (IsReadingFault (start + length rest)) (ap (word_fault start) (sym q.1) ∙ p.2) (let le : start + q.0 ≤ start + length rest = omega (arith, q.2) in le)
 
-behind_len : (n : ℕ) (text rest : List ℕ) → drop n text ≡ equals ∷ rest → n + 1 ≤ length text
-behind_len n text rest e = let k : length (drop n text) ≡ suc (length rest) = ap length e in omega (arith, length-drop n text, k)
+after_len : (n : ℕ) (text rest : List ℕ) → drop n text ≡ equals ∷ rest → n + 1 ≤ length text
+after_len n text rest e = let k : length (drop n text) ≡ suc (length rest) = ap length e in omega (arith, length-drop n text, k)
 
 assignment-fault : (at : ℕ) (text : List ℕ) (f : BareFault) → assignment_at at text ≡ Err f → IsReadingFault (at + length text) f
 assignment-fault at text f e =
@@ -61,7 +61,7 @@ assignment-fault at text f e =
                   | inr w ↦ absurd (passed w.2)
                   | inl w ↦
                       let rest = begins equals (drop n text) h.0 in
-                      let some = behind_len n text rest.0 rest.1 in
+                      let some = after_len n text rest.0 rest.1 in
                       later (at + (n + 1) + length (drop (n + 1) text)) (at + length text) f (omega (arith, some, length-drop (n + 1) text)) (value-fault (at + (n + 1)) (drop (n + 1) text) f w)
                 ])
           ])

@@ -66,8 +66,8 @@ pub assignment-named : (at : ℕ) (name rest : List ℕ) → IsShellName name
 assignment-named at name rest form =
     let len = prefix-name name rest (name_all name form) in
     let front = take-append_seam name (equals ∷ rest) in
-    let behind : drop (length name + 1) (name ++ equals ∷ rest) ≡ rest = drop-append-add name (equals ∷ rest) 1 in
-    rw (len, drop-append_seam name (equals ∷ rest), front, form, behind) refl
+    let following : drop (length name + 1) (name ++ equals ∷ rest) ≡ rest = drop-append-add name (equals ∷ rest) 1 in
+    rw (len, drop-append_seam name (equals ∷ rest), front, form, following) refl
 
 assignment-read : (at : ℕ) (name rest : List ℕ) (parts : List Part) (n : ℕ) → IsShellName name → IsWordFront rest parts n
     → assignment_at at (name ++ equals ∷ rest) ≡ Ok (item (Some (assigns name parts)) (length name + 1 + n) Assigned)
@@ -115,8 +115,8 @@ begins b (c ∷ cs) h = (cs, ap (λ (x : ℕ). x ∷ cs) (eqb-true c b h))
 
 named_item : (stage : Stage) (n : ℕ) (text rest : List ℕ) (parts : List Part) (k : ℕ) → n ≤ length text → drop n text ≡ equals ∷ rest → takes_assignments stage ≡ true
     → IsShellName (take n text) → IsWordFront rest parts k → IsItem stage text (item (Some (assigns (take n text) parts)) (n + 1 + k) Assigned)
-named_item stage n text rest parts k within behind takes form h =
-    let whole : take n text ++ equals ∷ rest ≡ text = ap (λ (t : List ℕ). take n text ++ t) (sym behind) ∙ take-append-drop n text in
+named_item stage n text rest parts k within following takes form h =
+    let whole : take n text ++ equals ∷ rest ≡ text = ap (λ (t : List ℕ). take n text ++ t) (sym following) ∙ take-append-drop n text in
     let len : length (take n text) ≡ n = length-take-le n text within in
     subst (λ (t : List ℕ). IsItem stage t (item (Some (assigns (take n text) parts)) (n + 1 + k) Assigned)) whole
     (subst (λ (m : ℕ). IsItem stage (take n text ++ equals ∷ rest) (item (Some (assigns (take n text) parts)) (m + 1 + k) Assigned)) len (assignment takes form h))
@@ -132,10 +132,10 @@ read-assignment stage at text i takes e =
             | inl k ↦
                 let w = bind_ok (value_at (at + (n + 1)) (drop (n + 1) text)) (λ w. Ok (item (Some (assigns (take n text) w.0)) (n + 1 + w.1) Assigned)) i k.1 in
                 let rest = begins equals (drop n text) h.0 in
-                let behind : drop (n + 1) text ≡ rest.0 = sym (drop-drop 1 n text) ∙ ap (λ (t : List ℕ). drop 1 t) rest.1 in
+                let following : drop (n + 1) text ≡ rest.0 = sym (drop-drop 1 n text) ∙ ap (λ (t : List ℕ). drop 1 t) rest.1 in
                 let word = (front_reading (drop (n + 1) text) w.0.0 w.0.1).0 (placed_ok (at + (n + 1)) (word_front_of (drop (n + 1) text)) (w.0.0, w.0.1) w.1) in
                 subst (IsItem stage text) (ok_is _ _ w.2)
-                (named_item stage n text rest.0 w.0.0 w.0.1 (prefix_len-le-length continues_name text) rest.1 takes k.0 (subst (λ (t : List ℕ). IsWordFront t w.0.0 w.0.1) behind word))
+                (named_item stage n text rest.0 w.0.0 w.0.1 (prefix_len-le-length continues_name text) rest.1 takes k.0 (subst (λ (t : List ℕ). IsWordFront t w.0.0 w.0.1) following word))
           ])
     ]
 

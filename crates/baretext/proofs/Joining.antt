@@ -6,7 +6,7 @@ use Rattle.shellword.specs.Text.{backslash, newline}
 use Rattle.baretext.specs.declared.continuation.Place.{Place}
 use Rattle.baretext.specs.declared.continuation.Place.TheVariants.{Start}
 use Rattle.baretext.specs.declared.continuation.State.{State}
-use Rattle.baretext.specs.Continuation.{escapes, behind, behind_quoted, IsJoined, at_end, continued, quoted, last, other}
+use Rattle.baretext.specs.Continuation.{escapes, following, after_quoted, IsJoined, at_end, continued, quoted, last, other}
 use Rattle.baretext.specs.Joining.{state, written, next, left, joined_from, joined}
 
 joined-read : {p : Place} {text out : List ℕ} → IsJoined p text out → joined_from (state p false) text ≡ out
@@ -25,14 +25,14 @@ Reads false p text = IsJoined p text (joined_from (state p false) text)
 reads : (escaped : Bool) (p : Place) (text : List ℕ) → Reads escaped p text
 unfolding joined_from
 reads true p [] = λ h. last h
-reads true p (b ∷ bs) = by_line (b == newline) refl (reads false p bs) (reads false (behind_quoted p) bs) where
-  by_line : (e : Bool) → (b == newline) ≡ e → Reads false p bs → Reads false (behind_quoted p) bs → Reads true p (b ∷ bs)
-  by_line true e same behind = λ h.
+reads true p (b ∷ bs) = by_line (b == newline) refl (reads false p bs) (reads false (after_quoted p) bs) where
+  by_line : (e : Bool) → (b == newline) ≡ e → Reads false p bs → Reads false (after_quoted p) bs → Reads true p (b ∷ bs)
+  by_line true e same following = λ h.
       rw e (subst (λ (x : ℕ). IsJoined p (backslash ∷ x ∷ bs) (joined_from (state p false) bs)) (sym (eqb-true b newline e)) (continued h same))
-  by_line false e same behind = λ h. rw e (quoted h e behind)
+  by_line false e same following = λ h. rw e (quoted h e following)
 reads false p [] = at_end
-reads false p (b ∷ bs) = by_escape (b == backslash && escapes p) refl (reads true p bs) (reads false (behind p b) bs) where
-  by_escape : (e : Bool) → (b == backslash && escapes p) ≡ e → Reads true p bs → Reads false (behind p b) bs → Reads false p (b ∷ bs)
+reads false p (b ∷ bs) = by_escape (b == backslash && escapes p) refl (reads true p bs) (reads false (following p b) bs) where
+  by_escape : (e : Bool) → (b == backslash && escapes p) ≡ e → Reads true p bs → Reads false (following p b) bs → Reads false p (b ∷ bs)
   by_escape true e escaped rest =
       let both = and_parts (b == backslash) (escapes p) e in
       rw e (subst (λ (x : ℕ). IsJoined p (x ∷ bs) (joined_from (state p true) bs)) (sym (eqb-true b backslash both.0)) (escaped both.1))
@@ -51,14 +51,14 @@ held false = 0
 joined_len : (escaped : Bool) (p : Place) (text : List ℕ) → length (joined_from (state p escaped) text) ≤ held escaped + length text
 unfolding joined_from
 joined_len true p [] = omega arith
-joined_len true p (b ∷ bs) = by_line (b == newline) refl (joined_len false p bs) (joined_len false (behind_quoted p) bs) where
-  by_line : (e : Bool) → (b == newline) ≡ e → length (joined_from (state p false) bs) ≤ 0 + length bs → length (joined_from (state (behind_quoted p) false) bs) ≤ 0 + length bs
+joined_len true p (b ∷ bs) = by_line (b == newline) refl (joined_len false p bs) (joined_len false (after_quoted p) bs) where
+  by_line : (e : Bool) → (b == newline) ≡ e → length (joined_from (state p false) bs) ≤ 0 + length bs → length (joined_from (state (after_quoted p) false) bs) ≤ 0 + length bs
       → length (joined_from (state p true) (b ∷ bs)) ≤ 1 + length (b ∷ bs)
-  by_line true e same behind = rw e (omega (arith, same))
-  by_line false e same behind = rw e (omega (arith, behind))
+  by_line true e same following = rw e (omega (arith, same))
+  by_line false e same following = rw e (omega (arith, following))
 joined_len false p [] = omega arith
-joined_len false p (b ∷ bs) = by_escape (b == backslash && escapes p) refl (joined_len true p bs) (joined_len false (behind p b) bs) where
-  by_escape : (e : Bool) → (b == backslash && escapes p) ≡ e → length (joined_from (state p true) bs) ≤ 1 + length bs → length (joined_from (state (behind p b) false) bs) ≤ 0 + length bs
+joined_len false p (b ∷ bs) = by_escape (b == backslash && escapes p) refl (joined_len true p bs) (joined_len false (following p b) bs) where
+  by_escape : (e : Bool) → (b == backslash && escapes p) ≡ e → length (joined_from (state p true) bs) ≤ 1 + length bs → length (joined_from (state (following p b) false) bs) ≤ 0 + length bs
       → length (joined_from (state p false) (b ∷ bs)) ≤ 0 + length (b ∷ bs)
   by_escape true e escaped rest = rw e (omega (arith, escaped))
   by_escape false e escaped rest = rw e (omega (arith, rest))
@@ -76,9 +76,9 @@ begun text = refl
 pub lines_more : (out pushed : List ℕ) (s t : State) (i : ℕ) (text : List ℕ) → i < length text → pushed ≡ out ++ written s (get_or text i 0) → t ≡ next s (get_or text i 0)
     → pushed ++ joined_from t (drop (i + 1) text) ≡ out ++ joined_from s (drop i text)
 unfolding joined_from
-lines_more out pushed s t i text lt e behind =
+lines_more out pushed s t i text lt e following =
     let b = get_or text i 0 in
-    ap (λ (r : State). pushed ++ joined_from r (drop (i + 1) text)) behind
+    ap (λ (r : State). pushed ++ joined_from r (drop (i + 1) text)) following
     ∙ ap (λ (r : List ℕ). r ++ joined_from (next s b) (drop (i + 1) text)) e
     ∙ append_assoc out (written s b) (joined_from (next s b) (drop (i + 1) text))
     ∙ ap (λ (r : List ℕ). out ++ joined_from s r) (sym (drop_more text i 0 lt))

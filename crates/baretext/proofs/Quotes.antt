@@ -12,14 +12,14 @@ use Rattle.baretext.specs.declared.continuation.Place.{Place}
 use Rattle.baretext.specs.declared.continuation.Place.TheVariants.{Word, Single, Double}
 use Rattle.baretext.specs.Text.{is_part_end}
 use Rattle.baretext.specs.Continuation as j
-use Rattle.baretext.specs.Continuation.{escapes, behind, IsJoined}
+use Rattle.baretext.specs.Continuation.{escapes, following, IsJoined}
 use Rattle.baretext.specs.Kept as k
 use Rattle.baretext.specs.Kept.{IsSpliced, IsLeft, LeavesPart}
 use Rattle.baretext.proofs.Fronts.{name_all}
 
 -- ---- a byte, and a sequence of bytes, that change nothing
 
-byte_on : (p q : Place) (b : ℕ) (rest out : List ℕ) → (b == backslash) ≡ false → behind p b ≡ q → IsJoined q rest out → IsJoined p (b ∷ rest) (b ∷ out)
+byte_on : (p q : Place) (b : ℕ) (rest out : List ℕ) → (b == backslash) ≡ false → following p b ≡ q → IsJoined q rest out → IsJoined p (b ∷ rest) (b ∷ out)
 byte_on p q b rest out plain next h = j.other (rw plain refl) (subst (λ (r : Place). IsJoined r rest out) (sym next) h)
 
 -- the byte neither quotes nor separates words
@@ -43,13 +43,13 @@ plain_of b h =
     let r = and_parts (not (b == backslash)) (not (b == double_quote)) q.0 in
     record { backslash = is_not _ r.0; double = is_not _ r.1; single = is_not _ q.1; part_end = is_not _ p.1 }
 
-word_after : (b : ℕ) → Plain b → behind Word b ≡ Word
+word_after : (b : ℕ) → Plain b → following Word b ≡ Word
 word_after b p = rw (p.part_end, p.single, p.double) refl
 
-double_after : (b : ℕ) → (b == double_quote) ≡ false → behind Double b ≡ Double
+double_after : (b : ℕ) → (b == double_quote) ≡ false → following Double b ≡ Double
 double_after b h = rw h refl
 
-run_on : (p : Place) → ((b : ℕ) → Plain b → behind p b ≡ p) → (front rest out : List ℕ) → list_all is_plain front ≡ true → IsJoined p rest out → IsJoined p (front ++ rest) (front ++ out)
+run_on : (p : Place) → ((b : ℕ) → Plain b → following p b ≡ p) → (front rest out : List ℕ) → list_all is_plain front ≡ true → IsJoined p rest out → IsJoined p (front ++ rest) (front ++ out)
 run_on p stays [] rest out plain h = h
 run_on p stays (b ∷ bs) rest out plain h =
     let both = and_parts (is_plain b) (list_all is_plain bs) plain in
@@ -110,7 +110,7 @@ single_on (b ∷ bs) rest out none h =
       never true = refl
       never false = refl
 
-      stays : (t : Bool) → (b == single_quote) ≡ false → behind Single b ≡ Single
+      stays : (t : Bool) → (b == single_quote) ≡ false → following Single b ≡ Single
       stays t e = rw e refl
 
 -- ---- double quotes

@@ -20,7 +20,7 @@ use Rattle.baretext.specs.declared.item.Stage.TheVariants.{Opening, Assigned, Cl
 use Rattle.baretext.specs.Joining.{joined}
 use Rattle.baretext.specs.Text.{hash, colon, equals}
 use Rattle.baretext.specs.Gives.{Gives, Fails}
-use Rattle.baretext.specs.Refused.{IsNamed, IsFirstFault, unknown, refused_word, behind, IsFaultOfText, IsRefused}
+use Rattle.baretext.specs.Refused.{IsNamed, IsFirstFault, unknown, refused_word, following, IsFaultOfText, IsRefused}
 use Rattle.baretext.specs.Statements.{takes_assignments, assigns, item, IsItem}
 use Rattle.baretext.specs.Reading.{◌>>=◌, word_fault, placed, value_at, assignment_at, shell_word_at, item_of, statements_from, statements_of}
 use Rattle.baretext.proofs.Outcome.{chosen, failed, passed, fault_is, bind_err}
@@ -149,7 +149,7 @@ statements-refused zero stage at (b ∷ bs) f h e =
                 let one : suc (i.len - 1) ≡ i.len = omega (arith, len.0) in
                 let next : at + 1 + (i.len - 1) ≡ at + i.len = omega (arith, len.0) in
                 let here : drop (i.len - 1) bs ≡ drop i.len (b ∷ bs) = ap (λ (m : ℕ). drop m (b ∷ bs)) one in
-                behind there
+                following there
                 (subst (λ (m : ℕ). IsFirstFault i.stage m (drop i.len (b ∷ bs)) f) next
                 (subst (λ (t : List ℕ). IsFirstFault i.stage (at + 1 + (i.len - 1)) t f) here (statements-refused (i.len - 1) i.stage (at + 1) bs f (omega (arith, len.0, len.1)) y)))
           ])
@@ -181,7 +181,7 @@ first-refused (unknown {stage} {at} {text} some no_item no_name) = by_text text 
 first-refused (refused_word {stage} {at} {k} {text} {name} {value} h refused) =
     item_failed stage at text (Shell (BadWord (at + (length name + 1) + k))) (named_some stage text name value h)
     (item-named stage at text name value h ∙ ap (λ r. placed (at + (length name + 1)) r >>= λ w. Ok (item (Some (assigns name w.0)) (length name + 1 + w.1) Assigned)) ((front_refusal value k).1 refused))
-first-refused (behind {stage} {at} {text} {i} {f} h rest) =
+first-refused (following {stage} {at} {text} {i} {f} h rest) =
     let len = item-len h in
     item_first stage at text i (omega (arith, len.0, len.1)) (item-read h at) len.0 len.1 ∙ ap (with_list (option_to_list i.assignment)) (first-refused rest)
 

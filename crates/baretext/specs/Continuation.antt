@@ -14,21 +14,21 @@ escapes Single = false
 escapes Comment = false
 
 -- the context after a byte outside quotes that begins no comment (POSIX shell, 2.2 and 2.3)
-abbrev pub behind_bare : ℕ → Place
-behind_bare b = if is_part_end b then Start else (if b == single_quote then Single else (if b == double_quote then Double else Word))
+abbrev pub after_bare : ℕ → Place
+after_bare b = if is_part_end b then Start else (if b == single_quote then Single else (if b == double_quote then Double else Word))
 
 -- the context after a byte that no backslash quotes (POSIX shell, 2.2 and 2.3)
-abbrev pub behind : Place → ℕ → Place
-behind Start b = if b == hash then Comment else behind_bare b
-behind Word b = behind_bare b
-behind Single b = if b == single_quote then Word else Single
-behind Double b = if b == double_quote then Word else Double
-behind Comment b = if b == newline then Start else Comment
+abbrev pub following : Place → ℕ → Place
+following Start b = if b == hash then Comment else after_bare b
+following Word b = after_bare b
+following Single b = if b == single_quote then Word else Single
+following Double b = if b == double_quote then Word else Double
+following Comment b = if b == newline then Start else Comment
 
 -- the context after a byte that a backslash quotes (POSIX shell, 2.2 and 2.3)
-abbrev pub behind_quoted : Place → Place
-behind_quoted Start = Word
-behind_quoted p = p
+abbrev pub after_quoted : Place → Place
+after_quoted Start = Word
+after_quoted p = p
 
 -- The second text is the first without its line continuations, if the first byte is in this context (POSIX shell, 2.2.1).
 pub data IsJoined : Place → List ℕ → List ℕ → Type 0 where
@@ -36,9 +36,9 @@ pub data IsJoined : Place → List ℕ → List ℕ → Type 0 where
   -- a backslash before a newline: both are removed
   continued : {p : Place} {rest out : List ℕ} → escapes p ≡ true → IsJoined p rest out → IsJoined p (backslash ∷ newline ∷ rest) out
   -- a backslash quotes any other byte, and both are kept; a backslash at the end is kept too
-  quoted : {p : Place} {b : ℕ} {rest out : List ℕ} → escapes p ≡ true → (b == newline) ≡ false → IsJoined (behind_quoted p) rest out
+  quoted : {p : Place} {b : ℕ} {rest out : List ℕ} → escapes p ≡ true → (b == newline) ≡ false → IsJoined (after_quoted p) rest out
       → IsJoined p (backslash ∷ b ∷ rest) (backslash ∷ b ∷ out)
   last : {p : Place} → escapes p ≡ true → IsJoined p (backslash ∷ []) (backslash ∷ [])
   -- any other byte is kept
-  other : {p : Place} {b : ℕ} {rest out : List ℕ} → (b == backslash && escapes p) ≡ false → IsJoined (behind p b) rest out
+  other : {p : Place} {b : ℕ} {rest out : List ℕ} → (b == backslash && escapes p) ≡ false → IsJoined (following p b) rest out
       → IsJoined p (b ∷ rest) (b ∷ out)

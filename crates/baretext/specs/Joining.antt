@@ -4,7 +4,7 @@ use Rattle.shellword.specs.Text.{backslash, newline}
 use Rattle.baretext.specs.declared.continuation.Place.{Place}
 use Rattle.baretext.specs.declared.continuation.Place.TheVariants.{Start}
 use Rattle.baretext.specs.declared.continuation.State.{State}
-use Rattle.baretext.specs.Continuation.{escapes, behind, behind_quoted}
+use Rattle.baretext.specs.Continuation.{escapes, following, after_quoted}
 
 -- a state: the context of a byte, and whether a backslash quotes it
 abbrev pub state : Place → Bool → State
@@ -19,8 +19,8 @@ written s b =
 -- the state after a byte
 abbrev pub next : State → ℕ → State
 next s b =
-    if s.escaped then (if b == newline then state s.place false else state (behind_quoted s.place) false)
-    else (if b == backslash && escapes s.place then state s.place true else state (behind s.place b) false)
+    if s.escaped then (if b == newline then state s.place false else state (after_quoted s.place) false)
+    else (if b == backslash && escapes s.place then state s.place true else state (following s.place b) false)
 
 -- the bytes that remain at the end of the text
 abbrev pub left : State → List ℕ

@@ -28,7 +28,7 @@ pub data IsFirstFault : Stage → ℕ → List ℕ → BareFault → Type 0 wher
   refused_word : {stage : Stage} {at k : ℕ} {text name value : List ℕ} → IsNamed stage text name value → IsBadFront value k
       → IsFirstFault stage at text (Shell (BadWord (at + (length name + 1) + k)))
   -- the fault is after an item
-  behind : {stage : Stage} {at : ℕ} {text : List ℕ} {i : Item} {f : BareFault} → IsItem stage text i → IsFirstFault i.stage (at + i.len) (drop i.len text) f
+  following : {stage : Stage} {at : ℕ} {text : List ℕ} {i : Item} {f : BareFault} → IsItem stage text i → IsFirstFault i.stage (at + i.len) (drop i.len text) f
       → IsFirstFault stage at text f
 
 -- The first error of bare text (own).

@@ -47,8 +47,8 @@ fn escapes(place: Place) -> bool
 }
 
 /// Returns the context after a byte outside quotes that begins no comment.
-fn behind_bare(byte: u8) -> Place
-    ensures { result ≡ places.behind_bare byte }
+fn after_bare(byte: u8) -> Place
+    ensures { result ≡ places.after_bare byte }
 {
     if is_part_end(byte) {
         Place::Start
@@ -62,12 +62,12 @@ fn behind_bare(byte: u8) -> Place
 }
 
 /// Returns the context after a byte that no backslash quotes.
-fn behind(place: Place, byte: u8) -> Place
-    ensures { result ≡ places.behind place byte }
+fn following(place: Place, byte: u8) -> Place
+    ensures { result ≡ places.following place byte }
 {
     match place {
         Place::Start if byte == b'#' => Place::Comment,
-        Place::Start | Place::Word => behind_bare(byte),
+        Place::Start | Place::Word => after_bare(byte),
         Place::Single if byte == b'\'' => Place::Word,
         Place::Double if byte == b'"' => Place::Word,
         Place::Comment if byte == b'\n' => Place::Start,
@@ -76,8 +76,8 @@ fn behind(place: Place, byte: u8) -> Place
 }
 
 /// Returns the context after a byte that a backslash quotes.
-fn behind_quoted(place: Place) -> Place
-    ensures { result ≡ places.behind_quoted place }
+fn after_quoted(place: Place) -> Place
+    ensures { result ≡ places.after_quoted place }
 {
     match place {
         Place::Start => Place::Word,
@@ -94,7 +94,7 @@ fn next(state: State, byte: u8) -> State
         let place = if byte == b'\n' {
             place
         } else {
-            behind_quoted(place)
+            after_quoted(place)
         };
         State {
             place,
@@ -107,7 +107,7 @@ fn next(state: State, byte: u8) -> State
         }
     } else {
         State {
-            place: behind(place, byte),
+            place: following(place, byte),
             escaped: false,
         }
     }

@@ -120,11 +120,11 @@ fn read_named(alloc: Global, at: usize, text: &[u8], len: usize) -> Result<Item,
     let Some(name) = Name::new(name) else {
         return Err(BareFault::UnknownStatement(at));
     };
-    let behind = len + 1;
-    let (value, value_len) = read_value(alloc, at + behind, &text[behind..])?;
+    let following = len + 1;
+    let (value, value_len) = read_value(alloc, at + following, &text[following..])?;
     Ok(Item {
         assignment: Some(Assignment { name, value }),
-        len: behind + value_len,
+        len: following + value_len,
         stage: Stage::Assigned,
     })
 }

@@ -10,14 +10,14 @@ use Rattle.syntax.specs.Feature.{is_feature}
 use Rattle.syntax.specs.declared.feature.OptionKind.{OptionKind}
 use Rattle.syntax.specs.declared.feature.OptionKind.TheVariants.{Feature, Package}
 use Rattle.commandline.proofs.Pieces.{rest_is, text_parts, key_whole, key_key, key_front, value_front, no_value_in, feature_key, shell_key, shell_plain}
-use Rattle.commandline.specs.Arguments.{Said, Turns, Gives, Awaits, Chooses, Misnames, Assigns, Misassigns, Nothing, switch_of, folder_named, folder_of, target_of, chosen, enabled, disabled, package_of, choice_of, given_or_awaited, said_with_value, dashed_of, assigned, said_by, value_in, rest_after, alone}
+use Rattle.commandline.specs.Arguments.{Said, Turns, Gives, Awaits, Chooses, Misnames, Assigns, Misassigns, Nothing, switch_of, install_directory_named, install_directory_of, target_of, chosen, enabled, disabled, package_of, choice_of, given_or_awaited, said_with_value, dashed_of, assigned, said_by, value_in, rest_after, alone}
 use Rattle.commandline.specs.CommandLine as line
 use Rattle.commandline.specs.CommandLine.{Setting, Variable, Choice, Switched, valued, IsSwitch, IsOption, enabling, disabling, key_of, is_dashed, GivesAlone, IsMisnamed, IsMisassigned}
 use Rattle.commandline.specs.Directories.{directories, directory_named, option_of, variable_of}
 use Rattle.commandline.specs.declared.directory.Directory.{Directory}
 use Rattle.commandline.specs.declared.directory.Directory.TheVariants.{Prefix, ExecPrefix, Bindir, Sbindir, Libexecdir, Libdir, Datarootdir, Datadir, Sysconfdir, Sharedstatedir, Localstatedir, Runstatedir, Includedir, Oldincludedir, Docdir, Infodir, Htmldir, Dvidir, Pdfdir, Psdir, Localedir, Mandir}
 use Rattle.commandline.specs.declared.argument.Target.{Target}
-use Rattle.commandline.specs.declared.argument.Target.TheVariants.{Folder, Srcdir, CacheFile}
+use Rattle.commandline.specs.declared.argument.Target.TheVariants.{InstallDirectory, Srcdir, CacheFile}
 use Rattle.commandline.specs.declared.argument.Switch.{Switch}
 use Rattle.commandline.specs.declared.argument.Switch.TheVariants.{ConfigCache, Quiet, NoCreate, Help, Version, Ignored}
 
@@ -40,8 +40,8 @@ switch_said line.verbose_short = refl
 switch_said line.verbose = refl
 switch_said line.no_recursion = refl
 
-directory_said : (d : Directory) → said_by (codes "--" ++ option_of d) ≡ Awaits (Folder d)
-unfolding said_by dashed_of switch_of said_with_value key_of value_in target_of folder_of rest_after directory_named directories option_of variable_of
+directory_said : (d : Directory) → said_by (codes "--" ++ option_of d) ≡ Awaits (InstallDirectory d)
+unfolding said_by dashed_of switch_of said_with_value key_of value_in target_of install_directory_of rest_after directory_named directories option_of variable_of
 directory_said Prefix = refl
 directory_said ExecPrefix = refl
 directory_said Bindir = refl
@@ -65,8 +65,8 @@ directory_said Psdir = refl
 directory_said Localedir = refl
 directory_said Mandir = refl
 
-directory_given : (d : Directory) (value : List ℕ) → said_by (codes "--" ++ option_of d ++ codes "=" ++ value) ≡ Gives (Folder d) value
-unfolding said_by dashed_of switch_of said_with_value key_of value_in target_of folder_of rest_after directory_named directories option_of variable_of
+directory_given : (d : Directory) (value : List ℕ) → said_by (codes "--" ++ option_of d ++ codes "=" ++ value) ≡ Gives (InstallDirectory d) value
+unfolding said_by dashed_of switch_of said_with_value key_of value_in target_of install_directory_of rest_after directory_named directories option_of variable_of
 directory_given Prefix value = refl
 directory_given ExecPrefix value = refl
 directory_given Bindir value = refl
@@ -92,24 +92,24 @@ directory_given Mandir value = refl
 
 -- An option by itself takes the next argument.
 pub option_said : {option : List ℕ} {target : Target} → IsOption option target → said_by option ≡ Awaits target
-unfolding said_by dashed_of switch_of said_with_value key_of value_in target_of folder_of rest_after
+unfolding said_by dashed_of switch_of said_with_value key_of value_in target_of install_directory_of rest_after
 option_said line.srcdir = refl
 option_said line.cache_file = refl
 option_said (line.directory d) = directory_said d
 
 pub option_given : {option : List ℕ} {target : Target} → IsOption option target → (value : List ℕ) → said_by (option ++ codes "=" ++ value) ≡ Gives target value
-unfolding said_by dashed_of switch_of said_with_value key_of value_in target_of folder_of rest_after
+unfolding said_by dashed_of switch_of said_with_value key_of value_in target_of install_directory_of rest_after
 option_given line.srcdir value = refl
 option_given line.cache_file value = refl
 option_given (line.directory d) value = directory_given d value
 
 enabling_said : (kind : OptionKind) (rest : List ℕ) → said_by (enabling kind ++ rest) ≡ enabled kind rest (enabling kind ++ rest)
-unfolding said_by dashed_of switch_of said_with_value key_of value_in target_of folder_of rest_after directory_named directories option_of variable_of choice_of package_of
+unfolding said_by dashed_of switch_of said_with_value key_of value_in target_of install_directory_of rest_after directory_named directories option_of variable_of choice_of package_of
 enabling_said Feature rest = refl
 enabling_said Package rest = refl
 
 disabling_said : (kind : OptionKind) (rest : List ℕ) → said_by (disabling kind ++ rest) ≡ disabled kind rest (disabling kind ++ rest)
-unfolding said_by dashed_of switch_of said_with_value key_of value_in target_of folder_of rest_after directory_named directories option_of variable_of choice_of package_of
+unfolding said_by dashed_of switch_of said_with_value key_of value_in target_of install_directory_of rest_after directory_named directories option_of variable_of choice_of package_of
 disabling_said Feature rest = refl
 disabling_said Package rest = refl
 
@@ -230,26 +230,26 @@ found_option option d (x ∷ xs) h = at (bytes_eq (option_of x) option) refl (fo
   at true is more h = let same : x ≡ d = cc in ap option_of (sym same) ∙ (bytes_eq-Decides (option_of x) option).0 is
   at false is more h = more h
 
-folder_is : (option : List ℕ) (target : Target) → folder_named option ≡ Some target → IsOption (codes "--" ++ option) target
+directory_is : (option : List ℕ) (target : Target) → install_directory_named option ≡ Some target → IsOption (codes "--" ++ option) target
 unfolding directory_named
-folder_is option target h = at (directory_named option) refl h where
-  at : (r : Option Directory) → directory_named option ≡ r → option_map (λ d. Folder d) r ≡ Some target → IsOption (codes "--" ++ option) target
+directory_is option target h = at (directory_named option) refl h where
+  at : (r : Option Directory) → directory_named option ≡ r → option_map (λ d. InstallDirectory d) r ≡ Some target → IsOption (codes "--" ++ option) target
   at None is h = absurd (cc)
   at (Some d) is h =
-      let same : Folder d ≡ target = cc in
+      let same : InstallDirectory d ≡ target = cc in
       subst (λ t. IsOption (codes "--" ++ option) t) same
-      (subst (λ o. IsOption (codes "--" ++ o) (Folder d)) (found_option option d directories is) (line.directory d))
+      (subst (λ o. IsOption (codes "--" ++ o) (InstallDirectory d)) (found_option option d directories is) (line.directory d))
 
 same_target : {a b : Target} (word : List ℕ) → Some a ≡ Some b → IsOption word a → IsOption word b
 same_target {a = a} {b = b} word e h = let same : a ≡ b = cc in subst (λ s. IsOption word s) same h
 
 target_is : (key : List ℕ) (target : Target) → target_of key ≡ Some target → IsOption key target
-unfolding target_of folder_of
+unfolding target_of install_directory_of
 target_is key target = by_choice _ _ _ _ (λ t e. same_target key e (one_of (λ k. IsOption k Srcdir) key _ line.srcdir t))
     (by_choice _ _ _ _ (λ t e. same_target key e (one_of (λ k. IsOption k CacheFile) key _ line.cache_file t)) (at (rest_after (codes "--") key) refl)) where
-      at : (r : Option (List ℕ)) → rest_after (codes "--") key ≡ r → (elim r as (λ r. Option Target) [ Some option ↦ folder_named option | None ↦ None ]) ≡ Some target → IsOption key target
+      at : (r : Option (List ℕ)) → rest_after (codes "--") key ≡ r → (elim r as (λ r. Option Target) [ Some option ↦ install_directory_named option | None ↦ None ]) ≡ Some target → IsOption key target
       at None is h = absurd (cc)
-      at (Some option) is h = subst (λ k. IsOption k target) (sym (rest_is (codes "--") key option is)) (folder_is option target h)
+      at (Some option) is h = subst (λ k. IsOption k target) (sym (rest_is (codes "--") key option is)) (directory_is option target h)
 
 -- What the rule gives for an argument with this reading.
 abbrev pub Means : ℕ → List ℕ → Said → Type 0

@@ -9,7 +9,7 @@ use Rattle.commandline.specs.CommandLine.{Setting, Variable, Choice, Switched, v
 use Rattle.commandline.specs.Directories.{directory_named}
 use Rattle.commandline.specs.Reading.{◌>>=◌}
 use Rattle.commandline.specs.declared.argument.Target.{Target}
-use Rattle.commandline.specs.declared.argument.Target.TheVariants.{Folder, Srcdir, CacheFile}
+use Rattle.commandline.specs.declared.argument.Target.TheVariants.{InstallDirectory, Srcdir, CacheFile}
 use Rattle.commandline.specs.declared.argument.Switch.{Switch}
 use Rattle.commandline.specs.declared.argument.Switch.TheVariants.{ConfigCache, Quiet, NoCreate, Help, Version, Ignored}
 use Rattle.commandline.specs.declared.fault.OptionFault.{OptionFault}
@@ -57,19 +57,19 @@ switch_of argument =
     else None)))))
 
 -- The option of a directory, given without its dashes. (Autoconf's manual, "Installation Directory Variables")
-abbrev pub folder_named : List ℕ → Option Target
-folder_named option = option_map (λ directory. Folder directory) (directory_named option)
+abbrev pub install_directory_named : List ℕ → Option Target
+install_directory_named option = option_map (λ directory. InstallDirectory directory) (directory_named option)
 
 -- The options of directories. (Autoconf's manual, "Installation Directory Variables")
-unfoldable pub folder_of : List ℕ → Option Target
-folder_of key = elim (rest_after (codes "--") key) [ Some option ↦ folder_named option | None ↦ None ]
+unfoldable pub install_directory_of : List ℕ → Option Target
+install_directory_of key = elim (rest_after (codes "--") key) [ Some option ↦ install_directory_named option | None ↦ None ]
 
 -- The options with a value. (Autoconf's manual, "configure Invocation")
 unfoldable pub target_of : List ℕ → Option Target
 target_of key =
     if bytes_eq key (codes "--srcdir") then Some Srcdir
     else (if bytes_eq key (codes "--cache-file") then Some CacheFile
-    else folder_of key)
+    else install_directory_of key)
 
 -- A feature or a package with its value, if its name has the form of one. (own)
 abbrev pub chosen : OptionKind → List ℕ → List ℕ → List ℕ → Said

@@ -8,7 +8,7 @@ use Rattle.syntax.specs.declared.feature.OptionKind.TheVariants.{Feature, Packag
 use Rattle.commandline.specs.Directories.{variable_of, option_of}
 use Rattle.commandline.specs.declared.directory.Directory.{Directory}
 use Rattle.commandline.specs.declared.argument.Target.{Target}
-use Rattle.commandline.specs.declared.argument.Target.TheVariants.{Folder, Srcdir, CacheFile}
+use Rattle.commandline.specs.declared.argument.Target.TheVariants.{InstallDirectory, Srcdir, CacheFile}
 use Rattle.commandline.specs.declared.argument.Switch.{Switch}
 use Rattle.commandline.specs.declared.argument.Switch.TheVariants.{ConfigCache, Quiet, NoCreate, Help, Version, Ignored}
 use Rattle.commandline.specs.declared.fault.OptionFault.{OptionFault}
@@ -31,7 +31,7 @@ pub data Setting : Type 0 where
 
 -- What an option sets to its value. (own)
 abbrev pub valued : Target → List ℕ → Setting
-valued (Folder directory) value = Variable (variable_of directory) value
+valued (InstallDirectory directory) value = Variable (variable_of directory) value
 valued Srcdir value = Source value
 valued CacheFile value = Cache value
 
@@ -58,7 +58,7 @@ pub data IsSwitch : List ℕ → Switch → Type 0 where
 pub data IsOption : List ℕ → Target → Type 0 where
   srcdir : IsOption (codes "--srcdir") Srcdir
   cache_file : IsOption (codes "--cache-file") CacheFile
-  directory : (directory : Directory) → IsOption (codes "--" ++ option_of directory) (Folder directory)
+  directory : (directory : Directory) → IsOption (codes "--" ++ option_of directory) (InstallDirectory directory)
 
 -- The front of an option that turns a feature on, or uses a package. (Autoconf's manual, "Package Options" and
 -- "External Software")

@@ -3,7 +3,7 @@ use Rattle.std.specs.Prelude.{ℕ, List, [], ◌∷◌, Option, Some, None, code
 use Rattle.commandline.specs.Arguments.{Said, Gives, awaited_by, said_by}
 use Rattle.commandline.specs.Slashes.{without_slashes}
 use Rattle.commandline.specs.declared.argument.Target.{Target}
-use Rattle.commandline.specs.declared.argument.Target.TheVariants.{Folder, Srcdir, CacheFile}
+use Rattle.commandline.specs.declared.argument.Target.TheVariants.{InstallDirectory, Srcdir, CacheFile}
 
 -- The option that needs the next argument as its value, after an argument that may be such a value itself. (own)
 abbrev pub awaited_after : Option Target → List ℕ → Option Target
@@ -14,7 +14,7 @@ awaited_after None argument = awaited_by (said_by argument)
 abbrev pub srcdir_of_value : Target → List ℕ → List ℕ → List ℕ
 srcdir_of_value Srcdir value srcdir = value
 srcdir_of_value CacheFile value srcdir = srcdir
-srcdir_of_value (Folder directory) value srcdir = srcdir
+srcdir_of_value (InstallDirectory directory) value srcdir = srcdir
 
 -- The directory after an argument with this reading. (own)
 abbrev pub srcdir_said : Said → List ℕ → List ℕ

@@ -31,7 +31,7 @@ pub enum Switch {
 #[derive(Clone, Copy)]
 pub enum Target {
     /// A directory of the installation, or a prefix.
-    Folder(Directory),
+    InstallDirectory(Directory),
     /// The directory of the source.
     Srcdir,
     /// The name of the cache.
@@ -145,22 +145,22 @@ fn switch_of(argument: &[u8]) -> Option<Switch>
 }
 
 /// Returns what the option of a directory sets, given the option without its dashes.
-fn folder_named(option: &[u8]) -> Option<Target>
-    ensures { result ≡ words.folder_named option.now }
+fn install_directory_named(option: &[u8]) -> Option<Target>
+    ensures { result ≡ words.install_directory_named option.now }
 {
     match directory_named(option) {
-        Some(directory) => Some(Target::Folder(directory)),
+        Some(directory) => Some(Target::InstallDirectory(directory)),
         None => None,
     }
 }
 
 /// Returns what the option of a directory sets.
-#[tactic(auto, unfolding(crate::specs::Arguments::folder_of))]
-fn folder_of(key: &[u8]) -> Option<Target>
-    ensures { result ≡ words.folder_of key.now }
+#[tactic(auto, unfolding(crate::specs::Arguments::install_directory_of))]
+fn install_directory_of(key: &[u8]) -> Option<Target>
+    ensures { result ≡ words.install_directory_of key.now }
 {
     match rest_after(b"--", key) {
-        Some(option) => folder_named(option),
+        Some(option) => install_directory_named(option),
         None => None,
     }
 }
@@ -175,7 +175,7 @@ fn target_of(key: &[u8]) -> Option<Target>
     } else if key == b"--cache-file".as_slice() {
         Some(Target::CacheFile)
     } else {
-        folder_of(key)
+        install_directory_of(key)
     }
 }
 

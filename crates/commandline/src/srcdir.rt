@@ -35,7 +35,7 @@ fn srcdir_of_value<'a>(target: Target, value: &'a [u8], srcdir: &'a [u8]) -> &'a
 {
     match target {
         Target::Srcdir => value,
-        Target::CacheFile | Target::Folder(_) => srcdir,
+        Target::CacheFile | Target::InstallDirectory(_) => srcdir,
     }
 }
 

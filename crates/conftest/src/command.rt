@@ -15,18 +15,8 @@ use textcut::fields;
 fn push_value(alloc: Global, words: &mut Words, vars: &Vars, name: &[u8]) -> Result<(), AllocError>
     ensures { OnOk result (words.new ≡ words.old ++ probe.words_of vars.now name.now) }
 {
-    let value = value_or_empty(vars, name);
-    let found = fields(alloc, value)?;
+    let found = fields(alloc, vars.value_or_empty(name))?;
     push_all(words, found.as_slice())
-}
-
-fn value_or_empty<'a>(vars: &'a Vars, name: &[u8]) -> &'a [u8]
-    ensures { result.now ≡ unwrap_or (value_of vars.now name.now) [] }
-{
-    match vars.get(name) {
-        Some(value) => value.as_slice(),
-        None => b"",
-    }
 }
 
 /// Returns the words of a variable's value, or none if it is unset.

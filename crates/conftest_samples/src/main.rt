@@ -84,7 +84,7 @@ fn definitions_of(alloc: Global, name: &str) -> Result<Defs, AllocError> {
     Ok(defs)
 }
 
-/// Defines `NAME_` with a number behind it as that number.
+/// Defines `NAME_` with a number after it as that number.
 fn define_numbered(alloc: Global, defs: &mut Defs, value: &[u8]) -> Result<(), AllocError> {
     let mut name = Vec::from_slice(alloc, b"NAME_")?;
     name.extend_from_slice(value)?;

@@ -24,15 +24,15 @@ stands_at_next input start len is other inside h =
     let text : List ℕ = drop start input in
     let sum : start + (line_len text + 1) ≡ start + (len + 1) = omega (arith, is) in
     let short : line_len text < length text = omega (arith, is, length-drop start input) in
-    let behind : after_line text ≡ drop (start + (len + 1)) input = drop-drop (line_len text + 1) start input ∙ ap (λ n. drop n input) sum in
+    let after : after_line text ≡ drop (start + (len + 1)) input = drop-drop (line_len text + 1) start input ∙ ap (λ n. drop n input) sum in
     record {
       parted = λ source template p.
-          let q : IsParted text (take (line_len text + 1) text ++ source) template = later other short (subst (λ l. IsParted l source template) (sym behind) p) in
+          let q : IsParted text (take (line_len text + 1) text ++ source) template = later other short (subst (λ l. IsParted l source template) (sym after) p) in
           let front : take start input ++ (take (line_len text + 1) text ++ source) ≡ take (start + (len + 1)) input ++ source =
           sym (append_assoc (take start input) (take (line_len text + 1) text) source)
           ∙ ap (λ l. l ++ source) (sym (take-add start (line_len text + 1) input) ∙ ap (λ n. take n input) sum) in
           subst (λ l. IsParted input l template) front (h.parted _ template q);
-      unmarked = λ u. h.unmarked (line other short (subst HasNoMarker (sym behind) u));
+      unmarked = λ u. h.unmarked (line other short (subst HasNoMarker (sym after) u));
     }
 
 -- The line is the marker.
@@ -41,9 +41,9 @@ parted_here input start is h =
     let text : List ℕ = drop start input in
     let two : line_len text ≡ 2 = line_of_marker text is in
     let sum : start + (line_len text + 1) ≡ start + 3 = omega (arith, two) in
-    let behind : after_line text ≡ drop (start + 3) input = drop-drop (line_len text + 1) start input ∙ ap (λ n. drop n input) sum in
+    let after : after_line text ≡ drop (start + 3) input = drop-drop (line_len text + 1) start input ∙ ap (λ n. drop n input) sum in
     subst (λ l. IsParted input l (drop (start + 3) input)) (append-nil (take start input))
-    (h.parted [] (drop (start + 3) input) (subst (IsParted text []) behind (here is)))
+    (h.parted [] (drop (start + 3) input) (subst (IsParted text []) after (here is)))
 
 -- No line is left.
 pub unmarked_here : (input : List ℕ) (start len : ℕ) → len ≡ line_len (drop start input) → first_line (drop start input) ≢ marker → start ≤ length input → start + len ≡ length input

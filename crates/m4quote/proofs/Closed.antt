@@ -9,7 +9,7 @@ use Rattle.m4quote.specs.declared.front.Kind.{Kind}
 use Rattle.m4quote.specs.declared.front.Kind.TheVariants.{Quoted}
 use Rattle.m4quote.specs.Text.{is_word_byte, word_len, word, line_len, whole_line_len, is_dnl, is_macro_name}
 use Rattle.m4quote.specs.Spelling.{Balanced, empty, byte, group, IsFront, quoted, comment, dropped, name, other_word, other_byte}
-use Rattle.m4quote.specs.Used.{unquoted_front, Unquotes, nothing, front, UnquoteBreaks, stray_close, unclosed, behind}
+use Rattle.m4quote.specs.Used.{unquoted_front, Unquotes, nothing, front, UnquoteBreaks, stray_close, unclosed, following}
 use Rattle.m4quote.specs.Scan.{closing}
 use Rattle.m4quote.proofs.Outcome.{passed, ok_is}
 use Rattle.m4quote.proofs.Quotes.{closing-balanced}
@@ -176,7 +176,7 @@ Tame-breaks (unclosed {at} {room} {rest} breaks) tame =
     let r = run_tail tame rest refl in
     let found : closing 0 (suc (room + r.0)) 1 0 rest ≡ Ok (length r.1 + 1) = ap (closing 0 (suc (room + r.0)) 1 0) r.4 ∙ end_of r.3 (room + r.0) r.2 (omega arith) in
     absurd (passed (sym (ap (λ (t : List ℕ). closing at (suc (room + r.0)) 1 0 t) r.4 ∙ closing-balanced (Balanced-more r.3 (room + r.0) (omega arith)) at (suc (room + r.0)) 1 0 (93 ∷ r.2) (omega arith) (omega arith)) ∙ closing-breaks (open-more breaks at refl (room + r.0) (omega arith)) (suc (room + r.0)) 1 0 (omega arith) (omega arith)))
-Tame-breaks (behind is later) tame = Tame-breaks later (piece_tail is tame)
+Tame-breaks (following is later) tame = Tame-breaks later (piece_tail is tame)
 
 -- ---- a text without its outermost quotes is such a text
 

@@ -2,8 +2,8 @@
 use Rattle.std.proofs.Common.{◌≡◌, ℕ, ◌<◌, Bool, List, length, inl, inr, subst, sym, arith}
 use Rattle.m4quote.specs.declared.fault.QuoteFault.{QuoteFault}
 use Rattle.m4quote.specs.declared.fault.QuoteFault.TheVariants.{OutOfMemory}
-use Rattle.m4quote.specs.Faults.{QuoteBreaks, stays_open, one_too_many, in_quotes, FrontBreaks, stray, no_room, quote_breaks, InsideBreaks, no_close, piece_breaks, paren_too_many, in_parens, ArgumentsBreak, argument_breaks, later_argument, Breaks, front_breaks, arguments_break, behind_front, behind_call, IsFirstFault, too_large, breaks, breaks_before_nul, nul, nul_in_open, IsBracketFault}
-use Rattle.m4quote.specs.Used.{Unquotes, nothing, front, UnquoteBreaks, stray_close, unclosed, behind, UseBreaks, outer, inner_close}
+use Rattle.m4quote.specs.Faults.{QuoteBreaks, stays_open, one_too_many, in_quotes, FrontBreaks, stray, no_room, quote_breaks, InsideBreaks, no_close, piece_breaks, paren_too_many, in_parens, ArgumentsBreak, argument_breaks, later_argument, Breaks, front_breaks, arguments_break, after_front, after_call, IsFirstFault, too_large, breaks, breaks_before_nul, nul, nul_in_open, IsBracketFault}
+use Rattle.m4quote.specs.Used.{Unquotes, nothing, front, UnquoteBreaks, stray_close, unclosed, following, UseBreaks, outer, inner_close}
 use Rattle.m4quote.proofs.Insides.{front_fits}
 use Rattle.m4quote.proofs.UsedText.{IsBracketFaultAt, break_place}
 
@@ -32,8 +32,8 @@ arguments_no_memory (later_argument inside ends later) e = arguments_no_memory l
 items_no_memory : {at : ℕ} {text : List ℕ} {f : QuoteFault} → Breaks at text f → f ≡ OutOfMemory → ⊥
 items_no_memory (front_breaks broken) e = front_no_memory broken e
 items_no_memory (arguments_break named opens broken) e = arguments_no_memory broken e
-items_no_memory (behind_front whole is later) e = items_no_memory later e
-items_no_memory (behind_call named opens given later) e = items_no_memory later e
+items_no_memory (after_front whole is later) e = items_no_memory later e
+items_no_memory (after_call named opens given later) e = items_no_memory later e
 
 pub first_fault-no_memory : {at : ℕ} {text : List ℕ} {f : QuoteFault} → IsFirstFault at text f → f ≡ OutOfMemory → ⊥
 first_fault-no_memory (too_large large) e = cc
@@ -54,7 +54,7 @@ unquote_breaks-kind {text} {f} broken = let h = break_place broken in bracket_fa
 pub unquote_breaks-no_memory : {at : ℕ} {text : List ℕ} {f : QuoteFault} → UnquoteBreaks at text f → f ≡ OutOfMemory → ⊥
 unquote_breaks-no_memory stray_close e = cc
 unquote_breaks-no_memory (unclosed broken) e = cc
-unquote_breaks-no_memory (behind whole later) e = unquote_breaks-no_memory later e
+unquote_breaks-no_memory (following whole later) e = unquote_breaks-no_memory later e
 
 -- nothing remains of the empty text
 some_left : {text out : List ℕ} → Unquotes text out → 0 < length out → 0 < length text

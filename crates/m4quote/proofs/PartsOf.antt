@@ -66,10 +66,10 @@ module _ (base : ℕ) (whole : List ℕ) where
   arguments-parts (more {at} {n} {m} {text} {after} {args} inside ends later) k place rest within =
       let len = length_is 0 at n 44 text after inside ends in
       let whole_len : length text ≡ length whole - k = ap length rest ∙ length-drop k whole in
-      let behind : after ≡ drop (k + (blank_len text + n + 1)) whole =
+      let following : after ≡ drop (k + (blank_len text + n + 1)) whole =
       sym (ap (drop 1) ends) ∙ drop-drop 1 (blank_len text + n) text ∙ rest_is k (blank_len text + n + 1) text rest in
       All-cons (IsSpanOf base whole) (argument_of at text n) args (argument_is at k n text place rest (omega (arith, len)) within)
-      (arguments-parts later (k + (blank_len text + n + 1)) (omega arith) behind (omega (arith, len, whole_len)))
+      (arguments-parts later (k + (blank_len text + n + 1)) (omega arith) following (omega (arith, len, whole_len)))
 
   pub items-parts : {at : ℕ} {text : List ℕ} {items : List Entry} → Spells at text items → (k : ℕ) → at ≡ base + k → text ≡ drop k whole → k ≤ length whole → ArePartsOf base whole items
   items-parts nothing k place rest within = All-nil (IsItemOf base whole)
@@ -91,7 +91,7 @@ module _ (base : ℕ) (whole : List ℕ) where
       let fits = front_fits front in
       let whole_len : length text ≡ length whole - k = ap length rest ∙ length-drop k whole in
       let len : length text ≡ n + suc (length inside) = omega (arith, length-drop n text, ap length opens, fits.1) in
-      let behind : inside ≡ drop (k + (n + 1)) whole = sym (ap (drop 1) opens) ∙ drop-drop 1 n text ∙ rest_is k (n + 1) text rest in
+      let following : inside ≡ drop (k + (n + 1)) whole = sym (ap (drop 1) opens) ∙ drop-drop 1 n text ∙ rest_is k (n + 1) text rest in
       let arguments_len = arguments_fit given in
-      All-cons (IsItemOf base whole) (call (take n text) args at) items (part_is at k n text place rest fits.1 within, arguments-parts given (k + (n + 1)) (omega arith) behind (omega (arith, len, whole_len)))
-      (items-parts later (k + (n + 1) + m) (omega arith) (ap (drop m) behind ∙ drop-drop m (k + (n + 1)) whole) (omega (arith, len, whole_len, arguments_len)))
+      All-cons (IsItemOf base whole) (call (take n text) args at) items (part_is at k n text place rest fits.1 within, arguments-parts given (k + (n + 1)) (omega arith) following (omega (arith, len, whole_len)))
+      (items-parts later (k + (n + 1) + m) (omega arith) (ap (drop m) following ∙ drop-drop m (k + (n + 1)) whole) (omega (arith, len, whole_len, arguments_len)))

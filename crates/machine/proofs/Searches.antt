@@ -14,7 +14,7 @@ use Rattle.meaning.specs.Meaning.{effect, check_prog, path_prog, has_value, is_f
 use Rattle.plan.specs.Walk.{own_effect}
 use Rattle.machine.specs.declared.flow.Flow.{Flow}
 use Rattle.machine.specs.Flows.{Leads, asks_now}
-use Rattle.meaning.specs.Search.{Search, ends_empty, without_last_empty, folder_of, folders_of, value_or_empty, searched, looked_up, cached_search, program_test}
+use Rattle.meaning.specs.Search.{Search, ends_empty, without_last_empty, directory_of, directories_of, value_or_empty, searched, looked_up, cached_search, program_test}
 
 -- The last part.
 pub last_at : (xs : List (Bor (List ℕ))) (d : Bor (List ℕ)) (i : ℕ) → i + 1 ≡ length xs → (length (get_or xs i d).now == 0) ≡ ends_empty (map (λ part. part.now) xs)
@@ -30,28 +30,28 @@ without_last xs n is empty =
     let same : n ≡ length ys - 1 = omega (arith, is, length-map xs (λ part. part.now)) in
     sym (take-map (λ part. part.now) n xs) ∙ ap (λ k. take k ys) same ∙ sym (ap (λ b. cond b (take (length ys - 1) ys) ys) empty)
 
-pub folders_are : (found : List (List ℕ)) (tried all kept : List (Bor (List ℕ))) (path : List ℕ) → found ≡ map folder_of (map (λ part. part.now) tried)
+pub directories_are : (found : List (List ℕ)) (tried all kept : List (Bor (List ℕ))) (path : List ℕ) → found ≡ map directory_of (map (λ part. part.now) tried)
     → tried ≡ take 65536 kept → map (λ part. part.now) kept ≡ without_last_empty (map (λ part. part.now) all) → map (λ part. part.now) all ≡ parts 58 path
-    → found ≡ folders_of path
-unfolding folders_of
-folders_are found tried all kept path is few left cut =
-    is ∙ ap (λ l. map folder_of (map (λ part. part.now) l)) few ∙ ap (map folder_of) (sym (take-map (λ part. part.now) 65536 kept))
-    ∙ ap (λ l. map folder_of (take 65536 l)) (left ∙ ap without_last_empty cut)
+    → found ≡ directories_of path
+unfolding directories_of
+directories_are found tried all kept path is few left cut =
+    is ∙ ap (λ l. map directory_of (map (λ part. part.now) l)) few ∙ ap (map directory_of) (sym (take-map (λ part. part.now) 65536 kept))
+    ∙ ap (λ l. map directory_of (take 65536 l)) (left ∙ ap without_last_empty cut)
 
 take_few : {A : Type 0} (n : ℕ) (l : List A) → length (take n l) ≤ n
 take_few zero l = omega arith
 take_few (suc n) [] = omega arith
 take_few (suc n) (x ∷ l) = omega (arith, take_few n l)
 
-pub few_folders : (path : List ℕ) → length (folders_of path) ≤ 65536
-unfolding folders_of
-few_folders path =
+pub few_directories : (path : List ℕ) → length (directories_of path) ≤ 65536
+unfolding directories_of
+few_directories path =
     let l = without_last_empty (parts 58 path) in
-    subst (λ k. k ≤ 65536) (sym (length-map (take 65536 l) folder_of)) (take_few 65536 l)
+    subst (λ k. k ≤ 65536) (sym (length-map (take 65536 l) directory_of)) (take_few 65536 l)
 
 -- A search that is not cached.
 pub not_cached : (s : Search) (own : Bool) (st : State) → value_of st.vars s.name ≡ None → own ≡ false
-    → searched s (folders_of (value_or_empty st (codes "PATH"))) st ≡ program_test s own st
+    → searched s (directories_of (value_or_empty st (codes "PATH"))) st ≡ program_test s own st
 not_cached s own st none is = sym (ap (λ b. looked_up s b st) is) ∙ sym (ap (λ v. cached_search v s own st) none)
 
 pub looks_test : (variable program : List ℕ) (always own wanted : Bool) (st : State) → wanted ≡ (always || not own) → own ≡ has_value st variable → wanted ≡ true
@@ -69,11 +69,11 @@ few_ok (Ok f) n m le h = omega (arith, le, h)
 few_ok (Err e) n m le h = h
 
 -- A directory is tried, and the others are left.
-pub asked_in : (r : Result Flow AllocError) (s : Search) (folder : List ℕ) (rest left : List (List ℕ)) (st : State) → left ≡ folder ∷ rest
-    → IfOk r (λ f. (about : Scope) (now : State) → Leads f (λ next. then_run (searched s (folder ∷ rest) now) (next 0 about)) about now)
+pub asked_in : (r : Result Flow AllocError) (s : Search) (directory : List ℕ) (rest left : List (List ℕ)) (st : State) → left ≡ directory ∷ rest
+    → IfOk r (λ f. (about : Scope) (now : State) → Leads f (λ next. then_run (searched s (directory ∷ rest) now) (next 0 about)) about now)
     → IfOk r (λ f. (about : Scope) → Leads f (λ next. then_run (searched s left st) (next 0 about)) about st)
-asked_in (Ok f) s folder rest left st e h = λ about. led f about st _ _ (ap (λ l. searched s l st) (sym e)) (h about st)
-asked_in (Err x) s folder rest left st e h = h
+asked_in (Ok f) s directory rest left st e h = λ about. led f about st _ _ (ap (λ l. searched s l st) (sym e)) (h about st)
+asked_in (Err x) s directory rest left st e h = h
 
 -- What holds for every choice holds for this one.
 pub for_scope : (r : Result Flow AllocError) (run : Scope → (ℕ → Scope → State → Run) → Run) (about : Scope) (st : State) → IfOk r (λ f. (a : Scope) → Leads f (run a) a st) → IfOk r (λ f. Leads f (run about) about st)

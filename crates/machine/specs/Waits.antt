@@ -34,7 +34,7 @@ abbrev pub told : Wait → Bool → (Scope → State → Run) → Scope → Stat
 told wait.Nothing b next scope st = next scope st
 told wait.Answer b next scope st = next (answered b) st
 told wait.Link b next scope st = if b then child (run_of 0) st (λ passed. next (answered passed) st) else next (answered false) st
-told (wait.Folder search file left) b next scope st =
+told (wait.Directory search file left) b next scope st =
     then_run (if b then Ends Goes_on (settled_as search (Some (unwrap_or search.found file)) st) else searched search left st) (next scope)
 
 -- What follows the replies. (own)
@@ -46,4 +46,4 @@ abbrev pub waits_for : Wait → ℕ
 waits_for wait.Nothing = 0
 waits_for wait.Answer = 0
 waits_for wait.Link = 1
-waits_for (wait.Folder search file left) = length left
+waits_for (wait.Directory search file left) = length left

@@ -3,7 +3,7 @@
 ghost use Rattle.std.specs.Prelude.{◌≡◌, ◌≤◌, ◌+◌, ◌++◌, ◌∷◌, [], Some, IfOk, OnOk, IfSome, IfNone, if◌then◌else◌, length, option_map, codes, map, take};
 ghost use Rattle.conftest.specs.Probe.{path_of};
 ghost use Rattle.meaning.specs.State.{Ends, Goes_on, Scope, State, then_run};
-ghost use Rattle.meaning.specs.Search.{ends_empty, folder_of, folders_of, program_test, searched, settled_as, value_or_empty, without_last_empty};
+ghost use Rattle.meaning.specs.Search.{ends_empty, directory_of, directories_of, program_test, searched, settled_as, value_or_empty, without_last_empty};
 ghost use Rattle.machine.specs.Flows.{Heeds, Leads, asks_now, passed};
 ghost use Rattle.machine.specs.declared.flow.Flow.TheVariants.{Pass};
 
@@ -17,7 +17,7 @@ use std::marker::Model;
 use textcut::parts;
 
 /// The largest number of directories that a search tries (own).
-const MOST_FOLDERS: usize = 65_536;
+const MOST_DIRECTORIES: usize = 65_536;
 
 /// A search for a program, which sets a variable. Contracts see it as `meaning` defines it.
 #[derive(Drop)]
@@ -42,36 +42,36 @@ impl Model for Search {
 
 /// Directories, in the order in which they are tried.
 #[derive(Drop)]
-pub(crate) struct Folders {
+pub(crate) struct Directories {
     /// The directory that is tried first is last.
-    folders: Vec<Bytes>,
+    directories: Vec<Bytes>,
 }
 
-impl Model for Folders {
+impl Model for Directories {
     ghost use Rattle.std.specs.Prelude.{List, ℕ, reverse};
 
     ghost Value = { List (List ℕ) };
 
-    ghost view = { λ f. reverse f.folders.items };
+    ghost view = { λ f. reverse f.directories.items };
 }
 
-impl Folders {
+impl Directories {
     /// Takes the directory that is tried next.
     fn take_first(&mut self) -> Option<Bytes>
-        ensures some { IfSome result (λ folder. self.old ≡ folder ∷ self.new) }
+        ensures some { IfSome result (λ directory. self.old ≡ directory ∷ self.new) }
         ensures none { IfNone result (self.old ≡ []) }
     {
-        self.folders.pop()
+        self.directories.pop()
     }
 
     /// Returns the directories of a path.
-    fn of(alloc: Global, path: &[u8]) -> Result<Folders, AllocError>
-        ensures { IfOk result (λ f. f ≡ folders_of path.now) }
+    fn of(alloc: Global, path: &[u8]) -> Result<Directories, AllocError>
+        ensures { IfOk result (λ f. f ≡ directories_of path.now) }
     {
         let parts = parts(alloc, path, b':')?;
-        let mut folders = folders_in(alloc, within(without_last_empty(parts.as_slice())))?;
-        folders.reverse();
-        Ok(Folders { folders })
+        let mut directories = directories_in(alloc, within(without_last_empty(parts.as_slice())))?;
+        directories.reverse();
+        Ok(Directories { directories })
     }
 }
 
@@ -99,34 +99,34 @@ fn without_last_empty<'a, 'b>(parts: &'b [&'a [u8]]) -> &'b [&'a [u8]]
 fn within<'a, 'b>(parts: &'b [&'a [u8]]) -> &'b [&'a [u8]]
     ensures { result.now ≡ take 65536 parts.now }
 {
-    if parts.len() > MOST_FOLDERS {
-        return &parts[..MOST_FOLDERS];
+    if parts.len() > MOST_DIRECTORIES {
+        return &parts[..MOST_DIRECTORIES];
     }
     parts
 }
 
 /// Returns a directory as it is put before a name: with a slash at its end, and `./` if it is empty.
-fn folder_of(alloc: Global, part: &[u8]) -> Result<Bytes, AllocError>
-    ensures { IfOk result (λ f. f ≡ folder_of part.now) }
+fn directory_of(alloc: Global, part: &[u8]) -> Result<Bytes, AllocError>
+    ensures { IfOk result (λ f. f ≡ directory_of part.now) }
 {
     if part.is_empty() {
         return Bytes::from_slice(alloc, b"./");
     }
-    let mut folder = Vec::from_slice(alloc, part)?;
+    let mut directory = Vec::from_slice(alloc, part)?;
     if !part.ends_with(b"/") {
-        folder.push(b'/')?;
+        directory.push(b'/')?;
     }
-    Ok(Bytes::from_vec(folder))
+    Ok(Bytes::from_vec(directory))
 }
 
-fn folders_in(alloc: Global, parts: &[&[u8]]) -> Result<Vec<Bytes>, AllocError>
-    ensures { IfOk result (λ v. v.items ≡ map folder_of (map (λ part. part.now) parts.now)) }
+fn directories_in(alloc: Global, parts: &[&[u8]]) -> Result<Vec<Bytes>, AllocError>
+    ensures { IfOk result (λ v. v.items ≡ map directory_of (map (λ part. part.now) parts.now)) }
 {
-    let mut folders = Vec::new(alloc);
+    let mut directories = Vec::new(alloc);
     for part in parts {
-        folders.push(folder_of(alloc, part)?)?;
+        directories.push(directory_of(alloc, part)?)?;
     }
-    Ok(folders)
+    Ok(directories)
 }
 
 /// Ends a search with the value that its name gets, if there is one.
@@ -148,10 +148,10 @@ pub(crate) fn settle(
 }
 
 /// Returns a program's name within a directory.
-fn file_in(alloc: Global, folder: &Bytes, program: &Bytes) -> Result<Bytes, AllocError>
-    ensures { IfOk result (λ f. f ≡ folder.now ++ program.now) }
+fn file_in(alloc: Global, directory: &Bytes, program: &Bytes) -> Result<Bytes, AllocError>
+    ensures { IfOk result (λ f. f ≡ directory.now ++ program.now) }
 {
-    let mut file = Vec::from_slice(alloc, folder.as_slice())?;
+    let mut file = Vec::from_slice(alloc, directory.as_slice())?;
     file.extend_from_slice(program.as_slice())?;
     Ok(Bytes::from_vec(file))
 }
@@ -170,25 +170,25 @@ pub(crate) fn end_search(
 }
 
 /// Returns a program's name within a directory, and the job that looks for it there.
-fn try_in(alloc: Global, folder: &Bytes, program: &Bytes) -> Result<(Bytes, Job), AllocError>
-    ensures { IfOk result (λ r. (r.0 ≡ folder.now ++ program.now) × (r.1 ≡ path_of (folder.now ++ program.now))) }
+fn try_in(alloc: Global, directory: &Bytes, program: &Bytes) -> Result<(Bytes, Job), AllocError>
+    ensures { IfOk result (λ r. (r.0 ≡ directory.now ++ program.now) × (r.1 ≡ path_of (directory.now ++ program.now))) }
 {
-    let file = file_in(alloc, folder, program)?;
+    let file = file_in(alloc, directory, program)?;
     let job = path_job(alloc, file.as_slice())?;
     Ok((file, job))
 }
 
 /// Asks whether this directory has the program. `left` are the directories after it.
-fn ask_in(alloc: Global, folder: &Bytes, search: Search, left: Folders) -> Result<Flow, AllocError>
+fn ask_in(alloc: Global, directory: &Bytes, search: Search, left: Directories) -> Result<Flow, AllocError>
     ensures within { IfOk result (λ flow. passed flow ≤ 0) }
     ensures asks { IfOk result (λ flow. asks_now flow ≤ 1 + length left) }
     ensures heeds { IfOk result (λ flow. Heeds flow [] 0) }
-    ensures leads { IfOk result (λ flow. (about : Scope) (st : State) → Leads flow (λ next. then_run (searched search (folder.now ∷ left) st) (next 0 about)) about st) }
+    ensures leads { IfOk result (λ flow. (about : Scope) (st : State) → Leads flow (λ next. then_run (searched search (directory.now ∷ left) st) (next 0 about)) about st) }
 {
-    let (file, job) = try_in(alloc, folder, &search.program)?;
+    let (file, job) = try_in(alloc, directory, &search.program)?;
     Ok(Flow::Ask {
         job,
-        wait: Wait::Folder { search, file, left },
+        wait: Wait::Directory { search, file, left },
     })
 }
 
@@ -197,7 +197,7 @@ pub(crate) fn look_on(
     alloc: Global,
     store: &mut Store,
     search: Search,
-    mut left: Folders,
+    mut left: Directories,
 ) -> Result<Flow, AllocError>
     ensures within { IfOk result (λ flow. passed flow ≤ 0) }
     ensures asks { IfOk result (λ flow. asks_now flow ≤ length left) }
@@ -205,17 +205,17 @@ pub(crate) fn look_on(
     ensures leads { IfOk result (λ flow. (about : Scope) → Leads flow (λ next. then_run (searched search left store.old) (next 0 about)) about store.new) }
 {
     match left.take_first() {
-        Some(folder) => ask_in(alloc, &folder, search, left),
+        Some(directory) => ask_in(alloc, &directory, search, left),
         None => end_search(store, &search, search.otherwise.as_ref()),
     }
 }
 
 /// Returns the directories of PATH.
-fn path_folders(alloc: Global, store: &Store) -> Result<Folders, AllocError>
-    ensures { IfOk result (λ f. f ≡ folders_of (value_or_empty store.now (codes "PATH"))) }
+fn path_directories(alloc: Global, store: &Store) -> Result<Directories, AllocError>
+    ensures { IfOk result (λ f. f ≡ directories_of (value_or_empty store.now (codes "PATH"))) }
 {
     let path = store.value_or_empty(alloc, b"PATH")?;
-    Folders::of(alloc, path.as_slice())
+    Directories::of(alloc, path.as_slice())
 }
 
 /// Looks for the program in the directories of PATH.
@@ -223,10 +223,10 @@ fn search_path(alloc: Global, store: &mut Store, search: Search) -> Result<Flow,
     ensures within { IfOk result (λ flow. passed flow ≤ 0) }
     ensures asks { IfOk result (λ flow. asks_now flow ≤ 65536) }
     ensures heeds { IfOk result (λ flow. Heeds flow [] 0) }
-    ensures leads { IfOk result (λ flow. (about : Scope) → Leads flow (λ next. then_run (searched search (folders_of (value_or_empty store.old (codes "PATH"))) store.old) (next 0 about)) about store.new) }
+    ensures leads { IfOk result (λ flow. (about : Scope) → Leads flow (λ next. then_run (searched search (directories_of (value_or_empty store.old (codes "PATH"))) store.old) (next 0 about)) about store.new) }
 {
-    let folders = path_folders(alloc, store)?;
-    look_on(alloc, store, search, folders)
+    let directories = path_directories(alloc, store)?;
+    look_on(alloc, store, search, directories)
 }
 
 /// Ends a search with its variable's own value.
@@ -245,7 +245,7 @@ fn settle_known(
     search: &Search,
     own: bool,
 ) -> Result<bool, AllocError>
-    ensures { IfOk result (λ known. program_test search.now own store.old ≡ if known then Ends Goes_on store.new else searched search.now (folders_of (value_or_empty store.new (codes "PATH"))) store.new) }
+    ensures { IfOk result (λ known. program_test search.now own store.old ≡ if known then Ends Goes_on store.new else searched search.now (directories_of (value_or_empty store.new (codes "PATH"))) store.new) }
 {
     if store.copy_value(alloc, search.name.as_slice(), search.variable.as_slice())? {
         return Ok(true);

@@ -18,7 +18,7 @@ ghost use Rattle.machine.specs.declared.flow.Flow.TheVariants.{Complete, Pass};
 ghost use Rattle.machine.specs.Waits.{first_refused, given, refused_here, resumed, told, waits_for};
 
 use crate::flow::Flow;
-use crate::search::{Folders, Search, end_search, look_for, look_on};
+use crate::search::{Directories, Search, end_search, look_for, look_on};
 use crate::wait::Wait;
 use conftest::run_job;
 use crew::Reply;
@@ -493,7 +493,7 @@ fn tell_search(
     store: &mut Store,
     search: Search,
     file: Bytes,
-    left: Folders,
+    left: Directories,
     found: bool,
 ) -> Result<Flow, AllocError>
     ensures within { IfOk result (λ flow. passed flow ≤ 0) }
@@ -538,7 +538,7 @@ fn tell(
                 wait: Wait::Answer,
             })
         }
-        Wait::Folder { search, file, left } => {
+        Wait::Directory { search, file, left } => {
             // for the proof only: the flow has a name
             let flow = tell_search(alloc, store, search, file, left, succeeded)?;
             Ok(flow)

@@ -1,6 +1,6 @@
 //! What a machine waits for.
 
-use crate::search::{Folders, Search};
+use crate::search::{Directories, Search};
 use deftable::Bytes;
 
 /// What the reply to the job that is asked for decides.
@@ -13,9 +13,9 @@ pub(crate) enum Wait {
     /// Whether the program that is to be run was linked.
     Link,
     /// Whether a file is the program that is looked for. `left` are the remaining directories.
-    Folder {
+    Directory {
         search: Search,
         file: Bytes,
-        left: Folders,
+        left: Directories,
     },
 }

@@ -19,13 +19,13 @@ without_last_empty parts = if ends_empty parts then take (length parts - 1) part
 
 -- A directory as it is put before a name: an empty part is the current directory, and the text ends with a slash.
 -- (POSIX, "Environment Variables")
-abbrev pub folder_of : List ℕ → List ℕ
-folder_of [] = codes "./"
-folder_of (b ∷ bs) = if ends_with nat_eq (b ∷ bs) (codes "/") then b ∷ bs else (b ∷ bs) ++ codes "/"
+abbrev pub directory_of : List ℕ → List ℕ
+directory_of [] = codes "./"
+directory_of (b ∷ bs) = if ends_with nat_eq (b ∷ bs) (codes "/") then b ∷ bs else (b ∷ bs) ++ codes "/"
 
 -- The directories of a path: the parts between its colons, at most 65,536 (own). (POSIX, "Environment Variables")
-unfoldable pub folders_of : List ℕ → List (List ℕ)
-folders_of path = map folder_of (take 65536 (without_last_empty (parts 58 path)))
+unfoldable pub directories_of : List ℕ → List (List ℕ)
+directories_of path = map directory_of (take 65536 (without_last_empty (parts 58 path)))
 
 -- A search: the variable that it sets, its cached name, the program that is looked for, its value if the program is
 -- found (the program's full name, if no other is given) and if it isn't. (Autoconf's manual, "Generic Programs")
@@ -54,14 +54,14 @@ settled_as s (Some value) st = with_variable s.variable value (with_variable s.n
 -- Programs")
 abbrev pub searched : Search → List (List ℕ) → State → Run
 searched s [] st = Ends Goes_on (settled_as s s.otherwise st)
-searched s (folder ∷ folders) st =
-    child (path_of (folder ++ s.program)) st
-    (λ found. if found then Ends Goes_on (settled_as s (Some (unwrap_or s.found (folder ++ s.program))) st) else searched s folders st)
+searched s (directory ∷ directories) st =
+    child (path_of (directory ++ s.program)) st
+    (λ found. if found then Ends Goes_on (settled_as s (Some (unwrap_or s.found (directory ++ s.program))) st) else searched s directories st)
 
 -- If the name isn't set, the variable's own value counts, or the search begins. (Autoconf's manual, "Generic Programs")
 abbrev pub looked_up : Search → Bool → State → Run
 looked_up s true st = Ends Goes_on (settled_as s (Some (value_or_empty st s.variable)) st)
-looked_up s false st = searched s (folders_of (value_or_empty st (codes "PATH"))) st
+looked_up s false st = searched s (directories_of (value_or_empty st (codes "PATH"))) st
 
 -- A cached search: if the name is set, the variable gets its value, and no job is asked for; own says whether the
 -- variable's own value counts. (Autoconf's manual, "Caching Results")

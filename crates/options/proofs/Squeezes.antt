@@ -5,11 +5,11 @@ use Rattle.std.proofs.Math.ListN.{drop_of_length-le}
 use Rattle.textcut.specs.Cuts.{is_blank}
 use Rattle.options.specs.HelpText.{squeezed_byte, squeezed_after}
 
-pub squeezed_more : (total now next : List ℕ) (blank behind : Bool) (xs : List ℕ) (i d : ℕ) → i < length xs
-    → next ≡ now ++ squeezed_byte blank (get_or xs i d) → behind ≡ is_blank (get_or xs i d)
-    → now ++ squeezed_after blank (drop i xs) ≡ total → next ++ squeezed_after behind (drop (i + 1) xs) ≡ total
+pub squeezed_more : (total now next : List ℕ) (blank after : Bool) (xs : List ℕ) (i d : ℕ) → i < length xs
+    → next ≡ now ++ squeezed_byte blank (get_or xs i d) → after ≡ is_blank (get_or xs i d)
+    → now ++ squeezed_after blank (drop i xs) ≡ total → next ++ squeezed_after after (drop (i + 1) xs) ≡ total
 unfolding squeezed_after
-squeezed_more total now next blank behind xs i d lt one is h =
+squeezed_more total now next blank after xs i d lt one is h =
     let rest : List ℕ = squeezed_after (is_blank (get_or xs i d)) (drop (i + 1) xs) in
     ap (λ b. next ++ squeezed_after b (drop (i + 1) xs)) is
     ∙ ap (λ t. t ++ rest) one ∙ append_assoc now (squeezed_byte blank (get_or xs i d)) rest

@@ -19,7 +19,7 @@ use Rattle.commandline.specs.Srcdir.{srcdir_said, srcdir_from, srcdir_of}
 use Rattle.options.specs.Stepwise.{with_environment, with_default, vars_before, reader_before, with_value, with_switch, with_choice, with_said, with_argument, at_end, with_arguments, settings_with, settings_after, stepwise}
 use Rattle.options.specs.Unrecognized.{notes_of}
 use Rattle.commandline.specs.declared.argument.Target.{Target}
-use Rattle.commandline.specs.declared.argument.Target.TheVariants.{Folder, Srcdir, CacheFile}
+use Rattle.commandline.specs.declared.argument.Target.TheVariants.{InstallDirectory, Srcdir, CacheFile}
 use Rattle.commandline.specs.declared.argument.Switch.TheVariants.{ConfigCache, Quiet, NoCreate, Help, Version, Ignored}
 use Rattle.commandline.specs.declared.directory.Directory.{Directory}
 use Rattle.commandline.specs.declared.fault.OptionFault.{OptionFault}
@@ -41,7 +41,7 @@ after_all features packages [] r = r
 after_all features packages (setting ∷ more) r = after_all features packages more (after features packages setting r)
 
 value_after : (features packages : List (List ℕ)) (target : Target) (value : List ℕ) (r : Reader) → with_value target value r ≡ after features packages (valued target value) r
-value_after features packages (Folder directory) value r = refl
+value_after features packages (InstallDirectory directory) value r = refl
 value_after features packages Srcdir value r = refl
 value_after features packages CacheFile value r = refl
 
@@ -352,7 +352,7 @@ vars_are environment settings =
 
 said_source : (i : ℕ) (said : Said) (setting : Setting) (srcdir : List ℕ) → alone i said ≡ Ok setting → srcdir_said said srcdir ≡ last_of srcdir (sources_in setting)
 said_source i (Turns switch) setting srcdir e = ap (λ s. last_of srcdir (sources_in s)) (let same : Switched switch ≡ setting = cc in same)
-said_source i (Gives (Folder d) value) setting srcdir e = ap (λ s. last_of srcdir (sources_in s)) (let same : Variable (variable_of d) value ≡ setting = cc in same)
+said_source i (Gives (InstallDirectory d) value) setting srcdir e = ap (λ s. last_of srcdir (sources_in s)) (let same : Variable (variable_of d) value ≡ setting = cc in same)
 said_source i (Gives Srcdir value) setting srcdir e = ap (λ s. last_of srcdir (sources_in s)) (let same : Source value ≡ setting = cc in same)
 said_source i (Gives CacheFile value) setting srcdir e = ap (λ s. last_of srcdir (sources_in s)) (let same : Cache value ≡ setting = cc in same)
 said_source i (Awaits target) setting srcdir e = absurd (cc)
@@ -363,7 +363,7 @@ said_source i Misassigns setting srcdir e = absurd (cc)
 said_source i Nothing setting srcdir e = absurd (cc)
 
 value_source : (target : Target) (value srcdir : List ℕ) → srcdir_said (Gives target value) srcdir ≡ last_of srcdir (sources_in (valued target value))
-value_source (Folder d) value srcdir = refl
+value_source (InstallDirectory d) value srcdir = refl
 value_source Srcdir value srcdir = refl
 value_source CacheFile value srcdir = refl
 

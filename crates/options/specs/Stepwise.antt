@@ -14,7 +14,7 @@ use Rattle.deftable.specs.declared.note.Note.{Note}
 use Rattle.commandline.specs.declared.argument.Switch.{Switch}
 use Rattle.commandline.specs.declared.argument.Switch.TheVariants.{ConfigCache, Quiet, NoCreate, Help, Version, Ignored}
 use Rattle.commandline.specs.declared.argument.Target.{Target}
-use Rattle.commandline.specs.declared.argument.Target.TheVariants.{Folder, Srcdir, CacheFile}
+use Rattle.commandline.specs.declared.argument.Target.TheVariants.{InstallDirectory, Srcdir, CacheFile}
 use Rattle.commandline.specs.declared.directory.Directory.{Directory}
 use Rattle.commandline.specs.declared.fault.OptionFault.{OptionFault}
 use Rattle.commandline.specs.declared.fault.OptionFault.TheVariants.{Unknown, BadFeature, BadVariable, MissingValue}
@@ -53,7 +53,7 @@ reader_before environment = record {
 
 -- The reader after an option and its value; `srcdir_of` gives the directory of the source. (own)
 abbrev pub with_value : Target → List ℕ → Reader → Reader
-with_value (Folder directory) value r = record r { vars = with_entry r.vars (variable_of directory) value }
+with_value (InstallDirectory directory) value r = record r { vars = with_entry r.vars (variable_of directory) value }
 with_value Srcdir value r = r
 with_value CacheFile value r = record r { cache_name = cache_named value }
 

@@ -40,7 +40,7 @@ pub fn read_args(
     ensures error_complete { (f : faults.OptionFault) → IsOpeningFault (lists_of (script_of source.now)).features (lists_of (script_of source.now)).packages (lists_of (script_of source.now)).precious args.now env.now f
         → Gives (λ s. s) result (Err f) }
     ensures exact { Gives (λ s. s) result (opening (lists_of (script_of source.now)).features (lists_of (script_of source.now)).packages (lists_of (script_of source.now)).precious args.now env.now) }
-    ensures folder { IfOk result (λ s. s.srcdir ≡ srcdir_of args.now) }
+    ensures directory { IfOk result (λ s. s.srcdir ≡ srcdir_of args.now) }
 {
     read_args_of(
         alloc,

@@ -1,6 +1,6 @@
 //! The variables that a run begins with.
 
-ghost use Rattle.std.specs.Prelude.{◌≡◌, ℕ, List, [], ◌++◌, None, IfOk, OnOk, fold, unwrap_or, codes, option_map};
+ghost use Rattle.std.specs.Prelude.{◌≡◌, ℕ, List, [], ◌++◌, None, IfOk, OnOk, fold, codes, option_map};
 ghost use Rattle.deftable.specs.Table.{value_of};
 ghost use Rattle.commandline.specs.Directories.{directories as all_directories};
 ghost use Rattle.options.specs.Opening as words;
@@ -119,15 +119,6 @@ fn set_mark(value: Option<&Bytes>) -> &'static [u8]
     }
 }
 
-pub(crate) fn value_or_empty<'a>(vars: &'a Vars, name: &[u8]) -> &'a [u8]
-    ensures { result.now ≡ unwrap_or (value_of vars.now name.now) [] }
-{
-    match vars.get(name) {
-        Some(value) => value.as_slice(),
-        None => b"",
-    }
-}
-
 /// Sets the marks of a precious variable: whether it is set, and its value.
 #[tactic(auto, unfolding(crate::specs::Opening::with_marks))]
 fn mark(alloc: Global, vars: &mut Vars, name: &Bytes) -> Result<(), AllocError>
@@ -136,7 +127,7 @@ fn mark(alloc: Global, vars: &mut Vars, name: &Bytes) -> Result<(), AllocError>
     let set_name = mark_name(alloc, name.as_slice(), b"_set")?;
     let value_name = mark_name(alloc, name.as_slice(), b"_value")?;
     let set = set_mark(vars.get(name.as_slice()));
-    let value = Bytes::from_slice(alloc, value_or_empty(vars, name.as_slice()))?;
+    let value = Bytes::from_slice(alloc, vars.value_or_empty(name.as_slice()))?;
     vars.set(set_name.as_slice(), set)?;
     vars.set(value_name.as_slice(), value.as_slice())
 }

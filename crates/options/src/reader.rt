@@ -53,7 +53,7 @@ impl Reader {
         ensures { OnOk result (self.new ≡ words.with_value target value.now self.old) }
     {
         match target {
-            Target::Folder(directory) => self.vars.set(directory.variable(), value),
+            Target::InstallDirectory(directory) => self.vars.set(directory.variable(), value),
             Target::Srcdir => Ok(()),
             Target::CacheFile => {
                 self.cache_name = cache_named(alloc, value)?;

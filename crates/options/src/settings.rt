@@ -10,7 +10,7 @@ ghost use Rattle.commandline.specs.declared.fault.OptionFault as faults;
 ghost use Rattle.commandline.specs.declared.fault.OptionFault.TheVariants.{OutOfMemory};
 ghost use Rattle.options.specs.declared.settings.Settings as settings;
 
-use crate::opening::{finish_vars, reader_before, value_or_empty};
+use crate::opening::{finish_vars, reader_before};
 use crate::reader::Reader;
 use crate::unrecognized::notes_of;
 use commandline::fault::OptionFault;
@@ -73,7 +73,7 @@ fn finish(
     vars: &mut Vars,
 ) -> Result<Bytes, AllocError>
     ensures vars { OnOk result (vars.new ≡ finished precious.now vars.old) }
-    ensures folder { IfOk result (λ srcdir. srcdir ≡ srcdir_of args.now) }
+    ensures directory { IfOk result (λ srcdir. srcdir ≡ srcdir_of args.now) }
 {
     finish_vars(alloc, vars, precious.names())?;
     Bytes::from_slice(alloc, srcdir_of(args))
@@ -89,7 +89,7 @@ fn settings_with(
     notes: Notes,
 ) -> Result<Settings, AllocError>
     ensures exact { IfOk result (λ s. s ≡ words.settings_with precious.now args.now reader notes) }
-    ensures folder { IfOk result (λ s. s.srcdir ≡ srcdir_of args.now) }
+    ensures directory { IfOk result (λ s. s.srcdir ≡ srcdir_of args.now) }
 {
     let srcdir = finish(alloc, precious, args, &mut reader.vars)?;
     Ok(settings_of(reader, notes, srcdir))
@@ -99,7 +99,7 @@ fn settings_with(
 fn notes_after(alloc: Global, reader: &Reader) -> Result<Notes, OptionFault>
     ensures { Gives (λ notes. notes) result (notes_of (checking_in reader.now.vars) reader.now.unrecognized) }
 {
-    let checking = value_or_empty(&reader.vars, b"enable_option_checking");
+    let checking = reader.vars.value_or_empty(b"enable_option_checking");
     notes_of(alloc, checking, &reader.unrecognized)
 }
 
@@ -111,7 +111,7 @@ fn settings_after(
     reader: Reader,
 ) -> Result<Settings, OptionFault>
     ensures exact { Gives (λ s. s) result (words.settings_after precious.now args.now reader) }
-    ensures folder { IfOk result (λ s. s.srcdir ≡ srcdir_of args.now) }
+    ensures directory { IfOk result (λ s. s.srcdir ≡ srcdir_of args.now) }
 {
     let notes = notes_after(alloc, &reader)?;
     Ok(settings_with(alloc, precious, args, reader, notes)?)
@@ -128,7 +128,7 @@ fn read_stepwise(
     env: &[(Bytes, Bytes)],
 ) -> Result<Settings, OptionFault>
     ensures exact { Gives (λ s. s) result (words.stepwise features.now packages.now precious.now args.now env.now) }
-    ensures folder { IfOk result (λ s. s.srcdir ≡ srcdir_of args.now) }
+    ensures directory { IfOk result (λ s. s.srcdir ≡ srcdir_of args.now) }
 {
     let reader = reader_before(alloc, env)?;
     let reader = reader.read_all(alloc, features, packages, args)?;
@@ -163,7 +163,7 @@ pub fn read_args_of(
     ensures error_complete { (f : faults.OptionFault) → IsOpeningFault features.now packages.now precious.now args.now env.now f
         → Gives (λ s. s) result (Err f) }
     ensures exact { Gives (λ s. s) result (opening features.now packages.now precious.now args.now env.now) }
-    ensures folder { IfOk result (λ s. s.srcdir ≡ srcdir_of args.now) }
+    ensures directory { IfOk result (λ s. s.srcdir ≡ srcdir_of args.now) }
 {
     read_stepwise(alloc, features, packages, precious, args, env)
 }

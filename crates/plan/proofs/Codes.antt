@@ -9,10 +9,10 @@ use Rattle.syntax.specs.declared.tree.Stmt.TheVariants.{Plain, Choose'}
 use Rattle.syntax.specs.Script.{Script, Done, stmt_then, row_cases, script_of, cases_of}
 use Rattle.syntax.proofs.ScriptLemmas.{choice_is}
 use Rattle.plan.specs.Walk.{Instruction, Does, Looks, Begins}
-use Rattle.plan.specs.Code.{case_code, code_behind, code_of, code_of_cases, code_of_programs}
+use Rattle.plan.specs.Code.{case_code, code_after, code_of, code_of_cases, code_of_programs}
 
 code_more : (s : Stmt) (rest : Script) → code_of (stmt_then s rest) ≡ code_of (stmt_then s Done) ++ code_of rest
-code_more (Plain s) rest = ap (λ l. Does s ∷ (l ++ code_of rest)) (sym (append-nil (code_behind s)))
+code_more (Plain s) rest = ap (λ l. Does s ∷ (l ++ code_of rest)) (sym (append-nil (code_after s)))
 code_more (Choose' subject m cases) rest = ap (λ l. Begins subject ∷ (l ++ code_of rest)) (sym (append-nil (code_of_cases (row_cases cases))))
 
 -- One more statement at the front.
@@ -28,12 +28,12 @@ code_at old new base list i j s some within next at is h =
     ∙ ap (λ l. l ++ base) (sym (code_more s rest) ∙ ap (λ x. code_of (stmt_then x rest)) at ∙ ap (λ l. code_of (script_of l)) (sym (drop_more list j s lt)))
 
 -- One more case at the front.
-pub code_at_case : (old new base : List Instruction) (list : List case.Case) (i : ℕ) (d : case.Case) (behind : ℕ) → i < length list
-    → behind ≡ length (code_of_cases (cases_of (drop (i + 1) list)))
-    → new ≡ case_code (get_or list i d).when (code_of (script_of (get_or list i d).body.items)) behind ++ old
+pub code_at_case : (old new base : List Instruction) (list : List case.Case) (i : ℕ) (d : case.Case) (after : ℕ) → i < length list
+    → after ≡ length (code_of_cases (cases_of (drop (i + 1) list)))
+    → new ≡ case_code (get_or list i d).when (code_of (script_of (get_or list i d).body.items)) after ++ old
     → old ≡ code_of_cases (cases_of (drop (i + 1) list)) ++ base
     → new ≡ code_of_cases (cases_of (drop i list)) ++ base
-code_at_case old new base list i d behind lt far is h =
+code_at_case old new base list i d after lt far is h =
     let c = get_or list i d in
     let rest = code_of_cases (cases_of (drop (i + 1) list)) in
     let body = code_of (script_of c.body.items) in

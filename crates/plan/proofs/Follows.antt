@@ -20,7 +20,7 @@ use Rattle.meaning.specs.Meaning.{effect, looks, looks_all, given, asked, begun,
 use Rattle.meaning.specs.Asking.{success, only_reply, heard, child, compiled}
 use Rattle.meaning.specs.Tries.{first_probe, after_first, tried}
 use Rattle.plan.specs.Walk.{Instruction, Does, Looks, Defaults, Begins, Skips_unless, Skips, own_effect, walk, DoesWhat}
-use Rattle.plan.specs.Code.{case_code, code_behind, code_of, code_of_cases, code_of_programs}
+use Rattle.plan.specs.Code.{case_code, code_after, code_of, code_of_cases, code_of_programs}
 use Rattle.plan.specs.Inside.{StaysInside, asks_of, asks_after}
 
 -- What follows what follows.
@@ -121,16 +121,16 @@ programs_follow variable (p ∷ programs) always rest next h scope st =
     ∙ sym (then_then (looks variable p always st) (looks_all variable programs false) next)
 
 -- A statement with no steps after its own.
-ordinary : (s : plain.Plain) (rest : List Instruction) (next : State → Run) → own_effect s ≡ effect s → code_behind s ≡ [] → GoesOn rest next
-    → GoesOn (Does s ∷ (code_behind s ++ rest)) (λ st. then_run (effect s st) next)
+ordinary : (s : plain.Plain) (rest : List Instruction) (next : State → Run) → own_effect s ≡ effect s → code_after s ≡ [] → GoesOn rest next
+    → GoesOn (Does s ∷ (code_after s ++ rest)) (λ st. then_run (effect s st) next)
 ordinary s rest next own none h scope st =
-    ap (λ e. then_run (e st) (walk (code_behind s ++ rest) 0 scope)) own
+    ap (λ e. then_run (e st) (walk (code_after s ++ rest) 0 scope)) own
     ∙ ap (λ l. then_run (effect s st) (walk (l ++ rest) 0 scope)) none
     ∙ ap (then_run (effect s st)) (fun_ext (h scope))
 
 -- A statement.
 does_follow : (s : plain.Plain) (rest : List Instruction) (next : State → Run) → GoesOn rest next
-    → GoesOn (Does s ∷ (code_behind s ++ rest)) (λ st. then_run (effect s st) next)
+    → GoesOn (Does s ∷ (code_after s ++ rest)) (λ st. then_run (effect s st) next)
 unfolding effect
 does_follow (CheckProgs variable programs otherwise) rest next h scope st =
     ap (λ l. walk l 0 scope st) (append_assoc (code_of_programs variable programs true) (Defaults variable otherwise ∷ []) rest)
@@ -157,7 +157,7 @@ mutual
   pub follows : (script : Script) (rest : List Instruction) (next : State → Run) → GoesOn rest next → GoesOn (code_of script ++ rest) (λ st. then_run (meaning script st) next)
   follows Done rest next h scope st = h scope st
   follows (Then s script) rest next h scope st =
-      ap (λ l. walk (Does s ∷ l) 0 scope st) (append_assoc (code_behind s) (code_of script) rest)
+      ap (λ l. walk (Does s ∷ l) 0 scope st) (append_assoc (code_after s) (code_of script) rest)
       ∙ does_follow s (code_of script ++ rest) (λ now. then_run (meaning script now) next) (follows script rest next h) scope st
       ∙ sym (then_then (effect s st) (meaning script) next)
   follows (Choice subject cases script) rest next h scope st =
@@ -189,31 +189,31 @@ programs_inside : (variable : List ℕ) (programs : List (List ℕ)) (always : B
 programs_inside variable [] always rest h = h
 programs_inside variable (p ∷ programs) always rest h = (omega arith, programs_inside variable programs false rest h)
 
-behind_inside : (s : plain.Plain) (rest : List Instruction) → StaysInside rest → StaysInside (code_behind s ++ rest)
-behind_inside (CheckProgs variable programs otherwise) rest h =
+after_inside : (s : plain.Plain) (rest : List Instruction) → StaysInside rest → StaysInside (code_after s ++ rest)
+after_inside (CheckProgs variable programs otherwise) rest h =
     subst StaysInside (sym (append_assoc (code_of_programs variable programs true) (Defaults variable otherwise ∷ []) rest))
     (programs_inside variable programs true (Defaults variable otherwise ∷ rest) (omega arith, h))
-behind_inside (ProgCc programs) rest h = programs_inside (codes "CC") programs true rest h
-behind_inside (Init a b d e f) rest h = h
-behind_inside Accepted rest h = h
-behind_inside (ConfigFiles outputs) rest h = h
-behind_inside (Assign name value) rest h = h
-behind_inside (Subst name) rest h = h
-behind_inside (SubstValue name value) rest h = h
-behind_inside (Define name value) rest h = h
-behind_inside (DefineUnquoted name value) rest h = h
-behind_inside (Error message status) rest h = h
-behind_inside (ArgVar name help) rest h = h
-behind_inside (CheckProg variable program found otherwise) rest h = h
-behind_inside (PathProg variable program otherwise) rest h = h
-behind_inside Output rest h = h
+after_inside (ProgCc programs) rest h = programs_inside (codes "CC") programs true rest h
+after_inside (Init a b d e f) rest h = h
+after_inside Accepted rest h = h
+after_inside (ConfigFiles outputs) rest h = h
+after_inside (Assign name value) rest h = h
+after_inside (Subst name) rest h = h
+after_inside (SubstValue name value) rest h = h
+after_inside (Define name value) rest h = h
+after_inside (DefineUnquoted name value) rest h = h
+after_inside (Error message status) rest h = h
+after_inside (ArgVar name help) rest h = h
+after_inside (CheckProg variable program found otherwise) rest h = h
+after_inside (PathProg variable program otherwise) rest h = h
+after_inside Output rest h = h
 
 mutual
   -- The jumps of code stay inside, whatever follows it.
   code_inside : (script : Script) (rest : List Instruction) → StaysInside rest → StaysInside (code_of script ++ rest)
   code_inside Done rest h = h
   code_inside (Then s script) rest h =
-      (omega arith, subst StaysInside (sym (append_assoc (code_behind s) (code_of script) rest)) (behind_inside s (code_of script ++ rest) (code_inside script rest h)))
+      (omega arith, subst StaysInside (sym (append_assoc (code_after s) (code_of script) rest)) (after_inside s (code_of script ++ rest) (code_inside script rest h)))
   code_inside (Choice subject cases script) rest h =
       (omega arith, subst StaysInside (sym (append_assoc (code_of_cases cases) (code_of script) rest)) (cases_inside cases (code_of script ++ rest) (code_inside script rest h)))
 

@@ -12,7 +12,7 @@ use Rattle.syntax.specs.Script.{Script, Done, Then, Choice, Cases, No_case, Case
 use Rattle.syntax.proofs.ScriptLemmas.{choice_is}
 use Rattle.plan.specs.Walk.{Defaults, Skips}
 use Rattle.plan.specs.Weight.{entries_of, weight, weight_of_cases}
-use Rattle.plan.specs.Code.{case_code, code_behind, code_of, code_of_cases, code_of_programs}
+use Rattle.plan.specs.Code.{case_code, code_after, code_of, code_of_cases, code_of_programs}
 
 weight_more : (s : Stmt) (rest : Script) → weight (stmt_then s rest) ≡ weight (stmt_then s Done) + weight rest
 weight_more (stmt.Plain s) rest = omega arith
@@ -70,29 +70,29 @@ programs_bound : (variable : List ℕ) (programs : List (List ℕ)) (always : Bo
 programs_bound variable [] always = refl
 programs_bound variable (p ∷ programs) always = omega (arith, programs_bound variable programs false)
 
-behind_bound : (s : plain.Plain) → length (code_behind s) ≤ entries_of s + 1
-behind_bound (CheckProgs variable programs otherwise) =
+after_bound : (s : plain.Plain) → length (code_after s) ≤ entries_of s + 1
+after_bound (CheckProgs variable programs otherwise) =
     omega (arith, length-append (code_of_programs variable programs true) (Defaults variable otherwise ∷ []), programs_bound variable programs true)
-behind_bound (ProgCc programs) = omega (arith, programs_bound (codes "CC") programs true)
-behind_bound (Init a b d e f) = omega arith
-behind_bound Accepted = omega arith
-behind_bound (ConfigFiles outputs) = omega arith
-behind_bound (Assign name value) = omega arith
-behind_bound (Subst name) = omega arith
-behind_bound (SubstValue name value) = omega arith
-behind_bound (Define name value) = omega arith
-behind_bound (DefineUnquoted name value) = omega arith
-behind_bound (Error message status) = omega arith
-behind_bound (ArgVar name help) = omega arith
-behind_bound (CheckProg variable program found otherwise) = omega arith
-behind_bound (PathProg variable program otherwise) = omega arith
-behind_bound Output = omega arith
+after_bound (ProgCc programs) = omega (arith, programs_bound (codes "CC") programs true)
+after_bound (Init a b d e f) = omega arith
+after_bound Accepted = omega arith
+after_bound (ConfigFiles outputs) = omega arith
+after_bound (Assign name value) = omega arith
+after_bound (Subst name) = omega arith
+after_bound (SubstValue name value) = omega arith
+after_bound (Define name value) = omega arith
+after_bound (DefineUnquoted name value) = omega arith
+after_bound (Error message status) = omega arith
+after_bound (ArgVar name help) = omega arith
+after_bound (CheckProg variable program found otherwise) = omega arith
+after_bound (PathProg variable program otherwise) = omega arith
+after_bound Output = omega arith
 
 mutual
   -- Code has two steps at most for each unit of weight.
   pub code_bound : (script : Script) → length (code_of script) ≤ 2 * weight script
   code_bound Done = omega arith
-  code_bound (Then s rest) = omega (arith, behind_bound s, length-append (code_behind s) (code_of rest), code_bound rest)
+  code_bound (Then s rest) = omega (arith, after_bound s, length-append (code_after s) (code_of rest), code_bound rest)
   code_bound (Choice subject cases rest) =
       omega (arith, length-append (code_of_cases cases) (code_of rest), cases_bound cases, code_bound rest)
 

@@ -8,7 +8,7 @@ use Rattle.plan.specs.Walk.{Instruction, Does, Looks, Defaults, Begins, Skips_un
 
 -- A case: a jump past it, its statements, and a jump past the cases after it. (own)
 abbrev pub case_code : When → List Instruction → ℕ → List Instruction
-case_code when body behind = Skips_unless when (length body + 1) ∷ (body ++ (Skips behind ∷ []))
+case_code when body after = Skips_unless when (length body + 1) ∷ (body ++ (Skips after ∷ []))
 
 -- Programs, one after the other. (own)
 abbrev pub code_of_programs : List ℕ → List (List ℕ) → Bool → List Instruction
@@ -16,16 +16,16 @@ code_of_programs variable [] always = []
 code_of_programs variable (program ∷ more) always = Looks variable program always ∷ code_of_programs variable more false
 
 -- The steps that follow the own step of a statement. (own)
-abbrev pub code_behind : plain.Plain → List Instruction
-code_behind (CheckProgs variable programs otherwise) = code_of_programs variable programs true ++ Defaults variable otherwise ∷ []
-code_behind (ProgCc programs) = code_of_programs (codes "CC") programs true
-code_behind statement = []
+abbrev pub code_after : plain.Plain → List Instruction
+code_after (CheckProgs variable programs otherwise) = code_of_programs variable programs true ++ Defaults variable otherwise ∷ []
+code_after (ProgCc programs) = code_of_programs (codes "CC") programs true
+code_after statement = []
 
 abbrev mutual
   -- The steps of a list of statements. (own)
   pub code_of : Script → List Instruction
   code_of Done = []
-  code_of (Then s rest) = Does s ∷ (code_behind s ++ code_of rest)
+  code_of (Then s rest) = Does s ∷ (code_after s ++ code_of rest)
   code_of (Choice subject cases rest) = Begins subject ∷ (code_of_cases cases ++ code_of rest)
 
   -- The steps of the cases of a choice. (own)

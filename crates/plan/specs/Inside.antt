@@ -24,13 +24,13 @@ StaysInside [] = Unit {0}
 StaysInside (i ∷ rest) = (reach i ≤ length rest) × StaysInside rest
 
 -- How many directories a search may try. (own)
-abbrev pub most_folders : ℕ
-most_folders = 65536
+abbrev pub most_directories : ℕ
+most_directories = 65536
 
 -- How many jobs a statement may ask for in its own step. (own)
 abbrev pub asks_by : plain.Plain → ℕ
-asks_by (CheckProg variable program found otherwise) = most_folders
-asks_by (PathProg variable program otherwise) = most_folders
+asks_by (CheckProg variable program found otherwise) = most_directories
+asks_by (PathProg variable program otherwise) = most_directories
 asks_by statement = 0
 
 -- How many jobs a try may ask for. (own)
@@ -50,7 +50,7 @@ asks_about (Asked (Tries kind program)) = asks_to_try kind
 -- How many jobs a step may ask for. (own)
 abbrev pub asks_of : Instruction → ℕ
 asks_of (Does statement) = asks_by statement
-asks_of (Looks variable program always) = most_folders
+asks_of (Looks variable program always) = most_directories
 asks_of (Defaults variable value) = 0
 asks_of (Begins subject) = asks_about subject
 asks_of (Skips_unless when steps) = 0

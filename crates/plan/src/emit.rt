@@ -2,7 +2,7 @@
 
 ghost use Rattle.std.specs.Prelude.{◌≡◌, ◌++◌, IfOk, OnOk, true};
 ghost use Rattle.syntax.specs.Script.{Done, script_of, cases_of, stmt_then};
-ghost use Rattle.plan.specs.Code.{case_code, code_behind, code_of, code_of_cases, code_of_programs};
+ghost use Rattle.plan.specs.Code.{case_code, code_after, code_of, code_of_cases, code_of_programs};
 
 use crate::code::Code;
 use crate::step::Step;
@@ -29,8 +29,8 @@ fn emit_programs<'a>(
 }
 
 /// Puts the steps that follow the own step of a statement at the front.
-fn emit_behind<'a>(code: &mut Code<'a>, statement: &'a Plain) -> Result<(), AllocError>
-    ensures { OnOk result (code.new ≡ code_behind statement.now ++ code.old) }
+fn emit_after<'a>(code: &mut Code<'a>, statement: &'a Plain) -> Result<(), AllocError>
+    ensures { OnOk result (code.new ≡ code_after statement.now ++ code.old) }
 {
     match statement {
         Plain::CheckProgs {
@@ -66,7 +66,7 @@ fn emit_statement<'a>(code: &mut Code<'a>, statement: &'a Stmt) -> Result<(), Al
 {
     match statement {
         Stmt::Plain(plain) => {
-            emit_behind(code, plain)?;
+            emit_after(code, plain)?;
             code.put_statement(plain)?;
             Ok(())
         }
@@ -84,19 +84,19 @@ fn emit_cases<'a>(code: &mut Code<'a>, cases: &'a [Case]) -> Result<(), AllocErr
 {
     let end = code.len();
     for i in (0..cases.len()).rev() {
-        let behind = code.len() - end;
-        emit_case(code, &cases[i], behind)?;
+        let after = code.len() - end;
+        emit_case(code, &cases[i], after)?;
     }
     Ok(())
 }
 
-/// Puts the steps of a case at the front. `behind` is the number of steps of the cases after it.
+/// Puts the steps of a case at the front. `after` is the number of steps of the cases after it.
 #[cycle(emit)]
-fn emit_case<'a>(code: &mut Code<'a>, case: &'a Case, behind: usize) -> Result<(), AllocError>
-    ensures { OnOk result (code.new ≡ case_code case.now.when (code_of (script_of case.now.body.items)) behind ++ code.old) }
+fn emit_case<'a>(code: &mut Code<'a>, case: &'a Case, after: usize) -> Result<(), AllocError>
+    ensures { OnOk result (code.new ≡ case_code case.now.when (code_of (script_of case.now.body.items)) after ++ code.old) }
 {
     let end = code.len();
-    code.put(Step::Skip { steps: behind })?;
+    code.put(Step::Skip { steps: after })?;
     emit(code, case.body.as_slice())?;
     let steps = code.len() - end;
     code.put(Step::SkipUnless {

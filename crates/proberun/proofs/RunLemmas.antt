@@ -201,12 +201,12 @@ answered_both (x ∷ xs) ys a b =
     answered_here (success x) (first_refused xs) (first_refused (xs ++ ys)) a
     ∙ ap (option_map suc) (answered_both xs ys (answered_rest (success x) (first_refused xs) a) b)
 
-pub refused_behind : (xs ys : List Reply) (k : ℕ) → first_refused xs ≡ None → first_refused ys ≡ Some k → first_refused (xs ++ ys) ≡ Some (length xs + k)
-refused_behind [] ys k a b = let z : k ≡ 0 + k = omega arith in b ∙ ap Some z
-refused_behind (x ∷ xs) ys k a b =
+pub refused_after : (xs ys : List Reply) (k : ℕ) → first_refused xs ≡ None → first_refused ys ≡ Some k → first_refused (xs ++ ys) ≡ Some (length xs + k)
+refused_after [] ys k a b = let z : k ≡ 0 + k = omega arith in b ∙ ap Some z
+refused_after (x ∷ xs) ys k a b =
     let n : suc (length xs + k) ≡ length (x ∷ xs) + k = omega arith in
     answered_here (success x) (first_refused xs) (first_refused (xs ++ ys)) a
-    ∙ ap (option_map suc) (refused_behind xs ys k (answered_rest (success x) (first_refused xs) a) b)
+    ∙ ap (option_map suc) (refused_after xs ys k (answered_rest (success x) (first_refused xs) a) b)
     ∙ ap Some n
 
 -- Nothing has happened yet.

@@ -21,7 +21,7 @@ use Rattle.machine.specs.Standing.{Standing, run_in, run_at, left_in, run_left, 
 use Rattle.proberun.specs.Serving.{Served, failed_count}
 use Rattle.proberun.specs.Ran.{Ran, outcome_from}
 use Rattle.proberun.specs.Progress.{Progress, Heeded, Moving, Leaves}
-use Rattle.proberun.proofs.RunLemmas.{progress_begins, progress_same, progress_heard, progress_group, length-replies, answered_both, refused_behind, no_failures}
+use Rattle.proberun.proofs.RunLemmas.{progress_begins, progress_same, progress_heard, progress_group, length-replies, answered_both, refused_after, no_failures}
 
 -- A machine that is ready for its next turn.
 pub record Ready (w : ℕ) (plan : List Instruction) (run : Run) (before now : Account) (m : Standing) (left : ℕ) : Type 0 where
@@ -145,7 +145,7 @@ place_by (turn.Stopped status) m all h moving r = ap first_refused h.whole ∙ a
 place_by (turn.Cut number) m all h moving r =
     let at = cuts_at m.phase number m moving r in
     let n : length h.earlier + at.0 ≡ number = omega (arith, h.count, at.2) in
-    ap first_refused h.whole ∙ refused_behind h.earlier (given m.replies) at.0 h.answered at.1 ∙ ap Some n
+    ap first_refused h.whole ∙ refused_after h.earlier (given m.replies) at.0 h.answered at.1 ∙ ap Some n
 
 abbrev state_in : RunEnd → State
 state_in end = record { vars = end.vars; defs = end.defs }

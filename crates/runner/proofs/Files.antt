@@ -40,13 +40,13 @@ differs template file e is = by (bytes_eq file.template template) e ((bytes_eq-D
     by true e f = cc
     by false e f = cc
 
-behind : (template : List ℕ) (file : Output) (files : List Output) (other : Output) → HasOther template files other → file.template ≡ template → HasOther template (file ∷ files) other
-behind template file files other h same = record { present = file ∷ h.present; more = h.more; files_are = ap (λ l. file ∷ l) h.files_are; are_there = All-cons (λ f. f.template ≡ template) file h.present same h.are_there; other_template = h.other_template }
+after : (template : List ℕ) (file : Output) (files : List Output) (other : Output) → HasOther template files other → file.template ≡ template → HasOther template (file ∷ files) other
+after template file files other h same = record { present = file ∷ h.present; more = h.more; files_are = ap (λ l. file ∷ l) h.files_are; are_there = All-cons (λ f. f.template ≡ template) file h.present same h.are_there; other_template = h.other_template }
 
 other_cases : (template : List ℕ) (file : Output) (files : List Output) (other : Output) (b : Bool) → is_other template file ≡ b → cond b (Some file) (find (is_other template) files) ≡ Some other
     → (find (is_other template) files ≡ Some other → HasOther template files other) → HasOther template (file ∷ files) other
 other_cases template file files other true is e rec = subst (HasOther template (file ∷ files)) (some_is file other e) (record { present = []; more = files; files_are = refl; are_there = none_all template; other_template = differs template file is })
-other_cases template file files other false is e rec = behind template file files other (rec e) (is_same template file is)
+other_cases template file files other false is e rec = after template file files other (rec e) (is_same template file is)
 
 pub other_found : (template : List ℕ) (files : List Output) (other : Output) → find (is_other template) files ≡ Some other → HasOther template files other
 other_found template [] other e = absurd cc

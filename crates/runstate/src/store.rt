@@ -81,10 +81,7 @@ impl Store {
     pub fn value_or_empty(&self, alloc: Global, name: &[u8]) -> Result<Bytes, AllocError>
         ensures { IfOk result (λ v. v ≡ value_or_empty self.now name.now) }
     {
-        match self.vars.get(name) {
-            Some(value) => value.copy(alloc),
-            None => Ok(Bytes::new(alloc)),
-        }
+        Bytes::from_slice(alloc, self.vars.value_or_empty(name))
     }
 
     /// Sets a variable to the value of another, if that is set. Returns whether it is.
@@ -112,10 +109,7 @@ impl Store {
     pub fn has_full_name(&self, name: &[u8]) -> bool
         ensures { result ≡ is_full_name (value_or_empty self.now name.now) }
     {
-        match self.vars.get(name) {
-            Some(value) => is_full_name(value.as_slice()),
-            None => false,
-        }
+        is_full_name(self.vars.value_or_empty(name))
     }
 
     /// Returns the text of a program that is tried.

@@ -16,17 +16,17 @@ module _ (before : Option (Joined × Joint)) (words : List (List Part)) (at : �
   unfolding joining
   on_word w pushed e p = rw p (sym (ap (λ (x : Token). joining before words at (x ∷ rest)) e) ∙ sym (ap (joining before words at) is) ∙ so_far)
 
-  pub on_join_failed : (joint : Joint) (behind : ℕ) (f : ShellFault) → t ≡ Join joint behind → ended before words at ≡ Err f → total ≡ Err f
+  pub on_join_failed : (joint : Joint) (after : ℕ) (f : ShellFault) → t ≡ Join joint after → ended before words at ≡ Err f → total ≡ Err f
   unfolding joining
-  on_join_failed joint behind f e failed = sym so_far ∙ ap (joining before words at) is ∙ ap (λ (x : Token). joining before words at (x ∷ rest)) e ∙ rw failed refl
+  on_join_failed joint after f e failed = sym so_far ∙ ap (joining before words at) is ∙ ap (λ (x : Token). joining before words at (x ∷ rest)) e ∙ rw failed refl
 
-  pub on_join : (joint : Joint) (behind : ℕ) (test : Joined) (none : List (List Part)) → t ≡ Join joint behind → ended before words at ≡ Ok test → none ≡ [] → joining (Some (test, joint)) none behind rest ≡ total
+  pub on_join : (joint : Joint) (after : ℕ) (test : Joined) (none : List (List Part)) → t ≡ Join joint after → ended before words at ≡ Ok test → none ≡ [] → joining (Some (test, joint)) none after rest ≡ total
   unfolding joining
-  on_join joint behind test none e found empty = rw empty (sym (ap (joining before words at) is ∙ ap (λ (x : Token). joining before words at (x ∷ rest)) e ∙ rw found refl) ∙ so_far)
+  on_join joint after test none e found empty = rw empty (sym (ap (joining before words at) is ∙ ap (λ (x : Token). joining before words at (x ∷ rest)) e ∙ rw found refl) ∙ so_far)
 
-  pub on_bar : (behind : ℕ) → t ≡ Bar behind → total ≡ Err (BadTest at)
+  pub on_bar : (after : ℕ) → t ≡ Bar after → total ≡ Err (BadTest at)
   unfolding joining
-  on_bar behind e = sym so_far ∙ ap (joining before words at) is ∙ ap (λ (x : Token). joining before words at (x ∷ rest)) e
+  on_bar after e = sym so_far ∙ ap (joining before words at) is ∙ ap (λ (x : Token). joining before words at (x ∷ rest)) e
 
   pub on_newline : t ≡ Newline → words ≡ [] → joining before words at rest ≡ total
   unfolding joining

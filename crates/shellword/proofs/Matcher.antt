@@ -238,7 +238,7 @@ IsStar pieces piece at (Some star) = (star.1 ≤ at) × (star.0 ≤ piece) × (a
 pub record State (pieces : List Piece) (text : List ℕ) (piece at : ℕ) (star : Option (ℕ × ℕ)) : Type 0 where
   pub in_pieces : piece ≤ length pieces
   pub in_text : at ≤ length text
-  pub behind : IsStar pieces piece at star
+  pub after : IsStar pieces piece at star
   pub goes_on : (matching (drop piece pieces) (drop at text) || retry pieces text star) ≡ matching pieces text
 
 or_false_right : (p : Bool) → (p || false) ≡ p
@@ -246,7 +246,7 @@ or_false_right true = refl
 or_false_right false = refl
 
 pub begun : (pieces : List Piece) (text : List ℕ) → State pieces text 0 0 None
-begun pieces text = record { in_pieces = omega arith; in_text = omega arith; behind = tt; goes_on = or_false_right (matching pieces text) }
+begun pieces text = record { in_pieces = omega arith; in_text = omega arith; after = tt; goes_on = or_false_right (matching pieces text) }
 
 or_true : (p q : Bool) → p ≡ true → (p || q) ≡ true
 or_true true q h = refl
@@ -275,8 +275,8 @@ module _ (pieces : List Piece) (text : List ℕ) (piece at : ℕ) where
       record {
         in_pieces = omega (arith, d.0);
         in_text = s.in_text;
-        behind = (omega arith, omega arith, refl, no_piece pieces (piece + 1));
-        goes_on = sym now ∙ sym (or_absorbs (matching (drop piece pieces) (drop at text)) (retry pieces text star) (earlier star s.behind here)) ∙ s.goes_on;
+        after = (omega arith, omega arith, refl, no_piece pieces (piece + 1));
+        goes_on = sym now ∙ sym (or_absorbs (matching (drop piece pieces) (drop at text)) (retry pieces text star) (earlier star s.after here)) ∙ s.goes_on;
       } where
         earlier : (star : Option (ℕ × ℕ)) → IsStar pieces piece at star → drop piece pieces ≡ AnyBytes ∷ drop (piece + 1) pieces → retry pieces text star ≡ true → matching (drop piece pieces) (drop at text) ≡ true
         earlier None b here h = absurd cc
@@ -297,7 +297,7 @@ module _ (pieces : List Piece) (text : List ℕ) (piece at : ℕ) where
       record {
         in_pieces = omega (arith, d.0);
         in_text = omega (arith, f.0);
-        behind = later star s.behind t.piece here t.plain;
+        after = later star s.after t.piece here t.plain;
         goes_on = ap (λ (p : Bool). p || retry pieces text star) (sym now) ∙ s.goes_on;
       } where
         later : (star : Option (ℕ × ℕ)) → IsStar pieces piece at star → (x : Piece) → drop piece pieces ≡ x ∷ drop (piece + 1) pieces → is_plain x ≡ true → IsStar pieces (piece + 1) (at + 1) star
@@ -317,9 +317,9 @@ module _ (pieces : List Piece) (text : List ℕ) (piece at : ℕ) where
   back first start s e lt =
       let now : retry pieces text (Some (first, start)) ≡ some_rest (matching (drop first pieces)) (drop (start + 1) text) = rw (lt-ltb start (length text) lt) refl in
       record {
-        in_pieces = omega (arith, s.in_pieces, s.behind.1);
+        in_pieces = omega (arith, s.in_pieces, s.after.1);
         in_text = omega (arith, lt);
-        behind = (omega arith, omega arith, omega arith, no_piece pieces first);
+        after = (omega arith, omega arith, omega arith, no_piece pieces first);
         goes_on = sym (some_rest_at (matching (drop first pieces)) text (start + 1) (omega (arith, lt))) ∙ sym now ∙ at_stuck (Some (first, start)) s e;
       }
 
@@ -340,7 +340,7 @@ abbrev pub work : List Piece → List ℕ → ℕ → Option (ℕ × ℕ) → �
 work pieces text piece star = (length pieces + 1) * turns (length text) star + (length pieces - piece)
 
 pub less_star : (pieces : List Piece) (text : List ℕ) (piece at : ℕ) (star : Option (ℕ × ℕ)) → State pieces text piece at star → piece < length pieces → work pieces text (piece + 1) (Some (piece + 1, at)) < work pieces text piece star
-less_star pieces text piece at star s lt = omega (arith, mul-le-mul_left (length pieces + 1) (fewer star s.behind)) where
+less_star pieces text piece at star s lt = omega (arith, mul-le-mul_left (length pieces + 1) (fewer star s.after)) where
   fewer : (star : Option (ℕ × ℕ)) → IsStar pieces piece at star → length text - at ≤ turns (length text) star
   fewer None b = omega arith
   fewer (Some star) b = omega (arith, b.0)

@@ -8,7 +8,7 @@ use Rattle.shellword.specs.declared.pattern.Piece.{Piece}
 use Rattle.shellword.specs.declared.token.Token.{Token}
 use Rattle.shellword.specs.declared.token.Token.TheVariants.{Word, Join, Bar, Newline}
 use Rattle.shellword.specs.Scan.{◌>>=◌}
-use Rattle.shellword.specs.Listing.{pieces_or, word_in, behind_bar, alternatives}
+use Rattle.shellword.specs.Listing.{pieces_or, word_in, after_bar, alternatives}
 use Rattle.shellword.specs.Pieces.{piece_of, with_piece, pieces_of}
 
 -- ---- pieces
@@ -56,49 +56,49 @@ with_patterns-push front p (Err f) = refl
 no_word : (at : ℕ) (t : Token) (rest : List Token) → word_in t ≡ None → alternatives at (t ∷ rest) ≡ Err (BadPattern at)
 unfolding alternatives
 no_word at (Word parts) rest h = absurd cc
-no_word at (Join joint behind) rest h = refl
-no_word at (Bar behind) rest h = refl
+no_word at (Join joint after) rest h = refl
+no_word at (Bar after) rest h = refl
 no_word at Newline rest h = refl
 
 word_failed : (at : ℕ) (t : Token) (rest : List Token) (parts : List Part) (f : ShellFault) → word_in t ≡ Some parts → pieces_or at (pieces_of parts) ≡ Err f → alternatives at (t ∷ rest) ≡ Err f
 unfolding alternatives
 word_failed at (Word ps) [] parts f h e = let p : ps ≡ parts = cc in rw (p, e) refl
 word_failed at (Word ps) (Word q ∷ rest) parts f h e = let p : ps ≡ parts = cc in rw (p, e) refl
-word_failed at (Word ps) (Join joint behind ∷ rest) parts f h e = let p : ps ≡ parts = cc in rw (p, e) refl
-word_failed at (Word ps) (Bar behind ∷ rest) parts f h e = let p : ps ≡ parts = cc in rw (p, e) refl
+word_failed at (Word ps) (Join joint after ∷ rest) parts f h e = let p : ps ≡ parts = cc in rw (p, e) refl
+word_failed at (Word ps) (Bar after ∷ rest) parts f h e = let p : ps ≡ parts = cc in rw (p, e) refl
 word_failed at (Word ps) (Newline ∷ rest) parts f h e = let p : ps ≡ parts = cc in rw (p, e) refl
-word_failed at (Join joint behind) rest parts f h e = absurd cc
-word_failed at (Bar behind) rest parts f h e = absurd cc
+word_failed at (Join joint after) rest parts f h e = absurd cc
+word_failed at (Bar after) rest parts f h e = absurd cc
 word_failed at Newline rest parts f h e = absurd cc
 
 last_word : (at : ℕ) (t : Token) (parts : List Part) (pieces : List Piece) → word_in t ≡ Some parts → pieces_or at (pieces_of parts) ≡ Ok pieces → alternatives at (t ∷ []) ≡ Ok (pieces ∷ [])
 unfolding alternatives
 last_word at (Word ps) parts pieces h e = let p : ps ≡ parts = cc in rw (p, e) refl
-last_word at (Join joint behind) parts pieces h e = absurd cc
-last_word at (Bar behind) parts pieces h e = absurd cc
+last_word at (Join joint after) parts pieces h e = absurd cc
+last_word at (Bar after) parts pieces h e = absurd cc
 last_word at Newline parts pieces h e = absurd cc
 
-no_bar : (at : ℕ) (t u : Token) (rest : List Token) (parts : List Part) (pieces : List Piece) → word_in t ≡ Some parts → pieces_or at (pieces_of parts) ≡ Ok pieces → behind_bar u ≡ None
+no_bar : (at : ℕ) (t u : Token) (rest : List Token) (parts : List Part) (pieces : List Piece) → word_in t ≡ Some parts → pieces_or at (pieces_of parts) ≡ Ok pieces → after_bar u ≡ None
     → alternatives at (t ∷ u ∷ rest) ≡ Err (BadPattern at)
 unfolding alternatives
 no_bar at (Word ps) (Word q) rest parts pieces h e k = let p : ps ≡ parts = cc in rw (p, e) refl
-no_bar at (Word ps) (Join joint behind) rest parts pieces h e k = let p : ps ≡ parts = cc in rw (p, e) refl
-no_bar at (Word ps) (Bar behind) rest parts pieces h e k = absurd cc
+no_bar at (Word ps) (Join joint after) rest parts pieces h e k = let p : ps ≡ parts = cc in rw (p, e) refl
+no_bar at (Word ps) (Bar after) rest parts pieces h e k = absurd cc
 no_bar at (Word ps) Newline rest parts pieces h e k = let p : ps ≡ parts = cc in rw (p, e) refl
-no_bar at (Join joint behind) u rest parts pieces h e k = absurd cc
-no_bar at (Bar behind) u rest parts pieces h e k = absurd cc
+no_bar at (Join joint after) u rest parts pieces h e k = absurd cc
+no_bar at (Bar after) u rest parts pieces h e k = absurd cc
 no_bar at Newline u rest parts pieces h e k = absurd cc
 
-past_bar : (at : ℕ) (t u : Token) (rest : List Token) (parts : List Part) (pieces : List Piece) (behind : ℕ) → word_in t ≡ Some parts → pieces_or at (pieces_of parts) ≡ Ok pieces → behind_bar u ≡ Some behind
-    → alternatives at (t ∷ u ∷ rest) ≡ (alternatives behind rest >>= λ more. Ok (pieces ∷ more))
+past_bar : (at : ℕ) (t u : Token) (rest : List Token) (parts : List Part) (pieces : List Piece) (after : ℕ) → word_in t ≡ Some parts → pieces_or at (pieces_of parts) ≡ Ok pieces → after_bar u ≡ Some after
+    → alternatives at (t ∷ u ∷ rest) ≡ (alternatives after rest >>= λ more. Ok (pieces ∷ more))
 unfolding alternatives
-past_bar at (Word ps) (Word q) rest parts pieces behind h e k = absurd cc
-past_bar at (Word ps) (Join joint b) rest parts pieces behind h e k = absurd cc
-past_bar at (Word ps) (Bar b) rest parts pieces behind h e k = let p : ps ≡ parts = cc in let q : b ≡ behind = cc in rw (p, q, e) refl
-past_bar at (Word ps) Newline rest parts pieces behind h e k = absurd cc
-past_bar at (Join joint b) u rest parts pieces behind h e k = absurd cc
-past_bar at (Bar b) u rest parts pieces behind h e k = absurd cc
-past_bar at Newline u rest parts pieces behind h e k = absurd cc
+past_bar at (Word ps) (Word q) rest parts pieces after h e k = absurd cc
+past_bar at (Word ps) (Join joint b) rest parts pieces after h e k = absurd cc
+past_bar at (Word ps) (Bar b) rest parts pieces after h e k = let p : ps ≡ parts = cc in let q : b ≡ after = cc in rw (p, q, e) refl
+past_bar at (Word ps) Newline rest parts pieces after h e k = absurd cc
+past_bar at (Join joint b) u rest parts pieces after h e k = absurd cc
+past_bar at (Bar b) u rest parts pieces after h e k = absurd cc
+past_bar at Newline u rest parts pieces after h e k = absurd cc
 
 no_token : (at : ℕ) → alternatives at [] ≡ Err (BadPattern at)
 unfolding alternatives
@@ -124,9 +124,9 @@ module _ (front : List (List Piece)) (at : ℕ) (tokens : List Token) (total : R
         on_last pushed p none = sym (so (t ∷ []) (is ∙ ap (λ (ts : List Token). t ∷ ts) none)) ∙ ap (with_patterns front) (last_word at t parts pieces h e) ∙ ap (λ (x : List (List Piece)). Ok x) (sym p)
 
         module _ (u : Token) (more : List Token) (then : rest ≡ u ∷ more) where
-          pub on_no_bar : behind_bar u ≡ None → total ≡ Err (BadPattern at)
+          pub on_no_bar : after_bar u ≡ None → total ≡ Err (BadPattern at)
           on_no_bar k = sym (so (t ∷ u ∷ more) (is ∙ ap (λ (ts : List Token). t ∷ ts) then)) ∙ ap (with_patterns front) (no_bar at t u more parts pieces h e k)
 
-          pub on_bar : (behind : ℕ) (pushed : List (List Piece)) → pushed ≡ front ++ pieces ∷ [] → behind_bar u ≡ Some behind → with_patterns pushed (alternatives behind more) ≡ total
-          on_bar behind pushed p k =
-              rw p (with_patterns-push front pieces (alternatives behind more) ∙ sym (ap (with_patterns front) (past_bar at t u more parts pieces behind h e k)) ∙ so (t ∷ u ∷ more) (is ∙ ap (λ (ts : List Token). t ∷ ts) then))
+          pub on_bar : (after : ℕ) (pushed : List (List Piece)) → pushed ≡ front ++ pieces ∷ [] → after_bar u ≡ Some after → with_patterns pushed (alternatives after more) ≡ total
+          on_bar after pushed p k =
+              rw p (with_patterns-push front pieces (alternatives after more) ∙ sym (ap (with_patterns front) (past_bar at t u more parts pieces after h e k)) ∙ so (t ∷ u ∷ more) (is ∙ ap (λ (ts : List Token). t ∷ ts) then))

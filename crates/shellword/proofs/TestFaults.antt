@@ -27,8 +27,8 @@ use Rattle.shellword.proofs.TokenReading.{tokens-read, cut-read, token-len}
 abbrev pub Within : ℕ → List Token → Type 0
 Within n [] = Unit {0}
 Within n (Word w ∷ ts) = Within n ts
-Within n (Join joint behind ∷ ts) = (behind ≤ n) × Within n ts
-Within n (Bar behind ∷ ts) = (behind ≤ n) × Within n ts
+Within n (Join joint after ∷ ts) = (after ≤ n) × Within n ts
+Within n (Bar after ∷ ts) = (after ≤ n) × Within n ts
 Within n (Newline ∷ ts) = Within n ts
 
 token-within : {bars : Bool} {at : ℕ} {text : List ℕ} {t : Token} {k : ℕ} → IsToken bars at text t k → (n : ℕ) (ts : List Token) → at + length text ≤ n → Within n ts → Within n (t ∷ ts)
@@ -79,12 +79,12 @@ joining-fault : (ts : List Token) (before : Option (Joined × Joint)) (words : L
 unfolding joining
 joining-fault [] before words at n f h w e = ended-fault before words at n f h e
 joining-fault (Word x ∷ ts) before words at n f h w e = joining-fault ts before (words ++ x ∷ []) at n f h w e
-joining-fault (Join joint behind ∷ ts) before words at n f h w e =
-    elim (bind_err (ended before words at) (λ test. joining (Some (test, joint)) [] behind ts) f e) [
+joining-fault (Join joint after ∷ ts) before words at n f h w e =
+    elim (bind_err (ended before words at) (λ test. joining (Some (test, joint)) [] after ts) f e) [
       | inl x ↦ ended-fault before words at n f h x
-      | inr x ↦ joining-fault ts (Some (x.0, joint)) [] behind n f w.0 w.1 x.2
+      | inr x ↦ joining-fault ts (Some (x.0, joint)) [] after n f w.0 w.1 x.2
     ]
-joining-fault (Bar behind ∷ ts) before words at n f h w e = (at, sym (fault_is {A = Joined} _ _ e), h)
+joining-fault (Bar after ∷ ts) before words at n f h w e = (at, sym (fault_is {A = Joined} _ _ e), h)
 joining-fault (Newline ∷ ts) before [] at n f h w e = joining-fault ts before [] at n f h w e
 joining-fault (Newline ∷ ts) before (x ∷ ws) at n f h w e =
     elim (chosen (list_all is_newline ts) _ _ _ e) [

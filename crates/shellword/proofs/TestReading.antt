@@ -36,7 +36,7 @@ element-words (next_line {tokens} {e} h) = let w = element-words h in (w.0, w.1,
 element-words (command {e} words is) = (words, is, λ before at rest. words_join before [] words at rest)
 
 -- the state of the reader after the tokens of a test
-pub record Behind (tokens : List Token) (test : Joined) : Type 0 where
+pub record After (tokens : List Token) (test : Joined) : Type 0 where
   pub before : Option (Joined × Joint)
   pub words : List (List Part)
   pub at : ℕ
@@ -48,22 +48,22 @@ some_words : (words : List (List Part)) (e : Element) → element_of words ≡ S
 some_words [] e h = let c : None ≡ Some e = sym no_words ∙ h in absurd cc
 some_words (w ∷ ws) e h = omega arith
 
-joined_behind : (left right : List Token) (test : Joined) (joint : Joint) (behind : ℕ) (e : Element) → Behind left test → Words right e → Behind (left ++ Join joint behind ∷ right) (joined test joint e)
+joined_after : (left right : List Token) (test : Joined) (joint : Joint) (after : ℕ) (e : Element) → After left test → Words right e → After (left ++ Join joint after ∷ right) (joined test joint e)
 unfolding joining
-joined_behind left right test joint behind e b w = record {
+joined_after left right test joint after e b w = record {
   before = Some (test, joint);
   words = w.0;
-  at = behind;
+  at = after;
   ended = rw w.1 refl;
   some = some_words w.0 e w.1;
-  stands = λ rest. ap (joining None [] 0) (append_assoc left (Join joint behind ∷ right) rest) ∙ b.stands (Join joint behind ∷ (right ++ rest)) ∙ rw b.ended (w.2 (Some (test, joint)) behind rest);
+  stands = λ rest. ap (joining None [] 0) (append_assoc left (Join joint after ∷ right) rest) ∙ b.stands (Join joint after ∷ (right ++ rest)) ∙ rw b.ended (w.2 (Some (test, joint)) after rest);
 }
 
-test-behind : {tokens : List Token} {test : Joined} → AreTest tokens test → Behind tokens test
-test-behind (first {tokens} {e} h) =
+test-after : {tokens : List Token} {test : Joined} → AreTest tokens test → After tokens test
+test-after (first {tokens} {e} h) =
     let w = element-words h in
     record { before = None; words = w.0; at = 0; ended = rw w.1 refl; some = some_words w.0 e w.1; stands = λ rest. w.2 None 0 rest }
-test-behind (more {left} {right} {test} {joint} {e} behind l r) = joined_behind left right test joint behind e (test-behind l) (element-words r)
+test-after (more {left} {right} {test} {joint} {e} after l r) = joined_after left right test joint after e (test-after l) (element-words r)
 
 left_true : (p q : Bool) → (p && q) ≡ true → p ≡ true
 left_true true q h = refl
@@ -73,18 +73,18 @@ right_true : (p q : Bool) → (p && q) ≡ true → q ≡ true
 right_true true q h = h
 right_true false q h = absurd cc
 
-lines_behind : (before : Option (Joined × Joint)) (words : List (List Part)) (at : ℕ) (lines : List Token) → 0 < length words → list_all is_newline lines ≡ true → joining before words at lines ≡ ended before words at
+lines_after : (before : Option (Joined × Joint)) (words : List (List Part)) (at : ℕ) (lines : List Token) → 0 < length words → list_all is_newline lines ≡ true → joining before words at lines ≡ ended before words at
 unfolding joining
-lines_behind before words at [] some all = refl
-lines_behind before [] at (t ∷ lines) some all = absurd (omega arith)
-lines_behind before (w ∷ ws) at (Newline ∷ lines) some all = rw all refl
-lines_behind before (w ∷ ws) at (t ∷ lines) some all = absurd cc
+lines_after before words at [] some all = refl
+lines_after before [] at (t ∷ lines) some all = absurd (omega arith)
+lines_after before (w ∷ ws) at (Newline ∷ lines) some all = rw all refl
+lines_after before (w ∷ ws) at (t ∷ lines) some all = absurd cc
 
 pub test-read : (text : List ℕ) (test : Joined) → IsTest text test → test_of text ≡ Ok test
 unfolding test_of
 test-read text test h =
-    let b = test-behind h.joined in
-    rw (tokens-read h.cut) (b.stands h.lines ∙ lines_behind b.before b.words b.at h.lines b.some h.newlines ∙ b.ended)
+    let b = test-after h.joined in
+    rw (tokens-read h.cut) (b.stands h.lines ∙ lines_after b.before b.words b.at h.lines b.some h.newlines ∙ b.ended)
 
 -- ---- what is joined is a test
 
@@ -123,7 +123,7 @@ pending_element words tokens e p h = subst (λ (ts : List Token). AreElement ts 
 -- the tokens of the test before a joint, with the joint
 abbrev Comes : Option (Joined × Joint) → List Token → Type 0
 Comes None tokens = tokens ≡ []
-Comes (Some before) tokens = (left : List Token) × (behind : ℕ) × AreTest left before.0 × (tokens ≡ left ++ Join before.1 behind ∷ [])
+Comes (Some before) tokens = (left : List Token) × (after : ℕ) × AreTest left before.0 × (tokens ≡ left ++ Join before.1 after ∷ [])
 
 element_found : (at : ℕ) (words : List (List Part)) (e : Element) (o : Option Element) → element_of words ≡ o → element_or at o ≡ Ok e → element_of words ≡ Some e
 element_found at words e None is h = absurd cc
@@ -154,12 +154,12 @@ joining-test [] before words at done tokens test comes p h = (done ++ tokens, []
 joining-test (Word w ∷ ts) before words at done tokens test comes p h =
     along _ _ test (ap (λ (x : List Token). x ++ ts) (sym (append_assoc done tokens (Word w ∷ []))) ∙ append_assoc (done ++ tokens) (Word w ∷ []) ts)
     (joining-test ts before (words ++ w ∷ []) at done (tokens ++ Word w ∷ []) test comes (pending_word words tokens w p) h)
-joining-test (Join joint behind ∷ ts) before words at done tokens test comes p h =
-    let t = bind_ok (ended before words at) (λ test. joining (Some (test, joint)) [] behind ts) test h in
+joining-test (Join joint after ∷ ts) before words at done tokens test comes p h =
+    let t = bind_ok (ended before words at) (λ test. joining (Some (test, joint)) [] after ts) test h in
     let left = ended_test before words at done tokens t.0 comes p t.1 in
-    along _ _ test (ap (λ (x : List Token). x ++ ts) (append-nil ((done ++ tokens) ++ Join joint behind ∷ [])) ∙ append_assoc (done ++ tokens) (Join joint behind ∷ []) ts)
-    (joining-test ts (Some (t.0, joint)) [] behind ((done ++ tokens) ++ Join joint behind ∷ []) [] test (done ++ tokens, behind, left, refl) (record { lines = []; newlines = refl; is = refl }) t.2)
-joining-test (Bar behind ∷ ts) before words at done tokens test comes p h = absurd cc
+    along _ _ test (ap (λ (x : List Token). x ++ ts) (append-nil ((done ++ tokens) ++ Join joint after ∷ [])) ∙ append_assoc (done ++ tokens) (Join joint after ∷ []) ts)
+    (joining-test ts (Some (t.0, joint)) [] after ((done ++ tokens) ++ Join joint after ∷ []) [] test (done ++ tokens, after, left, refl) (record { lines = []; newlines = refl; is = refl }) t.2)
+joining-test (Bar after ∷ ts) before words at done tokens test comes p h = absurd cc
 joining-test (Newline ∷ ts) before [] at done tokens test comes p h =
     along _ _ test (ap (λ (x : List Token). x ++ ts) (sym (append_assoc done tokens (Newline ∷ []))) ∙ append_assoc (done ++ tokens) (Newline ∷ []) ts)
     (joining-test ts before [] at done (tokens ++ Newline ∷ []) test comes (pending_line tokens p) h)

@@ -33,8 +33,8 @@ ended before words at = element_or at (element_of words) >>= λ e. Ok (with_elem
 unfoldable pub joining : Option (Joined × Joint) → List (List Part) → ℕ → List Token → Result Joined ShellFault
 joining before words at [] = ended before words at
 joining before words at (Word w ∷ ts) = joining before (words ++ w ∷ []) at ts
-joining before words at (Join joint behind ∷ ts) = ended before words at >>= λ test. joining (Some (test, joint)) [] behind ts
-joining before words at (Bar behind ∷ ts) = Err (BadTest at)
+joining before words at (Join joint after ∷ ts) = ended before words at >>= λ test. joining (Some (test, joint)) [] after ts
+joining before words at (Bar after ∷ ts) = Err (BadTest at)
 joining before [] at (Newline ∷ ts) = joining before [] at ts
 joining before (w ∷ ws) at (Newline ∷ ts) = if list_all is_newline ts then ended before (w ∷ ws) at else Err (BadTest at)
 

@@ -26,15 +26,15 @@ word_in (Word parts) = Some parts
 word_in t = None
 
 -- the offset after a token that is a bar
-abbrev pub behind_bar : Token → Option ℕ
-behind_bar (Bar behind) = Some behind
-behind_bar t = None
+abbrev pub after_bar : Token → Option ℕ
+after_bar (Bar after) = Some after
+after_bar t = None
 
 -- the patterns that tokens list, if an alternative begins at offset `at`
 unfoldable pub alternatives : ℕ → List Token → Result (List (List Piece)) ShellFault
 alternatives at [] = Err (BadPattern at)
 alternatives at (Word parts ∷ []) = pieces_or at (pieces_of parts) >>= λ pieces. Ok (pieces ∷ [])
-alternatives at (Word parts ∷ Bar behind ∷ ts) = pieces_or at (pieces_of parts) >>= λ pieces. alternatives behind ts >>= λ rest. Ok (pieces ∷ rest)
+alternatives at (Word parts ∷ Bar after ∷ ts) = pieces_or at (pieces_of parts) >>= λ pieces. alternatives after ts >>= λ rest. Ok (pieces ∷ rest)
 alternatives at (Word parts ∷ t ∷ ts) = pieces_or at (pieces_of parts) >>= λ pieces. Err (BadPattern at)
 alternatives at (t ∷ ts) = Err (BadPattern at)
 

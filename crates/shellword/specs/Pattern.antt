@@ -12,8 +12,8 @@ unfoldable pub use Rattle.shellword.specs.Listing.{patterns_of}
 -- The tokens are alternatives separated by bars, one word each (POSIX shell, 2.9.4.3).
 pub data AreAlternatives : List Token → List (List Piece) → Type 0 where
   last : {parts : List Part} {pieces : List Piece} → pieces_of parts ≡ Some pieces → AreAlternatives (Word parts ∷ []) (pieces ∷ [])
-  more : {parts : List Part} {pieces : List Piece} {tokens : List Token} {rest : List (List Piece)} (behind : ℕ) → pieces_of parts ≡ Some pieces
-      → AreAlternatives tokens rest → AreAlternatives (Word parts ∷ Bar behind ∷ tokens) (pieces ∷ rest)
+  more : {parts : List Part} {pieces : List Piece} {tokens : List Token} {rest : List (List Piece)} (after : ℕ) → pieces_of parts ≡ Some pieces
+      → AreAlternatives tokens rest → AreAlternatives (Word parts ∷ Bar after ∷ tokens) (pieces ∷ rest)
 
 -- The text lists these patterns (POSIX shell, 2.9.4.3; that no parenthesis and no newline is read is own).
 pub record ArePatterns (text : List ℕ) (patterns : List (List Piece)) : Type 0 where

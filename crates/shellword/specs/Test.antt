@@ -22,8 +22,8 @@ pub data AreElement : List Token → Element → Type 0 where
 -- The tokens are an element, or a test, a joint and an element (POSIX shell, 2.9.3).
 pub data AreTest : List Token → Joined → Type 0 where
   first : {tokens : List Token} {e : Element} → AreElement tokens e → AreTest tokens (single e)
-  more : {left right : List Token} {test : Joined} {joint : Joint} {e : Element} (behind : ℕ) → AreTest left test → AreElement right e
-      → AreTest (left ++ Join joint behind ∷ right) (joined test joint e)
+  more : {left right : List Token} {test : Joined} {joint : Joint} {e : Element} (after : ℕ) → AreTest left test → AreElement right e
+      → AreTest (left ++ Join joint after ∷ right) (joined test joint e)
 
 -- The text is a test, followed by newlines (own).
 pub record IsTest (text : List ℕ) (test : Joined) : Type 0 where

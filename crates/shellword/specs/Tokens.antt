@@ -32,5 +32,5 @@ is_newline t = false
 
 -- the token is a lone bar (own)
 abbrev pub is_bar : Token → Bool
-is_bar (Bar behind) = true
+is_bar (Bar after) = true
 is_bar t = false

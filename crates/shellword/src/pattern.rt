@@ -4,7 +4,7 @@ ghost use Rattle.std.specs.Prelude.{◌≡◌, ◌++◌, ◌↔◌, List, Ok, If
 ghost use Rattle.shellword.specs.Faults.{IsPatternFault};
 ghost use Rattle.shellword.specs.Gives.{Gives};
 ghost use Rattle.shellword.specs.Matching.{Matches};
-ghost use Rattle.shellword.specs.Listing.{pieces_or, word_in, behind_bar, alternatives, in_pattern, patterns_of};
+ghost use Rattle.shellword.specs.Listing.{pieces_or, word_in, after_bar, alternatives, in_pattern, patterns_of};
 ghost use Rattle.shellword.specs.Pattern.{ArePatterns};
 ghost use Rattle.shellword.specs.Pieces.{piece_of, pieces_of};
 ghost use Rattle.shellword.specs.declared.pattern.Piece.{Piece};
@@ -101,11 +101,11 @@ fn word_in(token: Token) -> Option<Word>
     }
 }
 
-fn behind_bar(token: Token) -> Option<usize>
-    ensures { result ≡ behind_bar token }
+fn after_bar(token: Token) -> Option<usize>
+    ensures { result ≡ after_bar token }
 {
     match token {
-        Token::Bar(behind) => Some(behind),
+        Token::Bar(after) => Some(after),
         _ => None,
     }
 }
@@ -129,10 +129,10 @@ fn alternatives_of(alloc: Global, mut tokens: VecDeque<Token>) -> Result<Vec<Pat
         let Some(token) = tokens.pop_front() else {
             return Ok(patterns);
         };
-        let Some(behind) = behind_bar(token) else {
+        let Some(after) = after_bar(token) else {
             return Err(ShellFault::BadPattern(at));
         };
-        at = behind;
+        at = after;
     }
 }
 

@@ -193,10 +193,10 @@ fn join_all(
             Token::Word(word) => {
                 words.push_back(word)?;
             }
-            Token::Join(joint, behind) => {
+            Token::Join(joint, after) => {
                 let test = end_element(alloc, before, words, at)?;
                 *before = Some((test, joint));
-                at = behind;
+                at = after;
             }
             // A test's tokens contain no lone bar: `tests_have_no_bars`.
             Token::Bar(_) => return Err(ShellFault::BadTest(at)),

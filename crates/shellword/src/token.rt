@@ -86,8 +86,8 @@ fn read_word_at(alloc: Global, text: &[u8], at: usize) -> Result<(Token, usize),
     ensures fault { IfErr result (IsWordFault (length text.now)) }
     ensures within { IfOk result (λ r. (at < r.1) × (r.1 ≤ length text.now)) }
 {
-    let (parts, behind) = read_run(alloc, text, at, Context::Bare)?;
-    Ok((Token::Word(Word::from_parts(parts)), behind))
+    let (parts, after) = read_run(alloc, text, at, Context::Bare)?;
+    Ok((Token::Word(Word::from_parts(parts)), after))
 }
 
 /// Reads the token at offset `at`, where no space begins. Returns it and the offset after it.
@@ -127,9 +127,9 @@ pub(crate) fn read_tokens(
         if is_space(text[at]) {
             at += 1;
         } else {
-            let (token, behind) = read_token(alloc, text, at, lone_bars)?;
+            let (token, after) = read_token(alloc, text, at, lone_bars)?;
             tokens.push_back(token)?;
-            at = behind;
+            at = after;
         }
     }
     Ok(tokens)

@@ -8,7 +8,7 @@ use Rattle.std.proofs.lemmas.List.{get_or-take}
 use Rattle.memchr.specs.Find.{Nowhere, Passes, is_byte}
 use Rattle.deftable.specs.ShellName.{IsShellName, starts_name, continues_name}
 use Rattle.deftable.specs.Table.{value_of, HasShellNames}
-use Rattle.template.specs.Fill.{at_sign, BeginsWithKey, Fills, before_at, key_at_front, filled_behind, filled, entry_of}
+use Rattle.template.specs.Fill.{at_sign, BeginsWithKey, Fills, before_at, key_at_front, filled_after, filled, entry_of}
 use Rattle.template.specs.Hops.{HasNoAt}
 use Rattle.template.specs.Fill.Fills.{nothing, key, byte}
 
@@ -27,18 +27,18 @@ module _ (es : List (List ℕ × List ℕ)) where
   before_at-some (b ∷ bs) t h =
       ap (λ x. cond x (Some []) (option_map (λ k. b ∷ k) (before_at (bs ++ at_sign ∷ t)))) h.0 ∙ ap (option_map (λ k. b ∷ k)) (before_at-some bs t h.1)
 
-  filled_behind-key : (k t : List ℕ) → filled_behind es (suc (length k)) (k ++ at_sign ∷ t) ≡ filled es t
-  unfolding filled_behind
-  filled_behind-key [] t = refl
-  filled_behind-key (b ∷ bs) t = filled_behind-key bs t
+  filled_after-key : (k t : List ℕ) → filled_after es (suc (length k)) (k ++ at_sign ∷ t) ≡ filled es t
+  unfolding filled_after
+  filled_after-key [] t = refl
+  filled_after-key (b ∷ bs) t = filled_after-key bs t
 
   -- the step at the front of a text
-  filled-cons : (b : ℕ) (bs : List ℕ) → filled es (b ∷ bs) ≡ option_map_or (λ p. p.1 ++ filled_behind es (suc (length p.0)) bs) (key_at_front es (b ∷ bs)) (b ∷ filled es bs)
-  unfolding filled_behind
+  filled-cons : (b : ℕ) (bs : List ℕ) → filled es (b ∷ bs) ≡ option_map_or (λ p. p.1 ++ filled_after es (suc (length p.0)) bs) (key_at_front es (b ∷ bs)) (b ∷ filled es bs)
+  unfolding filled_after
   filled-cons b bs = refl
 
   filled-byte : (b : ℕ) (bs : List ℕ) → key_at_front es (b ∷ bs) ≡ None → filled es (b ∷ bs) ≡ b ∷ filled es bs
-  filled-byte b bs h = filled-cons b bs ∙ ap (λ o. option_map_or (λ p. p.1 ++ filled_behind es (suc (length p.0)) bs) o (b ∷ filled es bs)) h
+  filled-byte b bs h = filled-cons b bs ∙ ap (λ o. option_map_or (λ p. p.1 ++ filled_after es (suc (length p.0)) bs) o (b ∷ filled es bs)) h
 
   key_at_front-apart : (b : ℕ) (bs : List ℕ) → (b == at_sign) ≡ false → key_at_front es (b ∷ bs) ≡ None
   unfolding key_at_front
@@ -57,8 +57,8 @@ module _ (es : List (List ℕ × List ℕ)) where
   pub filled-key : (k t v : List ℕ) → HasNoAt k → value_of es k ≡ Some v → filled es (at_sign ∷ (k ++ at_sign ∷ t)) ≡ v ++ filled es t
   filled-key k t v h is =
       filled-cons at_sign (k ++ at_sign ∷ t)
-      ∙ ap (λ o. option_map_or (λ p. p.1 ++ filled_behind es (suc (length p.0)) (k ++ at_sign ∷ t)) o (at_sign ∷ filled es (k ++ at_sign ∷ t))) (key_at_front-between k t h ∙ ap (option_map (λ w. (k, w))) is)
-      ∙ ap (λ x. v ++ x) (filled_behind-key k t)
+      ∙ ap (λ o. option_map_or (λ p. p.1 ++ filled_after es (suc (length p.0)) (k ++ at_sign ∷ t)) o (at_sign ∷ filled es (k ++ at_sign ∷ t))) (key_at_front-between k t h ∙ ap (option_map (λ w. (k, w))) is)
+      ∙ ap (λ x. v ++ x) (filled_after-key k t)
 
   -- an `@`, and no key before the next one
   pub filled-no_key : (k t : List ℕ) → HasNoAt k → value_of es k ≡ None → filled es (at_sign ∷ (k ++ at_sign ∷ t)) ≡ at_sign ∷ (k ++ filled es (at_sign ∷ t))
@@ -75,7 +75,7 @@ module _ (es : List (List ℕ × List ℕ)) where
   filled-open s h = filled-byte at_sign s (key_at_front-open s h)
 
   pub filled-[] : filled es [] ≡ []
-  unfolding filled_behind
+  unfolding filled_after
   filled-[] = refl
 
   pub filled-end : (s : List ℕ) → HasNoAt s → filled es s ≡ s
@@ -209,25 +209,25 @@ module _ (es : List (List ℕ × List ℕ)) (names : HasShellNames es) where
       ap (key_at_front es) w.front ∙ key_at_front-between es w.key w.rest (key-HasNoAt w.key w.value w.is_key) ∙ ap (option_map (λ x. (w.key, x))) w.is_key in
       absurd cc
 
-  Fills-behind : (text : List ℕ) (n : ℕ) → Fills es (drop n text) (filled_behind es n text)
-  unfolding filled_behind
-  Fills-behind [] zero = nothing
-  Fills-behind [] (suc n) = nothing
-  Fills-behind (b ∷ bs) (suc n) = Fills-behind bs n
-  Fills-behind (b ∷ bs) zero =
-      elim (key_at_front es (b ∷ bs)) as (λ o. key_at_front es (b ∷ bs) ≡ o → Fills es (b ∷ bs) (option_map_or (λ p. p.1 ++ filled_behind es (suc (length p.0)) bs) o (b ∷ filled_behind es 0 bs))) [
-        | None ↦ λ is. byte (λ w. BeginsWithKey-some (b ∷ bs) w is) (Fills-behind bs zero)
+  Fills-after : (text : List ℕ) (n : ℕ) → Fills es (drop n text) (filled_after es n text)
+  unfolding filled_after
+  Fills-after [] zero = nothing
+  Fills-after [] (suc n) = nothing
+  Fills-after (b ∷ bs) (suc n) = Fills-after bs n
+  Fills-after (b ∷ bs) zero =
+      elim (key_at_front es (b ∷ bs)) as (λ o. key_at_front es (b ∷ bs) ≡ o → Fills es (b ∷ bs) (option_map_or (λ p. p.1 ++ filled_after es (suc (length p.0)) bs) o (b ∷ filled_after es 0 bs))) [
+        | None ↦ λ is. byte (λ w. BeginsWithKey-some (b ∷ bs) w is) (Fills-after bs zero)
         | Some p ↦ λ is.
             let w = key_at_front-Front es b bs p.0 p.1 is in
-            let behind : drop (suc (length p.0)) bs ≡ w.rest = ap (drop (suc (length p.0))) w.follows ∙ drop-key p.0 w.rest in
-            let later : Fills es w.rest (filled_behind es (suc (length p.0)) bs) =
-            subst (λ x. Fills es x (filled_behind es (suc (length p.0)) bs)) behind (Fills-behind bs (suc (length p.0))) in
-            subst (λ x. Fills es x (p.1 ++ filled_behind es (suc (length p.0)) bs)) (sym (ap (λ x. x ∷ bs) w.opens ∙ ap (λ x. at_sign ∷ x) w.follows)) (key p.0 p.1 w.is_key later)
+            let after : drop (suc (length p.0)) bs ≡ w.rest = ap (drop (suc (length p.0))) w.follows ∙ drop-key p.0 w.rest in
+            let later : Fills es w.rest (filled_after es (suc (length p.0)) bs) =
+            subst (λ x. Fills es x (filled_after es (suc (length p.0)) bs)) after (Fills-after bs (suc (length p.0))) in
+            subst (λ x. Fills es x (p.1 ++ filled_after es (suc (length p.0)) bs)) (sym (ap (λ x. x ∷ bs) w.opens ∙ ap (λ x. at_sign ∷ x) w.follows)) (key p.0 p.1 w.is_key later)
       ] refl
 
   -- the function's text satisfies the relation
   pub filled-Fills : (text : List ℕ) → Fills es text (filled es text)
-  filled-Fills text = Fills-behind text zero
+  filled-Fills text = Fills-after text zero
 
 -- ---- stretches as a search gives them
 

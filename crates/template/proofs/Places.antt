@@ -28,13 +28,13 @@ negated : (b : Bool) → (b ≡ true → ⊥) → not b ≡ true
 negated true h = absurd (h refl)
 negated false h = refl
 
-not_slash_behind : (file : List ℕ) (k : ℕ) → Nowhere (Passes (is_byte 47) file) (k + 1) (length file) → (j : ℕ) → k + 1 ≤ j → j < length file → not (is_slash (get_or file j 0)) ≡ true
-not_slash_behind file k h j low high = negated (is_slash (get_or file j 0)) (h j low high)
+not_slash_after : (file : List ℕ) (k : ℕ) → Nowhere (Passes (is_byte 47) file) (k + 1) (length file) → (j : ℕ) → k + 1 ≤ j → j < length file → not (is_slash (get_or file j 0)) ≡ true
+not_slash_after file k h j low high = negated (is_slash (get_or file j 0)) (h j low high)
 
 -- the number of bytes after the last slash
-behind_slash : (file : List ℕ) (k : ℕ) → k < length file → Passes (is_byte 47) file k → Nowhere (Passes (is_byte 47) file) (k + 1) (length file) → suffix_len (λ b. not (is_slash b)) file ≡ length file - (k + 1)
-behind_slash file k inside here behind =
-    suffix_len_is (λ b. not (is_slash b)) file (k + 1) 0 (omega arith) (not_slash_behind file k behind)
+after_slash : (file : List ℕ) (k : ℕ) → k < length file → Passes (is_byte 47) file k → Nowhere (Passes (is_byte 47) file) (k + 1) (length file) → suffix_len (λ b. not (is_slash b)) file ≡ length file - (k + 1)
+after_slash file k inside here after =
+    suffix_len_is (λ b. not (is_slash b)) file (k + 1) 0 (omega arith) (not_slash_after file k after)
     (λ _. let same : k + 1 - 1 ≡ k = omega arith in ap (λ i. not (is_slash (get_or file i 0))) same ∙ ap not here)
 
 no_slash : (file : List ℕ) → Nowhere (Passes (is_byte 47) file) 0 (length file) → suffix_len (λ b. not (is_slash b)) file ≡ length file
@@ -42,20 +42,20 @@ no_slash file h =
     suffix_len_is (λ b. not (is_slash b)) file 0 0 (omega arith) (λ j low high. negated (is_slash (get_or file j 0)) (h j low high)) (λ lt. absurd (omega arith))
     ∙ omega arith
 
-pub folder_at : (file : List ℕ) (k : ℕ) → k < length file → Passes (is_byte 47) file k → Nowhere (Passes (is_byte 47) file) (k + 1) (length file) → take k file ≡ before_last is_slash file
-folder_at file k inside here behind =
-    let n = behind_slash file k inside here behind in
+pub directory_at : (file : List ℕ) (k : ℕ) → k < length file → Passes (is_byte 47) file k → Nowhere (Passes (is_byte 47) file) (k + 1) (length file) → take k file ≡ before_last is_slash file
+directory_at file k inside here after =
+    let n = after_slash file k inside here after in
     let same : k ≡ length file - suffix_len (λ b. not (is_slash b)) file - 1 = omega (arith, n) in
     ap (λ i. take i file) same
 
 pub name_at : (file : List ℕ) (k : ℕ) → k < length file → Passes (is_byte 47) file k → Nowhere (Passes (is_byte 47) file) (k + 1) (length file) → drop (k + 1) file ≡ after_last is_slash file
-name_at file k inside here behind =
-    let n = behind_slash file k inside here behind in
+name_at file k inside here after =
+    let n = after_slash file k inside here after in
     let same : k + 1 ≡ length file - suffix_len (λ b. not (is_slash b)) file = omega (arith, n) in
     ap (λ i. drop i file) same
 
-pub no_folder : (file : List ℕ) → Nowhere (Passes (is_byte 47) file) 0 (length file) → take 0 file ≡ before_last is_slash file
-no_folder file h =
+pub no_directory : (file : List ℕ) → Nowhere (Passes (is_byte 47) file) 0 (length file) → take 0 file ≡ before_last is_slash file
+no_directory file h =
     let n = no_slash file h in
     let same : 0 ≡ length file - suffix_len (λ b. not (is_slash b)) file - 1 = omega (arith, n) in
     ap (λ i. take i file) same

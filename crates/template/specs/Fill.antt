@@ -41,12 +41,12 @@ key_at_front es [] = None
 key_at_front es (b ∷ bs) = if b == at_sign then option_and_then (entry_of es) (before_at bs) else None
 
 -- the filled text after the first n bytes, which belong to a key that is already replaced (own)
-unfoldable pub filled_behind : List (List ℕ × List ℕ) → ℕ → List ℕ → List ℕ
-filled_behind es n [] = []
-filled_behind es (suc n) (b ∷ bs) = filled_behind es n bs
-filled_behind es zero (b ∷ bs) =
-    option_map_or (λ p. p.1 ++ filled_behind es (suc (length p.0)) bs) (key_at_front es (b ∷ bs)) (b ∷ filled_behind es 0 bs)
+unfoldable pub filled_after : List (List ℕ × List ℕ) → ℕ → List ℕ → List ℕ
+filled_after es n [] = []
+filled_after es (suc n) (b ∷ bs) = filled_after es n bs
+filled_after es zero (b ∷ bs) =
+    option_map_or (λ p. p.1 ++ filled_after es (suc (length p.0)) bs) (key_at_front es (b ∷ bs)) (b ∷ filled_after es 0 bs)
 
 -- the filled text (own)
 abbrev pub filled : List (List ℕ × List ℕ) → List ℕ → List ℕ
-filled es text = filled_behind es 0 text
+filled es text = filled_after es 0 text

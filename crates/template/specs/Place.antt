@@ -9,12 +9,12 @@ abbrev pub is_slash : ℕ → Bool
 is_slash b = b == 47
 
 -- the number of directories in a file's name: a slash follows each (own)
-abbrev pub folder_count : List ℕ → ℕ
-folder_count file = count_by is_slash file
+abbrev pub directory_count : List ℕ → ℕ
+directory_count file = count_by is_slash file
 
 -- the directory of a file, without the slash after it, or the empty text if it has none (own)
-abbrev pub folder_of : List ℕ → List ℕ
-folder_of file = before_last is_slash file
+abbrev pub directory_of : List ℕ → List ℕ
+directory_of file = before_last is_slash file
 
 -- a file's name without its directories (own)
 abbrev pub base_name : List ℕ → List ℕ
@@ -28,26 +28,26 @@ up (suc (suc n)) = up (suc n) ++ codes "/.."
 
 -- the directory is written as `.` (own)
 abbrev pub is_here : List ℕ → Bool
-is_here folder = bytes_eq folder (codes ".")
+is_here directory = bytes_eq directory (codes ".")
 
 -- the name is absolute (own)
 abbrev pub is_absolute : List ℕ → Bool
-is_absolute folder = starts_with nat_eq folder (codes "/")
+is_absolute directory = starts_with nat_eq directory (codes "/")
 
 -- a directory's name relative to the file's directory, given relative to the top (own)
 unfoldable pub seen_from : List ℕ → List ℕ → List ℕ
-seen_from file folder =
-    if is_here folder then up (folder_count file)
-    else if is_absolute folder || folder_count file == 0 then folder
-    else up (folder_count file) ++ codes "/" ++ folder
+seen_from file directory =
+    if is_here directory then up (directory_count file)
+    else if is_absolute directory || directory_count file == 0 then directory
+    else up (directory_count file) ++ codes "/" ++ directory
 
 -- the source directory that corresponds to the file's directory: the directory with the same name in the sources
 -- (Autoconf's manual, "Preset Output Variables")
 unfoldable pub sources_beside : List ℕ → List ℕ → List ℕ
 sources_beside file srcdir =
     if is_here srcdir then codes "."
-    else if folder_count file == 0 then seen_from file srcdir
-    else seen_from file srcdir ++ codes "/" ++ folder_of file
+    else if directory_count file == 0 then seen_from file srcdir
+    else seen_from file srcdir ++ codes "/" ++ directory_of file
 
 -- the four directory variables of a file, if `srcdir` is the top directory of the sources relative to that of the build
 -- (Autoconf's manual, "Preset Output Variables")
@@ -56,7 +56,7 @@ place_of file srcdir = record {
   srcdir = sources_beside file srcdir;
   top_srcdir = seen_from file srcdir;
   builddir = codes ".";
-  top_builddir = up (folder_count file);
+  top_builddir = up (directory_count file);
 }
 
 -- the line that says what a file was made from (Autoconf's manual, "Preset Output Variables")

@@ -32,7 +32,7 @@ pub struct Place {
 pub fn place_vars(alloc: Global, file: &[u8], srcdir: &[u8]) -> Result<Place, AllocError>
     ensures { IfOk result (λ place. place ≡ place_of file.now srcdir.now) }
 {
-    let top_builddir = up(alloc, folder_count(file))?;
+    let top_builddir = up(alloc, directory_count(file))?;
     let top_srcdir = seen_from(alloc, file, srcdir)?;
     let srcdir = sources_beside(alloc, file, srcdir)?;
     let builddir = Bytes::from_slice(alloc, b".")?;
@@ -58,15 +58,15 @@ pub fn configure_input(alloc: Global, file: &[u8], template: &[u8]) -> Result<By
 }
 
 /// Returns the number of directories in the file's name.
-fn folder_count(file: &[u8]) -> usize
-    ensures { result ≡ words.folder_count file.now }
+fn directory_count(file: &[u8]) -> usize
+    ensures { result ≡ words.directory_count file.now }
 {
     file.iter().filter(|byte| **byte == b'/').count()
 }
 
 /// Returns the directory of the file, without the slash after it, or the empty text if it has none.
-fn folder_of(file: &[u8]) -> &[u8]
-    ensures { result.now ≡ words.folder_of file.now }
+fn directory_of(file: &[u8]) -> &[u8]
+    ensures { result.now ≡ words.directory_of file.now }
 {
     match memrchr(b'/', file) {
         Some(at) => &file[..at],
@@ -85,14 +85,14 @@ fn base_name(file: &[u8]) -> &[u8]
 }
 
 /// Returns the relative name of the directory that is n levels up.
-fn up(alloc: Global, folders: usize) -> Result<Vec<u8>, AllocError>
-    ensures { IfOk result (λ way. way.items ≡ words.up folders) }
+fn up(alloc: Global, directories: usize) -> Result<Vec<u8>, AllocError>
+    ensures { IfOk result (λ way. way.items ≡ words.up directories) }
 {
-    if folders == 0 {
+    if directories == 0 {
         return Vec::from_slice(alloc, b".");
     }
     let mut way = Vec::from_slice(alloc, b"..")?;
-    for _i in 1..folders {
+    for _i in 1..directories {
         way.extend_from_slice(b"/..")?;
     }
     Ok(way)
@@ -100,19 +100,19 @@ fn up(alloc: Global, folders: usize) -> Result<Vec<u8>, AllocError>
 
 /// Returns a directory's name, given relative to the top, as it is relative to the file's directory.
 #[tactic(auto, unfolding(crate::specs::Place::seen_from))]
-fn seen_from(alloc: Global, file: &[u8], folder: &[u8]) -> Result<Vec<u8>, AllocError>
-    ensures { IfOk result (λ way. way.items ≡ words.seen_from file.now folder.now) }
+fn seen_from(alloc: Global, file: &[u8], directory: &[u8]) -> Result<Vec<u8>, AllocError>
+    ensures { IfOk result (λ way. way.items ≡ words.seen_from file.now directory.now) }
 {
-    let folders = folder_count(file);
-    if folder == b".".as_slice() {
-        return up(alloc, folders);
+    let directories = directory_count(file);
+    if directory == b".".as_slice() {
+        return up(alloc, directories);
     }
-    if folder.starts_with(b"/") || folders == 0 {
-        return Vec::from_slice(alloc, folder);
+    if directory.starts_with(b"/") || directories == 0 {
+        return Vec::from_slice(alloc, directory);
     }
-    let mut way = up(alloc, folders)?;
+    let mut way = up(alloc, directories)?;
     way.extend_from_slice(b"/")?;
-    way.extend_from_slice(folder)?;
+    way.extend_from_slice(directory)?;
     Ok(way)
 }
 
@@ -125,10 +125,10 @@ fn sources_beside(alloc: Global, file: &[u8], srcdir: &[u8]) -> Result<Vec<u8>, 
         return Vec::from_slice(alloc, b".");
     }
     let mut way = seen_from(alloc, file, srcdir)?;
-    if folder_count(file) == 0 {
+    if directory_count(file) == 0 {
         return Ok(way);
     }
     way.extend_from_slice(b"/")?;
-    way.extend_from_slice(folder_of(file))?;
+    way.extend_from_slice(directory_of(file))?;
     Ok(way)
 }

@@ -100,7 +100,8 @@ fn texts_and_names(rt: HostRuntime) -> Result<(), Fail> {
 }
 
 /// A table and steps with semicolons between them, and at its end what the table holds, in order. A step `NAME=VALUE` sets
-/// an entry, `!NAME` takes one away, and `?NAME` puts what the table holds at that point under the name.
+/// an entry, `!NAME` takes one away, and `?NAME` puts what the table holds at that point under the name. `~NAME` puts a
+/// variable's value, which is empty if it is unset.
 const TABLES: &[u8] = b"
 vars !CC =>
 vars CC=cc => CC=cc;
@@ -112,6 +113,7 @@ vars LIBS=;?CC => none LIBS=;
 // A variable that is set to nothing is set.
 vars CC=cc;LIBS=;CC=gcc;?CC;?LIBS => [gcc] [] CC=gcc;LIBS=;
 vars CC=cc;LIBS=;!CC;?CC => none LIBS=;
+vars CC=cc;~CC;~LIBS => [cc] [] CC=cc;
 
 defs A=1 => A=1;
 defs A=1;B=;A=2 => A=2;B=;
@@ -185,6 +187,10 @@ impl Tables {
                 [b'!', name @ ..] => self.vars.unset(name),
                 [b'?', name @ ..] => {
                     self.put_value(page, table, name);
+                    page.put(b" ");
+                }
+                [b'~', name @ ..] => {
+                    page.put_text(self.vars.value_or_empty(name));
                     page.put(b" ");
                 }
                 _ if table.starts_with(b"notes") => self.tell(page, step),

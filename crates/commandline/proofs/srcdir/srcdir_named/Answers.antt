@@ -1,10 +1,10 @@
 use Rattle.std.proofs.Common.{sym, ◌∙◌}
-use Rattle.commandline.proofs.SourceDirectories.{folder_more, folder_end}
+use Rattle.commandline.proofs.SourceDirectories.{directory_more, directory_end}
 use Rattle.commandline.proofs.srcdir.srcdir_named.Goals as goal
 
 pub loop-argument-preserved : goal.loop-argument-preserved
 loop-argument-preserved c =
-    folder_more _ _ _ _ _ _ _ _ c.loop-argument-test.true c.argument-item.is c.awaited_after-awaited.ensures c.srcdir_after-srcdir.ensures c.loop-argument.invariant
+    directory_more _ _ _ _ _ _ _ _ c.loop-argument-test.true c.argument-item.is c.awaited_after-awaited.ensures c.srcdir_after-srcdir.ensures c.loop-argument.invariant
 
 pub returns : goal.returns
-returns c = sym (folder_end _ _ _ _ c.loop-argument-test.false) ∙ c.loop-argument.invariant
+returns c = sym (directory_end _ _ _ _ c.loop-argument-test.false) ∙ c.loop-argument.invariant

@@ -1,13 +1,13 @@
 use Rattle.std.proofs.Common.{ap, length, arith}
 use Rattle.meaning.specs.Search.{searched, value_or_empty}
 use Rattle.std.specs.Prelude.{codes}
-use Rattle.machine.proofs.Searches.{few_folders, few_ok, led_ok}
+use Rattle.machine.proofs.Searches.{few_directories, few_ok, led_ok}
 use Rattle.machine.proofs.search.search_path.Goals as goal
 
 pub returns-clause-asks : goal.returns-clause-asks
 returns-clause-asks c =
-    few_ok _ _ _ (omega (arith, ap length c.in_ok-folders.ensures, few_folders (value_or_empty c.args.store.now (codes "PATH")))) c.look_on.ensures.asks
+    few_ok _ _ _ (omega (arith, ap length c.in_ok-directories.ensures, few_directories (value_or_empty c.args.store.now (codes "PATH")))) c.look_on.ensures.asks
 
 pub returns-clause-leads : goal.returns-clause-leads
 returns-clause-leads c =
-    led_ok _ _ _ _ (ap (λ f. searched c.args.search f c.args.store.now) c.in_ok-folders.ensures) c.look_on.ensures.leads
+    led_ok _ _ _ _ (ap (λ f. searched c.args.search f c.args.store.now) c.in_ok-directories.ensures) c.look_on.ensures.leads

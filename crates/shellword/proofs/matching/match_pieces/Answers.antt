@@ -38,4 +38,4 @@ steps-preserved c =
     let pieces = c.args.pieces.now in
     let text = c.args.text.now in
     let s = with_star pieces text c.steps.piece c.steps.at _ (Some (c.in-Some.first, c.in-Some.start)) c.in-Some.is c.steps.invariant in
-    back pieces text c.steps.piece c.steps.at c.in-Some.first c.in-Some.start s (step_at pieces text c.steps.piece c.steps.at _ c.in-Stuck.ensures) (let lt : c.in-Some.start < length text = omega (arith, s.in_text, s.behind.0, c.if-start-text.false) in lt)
+    back pieces text c.steps.piece c.steps.at c.in-Some.first c.in-Some.start s (step_at pieces text c.steps.piece c.steps.at _ c.in-Stuck.ensures) (let lt : c.in-Some.start < length text = omega (arith, s.in_text, s.after.0, c.if-start-text.false) in lt)

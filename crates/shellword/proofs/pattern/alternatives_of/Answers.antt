@@ -27,13 +27,13 @@ returns-in_default-pop_front c =
     on_last c.alternatives.patterns.items c.alternatives.at c.alternatives.tokens.items _ c.alternatives.invariant c.in-Some.token c.pop_front.new.self.items c.in-Some.ensures.items c.in-Some-word_in.word (sym c.in-Some-word_in.ensures)
     c.in_ok-pattern.pattern (ap (λ ps. pieces_or c.alternatives.at (pieces_of ps)) (sym c.parts.ensures) ∙ c.in_ok-pattern.ensures) c.push.new.self.items c.in_ok-push.ensures.items (none_left c.pop_front.new.self.items none)
 
-pub returns-in_default-behind_bar : goal.returns-in_default-behind_bar
-returns-in_default-behind_bar c =
+pub returns-in_default-after_bar : goal.returns-in_default-after_bar
+returns-in_default-after_bar c =
     on_no_bar c.alternatives.patterns.items c.alternatives.at c.alternatives.tokens.items _ c.alternatives.invariant c.in-Some.token c.pop_front.new.self.items c.in-Some.ensures.items c.in-Some-word_in.word (sym c.in-Some-word_in.ensures)
-    c.in_ok-pattern.pattern (ap (λ ps. pieces_or c.alternatives.at (pieces_of ps)) (sym c.parts.ensures) ∙ c.in_ok-pattern.ensures) c.in-Some-pop_front.token c.pop_front-in-alternatives.new.self.items c.in-Some-pop_front.ensures.items (sym c.in_default-behind_bar.ensures)
+    c.in_ok-pattern.pattern (ap (λ ps. pieces_or c.alternatives.at (pieces_of ps)) (sym c.parts.ensures) ∙ c.in_ok-pattern.ensures) c.in-Some-pop_front.token c.pop_front-in-alternatives.new.self.items c.in-Some-pop_front.ensures.items (sym c.in_default-after_bar.ensures)
 
 pub alternatives-preserved : goal.alternatives-preserved
 alternatives-preserved c =
     on_bar c.alternatives.patterns.items c.alternatives.at c.alternatives.tokens.items _ c.alternatives.invariant c.in-Some.token c.pop_front.new.self.items c.in-Some.ensures.items c.in-Some-word_in.word (sym c.in-Some-word_in.ensures)
     c.in_ok-pattern.pattern (ap (λ ps. pieces_or c.alternatives.at (pieces_of ps)) (sym c.parts.ensures) ∙ c.in_ok-pattern.ensures) c.in-Some-pop_front.token c.pop_front-in-alternatives.new.self.items c.in-Some-pop_front.ensures.items
-    c.in-Some-behind_bar.behind c.push.new.self.items c.in_ok-push.ensures.items (sym c.in-Some-behind_bar.ensures)
+    c.in-Some-after_bar.after c.push.new.self.items c.in_ok-push.ensures.items (sym c.in-Some-after_bar.ensures)

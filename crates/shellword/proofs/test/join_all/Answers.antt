@@ -14,12 +14,12 @@ pub returns-in_err-test-in-Join : goal.returns-in_err-test-in-Join
 returns-in_err-test-in-Join c =
     let p = err_from_is_err_and c.from_residual-in_err-test-in-Join.result c.from_residual-in_err-test-in-Join.ensures.1 in
     record {
-      value = rw (p.1, p.2) (fails_along _ _ _ (on_join_failed c.loop-token.before c.loop-token.words.items c.loop-token.at c.loop-token.tokens.items c.pop_front.new.self.items c.in-Some.token _ c.in-Some.ensures.items c.loop-token.invariant c.in-Join.joint c.in-Join.behind _ c.in-Join.is) c.in_err-test-in-Join.ensures.value);
+      value = rw (p.1, p.2) (fails_along _ _ _ (on_join_failed c.loop-token.before c.loop-token.words.items c.loop-token.at c.loop-token.tokens.items c.pop_front.new.self.items c.in-Some.token _ c.in-Some.ensures.items c.loop-token.invariant c.in-Join.joint c.in-Join.after _ c.in-Join.is) c.in_err-test-in-Join.ensures.value);
     }
 
 pub loop-token-preserved-in-Join : goal.loop-token-preserved-in-Join
 loop-token-preserved-in-Join c =
-    on_join c.loop-token.before c.loop-token.words.items c.loop-token.at c.loop-token.tokens.items c.pop_front.new.self.items c.in-Some.token _ c.in-Some.ensures.items c.loop-token.invariant c.in-Join.joint c.in-Join.behind c.in_ok-test-in-Join.test c.end_element.new.words.items c.in-Join.is c.in_ok-test-in-Join.ensures.value c.in_ok-test-in-Join.ensures.taken
+    on_join c.loop-token.before c.loop-token.words.items c.loop-token.at c.loop-token.tokens.items c.pop_front.new.self.items c.in-Some.token _ c.in-Some.ensures.items c.loop-token.invariant c.in-Join.joint c.in-Join.after c.in_ok-test-in-Join.test c.end_element.new.words.items c.in-Join.is c.in_ok-test-in-Join.ensures.value c.in_ok-test-in-Join.ensures.taken
 
 pub returns-in-Bar : goal.returns-in-Bar
 returns-in-Bar c = record {

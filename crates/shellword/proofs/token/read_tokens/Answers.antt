@@ -18,7 +18,7 @@ returns-in_err-token-clause-value c =
 pub loop-at-preserved : goal.loop-at-preserved
 loop-at-preserved c = record {
   within = c.in_ok-token.ensures.within.1;
-  goes_on = loop_token c.args.lone_bars c.loop-at.tokens.items c.loop-at.at c.args.text.now _ c.loop-at.invariant.goes_on c.loop-at-test.true (c.in_ok-token.token, c.in_ok-token.behind) c.push_back.new.self.items
+  goes_on = loop_token c.args.lone_bars c.loop-at.tokens.items c.loop-at.at c.args.text.now _ c.loop-at.invariant.goes_on c.loop-at-test.true (c.in_ok-token.token, c.in_ok-token.after) c.push_back.new.self.items
       (sym c.if-is_space.ensures) c.in_ok-token.ensures.value c.in_ok-token.ensures.within.0 c.in_ok-token.ensures.within.1 c.in_ok-push_back.ensures.items;
 }
 

@@ -2,8 +2,8 @@ use Rattle.std.proofs.Common.{◌<◌, ◌++◌, codes, arith, sym, ap, ◌∙�
 use Rattle.template.proofs.Places.{up_more, up_of_none, up_one}
 use Rattle.template.proofs.placing.up.Goals as goal
 
-pub returns-then-folders-eq0 : goal.returns-then-folders-eq0
-returns-then-folders-eq0 c = up_of_none c.from_slice.result c.args.folders c.if-folders-eq0.true c.from_slice.ensures.items
+pub returns-then-directories-eq0 : goal.returns-then-directories-eq0
+returns-then-directories-eq0 c = up_of_none c.from_slice.result c.args.directories c.if-directories-eq0.true c.from_slice.ensures.items
 
 pub loop-i-init : goal.loop-i-init
 loop-i-init c = c.in_ok-way.ensures.items ∙ sym up_one
