@@ -179,7 +179,12 @@ fn try_in(alloc: Global, directory: &Bytes, program: &Bytes) -> Result<(Bytes, J
 }
 
 /// Asks whether this directory has the program. `left` are the directories after it.
-fn ask_in(alloc: Global, directory: &Bytes, search: Search, left: Directories) -> Result<Flow, AllocError>
+fn ask_in(
+    alloc: Global,
+    directory: &Bytes,
+    search: Search,
+    left: Directories,
+) -> Result<Flow, AllocError>
     ensures within { IfOk result (λ flow. passed flow ≤ 0) }
     ensures asks { IfOk result (λ flow. asks_now flow ≤ 1 + length left) }
     ensures heeds { IfOk result (λ flow. Heeds flow [] 0) }
