@@ -1,6 +1,6 @@
--- A word that was word_of is read as its value.
+-- Words are read as their values, and the word that is written for a value is read as it.
 use Rattle.std.proofs.Common.{◌≡◌, ℕ, Bool, true, false, not, ◌&&◌, ◌==◌, List, [], ◌∷◌, ◌++◌, Option, Some, None, ◌⊎◌, inl, inr, refl, sym, ap, ◌∙◌, subst, append_assoc}
-use Rattle.std.specs.Prelude.{option_map}
+use Rattle.std.specs.Prelude.{option_map, Result, Ok, Err, IfOk}
 use Rattle.std.specs.List.{list_all}
 use Rattle.std.proofs.lemmas.List.{append-nil}
 use Rattle.std.proofs.lemmas.Bool.Decides.{eqb_tells}
@@ -85,7 +85,7 @@ decided : (b : Bool) → (b ≡ true) ⊎ (b ≡ false)
 decided true = inl refl
 decided false = inr refl
 
--- a word that is word_of is read as its value
+-- the word that is written for a value is read as it
 pub written_reads : (braced : Bool) (v : List ℕ) → value_in braced (word_of v) ≡ Some v
 unfolding word_of value_from step
 written_reads braced v = elim (decided (list_all is_safe v)) [
@@ -172,7 +172,7 @@ word_read braced w value (form.escaped {b} {rest} {value = v} is) =
 word_read braced w value (form.bare {b} {rest} {value = v} ok is) =
     read_byte braced Unquoted Unquoted b (b ∷ []) rest (bare_step braced b ok) ∙ mapped_some (b ∷ []) (value_from braced Unquoted rest) v (word_read braced rest v is)
 
--- what a text holds that is read from a quoting on
+-- the parts of a text that is read from this quoting on
 abbrev Left : Bool → Quoting → List ℕ → List ℕ → Type 0
 Left braced Unquoted text v = IsWord braced text v
 Left braced Single text v = (inside : List ℕ) × (rest : List ℕ) × (value : List ℕ) × (list_all (λ b. not (b == 39)) inside ≡ true) × IsWord braced rest value × (inside ++ 39 ∷ rest ≡ text) × (inside ++ value ≡ v)
@@ -290,6 +290,22 @@ word_left braced Unquoted (b ∷ bs) v is = elim (eqb_tells b 39) [
 pub word_is : (braced : Bool) (w value : List ℕ) → value_in braced w ≡ Some value → IsWord braced w value
 word_is braced w value is = word_left braced Unquoted w value is
 
--- a word that is word_of stands for its value
-pub written_is : (braced : Bool) (v : List ℕ) → IsWord braced (word_of v) v
+-- the word that is written for a value stands for it
+written_is : (braced : Bool) (v : List ℕ) → IsWord braced (word_of v) v
 written_is braced v = word_is braced (word_of v) v (written_reads braced v)
+
+-- ---- what a call returns
+
+pub returned_is : {E : Type 0} (v : List ℕ) (r : Result (List ℕ) E) → IfOk r (λ w. w ≡ word_of v) → IfOk r (λ w. (braced : Bool) → IsWord braced w v)
+returned_is v (Ok w) is = λ braced. subst (λ x. IsWord braced x v) (sym is) (written_is braced v)
+returned_is v (Err e) is = tt
+
+pub word_if_safe : {E : Type 0} (v : List ℕ) (r : Result (List ℕ) E) → list_all is_safe v ≡ true → IfOk r (λ w. w ≡ v) → IfOk r (λ w. w ≡ word_of v)
+unfolding word_of
+word_if_safe v (Ok w) safe is = is ∙ sym (rw safe refl)
+word_if_safe v (Err e) safe is = tt
+
+pub word_if_unsafe : {E : Type 0} (v : List ℕ) (r : Result (List ℕ) E) → list_all is_safe v ≡ false → IfOk r (λ w. w ≡ 39 ∷ (quoted_text v ++ 39 ∷ [])) → IfOk r (λ w. w ≡ word_of v)
+unfolding word_of
+word_if_unsafe v (Ok w) unsafe is = is ∙ sym (rw unsafe refl)
+word_if_unsafe v (Err e) unsafe is = tt

@@ -102,19 +102,15 @@ fn plain_entry(alloc: Global, name: &[u8], word: &[u8]) -> Result<Option<Entry>,
     Ok(Some(Entry::sets(Bytes::from_slice(alloc, name)?, value)))
 }
 
-// Returns W of `V=W}`.
-fn braced_word<'a>(name: &[u8], text: &'a [u8]) -> Option<&'a [u8]>
-    ensures { option_map (λ t. t.now) result ≡ option_and_then words.before_brace (words.rest_after_name name.now text.now) }
-{
-    before_brace(rest_after_name(name, text)?)
-}
-
 // Returns the entry of `V=${V=W}`, from the text after `${`.
 #[tactic(auto, unfolding(crate::specs::Line::default_setting))]
 fn default_setting(alloc: Global, name: &[u8], text: &[u8]) -> Result<Option<Entry>, AllocError>
     ensures { IfOk result (λ e. e ≡ words.default_setting name.now text.now) }
 {
-    let Some(word) = braced_word(name, text) else {
+    let Some(rest) = rest_after_name(name, text) else {
+        return Ok(None);
+    };
+    let Some(word) = before_brace(rest) else {
         return Ok(None);
     };
     default_entry(alloc, true, name, word)
@@ -145,13 +141,6 @@ fn assignment(alloc: Global, line: &[u8]) -> Result<Option<Entry>, AllocError>
     assigned_setting(alloc, name, text)
 }
 
-// Returns the text after the middle, the name and `=`.
-fn guarded_word<'a>(middle: &[u8], name: &[u8], text: &'a [u8]) -> Option<&'a [u8]>
-    ensures { option_map (λ t. t.now) result ≡ option_and_then (words.rest_after_name name.now) (words.rest_after middle.now text.now) }
-{
-    rest_after_name(name, rest_after(middle, text)?)
-}
-
 // Returns the entry of a line with a test, from the text at its first V; `middle` is what is between V and `V=W`.
 #[tactic(auto, unfolding(crate::specs::Line::guarded_setting))]
 fn guarded_setting(alloc: Global, middle: &[u8], text: &[u8]) -> Result<Option<Entry>, AllocError>
@@ -160,7 +149,10 @@ fn guarded_setting(alloc: Global, middle: &[u8], text: &[u8]) -> Result<Option<E
     let Some((name, rest)) = front_word(text) else {
         return Ok(None);
     };
-    let Some(word) = guarded_word(middle, name, rest) else {
+    let Some(rest) = rest_after(middle, rest) else {
+        return Ok(None);
+    };
+    let Some(word) = rest_after_name(name, rest) else {
         return Ok(None);
     };
     default_entry(alloc, false, name, word)

@@ -1,6 +1,7 @@
 //! Shell words that stand for values.
 
-ghost use Rattle.std.specs.Prelude.{◌≡◌, ◌++◌, IfOk, option_map, OnOk, Bool};
+ghost use Rattle.std.specs.Prelude.{◌≡◌, ◌++◌, ◌∷◌, [], IfOk, option_map, OnOk, Bool};
+ghost use Rattle.std.specs.List.{list_all};
 ghost use Rattle.cachefile.specs.Word as words;
 ghost use Rattle.cachefile.specs.declared.word.Quoting.TheVariants.{Unquoted};
 
@@ -124,23 +125,35 @@ fn push_quoted(word: &mut Vec<u8>, byte: u8) -> Result<(), AllocError>
     Ok(())
 }
 
-/// Returns a shell word that stands for the value: the value itself if each byte is a letter, a digit or one of
-/// `_./:,+-`, and otherwise the value in single quotes, with `'\''` for each `'` (own).
-///
-/// The word of the empty value is empty. A cache text can't hold a word with a newline.
-#[tactic(auto, using(crate::proofs::Words::written_is), unfolding(crate::specs::Word::word_of))]
-pub fn word_text(alloc: Global, value: &[u8]) -> Result<Bytes, AllocError>
-    ensures exact { IfOk result (λ w. w ≡ words.word_of value.now) }
-    // The word stands for the value, inside `${V=W}` and outside.
-    ensures reads_back { IfOk result (λ w. (braced : Bool) → words.IsWord braced w value.now) }
+fn are_safe(value: &[u8]) -> bool
+    ensures { result ≡ list_all words.is_safe value.now }
 {
-    if value.iter().all(|byte| is_safe(*byte)) {
-        return Bytes::from_slice(alloc, value);
-    }
+    value.iter().all(|byte| is_safe(*byte))
+}
+
+fn quoted(alloc: Global, value: &[u8]) -> Result<Bytes, AllocError>
+    ensures { IfOk result (λ w. w ≡ 39 ∷ (words.quoted_text value.now ++ 39 ∷ [])) }
+{
     let mut word = Vec::from_slice(alloc, b"'")?;
     'bytes: for byte in value {
         push_quoted(&mut word, *byte)?;
     }
     word.push(b'\'')?;
     Ok(Bytes::from_vec(word))
+}
+
+/// Returns a shell word that stands for the value: the value itself if each byte is a letter, a digit or one of
+/// `_./:,+-`, and otherwise the value in single quotes, with `'\''` for each `'` (own).
+///
+/// The word of the empty value is empty. A value with a newline has a word too, but no line of a cache text can hold it.
+#[tactic(auto, unfolding(crate::specs::Word::word_of))]
+pub fn word_text(alloc: Global, value: &[u8]) -> Result<Bytes, AllocError>
+    ensures exact { IfOk result (λ w. w ≡ words.word_of value.now) }
+    // The word stands for the value, inside `${V=W}` and outside.
+    ensures reads_back { IfOk result (λ w. (braced : Bool) → words.IsWord braced w value.now) }
+{
+    if are_safe(value) {
+        return Bytes::from_slice(alloc, value);
+    }
+    quoted(alloc, value)
 }
