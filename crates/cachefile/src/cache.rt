@@ -116,7 +116,7 @@ pub fn read_cache(alloc: Global, text: &[u8]) -> Result<OldCache, CacheFault>
 }
 
 impl OldCache {
-    /// Sets the variables as a shell does that runs the text.
+    /// Makes the settings, in order. A value replaces what is set before, and a default doesn't.
     ///
     /// # Errors
     ///

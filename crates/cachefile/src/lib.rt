@@ -1,8 +1,9 @@
 //! Cache files: the results of earlier runs, for later ones.
 //!
 //! A cache file is a shell script that sets variables, a line for each. A name with `_cv_` in it is the name of a cached
-//! value (Autoconf's manual, "Cache Variable Names"). A text with the lines that Autoconf 2.71 writes can be read here, if
-//! no value in it has a newline. A shell can run the text that is written here.
+//! value (Autoconf's manual, "Cache Variable Names"). The lines that can be read have the forms that Autoconf 2.71 writes,
+//! and a text that is written here can be read here, unless it is too large. A value that bash has written as `$'..'` is an
+//! error.
 //!
 //! In a contract, a cache is the list of its settings. Each sets a name to a value, or to a default, which counts only if
 //! the name isn't set before. A call that returns a `Result` runs out of memory or fails as it says, and no other call
