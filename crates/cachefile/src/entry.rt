@@ -73,7 +73,11 @@ impl Entry {
     }
 
     /// Returns the value that `name` has after this entry is poured, from its value before.
-    pub(crate) fn value_after<'a>(&'a self, name: &[u8], before: Option<&'a [u8]>) -> Option<&'a [u8]>
+    pub(crate) fn value_after<'a>(
+        &'a self,
+        name: &[u8],
+        before: Option<&'a [u8]>,
+    ) -> Option<&'a [u8]>
         ensures { option_map (λ v. v.now) result ≡ words.value_after name.now (option_map (λ v. v.now) before.entry) self.now }
     {
         if name != self.name() || (self.is_default && before.is_some()) {

@@ -252,12 +252,16 @@ fn newlines(page: &Page, count: usize) -> Result<Vec<u8>, AllocError> {
     Ok(text)
 }
 
-fn put_newlines(page: &mut Page) {
-    let made = newlines(page, LARGEST + 1);
+fn put_newlines(page: &mut Page, count: usize) {
+    let made = newlines(page, count);
     if let Some(text) = page.given(made) {
-        put_read(page, b"", &text[..LARGEST]);
         put_read(page, b"", text.as_slice());
     }
+}
+
+fn put_largest(page: &mut Page) {
+    put_newlines(page, LARGEST);
+    put_newlines(page, LARGEST + 1);
 }
 
 struct Caches;
@@ -271,7 +275,7 @@ impl Call for Caches {
             [b'o', ..] => put_read(page, steps, after),
             [b'b', ..] => put_back(page, text),
             [b'f', ..] => put_fronts(page),
-            [b'n', b'e', ..] => put_newlines(page),
+            [b'n', b'e', ..] => put_largest(page),
             [b'n', ..] => page.put_yes(is_cache_name(text)),
             [b'w', b'o', ..] => put_word(page, text),
             _ => put_written(page, text),
