@@ -18,20 +18,20 @@ some_inj x y e = cc
 none_is_some : (x : List ℕ) → None ≡ Some x → ⊥
 none_is_some x e = absurd cc
 
--- what stands rest_after a front is what was put there
-pub behind_front : (front text : List ℕ) → rest_after front (front ++ text) ≡ Some text
+-- the text after a front that was put there
+pub rest_after-front : (front text : List ℕ) → rest_after front (front ++ text) ≡ Some text
 unfolding rest_after
-behind_front [] text = refl
-behind_front (f ∷ front) text = rw (same f) (behind_front front text)
+rest_after-front [] text = refl
+rest_after-front (f ∷ front) text = rw (same f) (rest_after-front front text)
 
--- a front stands before what is rest_after it
-pub behind_back : (front text rest : List ℕ) → rest_after front text ≡ Some rest → text ≡ front ++ rest
+-- a text that has this rest after a front
+pub front-rest_after : (front text rest : List ℕ) → rest_after front text ≡ Some rest → text ≡ front ++ rest
 unfolding rest_after
-behind_back [] text rest is = some_inj text rest is
-behind_back (f ∷ front) [] rest is = absurd (none_is_some rest is)
-behind_back (f ∷ front) (b ∷ bs) rest is = elim (eqb_tells b f) [
+front-rest_after [] text rest is = some_inj text rest is
+front-rest_after (f ∷ front) [] rest is = absurd (none_is_some rest is)
+front-rest_after (f ∷ front) (b ∷ bs) rest is = elim (eqb_tells b f) [
   | inl h ↦ let e : rest_after front bs ≡ Some rest = sym (rw (h.0) refl) ∙ is in
-      ap (λ n. n ∷ bs) h.1 ∙ ap (λ t. f ∷ t) (behind_back front bs rest e)
+      ap (λ n. n ∷ bs) h.1 ∙ ap (λ t. f ∷ t) (front-rest_after front bs rest e)
   | inr h ↦ let e : None ≡ Some rest = sym (rw (h.0) refl) ∙ is in absurd (none_is_some rest e)
 ]
 
@@ -39,11 +39,11 @@ found : (o : Option (List ℕ)) → ((x : List ℕ) × (o ≡ Some x)) ⊎ (o �
 found None = inr refl
 found (Some x) = inl (x, refl)
 
-pub behind_is : (front text : List ℕ) (r : Option (Bor (List ℕ))) → MatchOption r ((rest : List ℕ) → text ≢ front ++ rest) (λ x. text ≡ front ++ x.now)
+pub rest_after_is : (front text : List ℕ) (r : Option (Bor (List ℕ))) → MatchOption r ((rest : List ℕ) → text ≢ front ++ rest) (λ x. text ≡ front ++ x.now)
     → option_map (λ t. t.now) r ≡ rest_after front text
-behind_is front text (Some x) is = sym (ap (rest_after front) is ∙ behind_front front x.now)
-behind_is front text None lacks = elim (found (rest_after front text)) [
-  | inl h ↦ absurd (lacks h.0 (behind_back front text h.0 h.1))
+rest_after_is front text (Some x) is = sym (ap (rest_after front) is ∙ rest_after-front front x.now)
+rest_after_is front text None lacks = elim (found (rest_after front text)) [
+  | inl h ↦ absurd (lacks h.0 (front-rest_after front text h.0 h.1))
   | inr h ↦ sym h
 ]
 
@@ -79,17 +79,17 @@ brace_is text None lacks = elim (found (before_brace text)) [
 
 -- ---- a byte further
 
-pub silent_more : (whole : Bool) (xs : List ℕ) (i d : ℕ) → i < length xs → is_space (get_or xs i d) ≡ true → whole ≡ sets_nothing (drop i xs) → whole ≡ sets_nothing (drop (i + 1) xs)
+pub nothing_more : (whole : Bool) (xs : List ℕ) (i d : ℕ) → i < length xs → is_space (get_or xs i d) ≡ true → whole ≡ sets_nothing (drop i xs) → whole ≡ sets_nothing (drop (i + 1) xs)
 unfolding sets_nothing
-silent_more whole xs i d lt is h = h ∙ ap sets_nothing (drop_more xs i d lt) ∙ rw is refl
+nothing_more whole xs i d lt is h = h ∙ ap sets_nothing (drop_more xs i d lt) ∙ rw is refl
 
-pub silent_stop : (whole : Bool) (xs : List ℕ) (i d : ℕ) → i < length xs → is_space (get_or xs i d) ≡ false → whole ≡ sets_nothing (drop i xs) → whole ≡ (get_or xs i d == 35)
+pub nothing_stop : (whole : Bool) (xs : List ℕ) (i d : ℕ) → i < length xs → is_space (get_or xs i d) ≡ false → whole ≡ sets_nothing (drop i xs) → whole ≡ (get_or xs i d == 35)
 unfolding sets_nothing
-silent_stop whole xs i d lt is h = h ∙ ap sets_nothing (drop_more xs i d lt) ∙ rw is refl
+nothing_stop whole xs i d lt is h = h ∙ ap sets_nothing (drop_more xs i d lt) ∙ rw is refl
 
-pub silent_end : (whole : Bool) (xs : List ℕ) (i : ℕ) → length xs ≤ i → whole ≡ sets_nothing (drop i xs) → whole ≡ true
+pub nothing_end : (whole : Bool) (xs : List ℕ) (i : ℕ) → length xs ≤ i → whole ≡ sets_nothing (drop i xs) → whole ≡ true
 unfolding sets_nothing
-silent_end whole xs i le h = h ∙ ap sets_nothing (drop_of_length-le xs le)
+nothing_end whole xs i le h = h ∙ ap sets_nothing (drop_of_length-le xs le)
 
 begins : List ℕ → Bool
 begins text = starts_with nat_eq text (codes "_cv_")

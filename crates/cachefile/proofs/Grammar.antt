@@ -33,7 +33,7 @@ pub unchanged : (r : Read) → (r >>= λ more. Ok more) ≡ r
 unchanged (Ok more) = refl
 unchanged (Err e) = refl
 
--- what a line and the lines rest_after it are read as, where the line is read as this
+-- the reading of a line and of the lines after it, from what `line_of` gives for the line
 abbrev pub onto : ℕ → Option (Option Setting) → Read → Read
 onto n o rest = entry_from n o >>= λ setting. rest >>= λ more. Ok (option_to_list setting ++ more)
 

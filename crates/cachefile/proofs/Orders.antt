@@ -24,17 +24,17 @@ some_inj x y e = cc
 
 -- ---- one variable further
 
-placed : (start : Entries) (vs : Entries) (i : ℕ) (e : List ℕ × List ℕ) → slice_get vs i ≡ Some e
+one_placed : (start : Entries) (vs : Entries) (i : ℕ) (e : List ℕ × List ℕ) → slice_get vs i ≡ Some e
     → fold with_saved start (take (i + 1) vs) ≡ with_saved (fold with_saved start (take i vs)) e
-placed start [] i e at = absurd cc
-placed start (x ∷ vs) zero e at = ap (λ y. with_saved start y) (some_inj x e at)
-placed start (x ∷ vs) (suc i) e at =
+one_placed start [] i e at = absurd cc
+one_placed start (x ∷ vs) zero e at = ap (λ y. with_saved start y) (some_inj x e at)
+one_placed start (x ∷ vs) (suc i) e at =
     let n : suc i + 1 ≡ suc (i + 1) = omega arith in
-    ap (λ k. fold with_saved start (take k (x ∷ vs))) n ∙ placed (with_saved start x) vs i e at
+    ap (λ k. fold with_saved start (take k (x ∷ vs))) n ∙ one_placed (with_saved start x) vs i e at
 
 pub saved_more : (vs now next : Entries) (i : ℕ) (e : List ℕ × List ℕ) → slice_get vs i ≡ Some e
     → now ≡ fold with_saved [] (take i vs) → next ≡ with_saved now e → next ≡ fold with_saved [] (take (i + 1) vs)
-saved_more vs now next i e at h put = put ∙ ap (λ s. with_saved s e) h ∙ sym (placed [] vs i e at)
+saved_more vs now next i e at h put = put ∙ ap (λ s. with_saved s e) h ∙ sym (one_placed [] vs i e at)
 
 pub decided : (b : Bool) → (b ≡ true) ⊎ (b ≡ false)
 decided true = inl refl
@@ -52,7 +52,7 @@ saved_end vs now i le h = h ∙ ap (λ t. fold with_saved [] t) (take_all i vs l
 
 -- ---- a fold that gives each new name its value
 
--- what a step leaves of other names, and of its own where it is new
+-- a step leaves other names as they are, and gives its own name its value if that has none
 pub record Gives (step : Entries → List ℕ × List ℕ → Entries) : Type 0 where
   pub others : (vars : Entries) (e : List ℕ × List ℕ) (q : List ℕ) → bytes_eq q e.0 ≡ false → value_of (step vars e) q ≡ value_of vars q
   pub own : (vars : Entries) (e : List ℕ × List ℕ) (q : List ℕ) → bytes_eq q e.0 ≡ true → value_of vars q ≡ None → value_of (step vars e) q ≡ Some e.1
@@ -62,18 +62,18 @@ module _ (step : Entries → List ℕ × List ℕ → Entries) (gives : Gives st
   others_stay vars [] q all = refl
   others_stay vars (e ∷ es) q all = others_stay (step vars e) es q all.1 ∙ gives.others vars e q all.0
 
-  pub all_given : (vars es : Entries) (q : List ℕ) → HasDistinctNames es → value_of vars q ≡ None → value_of (fold step vars es) q ≡ value_of es q
+  pub all_set : (vars es : Entries) (q : List ℕ) → HasDistinctNames es → value_of vars q ≡ None → value_of (fold step vars es) q ≡ value_of es q
   unfolding value_of IsDistinct
-  all_given vars [] q distinct new = new
-  all_given vars (e ∷ es) q distinct new = elim (decided (bytes_eq q e.0)) [
+  all_set vars [] q distinct new = new
+  all_set vars (e ∷ es) q distinct new = elim (decided (bytes_eq q e.0)) [
     | inl h ↦
         let same : e.0 ≡ q = sym ((bytes_eq-Decides q e.0).0 h) in
         others_stay (step vars e) es q (subst (λ n. AllByRecursion (λ m. bytes_eq n m ≡ false) (names_of es)) same distinct.0)
         ∙ gives.own vars e q h new ∙ sym (rw h refl)
-    | inr h ↦ all_given (step vars e) es q distinct.1 (gives.others vars e q h ∙ new) ∙ sym (rw h refl)
+    | inr h ↦ all_set (step vars e) es q distinct.1 (gives.others vars e q h ∙ new) ∙ sym (rw h refl)
   ]
 
--- ---- an entry put in its quoting
+-- ---- an entry put in its place
 
 abbrev order : List ℕ → List ℕ → Ordering
 order x y = slice_cmp nat_cmp x y
@@ -125,7 +125,7 @@ none_set q = refl
 
 -- the order of entries is nothing to their values
 pub in_order_values : (es : Entries) (q : List ℕ) → HasDistinctNames es → value_of (in_order es) q ≡ value_of es q
-in_order_values es q distinct = all_given with_placed placing [] es q distinct (none_set q)
+in_order_values es q distinct = all_set with_placed placing [] es q distinct (none_set q)
 
 -- names in order are distinct
 pub in_order_distinct : (es : Entries) → AreInOrder es → HasDistinctNames es
@@ -133,9 +133,9 @@ in_order_distinct es sorted =
     subst (λ (eq : List ℕ → List ℕ → Bool). IsDistinct eq (names_of es)) (fun_ext (λ x. fun_ext (λ y. is_eq-slice_cmp x y)))
     (IsDistinct-from_sorted order (names_of es) sorted)
 
--- ---- saved_entries entries
+-- ---- entries that are saved
 
--- each is saved_entries
+-- each is saved
 abbrev pub AreSaved : Entries → Type 0
 AreSaved es = AllByRecursion (λ e. is_saved e ≡ true) es
 

@@ -1,4 +1,4 @@
--- A text that was word_of is read as the entries that it was word_of for.
+-- The text that is written for variables is read as their settings.
 use Rattle.std.proofs.Common.{◌≡◌, ℕ, ◌+◌, ◌≤◌, nat_lt, Bool, true, false, not, ◌==◌, ◌||◌, ◌<◌, arith, List, [], ◌∷◌, ◌++◌, Some, None, Result, Ok, Err, inl, inr, length, map, filter, refl, sym, ap, ◌∙◌, subst, append_assoc}
 use Rattle.std.specs.Prelude.{codes, IfOk, fold, bytes_eq, if◌then◌else◌}
 use Rattle.std.specs.List.{onto_first, list_all, IsDistinct, AllByRecursion}
@@ -18,11 +18,11 @@ use Rattle.cachefile.specs.Form as form
 use Rattle.cachefile.specs.Reading.{◌>>=◌}
 use Rattle.cachefile.specs.Cache.{lines_from, entry_of, cache_of, limit, with_setting, vars_after}
 use Rattle.cachefile.specs.Text.{is_one_line, is_saved, has_brace, plain_line, guarded_line, braced_line, line_for, lines_for, saved_entries, cache_text_of, AreInOrder, saved_value, IsCacheText, ReadsBack}
-use Rattle.cachefile.proofs.Words.{both_true, both_are, written_reads, word_is}
+use Rattle.cachefile.proofs.Words.{both_true, both_are, word_of_reads, word_is}
 use Rattle.cachefile.proofs.Lines.{line_read}
 use Rattle.cachefile.proofs.Grammar.{split, cache_name, unchanged}
 use Rattle.cachefile.proofs.Pours.{value_of-with_setting}
-use Rattle.cachefile.proofs.Orders.{Entries, Gives, all_given, in_order_values, in_order_distinct, AreSaved, all_saved_entries, decided, none_set}
+use Rattle.cachefile.proofs.Orders.{Entries, Gives, all_set, in_order_values, in_order_distinct, AreSaved, all_saved_entries, decided, none_set}
 
 -- ---- names
 
@@ -53,87 +53,87 @@ word_of_name (b ∷ bs) ok =
     let q = both_true (starts_name b) (list_all continues_name bs) p.0 in
     both_are (is_word_byte b) (list_all is_word_byte bs) (first_byte b q.0) q.1
 
--- ---- lines are whole
+-- ---- lines have no newline
 
-word_whole_byte : (b : ℕ) → is_word_byte b ≡ true → not (b == 10) ≡ true
-word_whole_byte b ok = elim (eqb_tells b 10) [ inl h ↦ absurd (true_is_false (sym ok ∙ ap is_word_byte h.1)) | inr h ↦ rw (h.0) refl ]
+word_byte_one_line : (b : ℕ) → is_word_byte b ≡ true → not (b == 10) ≡ true
+word_byte_one_line b ok = elim (eqb_tells b 10) [ inl h ↦ absurd (true_is_false (sym ok ∙ ap is_word_byte h.1)) | inr h ↦ rw (h.0) refl ]
 
-word_whole : (name : List ℕ) → list_all is_word_byte name ≡ true → is_one_line name ≡ true
-word_whole [] ok = refl
-word_whole (b ∷ bs) ok =
+word_bytes_one_line : (name : List ℕ) → list_all is_word_byte name ≡ true → is_one_line name ≡ true
+word_bytes_one_line [] ok = refl
+word_bytes_one_line (b ∷ bs) ok =
     let p = both_true (is_word_byte b) (list_all is_word_byte bs) ok in
-    both_are (not (b == 10)) (is_one_line bs) (word_whole_byte b p.0) (word_whole bs p.1)
+    both_are (not (b == 10)) (is_one_line bs) (word_byte_one_line b p.0) (word_bytes_one_line bs p.1)
 
-name_whole : (name : List ℕ) → is_word name ≡ true → is_one_line name ≡ true
-name_whole [] ok = absurd (true_is_false (sym ok))
-name_whole (b ∷ bs) ok = word_whole (b ∷ bs) ok
+name_one_line : (name : List ℕ) → is_word name ≡ true → is_one_line name ≡ true
+name_one_line [] ok = absurd (true_is_false (sym ok))
+name_one_line (b ∷ bs) ok = word_bytes_one_line (b ∷ bs) ok
 
-whole_both : (xs ys : List ℕ) → is_one_line xs ≡ true → is_one_line ys ≡ true → is_one_line (xs ++ ys) ≡ true
-whole_both xs ys h k = list_all-append (λ b. not (b == 10)) xs ys ∙ both_are (is_one_line xs) (is_one_line ys) h k
+both_one_line : (xs ys : List ℕ) → is_one_line xs ≡ true → is_one_line ys ≡ true → is_one_line (xs ++ ys) ≡ true
+both_one_line xs ys h k = list_all-append (λ b. not (b == 10)) xs ys ∙ both_are (is_one_line xs) (is_one_line ys) h k
 
-inside_one_whole : (b : ℕ) → not (b == 10) ≡ true → is_one_line (quoted_byte b) ≡ true
-inside_one_whole b ok = elim (eqb_tells b 39) [ inl h ↦ rw (h.0) refl | inr h ↦ rw (h.0) (both_are (not (b == 10)) true ok refl) ]
+quoted_byte_one_line : (b : ℕ) → not (b == 10) ≡ true → is_one_line (quoted_byte b) ≡ true
+quoted_byte_one_line b ok = elim (eqb_tells b 39) [ inl h ↦ rw (h.0) refl | inr h ↦ rw (h.0) (both_are (not (b == 10)) true ok refl) ]
 
-inside_whole : (v : List ℕ) → is_one_line v ≡ true → is_one_line (quoted_text v) ≡ true
-inside_whole [] ok = refl
-inside_whole (b ∷ bs) ok =
+quoted_one_line : (v : List ℕ) → is_one_line v ≡ true → is_one_line (quoted_text v) ≡ true
+quoted_one_line [] ok = refl
+quoted_one_line (b ∷ bs) ok =
     let p = both_true (not (b == 10)) (is_one_line bs) ok in
-    whole_both (quoted_byte b) (quoted_text bs) (inside_one_whole b p.0) (inside_whole bs p.1)
+    both_one_line (quoted_byte b) (quoted_text bs) (quoted_byte_one_line b p.0) (quoted_one_line bs p.1)
 
-written_whole : (v : List ℕ) → is_one_line v ≡ true → is_one_line (word_of v) ≡ true
+word_one_line : (v : List ℕ) → is_one_line v ≡ true → is_one_line (word_of v) ≡ true
 unfolding word_of
-written_whole v ok = elim (decided (list_all is_safe v)) [
+word_one_line v ok = elim (decided (list_all is_safe v)) [
   | inl h ↦ rw h ok
-  | inr h ↦ rw h (whole_both (39 ∷ []) (quoted_text v ++ 39 ∷ []) refl (whole_both (quoted_text v) (39 ∷ []) (inside_whole v ok) refl))
+  | inr h ↦ rw h (both_one_line (39 ∷ []) (quoted_text v ++ 39 ∷ []) refl (both_one_line (quoted_text v) (39 ∷ []) (quoted_one_line v ok) refl))
 ]
 
-set_whole : (name w : List ℕ) → is_one_line name ≡ true → is_one_line w ≡ true → is_one_line (plain_line name w) ≡ true
-set_whole name w n_ok w_ok = whole_both name (codes "=" ++ w) n_ok (whole_both (codes "=") w refl w_ok)
+plain_one_line : (name w : List ℕ) → is_one_line name ≡ true → is_one_line w ≡ true → is_one_line (plain_line name w) ≡ true
+plain_one_line name w n_ok w_ok = both_one_line name (codes "=" ++ w) n_ok (both_one_line (codes "=") w refl w_ok)
 
-test_whole : (name w : List ℕ) → is_one_line name ≡ true → is_one_line w ≡ true → is_one_line (guarded_line name w) ≡ true
-test_whole name w n_ok w_ok =
-    whole_both (codes "test ${") (name ++ (codes "+y} || " ++ plain_line name w)) refl
-    (whole_both name (codes "+y} || " ++ plain_line name w) n_ok (whole_both (codes "+y} || ") (plain_line name w) refl (set_whole name w n_ok w_ok)))
+guarded_one_line : (name w : List ℕ) → is_one_line name ≡ true → is_one_line w ≡ true → is_one_line (guarded_line name w) ≡ true
+guarded_one_line name w n_ok w_ok =
+    both_one_line (codes "test ${") (name ++ (codes "+y} || " ++ plain_line name w)) refl
+    (both_one_line name (codes "+y} || " ++ plain_line name w) n_ok (both_one_line (codes "+y} || ") (plain_line name w) refl (plain_one_line name w n_ok w_ok)))
 
-default_whole : (name w : List ℕ) → is_one_line name ≡ true → is_one_line w ≡ true → is_one_line (braced_line name w) ≡ true
-default_whole name w n_ok w_ok =
-    whole_both name (codes "=${" ++ (name ++ (codes "=" ++ (w ++ codes "}")))) n_ok
-    (whole_both (codes "=${") (name ++ (codes "=" ++ (w ++ codes "}"))) refl (set_whole name (w ++ codes "}") n_ok (whole_both w (codes "}") w_ok refl)))
+braced_one_line : (name w : List ℕ) → is_one_line name ≡ true → is_one_line w ≡ true → is_one_line (braced_line name w) ≡ true
+braced_one_line name w n_ok w_ok =
+    both_one_line name (codes "=${" ++ (name ++ (codes "=" ++ (w ++ codes "}")))) n_ok
+    (both_one_line (codes "=${") (name ++ (codes "=" ++ (w ++ codes "}"))) refl (plain_one_line name (w ++ codes "}") n_ok (both_one_line w (codes "}") w_ok refl)))
 
-line_whole : (e : List ℕ × List ℕ) → is_saved e ≡ true → is_one_line (line_for e) ≡ true
+line_one_line : (e : List ℕ × List ℕ) → is_saved e ≡ true → is_one_line (line_for e) ≡ true
 unfolding line_for
-line_whole e ok =
+line_one_line e ok =
     let p = both_true (is_cache_name e.0) (is_one_line e.1) ok in
-    let n = name_whole e.0 (word_of_name e.0 p.0) in
-    let w = written_whole e.1 p.1 in
+    let n = name_one_line e.0 (word_of_name e.0 p.0) in
+    let w = word_one_line e.1 p.1 in
     elim (decided (is_mark e.0)) [
-      | inl h ↦ rw h (set_whole e.0 (word_of e.1) n w)
+      | inl h ↦ rw h (plain_one_line e.0 (word_of e.1) n w)
       | inr h ↦ (elim (decided (has_brace e.1)) [
-        | inl k ↦ rw (h, k) (test_whole e.0 (word_of e.1) n w)
-        | inr k ↦ rw (h, k) (default_whole e.0 (word_of e.1) n w)
+        | inl k ↦ rw (h, k) (guarded_one_line e.0 (word_of e.1) n w)
+        | inr k ↦ rw (h, k) (braced_one_line e.0 (word_of e.1) n w)
       ])
     ]
 
 -- ---- lines are read
 
--- what the line of an entry says
+-- the setting of the line of an entry
 abbrev setting_of : List ℕ × List ℕ → Setting
 setting_of e = if is_mark e.0 then Sets e.0 e.1 else Defaults e.0 e.1
 
-line_says : (e : List ℕ × List ℕ) → is_saved e ≡ true → IsLine (line_for e) (Some (setting_of e))
+line_sets : (e : List ℕ × List ℕ) → is_saved e ≡ true → IsLine (line_for e) (Some (setting_of e))
 unfolding line_for
-line_says e ok =
+line_sets e ok =
     let n = word_of_name e.0 (both_true (is_cache_name e.0) (is_one_line e.1) ok).0 in
     elim (decided (is_mark e.0)) [
-      | inl h ↦ rw h (form.set e.0 (word_of e.1) n (word_is false (word_of e.1) e.1 (written_reads false e.1)))
+      | inl h ↦ rw h (form.set e.0 (word_of e.1) n (word_is false (word_of e.1) e.1 (word_of_reads false e.1)))
       | inr h ↦ (elim (decided (has_brace e.1)) [
-        | inl k ↦ rw (h, k) (form.guarded e.0 (word_of e.1) n (word_is false (word_of e.1) e.1 (written_reads false e.1)))
-        | inr k ↦ rw (h, k) (form.braced e.0 (word_of e.1) n (word_is true (word_of e.1) e.1 (written_reads true e.1)))
+        | inl k ↦ rw (h, k) (form.guarded e.0 (word_of e.1) n (word_is false (word_of e.1) e.1 (word_of_reads false e.1)))
+        | inr k ↦ rw (h, k) (form.braced e.0 (word_of e.1) n (word_is true (word_of e.1) e.1 (word_of_reads true e.1)))
       ])
     ]
 
-said_name : (e : List ℕ × List ℕ) → is_saved e ≡ true → is_cache_name (name_of (setting_of e)) ≡ true
-said_name e ok =
+setting_name : (e : List ℕ × List ℕ) → is_saved e ≡ true → is_cache_name (name_of (setting_of e)) ≡ true
+setting_name e ok =
     let p = both_true (is_cache_name e.0) (is_one_line e.1) ok in
     elim (decided (is_mark e.0)) [ inl h ↦ rw h p.0 | inr h ↦ rw h p.0 ]
 
@@ -149,59 +149,59 @@ cut_line (b ∷ line) rest whole =
     let p = both_true (not (b == 10)) (is_one_line line) whole in
     rw (not_true (b == 10) p.0) (ap (λ ls. onto_first b ls) (cut_line line rest p.1))
 
-lines_say : (n : ℕ) (es : Entries) → AreSaved es → lines_from n (parts 10 (lines_for es)) ≡ Ok (map setting_of es)
+lines_set : (n : ℕ) (es : Entries) → AreSaved es → lines_from n (parts 10 (lines_for es)) ≡ Ok (map setting_of es)
 unfolding lines_from entry_of line_of sets_nothing parts parts_by
-lines_say n [] all = refl
-lines_say n (e ∷ es) all =
+lines_set n [] all = refl
+lines_set n (e ∷ es) all =
     ap (λ t. lines_from n (parts 10 t)) (append_assoc (line_for e) (10 ∷ []) (lines_for es))
-    ∙ ap (λ ls. lines_from n ls) (cut_line (line_for e) (lines_for es) (line_whole e all.0))
-    ∙ split n (line_for e) (parts 10 (lines_for es)) (Some (Some (setting_of e))) (line_read (line_for e) (Some (setting_of e)) (line_says e all.0))
-    ∙ cache_name n (setting_of e) (lines_from (n + 1) (parts 10 (lines_for es))) (said_name e all.0)
-    ∙ ap (λ r. r >>= λ more. Ok (setting_of e ∷ more)) (lines_say (n + 1) es all.1)
+    ∙ ap (λ ls. lines_from n ls) (cut_line (line_for e) (lines_for es) (line_one_line e all.0))
+    ∙ split n (line_for e) (parts 10 (lines_for es)) (Some (Some (setting_of e))) (line_read (line_for e) (Some (setting_of e)) (line_sets e all.0))
+    ∙ cache_name n (setting_of e) (lines_from (n + 1) (parts 10 (lines_for es))) (setting_name e all.0)
+    ∙ ap (λ r. r >>= λ more. Ok (setting_of e ∷ more)) (lines_set (n + 1) es all.1)
 
-heading_silent : line_of (codes "# config.cache of configure") ≡ Some None
+heading_sets_nothing : line_of (codes "# config.cache of configure") ≡ Some None
 unfolding line_of sets_nothing
-heading_silent = refl
+heading_sets_nothing = refl
 
-text_says : (es : Entries) → AreSaved es → lines_from 1 (parts 10 (codes "# config.cache of configure\n" ++ lines_for es)) ≡ Ok (map setting_of es)
-text_says es all =
+text_sets : (es : Entries) → AreSaved es → lines_from 1 (parts 10 (codes "# config.cache of configure\n" ++ lines_for es)) ≡ Ok (map setting_of es)
+text_sets es all =
     ap (λ ls. lines_from 1 ls) (cut_line (codes "# config.cache of configure") (lines_for es) refl)
-    ∙ split 1 (codes "# config.cache of configure") (parts 10 (lines_for es)) (Some None) heading_silent
+    ∙ split 1 (codes "# config.cache of configure") (parts 10 (lines_for es)) (Some None) heading_sets_nothing
     ∙ unchanged (lines_from (1 + 1) (parts 10 (lines_for es)))
-    ∙ lines_say (1 + 1) es all
+    ∙ lines_set (1 + 1) es all
 
 text_read : (vars : Entries) → length (cache_text_of vars) ≤ limit → cache_of (cache_text_of vars) ≡ Ok (map setting_of (saved_entries vars))
 unfolding cache_of
 text_read vars small = elim (decided (nat_lt limit (length (cache_text_of vars)))) [
   | inl h ↦ absurd (too_much vars small ((Decides-ltb limit (length (cache_text_of vars))).0 h))
-  | inr h ↦ rw h (text_says (saved_entries vars) (all_saved_entries vars))
+  | inr h ↦ rw h (text_sets (saved_entries vars) (all_saved_entries vars))
 ]
 
--- ---- lines leave the values
+-- ---- settings leave the values
 
 abbrev step : Entries → List ℕ × List ℕ → Entries
 step vars e = with_setting vars (setting_of e)
 
-said_others : (vars : Entries) (e : List ℕ × List ℕ) (q : List ℕ) → bytes_eq q e.0 ≡ false → value_of (step vars e) q ≡ value_of vars q
-said_others vars e q other = value_of-with_setting vars (setting_of e) q ∙ (elim (decided (is_mark e.0)) [
+setting_others : (vars : Entries) (e : List ℕ × List ℕ) (q : List ℕ) → bytes_eq q e.0 ≡ false → value_of (step vars e) q ≡ value_of vars q
+setting_others vars e q other = value_of-with_setting vars (setting_of e) q ∙ (elim (decided (is_mark e.0)) [
   | inl h ↦ rw (h, other) refl
   | inr h ↦ rw (h, other) refl
 ])
 
-said_own : (vars : Entries) (e : List ℕ × List ℕ) (q : List ℕ) → bytes_eq q e.0 ≡ true → value_of vars q ≡ None → value_of (step vars e) q ≡ Some e.1
-said_own vars e q own new = value_of-with_setting vars (setting_of e) q ∙ (elim (decided (is_mark e.0)) [
+setting_own : (vars : Entries) (e : List ℕ × List ℕ) (q : List ℕ) → bytes_eq q e.0 ≡ true → value_of vars q ≡ None → value_of (step vars e) q ≡ Some e.1
+setting_own vars e q own new = value_of-with_setting vars (setting_of e) q ∙ (elim (decided (is_mark e.0)) [
   | inl h ↦ rw (h, own) refl
   | inr h ↦ rw (h, own, new) refl
 ])
 
 pouring : Gives step
-pouring = record { others = said_others; own = said_own }
+pouring = record { others = setting_others; own = setting_own }
 
-poured_steps : (vars es : Entries) → vars_after (map setting_of es) vars ≡ fold step vars es
-poured_steps vars [] = refl
-poured_steps vars (e ∷ es) = poured_steps (step vars e) es
+settings_are_steps : (vars es : Entries) → vars_after (map setting_of es) vars ≡ fold step vars es
+settings_are_steps vars [] = refl
+settings_are_steps vars (e ∷ es) = settings_are_steps (step vars e) es
 
--- ---- what is saved_entries of a name
+-- ---- the value of a name that is saved
 
 absent : (es : Entries) (q : List ℕ) → AllByRecursion (λ n. bytes_eq q n ≡ false) (names_of es) → value_of es q ≡ None
 unfolding value_of
@@ -241,8 +241,8 @@ reads_back vars distinct sorted small = record {
   settings = map setting_of (saved_entries vars);
   read = text_read vars small;
   values = λ q.
-      ap (λ vs. value_of vs q) (poured_steps [] (saved_entries vars))
-      ∙ all_given step pouring [] (saved_entries vars) q (in_order_distinct (saved_entries vars) sorted) (none_set q)
+      ap (λ vs. value_of vs q) (settings_are_steps [] (saved_entries vars))
+      ∙ all_set step pouring [] (saved_entries vars) q (in_order_distinct (saved_entries vars) sorted) (none_set q)
       ∙ values_saved vars q distinct;
 }
 

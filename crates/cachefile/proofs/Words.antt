@@ -73,12 +73,12 @@ one_reads braced b rest = elim (eqb_tells b 39) [
 ]
 
 -- a text in single quotes is read as itself
-pub inside_reads : (braced : Bool) (v rest : List ℕ) → value_from braced Single (quoted_text v ++ rest) ≡ option_map (λ w. v ++ w) (value_from braced Single rest)
-inside_reads braced [] rest = sym (mapped_none (value_from braced Single rest))
-inside_reads braced (b ∷ v) rest =
+pub quoted_reads : (braced : Bool) (v rest : List ℕ) → value_from braced Single (quoted_text v ++ rest) ≡ option_map (λ w. v ++ w) (value_from braced Single rest)
+quoted_reads braced [] rest = sym (mapped_none (value_from braced Single rest))
+quoted_reads braced (b ∷ v) rest =
     ap (λ t. value_from braced Single t) (append_assoc (quoted_byte b) (quoted_text v) rest)
     ∙ one_reads braced b (quoted_text v ++ rest)
-    ∙ ap (λ o. option_map (λ w. (b ∷ []) ++ w) o) (inside_reads braced v rest)
+    ∙ ap (λ o. option_map (λ w. (b ∷ []) ++ w) o) (quoted_reads braced v rest)
     ∙ mapped_twice (b ∷ []) v (value_from braced Single rest)
 
 decided : (b : Bool) → (b ≡ true) ⊎ (b ≡ false)
@@ -86,11 +86,11 @@ decided true = inl refl
 decided false = inr refl
 
 -- the word that is written for a value is read as it
-pub written_reads : (braced : Bool) (v : List ℕ) → value_in braced (word_of v) ≡ Some v
+pub word_of_reads : (braced : Bool) (v : List ℕ) → value_in braced (word_of v) ≡ Some v
 unfolding word_of value_from step
-written_reads braced v = elim (decided (list_all is_safe v)) [
+word_of_reads braced v = elim (decided (list_all is_safe v)) [
   | inl h ↦ rw h (safe_reads braced v h)
-  | inr h ↦ rw h (ap (λ o. option_map (λ w. [] ++ w) o) (inside_reads braced v (39 ∷ [])) ∙ ap (λ t. Some t) (append-nil v))
+  | inr h ↦ rw h (ap (λ o. option_map (λ w. [] ++ w) o) (quoted_reads braced v (39 ∷ [])) ∙ ap (λ t. Some t) (append-nil v))
 ]
 
 -- ---- words by their forms
@@ -121,9 +121,9 @@ single_read braced (b ∷ inside) rest value all is =
     read_byte braced Single Single b (b ∷ []) (inside ++ 39 ∷ rest) (plain_single braced b (not_false (b == 39) p.0))
     ∙ mapped_some (b ∷ []) (value_from braced Single (inside ++ 39 ∷ rest)) (inside ++ value) (single_read braced inside rest value p.1 is)
 
-inside_double : (b : ℕ) → is_double_quoted b ≡ true → (braced : Bool) → step braced Double b ≡ Some (Double, b ∷ [])
+double_step : (b : ℕ) → is_double_quoted b ≡ true → (braced : Bool) → step braced Double b ≡ Some (Double, b ∷ [])
 unfolding step
-inside_double b ok braced = elim (eqb_tells b 34) [
+double_step b ok braced = elim (eqb_tells b 34) [
   | inl h ↦ absurd (true_is_false (sym ok ∙ ap is_double_quoted h.1))
   | inr h ↦ (elim (eqb_tells b 36) [
     | inl k ↦ absurd (true_is_false (sym ok ∙ ap is_double_quoted k.1))
@@ -143,7 +143,7 @@ unfolding value_from step
 double_read braced [] rest value all is = ap (λ o. option_map (λ w. [] ++ w) o) is
 double_read braced (b ∷ inside) rest value all is =
     let p = both_true (is_double_quoted b) (list_all is_double_quoted inside) all in
-    read_byte braced Double Double b (b ∷ []) (inside ++ 34 ∷ rest) (inside_double b p.0 braced)
+    read_byte braced Double Double b (b ∷ []) (inside ++ 34 ∷ rest) (double_step b p.0 braced)
     ∙ mapped_some (b ∷ []) (value_from braced Double (inside ++ 34 ∷ rest)) (inside ++ value) (double_read braced inside rest value p.1 is)
 
 bare_step : (braced : Bool) (b : ℕ) → is_bare braced b ≡ true → step braced Unquoted b ≡ Some (Unquoted, b ∷ [])
@@ -255,7 +255,7 @@ word_left braced Double (b ∷ bs) v is = elim (eqb_tells b 34) [
       ([], bs, s.0, refl, word_left braced Unquoted bs s.0 s.1, ap (λ n. n ∷ bs) (sym h.1), s.2)
   | inr h ↦ (elim (decided (is_double_quoted b)) [
     | inl k ↦
-        let s = stepped braced Double Double b (b ∷ []) bs v (inside_double b k braced) is in
+        let s = stepped braced Double Double b (b ∷ []) bs v (double_step b k braced) is in
         let l = word_left braced Double bs s.0 s.1 in
         (b ∷ l.0, l.1, l.2, both_are (is_double_quoted b) (list_all is_double_quoted l.0) k l.3, l.4, ap (λ t. b ∷ t) l.5, ap (λ t. b ∷ t) l.6 ∙ s.2)
     | inr k ↦ absurd (stopped braced Double b bs v (double_refused braced b h.0 k) is)
@@ -291,13 +291,13 @@ pub word_is : (braced : Bool) (w value : List ℕ) → value_in braced w ≡ Som
 word_is braced w value is = word_left braced Unquoted w value is
 
 -- the word that is written for a value stands for it
-written_is : (braced : Bool) (v : List ℕ) → IsWord braced (word_of v) v
-written_is braced v = word_is braced (word_of v) v (written_reads braced v)
+word_of_is : (braced : Bool) (v : List ℕ) → IsWord braced (word_of v) v
+word_of_is braced v = word_is braced (word_of v) v (word_of_reads braced v)
 
 -- ---- what a call returns
 
 pub returned_is : {E : Type 0} (v : List ℕ) (r : Result (List ℕ) E) → IfOk r (λ w. w ≡ word_of v) → IfOk r (λ w. (braced : Bool) → IsWord braced w v)
-returned_is v (Ok w) is = λ braced. subst (λ x. IsWord braced x v) (sym is) (written_is braced v)
+returned_is v (Ok w) is = λ braced. subst (λ x. IsWord braced x v) (sym is) (word_of_is braced v)
 returned_is v (Err e) is = tt
 
 pub word_if_safe : {E : Type 0} (v : List ℕ) (r : Result (List ℕ) E) → list_all is_safe v ≡ true → IfOk r (λ w. w ≡ v) → IfOk r (λ w. w ≡ word_of v)

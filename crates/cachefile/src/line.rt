@@ -65,7 +65,7 @@ fn is_space(byte: u8) -> bool
 }
 
 // Returns whether the line is empty except for spaces, tabs and a comment.
-#[tactic(auto, using(crate::proofs::Fronts::silent_more, crate::proofs::Fronts::silent_stop, crate::proofs::Fronts::silent_end))]
+#[tactic(auto, using(crate::proofs::Fronts::nothing_more, crate::proofs::Fronts::nothing_stop, crate::proofs::Fronts::nothing_end))]
 fn sets_nothing(line: &[u8]) -> bool
     ensures { result ≡ words.sets_nothing line.now }
 {
