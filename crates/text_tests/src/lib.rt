@@ -1,4 +1,4 @@
-//! Tests of the crates that hold and cut texts: deftable, textcut, m4quote, csource, conftest and template.
+//! Tests of the crates that hold and cut texts: deftable, textcut, m4quote, cachefile, csource, conftest and template.
 //!
 //! They have what no clause says: an ordinary answer of each call, with ample memory; worked examples, each answer found by
 //! hand from the rules; and printed text. An example is a row of a table that `testrows` reads, and a row begins with a word
@@ -6,6 +6,8 @@
 //! crate.
 #![tactic(auto)]
 
+#[cfg(test)]
+mod caches;
 #[cfg(test)]
 mod cuts;
 #[cfg(test)]

@@ -1,0 +1,166 @@
+-- Saved variables in the order of their names.
+use Rattle.std.proofs.Common.{◌≡◌, ℕ, ◌+◌, ◌≤◌, Bool, true, false, List, [], ◌∷◌, Option, Some, None, ◌⊎◌, inl, inr, cond, length, take, filter, zero, suc, refl, sym, ap, ◌∙◌, subst, arith, Ordering, Less, Equal, Greater}
+use Rattle.std.specs.Prelude.{fold, slice_get, bytes_eq}
+use Rattle.std.specs.List.{IsDistinct, AllByRecursion}
+use Rattle.std.specs.BTreeMap.{insert_entry}
+use Rattle.std.specs.Ordering.{nat_cmp, match_ordering, is_eq}
+use Rattle.std.specs.Cmp.Lexicographic.{slice_cmp}
+use Rattle.std.proofs.Math.Path.{fun_ext}
+use Rattle.std.proofs.lemmas.List.{take_all}
+use Rattle.std.proofs.lemmas.Map.Keys.{IsDistinct-from_sorted}
+use Rattle.std.proofs.lemmas.Map.Text.{is_eq-slice_cmp}
+use Rattle.std.proofs.lemmas.Slice.Eq.{bytes_eq-Decides}
+use Rattle.deftable.specs.Table.{value_of, names_of, HasDistinctNames}
+use Rattle.cachefile.specs.Text.{is_saved, with_saved, with_placed, in_order, saved_entries, AreInOrder}
+
+abbrev pub Entries : Type 0
+Entries = List (List ℕ × List ℕ)
+
+abbrev some : List ℕ × List ℕ → Option (List ℕ × List ℕ)
+some x = Some x
+
+some_inj : (x y : List ℕ × List ℕ) → some x ≡ some y → x ≡ y
+some_inj x y e = cc
+
+-- ---- one variable further
+
+one_placed : (start : Entries) (vs : Entries) (i : ℕ) (e : List ℕ × List ℕ) → slice_get vs i ≡ Some e
+    → fold with_saved start (take (i + 1) vs) ≡ with_saved (fold with_saved start (take i vs)) e
+one_placed start [] i e at = absurd cc
+one_placed start (x ∷ vs) zero e at = ap (λ y. with_saved start y) (some_inj x e at)
+one_placed start (x ∷ vs) (suc i) e at =
+    let n : suc i + 1 ≡ suc (i + 1) = omega arith in
+    ap (λ k. fold with_saved start (take k (x ∷ vs))) n ∙ one_placed (with_saved start x) vs i e at
+
+pub saved_more : (vs now next : Entries) (i : ℕ) (e : List ℕ × List ℕ) → slice_get vs i ≡ Some e
+    → now ≡ fold with_saved [] (take i vs) → next ≡ with_saved now e → next ≡ fold with_saved [] (take (i + 1) vs)
+saved_more vs now next i e at h put = put ∙ ap (λ s. with_saved s e) h ∙ sym (one_placed [] vs i e at)
+
+pub decided : (b : Bool) → (b ≡ true) ⊎ (b ≡ false)
+decided true = inl refl
+decided false = inr refl
+
+only_saved : (start es : Entries) → fold with_saved start es ≡ fold with_placed start (filter is_saved es)
+only_saved start [] = refl
+only_saved start (e ∷ es) = elim (decided (is_saved e)) [
+  | inl h ↦ rw h (only_saved (with_placed start e) es)
+  | inr h ↦ rw h (only_saved start es)
+]
+
+pub saved_end : (vs now : Entries) (i : ℕ) → length vs ≤ i → now ≡ fold with_saved [] (take i vs) → now ≡ saved_entries vs
+saved_end vs now i le h = h ∙ ap (λ t. fold with_saved [] t) (take_all i vs le) ∙ only_saved [] vs
+
+-- ---- a fold that gives each new name its value
+
+-- a step leaves other names as they are, and gives its own name its value if that has none
+pub record Gives (step : Entries → List ℕ × List ℕ → Entries) : Type 0 where
+  pub others : (vars : Entries) (e : List ℕ × List ℕ) (q : List ℕ) → bytes_eq q e.0 ≡ false → value_of (step vars e) q ≡ value_of vars q
+  pub own : (vars : Entries) (e : List ℕ × List ℕ) (q : List ℕ) → bytes_eq q e.0 ≡ true → value_of vars q ≡ None → value_of (step vars e) q ≡ Some e.1
+
+module _ (step : Entries → List ℕ × List ℕ → Entries) (gives : Gives step) where
+  others_stay : (vars es : Entries) (q : List ℕ) → AllByRecursion (λ n. bytes_eq q n ≡ false) (names_of es) → value_of (fold step vars es) q ≡ value_of vars q
+  others_stay vars [] q all = refl
+  others_stay vars (e ∷ es) q all = others_stay (step vars e) es q all.1 ∙ gives.others vars e q all.0
+
+  pub all_set : (vars es : Entries) (q : List ℕ) → HasDistinctNames es → value_of vars q ≡ None → value_of (fold step vars es) q ≡ value_of es q
+  unfolding value_of IsDistinct
+  all_set vars [] q distinct new = new
+  all_set vars (e ∷ es) q distinct new = elim (decided (bytes_eq q e.0)) [
+    | inl h ↦
+        let same : e.0 ≡ q = sym ((bytes_eq-Decides q e.0).0 h) in
+        others_stay (step vars e) es q (subst (λ n. AllByRecursion (λ m. bytes_eq n m ≡ false) (names_of es)) same distinct.0)
+        ∙ gives.own vars e q h new ∙ sym (rw h refl)
+    | inr h ↦ all_set (step vars e) es q distinct.1 (gives.others vars e q h ∙ new) ∙ sym (rw h refl)
+  ]
+
+-- ---- an entry put in its place
+
+abbrev order : List ℕ → List ℕ → Ordering
+order x y = slice_cmp nat_cmp x y
+
+true_is_false : true ≡ false → ⊥
+true_is_false e = absurd cc
+
+put_others_by : (o : Ordering) (e : List ℕ × List ℕ) (es inserted : Entries) (k v q : List ℕ) → order k e.0 ≡ o → bytes_eq q k ≡ false → value_of inserted q ≡ value_of es q
+    → value_of (match_ordering o ((k, v) ∷ e ∷ es) ((e.0, v) ∷ es) (e ∷ inserted)) q ≡ value_of (e ∷ es) q
+unfolding value_of
+put_others_by Less e es inserted k v q is other rest = rw other refl
+put_others_by Equal e es inserted k v q is other rest =
+    let same : k ≡ e.0 = (bytes_eq-Decides k e.0).0 (sym (is_eq-slice_cmp k e.0) ∙ ap is_eq is) in
+    let apart : bytes_eq q e.0 ≡ false = ap (λ n. bytes_eq q n) (sym same) ∙ other in
+    rw apart refl
+put_others_by Greater e es inserted k v q is other rest = ap (λ o. cond (bytes_eq q e.0) (Some e.1) o) rest
+
+put_others : (es : Entries) (k v q : List ℕ) → bytes_eq q k ≡ false → value_of (insert_entry order es k v) q ≡ value_of es q
+unfolding value_of
+put_others [] k v q other = rw other refl
+put_others (e ∷ es) k v q other = put_others_by (order k e.0) e es (insert_entry order es k v) k v q refl other (put_others es k v q other)
+
+put_own_by : (o : Ordering) (e : List ℕ × List ℕ) (es inserted : Entries) (k v q : List ℕ) → order k e.0 ≡ o → bytes_eq q k ≡ true → value_of inserted q ≡ Some v
+    → value_of (match_ordering o ((k, v) ∷ e ∷ es) ((e.0, v) ∷ es) (e ∷ inserted)) q ≡ Some v
+unfolding value_of
+put_own_by Less e es inserted k v q is own rest = rw own refl
+put_own_by Equal e es inserted k v q is own rest =
+    let same : k ≡ e.0 = (bytes_eq-Decides k e.0).0 (sym (is_eq-slice_cmp k e.0) ∙ ap is_eq is) in
+    let here : bytes_eq q e.0 ≡ true = ap (λ n. bytes_eq q n) (sym same) ∙ own in
+    rw here refl
+put_own_by Greater e es inserted k v q is own rest = elim (decided (bytes_eq q e.0)) [
+  | inl h ↦
+      let same : q ≡ k = (bytes_eq-Decides q k).0 own in
+      absurd (true_is_false (sym (ap (λ n. bytes_eq n e.0) (sym same) ∙ h) ∙ sym (is_eq-slice_cmp k e.0) ∙ ap is_eq is))
+  | inr h ↦ rw h rest
+]
+
+put_own : (es : Entries) (k v q : List ℕ) → bytes_eq q k ≡ true → value_of (insert_entry order es k v) q ≡ Some v
+unfolding value_of
+put_own [] k v q own = rw own refl
+put_own (e ∷ es) k v q own = put_own_by (order k e.0) e es (insert_entry order es k v) k v q refl own (put_own es k v q own)
+
+placing : Gives with_placed
+placing = record { others = λ vars e q other. put_others vars e.0 e.1 q other; own = λ vars e q own new. put_own vars e.0 e.1 q own }
+
+pub none_set : (q : List ℕ) → value_of [] q ≡ None
+unfolding value_of
+none_set q = refl
+
+-- the order of entries is nothing to their values
+pub in_order_values : (es : Entries) (q : List ℕ) → HasDistinctNames es → value_of (in_order es) q ≡ value_of es q
+in_order_values es q distinct = all_set with_placed placing [] es q distinct (none_set q)
+
+-- names in order are distinct
+pub in_order_distinct : (es : Entries) → AreInOrder es → HasDistinctNames es
+in_order_distinct es sorted =
+    subst (λ (eq : List ℕ → List ℕ → Bool). IsDistinct eq (names_of es)) (fun_ext (λ x. fun_ext (λ y. is_eq-slice_cmp x y)))
+    (IsDistinct-from_sorted order (names_of es) sorted)
+
+-- ---- entries that are saved
+
+-- each is saved
+abbrev pub AreSaved : Entries → Type 0
+AreSaved es = AllByRecursion (λ e. is_saved e ≡ true) es
+
+pub filter_saved : (es : Entries) → AreSaved (filter is_saved es)
+filter_saved [] = tt
+filter_saved (e ∷ es) = elim (decided (is_saved e)) [
+  | inl h ↦ rw h (h, filter_saved es)
+  | inr h ↦ rw h (filter_saved es)
+]
+
+put_saved_by : (o : Ordering) (e : List ℕ × List ℕ) (es inserted : Entries) (k v : List ℕ) → order k e.0 ≡ o → is_saved (k, v) ≡ true → is_saved e ≡ true → AreSaved es → AreSaved inserted
+    → AreSaved (match_ordering o ((k, v) ∷ e ∷ es) ((e.0, v) ∷ es) (e ∷ inserted))
+put_saved_by Less e es inserted k v is ok first rest all = (ok, (first, rest))
+put_saved_by Equal e es inserted k v is ok first rest all =
+    let same : k ≡ e.0 = (bytes_eq-Decides k e.0).0 (sym (is_eq-slice_cmp k e.0) ∙ ap is_eq is) in
+    (ap (λ n. is_saved (n, v)) (sym same) ∙ ok, rest)
+put_saved_by Greater e es inserted k v is ok first rest all = (first, all)
+
+put_saved : (es : Entries) (k v : List ℕ) → is_saved (k, v) ≡ true → AreSaved es → AreSaved (insert_entry order es k v)
+put_saved [] k v ok all = (ok, tt)
+put_saved (e ∷ es) k v ok all = put_saved_by (order k e.0) e es (insert_entry order es k v) k v refl ok all.0 all.1 (put_saved es k v ok all.1)
+
+all_saved : (start es : Entries) → AreSaved start → AreSaved es → AreSaved (fold with_placed start es)
+all_saved start [] first all = first
+all_saved start (e ∷ es) first all = all_saved (with_placed start e) es (put_saved start e.0 e.1 all.0 first) all.1
+
+pub all_saved_entries : (vars : Entries) → AreSaved (saved_entries vars)
+all_saved_entries vars = all_saved [] (filter is_saved vars) tt (filter_saved vars)

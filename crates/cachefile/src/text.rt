@@ -1,0 +1,157 @@
+//! The cache text of variables.
+
+ghost use Rattle.std.specs.Prelude.{◌≡◌, ◌≤◌, ◌++◌, ◌∷◌, [], IfOk, OnOk, length, codes};
+ghost use Rattle.deftable.specs.Table as table;
+ghost use Rattle.cachefile.specs.Cache as cache;
+ghost use Rattle.cachefile.specs.Text as words;
+ghost use Rattle.cachefile.specs.Word.{word_of};
+
+use crate::name::{is_cache_name, is_mark};
+use crate::word::word_text;
+use deftable::{Bytes, Vars};
+use std::alloc::{AllocError, Global};
+use std::collections::BTreeMap;
+
+fn is_one_line(text: &[u8]) -> bool
+    ensures { result ≡ words.is_one_line text.now }
+{
+    text.iter().all(|byte| *byte != b'\n')
+}
+
+fn is_saved(name: &[u8], value: &[u8]) -> bool
+    ensures { result ≡ words.is_saved (name.now, value.now) }
+{
+    is_cache_name(name) && is_one_line(value)
+}
+
+fn has_brace(value: &[u8]) -> bool
+    ensures { result ≡ words.has_brace value.now }
+{
+    value.iter().any(|byte| *byte == b'{' || *byte == b'}')
+}
+
+fn insert(
+    alloc: Global,
+    sorted: &mut BTreeMap<Bytes, Bytes>,
+    name: &[u8],
+    value: &[u8],
+) -> Result<(), AllocError>
+    ensures entries { OnOk result (sorted.new.entries ≡ words.with_placed sorted.old.entries (name.now, value.now)) }
+    ensures order { OnOk result (words.AreInOrder sorted.new.entries) }
+{
+    let name = Bytes::from_slice(alloc, name)?;
+    let value = Bytes::from_slice(alloc, value)?;
+    sorted.insert(name, value)?;
+    Ok(())
+}
+
+// Inserts the variable if it is saved.
+fn save(
+    alloc: Global,
+    sorted: &mut BTreeMap<Bytes, Bytes>,
+    name: &[u8],
+    value: &[u8],
+) -> Result<(), AllocError>
+    ensures entries { OnOk result (sorted.new.entries ≡ words.with_saved sorted.old.entries (name.now, value.now)) }
+    ensures order { OnOk result (words.AreInOrder sorted.old.entries → words.AreInOrder sorted.new.entries) }
+{
+    if is_saved(name, value) {
+        return insert(alloc, sorted, name, value);
+    }
+    Ok(())
+}
+
+// Returns the variables that are saved, in the byte order of their names.
+fn saved_entries(alloc: Global, vars: &Vars) -> Result<BTreeMap<Bytes, Bytes>, AllocError>
+    ensures entries { IfOk result (λ m. m.entries ≡ words.saved_entries vars.now) }
+    ensures order { IfOk result (λ m. words.AreInOrder m.entries) }
+    ensures distinct { IfOk result (λ m. table.HasDistinctNames vars.now) }
+{
+    let mut sorted = BTreeMap::new(alloc);
+    'indices: for i in 0..vars.len() {
+        let (name, value) = vars.at(i);
+        save(alloc, &mut sorted, name, value)?;
+    }
+    Ok(sorted)
+}
+
+fn push_plain(text: &mut Vec<u8>, name: &[u8], word: &[u8]) -> Result<(), AllocError>
+    ensures { OnOk result (text.new.items ≡ text.old.items ++ words.plain_line name.now word.now) }
+{
+    text.extend_from_slice(name)?;
+    text.extend_from_slice(b"=")?;
+    text.extend_from_slice(word)
+}
+
+fn push_guarded(text: &mut Vec<u8>, name: &[u8], word: &[u8]) -> Result<(), AllocError>
+    ensures { OnOk result (text.new.items ≡ text.old.items ++ words.guarded_line name.now word.now) }
+{
+    text.extend_from_slice(b"test ${")?;
+    text.extend_from_slice(name)?;
+    text.extend_from_slice(b"+y} || ")?;
+    push_plain(text, name, word)
+}
+
+fn push_braced(text: &mut Vec<u8>, name: &[u8], word: &[u8]) -> Result<(), AllocError>
+    ensures { OnOk result (text.new.items ≡ text.old.items ++ words.braced_line name.now word.now) }
+{
+    text.extend_from_slice(name)?;
+    text.extend_from_slice(b"=${")?;
+    push_plain(text, name, word)?;
+    text.extend_from_slice(b"}")
+}
+
+// Adds the line of a variable, without its newline.
+#[tactic(auto, unfolding(crate::specs::Text::line_for))]
+fn push_assignment(
+    text: &mut Vec<u8>,
+    name: &[u8],
+    value: &[u8],
+    word: &[u8],
+) -> Result<(), AllocError>
+    requires { word.now ≡ word_of value.now }
+    ensures { OnOk result (text.new.items ≡ text.old.items ++ words.line_for (name.now, value.now)) }
+{
+    if is_mark(name) {
+        return push_plain(text, name, word);
+    }
+    if has_brace(value) {
+        return push_guarded(text, name, word);
+    }
+    push_braced(text, name, word)
+}
+
+fn push_line(alloc: Global, text: &mut Vec<u8>, name: &[u8], value: &[u8]) -> Result<(), AllocError>
+    ensures { OnOk result (text.new.items ≡ text.old.items ++ (words.line_for (name.now, value.now) ++ 10 ∷ [])) }
+{
+    let word = word_text(alloc, value)?;
+    push_assignment(text, name, value, word.as_slice())?;
+    text.extend_from_slice(b"\n")
+}
+
+fn write(alloc: Global, entries: BTreeMap<Bytes, Bytes>) -> Result<Bytes, AllocError>
+    ensures { IfOk result (λ t. t ≡ codes "# config.cache of configure\n" ++ words.lines_for entries.entries) }
+{
+    let mut text = Vec::from_slice(alloc, b"# config.cache of configure\n")?;
+    'entries: for (name, value) in entries {
+        push_line(alloc, &mut text, name.as_slice(), value.as_slice())?;
+    }
+    Ok(Bytes::from_vec(text))
+}
+
+/// Returns the cache text of the variables: a comment, and a line for each variable with a cache name, in the byte order
+/// of the names. A variable whose value has a newline is left out (own).
+///
+/// A name that begins with `ac_cv_env_` is written `V=W`. If the value of another name has a brace, its line is
+/// `test ${V+y} || V=W`, and otherwise `V=${V=W}`. W is what `word_text` returns for the value.
+pub fn cache_text(alloc: Global, vars: &Vars) -> Result<Bytes, AllocError>
+    // It has a line for each variable that is saved, in order.
+    ensures sound { IfOk result (words.IsCacheText vars.now) }
+    // The same as a function.
+    ensures exact { IfOk result (λ t. t ≡ words.cache_text_of vars.now) }
+    // If it isn't too large, it can be read, and sets again what was saved.
+    ensures reads_back { IfOk result (λ t. length t ≤ cache.limit → words.ReadsBack vars.now t) }
+{
+    let entries = saved_entries(alloc, vars)?;
+    write(alloc, entries)
+}
