@@ -260,6 +260,10 @@ words,a,,\xff\0 b,~ => 4 yes yes yes yes
  => 0 out demo 1.0 @nope@^J
 |0 1 1 => 2 err acrun: file standard input^J
 ||output => 2 err acrun: file standard output^J
+// What a run has for standard error is printed. If that can't be, the status stays.
+|AC_INIT([x],[1])^JAC_MSG_ERROR([no],[7])^JAC_OUTPUT^J%%^J => 7 err configure: error: no^J
+|AC_INIT([x],[1])^JAC_MSG_ERROR([no],[7])^JAC_OUTPUT^J%%^J|errors => 7
+|AC_INIT([x],[1])^JPATH=/x^JAC_PROG_CC^JAC_OUTPUT^J%%^J => 3 err configure: cut short at child 1^J
 // Where a fault can't be told, the status tells it.
 |0 1 1|errors => 2
 // arguments that are not known
