@@ -7,3 +7,4 @@ pub mod Play
 pub mod Package
 pub mod Tries
 pub mod Meaning
+pub mod Laws

@@ -233,7 +233,7 @@ pub code_stays : (script : Script) → StaysInside (code_of script)
 code_stays script = subst StaysInside (append-nil (code_of script)) (code_inside script [] tt)
 
 -- A step asks for no more jobs than there are directories.
-asks_few : (i : Instruction) → asks_of i ≤ 65536
+pub asks_few : (i : Instruction) → asks_of i ≤ 65536
 asks_few (Does (Init a b d e f)) = omega arith
 asks_few (Does Accepted) = omega arith
 asks_few (Does (ConfigFiles outputs)) = omega arith

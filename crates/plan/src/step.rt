@@ -36,8 +36,8 @@ pub enum Step<'a> {
 }
 
 /// The steps of a source, which borrow from its statements. Contracts see the list of their effects: every jump goes
-/// forward and stays inside, every name that a step defines has the form of one, and all steps together ask for at most
-/// 2^36 jobs.
+/// forward and stays inside, every name that a step defines has the form of one, each step asks for at most 65,536 jobs, and
+/// all together for at most 2^36.
 pub struct Plan<'a> {
     steps: Vec<Step<'a>>,
 }
@@ -69,8 +69,8 @@ impl<'a> Model for Plan<'a> {
 
 impl<'a> Plan<'a> {
     ghost use Rattle.std.specs.Prelude.{◌≡◌, ◌≤◌, ◌^◌, length, map};
-    ghost use Rattle.plan.specs.Walk.{shown};
-    ghost use Rattle.plan.specs.Inside.{StaysInside, asks_after};
+    ghost use Rattle.plan.specs.Walk.{Instruction, shown};
+    ghost use Rattle.plan.specs.Inside.{StaysInside, asks_after, asks_of};
     ghost use Rattle.plan.specs.Names.{DefinesNames};
 
     /// Makes a plan from the steps.
@@ -90,6 +90,7 @@ impl<'a> Plan<'a> {
         ensures inside { StaysInside self.now }
         ensures names { DefinesNames self.now }
         ensures asks { asks_after self.now 0 ≤ 2 ^ 36 }
+        ensures each { (step : Instruction) → asks_of step ≤ 65536 }
     {
         self.steps.as_slice()
     }
