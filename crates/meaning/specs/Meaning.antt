@@ -95,8 +95,8 @@ error_line message = codes "configure: error: " ++ message ++ codes "\n"
 
 -- A statement: AC_INIT sets the package's variables and definitions; an assignment and AC_SUBST with a value set a
 -- variable to the value of a word; the macros of programs look for them; AC_DEFINE defines a name as a text,
--- AC_DEFINE_UNQUOTED as the value of one; AC_MSG_ERROR prints its line and stops the run; AC_OUTPUT gives prefix and exec_prefix their
--- values and completes the run; and the others have no effect. (Autoconf's manual, the sections of the macros)
+-- AC_DEFINE_UNQUOTED as the value of one; AC_MSG_ERROR prints its line and stops the run; AC_OUTPUT gives prefix and
+-- exec_prefix their values and completes the run; and the others have no effect. (Autoconf's manual, the sections of the macros)
 unfoldable pub effect : plain.Plain → State → Run
 effect (Init title version bug tarname url) st = Ends Goes_on (initialised title version bug tarname url st)
 effect Accepted st = Ends Goes_on st
