@@ -1,23 +1,26 @@
 -- Lists of statements, and the cases inside a statement.
-use Rattle.std.proofs.Common.{◌≡◌, List, [], ◌∷◌, ◌++◌, Vec, Global, refl, ap, ◌∙◌, sym}
+use Rattle.std.proofs.Common.{◌≡◌, ℕ, List, [], ◌∷◌, ◌++◌, Vec, Global, refl, ap, ◌∙◌, sym}
 use mathlib.Core.Former.{Count}
+use Rattle.shellword.specs.declared.part.Part.{Part}
 use Rattle.syntax.specs.declared.declarations.Declarations as declarations
 use Rattle.syntax.specs.Lists.{after}
 use Rattle.syntax.specs.declared.tree.Case as case
-use Rattle.syntax.specs.declared.tree.Stmt.{Stmt, Plain, Choose, Choose', Row_of-Stmt, end_of-Stmt, more_of-Stmt, Row_of-Case, end_of-Case, more_of-Case, items-the_row-Stmt, items_shown-the_row-Stmt-0, items-the_row-Case, items_hidden-the_row-Case-1}
+use Rattle.syntax.specs.declared.tree.Stmt.{Stmt, Plain, Choose, Choose', CacheCheck, CacheCheck', Row_of-Stmt, end_of-Stmt, more_of-Stmt, Row_of-Case, end_of-Case, more_of-Case, items-the_row-Stmt, items_shown-the_row-Stmt-0, items-the_row-Case, items_hidden-the_row-Case-1, items_hidden-the_row-Stmt-0}
 use Rattle.syntax.specs.declared.tree.Subject.{Subject}
 use Rattle.syntax.specs.Lists.{after_all, after_cases, after_subject}
-use Rattle.syntax.specs.Script.{Script, Done, Then, Choice, Cases, No_case, Case, joined, followed, stmt_then, row_script, row_cases, script_of, cases_of}
+use Rattle.syntax.specs.Script.{Script, Done, Then, Choice, Check, Cases, No_case, Case, joined, followed, stmt_then, row_script, row_cases, script_of, cases_of}
 
 pub joined_done : (s : Script) → joined s Done ≡ s
 joined_done Done = refl
 joined_done (Then s rest) = ap (Then s) (joined_done rest)
 joined_done (Choice subject cases rest) = ap (Choice subject cases) (joined_done rest)
+joined_done (Check message name commands rest) = ap (Check message name commands) (joined_done rest)
 
 pub joined_assoc : (a b c : Script) → joined (joined a b) c ≡ joined a (joined b c)
 joined_assoc Done b c = refl
 joined_assoc (Then s rest) b c = ap (Then s) (joined_assoc rest b c)
 joined_assoc (Choice subject cases rest) b c = ap (Choice subject cases) (joined_assoc rest b c)
+joined_assoc (Check message name commands rest) b c = ap (Check message name commands) (joined_assoc rest b c)
 
 row_is : (n : _) (row : Row_of-Stmt n) → row_script row ≡ script_of (items-the_row-Stmt n row)
 row_is n end_of-Stmt = refl
@@ -42,6 +45,7 @@ choice_is subject cases rest =
 stmt_joined : (x : Stmt) (a b : Script) → stmt_then x (joined a b) ≡ joined (stmt_then x a) b
 stmt_joined (Plain s) a b = refl
 stmt_joined (Choose' subject m cases) a b = refl
+stmt_joined (CacheCheck' message name m commands) a b = refl
 
 -- One statement is appended.
 pub script_push : (xs : List Stmt) (s : Stmt) → script_of (xs ++ s ∷ []) ≡ joined (script_of xs) (script_of (s ∷ []))
@@ -53,6 +57,7 @@ pub after_joined : (a b : Script) (c : declarations.Declarations) → after_all 
 after_joined Done b c = refl
 after_joined (Then s rest) b c = after_joined rest b (after c s)
 after_joined (Choice subject cases rest) b c = after_joined rest b (after_cases (after_subject c subject) cases)
+after_joined (Check message name commands rest) b c = after_joined rest b (after_all c commands)
 
 -- One case is appended.
 pub cases_push : (xs : List case.Case) (c : case.Case) → cases_of (xs ++ c ∷ []) ≡ followed (cases_of xs) (cases_of (c ∷ []))
@@ -70,3 +75,13 @@ followed_assoc (Case when body rest) b c = ap (Case when body) (followed_assoc r
 pub after_followed : (a b : Cases) (c : declarations.Declarations) → after_cases c (followed a b) ≡ after_cases (after_cases c a) b
 after_followed No_case b c = refl
 after_followed (Case when body rest) b c = after_followed rest b (after_all c body)
+
+abbrev commands_row : Stmt → (n : Count) × Row_of-Stmt n
+commands_row (CacheCheck' message name m commands) = (_, commands)
+commands_row _ = (_, end_of-Stmt)
+
+-- A check of the code, and what follows.
+pub check_is : (message : List Part) (name : List ℕ) (commands : Vec Stmt Global) (rest : Script) → stmt_then (CacheCheck message name commands) rest ≡ Check message name (script_of commands.items) rest
+check_is message name commands rest =
+    let a = commands_row (CacheCheck message name commands) in
+    ap (λ s. Check message name s rest) (row_is a.0 a.1 ∙ ap script_of (items_hidden-the_row-Stmt-0 commands))

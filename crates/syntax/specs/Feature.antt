@@ -1,6 +1,6 @@
 -- Names of optional features and packages, and the variables of their options (Autoconf's manual, "Choosing Package
 -- Options" and "External Software"; that a name isn't empty is own).
-use Rattle.std.specs.Prelude.{ℕ, Bool, false, not, ◌&&◌, ◌||◌, ◌==◌, List, [], ◌∷◌, ◌++◌, map, codes, if◌then◌else◌}
+use Rattle.std.specs.Prelude.{ℕ, Bool, not, ◌&&◌, ◌||◌, ◌==◌, List, ◌++◌, map, codes, if◌then◌else◌}
 use Rattle.std.specs.Char.{is_ascii_alphanumeric}
 use Rattle.std.specs.List.{list_all}
 use Rattle.syntax.specs.Texts.{is_empty}

@@ -12,7 +12,7 @@ use Rattle.syntax.specs.declared.statement.Question as question
 use Rattle.syntax.specs.declared.statement.Question.TheVariants.{Given, Tries}
 use Rattle.syntax.specs.declared.tree.Subject.{Subject}
 use Rattle.syntax.specs.declared.tree.Subject.TheVariants.{Nothing, Word, Asked}
-use Rattle.syntax.specs.Script.{Script, Done, Then, Choice, Cases, No_case, Case}
+use Rattle.syntax.specs.Script.{Script, Done, Then, Choice, Check, Cases, No_case, Case}
 
 -- The declarations before the first statement. (own)
 abbrev pub start : declarations.Declarations
@@ -65,6 +65,7 @@ abbrev mutual
   after_all c Done = c
   after_all c (Then s rest) = after_all (after c s) rest
   after_all c (Choice subject cases rest) = after_all (after_cases (after_subject c subject) cases) rest
+  after_all c (Check message name commands rest) = after_all (after_all c commands) rest
 
   -- The declarations after all cases of a choice. (own)
   pub after_cases : declarations.Declarations → Cases → declarations.Declarations

@@ -30,4 +30,4 @@ pub use output::{Output, Outputs};
 pub use program::{Program, ProgramNames, Try};
 pub use source::Source;
 pub use statement::{Plain, Question};
-pub use tree::{Case, Stmt, Subject, When, choose};
+pub use tree::{Case, Stmt, Subject, When, cache_check, choose};

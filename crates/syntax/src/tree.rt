@@ -1,10 +1,11 @@
 //! Statements, and cases, which hold statements.
 
 ghost use Rattle.std.specs.Prelude.{◌≡◌, [], ◌∷◌};
-ghost use Rattle.syntax.specs.Script.{script_of, cases_of, Choice, Done};
+ghost use Rattle.syntax.specs.Script.{script_of, cases_of, Choice, Check, Done};
 
 use crate::statement::{Plain, Question};
-use shellword::{Patterns, Test, Word};
+use deftable::Name;
+use shellword::{HereText, Patterns, Test, Word};
 
 /// What the cases of a choice are decided by.
 #[derive(Drop)]
@@ -39,7 +40,16 @@ pub enum Stmt {
     /// A statement with no statements in it.
     Plain(Plain),
     /// AS_IF, AS_CASE, or a macro that asks a question: the statements of the first case whose condition holds, if any.
-    Choose { subject: Subject, cases: Vec<Case> },
+    Choose {
+        subject: Subject,
+        cases: Vec<Case>,
+    },
+    /// AC_CACHE_CHECK: the message, the name that the value is cached under, and the commands that set it.
+    CacheCheck {
+        message: HereText,
+        name: Name,
+        commands: Vec<Stmt>,
+    },
 }
 
 /// A case: its condition and its statements.
@@ -55,4 +65,15 @@ pub fn choose(subject: Subject, cases: Vec<Case>) -> Stmt
     ensures { script_of (result ∷ []) ≡ Choice subject (cases_of cases.items) Done }
 {
     Stmt::Choose { subject, cases }
+}
+
+/// Makes a statement from the arguments of AC_CACHE_CHECK.
+pub fn cache_check(message: HereText, name: Name, commands: Vec<Stmt>) -> Stmt
+    ensures { script_of (result ∷ []) ≡ Check message name (script_of commands.items) Done }
+{
+    Stmt::CacheCheck {
+        message,
+        name,
+        commands,
+    }
 }
