@@ -20,7 +20,7 @@ use Rattle.syntax.specs.declared.statement.Question as asks
 use Rattle.syntax.specs.declared.statement.Question.TheVariants.{Given, Tries}
 use Rattle.syntax.specs.declared.tree.Subject.{Subject}
 use Rattle.syntax.specs.declared.tree.Subject.TheVariants.{Nothing, Word, Asked}
-use Rattle.syntax.specs.Script.{Script, Done, Then, Choice, Cases, No_case, Case}
+use Rattle.syntax.specs.Script.{Script, Done, Then, Choice, Check, Cases, No_case, Case}
 use Rattle.meaning.specs.State.{State, piece, told, with_child, with_variable, without_variable, Scope, answered, How, Goes_on, Completed, Stopped, Cut, Run, Ends, Asks, then_run, ended, as_is}
 use Rattle.meaning.specs.Asking.{success, only_reply, heard, child, compiled, no_compiler, same, Attempt, attempted}
 use Rattle.meaning.specs.Tests.{Test, broken, guarded, checking, test_by, cached_test, with_value, tested_by, may_begin, tested}
@@ -28,7 +28,7 @@ use Rattle.meaning.specs.Rows.{Kind, Program, name_of, attempts_of, otherwise_of
 use Rattle.meaning.specs.Package.{initialised}
 use Rattle.meaning.specs.Play.{first_number, refused_after, with_cut_line, cut_line, last_words}
 use Rattle.meaning.specs.Tries.{first_probe, after_first, tried, text_of}
-use Rattle.meaning.specs.Meaning.{settled, is_unsettled, with_prefixes, has_value, program_test, check_prog, looks, looks_all, defaulted, error_line, effect, value_name, given, asked, begun, is_taken, meaning, chosen}
+use Rattle.meaning.specs.Meaning.{settled, is_unsettled, with_prefixes, has_value, program_test, check_prog, looks, looks_all, defaulted, error_line, effect, value_name, given, asked, begun, is_taken, check, meaning, chosen}
 use Rattle.meaning.specs.Laws.{children_of, paired, Logs, ChildrenAreLogged, SetTestsAskNothing}
 
 abbrev kids : State → List (Job × Reply)
@@ -190,6 +190,10 @@ mutual
   meaning_logs (Then s rest) st = then_logs (kids st) (effect s st) (meaning rest) (effect_logs s st) (λ now. meaning_logs rest now)
   meaning_logs (Choice subject cases rest) st =
       begun_logs subject st _ (λ scope now. then_logs (kids now) (chosen cases scope now) (meaning rest) (chosen_logs cases scope now) (λ later. meaning_logs rest later))
+
+  meaning_logs (Check message name commands rest) st =
+      let t = check message name (meaning commands) st in
+      then_logs (kids st) (cached_test t st) (meaning rest) (cached_logs t st (λ now. meaning_logs commands now)) (λ now. meaning_logs rest now)
 
   chosen_logs : (cases : Cases) (scope : Scope) (st : State) → Logs (kids st) (chosen cases scope st)
   chosen_logs No_case scope st = refl

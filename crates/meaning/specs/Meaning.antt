@@ -1,7 +1,8 @@
 -- The meaning of statements.
-use Rattle.std.specs.Prelude.{ℕ, ◌==◌, ◌&&◌, ◌||◌, length, [], ◌∷◌, ◌++◌, option_map, Bool, true, false, not, List, Option, Some, None, bytes_eq, codes, if◌then◌else◌}
+use Rattle.std.specs.Prelude.{ℕ, ◌==◌, ◌&&◌, ◌||◌, length, [], ◌∷◌, ◌++◌, option_map, Bool, true, false, not, List, Option, Some, None, bytes_eq, codes, if◌then◌else◌, unwrap_or}
 use Rattle.deftable.specs.declared.note.Stream.TheVariants as streams
 use Rattle.deftable.specs.Table.{value_of}
+use Rattle.shellword.specs.declared.part.Part.{Part}
 use Rattle.shellword.specs.Matching.{matches_any}
 use Rattle.shellword.specs.Truth.{truth}
 use Rattle.shellword.specs.Value.{word_value}
@@ -15,11 +16,11 @@ use Rattle.syntax.specs.declared.tree.Subject.{Subject}
 use Rattle.syntax.specs.declared.tree.Subject.TheVariants.{Nothing, Word, Asked}
 use Rattle.syntax.specs.declared.tree.When.{When}
 use Rattle.syntax.specs.declared.tree.When.TheVariants.{Holds, Matches, Yes, No, Always}
-use Rattle.syntax.specs.Script.{Script, Done, Then, Choice, Cases, No_case, Case}
+use Rattle.syntax.specs.Script.{Script, Done, Then, Choice, Check, Cases, No_case, Case}
 use Rattle.meaning.specs.Package.{initialised}
 use Rattle.meaning.specs.State.{State, Scope, no_choice, about, answered, told, with_variable, with_definition, How, as_is, Run, Ends, Goes_on, Completed, Stopped, then_run}
 use Rattle.meaning.specs.Rows.{Search, Program, value_or_empty, value_if, row_of}
-use Rattle.meaning.specs.Tests.{tested}
+use Rattle.meaning.specs.Tests.{Test, cached_test, tested}
 use Rattle.meaning.specs.Tries.{text_of, tried}
 
 -- The prefix is set, and is still `NONE`. (own)
@@ -150,12 +151,19 @@ is_taken Yes scope vars = scope.answer
 is_taken No scope vars = not scope.answer
 is_taken Always scope vars = true
 
+-- AC_CACHE_CHECK: a test whose body is the run of its commands, and which prints its value. (Autoconf's manual, "Caching
+-- Results")
+abbrev pub check : List Part → List ℕ → (State → Run) → State → Test
+check message name body st =
+    record { name = name; message = word_value message st.vars; body = body; shown = λ value. unwrap_or value [] }
+
 unfoldable mutual
   -- A list of statements: the first and, if the run continues, those that follow. (own)
   pub meaning : Script → State → Run
   meaning Done st = Ends Goes_on st
   meaning (Then s rest) st = then_run (effect s st) (meaning rest)
   meaning (Choice subject cases rest) st = begun as_is subject st (λ scope now. then_run (chosen cases scope now) (meaning rest))
+  meaning (Check message name commands rest) st = then_run (cached_test (check message name (meaning commands) st) st) (meaning rest)
 
   -- The statements of the first case that is taken, if any. (own)
   pub chosen : Cases → Scope → State → Run

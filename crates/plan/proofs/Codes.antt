@@ -2,18 +2,20 @@
 use Rattle.std.proofs.Common.{◌≡◌, ℕ, Bool, false, ◌==◌, ◌+◌, ◌-◌, ◌<◌, ◌≤◌, arith, List, ◌∷◌, ◌++◌, Vec, Global, length, drop, get_or, sym, ap, ◌∙◌, append_assoc}
 use Rattle.std.proofs.lemmas.List.{drop_more, append-nil}
 use Rattle.std.proofs.lemmas.Bool.Decides.{nat_tests}
+use Rattle.shellword.specs.declared.part.Part.{Part}
 use Rattle.syntax.specs.declared.tree.Case as case
-use Rattle.syntax.specs.declared.tree.Stmt.{Stmt, Choose}
+use Rattle.syntax.specs.declared.tree.Stmt.{Stmt, Choose, CacheCheck}
 use Rattle.syntax.specs.declared.tree.Subject as what
-use Rattle.syntax.specs.declared.tree.Stmt.TheVariants.{Plain, Choose'}
-use Rattle.syntax.specs.Script.{Script, Done, stmt_then, row_cases, script_of, cases_of}
-use Rattle.syntax.proofs.ScriptLemmas.{choice_is}
+use Rattle.syntax.specs.declared.tree.Stmt.TheVariants.{Plain, Choose', CacheCheck'}
+use Rattle.syntax.specs.Script.{Script, Done, stmt_then, row_script, row_cases, script_of, cases_of}
+use Rattle.syntax.proofs.ScriptLemmas.{choice_is, check_is}
 use Rattle.plan.specs.Walk.{Instruction, Does, Looks, Begins}
-use Rattle.plan.specs.Code.{case_code, code_after, code_of, code_of_cases, code_of_programs}
+use Rattle.plan.specs.Code.{case_code, check_code, code_after, code_of, code_of_cases, code_of_programs}
 
 code_more : (s : Stmt) (rest : Script) → code_of (stmt_then s rest) ≡ code_of (stmt_then s Done) ++ code_of rest
 code_more (Plain s) rest = ap (λ l. Does s ∷ (l ++ code_of rest)) (sym (append-nil (code_after s)))
 code_more (Choose' subject m cases) rest = ap (λ l. Begins subject ∷ (l ++ code_of rest)) (sym (append-nil (code_of_cases (row_cases cases))))
+code_more (CacheCheck' message name m commands) rest = ap (λ l. l ++ code_of rest) (sym (append-nil (check_code message name (code_of (row_script commands)))))
 
 -- One more statement at the front.
 pub code_at : (old new base : List Instruction) (list : List Stmt) (i j : ℕ) (s : Stmt) → 0 < i → i ≤ length list → j ≡ i - 1 → s ≡ get_or list j s
@@ -47,6 +49,13 @@ pub code_choice : (s : Stmt) (subject : what.Subject) (cases : Vec case.Case Glo
 code_choice s subject cases is =
     ap (λ x. code_of (stmt_then x Done)) is ∙ ap code_of (choice_is subject cases Done)
     ∙ ap (λ l. Begins subject ∷ l) (append-nil (code_of_cases (cases_of cases.items)))
+
+-- A check.
+pub code_check : (s : Stmt) (message : List Part) (name : List ℕ) (commands : Vec Stmt Global) → s ≡ CacheCheck message name commands
+    → code_of (stmt_then s Done) ≡ check_code message name (code_of (script_of commands.items))
+code_check s message name commands is =
+    ap (λ x. code_of (stmt_then x Done)) is ∙ ap code_of (check_is message name commands Done)
+    ∙ append-nil (check_code message name (code_of (script_of commands.items)))
 
 -- One more program at the front.
 pub code_at_program : (old new base : List Instruction) (variable : List ℕ) (programs : List (List ℕ)) (i j : ℕ) (p : List ℕ) (first : Bool) → 0 < i → i ≤ length programs → j ≡ i - 1 → p ≡ get_or programs j p

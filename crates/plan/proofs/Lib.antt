@@ -1,3 +1,5 @@
+pub mod Endings
+pub mod Follows
+pub mod Insides
 pub mod Weights
 pub mod Codes
-pub mod Follows

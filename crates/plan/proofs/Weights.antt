@@ -2,21 +2,23 @@
 use Rattle.std.proofs.Common.{◌≡◌, codes, ℕ, ◌+◌, ◌*◌, ◌<◌, ◌≤◌, Option, Some, None, IfSome, IfNone, is_some, Bool, true, false, refl, List, [], ◌∷◌, Vec, Global, length, drop, get_or, ap, ◌∙◌, arith, length-append}
 use Rattle.std.proofs.lemmas.List.{drop_more}
 use Rattle.std.proofs.lemmas.Bool.{true≢false}
+use Rattle.shellword.specs.declared.part.Part.{Part}
 use Rattle.syntax.specs.declared.statement.Plain as plain
 use Rattle.syntax.specs.declared.statement.Plain.TheVariants.{Init, Accepted, ConfigFiles, Assign, Subst, SubstValue, Define, DefineUnquoted, Error, ArgVar, CheckProg, PathProg, Output, CheckProgs, ProgCc}
 use Rattle.syntax.specs.declared.tree.Case as case
-use Rattle.syntax.specs.declared.tree.Stmt.{Stmt, Choose}
+use Rattle.syntax.specs.declared.tree.Stmt.{Stmt, Choose, CacheCheck}
 use Rattle.syntax.specs.declared.tree.Subject as what
 use Rattle.syntax.specs.declared.tree.Stmt.TheVariants as stmt
-use Rattle.syntax.specs.Script.{Script, Done, Then, Choice, Cases, No_case, Case, stmt_then, script_of, cases_of}
-use Rattle.syntax.proofs.ScriptLemmas.{choice_is}
-use Rattle.plan.specs.Walk.{Defaults, Skips}
+use Rattle.syntax.specs.Script.{Script, Done, Then, Choice, Check, Cases, No_case, Case, stmt_then, script_of, cases_of}
+use Rattle.syntax.proofs.ScriptLemmas.{choice_is, check_is}
+use Rattle.plan.specs.Walk.{Defaults, Skips, Closes}
 use Rattle.plan.specs.Weight.{entries_of, weight, weight_of_cases}
-use Rattle.plan.specs.Code.{case_code, code_after, code_of, code_of_cases, code_of_programs}
+use Rattle.plan.specs.Code.{case_code, check_code, code_after, code_of, code_of_cases, code_of_programs}
 
 weight_more : (s : Stmt) (rest : Script) → weight (stmt_then s rest) ≡ weight (stmt_then s Done) + weight rest
 weight_more (stmt.Plain s) rest = omega arith
 weight_more (stmt.Choose' subject m cases) rest = omega arith
+weight_more (stmt.CacheCheck' message name m commands) rest = omega arith
 
 -- One statement of a list, and those after it.
 pub weight_at : (list : List Stmt) (i : ℕ) (d : Stmt) → i < length list
@@ -36,6 +38,12 @@ weight_choice s subject cases is = ap (λ x. weight (stmt_then x Done)) is ∙ a
 pub weighs_something : (s : Stmt) → 1 ≤ weight (stmt_then s Done)
 weighs_something (stmt.Plain s) = omega arith
 weighs_something (stmt.Choose' subject m cases) = omega arith
+weighs_something (stmt.CacheCheck' message name m commands) = omega arith
+
+-- A check.
+pub weight_check : (s : Stmt) (message : List Part) (name : List ℕ) (commands : Vec Stmt Global) → s ≡ CacheCheck message name commands
+    → weight (stmt_then s Done) ≡ 1 + weight (script_of commands.items)
+weight_check s message name commands is = ap (λ x. weight (stmt_then x Done)) is ∙ ap weight (check_is message name commands Done) ∙ omega arith
 
 -- One more statement.
 pub weigh_on : (list : List Stmt) (i : ℕ) (s : Stmt) (left less room : ℕ) → i < length list → s ≡ get_or list i s
@@ -66,6 +74,20 @@ choose_none None s subject cases seen left room is same one h =
     omega (arith, weight_choice s subject cases is, ap (λ x. weight_of_cases (cases_of x)) same)
 choose_none (Some l) s subject cases seen left room is same one h = h
 
+pub check_some : (r : Option ℕ) (s : Stmt) (message : List Part) (name : List ℕ) (commands : Vec Stmt Global) (seen : List Stmt) (left room : ℕ) → s ≡ CacheCheck message name commands
+    → seen ≡ commands.items → left + 1 ≡ room → IfSome r (λ l. l + weight (script_of seen) ≡ left)
+    → IfSome r (λ l. l + weight (stmt_then s Done) ≡ room)
+check_some None s message name commands seen left room is same one h = h
+check_some (Some l) s message name commands seen left room is same one h =
+    omega (arith, weight_check s message name commands is, ap (λ x. weight (script_of x)) same)
+
+pub check_none : (r : Option ℕ) (s : Stmt) (message : List Part) (name : List ℕ) (commands : Vec Stmt Global) (seen : List Stmt) (left room : ℕ) → s ≡ CacheCheck message name commands
+    → seen ≡ commands.items → left + 1 ≡ room → IfNone r (left < weight (script_of seen))
+    → IfNone r (room < weight (stmt_then s Done))
+check_none None s message name commands seen left room is same one h =
+    omega (arith, weight_check s message name commands is, ap (λ x. weight (script_of x)) same)
+check_none (Some l) s message name commands seen left room is same one h = h
+
 programs_bound : (variable : List ℕ) (programs : List (List ℕ)) (always : Bool) → length (code_of_programs variable programs always) ≡ length programs
 programs_bound variable [] always = refl
 programs_bound variable (p ∷ programs) always = omega (arith, programs_bound variable programs false)
@@ -95,6 +117,9 @@ mutual
   code_bound (Then s rest) = omega (arith, after_bound s, length-append (code_after s) (code_of rest), code_bound rest)
   code_bound (Choice subject cases rest) =
       omega (arith, length-append (code_of_cases cases) (code_of rest), cases_bound cases, code_bound rest)
+  code_bound (Check message name commands rest) =
+      let b = code_of commands in
+      omega (arith, length-append (check_code message name b) (code_of rest), length-append b (Closes name ∷ []), code_bound commands, code_bound rest)
 
   cases_bound : (cases : Cases) → length (code_of_cases cases) ≤ 2 * weight_of_cases cases
   cases_bound No_case = omega arith

@@ -1,14 +1,19 @@
 -- The plan of a list of statements.
 use Rattle.std.specs.Prelude.{ℕ, ◌+◌, Bool, true, false, List, [], ◌∷◌, ◌++◌, length, codes}
+use Rattle.shellword.specs.declared.part.Part.{Part}
 use Rattle.syntax.specs.declared.statement.Plain as plain
 use Rattle.syntax.specs.declared.statement.Plain.TheVariants.{CheckProgs, ProgCc}
 use Rattle.syntax.specs.declared.tree.When.{When}
-use Rattle.syntax.specs.Script.{Script, Done, Then, Choice, Cases, No_case, Case}
-use Rattle.plan.specs.Walk.{Instruction, Does, Looks, Defaults, Begins, Skips_unless, Skips}
+use Rattle.syntax.specs.Script.{Script, Done, Then, Choice, Check, Cases, No_case, Case}
+use Rattle.plan.specs.Walk.{Instruction, Does, Looks, Defaults, Begins, Skips_unless, Skips, Opens, Closes}
 
 -- A case: a jump past it, its statements, and a jump past the cases after it. (own)
 abbrev pub case_code : When → List Instruction → ℕ → List Instruction
 case_code when body after = Skips_unless when (length body + 1) ∷ (body ++ (Skips after ∷ []))
+
+-- A check: its beginning, which may pass the rest, its commands, and its end. (own)
+abbrev pub check_code : List Part → List ℕ → List Instruction → List Instruction
+check_code message name commands = Opens message name (length commands + 1) ∷ (commands ++ (Closes name ∷ []))
 
 -- Programs, one after the other. (own)
 abbrev pub code_of_programs : List ℕ → List (List ℕ) → Bool → List Instruction
@@ -27,6 +32,7 @@ abbrev mutual
   code_of Done = []
   code_of (Then s rest) = Does s ∷ (code_after s ++ code_of rest)
   code_of (Choice subject cases rest) = Begins subject ∷ (code_of_cases cases ++ code_of rest)
+  code_of (Check message name commands rest) = check_code message name (code_of commands) ++ code_of rest
 
   -- The steps of the cases of a choice. (own)
   pub code_of_cases : Cases → List Instruction

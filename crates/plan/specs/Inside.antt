@@ -7,7 +7,7 @@ use Rattle.syntax.specs.declared.program.Try as kinds
 use Rattle.syntax.specs.declared.program.Try.TheVariants.{Compile, Link, Preproc, Run}
 use Rattle.syntax.specs.declared.tree.Subject as subject
 use Rattle.syntax.specs.declared.tree.Subject.TheVariants.{Nothing, Word, Asked}
-use Rattle.plan.specs.Walk.{Instruction, Does, Looks, Defaults, Begins, Skips_unless, Skips}
+use Rattle.plan.specs.Walk.{Instruction, Does, Looks, Defaults, Begins, Skips_unless, Skips, Opens, Closes}
 
 -- How many steps a step may pass. (own)
 abbrev pub reach : Instruction → ℕ
@@ -17,6 +17,8 @@ reach (Defaults variable value) = 0
 reach (Begins subject) = 0
 reach (Skips_unless when steps) = steps
 reach (Skips steps) = steps
+reach (Opens message name steps) = steps
+reach (Closes name) = 0
 
 -- No step passes more steps than there are after it. (own)
 abbrev pub StaysInside : List Instruction → Type 0
@@ -55,6 +57,8 @@ asks_of (Defaults variable value) = 0
 asks_of (Begins subject) = asks_about subject
 asks_of (Skips_unless when steps) = 0
 asks_of (Skips steps) = 0
+asks_of (Opens message name steps) = 0
+asks_of (Closes name) = 0
 
 -- How many jobs a plan may ask for, after n steps are passed. (own)
 abbrev pub asks_after : List Instruction → ℕ → ℕ

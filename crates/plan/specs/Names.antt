@@ -3,7 +3,7 @@ use Rattle.std.specs.Prelude.{List, [], ◌∷◌}
 use Rattle.deftable.specs.ShellName.{IsShellName}
 use Rattle.syntax.specs.declared.statement.Plain as plain
 use Rattle.syntax.specs.declared.statement.Plain.TheVariants.{Define, DefineUnquoted}
-use Rattle.plan.specs.Walk.{Instruction, Does, Looks, Defaults, Begins, Skips_unless, Skips}
+use Rattle.plan.specs.Walk.{Instruction, Does, Looks, Defaults, Begins, Skips_unless, Skips, Opens, Closes}
 
 -- The name that a statement defines has the form of one. (own)
 abbrev pub DefinesName : plain.Plain → Type 0
@@ -20,3 +20,5 @@ DefinesNames (Defaults variable value ∷ rest) = DefinesNames rest
 DefinesNames (Begins subject ∷ rest) = DefinesNames rest
 DefinesNames (Skips_unless when steps ∷ rest) = DefinesNames rest
 DefinesNames (Skips steps ∷ rest) = DefinesNames rest
+DefinesNames (Opens message name steps ∷ rest) = DefinesNames rest
+DefinesNames (Closes name ∷ rest) = DefinesNames rest

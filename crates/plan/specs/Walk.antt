@@ -1,5 +1,6 @@
 -- The effect of a plan.
-use Rattle.std.specs.Prelude.{◌≡◌, ℕ, zero, suc, Bool, List, [], ◌∷◌, Option, option_map, if◌then◌else◌}
+use Rattle.std.specs.Prelude.{◌≡◌, ℕ, zero, suc, Bool, List, [], ◌∷◌, ◌++◌, Option, Some, None, option_map, codes, unwrap_or, if◌then◌else◌}
+use Rattle.deftable.specs.Table.{value_of}
 use Rattle.shellword.specs.declared.part.Part.{Part}
 use Rattle.shellword.specs.Value.{word_value}
 use Rattle.syntax.specs.declared.statement.Plain as plain
@@ -7,10 +8,11 @@ use Rattle.syntax.specs.declared.statement.Plain.TheVariants.{CheckProgs, ProgCc
 use Rattle.syntax.specs.declared.tree.Subject as subject
 use Rattle.syntax.specs.declared.tree.When.{When}
 use Rattle.syntax.specs.Script.{Script}
-use Rattle.meaning.specs.State.{State, Scope, no_choice, as_is, Run, Ends, Goes_on, then_run}
+use Rattle.meaning.specs.State.{State, Scope, no_choice, How, Run, Ends, Goes_on, then_run, ended}
+use Rattle.meaning.specs.Tests.{broken, checking, with_result}
 use Rattle.meaning.specs.Meaning.{effect, begun, is_taken, looks, defaulted, meaning}
 use Rattle.plan.specs.declared.step.Step.{Step}
-use Rattle.plan.specs.declared.step.Step.TheVariants.{Do, Look, Default, Subject, SkipUnless, Skip}
+use Rattle.plan.specs.declared.step.Step.TheVariants.{Do, Look, Default, Subject, SkipUnless, Skip, Open, Close}
 
 -- A step, as contracts see it. (own)
 pub data Instruction : Type 0 where
@@ -20,6 +22,8 @@ pub data Instruction : Type 0 where
   Begins : (subject : subject.Subject) → Instruction
   Skips_unless : (when : When) (steps : ℕ) → Instruction
   Skips : (steps : ℕ) → Instruction
+  Opens : (message : List Part) (name : List ℕ) (steps : ℕ) → Instruction
+  Closes : (name : List ℕ) → Instruction
 
 -- A step of the code. (own)
 abbrev pub shown : Step → Instruction
@@ -29,6 +33,8 @@ shown (Default variable value) = Defaults variable.now value.now
 shown (Subject subject) = Begins subject.now
 shown (SkipUnless when steps) = Skips_unless when.now steps
 shown (Skip steps) = Skips steps
+shown (Open message name steps) = Opens message.now name.now steps
+shown (Close name) = Closes name.now
 
 -- The effect of a statement in its own step; the programs of AC_CHECK_PROGS and AC_PROG_CC are steps after it. (own)
 abbrev pub own_effect : plain.Plain → State → Run
@@ -36,22 +42,54 @@ own_effect (CheckProgs variable programs otherwise) st = Ends Goes_on st
 own_effect (ProgCc programs) st = Ends Goes_on st
 own_effect statement st = effect statement st
 
--- One step; `next n` passes n steps and continues. Beside variables and definitions, a walk keeps the subject of the
--- choice that began last. (own)
-abbrev pub act : Instruction → (ℕ → Scope → State → Run) → Scope → State → Run
-act (Does statement) next scope st = then_run (own_effect statement st) (next 0 scope)
-act (Looks variable program always) next scope st = then_run (looks variable program always st) (next 0 scope)
-act (Defaults variable value) next scope st = next 0 scope (defaulted variable (option_map (λ text. word_value text st.vars) value) st)
-act (Begins subject) next scope st = begun as_is subject st (next 0)
-act (Skips_unless when steps) next scope st = if is_taken when scope st.vars then next 0 scope st else next steps scope st
-act (Skips steps) next scope st = next steps scope st
+-- What a walk keeps beside a state: the subject of the choice that began last, and the names of the tests that are not at
+-- their end, the innermost first. (own)
+pub record Mind : Type 0 where
+  pub scope : Scope
+  pub open_tests : List (List ℕ)
+
+-- No choice, and no test. (own)
+abbrev pub empty_mind : Mind
+empty_mind = record { scope = no_choice; open_tests = [] }
+
+-- What is done with a state if the run ends inside these tests, the innermost first. (own)
+abbrev pub broken_all : List (List ℕ) → How → State → State
+broken_all [] how st = st
+broken_all (name ∷ outer) how st = broken_all outer how (broken name how st)
+
+-- A run inside these tests. (own)
+abbrev pub guarded_all : List (List ℕ) → Run → Run
+guarded_all tests run = ended (broken_all tests) run
+
+-- A test begins, by the value of its name: if there is one, it is printed, and the commands are passed. (Autoconf's
+-- manual, "Caching Results")
+abbrev pub opened : Option (List ℕ) → List ℕ → ℕ → (ℕ → Mind → State → Run) → Mind → State → Run
+opened (Some value) name steps next mind st = next steps mind (with_result (codes "(cached) " ++ value) st)
+opened None name steps next mind st = next 0 (record mind { open_tests = name ∷ mind.open_tests }) st
+
+-- The names after the first. (own)
+abbrev pub outer_tests : List (List ℕ) → List (List ℕ)
+outer_tests [] = []
+outer_tests (name ∷ outer) = outer
+
+-- One step; `next n` passes n steps and continues. (own)
+abbrev pub act : Instruction → (ℕ → Mind → State → Run) → Mind → State → Run
+act (Does statement) next mind st = then_run (guarded_all mind.open_tests (own_effect statement st)) (next 0 mind)
+act (Looks variable program always) next mind st = then_run (guarded_all mind.open_tests (looks variable program always st)) (next 0 mind)
+act (Defaults variable value) next mind st = next 0 mind (defaulted variable (option_map (λ text. word_value text st.vars) value) st)
+act (Begins subject) next mind st = begun (broken_all mind.open_tests) subject st (λ scope. next 0 (record mind { scope = scope }))
+act (Skips_unless when steps) next mind st = if is_taken when mind.scope st.vars then next 0 mind st else next steps mind st
+act (Skips steps) next mind st = next steps mind st
+act (Opens message name steps) next mind st = opened (value_of st.vars name) name steps next mind (checking (word_value message st.vars) st)
+act (Closes name) next mind st =
+    next 0 (record mind { open_tests = outer_tests mind.open_tests }) (with_result (unwrap_or (value_of st.vars name) []) st)
 
 -- A plan, after n steps are passed. (own)
-abbrev pub walk : List Instruction → ℕ → Scope → State → Run
-walk [] n scope st = Ends Goes_on st
-walk (i ∷ rest) (suc n) scope st = walk rest n scope st
-walk (i ∷ rest) zero scope st = act i (walk rest) scope st
+abbrev pub walk : List Instruction → ℕ → Mind → State → Run
+walk [] n mind st = Ends Goes_on st
+walk (i ∷ rest) (suc n) mind st = walk rest n mind st
+walk (i ∷ rest) zero mind st = act i (walk rest) mind st
 
 -- The walk of the plan is the meaning of the list of statements, whatever the variables and definitions. (own)
 abbrev pub DoesWhat : List Instruction → Script → Type 0
-DoesWhat plan script = (st : State) → walk plan 0 no_choice st ≡ meaning script st
+DoesWhat plan script = (st : State) → walk plan 0 empty_mind st ≡ meaning script st

@@ -2,7 +2,7 @@
 use Rattle.std.specs.Prelude.{ℕ, ◌+◌, length}
 use Rattle.syntax.specs.declared.statement.Plain as plain
 use Rattle.syntax.specs.declared.statement.Plain.TheVariants.{CheckProgs, ProgCc}
-use Rattle.syntax.specs.Script.{Script, Done, Then, Choice, Cases, No_case, Case}
+use Rattle.syntax.specs.Script.{Script, Done, Then, Choice, Check, Cases, No_case, Case}
 
 -- The number of programs in a statement's list. (own)
 abbrev pub entries_of : plain.Plain → ℕ
@@ -16,6 +16,7 @@ abbrev mutual
   weight Done = 0
   weight (Then s rest) = 1 + (entries_of s + weight rest)
   weight (Choice subject cases rest) = 1 + (weight_of_cases cases + weight rest)
+  weight (Check message name commands rest) = 1 + (weight commands + weight rest)
 
   -- Each case of a choice weighs 1 more than its statements, a default too. (own)
   pub weight_of_cases : Cases → ℕ

@@ -2,11 +2,12 @@
 
 ghost use Rattle.std.specs.Prelude.{◌≡◌, ◌++◌, IfOk, OnOk, true};
 ghost use Rattle.syntax.specs.Script.{Done, script_of, cases_of, stmt_then};
-ghost use Rattle.plan.specs.Code.{case_code, code_after, code_of, code_of_cases, code_of_programs};
+ghost use Rattle.plan.specs.Code.{case_code, check_code, code_after, code_of, code_of_cases, code_of_programs};
 
 use crate::code::Code;
 use crate::step::Step;
 use deftable::Bytes;
+use shellword::HereText;
 use std::alloc::{AllocError, Global};
 use syntax::{Case, Plain, Stmt};
 
@@ -75,7 +76,34 @@ fn emit_statement<'a>(code: &mut Code<'a>, statement: &'a Stmt) -> Result<(), Al
             code.put(Step::Subject(subject))?;
             Ok(())
         }
+        Stmt::CacheCheck {
+            message,
+            name,
+            commands,
+        } => emit_check(code, message, name.as_slice(), commands.as_slice()),
     }
+}
+
+/// Puts the steps of a check at the front.
+#[cycle(emit)]
+fn emit_check<'a>(
+    code: &mut Code<'a>,
+    message: &'a HereText,
+    name: &'a [u8],
+    commands: &'a [Stmt],
+) -> Result<(), AllocError>
+    ensures { OnOk result (code.new ≡ check_code message.now name.now (code_of (script_of commands.now)) ++ code.old) }
+{
+    let end = code.len();
+    code.put(Step::Close { name })?;
+    emit(code, commands)?;
+    let steps = code.len() - end;
+    code.put(Step::Open {
+        message,
+        name,
+        steps,
+    })?;
+    Ok(())
 }
 
 #[cycle(emit)]

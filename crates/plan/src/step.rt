@@ -33,6 +33,16 @@ pub enum Step<'a> {
     Skip {
         steps: usize,
     },
+    /// Begins a check. If its name is set, passes steps: those of the commands, and its end.
+    Open {
+        message: &'a HereText,
+        name: &'a [u8],
+        steps: usize,
+    },
+    /// Ends the check of this name, which began last.
+    Close {
+        name: &'a [u8],
+    },
 }
 
 /// The steps of a source, which borrow from its statements. Contracts see the list of their effects: every jump goes

@@ -45,6 +45,7 @@ fn weigh_statement(room: usize, statement: &Stmt) -> Option<usize>
     match statement {
         Stmt::Plain(plain) => left.checked_sub(entries_of(plain)),
         Stmt::Choose { cases, .. } => weigh_cases(left, cases.as_slice()),
+        Stmt::CacheCheck { commands, .. } => weigh(left, commands.as_slice()),
     }
 }
 

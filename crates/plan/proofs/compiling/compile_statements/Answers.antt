@@ -1,9 +1,9 @@
 use Rattle.std.proofs.Common.{ap, ◌∙◌, sym, subst, arith, length}
 use Rattle.syntax.specs.Script.{script_of}
 use Rattle.plan.specs.Inside.{StaysInside}
-use Rattle.meaning.specs.State.{no_choice}
-use Rattle.plan.specs.Walk.{walk}
-use Rattle.plan.proofs.Follows.{does_what, code_stays}
+use Rattle.plan.specs.Walk.{walk, empty_mind}
+use Rattle.plan.proofs.Follows.{does_what}
+use Rattle.plan.proofs.Insides.{code_stays}
 use Rattle.plan.proofs.Weights.{code_bound, within}
 use Rattle.plan.proofs.compiling.compile_statements.Goals as goal
 
@@ -15,7 +15,7 @@ new-requires c = record {
 
 pub returns-clause-meaning : goal.returns-clause-meaning
 returns-clause-meaning c = λ st.
-    ap (λ l. walk l 0 no_choice st) (c.new.ensures ∙ c.in_ok-code.ensures) ∙ does_what (script_of c.args.statements.now) st
+    ap (λ l. walk l 0 empty_mind st) (c.new.ensures ∙ c.in_ok-code.ensures) ∙ does_what (script_of c.args.statements.now) st
 
 pub returns-clause-steps : goal.returns-clause-steps
 returns-clause-steps c =

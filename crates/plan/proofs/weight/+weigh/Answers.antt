@@ -1,5 +1,5 @@
 use Rattle.std.proofs.Common.{arith}
-use Rattle.plan.proofs.Weights.{weigh_on, weigh_over, weighs_something, choose_some, choose_none}
+use Rattle.plan.proofs.Weights.{weigh_on, weigh_over, weighs_something, choose_some, choose_none, check_some, check_none}
 use Rattle.plan.proofs.weight.+weigh.Goals as goal
 
 pub weigh-returns-in_default-clause-none : goal.weigh-returns-in_default-clause-none
@@ -21,3 +21,11 @@ weigh_statement-returns-in-Choose-clause-some t c =
 pub weigh_statement-returns-in-Choose-clause-none : goal.weigh_statement-returns-in-Choose-clause-none
 weigh_statement-returns-in-Choose-clause-none t c =
     choose_none _ _ _ _ _ _ _ c.in-Choose.is c.as_slice.ensures.value (omega (arith, c.in-Some.ensures)) c.weigh_cases.ensures.none
+
+pub weigh_statement-returns-in-CacheCheck-clause-some : goal.weigh_statement-returns-in-CacheCheck-clause-some
+weigh_statement-returns-in-CacheCheck-clause-some t c =
+    check_some _ _ _ _ _ _ _ _ c.in-CacheCheck.is c.as_slice-in-CacheCheck.ensures.value (omega (arith, c.in-Some.ensures)) c.weigh.ensures.some
+
+pub weigh_statement-returns-in-CacheCheck-clause-none : goal.weigh_statement-returns-in-CacheCheck-clause-none
+weigh_statement-returns-in-CacheCheck-clause-none t c =
+    check_none _ _ _ _ _ _ _ _ c.in-CacheCheck.is c.as_slice-in-CacheCheck.ensures.value (omega (arith, c.in-Some.ensures)) c.weigh.ensures.none

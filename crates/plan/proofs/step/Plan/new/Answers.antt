@@ -1,7 +1,7 @@
 use Rattle.std.proofs.Common.{arith, subst, sym, ap}
 use Rattle.plan.specs.Inside.{StaysInside, asks_after}
 use Rattle.plan.specs.Names.{DefinesNames}
-use Rattle.plan.proofs.Follows.{asks_bound}
+use Rattle.plan.proofs.Insides.{asks_bound}
 use Rattle.plan.proofs.step.Plan.new.Goals as goal
 
 pub invariant_of-result : goal.invariant_of-result

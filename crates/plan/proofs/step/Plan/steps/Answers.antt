@@ -1,4 +1,4 @@
-use Rattle.plan.proofs.Follows.{asks_few}
+use Rattle.plan.proofs.Insides.{asks_few}
 use Rattle.plan.proofs.step.Plan.steps.Goals as goal
 
 pub returns-clause-each : goal.returns-clause-each

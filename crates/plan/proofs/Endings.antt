@@ -1,0 +1,111 @@
+-- What follows the end of a run, and what is done there.
+use Rattle.std.proofs.Common.{◌≡◌, ℕ, Option, Some, None, List, [], ◌∷◌, Bool, true, false, refl, sym, ap, ◌∙◌}
+use Rattle.std.proofs.Math.Path.{fun_ext}
+use Rattle.conftest.specs.declared.job.Job.{Job}
+use Rattle.conftest.specs.Probe.{run_of, job_of}
+use Rattle.crew.specs.declared.reply.Reply.{Reply}
+use Rattle.deftable.specs.Table.{value_of}
+use Rattle.deftable.specs.declared.note.Stream.TheVariants.{Err}
+use Rattle.syntax.specs.declared.feature.OptionKind.{OptionKind}
+use Rattle.syntax.specs.declared.statement.Question as asks
+use Rattle.syntax.specs.declared.statement.Question.TheVariants.{Given, Tries}
+use Rattle.syntax.specs.declared.program.Try as kinds
+use Rattle.syntax.specs.declared.program.Try.TheVariants as kinds_are
+use Rattle.syntax.specs.declared.tree.Subject as what
+use Rattle.syntax.specs.declared.tree.Subject.TheVariants.{Nothing, Word, Asked}
+use Rattle.meaning.specs.State.{State, Scope, answered, told, with_child, How, as_is, Goes_on, Completed, Stopped, Cut, Run, Ends, Asks, then_run, ended}
+use Rattle.meaning.specs.Meaning.{given, asked, begun}
+use Rattle.meaning.specs.Asking.{success, only_reply, heard, child, no_compiler, compiled}
+use Rattle.meaning.specs.Tries.{first_probe, after_first, tried, text_of}
+use Rattle.plan.specs.Walk.{broken_all}
+
+-- What follows what follows.
+pub then_then : (r : Run) (f g : State → Run) → then_run (then_run r f) g ≡ then_run r (λ st. then_run (f st) g)
+then_then (Ends Goes_on st) f g = refl
+then_then (Ends Completed st) f g = refl
+then_then (Ends (Stopped s) st) f g = refl
+then_then (Ends Cut st) f g = refl
+then_then (Asks jobs ask) f g = ap (Asks jobs) (fun_ext (λ replies. then_then (ask replies) f g))
+
+pub then_ends : (r : Run) → then_run r (Ends Goes_on) ≡ r
+then_ends (Ends Goes_on st) = refl
+then_ends (Ends Completed st) = refl
+then_ends (Ends (Stopped s) st) = refl
+then_ends (Ends Cut st) = refl
+then_ends (Asks jobs ask) = ap (Asks jobs) (fun_ext (λ replies. then_ends (ask replies)))
+
+-- Nothing is done to a run that continues.
+abbrev pub SparesGoing : (How → State → State) → Type 0
+SparesGoing early = (st : State) → early Goes_on st ≡ st
+
+pub spares_all : (tests : List (List ℕ)) → SparesGoing (broken_all tests)
+spares_all [] st = refl
+spares_all (name ∷ outer) st = spares_all outer st
+
+pub ended_then : (early : How → State → State) → SparesGoing early → (r : Run) (f : State → Run) → ended early (then_run r f) ≡ then_run (ended early r) (λ st. ended early (f st))
+ended_then early spares (Ends Goes_on st) f = sym (ap (λ s. ended early (f s)) (spares st))
+ended_then early spares (Ends Completed st) f = refl
+ended_then early spares (Ends (Stopped s) st) f = refl
+ended_then early spares (Ends Cut st) f = refl
+ended_then early spares (Asks jobs ask) f = ap (Asks jobs) (fun_ext (λ replies. ended_then early spares (ask replies) f))
+
+pub ended_ended : (outer inner : How → State → State) (r : Run) → ended outer (ended inner r) ≡ ended (λ how st. outer how (inner how st)) r
+ended_ended outer inner (Ends how st) = refl
+ended_ended outer inner (Asks jobs ask) = ap (Asks jobs) (fun_ext (λ replies. ended_ended outer inner (ask replies)))
+
+pub ended_as_is : (r : Run) → ended as_is r ≡ r
+ended_as_is (Ends how st) = refl
+ended_as_is (Asks jobs ask) = ap (Asks jobs) (fun_ext (λ replies. ended_as_is (ask replies)))
+
+-- Something is done to a run at its ends: where it is cut short or stops early, the state changes otherwise.
+pub record Carries (f : Run → Run) (early other : How → State → State) : Type 0 where
+  pub asks : (jobs : List Job) (ask : List Reply → Run) → f (Asks jobs ask) ≡ Asks jobs (λ replies. f (ask replies))
+  pub cut : (st : State) → f (Ends Cut (early Cut st)) ≡ Ends Cut (other Cut st)
+  pub stopped : (s : ℕ) (st : State) → f (Ends (Stopped s) (early (Stopped s) st)) ≡ Ends (Stopped s) (other (Stopped s) st)
+
+pub then_carries : (early : How → State → State) (next : State → Run) → Carries (λ r. then_run r next) early early
+then_carries early next = record { asks = λ jobs ask. refl; cut = λ st. refl; stopped = λ s st. refl }
+
+pub ended_carries : (outer early : How → State → State) → Carries (ended outer) early (λ how st. outer how (early how st))
+ended_carries outer early = record { asks = λ jobs ask. refl; cut = λ st. refl; stopped = λ s st. refl }
+
+heard_carried : {f : Run → Run} {early other : How → State → State} → Carries f early other → (answer : Option Bool) (st : State) (go : Bool → State → Run)
+    → f (heard early answer st go) ≡ heard other answer st (λ b now. f (go b now))
+heard_carried c None st go = c.cut st
+heard_carried c (Some b) st go = refl
+
+child_carried : {f : Run → Run} {early other : How → State → State} → Carries f early other → (job : Job) (st : State) (go : Bool → State → Run)
+    → f (child early job st go) ≡ child other job st (λ b now. f (go b now))
+child_carried c job st go = c.asks _ _ ∙ ap (Asks (job ∷ [])) (fun_ext (λ replies. heard_carried c (success (only_reply replies)) (with_child job (only_reply replies) st) go))
+
+pub compiled_carried : {f : Run → Run} {early other : How → State → State} → Carries f early other → (job : Option Job) (st : State) (go : Bool → State → Run)
+    → f (compiled early job st go) ≡ compiled other job st (λ b now. f (go b now))
+compiled_carried c None st go = c.stopped 1 (told Err no_compiler st)
+compiled_carried c (Some job) st go = child_carried c job st go
+
+first_carried : {f : Run → Run} {early other : How → State → State} → Carries f early other → (kind : kinds.Try) (go : Bool → State → Run) (b : Bool) (st : State)
+    → f (after_first early kind go b st) ≡ after_first other kind (λ passed now. f (go passed now)) b st
+first_carried c kinds_are.Run go true st = child_carried c (run_of 0) st go
+first_carried c kinds_are.Run go false st = refl
+first_carried c kinds_are.Compile go b st = refl
+first_carried c kinds_are.Link go b st = refl
+first_carried c kinds_are.Preproc go b st = refl
+
+given_carried : {f : Run → Run} (value : Option (List ℕ)) (kind : OptionKind) (st : State) (go : Scope → State → Run) → f (given value kind st go) ≡ given value kind st (λ scope now. f (go scope now))
+given_carried None kind st go = refl
+given_carried (Some value) kind st go = refl
+
+asked_carried : {f : Run → Run} {early other : How → State → State} → Carries f early other → (question : asks.Question) (st : State) (go : Scope → State → Run)
+    → f (asked early question st go) ≡ asked other question st (λ scope now. f (go scope now))
+asked_carried c (Given kind variable help) st go = given_carried (value_of st.vars variable) kind st go
+asked_carried c (Tries kind program) st go =
+    let job = job_of (first_probe kind (text_of program st.vars)) 0 st.vars st.defs in
+    compiled_carried c job st _ ∙ ap (compiled _ job st) (fun_ext (λ b. fun_ext (λ now. first_carried c kind (λ passed. go (answered passed)) b now)))
+
+-- The beginning of a choice.
+pub begun_carried : {f : Run → Run} {early other : How → State → State} → Carries f early other → (subject : what.Subject) (st : State) (go : Scope → State → Run)
+    → f (begun early subject st go) ≡ begun other subject st (λ scope now. f (go scope now))
+unfolding begun
+begun_carried c Nothing st go = refl
+begun_carried c (Word word) st go = refl
+begun_carried c (Asked question) st go = asked_carried c question st go
