@@ -1,5 +1,5 @@
 -- The children in the log.
-use Rattle.std.proofs.Common.{◌≡◌, ℕ, ◌+◌, Option, Some, None, List, [], ◌∷◌, ◌++◌, length, codes, Bool, true, false, cond, refl, sym, ap, ◌∙◌, subst}
+use Rattle.std.proofs.Common.{◌≡◌, ℕ, ◌+◌, Option, Some, None, List, [], ◌∷◌, ◌++◌, length, codes, Bool, true, false, cond, refl, ap, ◌∙◌, subst}
 use Rattle.std.specs.Prelude.{option_map, ◌||◌, not}
 use Rattle.conftest.specs.declared.job.Job.{Job}
 use Rattle.conftest.specs.Probe.{run_of, job_of}
@@ -27,8 +27,8 @@ use Rattle.meaning.specs.Tests.{Test, broken, guarded, checking, test_by, cached
 use Rattle.meaning.specs.Rows.{Kind, Program, name_of, attempts_of, otherwise_of, after_of, row_of}
 use Rattle.meaning.specs.Package.{initialised}
 use Rattle.meaning.specs.Play.{first_number, refused_after, with_cut_line, cut_line, last_words}
-use Rattle.meaning.specs.Tries.{first_probe, after_first, tried, text_of}
-use Rattle.meaning.specs.Meaning.{settled, is_unsettled, with_prefixes, has_value, program_test, check_prog, looks, looks_all, defaulted, error_line, effect, value_name, given, asked, begun, is_taken, check, meaning, chosen}
+use Rattle.meaning.specs.Tries.{first_probe, after_first, text_of}
+use Rattle.meaning.specs.Meaning.{settled, is_unsettled, has_value, check_prog, looks, looks_all, defaulted, error_line, effect, value_name, given, asked, begun, is_taken, check, meaning, chosen}
 use Rattle.meaning.specs.Laws.{children_of, paired, Logs, ChildrenAreLogged, SetTestsAskNothing}
 
 abbrev kids : State → List (Job × Reply)

@@ -1,5 +1,5 @@
 -- Cached tests.
-use Rattle.std.specs.Prelude.{ℕ, Bool, true, false, List, [], ◌++◌, Option, Some, None, codes, unwrap_or}
+use Rattle.std.specs.Prelude.{ℕ, Bool, true, false, List, ◌++◌, Option, Some, None, codes}
 use Rattle.deftable.specs.declared.note.Stream.TheVariants as streams
 use Rattle.deftable.specs.Table.{value_of}
 use Rattle.meaning.specs.State.{State, told, with_variable, without_variable, How, Goes_on, Completed, Stopped, Cut, Run, Ends, then_run, ended, as_is}

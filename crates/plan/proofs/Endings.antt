@@ -16,7 +16,7 @@ use Rattle.syntax.specs.declared.tree.Subject.TheVariants.{Nothing, Word, Asked}
 use Rattle.meaning.specs.State.{State, Scope, answered, told, with_child, How, as_is, Goes_on, Completed, Stopped, Cut, Run, Ends, Asks, then_run, ended}
 use Rattle.meaning.specs.Meaning.{given, asked, begun}
 use Rattle.meaning.specs.Asking.{success, only_reply, heard, child, no_compiler, compiled}
-use Rattle.meaning.specs.Tries.{first_probe, after_first, tried, text_of}
+use Rattle.meaning.specs.Tries.{first_probe, after_first, text_of}
 use Rattle.plan.specs.Walk.{broken_all}
 
 -- What follows what follows.
@@ -69,43 +69,43 @@ then_carries early next = record { asks = λ jobs ask. refl; cut = λ st. refl; 
 pub ended_carries : (outer early : How → State → State) → Carries (ended outer) early (λ how st. outer how (early how st))
 ended_carries outer early = record { asks = λ jobs ask. refl; cut = λ st. refl; stopped = λ s st. refl }
 
-heard_carried : {f : Run → Run} {early other : How → State → State} → Carries f early other → (answer : Option Bool) (st : State) (go : Bool → State → Run)
+heard_carried : (f : Run → Run) (early other : How → State → State) → Carries f early other → (answer : Option Bool) (st : State) (go : Bool → State → Run)
     → f (heard early answer st go) ≡ heard other answer st (λ b now. f (go b now))
-heard_carried c None st go = c.cut st
-heard_carried c (Some b) st go = refl
+heard_carried f early other c None st go = c.cut st
+heard_carried f early other c (Some b) st go = refl
 
-child_carried : {f : Run → Run} {early other : How → State → State} → Carries f early other → (job : Job) (st : State) (go : Bool → State → Run)
+child_carried : (f : Run → Run) (early other : How → State → State) → Carries f early other → (job : Job) (st : State) (go : Bool → State → Run)
     → f (child early job st go) ≡ child other job st (λ b now. f (go b now))
-child_carried c job st go = c.asks _ _ ∙ ap (Asks (job ∷ [])) (fun_ext (λ replies. heard_carried c (success (only_reply replies)) (with_child job (only_reply replies) st) go))
+child_carried f early other c job st go = c.asks _ _ ∙ ap (Asks (job ∷ [])) (fun_ext (λ replies. heard_carried f early other c (success (only_reply replies)) (with_child job (only_reply replies) st) go))
 
-pub compiled_carried : {f : Run → Run} {early other : How → State → State} → Carries f early other → (job : Option Job) (st : State) (go : Bool → State → Run)
+pub compiled_carried : (f : Run → Run) (early other : How → State → State) → Carries f early other → (job : Option Job) (st : State) (go : Bool → State → Run)
     → f (compiled early job st go) ≡ compiled other job st (λ b now. f (go b now))
-compiled_carried c None st go = c.stopped 1 (told Err no_compiler st)
-compiled_carried c (Some job) st go = child_carried c job st go
+compiled_carried f early other c None st go = c.stopped 1 (told Err no_compiler st)
+compiled_carried f early other c (Some job) st go = child_carried f early other c job st go
 
-first_carried : {f : Run → Run} {early other : How → State → State} → Carries f early other → (kind : kinds.Try) (go : Bool → State → Run) (b : Bool) (st : State)
+first_carried : (f : Run → Run) (early other : How → State → State) → Carries f early other → (kind : kinds.Try) (go : Bool → State → Run) (b : Bool) (st : State)
     → f (after_first early kind go b st) ≡ after_first other kind (λ passed now. f (go passed now)) b st
-first_carried c kinds_are.Run go true st = child_carried c (run_of 0) st go
-first_carried c kinds_are.Run go false st = refl
-first_carried c kinds_are.Compile go b st = refl
-first_carried c kinds_are.Link go b st = refl
-first_carried c kinds_are.Preproc go b st = refl
+first_carried f early other c kinds_are.Run go true st = child_carried f early other c (run_of 0) st go
+first_carried f early other c kinds_are.Run go false st = refl
+first_carried f early other c kinds_are.Compile go b st = refl
+first_carried f early other c kinds_are.Link go b st = refl
+first_carried f early other c kinds_are.Preproc go b st = refl
 
-given_carried : {f : Run → Run} (value : Option (List ℕ)) (kind : OptionKind) (st : State) (go : Scope → State → Run) → f (given value kind st go) ≡ given value kind st (λ scope now. f (go scope now))
-given_carried None kind st go = refl
-given_carried (Some value) kind st go = refl
+given_carried : (f : Run → Run) (value : Option (List ℕ)) (kind : OptionKind) (st : State) (go : Scope → State → Run) → f (given value kind st go) ≡ given value kind st (λ scope now. f (go scope now))
+given_carried f None kind st go = refl
+given_carried f (Some value) kind st go = refl
 
-asked_carried : {f : Run → Run} {early other : How → State → State} → Carries f early other → (question : asks.Question) (st : State) (go : Scope → State → Run)
+asked_carried : (f : Run → Run) (early other : How → State → State) → Carries f early other → (question : asks.Question) (st : State) (go : Scope → State → Run)
     → f (asked early question st go) ≡ asked other question st (λ scope now. f (go scope now))
-asked_carried c (Given kind variable help) st go = given_carried (value_of st.vars variable) kind st go
-asked_carried c (Tries kind program) st go =
+asked_carried f early other c (Given kind variable help) st go = given_carried f (value_of st.vars variable) kind st go
+asked_carried f early other c (Tries kind program) st go =
     let job = job_of (first_probe kind (text_of program st.vars)) 0 st.vars st.defs in
-    compiled_carried c job st _ ∙ ap (compiled _ job st) (fun_ext (λ b. fun_ext (λ now. first_carried c kind (λ passed. go (answered passed)) b now)))
+    compiled_carried f early other c job st _ ∙ ap (compiled other job st) (fun_ext (λ b. fun_ext (λ now. first_carried f early other c kind (λ passed. go (answered passed)) b now)))
 
 -- The beginning of a choice.
-pub begun_carried : {f : Run → Run} {early other : How → State → State} → Carries f early other → (subject : what.Subject) (st : State) (go : Scope → State → Run)
+pub begun_carried : (f : Run → Run) (early other : How → State → State) → Carries f early other → (subject : what.Subject) (st : State) (go : Scope → State → Run)
     → f (begun early subject st go) ≡ begun other subject st (λ scope now. f (go scope now))
 unfolding begun
-begun_carried c Nothing st go = refl
-begun_carried c (Word word) st go = refl
-begun_carried c (Asked question) st go = asked_carried c question st go
+begun_carried f early other c Nothing st go = refl
+begun_carried f early other c (Word word) st go = refl
+begun_carried f early other c (Asked question) st go = asked_carried f early other c question st go

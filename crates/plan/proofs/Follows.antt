@@ -12,7 +12,7 @@ use Rattle.syntax.specs.Script.{Script, Done, Then, Choice, Check, Cases, No_cas
 use Rattle.meaning.specs.State.{State, Scope, no_choice, as_is, Goes_on, Run, Ends, then_run, ended}
 use Rattle.meaning.specs.Tests.{broken, checking, with_result, test_by, cached_test}
 use Rattle.meaning.specs.Meaning.{effect, looks, looks_all, defaulted, begun, is_taken, check, meaning, chosen}
-use Rattle.plan.specs.Walk.{Instruction, Does, Looks, Defaults, Skips_unless, Skips, Opens, Closes, Mind, empty_mind, broken_all, guarded_all, opened, own_effect, walk, DoesWhat}
+use Rattle.plan.specs.Walk.{Instruction, Does, Defaults, Skips_unless, Skips, Opens, Closes, Mind, empty_mind, broken_all, guarded_all, opened, own_effect, walk, DoesWhat}
 use Rattle.plan.specs.Code.{case_code, check_code, code_after, code_of, code_of_cases, code_of_programs}
 use Rattle.plan.proofs.Endings.{then_then, then_ends, spares_all, ended_then, ended_ended, ended_as_is, then_carries, ended_carries, begun_carried}
 
@@ -153,8 +153,8 @@ mutual
       ap (λ l. walk l 0 (minded about tests) now) (append_assoc c r rest)
       ∙ chooses cases (r ++ rest) tests (λ s. then_run (guarded_all tests (meaning script s)) next) (follows script rest tests next h) about now
       ∙ in_order tests (chosen cases about now) (meaning script) next)))
-      ∙ sym (begun_carried (then_carries all next) subject st (λ about now. ended all (go about now)))
-      ∙ ap (λ x. then_run x next) (sym (begun_carried (ended_carries all as_is) subject st go))
+      ∙ sym (begun_carried (λ r. then_run r next) all all (then_carries all next) subject st (λ about now. ended all (go about now)))
+      ∙ ap (λ x. then_run x next) (sym (begun_carried (ended all) as_is all (ended_carries all as_is) subject st go))
   follows (Check message name commands script) rest tests next h scope st =
       let b = code_of commands in let r = code_of script in
       ap (λ l. walk l 0 (minded scope tests) st) (flat_check message name b r rest)

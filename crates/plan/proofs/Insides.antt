@@ -1,15 +1,17 @@
 -- Every jump of a plan stays inside, and how many jobs a plan asks for.
-use Rattle.std.proofs.Common.{◌≡◌, codes, ◌*◌, ◌+◌, ℕ, ◌≤◌, List, [], ◌∷◌, ◌++◌, length, Bool, sym, ap, arith, append_assoc, length-append, subst}
+use Rattle.std.proofs.Common.{◌≡◌, codes, ◌*◌, ◌+◌, ℕ, ◌≤◌, List, [], ◌∷◌, ◌++◌, length, Bool, true, false, sym, arith, append_assoc, length-append, subst}
 use Rattle.std.proofs.lemmas.List.{append-nil}
 use Rattle.syntax.specs.declared.statement.Question.TheVariants.{Given, Tries}
 use Rattle.syntax.specs.declared.program.Try.TheVariants as kinds_are
 use Rattle.syntax.specs.declared.statement.Plain as plain
 use Rattle.syntax.specs.declared.statement.Plain.TheVariants.{Init, Accepted, ConfigFiles, Assign, Subst, SubstValue, Define, DefineUnquoted, Error, ArgVar, CheckProg, PathProg, Output, CheckProgs, ProgCc}
+use Rattle.syntax.specs.declared.tree.Subject as what
 use Rattle.syntax.specs.declared.tree.Subject.TheVariants.{Nothing, Word, Asked}
 use Rattle.syntax.specs.Script.{Script, Done, Then, Choice, Check, Cases, No_case, Case}
 use Rattle.plan.specs.Walk.{Instruction, Does, Looks, Defaults, Begins, Skips_unless, Skips, Opens, Closes}
-use Rattle.plan.specs.Code.{code_after, code_of, code_of_cases, code_of_programs}
-use Rattle.plan.specs.Inside.{StaysInside, asks_of, asks_after}
+use Rattle.plan.specs.Code.{case_code, check_code, code_after, code_of, code_of_cases, code_of_programs}
+use Rattle.plan.specs.Inside.{StaysInside, asks_by, asks_about, asks_of, asks_after}
+use Rattle.plan.specs.Weight.{entries_of, weight, weight_of_cases}
 use Rattle.plan.proofs.Follows.{flat, flat_check}
 
 programs_inside : (variable : List ℕ) (programs : List (List ℕ)) (always : Bool) (rest : List Instruction) → StaysInside rest → StaysInside (code_of_programs variable programs always ++ rest)
@@ -43,7 +45,6 @@ mutual
       (omega arith, subst StaysInside (sym (append_assoc (code_after s) (code_of script) rest)) (after_inside s (code_of script ++ rest) (code_inside script rest h)))
   code_inside (Choice subject cases script) rest h =
       (omega arith, subst StaysInside (sym (append_assoc (code_of_cases cases) (code_of script) rest)) (cases_inside cases (code_of script ++ rest) (code_inside script rest h)))
-
   code_inside (Check message name commands script) rest h =
       let b = code_of commands in let r = code_of script in
       let end = Closes name ∷ (r ++ rest) in
@@ -96,3 +97,50 @@ asks_few (Closes name) = omega arith
 pub asks_bound : (steps : List Instruction) → asks_after steps 0 ≤ 65536 * length steps
 asks_bound [] = omega arith
 asks_bound (i ∷ rest) = omega (arith, asks_few i, asks_bound rest)
+
+asks_both : (a b : List Instruction) → asks_after (a ++ b) 0 ≡ asks_after a 0 + asks_after b 0
+asks_both [] b = omega arith
+asks_both (i ∷ a) b = omega (arith, asks_both a b)
+
+programs_ask : (variable : List ℕ) (programs : List (List ℕ)) (always : Bool) → asks_after (code_of_programs variable programs always) 0 ≤ 65536 * length programs
+programs_ask variable [] always = omega arith
+programs_ask variable (p ∷ programs) always = omega (arith, programs_ask variable programs false)
+
+-- A statement, with the steps after its own.
+statement_asks : (s : plain.Plain) → asks_by s + asks_after (code_after s) 0 ≤ 65536 * (1 + entries_of s)
+statement_asks (CheckProgs variable programs otherwise) =
+    omega (arith, asks_both (code_of_programs variable programs true) (Defaults variable otherwise ∷ []), programs_ask variable programs true)
+statement_asks (ProgCc programs) = omega (arith, programs_ask (codes "CC") programs true)
+statement_asks (Init a b d e f) = omega arith
+statement_asks Accepted = omega arith
+statement_asks (ConfigFiles outputs) = omega arith
+statement_asks (Assign name value) = omega arith
+statement_asks (Subst name) = omega arith
+statement_asks (SubstValue name value) = omega arith
+statement_asks (Define name value) = omega arith
+statement_asks (DefineUnquoted name value) = omega arith
+statement_asks (Error message status) = omega arith
+statement_asks (ArgVar name help) = omega arith
+statement_asks (CheckProg variable program found otherwise) = omega arith
+statement_asks (PathProg variable program otherwise) = omega arith
+statement_asks Output = omega arith
+
+about_asks : (subject : what.Subject) → asks_about subject ≤ 65536
+about_asks subject = asks_few (Begins subject)
+
+mutual
+  -- Code asks for 65,536 jobs at most for each unit of weight.
+  pub code_asks : (script : Script) → asks_after (code_of script) 0 ≤ 65536 * weight script
+  code_asks Done = omega arith
+  code_asks (Then s script) = omega (arith, statement_asks s, asks_both (code_after s) (code_of script), code_asks script)
+  code_asks (Choice subject cases script) =
+      omega (arith, about_asks subject, asks_both (code_of_cases cases) (code_of script), cases_ask cases, code_asks script)
+  code_asks (Check message name commands script) =
+      let b = code_of commands in
+      omega (arith, asks_both (check_code message name b) (code_of script), asks_both b (Closes name ∷ []), code_asks commands, code_asks script)
+
+  cases_ask : (cases : Cases) → asks_after (code_of_cases cases) 0 ≤ 65536 * weight_of_cases cases
+  cases_ask No_case = omega arith
+  cases_ask (Case when body cases) =
+      let b = code_of body in let m = code_of_cases cases in
+      omega (arith, asks_both (case_code when b (length m)) m, asks_both b (Skips (length m) ∷ []), code_asks body, cases_ask cases)

@@ -1,7 +1,8 @@
 //! Compiles statements to a plan.
 
-ghost use Rattle.std.specs.Prelude.{◌≡◌, ◌<◌, ◌≤◌, ◌^◌, ◌↔◌, Err, IfOk, length};
+ghost use Rattle.std.specs.Prelude.{◌≡◌, ◌<◌, ◌≤◌, ◌*◌, ◌^◌, ◌↔◌, Err, IfOk, length};
 ghost use Rattle.syntax.specs.Script.{script_of};
+ghost use Rattle.plan.specs.Inside.{asks_after};
 ghost use Rattle.plan.specs.Names.{DefinesNames};
 ghost use Rattle.plan.specs.Walk.{DoesWhat};
 ghost use Rattle.plan.specs.Weight.{heaviest, weight};
@@ -28,6 +29,8 @@ pub fn compile_statements<'a>(alloc: Global, statements: &'a [Stmt]) -> Result<P
     ensures fits { IfOk result (λ _. weight (script_of statements.now) ≤ heaviest) }
     ensures steps { IfOk result (λ plan. length plan ≤ 2 ^ 20) }
     ensures names { IfOk result (λ plan. DefinesNames plan) }
+    // A run asks for at most 65,536 jobs for each unit of weight.
+    ensures asks { IfOk result (λ plan. asks_after plan 0 ≤ 65536 * weight (script_of statements.now)) }
 {
     if weigh(HEAVIEST, statements).is_none() {
         return Err(PlanFault::TooLong);
@@ -49,6 +52,8 @@ pub fn compile<'a>(alloc: Global, source: &'a Source) -> Result<Plan<'a>, PlanFa
     ensures fits { IfOk result (λ _. weight (script_of source.now) ≤ heaviest) }
     ensures steps { IfOk result (λ plan. length plan ≤ 2 ^ 20) }
     ensures names { IfOk result (λ plan. DefinesNames plan) }
+    // A run asks for at most 65,536 jobs for each unit of weight.
+    ensures asks { IfOk result (λ plan. asks_after plan 0 ≤ 65536 * weight (script_of source.now)) }
 {
     compile_statements(alloc, source.statements())
 }

@@ -97,11 +97,11 @@ fn emit_check<'a>(
     let end = code.len();
     code.put(Step::Close { name })?;
     emit(code, commands)?;
-    let steps = code.len() - end;
+    let length = code.len() - end;
     code.put(Step::Open {
         message,
         name,
-        steps,
+        steps: length,
     })?;
     Ok(())
 }

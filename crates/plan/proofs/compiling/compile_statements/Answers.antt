@@ -1,9 +1,11 @@
-use Rattle.std.proofs.Common.{ap, ◌∙◌, sym, subst, arith, length}
+use Rattle.std.proofs.Common.{◌≡◌, ◌≤◌, ◌*◌, ap, ◌∙◌, sym, subst, arith, length}
 use Rattle.syntax.specs.Script.{script_of}
-use Rattle.plan.specs.Inside.{StaysInside}
+use Rattle.plan.specs.Inside.{StaysInside, asks_after}
+use Rattle.plan.specs.Code.{code_of}
+use Rattle.plan.specs.Weight.{weight}
 use Rattle.plan.specs.Walk.{walk, empty_mind}
 use Rattle.plan.proofs.Follows.{does_what}
-use Rattle.plan.proofs.Insides.{code_stays}
+use Rattle.plan.proofs.Insides.{code_stays, code_asks}
 use Rattle.plan.proofs.Weights.{code_bound, within}
 use Rattle.plan.proofs.compiling.compile_statements.Goals as goal
 
@@ -20,3 +22,8 @@ returns-clause-meaning c = λ st.
 pub returns-clause-steps : goal.returns-clause-steps
 returns-clause-steps c =
     omega (arith, ap length (c.new.ensures ∙ c.in_ok-code.ensures), code_bound (script_of c.args.statements.now), within _ _ _ (sym c.if-is_none.ensures) c.weigh.ensures.some)
+
+pub returns-clause-asks : goal.returns-clause-asks
+returns-clause-asks c =
+    let e : c.new.result ≡ code_of (script_of c.args.statements.now) = c.new.ensures ∙ c.in_ok-code.ensures in
+    subst (λ l. asks_after l 0 ≤ 65536 * weight (script_of c.args.statements.now)) (sym e) (code_asks (script_of c.args.statements.now))

@@ -1,8 +1,8 @@
-use Rattle.std.proofs.Common.{◌++◌, ◌∷◌, ap, ◌∙◌, sym, refl}
-use Rattle.syntax.specs.Script.{cases_of}
-use Rattle.plan.specs.Code.{code_of_cases}
+use Rattle.std.proofs.Common.{◌≡◌, ◌++◌, ◌∷◌, OnOk, ap, ◌∙◌, sym, refl, subst}
+use Rattle.syntax.specs.Script.{cases_of, script_of}
+use Rattle.plan.specs.Code.{check_code, code_of, code_of_cases}
 use Rattle.plan.specs.Walk.{Begins}
-use Rattle.plan.proofs.Codes.{code_at, code_choice}
+use Rattle.plan.proofs.Codes.{code_at, code_choice, code_check}
 use Rattle.plan.proofs.emit.+emit.Goals as goal
 
 pub emit-loop-i-preserved : goal.emit-loop-i-preserved
@@ -15,3 +15,14 @@ emit_statement-returns-in_ok-put-in-Choose t c =
     c.in_ok-put-in-Choose.ensures
     ∙ ap (λ l. Begins c.in-Choose.subject ∷ l) (c.in_ok-emit_cases-in-Choose.ensures ∙ ap (λ l. code_of_cases (cases_of l) ++ before) c.as_slice.ensures.value)
     ∙ sym (ap (λ l. l ++ before) (code_choice c.args.statement.now c.in-Choose.subject c.in-Choose.cases c.in-Choose.is))
+
+pub emit_statement-returns-in-CacheCheck : goal.emit_statement-returns-in-CacheCheck
+emit_statement-returns-in-CacheCheck t c =
+    let s = c.in-CacheCheck in
+    let names : c.as_slice-in-CacheCheck.result.now ≡ s.name = c.as_slice-in-CacheCheck.ensures.value in
+    let lists : c.as_slice-in-CacheCheck-2.result.now ≡ s.commands.items = c.as_slice-in-CacheCheck-2.ensures.value in
+    subst (λ l. OnOk c.emit_check.result (c.emit_check.new.code ≡ l ++ c.args.code.now))
+    (ap (λ n. check_code s.message n (code_of (script_of c.as_slice-in-CacheCheck-2.result.now))) names
+    ∙ ap (λ l. check_code s.message s.name (code_of (script_of l))) lists
+    ∙ sym (code_check c.args.statement.now s.message s.name s.commands s.is))
+    c.emit_check.ensures
