@@ -17,7 +17,8 @@ use Rattle.meaning.specs.State.{State, Scope, answered, told, with_child, How, a
 use Rattle.meaning.specs.Meaning.{given, asked, begun}
 use Rattle.meaning.specs.Asking.{success, only_reply, heard, child, no_compiler, compiled}
 use Rattle.meaning.specs.Tries.{first_probe, after_first, text_of}
-use Rattle.plan.specs.Walk.{broken_all}
+use Rattle.meaning.specs.Tests.{broken, guarded}
+use Rattle.plan.specs.Walk.{broken_all, guarded_all}
 
 -- What follows what follows.
 pub then_then : (r : Run) (f g : State → Run) → then_run (then_run r f) g ≡ then_run r (λ st. then_run (f st) g)
@@ -34,28 +35,38 @@ then_ends (Ends (Stopped s) st) = refl
 then_ends (Ends Cut st) = refl
 then_ends (Asks jobs ask) = ap (Asks jobs) (fun_ext (λ replies. then_ends (ask replies)))
 
--- Nothing is done to a run that continues.
-abbrev pub SparesGoing : (How → State → State) → Type 0
-SparesGoing early = (st : State) → early Goes_on st ≡ st
+-- Tests do nothing to a run that continues.
+pub guarded_then : (tests : List (List ℕ)) (r : Run) (f : State → Run) → guarded_all tests (then_run r f) ≡ then_run (guarded_all tests r) (λ st. guarded_all tests (f st))
+guarded_then tests (Ends Goes_on st) f = refl
+guarded_then tests (Ends Completed st) f = refl
+guarded_then tests (Ends (Stopped s) st) f = refl
+guarded_then tests (Ends Cut st) f = refl
+guarded_then tests (Asks jobs ask) f = ap (Asks jobs) (fun_ext (λ replies. guarded_then tests (ask replies) f))
 
-pub spares_all : (tests : List (List ℕ)) → SparesGoing (broken_all tests)
-spares_all [] st = refl
-spares_all (name ∷ outer) st = spares_all outer st
+-- A test inside others.
+inner : (tests : List (List ℕ)) (name : List ℕ) (how : How) (st : State) → broken_all tests how (broken name how st) ≡ broken_all (name ∷ tests) how st
+inner tests name Goes_on st = refl
+inner tests name Completed st = refl
+inner tests name (Stopped s) st = refl
+inner tests name Cut st = refl
 
-pub ended_then : (early : How → State → State) → SparesGoing early → (r : Run) (f : State → Run) → ended early (then_run r f) ≡ then_run (ended early r) (λ st. ended early (f st))
-ended_then early spares (Ends Goes_on st) f = sym (ap (λ s. ended early (f s)) (spares st))
-ended_then early spares (Ends Completed st) f = refl
-ended_then early spares (Ends (Stopped s) st) f = refl
-ended_then early spares (Ends Cut st) f = refl
-ended_then early spares (Asks jobs ask) f = ap (Asks jobs) (fun_ext (λ replies. ended_then early spares (ask replies) f))
+pub inner_is : (tests : List (List ℕ)) (name : List ℕ) → (λ (how : How) (st : State). broken_all tests how (broken name how st)) ≡ broken_all (name ∷ tests)
+inner_is tests name = fun_ext (λ how. fun_ext (inner tests name how))
 
 pub ended_ended : (outer inner : How → State → State) (r : Run) → ended outer (ended inner r) ≡ ended (λ how st. outer how (inner how st)) r
 ended_ended outer inner (Ends how st) = refl
 ended_ended outer inner (Asks jobs ask) = ap (Asks jobs) (fun_ext (λ replies. ended_ended outer inner (ask replies)))
 
-pub ended_as_is : (r : Run) → ended as_is r ≡ r
-ended_as_is (Ends how st) = refl
-ended_as_is (Asks jobs ask) = ap (Asks jobs) (fun_ext (λ replies. ended_as_is (ask replies)))
+-- A run inside a test, inside others.
+pub guarded_inner : (tests : List (List ℕ)) (name : List ℕ) (r : Run) → guarded_all tests (guarded name r) ≡ guarded_all (name ∷ tests) r
+guarded_inner tests name r = ended_ended (broken_all tests) (broken name) r ∙ ap (λ early. ended early r) (inner_is tests name)
+
+pub guarded_none : (r : Run) → guarded_all [] r ≡ r
+guarded_none (Ends Goes_on st) = refl
+guarded_none (Ends Completed st) = refl
+guarded_none (Ends (Stopped s) st) = refl
+guarded_none (Ends Cut st) = refl
+guarded_none (Asks jobs ask) = ap (Asks jobs) (fun_ext (λ replies. guarded_none (ask replies)))
 
 -- Something is done to a run at its ends: where it is cut short or stops early, the state changes otherwise.
 pub record Carries (f : Run → Run) (early other : How → State → State) : Type 0 where

@@ -10,11 +10,11 @@ use Rattle.syntax.specs.declared.statement.Plain.TheVariants.{Init, Accepted, Co
 use Rattle.syntax.specs.declared.tree.When.{When}
 use Rattle.syntax.specs.Script.{Script, Done, Then, Choice, Check, Cases, No_case, Case}
 use Rattle.meaning.specs.State.{State, Scope, no_choice, as_is, Goes_on, Run, Ends, then_run, ended}
-use Rattle.meaning.specs.Tests.{broken, checking, with_result, test_by, cached_test}
+use Rattle.meaning.specs.Tests.{guarded, checking, with_result, test_by, cached_test}
 use Rattle.meaning.specs.Meaning.{effect, looks, looks_all, defaulted, begun, is_taken, check, meaning, chosen}
 use Rattle.plan.specs.Walk.{Instruction, Does, Defaults, Skips_unless, Skips, Opens, Closes, Mind, empty_mind, broken_all, guarded_all, opened, own_effect, walk, DoesWhat}
 use Rattle.plan.specs.Code.{case_code, check_code, code_after, code_of, code_of_cases, code_of_programs}
-use Rattle.plan.proofs.Endings.{then_then, then_ends, spares_all, ended_then, ended_ended, ended_as_is, then_carries, ended_carries, begun_carried}
+use Rattle.plan.proofs.Endings.{then_then, then_ends, guarded_then, guarded_inner, guarded_none, then_carries, ended_carries, begun_carried}
 
 -- The steps of one part of the code are passed.
 past : (a b : List Instruction) (n : ℕ) (mind : Mind) (st : State) → walk (a ++ b) (length a + n) mind st ≡ walk b n mind st
@@ -62,20 +62,16 @@ guarded_either : (tests : List (List ℕ)) (b : Bool) (x y : Run) (next : State 
 guarded_either tests true x y next = refl
 guarded_either tests false x y next = refl
 
--- A run that continues as it is.
-going : (tests : List (List ℕ)) (st : State) (next : State → Run) → next st ≡ then_run (guarded_all tests (Ends Goes_on st)) next
-going tests st next = sym (ap next (spares_all tests st))
-
 -- What follows a run, inside the same tests.
 in_order : (tests : List (List ℕ)) (r : Run) (m next : State → Run) → then_run (guarded_all tests r) (λ s. then_run (guarded_all tests (m s)) next) ≡ then_run (guarded_all tests (then_run r m)) next
 in_order tests r m next =
     sym (then_then (guarded_all tests r) (λ s. guarded_all tests (m s)) next)
-    ∙ ap (λ x. then_run x next) (sym (ended_then (broken_all tests) (spares_all tests) r m))
+    ∙ ap (λ x. then_run x next) (sym (guarded_then tests r m))
 
 -- Programs, one after the other.
 programs_follow : (variable : List ℕ) (programs : List (List ℕ)) (always : Bool) (rest : List Instruction) (tests : List (List ℕ)) (next : State → Run) → GoesOn rest tests next
     → GoesOn (code_of_programs variable programs always ++ rest) tests (λ st. then_run (guarded_all tests (looks_all variable programs always st)) next)
-programs_follow variable [] always rest tests next h scope st = h scope st ∙ going tests st next
+programs_follow variable [] always rest tests next h scope st = h scope st
 programs_follow variable (p ∷ programs) always rest tests next h scope st =
     ap (then_run (guarded_all tests (looks variable p always st))) (fun_ext (programs_follow variable programs false rest tests next h scope))
     ∙ in_order tests (looks variable p always st) (looks_all variable programs false) next
@@ -94,14 +90,11 @@ does_follow : (s : plain.Plain) (rest : List Instruction) (tests : List (List �
 unfolding effect
 does_follow (CheckProgs variable programs otherwise) rest tests next h scope st =
     let last = λ (now : State). defaulted variable (option_map (λ t. word_value t now.vars) otherwise) now in
-    sym (going tests st (walk ((code_of_programs variable programs true ++ Defaults variable otherwise ∷ []) ++ rest) 0 (minded scope tests)))
-    ∙ ap (λ l. walk l 0 (minded scope tests) st) (append_assoc (code_of_programs variable programs true) (Defaults variable otherwise ∷ []) rest)
+    ap (λ l. walk l 0 (minded scope tests) st) (append_assoc (code_of_programs variable programs true) (Defaults variable otherwise ∷ []) rest)
     ∙ programs_follow variable programs true (Defaults variable otherwise ∷ rest) tests (λ now. next (last now)) (λ c now. h c (last now)) scope st
-    ∙ ap (then_run (guarded_all tests (looks_all variable programs true st))) (fun_ext (λ now. going tests (last now) next))
     ∙ in_order tests (looks_all variable programs true st) (λ now. Ends Goes_on (last now)) next
 does_follow (ProgCc programs) rest tests next h scope st =
-    sym (going tests st (walk (code_of_programs (codes "CC") programs true ++ rest) 0 (minded scope tests)))
-    ∙ programs_follow (codes "CC") programs true rest tests next h scope st
+    programs_follow (codes "CC") programs true rest tests next h scope st
 does_follow (Init a b d e f) rest tests next h scope st = ordinary (Init a b d e f) rest tests next refl refl h scope st
 does_follow Accepted rest tests next h scope st = ordinary Accepted rest tests next refl refl h scope st
 does_follow (ConfigFiles outputs) rest tests next h scope st = ordinary (ConfigFiles outputs) rest tests next refl refl h scope st
@@ -126,21 +119,19 @@ checks (Some value) message name body rest tests m next does h scope st =
     let s = with_result (codes "(cached) " ++ value) (checking (word_value message st.vars) st) in
     past body (Closes name ∷ rest) 1 (minded scope tests) s
     ∙ h scope s
-    ∙ going tests s next
 checks None message name body rest tests m next does h scope st =
     let s = checking (word_value message st.vars) st in
     let closed = λ (now : State). with_result (unwrap_or (value_of now.vars name) []) now in
     does (Closes name ∷ rest) (name ∷ tests) (λ now. next (closed now)) (λ c now. h c (closed now)) scope s
-    ∙ ap (λ x. then_run x (λ now. next (closed now))) (sym (ended_ended (broken_all tests) (broken name) (m s)))
-    ∙ ap (then_run (guarded_all tests (ended (broken name) (m s)))) (fun_ext (λ now. going tests (closed now) next))
-    ∙ in_order tests (ended (broken name) (m s)) (λ now. Ends Goes_on (closed now)) next
+    ∙ ap (λ x. then_run x (λ now. next (closed now))) (sym (guarded_inner tests name (m s)))
+    ∙ in_order tests (guarded name (m s)) (λ now. Ends Goes_on (closed now)) next
 
 mutual
   unfolding meaning chosen
 
   pub follows : (script : Script) (rest : List Instruction) (tests : List (List ℕ)) (next : State → Run) → GoesOn rest tests next
       → GoesOn (code_of script ++ rest) tests (λ st. then_run (guarded_all tests (meaning script st)) next)
-  follows Done rest tests next h scope st = h scope st ∙ going tests st next
+  follows Done rest tests next h scope st = h scope st
   follows (Then s script) rest tests next h scope st =
       ap (λ l. walk (Does s ∷ l) 0 (minded scope tests) st) (append_assoc (code_after s) (code_of script) rest)
       ∙ does_follow s (code_of script ++ rest) tests (λ now. then_run (guarded_all tests (meaning script now)) next) (follows script rest tests next h) scope st
@@ -163,7 +154,7 @@ mutual
 
   chooses : (cases : Cases) (rest : List Instruction) (tests : List (List ℕ)) (next : State → Run) → GoesOn rest tests next
       → (scope : Scope) (st : State) → walk (code_of_cases cases ++ rest) 0 (minded scope tests) st ≡ then_run (guarded_all tests (chosen cases scope st)) next
-  chooses No_case rest tests next h scope st = h scope st ∙ going tests st next
+  chooses No_case rest tests next h scope st = h scope st
   chooses (Case when body cases) rest tests next h scope st =
       let b = code_of body in let m = code_of_cases cases in
       let taken = is_taken when scope st.vars in
@@ -177,5 +168,5 @@ pub does_what : (script : Script) → DoesWhat (code_of script) script
 does_what script st =
     ap (λ l. walk l 0 empty_mind st) (sym (append-nil (code_of script)))
     ∙ follows script [] [] (Ends Goes_on) (λ scope s. refl) no_choice st
-    ∙ ap (λ r. then_run r (Ends Goes_on)) (ended_as_is (meaning script st))
+    ∙ ap (λ r. then_run r (Ends Goes_on)) (guarded_none (meaning script st))
     ∙ then_ends (meaning script st)
