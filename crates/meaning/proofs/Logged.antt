@@ -190,7 +190,6 @@ mutual
   meaning_logs (Then s rest) st = then_logs (kids st) (effect s st) (meaning rest) (effect_logs s st) (λ now. meaning_logs rest now)
   meaning_logs (Choice subject cases rest) st =
       begun_logs subject st _ (λ scope now. then_logs (kids now) (chosen cases scope now) (meaning rest) (chosen_logs cases scope now) (λ later. meaning_logs rest later))
-
   meaning_logs (Check message name commands rest) st =
       let t = check message name (meaning commands) st in
       then_logs (kids st) (cached_test t st) (meaning rest) (cached_logs t st (λ now. meaning_logs commands now)) (λ now. meaning_logs rest now)

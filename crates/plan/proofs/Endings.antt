@@ -1,5 +1,5 @@
 -- What follows the end of a run, and what is done there.
-use Rattle.std.proofs.Common.{◌≡◌, ℕ, Option, Some, None, List, [], ◌∷◌, Bool, true, false, refl, sym, ap, ◌∙◌}
+use Rattle.std.proofs.Common.{◌≡◌, ℕ, Option, Some, None, List, [], ◌∷◌, Bool, true, false, refl, ap, ◌∙◌}
 use Rattle.std.proofs.Math.Path.{fun_ext}
 use Rattle.conftest.specs.declared.job.Job.{Job}
 use Rattle.conftest.specs.Probe.{run_of, job_of}
@@ -13,12 +13,11 @@ use Rattle.syntax.specs.declared.program.Try as kinds
 use Rattle.syntax.specs.declared.program.Try.TheVariants as kinds_are
 use Rattle.syntax.specs.declared.tree.Subject as what
 use Rattle.syntax.specs.declared.tree.Subject.TheVariants.{Nothing, Word, Asked}
-use Rattle.meaning.specs.State.{State, Scope, answered, told, with_child, How, as_is, Goes_on, Completed, Stopped, Cut, Run, Ends, Asks, then_run, ended}
+use Rattle.meaning.specs.State.{State, Scope, answered, told, with_child, How, Goes_on, Completed, Stopped, Cut, Run, Ends, Asks, then_run, ended}
 use Rattle.meaning.specs.Meaning.{given, asked, begun}
 use Rattle.meaning.specs.Asking.{success, only_reply, heard, child, no_compiler, compiled}
 use Rattle.meaning.specs.Tries.{first_probe, after_first, text_of}
-use Rattle.meaning.specs.Tests.{broken, guarded}
-use Rattle.plan.specs.Walk.{broken_all, guarded_all}
+use Rattle.meaning.specs.Tests.{broken, guarded, broken_all, guarded_all}
 
 -- What follows what follows.
 pub then_then : (r : Run) (f g : State → Run) → then_run (then_run r f) g ≡ then_run r (λ st. then_run (f st) g)

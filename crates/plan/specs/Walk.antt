@@ -8,8 +8,8 @@ use Rattle.syntax.specs.declared.statement.Plain.TheVariants.{CheckProgs, ProgCc
 use Rattle.syntax.specs.declared.tree.Subject as subject
 use Rattle.syntax.specs.declared.tree.When.{When}
 use Rattle.syntax.specs.Script.{Script}
-use Rattle.meaning.specs.State.{State, without_variable, Scope, no_choice, How, Goes_on, Completed, Stopped, Cut, Run, Ends, then_run, ended}
-use Rattle.meaning.specs.Tests.{broken, checking, with_result}
+use Rattle.meaning.specs.State.{State, Scope, no_choice, Goes_on, Run, Ends, then_run}
+use Rattle.meaning.specs.Tests.{broken_all, guarded_all, checking, with_result}
 use Rattle.meaning.specs.Meaning.{effect, begun, is_taken, looks, defaulted, meaning}
 use Rattle.plan.specs.declared.step.Step.{Step}
 use Rattle.plan.specs.declared.step.Step.TheVariants.{Do, Look, Default, Subject, SkipUnless, Skip, Open, Close}
@@ -51,27 +51,6 @@ pub record Mind : Type 0 where
 -- No choice, and no test. (own)
 abbrev pub empty_mind : Mind
 empty_mind = record { scope = no_choice; open_tests = [] }
-
--- The names of these tests are unset, the innermost first. (own)
-abbrev pub unset_all : List (List ℕ) → State → State
-unset_all [] st = st
-unset_all (name ∷ outer) st = unset_all outer (without_variable name st)
-
--- The same, if the run is cut short: each test prints that too. (own)
-abbrev pub refused_all : List (List ℕ) → State → State
-refused_all [] st = st
-refused_all (name ∷ outer) st = refused_all outer (broken name Cut st)
-
--- What is done with a state if the run ends inside these tests, each of which is broken. (own)
-abbrev pub broken_all : List (List ℕ) → How → State → State
-broken_all tests Goes_on st = st
-broken_all tests Completed st = unset_all tests st
-broken_all tests (Stopped status) st = unset_all tests st
-broken_all tests Cut st = refused_all tests st
-
--- A run inside these tests. (own)
-abbrev pub guarded_all : List (List ℕ) → Run → Run
-guarded_all tests run = ended (broken_all tests) run
 
 -- A test begins, by the value of its name: if there is one, it is printed, and the commands are passed. (Autoconf's
 -- manual, "Caching Results")

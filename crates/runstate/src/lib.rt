@@ -2,15 +2,18 @@
 //! began last.
 //!
 //! `store` holds all but the subject, and contracts see it as a state of the meaning. `pieces` prints messages. `scope` is the
-//! subject of a choice. `package` and `literal` are for AC_INIT. The crate `machine` takes the steps.
+//! subject of a choice. `open_tests` has the tests that are not at their end. `package` and `literal` are for AC_INIT. The
+//! crate `machine` takes the steps.
 #![tactic(auto)]
 
 mod literal;
+pub mod open_tests;
 pub mod package;
 pub mod pieces;
 pub mod scope;
 pub mod store;
 
+pub use open_tests::OpenTests;
 pub use package::initialise;
 pub use scope::About;
 pub use store::Store;

@@ -20,6 +20,27 @@ pub fn begin_search(alloc: Global, store: &mut Store, program: &[u8]) -> Result<
     store.tell(alloc, Stream::Out, b"checking for ", program, b"... ")
 }
 
+/// Prints what a check checks.
+pub fn begin_check(alloc: Global, store: &mut Store, message: &[u8]) -> Result<(), AllocError>
+    ensures { OnOk result (store.new ≡ checking message.now store.old) }
+{
+    store.tell(alloc, Stream::Out, b"checking ", message, b"... ")
+}
+
+/// Prints the value that a check ends with.
+pub fn end_check(alloc: Global, store: &mut Store, value: &[u8]) -> Result<(), AllocError>
+    ensures { OnOk result (store.new ≡ with_result value.now store.old) }
+{
+    store.tell(alloc, Stream::Out, b"", value, b"\n")
+}
+
+/// Prints the value of a check whose name is set.
+pub fn end_known_check(alloc: Global, store: &mut Store, value: &[u8]) -> Result<(), AllocError>
+    ensures { OnOk result (store.new ≡ with_result (codes "(cached) " ++ value.now) store.old) }
+{
+    store.tell(alloc, Stream::Out, b"(cached) ", value, b"\n")
+}
+
 /// Returns `no` if the text is empty.
 fn text_or_no(text: &[u8]) -> &[u8]
     ensures { result.now ≡ text_or_no text.now }
@@ -34,14 +55,14 @@ fn text_or_no(text: &[u8]) -> &[u8]
 pub fn end_search(alloc: Global, store: &mut Store, value: &[u8]) -> Result<(), AllocError>
     ensures { OnOk result (store.new ≡ with_result (text_or_no value.now) store.old) }
 {
-    store.tell(alloc, Stream::Out, b"", text_or_no(value), b"\n")
+    end_check(alloc, store, text_or_no(value))
 }
 
 /// Prints the value of a search whose name is set, or `no` if it is empty.
 pub fn end_cached(alloc: Global, store: &mut Store, value: &[u8]) -> Result<(), AllocError>
     ensures { OnOk result (store.new ≡ with_result (codes "(cached) " ++ text_or_no value.now) store.old) }
 {
-    store.tell(alloc, Stream::Out, b"(cached) ", text_or_no(value), b"\n")
+    end_known_check(alloc, store, text_or_no(value))
 }
 
 /// Unsets the name of a test that is cut short, and prints that it is.
