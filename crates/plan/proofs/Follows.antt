@@ -12,7 +12,7 @@ use Rattle.syntax.specs.Script.{Script, Done, Then, Choice, Check, Cases, No_cas
 use Rattle.meaning.specs.State.{State, Scope, no_choice, as_is, Goes_on, Run, Ends, then_run, ended}
 use Rattle.meaning.specs.Tests.{guarded, broken_all, guarded_all, checking, with_result, test_by, cached_test}
 use Rattle.meaning.specs.Meaning.{effect, looks, looks_all, defaulted, begun, is_taken, check, meaning, chosen}
-use Rattle.plan.specs.Walk.{Instruction, Does, Defaults, Skips_unless, Skips, Opens, Closes, Mind, empty_mind, opened, own_effect, walk, DoesWhat}
+use Rattle.plan.specs.Walk.{Instruction, Does, Defaults, Skips_unless, Skips, Opens, Closes, Mind, minded, empty_mind, opened, own_effect, walk, DoesWhat}
 use Rattle.plan.specs.Code.{case_code, check_code, code_after, code_of, code_of_cases, code_of_programs}
 use Rattle.plan.proofs.Endings.{then_then, then_ends, guarded_then, guarded_inner, guarded_none, then_carries, ended_carries, begun_carried}
 
@@ -40,9 +40,6 @@ flat_check message name body more rest = ap (λ l. Opens message name (length bo
   where
     inside : (a m r : List Instruction) → ((a ++ (Closes name ∷ [])) ++ m) ++ r ≡ a ++ (Closes name ∷ (m ++ r))
     inside a m r = simp append_assoc
-
-abbrev minded : Scope → List (List ℕ) → Mind
-minded scope tests = record { scope = scope; open_tests = tests }
 
 -- Inside these tests, the steps continue in this way, whatever the subject.
 abbrev GoesOn : List Instruction → List (List ℕ) → (State → Run) → Type 0

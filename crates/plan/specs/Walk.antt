@@ -48,9 +48,13 @@ pub record Mind : Type 0 where
   pub scope : Scope
   pub open_tests : List (List ℕ)
 
+-- This subject, inside these tests. (own)
+abbrev pub minded : Scope → List (List ℕ) → Mind
+minded scope tests = record { scope = scope; open_tests = tests }
+
 -- No choice, and no test. (own)
 abbrev pub empty_mind : Mind
-empty_mind = record { scope = no_choice; open_tests = [] }
+empty_mind = minded no_choice []
 
 -- A test begins, by the value of its name: if there is one, it is printed, and the commands are passed. (Autoconf's
 -- manual, "Caching Results")

@@ -1,0 +1,17 @@
+use Rattle.std.proofs.Common.{subst, sym}
+use Rattle.execution.specs.Flows.{Leads}
+use Rattle.execution.specs.Waits.{told_to}
+use Rattle.execution.specs.declared.wait.Wait.TheVariants as waits
+use Rattle.execution.proofs.stepping.tell.Goals as goal
+
+pub returns-in_ok-flow-in-Link-clause-leads : goal.returns-in_ok-flow-in-Link-clause-leads
+returns-in_ok-flow-in-Link-clause-leads c =
+    let about = c.args.about.now in
+    let st = c.args.store.now in
+    subst (λ w. Leads c.in_ok-flow-in-Link.flow (λ tests next. told_to tests w c.args.succeeded (next 0) about st) about st) (sym c.in-Link.is)
+    (subst (λ b. Leads c.in_ok-flow-in-Link.flow (λ tests next. told_to tests waits.Link b (next 0) about st) about st) (sym c.if-not-succeeded.false) (c.in_ok-flow-in-Link.ensures.leads about st))
+
+pub returns-in_ok-flow-in-Directory-clause-leads : goal.returns-in_ok-flow-in-Directory-clause-leads
+returns-in_ok-flow-in-Directory-clause-leads c =
+    subst (λ w. Leads c.in_ok-flow-in-Directory.flow (λ tests next. told_to tests w c.args.succeeded (next 0) c.args.about.now c.args.store.now) c.args.about.now c.tell_search.new.store)
+    (sym c.in-Directory.is) (c.in_ok-flow-in-Directory.ensures.leads c.args.about.now)

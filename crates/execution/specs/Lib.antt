@@ -1,0 +1,4 @@
+pub mod Waits
+pub mod Known
+pub mod Flows
+pub mod Checks

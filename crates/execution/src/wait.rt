@@ -1,0 +1,21 @@
+//! What a machine waits for.
+
+use crate::search::{Directories, Search};
+use deftable::Bytes;
+
+/// What the replies to the jobs that are asked for decide.
+#[derive(Drop)]
+pub enum Wait {
+    /// Nothing: no job is asked for.
+    Nothing,
+    /// The answer to the question of a choice.
+    Answer,
+    /// Whether the program that is to be run was linked.
+    Link,
+    /// Whether a file is the program that is looked for. `left` are the remaining directories.
+    Directory {
+        search: Search,
+        file: Bytes,
+        left: Directories,
+    },
+}
