@@ -99,7 +99,7 @@ asked_in (Ok f) s directory rest left st e h = λ about. led f about st _ _ (λ 
 asked_in (Err x) s directory rest left st e h = h
 
 -- A run inside tests continues as it does inside any.
-continued : (f : Flow) (c : Scope) (tests : List (List ℕ)) (st : State) (run : List (List ℕ) → (ℕ → Scope → State → Run) → Run) (step : (ℕ → Mind → State → Run) → Run)
+pub continued : (f : Flow) (c : Scope) (tests : List (List ℕ)) (st : State) (run : List (List ℕ) → (ℕ → Scope → State → Run) → Run) (step : (ℕ → Mind → State → Run) → Run)
     → ((next : ℕ → Mind → State → Run) → step next ≡ run tests (λ n scope. next n (minded scope tests)))
     → Leads f run c st → Continues f step (minded c tests) st
 continued (flow.Pass more) c tests st run step e h = λ next. e next ∙ h tests _

@@ -29,7 +29,9 @@ use conftest::{Job, run_job};
 use crew::Reply;
 use deftable::Bytes;
 use plan::Step;
-use runstate::pieces::{begin_check, break_test, end_check, end_known_check, report_error, report_no_compiler};
+use runstate::pieces::{
+    begin_check, break_test, end_check, end_known_check, report_error, report_no_compiler,
+};
 use runstate::{About, OpenTests, Store, initialise};
 use shellword::{HereText, Word};
 use std::alloc::{AllocError, Global};

@@ -3,7 +3,7 @@ use Rattle.std.specs.Prelude.{◌≡◌, ℕ, ◌+◌, ◌≤◌, List, [], leng
 use Rattle.conftest.specs.declared.job.Job.{Job}
 use Rattle.crew.specs.declared.reply.Reply.{Reply}
 use Rattle.meaning.specs.State.{State, Scope, Goes_on, Completed, Stopped, Cut, Run, Ends, Asks}
-use Rattle.plan.specs.Walk.{Instruction, walk}
+use Rattle.plan.specs.Walk.{Instruction, Mind, walk}
 use Rattle.plan.specs.Inside.{asks_after}
 use Rattle.machine.specs.declared.machine.Phase.{Phase}
 use Rattle.machine.specs.declared.machine.Phase.TheVariants as phase
@@ -11,16 +11,16 @@ use Rattle.machine.specs.declared.machine.Turn.{Turn}
 use Rattle.machine.specs.declared.machine.Turn.TheVariants as turn
 use Rattle.machine.specs.declared.machine.Outcome.{Outcome}
 use Rattle.machine.specs.declared.machine.Outcome.TheVariants as outcome
-use Rattle.machine.specs.declared.wait.Wait.{Wait}
+use Rattle.execution.specs.declared.wait.Wait.{Wait}
 use Rattle.meaning.specs.Play.{first_refused, refused_after, last_words}
-use Rattle.machine.specs.Waits.{given, resumed, waits_for}
+use Rattle.execution.specs.Waits.{Awaits, given, resumed, waits_for}
 
 -- A machine, as contracts see it: its place is the number of steps that are passed; while it asks, `jobs` are asked
 -- for, after `before` others, and `replies` has room for the reply to each. (own)
 pub record Standing : Type 0 where
   pub phase : Phase
   pub place : ℕ
-  pub scope : Scope
+  pub mind : Mind
   pub state : State
   pub wait : Wait
   pub before : ℕ
@@ -31,22 +31,27 @@ pub record Standing : Type 0 where
 abbrev pub with_phase : Phase → Standing → Standing
 with_phase p m = record m { phase = p }
 
+-- What follows the replies of a step, with the subject that they leave: the walk from this place on, inside the same
+-- tests. (own)
+abbrev pub walk_inside : List Instruction → ℕ → Mind → Scope → State → Run
+walk_inside plan place mind scope st = walk plan place (record mind { scope = scope }) st
+
 -- The run that remains for a machine once it has these replies to the jobs that it asks for. (own)
 abbrev pub run_under : List Reply → List Instruction → Standing → Run
 run_under replies plan m =
-    last_words (m.before + length m.jobs) (refused_after m.before replies) (resumed m.wait m.jobs replies (walk plan (m.place + 1)) m.scope m.state)
+    last_words (m.before + length m.jobs) (refused_after m.before replies) (resumed m.mind.open_tests m.wait m.jobs replies (walk_inside plan (m.place + 1) m.mind) m.mind.scope m.state)
 
 -- The run that remains for a machine: the walk from its place on, or its end, or the jobs that it asks for and what
 -- follows their replies; once memory ran out, it has no meaning. If it is cut short, its last words are the line of the
 -- cut. (own)
 abbrev pub run_in : Phase → List Instruction → Standing → Run
-run_in phase.Going plan m = last_words m.before None (walk plan m.place m.scope m.state)
+run_in phase.Going plan m = last_words m.before None (walk plan m.place m.mind m.state)
 run_in phase.Asking plan m = Asks m.jobs (λ replies. run_under replies plan m)
 run_in phase.Past plan m = Ends Goes_on m.state
 run_in phase.Completed plan m = Ends Completed m.state
 run_in (phase.Stopped status) plan m = Ends (Stopped status) m.state
 run_in (phase.Cut number) plan m = Ends Cut m.state
-run_in phase.Failed plan m = last_words m.before None (walk plan m.place m.scope m.state)
+run_in phase.Failed plan m = last_words m.before None (walk plan m.place m.mind m.state)
 
 -- The run that remains for a machine, in its own phase. (own)
 abbrev pub run_at : List Instruction → Standing → Run
@@ -93,18 +98,25 @@ asks_in p plan m = 0
 abbrev pub asks_left : List Instruction → Standing → ℕ
 asks_left plan m = asks_in m.phase plan m
 
--- Exactly count jobs are asked for, with room for the reply to each; the place is in the plan, and all jobs of the run
+-- Jobs are asked for, with room for the reply to each; the place is before a step of the plan, and all jobs of the run
 -- are jobs of the plan. (own)
-pub record Holds (count : ℕ) (plan : List Instruction) (m : Standing) : Type 0 where
-  pub jobs : length m.jobs ≡ count
-  pub replies : length m.replies ≡ count
-  pub place : m.place + count ≤ length plan
+pub record Holds (plan : List Instruction) (m : Standing) : Type 0 where
+  pub awaits : Awaits m.wait m.jobs
+  pub replies : length m.replies ≡ length m.jobs
+  pub place : m.place + 1 ≤ length plan
+  pub counted : m.before + (length m.jobs + asks_left plan m) ≤ asks_after plan 0
+
+-- No job is asked for; the place is in the plan, and all jobs of the run are jobs of the plan. (own)
+pub record Rests (plan : List Instruction) (m : Standing) : Type 0 where
+  pub jobs : length m.jobs ≡ 0
+  pub replies : length m.replies ≡ 0
+  pub place : m.place ≤ length plan
   pub counted : m.before + (length m.jobs + asks_left plan m) ≤ asks_after plan 0
 
 -- The machine was last advanced over this plan. (own)
 abbrev pub fits_in : Phase → List Instruction → Standing → Type 0
-fits_in phase.Asking plan m = Holds 1 plan m
-fits_in p plan m = Holds 0 plan m
+fits_in phase.Asking plan m = Holds plan m
+fits_in p plan m = Rests plan m
 
 -- The same, in the machine's own phase. (own)
 abbrev pub Fits : List Instruction → Standing → Type 0
@@ -135,5 +147,7 @@ pub record Turned (plan : List Instruction) (turn : Turn) (old new : Standing) :
   -- the jobs before count, none of those of now has a reply, and each was counted among those that were left
   pub before : new.before ≡ old.before + length old.jobs
   pub fresh : new.replies ≡ replicate (length new.jobs) None
+  -- at most 256 jobs are asked for at once
+  pub few : length new.jobs ≤ 256
   pub fits : Fits plan new
   pub ahead : length new.jobs + asks_left plan new ≤ asks_left plan old

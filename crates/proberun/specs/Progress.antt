@@ -1,15 +1,16 @@
 -- How far a run over a crew is, between two groups of jobs.
+use Rattle.plan.specs.Walk.{empty_mind}
 use Rattle.std.specs.Prelude.{◌≡◌, ℕ, ◌+◌, List, [], ◌++◌, length, fold, None, IfSome}
 use Rattle.conftest.specs.declared.job.Job.{Job}
 use Rattle.crew.specs.declared.reply.Reply.{Reply}
 use Rattle.crew.specs.declared.event.CrewEvent.{CrewEvent}
 use Rattle.crew.specs.Events.{Account, IsIdle, replies_in, flying_after}
-use Rattle.meaning.specs.State.{Run, State, no_choice}
+use Rattle.meaning.specs.State.{Run, State}
 use Rattle.meaning.specs.Play.{play, after, all_jobs, first_refused}
 use Rattle.machine.specs.declared.machine.Phase.{Phase}
 use Rattle.machine.specs.declared.machine.Phase.TheVariants as phase
 use Rattle.machine.specs.declared.machine.RunEnd.{RunEnd}
-use Rattle.machine.specs.declared.wait.Wait.TheVariants as waits
+use Rattle.execution.specs.declared.wait.Wait.TheVariants as waits
 use Rattle.machine.specs.Standing.{Standing, outcome_of}
 use Rattle.proberun.specs.Starts.{StartsAre, TakesLeast, Fills, EndsGroup, failures_in}
 
@@ -50,7 +51,7 @@ Moving p = ⊥
 
 -- A machine before its first step, in this state. (own)
 abbrev pub before_steps : State → Standing
-before_steps st = record { phase = phase.Going; place = 0; scope = no_choice; state = st; wait = waits.Nothing; before = 0; jobs = []; replies = [] }
+before_steps st = record { phase = phase.Going; place = 0; mind = empty_mind; state = st; wait = waits.Nothing; before = 0; jobs = []; replies = [] }
 
 -- What a machine leaves in a phase that is an end. (own)
 abbrev pub Leaves : Phase → Standing → RunEnd → Type 0

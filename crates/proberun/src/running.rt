@@ -5,9 +5,9 @@ ghost use Rattle.crew.specs.Events.{IsIdle, in_flight};
 ghost use Rattle.machine.specs.Standing.{outcome_of};
 ghost use Rattle.machine.specs.declared.machine.RunEnd.{RunEnd};
 ghost use Rattle.meaning.specs.Play.{whole};
-ghost use Rattle.meaning.specs.State.{no_choice, opened};
+ghost use Rattle.meaning.specs.State.{opened};
 ghost use Rattle.plan.specs.Inside.{asks_after};
-ghost use Rattle.plan.specs.Walk.{walk};
+ghost use Rattle.plan.specs.Walk.{empty_mind, walk};
 ghost use Rattle.proberun.specs.Progress.{HasBegun, Leaves, before_steps};
 ghost use Rattle.proberun.specs.Ran.{Ran};
 ghost use Rattle.proberun.specs.Serving.{AllFree};
@@ -46,8 +46,8 @@ fn run_groups<C: Crew>(
     ensures idle { IsIdle (C.account crew.new).events }
     ensures landed { in_flight (C.account crew.new).events ≡ in_flight (C.account crew.old).events }
     ensures ended { OnOk result (IsSome (outcome_of machine.new.phase)) }
-    ensures ran { OnOk result ((end : RunEnd) → Leaves machine.new.phase machine.new end → Ran (length slots.old) (whole (walk plan.now 0 no_choice machine.old.state)) (C.account crew.old) (C.account crew.new) end) }
-    ensures begun { OnErr result (HasBegun (length slots.old) (whole (walk plan.now 0 no_choice machine.old.state)) (C.account crew.old) (C.account crew.new)) }
+    ensures ran { OnOk result ((end : RunEnd) → Leaves machine.new.phase machine.new end → Ran (length slots.old) (whole (walk plan.now 0 empty_mind machine.old.state)) (C.account crew.old) (C.account crew.new) end) }
+    ensures begun { OnErr result (HasBegun (length slots.old) (whole (walk plan.now 0 empty_mind machine.old.state)) (C.account crew.old) (C.account crew.new)) }
 {
     bound(plan);
     // the label is for the proof only
@@ -78,8 +78,8 @@ fn run_in<C: Crew>(
     requires failures { (C.account crew.old).failures + 256 ≤ 2 ^ 62 }
     ensures idle { IsIdle (C.account crew.new).events }
     ensures landed { in_flight (C.account crew.new).events ≡ in_flight (C.account crew.old).events }
-    ensures ran { IfOk result (λ end. Ran (length slots.old) (whole (walk plan.now 0 no_choice (opened vars))) (C.account crew.old) (C.account crew.new) end) }
-    ensures begun { OnErr result (HasBegun (length slots.old) (whole (walk plan.now 0 no_choice (opened vars))) (C.account crew.old) (C.account crew.new)) }
+    ensures ran { IfOk result (λ end. Ran (length slots.old) (whole (walk plan.now 0 empty_mind (opened vars))) (C.account crew.old) (C.account crew.new) end) }
+    ensures begun { OnErr result (HasBegun (length slots.old) (whole (walk plan.now 0 empty_mind (opened vars))) (C.account crew.old) (C.account crew.new)) }
 {
     let mut machine = Machine::new(alloc, plan, vars);
     run_groups(alloc, plan, &mut machine, crew, slots)?;
@@ -108,9 +108,9 @@ pub fn run<C: Crew>(
     requires failures { (C.account crew.old).failures + 256 ≤ 2 ^ 62 }
     ensures idle { IsIdle (C.account crew.new).events }
     ensures landed { in_flight (C.account crew.new).events ≡ in_flight (C.account crew.old).events }
-    ensures ran { IfOk result (λ end. Ran window (whole (walk plan.now 0 no_choice (opened vars))) (C.account crew.old) (C.account crew.new) end) }
+    ensures ran { IfOk result (λ end. Ran window (whole (walk plan.now 0 empty_mind (opened vars))) (C.account crew.old) (C.account crew.new) end) }
     // If memory runs out, the starts so far, and their replies, are those of the same run.
-    ensures begun { OnErr result (HasBegun window (whole (walk plan.now 0 no_choice (opened vars))) (C.account crew.old) (C.account crew.new)) }
+    ensures begun { OnErr result (HasBegun window (whole (walk plan.now 0 empty_mind (opened vars))) (C.account crew.old) (C.account crew.new)) }
 {
     let mut slots = free_slots(alloc, window)?;
     run_in(alloc, plan, vars, crew, slots.as_mut_slice())

@@ -7,9 +7,9 @@
 ghost use Rattle.std.specs.Prelude.{◌≡◌, None, length, replicate, IfOk};
 ghost use Rattle.machine.specs.Standing.{Fits, run_at};
 ghost use Rattle.machine.specs.declared.machine.Phase.TheVariants as phases;
-ghost use Rattle.plan.specs.Walk.{walk};
+ghost use Rattle.plan.specs.Walk.{empty_mind, walk};
 ghost use Rattle.meaning.specs.Play.{whole};
-ghost use Rattle.meaning.specs.State.{no_choice, opened};
+ghost use Rattle.meaning.specs.State.{opened};
 ghost use Rattle.runner.specs.Ran as words;
 ghost use Rattle.runner.specs.Ran.{RanAlone};
 
@@ -38,7 +38,7 @@ fn refused(mut machine: Machine, plan: &Plan) -> Result<RunEnd, AllocError>
 ///
 /// Fails only if memory runs out.
 pub fn run_alone(alloc: Global, plan: &Plan, vars: Vars) -> Result<RunEnd, AllocError>
-    ensures { IfOk result (RanAlone (whole (walk plan.now 0 no_choice (opened vars)))) }
+    ensures { IfOk result (RanAlone (whole (walk plan.now 0 empty_mind (opened vars)))) }
 {
     let mut machine = Machine::new(alloc, plan, vars);
     match machine.advance(plan)? {

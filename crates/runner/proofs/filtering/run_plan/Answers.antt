@@ -1,8 +1,8 @@
 use Rattle.std.proofs.Common.{ap, subst, ◌∙◌}
 use Rattle.std.proofs.lemmas.Result.{err_from_is_err_and}
-use Rattle.plan.specs.Walk.{walk}
+use Rattle.plan.specs.Walk.{empty_mind, walk}
 use Rattle.meaning.specs.Play.{whole}
-use Rattle.meaning.specs.State.{no_choice, opened}
+use Rattle.meaning.specs.State.{opened}
 use Rattle.runner.specs.Errors.{errors_text}
 use Rattle.runner.specs.Ran.{RanAlone}
 use Rattle.runner.proofs.Refusals.{template_not_run, memory_not_run}
@@ -29,7 +29,7 @@ pub returns-clause-run : goal.returns-clause-run
 returns-clause-run c =
     let o = c.in_ok-vars.ensures in
     let st = opened o.0.vars in
-    let begun = ap whole (ap (λ v. walk c.args.plan.now 0 no_choice (opened v)) o.2 ∙ c.requires.meaning st) in
+    let begun = ap whole (ap (λ v. walk c.args.plan.now 0 empty_mind (opened v)) o.2 ∙ c.requires.meaning st) in
     record {
       fits = c.requires.fits;
       settings = o.0;
