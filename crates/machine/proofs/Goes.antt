@@ -9,17 +9,17 @@ use Rattle.meaning.specs.State.{State, Scope, Goes_on, Cut, Run, Ends, Asks}
 use Rattle.plan.specs.declared.step.Step.{Step}
 use Rattle.plan.specs.Walk.{Instruction, act, walk, shown}
 use Rattle.plan.specs.Inside.{StaysInside, reach, asks_of, asks_after}
-use Rattle.machine.specs.declared.flow.Flow.{Flow}
-use Rattle.machine.specs.declared.flow.Flow.TheVariants as flow
+use Rattle.execution.specs.declared.flow.Flow.{Flow}
+use Rattle.execution.specs.declared.flow.Flow.TheVariants as flow
 use Rattle.machine.specs.declared.machine.Phase.TheVariants as phase
 use Rattle.machine.specs.declared.machine.Turn.{Turn}
 use Rattle.machine.specs.declared.machine.Turn.TheVariants as turn
-use Rattle.machine.specs.declared.wait.Wait.TheVariants as waits
-use Rattle.machine.specs.Flows.{Leads, Heeds, passed, asks_now}
+use Rattle.execution.specs.declared.wait.Wait.TheVariants as waits
+use Rattle.execution.specs.Flows.{Leads, Heeds, passed, asks_now}
 use Rattle.machine.specs.Moves.{arrived, turn_by}
 use Rattle.machine.specs.Standing.{Standing, with_phase, run_left, left_in, CutsAt, Refusals, asks_in, asks_left, Holds, Turned}
 use Rattle.meaning.specs.Play.{first_refused, first_number, refused_after, last_words}
-use Rattle.machine.specs.Waits.{given, resumed, waits_for}
+use Rattle.execution.specs.Waits.{given, resumed, waits_for}
 
 -- One step, at an offset.
 walk_at : (steps : List Step) (k : ℕ) (s : Step) (c : Scope) (st : State) → k < length steps → s ≡ get_or steps k s

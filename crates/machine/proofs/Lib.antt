@@ -1,3 +1,1 @@
-pub mod Tested
-pub mod Searches
 pub mod Goes

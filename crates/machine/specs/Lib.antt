@@ -1,5 +1,2 @@
-pub mod Waits
-pub mod Known
-pub mod Flows
 pub mod Standing
 pub mod Moves

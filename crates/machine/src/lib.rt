@@ -14,19 +14,13 @@
 //! ```
 //!
 //! Read `specs/Standing` (the position of a machine in a plan, the run that remains from there, and a turn), then
-//! `machine`. Then read `specs/Waits` and `specs/Flows` (what a machine waits for, and what follows a step) with
-//! `stepping` (one step, and what follows its replies) and `search` (programs that are looked for). The crate `runstate`
-//! has what the steps change.
+//! `machine`. The crate `execution` has single steps, and `runstate` what they change.
 //!
 //! The theorem is about one run: the plan's walk, with the variables that the machine was given and no definitions. At
 //! each turn, the run that remains is what the walk leaves to do, and each group of replies leads to the run that
 //! follows them.
 #![tactic(auto)]
 
-mod flow;
 mod machine;
-mod search;
-mod stepping;
-mod wait;
 
 pub use machine::{Machine, Outcome, Phase, RunEnd, Turn};

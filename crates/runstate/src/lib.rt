@@ -2,7 +2,7 @@
 //! began last.
 //!
 //! `store` holds all but the subject, and contracts see it as a state of the meaning. `pieces` prints messages. `scope` is the
-//! subject of a choice. `package` and `literal` are for AC_INIT. The crate `machine` takes the steps.
+//! subject of a choice. `package` and `literal` are for AC_INIT. The crate `execution` takes the steps.
 #![tactic(auto)]
 
 mod literal;

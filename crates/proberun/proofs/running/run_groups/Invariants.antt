@@ -3,7 +3,7 @@ use Rattle.meaning.specs.State.{no_choice}
 use Rattle.meaning.specs.Play.{whole}
 use Rattle.plan.specs.Walk.{walk}
 use Rattle.machine.specs.Standing.{run_left, asks_left, Fits}
-use Rattle.machine.specs.Waits.{given}
+use Rattle.execution.specs.Waits.{given}
 use Rattle.proberun.specs.Serving.{AllFree}
 use Rattle.proberun.specs.Progress.{Progress, Moving}
 use Rattle.proberun.proofs.running.run_groups.Given as goal

@@ -1,0 +1,12 @@
+use Rattle.std.proofs.Common.{refl, ap}
+use Rattle.meaning.specs.State.{then_run}
+use Rattle.execution.proofs.Searches.{led_ok, check_effect, path_effect}
+use Rattle.execution.proofs.stepping.execute.Goals as goal
+
+pub returns-in-CheckProg-clause-leads : goal.returns-in-CheckProg-clause-leads
+returns-in-CheckProg-clause-leads c =
+    led_ok _ _ _ _ (λ about next. ap (λ r. then_run r (next 0 about)) (check_effect _ _ _ _ _ _ _ _ c.args.store.now c.in-CheckProg.is c.as_slice-in-CheckProg.ensures.value refl refl)) c.check_for.ensures.leads
+
+pub returns-in-PathProg-clause-leads : goal.returns-in-PathProg-clause-leads
+returns-in-PathProg-clause-leads c =
+    led_ok _ _ _ _ (λ about next. ap (λ r. then_run r (next 0 about)) (path_effect _ _ _ _ _ _ c.args.store.now c.in-PathProg.is c.as_slice-in-PathProg.ensures.value refl)) c.find_for.ensures.leads

@@ -1,0 +1,9 @@
+use Rattle.std.proofs.Common.{subst, sym}
+use Rattle.execution.specs.Flows.{Leads}
+use Rattle.execution.specs.Waits.{told_to}
+use Rattle.execution.proofs.stepping.tell.Goals as goal
+
+pub returns-in_ok-flow-in-Directory-clause-leads : goal.returns-in_ok-flow-in-Directory-clause-leads
+returns-in_ok-flow-in-Directory-clause-leads c =
+    subst (λ w. Leads c.in_ok-flow-in-Directory.flow (λ next. told_to w c.args.succeeded (next 0) c.args.about.now c.args.store.now) c.args.about.now c.tell_search.new.store)
+    (sym c.in-Directory.is) (c.in_ok-flow-in-Directory.ensures.leads c.args.about.now)

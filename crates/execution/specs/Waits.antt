@@ -1,0 +1,65 @@
+-- What a machine waits for, and what follows the replies.
+use Rattle.std.specs.Prelude.{ℕ, Bool, false, List, [], ◌∷◌, Option, Some, length, map, unwrap_or, if◌then◌else◌}
+use Rattle.conftest.specs.declared.job.Job.{Job}
+use Rattle.conftest.specs.Probe.{run_of}
+use Rattle.crew.specs.declared.reply.Reply.{Reply}
+use Rattle.crew.specs.declared.reply.Reply.TheVariants.{StartRefused}
+use Rattle.meaning.specs.State.{State, Scope, answered, with_child, with_variable, How, as_is, Run}
+use Rattle.meaning.specs.Asking.{success, only_reply, heard, child, attempted}
+use Rattle.meaning.specs.Rows.{Search, attempts_in, value_or_empty, text_or_no}
+use Rattle.meaning.specs.Tests.{broken, with_result, with_value}
+use Rattle.execution.specs.declared.wait.Wait.{Wait}
+use Rattle.execution.specs.declared.wait.Wait.TheVariants as wait
+
+-- The replies, with a refused start for each job without one. (own)
+abbrev pub given : List (Option Reply) → List Reply
+given [] = []
+given (r ∷ rs) = unwrap_or r StartRefused ∷ given rs
+
+-- Each job without a reply gets a refused start. (own)
+abbrev pub refused_rest : List (Option Reply) → List (Option Reply)
+refused_rest replies = map (λ r. Some (unwrap_or r StartRefused)) replies
+
+-- The end of a search: its name gets the value, if there is one; then the value of the name is printed, and its variable
+-- gets it, or the empty text. (Autoconf's manual, "Generic Programs")
+abbrev pub finished : Search → Option (List ℕ) → State → State
+finished s value st =
+    let now = with_value s.name value st in
+    with_variable s.variable (value_or_empty now s.name) (with_result (text_or_no (value_or_empty now s.name)) now)
+
+-- The rest of a search: these directories are tried. (Autoconf's manual, "Generic Programs")
+abbrev pub searched : Search → List (List ℕ) → State → (State → Run) → Run
+searched s directories st next = attempted (broken s.name) (attempts_in s directories) s.otherwise st (λ value now. next (finished s value now))
+
+-- What is done with the state if a reply is refused. (own)
+abbrev pub early_in : Wait → How → State → State
+early_in (wait.Directory search file left) = broken search.name
+early_in wait.Nothing = as_is
+early_in wait.Answer = as_is
+early_in wait.Link = as_is
+
+-- What follows an answer, by what is waited for: the answer of a choice, whether the program that is to be run was
+-- linked, or whether a directory has the program that is looked for. (own)
+abbrev pub told_to : Wait → Bool → (Scope → State → Run) → Scope → State → Run
+told_to wait.Nothing b next scope st = next scope st
+told_to wait.Answer b next scope st = next (answered b) st
+told_to wait.Link b next scope st = if b then child as_is (run_of 0) st (λ passed. next (answered passed)) else next (answered false) st
+told_to (wait.Directory search file left) b next scope st =
+    if b then next scope (finished search (Some (unwrap_or search.found file)) st) else searched search left st (next scope)
+
+-- The log gets the job that was asked for, with its reply. (own)
+abbrev pub with_asked : List Job → List Reply → State → State
+with_asked [] replies st = st
+with_asked (job ∷ jobs) replies st = with_child job (only_reply replies) st
+
+-- What follows the replies. (own)
+abbrev pub resumed : Wait → List Job → List Reply → (Scope → State → Run) → Scope → State → Run
+resumed wait jobs replies next scope st =
+    heard (early_in wait) (success (only_reply replies)) (with_asked jobs replies st) (λ b now. told_to wait b next scope now)
+
+-- How many jobs may be asked for after this one until the step is left. (own)
+abbrev pub waits_for : Wait → ℕ
+waits_for wait.Nothing = 0
+waits_for wait.Answer = 0
+waits_for wait.Link = 1
+waits_for (wait.Directory search file left) = length left

@@ -1,0 +1,26 @@
+//! One step of a plan: what it changes, what follows it, and what follows the replies to the jobs that it asks for.
+//!
+//! ```text
+//! match do_step(alloc, &mut store, &mut about, &step)? {
+//!     Flow::Pass { more } => place += 1 + more,
+//!     Flow::Ask { job, wait } => { /* run the job, then hear(.., wait, Some(job), reply, children_before) */ }
+//!     Flow::Complete | Flow::Stop { .. } | Flow::Cut { .. } => { /* the run is at its end */ }
+//! }
+//! ```
+//!
+//! Read `specs/Waits` and `specs/Flows` first (what a step waits for, and what follows it), then `flow` and `wait`, which have
+//! their types, then `stepping` (one step, and what follows the replies to its jobs) and `search` (programs that are looked
+//! for). The crate `runstate` has what the steps change, and the crate `machine` goes from step to step.
+//!
+//! The theorem is about one step of a plan's walk, as a function of what follows it: the walk goes on as the flow says.
+#![tactic(auto)]
+
+mod flow;
+mod search;
+mod stepping;
+mod wait;
+
+pub use flow::Flow;
+pub use search::{Directories, Search};
+pub use stepping::{do_step, hear};
+pub use wait::Wait;

@@ -1,0 +1,659 @@
+//! One step, and what follows the replies to its jobs.
+
+ghost use Rattle.std.specs.Prelude.{◌≡◌, unwrap_or, ◌≤◌, ◌<◌, ◌+◌, ◌^◌, ◌++◌, ◌∷◌, ◌||◌, not, [], IfOk, IsOk, OnOk, None, Some, if◌then◌else◌, length, option_map, option_to_list};
+ghost use Rattle.deftable.specs.ShellName.{IsShellName};
+ghost use Rattle.deftable.specs.Table as tables;
+ghost use Rattle.deftable.specs.declared.note.Stream.TheVariants as streams;
+ghost use Rattle.meaning.specs.Asking.{no_compiler, success};
+ghost use Rattle.meaning.specs.Asking as meant;
+ghost use Rattle.meaning.specs.Meaning.{asked, begun, check_prog, defaulted, error_line, has_value, is_full_name, is_taken, looks, path_prog, program_test, value_name, with_prefixes};
+ghost use Rattle.meaning.specs.Meaning as meanings;
+ghost use Rattle.meaning.specs.Play.{refused_after, refused_here};
+ghost use Rattle.meaning.specs.Rows.{value_or_empty};
+ghost use Rattle.meaning.specs.State as states;
+ghost use Rattle.meaning.specs.State.{Scope, answered, as_is, then_run, told, with_child, with_definition, with_variable};
+ghost use Rattle.conftest.specs.Probe.{job_of};
+ghost use Rattle.meaning.specs.Tries.{first_probe, text_of, tried};
+ghost use Rattle.shellword.specs.Value.{word_value};
+ghost use Rattle.plan.specs.Inside.{asks_about, asks_by, asks_of, asks_to_try, reach};
+ghost use Rattle.plan.specs.Walk.{act, own_effect, shown};
+ghost use Rattle.execution.specs.Flows.{Heeds, Leads, asks_now, passed};
+ghost use Rattle.execution.specs.declared.flow.Flow.TheVariants.{Complete, Cut, Pass, Stop};
+ghost use Rattle.execution.specs.Waits.{early_in, finished, resumed, searched, told_to, waits_for, with_asked};
+
+use crate::flow::Flow;
+use crate::search::{Directories, Search, look_for, look_on, pass_search};
+use crate::wait::Wait;
+use conftest::{Job, run_job};
+use crew::Reply;
+use deftable::Bytes;
+use plan::Step;
+use runstate::pieces::{break_test, report_error, report_no_compiler};
+use runstate::{About, Store, initialise};
+use shellword::{HereText, Word};
+use std::alloc::{AllocError, Global};
+use syntax::{OptionKind, Plain, Program, Question, Subject, Try, When};
+
+/// Returns the value of a here text, if there is one.
+fn value_of(
+    alloc: Global,
+    store: &Store,
+    text: &Option<HereText>,
+) -> Result<Option<Bytes>, AllocError>
+    ensures { IfOk result (λ v. v ≡ option_map (λ t. word_value t store.now.vars) text.now) }
+{
+    match text {
+        Some(text) => Ok(Some(store.here_text(alloc, text)?)),
+        None => Ok(None),
+    }
+}
+
+/// Returns a name with a prefix before it.
+fn prefixed(alloc: Global, prefix: &[u8], name: &[u8]) -> Result<Bytes, AllocError>
+    ensures { IfOk result (λ b. b ≡ prefix.now ++ name.now) }
+{
+    let mut text = Vec::from_slice(alloc, prefix)?;
+    text.extend_from_slice(name)?;
+    Ok(Bytes::from_vec(text))
+}
+
+/// Returns a variable's name, its cached name, and the program's name.
+fn search_names(
+    alloc: Global,
+    prefix: &[u8],
+    variable: &[u8],
+    program: &Bytes,
+) -> Result<(Bytes, Bytes, Bytes), AllocError>
+    ensures { IfOk result (λ r. (r.0 ≡ variable.now) × (r.1 ≡ prefix.now ++ variable.now) × (r.2 ≡ program.now)) }
+{
+    let name = prefixed(alloc, prefix, variable)?;
+    let variable = Bytes::from_slice(alloc, variable)?;
+    let program = program.copy(alloc)?;
+    Ok((variable, name, program))
+}
+
+/// Returns the search of AC_CHECK_PROG.
+fn check_prog(
+    alloc: Global,
+    variable: &[u8],
+    program: &Bytes,
+    found: Bytes,
+    otherwise: Option<Bytes>,
+) -> Result<Search, AllocError>
+    ensures { IfOk result (λ s. s ≡ check_prog variable.now program.now found otherwise) }
+{
+    let (variable, name, program) = search_names(alloc, b"ac_cv_prog_", variable, program)?;
+    Ok(Search {
+        variable,
+        name,
+        program,
+        found: Some(found),
+        otherwise,
+    })
+}
+
+/// Returns the search of AC_PATH_PROG.
+fn path_prog(
+    alloc: Global,
+    variable: &[u8],
+    program: &Bytes,
+    otherwise: Option<Bytes>,
+) -> Result<Search, AllocError>
+    ensures { IfOk result (λ s. s ≡ path_prog variable.now program.now otherwise) }
+{
+    let (variable, name, program) = search_names(alloc, b"ac_cv_path_", variable, program)?;
+    Ok(Search {
+        variable,
+        name,
+        program,
+        found: None,
+        otherwise,
+    })
+}
+
+/// Looks for a program by its name.
+fn check_program(
+    alloc: Global,
+    store: &mut Store,
+    variable: &[u8],
+    program: &Bytes,
+    found: Bytes,
+    otherwise: Option<Bytes>,
+) -> Result<Flow, AllocError>
+    ensures within { IfOk result (λ flow. passed flow ≤ 0) }
+    ensures asks { IfOk result (λ flow. asks_now flow ≤ 65536) }
+    ensures heeds { IfOk result (λ flow. Heeds flow None) }
+    ensures leads { IfOk result (λ flow. (about : Scope) → Leads flow (λ next. then_run (program_test (check_prog variable.now program.now found otherwise) (has_value store.old variable.now) store.old) (next 0 about)) about store.new) }
+{
+    let own = store.has_value(variable);
+    let search = check_prog(alloc, variable, program, found, otherwise)?;
+    // for the proof only: the flow has a name
+    let flow = look_for(alloc, store, search, own)?;
+    Ok(flow)
+}
+
+/// Looks for a program's full name.
+fn find_program(
+    alloc: Global,
+    store: &mut Store,
+    variable: &[u8],
+    program: &Bytes,
+    otherwise: Option<Bytes>,
+) -> Result<Flow, AllocError>
+    ensures within { IfOk result (λ flow. passed flow ≤ 0) }
+    ensures asks { IfOk result (λ flow. asks_now flow ≤ 65536) }
+    ensures heeds { IfOk result (λ flow. Heeds flow None) }
+    ensures leads { IfOk result (λ flow. (about : Scope) → Leads flow (λ next. then_run (program_test (path_prog variable.now program.now otherwise) (is_full_name (value_or_empty store.old variable.now)) store.old) (next 0 about)) about store.new) }
+{
+    let own = store.has_full_name(variable);
+    let search = path_prog(alloc, variable, program, otherwise)?;
+    // for the proof only: the flow has a name
+    let flow = look_for(alloc, store, search, own)?;
+    Ok(flow)
+}
+
+/// Looks for the program of AC_CHECK_PROG.
+fn check_for(
+    alloc: Global,
+    store: &mut Store,
+    variable: &[u8],
+    program: &Bytes,
+    found: &HereText,
+    otherwise: &Option<HereText>,
+) -> Result<Flow, AllocError>
+    ensures within { IfOk result (λ flow. passed flow ≤ 0) }
+    ensures asks { IfOk result (λ flow. asks_now flow ≤ 65536) }
+    ensures heeds { IfOk result (λ flow. Heeds flow None) }
+    ensures leads { IfOk result (λ flow. (about : Scope) → Leads flow (λ next. then_run (program_test (check_prog variable.now program.now (word_value found.now store.old.vars) (option_map (λ t. word_value t store.old.vars) otherwise.now)) (has_value store.old variable.now) store.old) (next 0 about)) about store.new) }
+{
+    let found = store.here_text(alloc, found)?;
+    let otherwise = value_of(alloc, store, otherwise)?;
+    check_program(alloc, store, variable, program, found, otherwise)
+}
+
+/// Looks for the program of AC_PATH_PROG.
+fn find_for(
+    alloc: Global,
+    store: &mut Store,
+    variable: &[u8],
+    program: &Bytes,
+    otherwise: &Option<HereText>,
+) -> Result<Flow, AllocError>
+    ensures within { IfOk result (λ flow. passed flow ≤ 0) }
+    ensures asks { IfOk result (λ flow. asks_now flow ≤ 65536) }
+    ensures heeds { IfOk result (λ flow. Heeds flow None) }
+    ensures leads { IfOk result (λ flow. (about : Scope) → Leads flow (λ next. then_run (program_test (path_prog variable.now program.now (option_map (λ t. word_value t store.old.vars) otherwise.now)) (is_full_name (value_or_empty store.old variable.now)) store.old) (next 0 about)) about store.new) }
+{
+    let otherwise = value_of(alloc, store, otherwise)?;
+    find_program(alloc, store, variable, program, otherwise)
+}
+
+/// Sets a variable to the value of a word.
+fn assign(alloc: Global, store: &mut Store, name: &[u8], value: &Word) -> Result<(), AllocError>
+    ensures { OnOk result (store.new ≡ with_variable name.now (word_value value.now store.old.vars) store.old) }
+{
+    let value = store.word(alloc, value)?;
+    store.set(name, value.as_slice())
+}
+
+/// Defines a name as the value of a text.
+fn define_value(
+    alloc: Global,
+    store: &mut Store,
+    name: &[u8],
+    value: &HereText,
+) -> Result<(), AllocError>
+    requires { IsShellName name.now }
+    ensures { OnOk result (store.new ≡ with_definition name.now (word_value value.now store.old.vars) store.old) }
+{
+    let value = store.here_text(alloc, value)?;
+    store.define(name, value.as_slice())
+}
+
+/// Completes the run, once prefix and exec_prefix have their values.
+fn complete(store: &mut Store) -> Result<Flow, AllocError>
+    ensures completes { IfOk result (λ flow. flow ≡ Complete) }
+    ensures settles { OnOk result (store.new ≡ with_prefixes store.old) }
+{
+    store.settle_prefixes()?;
+    Ok(Flow::Complete)
+}
+
+/// Stops the run with an exit status, after the line of the error is printed.
+fn stop(
+    alloc: Global,
+    store: &mut Store,
+    message: &HereText,
+    status: u8,
+) -> Result<Flow, AllocError>
+    ensures stops { IfOk result (λ flow. flow ≡ Stop status) }
+    ensures prints { OnOk result (store.new ≡ told streams.Err (error_line (word_value message.now store.old.vars)) store.old) }
+{
+    let text = store.here_text(alloc, message)?;
+    report_error(alloc, store, text.as_slice())?;
+    Ok(Flow::Stop { status })
+}
+
+/// Continues with the next step, if `done` is no error.
+fn pass(done: Result<(), AllocError>) -> Result<Flow, AllocError>
+    ensures passes { IfOk result (λ flow. flow ≡ Pass 0) }
+    ensures done { OnOk result (IsOk done) }
+{
+    done?;
+    Ok(Flow::Pass { more: 0 })
+}
+
+/// Runs a statement in its own step.
+#[tactic(auto, unfolding(meaning::specs::Meaning::effect))]
+fn execute(alloc: Global, store: &mut Store, statement: &Plain) -> Result<Flow, AllocError>
+    ensures within { IfOk result (λ flow. passed flow ≤ 0) }
+    ensures asks { IfOk result (λ flow. asks_now flow ≤ asks_by statement.now) }
+    ensures heeds { IfOk result (λ flow. Heeds flow None) }
+    ensures leads { IfOk result (λ flow. (about : Scope) → Leads flow (λ next. then_run (own_effect statement.now store.old) (next 0 about)) about store.new) }
+{
+    match statement {
+        Plain::Init {
+            title,
+            version,
+            bug,
+            tarname,
+            url,
+        } => pass(initialise(
+            alloc,
+            store,
+            title.as_slice(),
+            version.as_slice(),
+            bug.as_slice(),
+            tarname.as_slice(),
+            url.as_slice(),
+        )),
+        Plain::Accepted
+        | Plain::ConfigFiles { .. }
+        | Plain::Subst { .. }
+        | Plain::ArgVar { .. }
+        | Plain::CheckProgs { .. }
+        | Plain::ProgCc { .. } => Ok(Flow::Pass { more: 0 }),
+        Plain::Assign { name, value } | Plain::SubstValue { name, value } => {
+            pass(assign(alloc, store, name.as_slice(), value))
+        }
+        Plain::Define { name, value } => pass(store.define(name.as_slice(), value.as_slice())),
+        Plain::DefineUnquoted { name, value } => {
+            pass(define_value(alloc, store, name.as_slice(), value))
+        }
+        Plain::Error { message, status } => stop(alloc, store, message, *status),
+        Plain::CheckProg {
+            variable,
+            program,
+            found,
+            otherwise,
+        } => check_for(alloc, store, variable.as_slice(), program, found, otherwise),
+        Plain::PathProg {
+            variable,
+            program,
+            otherwise,
+        } => find_for(alloc, store, variable.as_slice(), program, otherwise),
+        Plain::Output => complete(store),
+    }
+}
+
+/// Returns whether a program of a list is looked for.
+fn is_wanted(always: bool, own: bool) -> bool
+    ensures { result ≡ (always || not own) }
+{
+    always || !own
+}
+
+/// Looks for a program of a list, always or only if the variable is still empty.
+fn look(
+    alloc: Global,
+    store: &mut Store,
+    variable: &[u8],
+    program: &Bytes,
+    always: bool,
+) -> Result<Flow, AllocError>
+    ensures within { IfOk result (λ flow. passed flow ≤ 0) }
+    ensures asks { IfOk result (λ flow. asks_now flow ≤ 65536) }
+    ensures heeds { IfOk result (λ flow. Heeds flow None) }
+    ensures leads { IfOk result (λ flow. (about : Scope) → Leads flow (λ next. then_run (looks variable.now program.now always store.old) (next 0 about)) about store.new) }
+{
+    let own = store.has_value(variable);
+    if !is_wanted(always, own) {
+        return Ok(Flow::Pass { more: 0 });
+    }
+    let found = program.copy(alloc)?;
+    // for the proof only: the flow has a name
+    let flow = check_program(alloc, store, variable, program, found, None)?;
+    Ok(flow)
+}
+
+/// Gives a variable its default, if it has one and the variable is empty.
+fn set_default(
+    alloc: Global,
+    store: &mut Store,
+    variable: &[u8],
+    value: &Option<HereText>,
+) -> Result<(), AllocError>
+    ensures { OnOk result (store.new ≡ defaulted variable.now (option_map (λ t. word_value t store.old.vars) value.now) store.old) }
+{
+    if let Some(text) = value {
+        if !store.has_value(variable) {
+            let value = store.here_text(alloc, text)?;
+            store.set(variable, value.as_slice())?;
+        }
+    }
+    Ok(())
+}
+
+/// Returns the variable that gets the value of an option if the option is given.
+fn value_name(kind: OptionKind) -> &'static [u8]
+    ensures { result.now ≡ value_name kind }
+{
+    match kind {
+        OptionKind::Feature => b"enableval",
+        OptionKind::Package => b"withval",
+    }
+}
+
+/// Stops the run because there is no compiler.
+fn stop_without_compiler(alloc: Global, store: &mut Store) -> Result<Flow, AllocError>
+    ensures stops { IfOk result (λ flow. flow ≡ Stop 1) }
+    ensures prints { OnOk result (store.new ≡ told streams.Err no_compiler store.old) }
+{
+    report_no_compiler(alloc, store)?;
+    Ok(Flow::Stop { status: 1 })
+}
+
+/// Returns the first job of a program, or `None` if there is no compiler.
+fn first_job(
+    alloc: Global,
+    store: &Store,
+    kind: Try,
+    program: &Program,
+) -> Result<Option<Job>, AllocError>
+    ensures { IfOk result (λ job. job ≡ job_of (first_probe kind (text_of program.now store.now.vars)) 0 store.now.vars store.now.defs) }
+{
+    let text = store.program_text(alloc, program)?;
+    store.job_to_try(alloc, kind, text.as_slice())
+}
+
+/// Tries a program.
+fn try_program(
+    alloc: Global,
+    store: &mut Store,
+    kind: Try,
+    program: &Program,
+) -> Result<Flow, AllocError>
+    ensures within { IfOk result (λ flow. passed flow ≤ 0) }
+    ensures asks { IfOk result (λ flow. asks_now flow ≤ asks_to_try kind) }
+    ensures heeds { IfOk result (λ flow. Heeds flow None) }
+    ensures leads { IfOk result (λ flow. (about : Scope) → Leads flow (λ next. tried as_is kind (text_of program.now store.old.vars) store.old (λ passed. next 0 (answered passed))) about store.new) }
+{
+    let Some(job) = first_job(alloc, store, kind, program)? else {
+        return stop_without_compiler(alloc, store);
+    };
+    let wait = match kind {
+        Try::Compile | Try::Link | Try::Preproc => Wait::Answer,
+        Try::Run => Wait::Link,
+    };
+    Ok(Flow::Ask { job, wait })
+}
+
+/// Answers whether an option is given: whether its variable is set. If it is, its value is kept.
+fn ask_given(
+    alloc: Global,
+    store: &mut Store,
+    about: &mut About,
+    kind: OptionKind,
+    variable: &[u8],
+) -> Result<Flow, AllocError>
+    ensures passes { IfOk result (λ flow. flow ≡ Pass 0) }
+    ensures leads { IfOk result (λ flow. Leads flow (λ next. meanings.given (tables.value_of store.old.vars variable.now) kind store.old (next 0)) about.new store.new) }
+{
+    let is_given = store.copy_value(alloc, variable, value_name(kind))?;
+    *about = About::answer(alloc, is_given);
+    Ok(Flow::Pass { more: 0 })
+}
+
+/// Asks the question of a choice.
+fn ask(
+    alloc: Global,
+    store: &mut Store,
+    about: &mut About,
+    question: &Question,
+) -> Result<Flow, AllocError>
+    ensures within { IfOk result (λ flow. passed flow ≤ 0) }
+    ensures asks { IfOk result (λ flow. asks_now flow ≤ asks_about (Subject.Asked question.now)) }
+    ensures heeds { IfOk result (λ flow. Heeds flow None) }
+    ensures leads { IfOk result (λ flow. Leads flow (λ next. asked as_is question.now store.old (next 0)) about.new store.new) }
+{
+    match question {
+        Question::Given { kind, variable, .. } => {
+            ask_given(alloc, store, about, *kind, variable.as_slice())
+        }
+        Question::Tries { kind, program } => {
+            // for the proof only: the flow has a name
+            let flow = try_program(alloc, store, *kind, program)?;
+            Ok(flow)
+        }
+    }
+}
+
+/// Begins a choice.
+#[tactic(auto, unfolding(meaning::specs::Meaning::begun))]
+fn begin(
+    alloc: Global,
+    store: &mut Store,
+    about: &mut About,
+    subject: &Subject,
+) -> Result<Flow, AllocError>
+    ensures within { IfOk result (λ flow. passed flow ≤ 0) }
+    ensures asks { IfOk result (λ flow. asks_now flow ≤ asks_about subject.now) }
+    ensures heeds { IfOk result (λ flow. Heeds flow None) }
+    ensures leads { IfOk result (λ flow. Leads flow (λ next. begun as_is subject.now store.old (next 0)) about.new store.new) }
+{
+    match subject {
+        Subject::Nothing => *about = About::nothing(alloc),
+        Subject::Word(word) => {
+            let value = store.word(alloc, word)?;
+            *about = About::word(value);
+        }
+        Subject::Asked(question) => return ask(alloc, store, about, question),
+    }
+    Ok(Flow::Pass { more: 0 })
+}
+
+/// Returns whether a case is taken.
+#[tactic(auto, unfolding(meaning::specs::Meaning::is_taken))]
+fn is_taken(alloc: Global, store: &Store, when: &When, about: &About) -> Result<bool, AllocError>
+    ensures { IfOk result (λ b. b ≡ is_taken when.now about.now store.now.vars) }
+{
+    match when {
+        When::Holds(test) => store.holds(alloc, test),
+        When::Matches(patterns) => Ok(patterns.matches(about.subject())),
+        When::Yes => Ok(about.is_yes()),
+        When::No => Ok(!about.is_yes()),
+        When::Always => Ok(true),
+    }
+}
+
+/// Passes `steps` steps, unless the case is taken.
+fn skip_unless(
+    alloc: Global,
+    store: &Store,
+    when: &When,
+    about: &About,
+    steps: usize,
+) -> Result<Flow, AllocError>
+    ensures { IfOk result (λ flow. flow ≡ Pass (if is_taken when.now about.now store.now.vars then 0 else steps)) }
+{
+    if is_taken(alloc, store, when, about)? {
+        return Ok(Flow::Pass { more: 0 });
+    }
+    Ok(Flow::Pass { more: steps })
+}
+
+/// Does one step.
+pub fn do_step(
+    alloc: Global,
+    store: &mut Store,
+    about: &mut About,
+    step: &Step,
+) -> Result<Flow, AllocError>
+    ensures within { IfOk result (λ flow. passed flow ≤ reach (shown step.now)) }
+    ensures asks { IfOk result (λ flow. asks_now flow ≤ asks_of (shown step.now)) }
+    ensures heeds { IfOk result (λ flow. Heeds flow None) }
+    ensures leads { IfOk result (λ flow. Leads flow (λ next. act (shown step.now) next about.old store.old) about.new store.new) }
+{
+    match step {
+        Step::Do(statement) => execute(alloc, store, statement),
+        Step::Look {
+            variable,
+            program,
+            always,
+        } => look(alloc, store, variable, program, *always),
+        Step::Default { variable, value } => pass(set_default(alloc, store, variable, value)),
+        Step::Subject(subject) => begin(alloc, store, about, subject),
+        Step::SkipUnless { when, steps } => skip_unless(alloc, store, when, about, *steps),
+        Step::Skip { steps } => Ok(Flow::Pass { more: *steps }),
+    }
+}
+
+/// Returns whether the child with this reply succeeded, or `None` if it didn't answer.
+fn success(reply: &Reply) -> Option<bool>
+    ensures { result ≡ success reply.now }
+{
+    match reply {
+        Reply::Answer { status, .. } => Some(*status == 0),
+        Reply::StartRefused | Reply::EndRefused => None,
+    }
+}
+
+/// Continues with whether a directory has the program that is looked for.
+fn tell_search(
+    alloc: Global,
+    store: &mut Store,
+    search: Search,
+    file: Bytes,
+    left: Directories,
+    found: bool,
+) -> Result<Flow, AllocError>
+    ensures within { IfOk result (λ flow. passed flow ≤ 0) }
+    ensures asks { IfOk result (λ flow. asks_now flow ≤ length left) }
+    ensures heeds { IfOk result (λ flow. Heeds flow None) }
+    ensures leads { IfOk result (λ flow. (about : Scope) → Leads flow (λ next. if found then next 0 about (finished search (Some (unwrap_or search.found file)) store.old) else searched search left store.old (next 0 about)) about store.new) }
+{
+    if !found {
+        return look_on(alloc, store, search, left);
+    }
+    let value = search.found.as_ref().unwrap_or(&file);
+    pass_search(alloc, store, &search, Some(value))
+}
+
+/// Continues with whether the child succeeded.
+fn tell(
+    alloc: Global,
+    store: &mut Store,
+    about: &mut About,
+    wait: Wait,
+    succeeded: bool,
+) -> Result<Flow, AllocError>
+    ensures within { IfOk result (λ flow. passed flow ≤ 0) }
+    ensures asks { IfOk result (λ flow. asks_now flow ≤ waits_for wait) }
+    ensures heeds { IfOk result (λ flow. Heeds flow None) }
+    ensures leads { IfOk result (λ flow. Leads flow (λ next. told_to wait succeeded (next 0) about.old store.old) about.new store.new) }
+{
+    match wait {
+        Wait::Nothing => Ok(Flow::Pass { more: 0 }),
+        Wait::Answer => {
+            *about = About::answer(alloc, succeeded);
+            Ok(Flow::Pass { more: 0 })
+        }
+        Wait::Link => {
+            if !succeeded {
+                *about = About::answer(alloc, false);
+                return Ok(Flow::Pass { more: 0 });
+            }
+            let job = run_job(alloc, 0)?;
+            Ok(Flow::Ask {
+                job,
+                wait: Wait::Answer,
+            })
+        }
+        Wait::Directory { search, file, left } => {
+            // for the proof only: the flow has a name
+            let flow = tell_search(alloc, store, search, file, left, succeeded)?;
+            Ok(flow)
+        }
+    }
+}
+
+/// Ends what is waited for, because the reply is refused.
+fn break_off(alloc: Global, store: &mut Store, wait: &Wait) -> Result<(), AllocError>
+    ensures { OnOk result (store.new ≡ early_in wait.now states.Cut store.old) }
+{
+    match wait {
+        Wait::Directory { search, .. } => break_test(alloc, store, search.name.as_slice()),
+        Wait::Nothing | Wait::Answer | Wait::Link => Ok(()),
+    }
+}
+
+/// Cuts the run short at the child of this number.
+fn cut(alloc: Global, store: &mut Store, wait: &Wait, number: u64) -> Result<Flow, AllocError>
+    ensures cuts { IfOk result (λ flow. flow ≡ Cut number) }
+    ensures breaks { OnOk result (store.new ≡ early_in wait.now states.Cut store.old) }
+{
+    break_off(alloc, store, wait)?;
+    Ok(Flow::Cut { number })
+}
+
+/// Continues with the reply to a job that was asked for, after `before` other children.
+fn hear_reply(
+    alloc: Global,
+    store: &mut Store,
+    about: &mut About,
+    wait: Wait,
+    heard: Option<bool>,
+    before: u64,
+) -> Result<Flow, AllocError>
+    requires { before + 1 < 2 ^ 64 }
+    ensures within { IfOk result (λ flow. passed flow ≤ 0) }
+    ensures asks { IfOk result (λ flow. asks_now flow ≤ waits_for wait) }
+    ensures heeds { IfOk result (λ flow. Heeds flow (option_map (λ k. before + k) (refused_here heard None))) }
+    ensures leads { IfOk result (λ flow. Leads flow (λ next. meant.heard (early_in wait) heard store.old (λ b now. told_to wait b (next 0) about.old now)) about.new store.new) }
+{
+    match heard {
+        Some(succeeded) => tell(alloc, store, about, wait, succeeded),
+        None => cut(alloc, store, &wait, before + 1),
+    }
+}
+
+/// Adds the job that was asked for to the log, with its reply.
+fn log_asked(store: &mut Store, job: Option<Job>, reply: Reply) -> Result<(), AllocError>
+    ensures { OnOk result (store.new ≡ with_asked (option_to_list job) (reply ∷ []) store.old) }
+{
+    match job {
+        Some(job) => store.log_child(job, reply),
+        None => Ok(()),
+    }
+}
+
+/// Continues with the reply to the job that was asked for, after `before` other children.
+pub fn hear(
+    alloc: Global,
+    store: &mut Store,
+    about: &mut About,
+    wait: Wait,
+    job: Option<Job>,
+    reply: Reply,
+    before: u64,
+) -> Result<Flow, AllocError>
+    requires { before + 1 < 2 ^ 64 }
+    ensures within { IfOk result (λ flow. passed flow ≤ 0) }
+    ensures asks { IfOk result (λ flow. asks_now flow ≤ waits_for wait) }
+    ensures heeds { IfOk result (λ flow. Heeds flow (refused_after before (reply ∷ []))) }
+    ensures leads { IfOk result (λ flow. Leads flow (λ next. resumed wait (option_to_list job) (reply ∷ []) (next 0) about.old store.old) about.new store.new) }
+{
+    let heard = success(&reply);
+    log_asked(store, job, reply)?;
+    hear_reply(alloc, store, about, wait, heard, before)
+}

@@ -1,0 +1,21 @@
+//! What a machine waits for.
+
+use crate::search::{Directories, Search};
+use deftable::Bytes;
+
+/// What the reply to the job that is asked for decides.
+#[derive(Drop)]
+pub enum Wait {
+    /// No job is asked for.
+    Nothing,
+    /// The answer to the question of a choice.
+    Answer,
+    /// Whether the program that is to be run was linked.
+    Link,
+    /// Whether a file is the program that is looked for. `left` are the remaining directories.
+    Directory {
+        search: Search,
+        file: Bytes,
+        left: Directories,
+    },
+}

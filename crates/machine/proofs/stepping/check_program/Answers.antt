@@ -1,9 +1,0 @@
-use Rattle.std.proofs.Common.{ap, ◌∙◌}
-use Rattle.meaning.specs.Meaning.{check_prog, program_test}
-use Rattle.meaning.specs.State.{then_run}
-use Rattle.machine.proofs.Searches.{led}
-use Rattle.machine.proofs.stepping.check_program.Goals as goal
-
-pub returns-clause-leads : goal.returns-clause-leads
-returns-clause-leads c = λ about.
-    led _ about _ _ _ (λ next. ap (λ r. then_run r (next 0 about)) (ap (λ s. program_test s c.has_value-own.result c.args.store.now) c.in_ok-search.ensures ∙ ap (λ b. program_test (check_prog c.args.variable.now c.args.program.now c.args.found c.args.otherwise) b c.args.store.now) c.has_value-own.ensures)) (c.in_ok-flow.ensures.leads about)
