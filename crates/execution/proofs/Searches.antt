@@ -1,15 +1,15 @@
 -- The directories of a path.
-use Rattle.std.proofs.Common.{◌≡◌, ℕ, zero, suc, ◌+◌, ◌-◌, ◌≤◌, ◌==◌, Bool, true, false, cond, List, [], ◌∷◌, length, map, take, get_or, Bor, Option, None, Result, Ok, Err, IfOk, refl, sym, ap, ◌∙◌, subst, arith}
-use Rattle.std.specs.Prelude.{codes, not, ◌||◌, option_map}
+use Rattle.std.proofs.Common.{◌≡◌, ℕ, zero, suc, ◌+◌, ◌-◌, ◌≤◌, ◌==◌, Bool, true, cond, List, [], ◌∷◌, length, map, take, get_or, Bor, Option, None, Result, Ok, Err, IfOk, refl, sym, ap, ◌∙◌, subst, arith}
+use Rattle.std.specs.Prelude.{not, ◌||◌, option_map}
 use Rattle.std.proofs.lemmas.List.{length-map, take-map}
 use Rattle.std.specs.declared.alloc.AllocError.{AllocError}
+use Rattle.conftest.specs.declared.job.Job.{Job}
 use Rattle.textcut.specs.Cuts.{parts}
-use Rattle.deftable.specs.Table.{value_of}
 use Rattle.shellword.specs.declared.part.Part.{Part}
 use Rattle.shellword.specs.Value.{word_value}
 use Rattle.syntax.specs.declared.statement.Plain as plain
 use Rattle.syntax.specs.declared.statement.Plain.TheVariants.{CheckProg, PathProg}
-use Rattle.meaning.specs.State.{State, Scope, Run, Ends, Goes_on, then_run}
+use Rattle.meaning.specs.State.{State, Scope, Run, Ends, Goes_on}
 use Rattle.meaning.specs.Meaning.{effect, check_prog, path_prog, program_test, has_value, is_full_name, looks}
 use Rattle.plan.specs.Walk.{own_effect}
 use Rattle.execution.specs.declared.flow.Flow.{Flow}
@@ -17,7 +17,8 @@ use Rattle.execution.specs.declared.flow.Flow.TheVariants as flow
 use Rattle.execution.specs.Flows.{Leads, asks_now}
 use Rattle.meaning.specs.Directories.{ends_empty, without_last_empty, directory_of, directories_of}
 use Rattle.meaning.specs.Rows.{Search, value_or_empty}
-use Rattle.execution.specs.Waits.{searched}
+use Rattle.execution.specs.declared.wait.Wait.{Wait}
+use Rattle.execution.specs.Waits.{Awaits, Suits, searched}
 
 -- The last part.
 pub last_at : (xs : List (Bor (List ℕ))) (d : Bor (List ℕ)) (i : ℕ) → i + 1 ≡ length xs → (length (get_or xs i d).now == 0) ≡ ends_empty (map (λ part. part.now) xs)
@@ -52,6 +53,11 @@ few_directories path =
     let l = without_last_empty (parts 58 path) in
     subst (λ k. k ≤ 65536) (sym (length-map (take 65536 l) directory_of)) (take_few 65536 l)
 
+-- One job suits whatever is waited for.
+pub one_awaits : (wait : Wait) (jobs : List Job) (job : Job) → jobs ≡ job ∷ [] → Awaits wait jobs
+unfolding Suits
+one_awaits wait jobs job is = record { some = omega (arith, ap length is); few = omega (arith, ap length is); fit = ap length is }
+
 -- A program of a list that is looked for.
 pub looks_test : (variable program : List ℕ) (always own wanted : Bool) (st : State) → wanted ≡ (always || not own) → own ≡ has_value st variable → wanted ≡ true
     → program_test (check_prog variable program program None) (has_value st variable) st ≡ looks variable program always st
@@ -62,7 +68,7 @@ looks_test variable program always own wanted st is has yes_wanted =
 -- A flow that continues a run continues an equal one.
 pub led : (f : Flow) (c : Scope) (st : State) (run run' : (ℕ → Scope → State → Run) → Run) → ((next : ℕ → Scope → State → Run) → run next ≡ run' next) → Leads f run c st → Leads f run' c st
 led (flow.Pass more) c st run run' e h = λ next. sym (e next) ∙ h next
-led (flow.Ask job wait) c st run run' e h = λ next. sym (e next) ∙ h next
+led (flow.Ask jobs wait) c st run run' e h = λ next. sym (e next) ∙ h next
 led flow.Complete c st run run' e h = λ next. sym (e next) ∙ h next
 led (flow.Stop status) c st run run' e h = λ next. sym (e next) ∙ h next
 led (flow.Cut number) c st run run' e h = λ next. sym (e next) ∙ h next

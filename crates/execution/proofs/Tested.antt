@@ -10,7 +10,7 @@ use Rattle.meaning.specs.Directories.{directories_of}
 use Rattle.meaning.specs.Meaning.{program_test}
 use Rattle.meaning.specs.Rows.{Search, Program, value_or_empty, value_if, text_or_no, attempts_in, after_of, row_of}
 use Rattle.meaning.specs.Tests.{broken, checking, with_result, with_value, may_begin, test_by, tested, tested_by}
-use Rattle.execution.specs.Waits.{finished, searched}
+use Rattle.execution.specs.Waits.{searched}
 use Rattle.execution.specs.Known.{IsKnown, known_by}
 
 -- The body of a test, and what follows it: its name is unset if it breaks off, and else its value is printed and used.

@@ -1,5 +1,5 @@
 -- What a machine waits for, and what follows the replies.
-use Rattle.std.specs.Prelude.{ℕ, Bool, false, List, [], ◌∷◌, Option, Some, length, map, unwrap_or, if◌then◌else◌}
+use Rattle.std.specs.Prelude.{◌≡◌, ◌<◌, ◌≤◌, ℕ, Bool, false, List, [], ◌∷◌, Option, Some, length, map, unwrap_or, if◌then◌else◌}
 use Rattle.conftest.specs.declared.job.Job.{Job}
 use Rattle.conftest.specs.Probe.{run_of}
 use Rattle.crew.specs.declared.reply.Reply.{Reply}
@@ -57,7 +57,17 @@ abbrev pub resumed : Wait → List Job → List Reply → (Scope → State → R
 resumed wait jobs replies next scope st =
     heard (early_in wait) (success (only_reply replies)) (with_asked jobs replies st) (λ b now. told_to wait b next scope now)
 
--- How many jobs may be asked for after this one until the step is left. (own)
+-- The jobs suit what is waited for: today there is one, whatever that is. (own)
+unfoldable pub Suits : Wait → List Job → Type 0
+Suits wait jobs = length jobs ≡ 1
+
+-- The jobs that are asked for together, and suit what is waited for: at least one, and at most 256. (own)
+pub record Awaits (wait : Wait) (jobs : List Job) : Type 0 where
+  pub some : 0 < length jobs
+  pub few : length jobs ≤ 256
+  pub fit : Suits wait jobs
+
+-- How many jobs may be asked for after these until the step is left. (own)
 abbrev pub waits_for : Wait → ℕ
 waits_for wait.Nothing = 0
 waits_for wait.Answer = 0

@@ -3,13 +3,13 @@
 use crate::wait::Wait;
 use conftest::Job;
 
-/// What follows a step, or the replies that it waited for.
+/// What follows a step, or the replies to the jobs that it asked for.
 #[derive(Drop)]
 pub enum Flow {
     /// The next step, or the one that is `more` steps further.
     Pass { more: usize },
-    /// A job is asked for.
-    Ask { job: Job, wait: Wait },
+    /// Jobs are asked for, at least one and at most 256. `wait` is for their replies.
+    Ask { jobs: Vec<Job>, wait: Wait },
     /// The run ends, and is completed.
     Complete,
     /// The run ends, and is stopped with an exit status.

@@ -3,7 +3,7 @@
 //! ```text
 //! match do_step(alloc, &mut store, &mut about, &step)? {
 //!     Flow::Pass { more } => place += 1 + more,
-//!     Flow::Ask { job, wait } => { /* run the job, then hear(.., wait, Some(job), reply, children_before) */ }
+//!     Flow::Ask { jobs, wait } => { /* run the jobs, then hear(.., wait, jobs, replies, children_before) */ }
 //!     Flow::Complete | Flow::Stop { .. } | Flow::Cut { .. } => { /* the run is at its end */ }
 //! }
 //! ```

@@ -8,7 +8,7 @@ ghost use Rattle.meaning.specs.Meaning.{program_test};
 ghost use Rattle.meaning.specs.Rows.{message_of, text_or_no, value_or_empty};
 ghost use Rattle.meaning.specs.State.{Run, Scope, State, then_run, with_variable};
 ghost use Rattle.meaning.specs.Tests.{checking, with_result, with_value};
-ghost use Rattle.execution.specs.Flows.{Heeds, Leads, asks_now, passed};
+ghost use Rattle.execution.specs.Flows.{Heeds, IsGroup, Leads, asks_now, passed};
 ghost use Rattle.execution.specs.Known.{IsCached, IsKnown};
 ghost use Rattle.execution.specs.Waits.{finished, searched};
 ghost use Rattle.execution.specs.declared.flow.Flow.TheVariants.{Pass};
@@ -209,13 +209,27 @@ fn file_in(alloc: Global, directory: &Bytes, program: &Bytes) -> Result<Bytes, A
     Ok(Bytes::from_vec(file))
 }
 
+/// Returns a list of one job.
+pub(crate) fn one_job(alloc: Global, job: Job) -> Result<Vec<Job>, AllocError>
+    ensures { IfOk result (λ jobs. jobs.items ≡ job ∷ []) }
+{
+    let mut jobs = Vec::new(alloc);
+    jobs.push(job)?;
+    Ok(jobs)
+}
+
 /// Returns a program's name within a directory, and the job that looks for it there.
-fn try_in(alloc: Global, directory: &Bytes, program: &Bytes) -> Result<(Bytes, Job), AllocError>
-    ensures { IfOk result (λ r. (r.0 ≡ directory.now ++ program.now) × (r.1 ≡ path_of (directory.now ++ program.now))) }
+fn try_in(
+    alloc: Global,
+    directory: &Bytes,
+    program: &Bytes,
+) -> Result<(Bytes, Vec<Job>), AllocError>
+    ensures { IfOk result (λ r. (r.0 ≡ directory.now ++ program.now) × (r.1.items ≡ path_of (directory.now ++ program.now) ∷ [])) }
 {
     let file = file_in(alloc, directory, program)?;
     let job = path_job(alloc, file.as_slice())?;
-    Ok((file, job))
+    let jobs = one_job(alloc, job)?;
+    Ok((file, jobs))
 }
 
 /// Asks whether this directory has the program. `left` are the directories after it.
@@ -227,12 +241,13 @@ fn ask_in(
 ) -> Result<Flow, AllocError>
     ensures within { IfOk result (λ flow. passed flow ≤ 0) }
     ensures asks { IfOk result (λ flow. asks_now flow ≤ 1 + length left) }
+    ensures group { IfOk result IsGroup }
     ensures heeds { IfOk result (λ flow. Heeds flow None) }
     ensures leads { IfOk result (λ flow. (about : Scope) (st : State) → Leads flow (λ next. searched search (directory.now ∷ left) st (next 0 about)) about st) }
 {
-    let (file, job) = try_in(alloc, directory, &search.program)?;
+    let (file, jobs) = try_in(alloc, directory, &search.program)?;
     Ok(Flow::Ask {
-        job,
+        jobs,
         wait: Wait::Directory { search, file, left },
     })
 }
@@ -246,6 +261,7 @@ pub(crate) fn look_on(
 ) -> Result<Flow, AllocError>
     ensures within { IfOk result (λ flow. passed flow ≤ 0) }
     ensures asks { IfOk result (λ flow. asks_now flow ≤ length left) }
+    ensures group { IfOk result IsGroup }
     ensures heeds { IfOk result (λ flow. Heeds flow None) }
     ensures leads { IfOk result (λ flow. (about : Scope) → Leads flow (λ next. searched search left store.old (next 0 about)) about store.new) }
 {
@@ -267,6 +283,7 @@ fn path_directories(alloc: Global, store: &Store) -> Result<Directories, AllocEr
 fn search_path(alloc: Global, store: &mut Store, search: Search) -> Result<Flow, AllocError>
     ensures within { IfOk result (λ flow. passed flow ≤ 0) }
     ensures asks { IfOk result (λ flow. asks_now flow ≤ 65536) }
+    ensures group { IfOk result IsGroup }
     ensures heeds { IfOk result (λ flow. Heeds flow None) }
     ensures leads { IfOk result (λ flow. (about : Scope) → Leads flow (λ next. searched search (directories_of (value_or_empty store.old (codes "PATH"))) store.old (next 0 about)) about store.new) }
 {
@@ -347,6 +364,7 @@ pub(crate) fn look_for(
 ) -> Result<Flow, AllocError>
     ensures within { IfOk result (λ flow. passed flow ≤ 0) }
     ensures asks { IfOk result (λ flow. asks_now flow ≤ 65536) }
+    ensures group { IfOk result IsGroup }
     ensures heeds { IfOk result (λ flow. Heeds flow None) }
     ensures leads { IfOk result (λ flow. (about : Scope) → Leads flow (λ next. then_run (program_test search counts store.old) (next 0 about)) about store.new) }
 {

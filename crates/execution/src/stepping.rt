@@ -4,25 +4,25 @@ ghost use Rattle.std.specs.Prelude.{◌≡◌, unwrap_or, ◌≤◌, ◌<◌, �
 ghost use Rattle.deftable.specs.ShellName.{IsShellName};
 ghost use Rattle.deftable.specs.Table as tables;
 ghost use Rattle.deftable.specs.declared.note.Stream.TheVariants as streams;
-ghost use Rattle.meaning.specs.Asking.{no_compiler, success};
+ghost use Rattle.meaning.specs.Asking.{child, no_compiler, success};
 ghost use Rattle.meaning.specs.Asking as meant;
 ghost use Rattle.meaning.specs.Meaning.{asked, begun, check_prog, defaulted, error_line, has_value, is_full_name, is_taken, looks, path_prog, program_test, value_name, with_prefixes};
 ghost use Rattle.meaning.specs.Meaning as meanings;
 ghost use Rattle.meaning.specs.Play.{refused_after, refused_here};
 ghost use Rattle.meaning.specs.Rows.{value_or_empty};
 ghost use Rattle.meaning.specs.State as states;
-ghost use Rattle.meaning.specs.State.{Scope, answered, as_is, then_run, told, with_child, with_definition, with_variable};
-ghost use Rattle.conftest.specs.Probe.{job_of};
+ghost use Rattle.meaning.specs.State.{Scope, State, answered, as_is, then_run, told, with_child, with_definition, with_variable};
+ghost use Rattle.conftest.specs.Probe.{job_of, run_of};
 ghost use Rattle.meaning.specs.Tries.{first_probe, text_of, tried};
 ghost use Rattle.shellword.specs.Value.{word_value};
 ghost use Rattle.plan.specs.Inside.{asks_about, asks_by, asks_of, asks_to_try, reach};
 ghost use Rattle.plan.specs.Walk.{act, own_effect, shown};
-ghost use Rattle.execution.specs.Flows.{Heeds, Leads, asks_now, passed};
+ghost use Rattle.execution.specs.Flows.{Heeds, IsGroup, Leads, asks_now, passed};
 ghost use Rattle.execution.specs.declared.flow.Flow.TheVariants.{Complete, Cut, Pass, Stop};
-ghost use Rattle.execution.specs.Waits.{early_in, finished, resumed, searched, told_to, waits_for, with_asked};
+ghost use Rattle.execution.specs.Waits.{Awaits, early_in, finished, given, resumed, searched, told_to, waits_for, with_asked};
 
 use crate::flow::Flow;
-use crate::search::{Directories, Search, look_for, look_on, pass_search};
+use crate::search::{Directories, Search, look_for, look_on, one_job, pass_search};
 use crate::wait::Wait;
 use conftest::{Job, run_job};
 use crew::Reply;
@@ -122,6 +122,7 @@ fn check_program(
 ) -> Result<Flow, AllocError>
     ensures within { IfOk result (λ flow. passed flow ≤ 0) }
     ensures asks { IfOk result (λ flow. asks_now flow ≤ 65536) }
+    ensures group { IfOk result IsGroup }
     ensures heeds { IfOk result (λ flow. Heeds flow None) }
     ensures leads { IfOk result (λ flow. (about : Scope) → Leads flow (λ next. then_run (program_test (check_prog variable.now program.now found otherwise) (has_value store.old variable.now) store.old) (next 0 about)) about store.new) }
 {
@@ -142,6 +143,7 @@ fn find_program(
 ) -> Result<Flow, AllocError>
     ensures within { IfOk result (λ flow. passed flow ≤ 0) }
     ensures asks { IfOk result (λ flow. asks_now flow ≤ 65536) }
+    ensures group { IfOk result IsGroup }
     ensures heeds { IfOk result (λ flow. Heeds flow None) }
     ensures leads { IfOk result (λ flow. (about : Scope) → Leads flow (λ next. then_run (program_test (path_prog variable.now program.now otherwise) (is_full_name (value_or_empty store.old variable.now)) store.old) (next 0 about)) about store.new) }
 {
@@ -163,6 +165,7 @@ fn check_for(
 ) -> Result<Flow, AllocError>
     ensures within { IfOk result (λ flow. passed flow ≤ 0) }
     ensures asks { IfOk result (λ flow. asks_now flow ≤ 65536) }
+    ensures group { IfOk result IsGroup }
     ensures heeds { IfOk result (λ flow. Heeds flow None) }
     ensures leads { IfOk result (λ flow. (about : Scope) → Leads flow (λ next. then_run (program_test (check_prog variable.now program.now (word_value found.now store.old.vars) (option_map (λ t. word_value t store.old.vars) otherwise.now)) (has_value store.old variable.now) store.old) (next 0 about)) about store.new) }
 {
@@ -181,6 +184,7 @@ fn find_for(
 ) -> Result<Flow, AllocError>
     ensures within { IfOk result (λ flow. passed flow ≤ 0) }
     ensures asks { IfOk result (λ flow. asks_now flow ≤ 65536) }
+    ensures group { IfOk result IsGroup }
     ensures heeds { IfOk result (λ flow. Heeds flow None) }
     ensures leads { IfOk result (λ flow. (about : Scope) → Leads flow (λ next. then_run (program_test (path_prog variable.now program.now (option_map (λ t. word_value t store.old.vars) otherwise.now)) (is_full_name (value_or_empty store.old variable.now)) store.old) (next 0 about)) about store.new) }
 {
@@ -248,6 +252,7 @@ fn pass(done: Result<(), AllocError>) -> Result<Flow, AllocError>
 fn execute(alloc: Global, store: &mut Store, statement: &Plain) -> Result<Flow, AllocError>
     ensures within { IfOk result (λ flow. passed flow ≤ 0) }
     ensures asks { IfOk result (λ flow. asks_now flow ≤ asks_by statement.now) }
+    ensures group { IfOk result IsGroup }
     ensures heeds { IfOk result (λ flow. Heeds flow None) }
     ensures leads { IfOk result (λ flow. (about : Scope) → Leads flow (λ next. then_run (own_effect statement.now store.old) (next 0 about)) about store.new) }
 {
@@ -313,6 +318,7 @@ fn look(
 ) -> Result<Flow, AllocError>
     ensures within { IfOk result (λ flow. passed flow ≤ 0) }
     ensures asks { IfOk result (λ flow. asks_now flow ≤ 65536) }
+    ensures group { IfOk result IsGroup }
     ensures heeds { IfOk result (λ flow. Heeds flow None) }
     ensures leads { IfOk result (λ flow. (about : Scope) → Leads flow (λ next. then_run (looks variable.now program.now always store.old) (next 0 about)) about store.new) }
 {
@@ -385,17 +391,19 @@ fn try_program(
 ) -> Result<Flow, AllocError>
     ensures within { IfOk result (λ flow. passed flow ≤ 0) }
     ensures asks { IfOk result (λ flow. asks_now flow ≤ asks_to_try kind) }
+    ensures group { IfOk result IsGroup }
     ensures heeds { IfOk result (λ flow. Heeds flow None) }
     ensures leads { IfOk result (λ flow. (about : Scope) → Leads flow (λ next. tried as_is kind (text_of program.now store.old.vars) store.old (λ passed. next 0 (answered passed))) about store.new) }
 {
     let Some(job) = first_job(alloc, store, kind, program)? else {
         return stop_without_compiler(alloc, store);
     };
+    let jobs = one_job(alloc, job)?;
     let wait = match kind {
         Try::Compile | Try::Link | Try::Preproc => Wait::Answer,
         Try::Run => Wait::Link,
     };
-    Ok(Flow::Ask { job, wait })
+    Ok(Flow::Ask { jobs, wait })
 }
 
 /// Answers whether an option is given: whether its variable is set. If it is, its value is kept.
@@ -423,6 +431,7 @@ fn ask(
 ) -> Result<Flow, AllocError>
     ensures within { IfOk result (λ flow. passed flow ≤ 0) }
     ensures asks { IfOk result (λ flow. asks_now flow ≤ asks_about (Subject.Asked question.now)) }
+    ensures group { IfOk result IsGroup }
     ensures heeds { IfOk result (λ flow. Heeds flow None) }
     ensures leads { IfOk result (λ flow. Leads flow (λ next. asked as_is question.now store.old (next 0)) about.new store.new) }
 {
@@ -448,6 +457,7 @@ fn begin(
 ) -> Result<Flow, AllocError>
     ensures within { IfOk result (λ flow. passed flow ≤ 0) }
     ensures asks { IfOk result (λ flow. asks_now flow ≤ asks_about subject.now) }
+    ensures group { IfOk result IsGroup }
     ensures heeds { IfOk result (λ flow. Heeds flow None) }
     ensures leads { IfOk result (λ flow. Leads flow (λ next. begun as_is subject.now store.old (next 0)) about.new store.new) }
 {
@@ -492,7 +502,11 @@ fn skip_unless(
     Ok(Flow::Pass { more: steps })
 }
 
-/// Does one step.
+/// Does one step, and returns what follows it.
+///
+/// # Errors
+///
+/// Fails only if memory runs out.
 pub fn do_step(
     alloc: Global,
     store: &mut Store,
@@ -501,6 +515,7 @@ pub fn do_step(
 ) -> Result<Flow, AllocError>
     ensures within { IfOk result (λ flow. passed flow ≤ reach (shown step.now)) }
     ensures asks { IfOk result (λ flow. asks_now flow ≤ asks_of (shown step.now)) }
+    ensures group { IfOk result IsGroup }
     ensures heeds { IfOk result (λ flow. Heeds flow None) }
     ensures leads { IfOk result (λ flow. Leads flow (λ next. act (shown step.now) next about.old store.old) about.new store.new) }
 {
@@ -539,6 +554,7 @@ fn tell_search(
 ) -> Result<Flow, AllocError>
     ensures within { IfOk result (λ flow. passed flow ≤ 0) }
     ensures asks { IfOk result (λ flow. asks_now flow ≤ length left) }
+    ensures group { IfOk result IsGroup }
     ensures heeds { IfOk result (λ flow. Heeds flow None) }
     ensures leads { IfOk result (λ flow. (about : Scope) → Leads flow (λ next. if found then next 0 about (finished search (Some (unwrap_or search.found file)) store.old) else searched search left store.old (next 0 about)) about store.new) }
 {
@@ -547,6 +563,22 @@ fn tell_search(
     }
     let value = search.found.as_ref().unwrap_or(&file);
     pass_search(alloc, store, &search, Some(value))
+}
+
+/// Asks to run the program that was linked.
+fn ask_to_run(alloc: Global) -> Result<Flow, AllocError>
+    ensures within { IfOk result (λ flow. passed flow ≤ 0) }
+    ensures asks { IfOk result (λ flow. asks_now flow ≤ 1) }
+    ensures group { IfOk result IsGroup }
+    ensures heeds { IfOk result (λ flow. Heeds flow None) }
+    ensures leads { IfOk result (λ flow. (about : Scope) (st : State) → Leads flow (λ next. child as_is (run_of 0) st (λ passed. next 0 (answered passed))) about st) }
+{
+    let job = run_job(alloc, 0)?;
+    let jobs = one_job(alloc, job)?;
+    Ok(Flow::Ask {
+        jobs,
+        wait: Wait::Answer,
+    })
 }
 
 /// Continues with whether the child succeeded.
@@ -559,6 +591,7 @@ fn tell(
 ) -> Result<Flow, AllocError>
     ensures within { IfOk result (λ flow. passed flow ≤ 0) }
     ensures asks { IfOk result (λ flow. asks_now flow ≤ waits_for wait) }
+    ensures group { IfOk result IsGroup }
     ensures heeds { IfOk result (λ flow. Heeds flow None) }
     ensures leads { IfOk result (λ flow. Leads flow (λ next. told_to wait succeeded (next 0) about.old store.old) about.new store.new) }
 {
@@ -573,11 +606,9 @@ fn tell(
                 *about = About::answer(alloc, false);
                 return Ok(Flow::Pass { more: 0 });
             }
-            let job = run_job(alloc, 0)?;
-            Ok(Flow::Ask {
-                job,
-                wait: Wait::Answer,
-            })
+            // for the proof only: the flow has a name
+            let flow = ask_to_run(alloc)?;
+            Ok(flow)
         }
         Wait::Directory { search, file, left } => {
             // for the proof only: the flow has a name
@@ -618,6 +649,7 @@ fn hear_reply(
     requires { before + 1 < 2 ^ 64 }
     ensures within { IfOk result (λ flow. passed flow ≤ 0) }
     ensures asks { IfOk result (λ flow. asks_now flow ≤ waits_for wait) }
+    ensures group { IfOk result IsGroup }
     ensures heeds { IfOk result (λ flow. Heeds flow (option_map (λ k. before + k) (refused_here heard None))) }
     ensures leads { IfOk result (λ flow. Leads flow (λ next. meant.heard (early_in wait) heard store.old (λ b now. told_to wait b (next 0) about.old now)) about.new store.new) }
 {
@@ -637,8 +669,8 @@ fn log_asked(store: &mut Store, job: Option<Job>, reply: Reply) -> Result<(), Al
     }
 }
 
-/// Continues with the reply to the job that was asked for, after `before` other children.
-pub fn hear(
+/// Continues with the reply to the only job that was asked for, after `before` other children.
+fn hear_one(
     alloc: Global,
     store: &mut Store,
     about: &mut About,
@@ -650,10 +682,60 @@ pub fn hear(
     requires { before + 1 < 2 ^ 64 }
     ensures within { IfOk result (λ flow. passed flow ≤ 0) }
     ensures asks { IfOk result (λ flow. asks_now flow ≤ waits_for wait) }
+    ensures group { IfOk result IsGroup }
     ensures heeds { IfOk result (λ flow. Heeds flow (refused_after before (reply ∷ []))) }
     ensures leads { IfOk result (λ flow. Leads flow (λ next. resumed wait (option_to_list job) (reply ∷ []) (next 0) about.old store.old) about.new store.new) }
 {
     let heard = success(&reply);
     log_asked(store, job, reply)?;
     hear_reply(alloc, store, about, wait, heard, before)
+}
+
+/// Returns the only job.
+fn only_job(mut jobs: Vec<Job>) -> Option<Job>
+    requires { length jobs.items ≡ 1 }
+    ensures { option_to_list result ≡ jobs.items }
+{
+    jobs.pop()
+}
+
+/// Returns the only reply. A missing one is a refused start.
+fn only_reply(mut replies: Vec<Option<Reply>>) -> Reply
+    requires { length replies.items ≡ 1 }
+    ensures { result ∷ [] ≡ given replies.items }
+{
+    match replies.pop() {
+        Some(Some(reply)) => reply,
+        Some(None) | None => Reply::StartRefused,
+    }
+}
+
+/// Continues with the replies to the jobs that were asked for, after `before` other children, and returns what follows. A
+/// missing reply counts as a refused start.
+///
+/// # Errors
+///
+/// Fails only if memory runs out.
+#[tactic(auto, unfolding(crate::specs::Waits::Suits))]
+pub fn hear(
+    alloc: Global,
+    store: &mut Store,
+    about: &mut About,
+    wait: Wait,
+    jobs: Vec<Job>,
+    replies: Vec<Option<Reply>>,
+    before: u64,
+) -> Result<Flow, AllocError>
+    requires awaits { Awaits wait jobs.items }
+    requires replies { length replies.items ≡ length jobs.items }
+    requires room { before + length jobs.items < 2 ^ 64 }
+    ensures within { IfOk result (λ flow. passed flow ≤ 0) }
+    ensures asks { IfOk result (λ flow. asks_now flow ≤ waits_for wait) }
+    ensures group { IfOk result IsGroup }
+    ensures heeds { IfOk result (λ flow. Heeds flow (refused_after before (given replies.items))) }
+    ensures leads { IfOk result (λ flow. Leads flow (λ next. resumed wait jobs.items (given replies.items) (next 0) about.old store.old) about.new store.new) }
+{
+    let job = only_job(jobs);
+    let reply = only_reply(replies);
+    hear_one(alloc, store, about, wait, job, reply, before)
 }

@@ -3,7 +3,7 @@
 use crate::search::{Directories, Search};
 use deftable::Bytes;
 
-/// What the reply to the job that is asked for decides.
+/// What the replies to the jobs that are asked for decide.
 #[derive(Drop)]
 pub enum Wait {
     /// No job is asked for.

@@ -3,7 +3,7 @@ use Rattle.std.proofs.Common.{◌≡◌, ℕ, zero, suc, ◌+◌, ◌<◌, ◌�
 use Rattle.std.specs.Prelude.{replicate, option_map}
 use Rattle.std.specs.declared.alloc.AllocError.{AllocError}
 use Rattle.std.proofs.Math.Path.{fun_ext}
-use Rattle.std.proofs.lemmas.List.{length-map}
+use Rattle.std.proofs.lemmas.List.{length-map, length-replicate}
 use Rattle.crew.specs.declared.reply.Reply.{Reply}
 use Rattle.meaning.specs.State.{State, Scope, Goes_on, Cut, Run, Ends, Asks}
 use Rattle.plan.specs.declared.step.Step.{Step}
@@ -15,10 +15,10 @@ use Rattle.machine.specs.declared.machine.Phase.TheVariants as phase
 use Rattle.machine.specs.declared.machine.Turn.{Turn}
 use Rattle.machine.specs.declared.machine.Turn.TheVariants as turn
 use Rattle.execution.specs.declared.wait.Wait.TheVariants as waits
-use Rattle.execution.specs.Flows.{Leads, Heeds, passed, asks_now}
+use Rattle.execution.specs.Flows.{Leads, Heeds, IsGroup, passed, asks_now}
 use Rattle.machine.specs.Moves.{arrived, turn_by}
-use Rattle.machine.specs.Standing.{Standing, with_phase, run_left, left_in, CutsAt, Refusals, asks_in, asks_left, Holds, Turned}
-use Rattle.meaning.specs.Play.{first_refused, first_number, refused_after, last_words}
+use Rattle.machine.specs.Standing.{Standing, with_phase, run_left, left_in, CutsAt, Refusals, asks_in, asks_left, Holds, Rests, Turned}
+use Rattle.meaning.specs.Play.{first_refused, refused_after, last_words}
 use Rattle.execution.specs.Waits.{given, resumed, waits_for}
 
 -- One step, at an offset.
@@ -66,7 +66,7 @@ asks_on (i ∷ rest) (suc k) n = let e : suc k + n ≡ suc (k + n) = omega arith
 -- If a flow is no turn, steps are passed.
 arrived_pass : (f : Flow) (m : Standing) → turn_by f ≡ None → arrived f m ≡ record m { place = m.place + (1 + passed f) }
 arrived_pass (flow.Pass more) m e = refl
-arrived_pass (flow.Ask job wait) m e = cc
+arrived_pass (flow.Ask jobs wait) m e = cc
 arrived_pass flow.Complete m e = cc
 arrived_pass (flow.Stop status) m e = cc
 arrived_pass (flow.Cut number) m e = cc
@@ -74,7 +74,7 @@ arrived_pass (flow.Cut number) m e = cc
 leads_pass : (f : Flow) (run : (ℕ → Scope → State → Run) → Run) (c : Scope) (st : State) → turn_by f ≡ None → Leads f run c st
     → (next : ℕ → Scope → State → Run) → run next ≡ next (passed f) c st
 leads_pass (flow.Pass more) run c st e h next = h next
-leads_pass (flow.Ask job wait) run c st e h next = cc
+leads_pass (flow.Ask jobs wait) run c st e h next = cc
 leads_pass flow.Complete run c st e h next = cc
 leads_pass (flow.Stop status) run c st e h next = cc
 leads_pass (flow.Cut number) run c st e h next = cc
@@ -93,6 +93,7 @@ pub record Moves (plan : List Instruction) (f : Flow) (old m : Standing) (refuse
   pub replies : m.replies ≡ []
   pub whole : last_words m.before refused (run (λ k. walk plan (m.place + 1 + k))) ≡ run_left plan old
   pub heeds : Heeds f refused
+  pub group : IsGroup f
   pub before : m.before ≡ old.before + length old.jobs
   pub asks : asks_now f + asks_after plan (m.place + 1) ≤ asks_left plan old
   pub counted : old.before + (length old.jobs + asks_left plan old) ≤ asks_after plan 0
@@ -103,20 +104,21 @@ pub record Moves (plan : List Instruction) (f : Flow) (old m : Standing) (refuse
 lands_by : (plan : List Instruction) (f : Flow) (t : Turn) (old m : Standing) (refused : Option ℕ) (run : (ℕ → Scope → State → Run) → Run) → turn_by f ≡ Some t
     → Moves plan f old m refused run → Turned plan t old (arrived f m)
 lands_by plan (flow.Pass more) t old m refused run e h = cc
-lands_by plan (flow.Ask job wait) t old m refused run e h =
+lands_by plan (flow.Ask jobs wait) t old m refused run e h =
     let is : turn.Ask ≡ t = cc in
     let n : m.place + 1 + 0 ≡ m.place + 1 = omega arith in
-    subst (λ x. Turned plan x old (arrived (flow.Ask job wait) m)) is (record {
+    subst (λ x. Turned plan x old (arrived (flow.Ask jobs wait) m)) is (record {
       same =
-          ap (λ k. Asks (job ∷ []) (λ rs. last_words (m.before + 1) (refused_after m.before rs) (resumed wait (job ∷ []) rs (walk plan k) m.scope m.state))) (sym n)
-          ∙ sym (ap (λ r. last_words m.before r (Asks (job ∷ []) (λ rs. resumed wait (job ∷ []) rs (walk plan (m.place + 1 + 0)) m.scope m.state))) h.heeds)
+          ap (λ k. Asks jobs.items (λ rs. last_words (m.before + length jobs.items) (refused_after m.before rs) (resumed wait jobs.items rs (walk plan k) m.scope m.state))) (sym n)
+          ∙ sym (ap (λ r. last_words m.before r (Asks jobs.items (λ rs. resumed wait jobs.items rs (walk plan (m.place + 1 + 0)) m.scope m.state))) h.heeds)
           ∙ sym (ap (last_words m.before refused) (h.leads (λ k. walk plan (m.place + 1 + k)))) ∙ h.whole;
       shows = (refl, refl);
       outcome = refl;
       refusals = h.none h.heeds;
       before = h.before;
       fresh = refl;
-      fits = record { jobs = refl; replies = refl; place = h.place; counted = omega (arith, h.before, h.asks, h.counted) };
+      few = h.group.few;
+      fits = record { awaits = h.group; replies = length-replicate (length jobs.items) None; place = h.place; counted = omega (arith, h.before, h.asks, h.counted) };
       ahead = omega (arith, h.asks);
     })
 lands_by plan flow.Complete t old m refused run e h =
@@ -128,6 +130,7 @@ lands_by plan flow.Complete t old m refused run e h =
       refusals = h.none h.heeds;
       before = h.before;
       fresh = h.replies ∙ sym (ap (λ l. replicate (length l) None) h.jobs);
+      few = omega (arith, ap length h.jobs);
       fits = record { jobs = ap length h.jobs; replies = ap length h.replies; place = omega (arith, h.place); counted = omega (arith, h.before, ap length h.jobs, h.counted) };
       ahead = omega (arith, ap length h.jobs);
     })
@@ -140,6 +143,7 @@ lands_by plan (flow.Stop status) t old m refused run e h =
       refusals = h.none h.heeds;
       before = h.before;
       fresh = h.replies ∙ sym (ap (λ l. replicate (length l) None) h.jobs);
+      few = omega (arith, ap length h.jobs);
       fits = record { jobs = ap length h.jobs; replies = ap length h.replies; place = omega (arith, h.place); counted = omega (arith, h.before, ap length h.jobs, h.counted) };
       ahead = omega (arith, ap length h.jobs);
     })
@@ -154,6 +158,7 @@ lands_by plan (flow.Cut number) t old m refused run e h =
       refusals = h.cuts number h.heeds;
       before = h.before;
       fresh = h.replies ∙ sym (ap (λ l. replicate (length l) None) h.jobs);
+      few = omega (arith, ap length h.jobs);
       fits = record { jobs = ap length h.jobs; replies = ap length h.replies; place = omega (arith, h.place); counted = omega (arith, h.before, ap length h.jobs, h.counted) };
       ahead = omega (arith, ap length h.jobs);
     })
@@ -173,11 +178,11 @@ pub record Comes (plan : List Instruction) (first now : Standing) : Type 0 where
 
 -- A step has been done.
 pub stepped : (steps : List Step) (s : Step) (f : Flow) (first now m : Standing) → now.place < length steps → s ≡ get_or steps now.place s
-    → Holds 0 (map shown steps) (with_phase phase.Going first) → Comes (map shown steps) first now
+    → Rests (map shown steps) (with_phase phase.Going first) → Comes (map shown steps) first now
     → m ≡ record now { phase = phase.Failed; scope = m.scope; state = m.state }
-    → asks_now f ≤ asks_of (shown s) → Heeds f None → Leads f (λ next. act (shown s) next now.scope now.state) m.scope m.state
+    → asks_now f ≤ asks_of (shown s) → IsGroup f → Heeds f None → Leads f (λ next. act (shown s) next now.scope now.state) m.scope m.state
     → Moves (map shown steps) f (with_phase phase.Going first) m None (λ next. act (shown s) next now.scope now.state)
-stepped steps s f first now m lt is holds h moved asks heeds leads =
+stepped steps s f first now m lt is rests h moved asks group heeds leads =
     let plan = map shown steps in
     let place : m.place ≡ now.place = ap (λ x. x.place) moved in
     record {
@@ -190,10 +195,11 @@ stepped steps s f first now m lt is holds h moved asks heeds leads =
           ∙ ap (last_words first.before None) (ap (λ n. act (shown s) (λ k. walk plan (n + 1 + k)) now.scope now.state) place
           ∙ sym (walk_at steps now.place s now.scope now.state lt is) ∙ h.same);
       heeds = heeds;
-      before = omega (arith, ap (λ x. x.before) moved, h.before, holds.jobs);
+      group = group;
+      before = omega (arith, ap (λ x. x.before) moved, h.before, rests.jobs);
       asks = omega (arith, asks, asks_here steps now.place s lt is, h.ahead, ap (λ n. asks_after plan (n + 1)) place);
-      counted = holds.counted;
-      none = λ e. no_refusal first.replies holds.replies;
+      counted = rests.counted;
+      none = λ e. no_refusal first.replies rests.replies;
       cuts = λ number e. cc;
     }
 
@@ -224,17 +230,18 @@ passes_on steps s f first now m new lt is h moved within inside leads none arriv
     }
 
 -- After the last step.
-pub past : (steps : List Step) (first now new : Standing) → length steps ≤ now.place → Holds 0 (map shown steps) (with_phase phase.Going first) → Comes (map shown steps) first now
+pub past : (steps : List Step) (first now new : Standing) → length steps ≤ now.place → Rests (map shown steps) (with_phase phase.Going first) → Comes (map shown steps) first now
     → new ≡ with_phase phase.Past now → Turned (map shown steps) turn.Done (with_phase phase.Going first) new
-past steps first now new le holds h is =
+past steps first now new le rests h is =
     subst (Turned (map shown steps) turn.Done (with_phase phase.Going first)) (sym is) (record {
       same = ap (last_words first.before None) (sym (walk_past steps now.place now.scope now.state le) ∙ h.same);
       shows = (refl, h.jobs, refl);
       outcome = refl;
-      refusals = no_refusal first.replies holds.replies;
-      before = omega (arith, h.before, holds.jobs);
+      refusals = no_refusal first.replies rests.replies;
+      before = omega (arith, h.before, rests.jobs);
       fresh = h.replies ∙ sym (ap (λ l. replicate (length l) None) h.jobs);
-      fits = record { jobs = ap length h.jobs; replies = ap length h.replies; place = omega (arith, h.inside); counted = omega (arith, h.before, ap length h.jobs, holds.counted) };
+      few = omega (arith, ap length h.jobs);
+      fits = record { jobs = ap length h.jobs; replies = ap length h.replies; place = omega (arith, h.inside); counted = omega (arith, h.before, ap length h.jobs, rests.counted) };
       ahead = omega (arith, ap length h.jobs);
     })
 
@@ -248,15 +255,15 @@ none_from before None e = refl
 none_from before (Some k) e = cc
 
 -- The replies have been taken.
-pub told_all : (plan : List Instruction) (f : Flow) (old m : Standing) → old.phase ≡ phase.Asking → Holds 1 plan old
-    → m ≡ record old { phase = phase.Failed; scope = m.scope; state = m.state; wait = waits.Nothing; before = old.before + 1; jobs = []; replies = [] }
-    → asks_now f ≤ waits_for old.wait → Heeds f (refused_after old.before (given old.replies))
+pub told_all : (plan : List Instruction) (f : Flow) (old m : Standing) → old.phase ≡ phase.Asking → Holds plan old
+    → m ≡ record old { phase = phase.Failed; scope = m.scope; state = m.state; wait = waits.Nothing; before = old.before + length old.jobs; jobs = []; replies = [] }
+    → asks_now f ≤ waits_for old.wait → IsGroup f → Heeds f (refused_after old.before (given old.replies))
     → Leads f (λ next. resumed old.wait old.jobs (given old.replies) (next 0) old.scope old.state) m.scope m.state
     → Moves plan f old m (refused_after old.before (given old.replies)) (λ next. resumed old.wait old.jobs (given old.replies) (next 0) old.scope old.state)
-told_all plan f old m asking holds moved asks heeds leads =
+told_all plan f old m asking holds moved asks group heeds leads =
     let place : m.place ≡ old.place = ap (λ x. x.place) moved in
     let n : m.place + 1 + 0 ≡ old.place + 1 = omega arith in
-    let before : m.before ≡ old.before + length old.jobs = omega (arith, ap (λ x. x.before) moved, holds.jobs) in
+    let before : m.before ≡ old.before + length old.jobs = ap (λ x. x.before) moved in
     let left : asks_left plan old ≡ waits_for old.wait + asks_after plan (old.place + 1) = ap (λ p. asks_in p plan old) asking in
     record {
       leads = leads;
@@ -268,6 +275,7 @@ told_all plan f old m asking holds moved asks heeds leads =
           ∙ ap (λ k. last_words (old.before + length old.jobs) (refused_after old.before (given old.replies)) (resumed old.wait old.jobs (given old.replies) (walk plan k) old.scope old.state)) n
           ∙ sym (ap (λ p. left_in p plan old) asking);
       heeds = heeds;
+      group = group;
       before = before;
       asks = omega (arith, asks, left, ap (λ k. asks_after plan (k + 1)) place);
       counted = holds.counted;
@@ -283,7 +291,7 @@ refusals_after (turn.Cut number) old mid none empty h = let e : None ≡ Some h.
 
 none_heard : (f : Flow) (refused : Option ℕ) → turn_by f ≡ None → Heeds f refused → refused ≡ None
 none_heard (flow.Pass more) refused e h = h
-none_heard (flow.Ask job wait) refused e h = cc
+none_heard (flow.Ask jobs wait) refused e h = cc
 none_heard flow.Complete refused e h = cc
 none_heard (flow.Stop status) refused e h = cc
 none_heard (flow.Cut number) refused e h = cc
@@ -327,6 +335,7 @@ turned_after plan t old mid new h turned = record {
   refusals = refusals_after t old mid h.none h.replies turned.refusals;
   before = omega (arith, turned.before, ap length h.jobs, h.before);
   fresh = turned.fresh;
+  few = turned.few;
   fits = turned.fits;
   ahead = omega (arith, turned.ahead, h.ahead);
 }

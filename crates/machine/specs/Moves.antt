@@ -1,5 +1,5 @@
 -- The moves of a machine.
-use Rattle.std.specs.Prelude.{◌+◌, [], ◌∷◌, Option, Some, None}
+use Rattle.std.specs.Prelude.{◌+◌, Option, Some, None, length, replicate}
 use Rattle.execution.specs.declared.flow.Flow.{Flow}
 use Rattle.execution.specs.declared.flow.Flow.TheVariants as flow
 use Rattle.machine.specs.declared.machine.Phase.TheVariants as phase
@@ -11,7 +11,7 @@ use Rattle.machine.specs.Standing.{Standing}
 -- The machine after it goes to what follows a step; a cut prints its line. (own)
 abbrev pub arrived : Flow → Standing → Standing
 arrived (flow.Pass more) m = record m { place = m.place + (1 + more) }
-arrived (flow.Ask job wait) m = record m { phase = phase.Asking; wait = wait; jobs = job ∷ []; replies = None ∷ [] }
+arrived (flow.Ask jobs wait) m = record m { phase = phase.Asking; wait = wait; jobs = jobs.items; replies = replicate (length jobs.items) None }
 arrived flow.Complete m = record m { phase = phase.Completed }
 arrived (flow.Stop status) m = record m { phase = phase.Stopped status }
 arrived (flow.Cut number) m = record m { phase = phase.Cut number; state = with_cut_line (Some number) m.state }
@@ -19,7 +19,7 @@ arrived (flow.Cut number) m = record m { phase = phase.Cut number; state = with_
 -- The turn of the machine, unless the next step can be done. (own)
 abbrev pub turn_by : Flow → Option Turn
 turn_by (flow.Pass more) = None
-turn_by (flow.Ask job wait) = Some turn.Ask
+turn_by (flow.Ask jobs wait) = Some turn.Ask
 turn_by flow.Complete = Some turn.Done
 turn_by (flow.Stop status) = Some (turn.Stopped status)
 turn_by (flow.Cut number) = Some (turn.Cut number)

@@ -13,7 +13,7 @@ use Rattle.machine.specs.declared.machine.Outcome.{Outcome}
 use Rattle.machine.specs.declared.machine.Outcome.TheVariants as outcome
 use Rattle.execution.specs.declared.wait.Wait.{Wait}
 use Rattle.meaning.specs.Play.{first_refused, refused_after, last_words}
-use Rattle.execution.specs.Waits.{given, resumed, waits_for}
+use Rattle.execution.specs.Waits.{Awaits, given, resumed, waits_for}
 
 -- A machine, as contracts see it: its place is the number of steps that are passed; while it asks, `jobs` are asked
 -- for, after `before` others, and `replies` has room for the reply to each. (own)
@@ -93,18 +93,25 @@ asks_in p plan m = 0
 abbrev pub asks_left : List Instruction → Standing → ℕ
 asks_left plan m = asks_in m.phase plan m
 
--- Exactly count jobs are asked for, with room for the reply to each; the place is in the plan, and all jobs of the run
+-- Jobs are asked for, with room for the reply to each; the place is before a step of the plan, and all jobs of the run
 -- are jobs of the plan. (own)
-pub record Holds (count : ℕ) (plan : List Instruction) (m : Standing) : Type 0 where
-  pub jobs : length m.jobs ≡ count
-  pub replies : length m.replies ≡ count
-  pub place : m.place + count ≤ length plan
+pub record Holds (plan : List Instruction) (m : Standing) : Type 0 where
+  pub awaits : Awaits m.wait m.jobs
+  pub replies : length m.replies ≡ length m.jobs
+  pub place : m.place + 1 ≤ length plan
+  pub counted : m.before + (length m.jobs + asks_left plan m) ≤ asks_after plan 0
+
+-- No job is asked for; the place is in the plan, and all jobs of the run are jobs of the plan. (own)
+pub record Rests (plan : List Instruction) (m : Standing) : Type 0 where
+  pub jobs : length m.jobs ≡ 0
+  pub replies : length m.replies ≡ 0
+  pub place : m.place ≤ length plan
   pub counted : m.before + (length m.jobs + asks_left plan m) ≤ asks_after plan 0
 
 -- The machine was last advanced over this plan. (own)
 abbrev pub fits_in : Phase → List Instruction → Standing → Type 0
-fits_in phase.Asking plan m = Holds 1 plan m
-fits_in p plan m = Holds 0 plan m
+fits_in phase.Asking plan m = Holds plan m
+fits_in p plan m = Rests plan m
 
 -- The same, in the machine's own phase. (own)
 abbrev pub Fits : List Instruction → Standing → Type 0
@@ -135,5 +142,7 @@ pub record Turned (plan : List Instruction) (turn : Turn) (old new : Standing) :
   -- the jobs before count, none of those of now has a reply, and each was counted among those that were left
   pub before : new.before ≡ old.before + length old.jobs
   pub fresh : new.replies ≡ replicate (length new.jobs) None
+  -- at most 256 jobs are asked for at once
+  pub few : length new.jobs ≤ 256
   pub fits : Fits plan new
   pub ahead : length new.jobs + asks_left plan new ≤ asks_left plan old

@@ -1,15 +1,15 @@
 //! The machine and its turns.
 
-ghost use Rattle.std.specs.Prelude.{◌≡◌, ◌+◌, ◌<◌, ◌≤◌, ◌^◌, List, [], ◌∷◌, Some, None, unwrap_or, IfOk, IsOk, IsErr, OnOk, OnErr, IsSome, IfSome, length, map, option_to_list, replicate, slice_get, slice_set};
+ghost use Rattle.std.specs.Prelude.{◌≡◌, ◌+◌, ◌<◌, ◌≤◌, ◌^◌, List, [], Some, None, unwrap_or, IfOk, IsOk, IsErr, OnOk, OnErr, IsSome, IfSome, length, map, replicate, slice_get, slice_set};
 ghost use Rattle.crew.specs.declared.reply.Reply.TheVariants.{StartRefused};
 ghost use Rattle.meaning.specs.Play.{refused_after, with_cut_line};
 ghost use Rattle.meaning.specs.State.{Scope, State, no_choice, opened};
 ghost use Rattle.plan.specs.Inside.{StaysInside, asks_after, asks_of, reach};
 ghost use Rattle.plan.specs.Walk.{act, shown};
-ghost use Rattle.execution.specs.Flows.{Heeds, Leads, asks_now, passed};
+ghost use Rattle.execution.specs.Flows.{Heeds, IsGroup, Leads, asks_now, passed};
 ghost use Rattle.machine.specs.Moves.{arrived, turn_by};
-ghost use Rattle.machine.specs.Standing.{Fits, Holds, Turned, outcome_of, with_phase};
-ghost use Rattle.execution.specs.Waits.{given, refused_rest, resumed, waits_for};
+ghost use Rattle.machine.specs.Standing.{Fits, Holds, Rests, Turned, outcome_of, with_phase};
+ghost use Rattle.execution.specs.Waits.{Awaits, given, refused_rest, resumed, waits_for};
 ghost use Rattle.execution.specs.declared.wait.Wait.TheVariants as waits;
 
 use conftest::Job;
@@ -229,6 +229,7 @@ impl Machine {
         ensures err { OnErr result (self.new ≡ record self.old { phase = Phase.Failed; scope = self.new.scope; state = self.new.state }) }
         ensures within { IfOk result (λ flow. passed flow ≤ reach (shown step.now)) }
         ensures asks { IfOk result (λ flow. asks_now flow ≤ asks_of (shown step.now)) }
+        ensures group { IfOk result IsGroup }
         ensures heeds { IfOk result (λ flow. Heeds flow None) }
         ensures leads { IfOk result (λ flow. Leads flow (λ next. act (shown step.now) next self.old.scope self.old.state) self.new.scope self.new.state) }
     {
@@ -236,31 +237,32 @@ impl Machine {
         do_step(self.alloc, &mut self.store, &mut self.about, step)
     }
 
-    // Takes the reply to the job that was asked for.
+    // Takes the replies to the jobs that were asked for.
     fn hear(&mut self) -> Result<Flow, AllocError>
-        requires jobs { length self.old.jobs ≡ 1 }
-        requires replies { length self.old.replies ≡ 1 }
-        requires room { self.old.before + 1 < 2 ^ 64 }
-        ensures same { OnOk result (self.new ≡ record self.old { phase = Phase.Failed; scope = self.new.scope; state = self.new.state; wait = waits.Nothing; before = self.old.before + 1; jobs = []; replies = [] }) }
-        ensures err { OnErr result (self.new ≡ record self.old { phase = Phase.Failed; scope = self.new.scope; state = self.new.state; wait = waits.Nothing; before = self.old.before + 1; jobs = []; replies = [] }) }
+        requires awaits { Awaits self.old.wait self.old.jobs }
+        requires replies { length self.old.replies ≡ length self.old.jobs }
+        requires room { self.old.before + length self.old.jobs < 2 ^ 64 }
+        ensures same { OnOk result (self.new ≡ record self.old { phase = Phase.Failed; scope = self.new.scope; state = self.new.state; wait = waits.Nothing; before = self.old.before + length self.old.jobs; jobs = []; replies = [] }) }
+        ensures err { OnErr result (self.new ≡ record self.old { phase = Phase.Failed; scope = self.new.scope; state = self.new.state; wait = waits.Nothing; before = self.old.before + length self.old.jobs; jobs = []; replies = [] }) }
         ensures within { IfOk result (λ flow. passed flow ≤ 0) }
         ensures asks { IfOk result (λ flow. asks_now flow ≤ waits_for self.old.wait) }
+        ensures group { IfOk result IsGroup }
         ensures heeds { IfOk result (λ flow. Heeds flow (refused_after self.old.before (given self.old.replies))) }
         ensures leads { IfOk result (λ flow. Leads flow (λ next. resumed self.old.wait self.old.jobs (given self.old.replies) (next 0) self.old.scope self.old.state) self.new.scope self.new.state) }
     {
         self.phase = Phase::Failed;
         let before = self.before;
-        self.before = before + 1;
-        let job = only_job(mem::replace(&mut self.jobs, Vec::new(self.alloc)));
-        let reply = only_reply(mem::replace(&mut self.replies, Vec::new(self.alloc)));
+        self.before = before + self.jobs.len() as u64;
+        let jobs = mem::replace(&mut self.jobs, Vec::new(self.alloc));
+        let replies = mem::replace(&mut self.replies, Vec::new(self.alloc));
         let wait = mem::replace(&mut self.wait, Wait::Nothing);
         hear(
             self.alloc,
             &mut self.store,
             &mut self.about,
             wait,
-            job,
-            reply,
+            jobs,
+            replies,
             before,
         )
     }
@@ -281,13 +283,13 @@ impl Machine {
         self.phase = Phase::Asking;
     }
 
-    // Asks for a job, and waits for its reply.
-    fn ask(&mut self, job: Job, wait: Wait) -> Result<Option<Turn>, AllocError>
+    // Asks for jobs, and waits for their replies.
+    fn ask(&mut self, jobs: Vec<Job>, wait: Wait) -> Result<Option<Turn>, AllocError>
         ensures turn { IfOk result (λ turn. turn ≡ Some Turn.Ask) }
-        ensures moved { OnOk result (self.new ≡ record self.old { phase = Phase.Asking; wait = wait; jobs = job ∷ []; replies = None ∷ [] }) }
+        ensures moved { OnOk result (self.new ≡ record self.old { phase = Phase.Asking; wait = wait; jobs = jobs.items; replies = replicate (length jobs.items) None }) }
         ensures err { OnErr result (self.new ≡ self.old) }
     {
-        let (jobs, replies) = one_job(self.alloc, job)?;
+        let replies = no_replies(self.alloc, jobs.len())?;
         self.hold(jobs, replies);
         self.wait_for(wait);
         Ok(Some(Turn::Ask))
@@ -316,7 +318,7 @@ impl Machine {
                 self.place += 1 + more;
                 Ok(None)
             }
-            Flow::Ask { job, wait } => self.ask(job, wait),
+            Flow::Ask { jobs, wait } => self.ask(jobs, wait),
             Flow::Complete => {
                 self.phase = Phase::Completed;
                 Ok(Some(Turn::Done))
@@ -338,7 +340,7 @@ impl Machine {
 
     // Does step after step, until jobs are asked for or the run ends.
     fn go_on(&mut self, steps: &[Step]) -> Result<Turn, AllocError>
-        requires holds { Holds 0 (map shown steps.now) (with_phase Phase.Going self.old) }
+        requires rests { Rests (map shown steps.now) (with_phase Phase.Going self.old) }
         requires inside { StaysInside (map shown steps.now) }
         ensures turned { IfOk result (λ turn. Turned (map shown steps.now) turn (with_phase Phase.Going self.old) self.new) }
         ensures err { OnErr result (self.new.phase ≡ Phase.Failed) }
@@ -358,7 +360,7 @@ impl Machine {
     // Takes the replies, and continues.
     fn take_replies(&mut self, steps: &[Step]) -> Result<Turn, AllocError>
         requires asking { self.old.phase ≡ Phase.Asking }
-        requires holds { Holds 1 (map shown steps.now) self.old }
+        requires holds { Holds (map shown steps.now) self.old }
         requires inside { StaysInside (map shown steps.now) }
         requires few { asks_after (map shown steps.now) 0 ≤ 2 ^ 36 }
         ensures turned { IfOk result (λ turn. Turned (map shown steps.now) turn self.old self.new) }
@@ -373,25 +375,6 @@ impl Machine {
     }
 }
 
-// Returns the only job.
-fn only_job(mut jobs: Vec<Job>) -> Option<Job>
-    requires { length jobs.items ≡ 1 }
-    ensures { option_to_list result ≡ jobs.items }
-{
-    jobs.pop()
-}
-
-// Returns the only reply. A missing one is a refused start.
-fn only_reply(mut replies: Vec<Option<Reply>>) -> Reply
-    requires { length replies.items ≡ 1 }
-    ensures { result ∷ [] ≡ given replies.items }
-{
-    match replies.pop() {
-        Some(Some(reply)) => reply,
-        Some(None) | None => Reply::StartRefused,
-    }
-}
-
 // Returns the outcome of a run that is at its end.
 fn outcome_at(phase: Phase) -> Outcome
     ensures { IfSome (outcome_of phase) (λ outcome. result ≡ outcome) }
@@ -403,15 +386,15 @@ fn outcome_at(phase: Phase) -> Outcome
     }
 }
 
-// Returns one job, with room for its reply.
-fn one_job(alloc: Global, job: Job) -> Result<(Vec<Job>, Vec<Option<Reply>>), AllocError>
-    ensures { IfOk result (λ r. (r.0.items ≡ job ∷ []) × (r.1.items ≡ None ∷ [])) }
+// Returns room for the reply to each of `count` jobs.
+fn no_replies(alloc: Global, count: usize) -> Result<Vec<Option<Reply>>, AllocError>
+    ensures { IfOk result (λ replies. replies.items ≡ replicate count None) }
 {
-    let mut jobs = Vec::new(alloc);
-    jobs.push(job)?;
     let mut replies = Vec::new(alloc);
-    replies.push(None)?;
-    Ok((jobs, replies))
+    for _ in 0..count {
+        replies.push(None)?;
+    }
+    Ok(replies)
 }
 
 fn put(replies: &mut [Option<Reply>], k: usize, reply: Reply)

@@ -50,7 +50,7 @@ length-somes (r ∷ rs) = let e = length-somes rs in omega arith
 -- There is room for the reply to each job.
 places : (p : Phase) (plan : List Instruction) (m : Standing) → fits_in p plan m → length m.replies ≡ length m.jobs
 places phase.Going plan m h = h.replies ∙ sym h.jobs
-places phase.Asking plan m h = h.replies ∙ sym h.jobs
+places phase.Asking plan m h = h.replies
 places phase.Past plan m h = h.replies ∙ sym h.jobs
 places phase.Completed plan m h = h.replies ∙ sym h.jobs
 places (phase.Stopped status) plan m h = h.replies ∙ sym h.jobs
@@ -62,12 +62,8 @@ shows_ask : (r : Run) (m : Standing) → Shows turn.Ask r m → m.phase ≡ phas
 shows_ask (Ends how st) m h = absurd h
 shows_ask (Asks jobs next) m h = h.0
 
-fits_at : (p : Phase) (plan : List Instruction) (m : Standing) → p ≡ phase.Asking → fits_in p plan m → Holds 1 plan m
+fits_at : (p : Phase) (plan : List Instruction) (m : Standing) → p ≡ phase.Asking → fits_in p plan m → Holds plan m
 fits_at p plan m e h = let q : fits_in phase.Asking plan m = subst (λ x. fits_in x plan m) e h in q
-
--- A machine that asks, asks for one job.
-pub one_job : (plan : List Instruction) (old m : Standing) → Turned plan turn.Ask old m → length m.jobs ≡ 1
-one_job plan old m t = (fits_at m.phase plan m (shows_ask (run_at plan m) m t.shows) t.fits).jobs
 
 -- If a machine asks, no call has failed so far.
 pub no_failure_yet : (w : ℕ) (plan : List Instruction) (run : Run) (before mid : Account) (old m : Standing) → Turned plan turn.Ask old m → Progress w run (run_left plan old) old.before (given old.replies) before mid → mid.failures ≡ before.failures
@@ -86,7 +82,7 @@ after_replies plan m rs asking =
 served_ready : (w : ℕ) (plan : List Instruction) (run : Run) (before mid now : Account) (old m : Standing) (rs : List Reply) → Turned plan turn.Ask old m → Fits plan old → Progress w run (run_left plan old) old.before (given old.replies) before mid → (served : Served w mid m.jobs (map Some rs) now) → rs ≡ replies_in mid.attempts (length m.jobs) served.since → Ready w plan run before now (record m { replies = map Some rs }) (asks_left plan m)
 served_ready w plan run before mid now old m rs t fits p served rs_is =
     let asking = shows_ask (run_at plan m) m t.shows in
-    let at : Holds 1 plan m = fits_at m.phase plan m asking t.fits in
+    let at : Holds plan m = fits_at m.phase plan m asking t.fits in
     let asks : Asks m.jobs (next_of plan m) ≡ run_left plan old = sym (ap (λ p. run_in p plan m) asking) ∙ t.same in
     let count : m.before ≡ old.before + length (given old.replies) = omega (arith, t.before, length-given old.replies, places old.phase plan old fits) in
     let heard = progress_heard w run (run_left plan old) old.before m.before (given old.replies) before mid t.refusals count p in
@@ -97,7 +93,7 @@ served_ready w plan run before mid now old m rs t fits p served rs_is =
     record {
       progress = progress_same w run _ _ _ _ before now (after_replies plan m rs asking ∙ ap (next_of plan m) rs_is)
           (subst (λ l. Progress w run (next_of plan m (replies_in mid.attempts (length m.jobs) served.since)) m.before l before now) (sym rs_is ∙ sym (given-map rs)) q);
-      fits = let w : Holds 1 plan (record m { replies = map Some rs }) = record { jobs = at.jobs; replies = len ∙ at.jobs; place = at.place; counted = omega (arith, at.counted, same) } in
+      fits = let w : Holds plan (record m { replies = map Some rs }) = record { awaits = at.awaits; replies = len; place = at.place; counted = omega (arith, at.counted, same) } in
           subst (λ x. fits_in x plan (record m { replies = map Some rs })) (sym asking) w;
       moving = subst Moving (sym asking) tt;
       asks = same;

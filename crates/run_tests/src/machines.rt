@@ -1,6 +1,6 @@
 //! A machine whose first job a test answers or cuts. The crate `cases` has runs of sources, statement by statement.
 
-ghost use Rattle.std.specs.Prelude.{◌≡◌, [], ◌∷◌, None, length, IsSome};
+ghost use Rattle.std.specs.Prelude.{◌≡◌, None, Some, length, slice_get, IsSome};
 ghost use Rattle.std.specs.Bool.{OnTrue};
 ghost use Rattle.machine.specs.Standing.{Fits, outcome_of};
 
@@ -13,11 +13,11 @@ use plan::Plan;
 use std::alloc::Global;
 use testrows::Page;
 
-/// Replies to the only job that is asked by this exit status, or cuts it if the text is empty.
+/// Replies to the first job that is asked by this exit status, or cuts all if the text is empty.
 fn reply(alloc: Global, machine: &mut Machine, status: &[u8])
-    requires { machine.old.replies ≡ None ∷ [] }
+    requires { slice_get machine.old.replies 0 ≡ Some None }
     ensures same { machine.new ≡ record machine.old { replies = machine.new.replies } }
-    ensures one { length machine.new.replies ≡ 1 }
+    ensures each { length machine.new.replies ≡ length machine.old.replies }
 {
     if status.is_empty() {
         machine.cut();

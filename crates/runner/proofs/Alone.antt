@@ -1,7 +1,7 @@
 -- A run with each start refused.
-use Rattle.std.proofs.Common.{◌≡◌, ℕ, ◌+◌, List, [], ◌∷◌, ◌++◌, length, take, drop, Option, Some, None, refl, sym, ap, ◌∙◌, subst, arith}
+use Rattle.std.proofs.Common.{◌≡◌, ℕ, zero, suc, ◌<◌, List, [], ◌∷◌, length, take, drop, Option, Some, None, refl, sym, ap, ◌∙◌, subst, arith}
 use Rattle.std.specs.Prelude.{IfSome, replicate}
-use Rattle.std.proofs.lemmas.List.{append-nil}
+use Rattle.std.proofs.lemmas.List.{append-nil, length-replicate, take_all}
 use Rattle.conftest.specs.declared.job.Job.{Job}
 use Rattle.crew.specs.declared.reply.Reply.{Reply}
 use Rattle.crew.specs.declared.reply.Reply.TheVariants.{StartRefused}
@@ -15,7 +15,7 @@ use Rattle.machine.specs.declared.machine.RunEnd.{RunEnd}
 use Rattle.machine.specs.declared.machine.Turn.{Turn}
 use Rattle.machine.specs.declared.machine.Turn.TheVariants as turn
 use Rattle.execution.specs.declared.wait.Wait.TheVariants as waits
-use Rattle.meaning.specs.Play.{play, first_refused, refused_after, with_cut_line, whole}
+use Rattle.meaning.specs.Play.{play, after, first_refused, refused_after, with_cut_line, whole}
 use Rattle.meaning.specs.State.{State, How, Goes_on, Completed, Stopped, Cut, Run, Ends, Asks, no_choice}
 use Rattle.plan.specs.Walk.{Instruction, walk}
 use Rattle.proberun.specs.Ran.{outcome_from, state_of}
@@ -74,11 +74,11 @@ alone_at_once plan t old m st end is turned not_ask left =
 abbrev next_of : List Instruction → Standing → List Reply → Run
 next_of plan m replies = run_under replies plan m
 
--- The state of a machine that is cut short because the start of its job is refused.
-abbrev last_of : Standing → State
-last_of m = with_cut_line (refused_after m.before (StartRefused ∷ [])) (early_in m.wait Cut (with_asked m.jobs (StartRefused ∷ []) m.state))
+-- The state of a machine that is cut short because the starts of its jobs, one more than n, are refused.
+abbrev last_of : ℕ → Standing → State
+last_of n m = with_cut_line (refused_after m.before (StartRefused ∷ replicate n StartRefused)) (early_in m.wait Cut (with_asked m.jobs (StartRefused ∷ replicate n StartRefused) m.state))
 
-fits_at : (p : Phase) (plan : List Instruction) (m : Standing) → p ≡ phase.Asking → fits_in p plan m → Holds 1 plan m
+fits_at : (p : Phase) (plan : List Instruction) (m : Standing) → p ≡ phase.Asking → fits_in p plan m → Holds plan m
 fits_at p plan m e h = let q : fits_in phase.Asking plan m = subst (λ x. fits_in x plan m) e h in q
 
 cut_by : (t : Turn) (st : State) (m : Standing) → Shows t (Ends Cut st) m → (number : ℕ) × (t ≡ turn.Cut number) × (m.state ≡ st)
@@ -87,43 +87,55 @@ cut_by turn.Done st m s = absurd s
 cut_by (turn.Stopped n) st m s = absurd s
 cut_by (turn.Cut number) st m s = (number, refl, s.2)
 
-first_one : (k : ℕ) → first_refused (StartRefused ∷ []) ≡ Some k → k ≡ 1
-first_one k e = cc
+first_one : (n k : ℕ) → first_refused (StartRefused ∷ replicate n StartRefused) ≡ Some k → k ≡ 1
+first_one n k e = cc
 
-played : (n : ℕ) (jobs : List Job) (next : List Reply → Run) (st : State) → n ≡ 1 → length jobs ≡ n → next (StartRefused ∷ []) ≡ Ends Cut st
-    → play (Asks jobs next) (StartRefused ∷ []) ≡ record { how = Cut; state = st; groups = jobs ∷ [] }
-played n jobs next st one len is =
-    ap (λ k. record { how = (play (next (take k (StartRefused ∷ []))) (drop k (StartRefused ∷ []))).how; state = (play (next (take k (StartRefused ∷ []))) (drop k (StartRefused ∷ []))).state; groups = (jobs ∷ []) ++ (play (next (take k (StartRefused ∷ []))) (drop k (StartRefused ∷ []))).groups }) (len ∙ one)
-    ∙ ap (λ r. record { how = (play r []).how; state = (play r []).state; groups = (jobs ∷ []) ++ (play r []).groups }) is
+-- There is a job.
+one_more : (n : ℕ) → 0 < n → (k : ℕ) × (n ≡ suc k)
+one_more zero some = absurd (omega arith)
+one_more (suc k) some = (k, refl)
 
-one_refusal : (jobs : List Job) → length jobs ≡ 1 → refusals (jobs ∷ []) ≡ StartRefused ∷ []
-one_refusal jobs one = ap (λ (l : List Job). replicate (length l) StartRefused) (append-nil jobs) ∙ ap (λ n. replicate n StartRefused) one
+given_refused : (n : ℕ) → given (refused_rest (replicate n None)) ≡ replicate n StartRefused
+given_refused zero = refl
+given_refused (suc n) = ap (λ l. StartRefused ∷ l) (given_refused n)
+
+played : (jobs : List Job) (next : List Reply → Run) (replies : List Reply) (st : State) → length jobs ≡ length replies → next replies ≡ Ends Cut st
+    → play (Asks jobs next) replies ≡ record { how = Cut; state = st; groups = jobs ∷ [] }
+played jobs next replies st len is =
+    ap (λ k. after (jobs ∷ []) (play (next (take k replies)) (drop k replies))) len
+    ∙ ap (λ l. after (jobs ∷ []) (play (next l) (drop (length replies) replies))) (take_all (length replies) replies (omega arith))
+    ∙ ap (λ r. after (jobs ∷ []) (play r (drop (length replies) replies))) is
+
+all_refusals : (jobs : List Job) (n : ℕ) → length jobs ≡ suc n → refusals (jobs ∷ []) ≡ StartRefused ∷ replicate n StartRefused
+all_refusals jobs n many = ap (λ (l : List Job). replicate (length l) StartRefused) (append-nil jobs) ∙ ap (λ k. replicate k StartRefused) many
 
 pub alone_refused : (plan : List Instruction) (t : Turn) (m cut new : Standing) (end : RunEnd) → m.phase ≡ phase.Asking → Fits plan m → m.before ≡ 0 → m.replies ≡ replicate (length m.jobs) None
     → cut ≡ record m { replies = refused_rest m.replies } → Turned plan t cut new → Leaves new end → RanAlone (run_at plan m) end
 alone_refused plan t m cut new end asking fits first fresh is turned left =
-    let at : Holds 1 plan m = fits_at m.phase plan m asking fits in
-    let given_is : given cut.replies ≡ StartRefused ∷ [] =
-    ap (λ (x : Standing). given x.replies) is ∙ ap (λ l. given (refused_rest l)) (fresh ∙ ap (λ n. replicate n None) at.jobs) in
+    let at : Holds plan m = fits_at m.phase plan m asking fits in
+    let more = one_more (length m.jobs) at.awaits.some in
+    let n : ℕ = more.0 in
+    let given_is : given cut.replies ≡ StartRefused ∷ replicate n StartRefused =
+    ap (λ (x : Standing). given x.replies) is ∙ ap (λ l. given (refused_rest l)) fresh ∙ given_refused (length m.jobs) ∙ ap (λ k. replicate k StartRefused) more.1 in
     let phase_is : cut.phase ≡ phase.Asking = ap (λ (x : Standing). x.phase) is ∙ asking in
-    let rest : run_left plan cut ≡ Ends Cut (last_of m) =
-    ap (λ p. left_in p plan cut) phase_is ∙ ap (λ l. run_under l plan cut) given_is ∙ ap (λ (x : Standing). Ends Cut (last_of x)) is in
-    let c = cut_by t (last_of m) new (subst (λ r. Shows t r new) (turned.same ∙ rest) turned.shows) in
+    let rest : run_left plan cut ≡ Ends Cut (last_of n m) =
+    ap (λ p. left_in p plan cut) phase_is ∙ ap (λ l. run_under l plan cut) given_is ∙ ap (λ (x : Standing). Ends Cut (last_of n x)) is in
+    let c = cut_by t (last_of n m) new (subst (λ r. Shows t r new) (turned.same ∙ rest) turned.shows) in
     let number = c.0 in
     let o : outcome_of new.phase ≡ Some (outcome.CutShort number) = turned.outcome ∙ ap outcome_by c.1 in
     let e = left_by _ _ new end o left in
     let h : CutsAt cut.phase number cut = subst (λ x. Refusals x cut) c.1 turned.refusals in
     let k : CutsAt phase.Asking number cut = subst (λ p. CutsAt p number cut) phase_is h in
-    let one : k.0 ≡ 1 = first_one k.0 (sym (ap first_refused given_is) ∙ k.1) in
+    let one : k.0 ≡ 1 = first_one n k.0 (sym (ap first_refused given_is) ∙ k.1) in
     let before : cut.before ≡ 0 = ap (λ (x : Standing). x.before) is ∙ first in
     let is_one : number ≡ 1 = omega (arith, k.2, one, before) in
-    let refused = one_refusal m.jobs at.jobs in
-    let state_is : state_of end ≡ last_of m = ap state_of e ∙ c.2 in
+    let refused = all_refusals m.jobs n more.1 in
+    let state_is : state_of end ≡ last_of n m = ap state_of e ∙ c.2 in
     record {
       groups = m.jobs ∷ [];
       how = Cut;
-      meaning = ap (play (run_at plan m)) refused ∙ ap (λ p. play (run_in p plan m) (StartRefused ∷ [])) asking
-          ∙ played 1 m.jobs (next_of plan m) (last_of m) refl at.jobs refl
+      meaning = ap (play (run_at plan m)) refused ∙ ap (λ p. play (run_in p plan m) (StartRefused ∷ replicate n StartRefused)) asking
+          ∙ played m.jobs (next_of plan m) (StartRefused ∷ replicate n StartRefused) (last_of n m) (omega (arith, more.1, length-replicate n StartRefused)) refl
           ∙ ap (λ s. record { how = Cut; state = s; groups = m.jobs ∷ [] }) (sym state_is);
       outcome = ap (λ l. outcome_from Cut (first_refused l)) refused ∙ ap (λ n. Some (outcome.CutShort n)) (sym is_one) ∙ ap (λ (x : RunEnd). Some x.outcome) (sym e);
     }
@@ -132,11 +144,13 @@ alone_refused plan t m cut new end asking fits first fresh is turned left =
 pub cut_has_end : (plan : List Instruction) (t : Turn) (m cut new : Standing) → m.phase ≡ phase.Asking → Fits plan m → m.replies ≡ replicate (length m.jobs) None
     → cut ≡ record m { replies = refused_rest m.replies } → Turned plan t cut new → (number : ℕ) × (outcome_of new.phase ≡ Some (outcome.CutShort number))
 cut_has_end plan t m cut new asking fits fresh is turned =
-    let at : Holds 1 plan m = fits_at m.phase plan m asking fits in
-    let given_is : given cut.replies ≡ StartRefused ∷ [] =
-    ap (λ (x : Standing). given x.replies) is ∙ ap (λ l. given (refused_rest l)) (fresh ∙ ap (λ n. replicate n None) at.jobs) in
+    let at : Holds plan m = fits_at m.phase plan m asking fits in
+    let more = one_more (length m.jobs) at.awaits.some in
+    let n : ℕ = more.0 in
+    let given_is : given cut.replies ≡ StartRefused ∷ replicate n StartRefused =
+    ap (λ (x : Standing). given x.replies) is ∙ ap (λ l. given (refused_rest l)) fresh ∙ given_refused (length m.jobs) ∙ ap (λ k. replicate k StartRefused) more.1 in
     let phase_is : cut.phase ≡ phase.Asking = ap (λ (x : Standing). x.phase) is ∙ asking in
-    let rest : run_left plan cut ≡ Ends Cut (last_of m) =
-    ap (λ p. left_in p plan cut) phase_is ∙ ap (λ l. run_under l plan cut) given_is ∙ ap (λ (x : Standing). Ends Cut (last_of x)) is in
-    let c = cut_by t (last_of m) new (subst (λ r. Shows t r new) (turned.same ∙ rest) turned.shows) in
+    let rest : run_left plan cut ≡ Ends Cut (last_of n m) =
+    ap (λ p. left_in p plan cut) phase_is ∙ ap (λ l. run_under l plan cut) given_is ∙ ap (λ (x : Standing). Ends Cut (last_of n x)) is in
+    let c = cut_by t (last_of n m) new (subst (λ r. Shows t r new) (turned.same ∙ rest) turned.shows) in
     (c.0, turned.outcome ∙ ap outcome_by c.1)

@@ -1,7 +1,15 @@
 use Rattle.std.proofs.Common.{subst, sym}
 use Rattle.execution.specs.Flows.{Leads}
 use Rattle.execution.specs.Waits.{told_to}
+use Rattle.execution.specs.declared.wait.Wait.TheVariants as waits
 use Rattle.execution.proofs.stepping.tell.Goals as goal
+
+pub returns-in_ok-flow-in-Link-clause-leads : goal.returns-in_ok-flow-in-Link-clause-leads
+returns-in_ok-flow-in-Link-clause-leads c =
+    let about = c.args.about.now in
+    let st = c.args.store.now in
+    subst (λ w. Leads c.in_ok-flow-in-Link.flow (λ next. told_to w c.args.succeeded (next 0) about st) about st) (sym c.in-Link.is)
+    (subst (λ b. Leads c.in_ok-flow-in-Link.flow (λ next. told_to waits.Link b (next 0) about st) about st) (sym c.if-not-succeeded.false) (c.in_ok-flow-in-Link.ensures.leads about st))
 
 pub returns-in_ok-flow-in-Directory-clause-leads : goal.returns-in_ok-flow-in-Directory-clause-leads
 returns-in_ok-flow-in-Directory-clause-leads c =

@@ -2,7 +2,7 @@ use Rattle.std.proofs.Common.{subst, length, arith}
 use Rattle.machine.specs.declared.machine.Turn.TheVariants as turn
 use Rattle.machine.specs.Standing.{Turned}
 use Rattle.proberun.specs.Serving.{Served}
-use Rattle.proberun.proofs.WholeLemmas.{begins, serves, ends, all_landed, at_end, no_failure_yet, one_job}
+use Rattle.proberun.proofs.WholeLemmas.{begins, serves, ends, all_landed, at_end, no_failure_yet}
 use Rattle.proberun.proofs.running.run_groups.Goals as goal
 
 pub groups-init : goal.groups-init
@@ -33,8 +33,7 @@ pub serve-requires-clause-failures : goal.serve-requires-clause-failures
 serve-requires-clause-failures g c =
     let t : Turned c.args.plan.now turn.Ask c.groups.machine c.advance.new.self = subst (λ x. Turned c.args.plan.now x c.groups.machine c.advance.new.self) c.in-Ask.is c.in_ok-advance.ensures.turned in
     let failures = no_failure_yet (length c.args.slots.now) c.args.plan.now _ _ _ c.groups.machine c.advance.new.self t c.groups.invariant.progress in
-    let one = one_job c.args.plan.now c.groups.machine c.advance.new.self t in
-    omega (arith, failures, one, c.requires.failures)
+    omega (arith, failures, t.few, c.requires.failures)
 
 pub returns-in_default : goal.returns-in_default
 returns-in_default g c = record {

@@ -13,7 +13,7 @@ pub returns-in-Some-clause-turned : goal.returns-in-Some-clause-turned
 returns-in-Some-clause-turned c =
     let is = c.index-steps-place.is ∙ ap (λ k. get_or c.args.steps.now k c.index-steps-place.result) c.place-in-steps.ensures in
     lands _ c.in_ok-flow.flow c.in-Some.turn _ c.step.new.self _ _ _ (sym c.in_ok-turn.ensures.turn ∙ c.in-Some.is) c.in_ok-turn.ensures.moved
-    (stepped c.args.steps.now c.index-steps-place.result c.in_ok-flow.flow c.args.self.now c.steps.self c.step.new.self (omega (arith, c.place.ensures, c.steps-test.true)) is c.requires.holds c.steps.invariant c.in_ok-flow.ensures.same c.in_ok-flow.ensures.asks c.in_ok-flow.ensures.heeds c.in_ok-flow.ensures.leads)
+    (stepped c.args.steps.now c.index-steps-place.result c.in_ok-flow.flow c.args.self.now c.steps.self c.step.new.self (omega (arith, c.place.ensures, c.steps-test.true)) is c.requires.rests c.steps.invariant c.in_ok-flow.ensures.same c.in_ok-flow.ensures.asks c.in_ok-flow.ensures.group c.in_ok-flow.ensures.heeds c.in_ok-flow.ensures.leads)
 
 pub steps-preserved : goal.steps-preserved
 steps-preserved c =
@@ -21,4 +21,4 @@ steps-preserved c =
     passes_on c.args.steps.now c.index-steps-place.result c.in_ok-flow.flow c.args.self.now c.steps.self c.step.new.self _ (omega (arith, c.place.ensures, c.steps-test.true)) is c.steps.invariant c.in_ok-flow.ensures.same c.in_ok-flow.ensures.within c.requires.inside c.in_ok-flow.ensures.leads (sym c.in_ok-turn.ensures.turn ∙ c.in_default.is) c.in_ok-turn.ensures.moved
 
 pub returns-clause-turned : goal.returns-clause-turned
-returns-clause-turned c = past c.args.steps.now c.args.self.now c.steps.self _ (omega (arith, c.place.ensures, c.steps-test.false)) c.requires.holds c.steps.invariant c.pass_end.ensures
+returns-clause-turned c = past c.args.steps.now c.args.self.now c.steps.self _ (omega (arith, c.place.ensures, c.steps-test.false)) c.requires.rests c.steps.invariant c.pass_end.ensures

@@ -3,7 +3,7 @@ use Rattle.std.specs.Prelude.{option_to_list}
 use Rattle.meaning.specs.Asking.{heard}
 use Rattle.execution.specs.Waits.{early_in, told_to, with_asked}
 use Rattle.execution.proofs.Searches.{led_one}
-use Rattle.execution.proofs.stepping.hear.Goals as goal
+use Rattle.execution.proofs.stepping.hear_one.Goals as goal
 
 pub returns-clause-leads : goal.returns-clause-leads
 returns-clause-leads c =
