@@ -8,7 +8,7 @@ use conftest::Job;
 pub enum Flow {
     /// The next step, or the one that is `more` steps further.
     Pass { more: usize },
-    /// Jobs are asked for: at least one, and at most 256.
+    /// Jobs are asked for, at least one and at most 256. `wait` is for their replies.
     Ask { jobs: Vec<Job>, wait: Wait },
     /// The run ends, and is completed.
     Complete,

@@ -6,7 +6,7 @@ use deftable::Bytes;
 /// What the replies to the jobs that are asked for decide.
 #[derive(Drop)]
 pub enum Wait {
-    /// Nothing: no job is asked for.
+    /// No job is asked for.
     Nothing,
     /// The answer to the question of a choice.
     Answer,
