@@ -21,13 +21,17 @@
 #![tactic(auto)]
 
 mod declared;
+mod fault;
 mod help;
 mod opening;
+mod precious;
 mod reader;
 mod settings;
 mod unrecognized;
 
 pub use commandline::{Directory, OptionFault, directories, srcdir_of};
-pub use declared::{help_text, read_args};
+pub use declared::{check_precious, help_text, read_args};
+pub use fault::PreciousFault;
 pub use help::help_text_of;
+pub use precious::check_precious_of;
 pub use settings::{Settings, read_args_of};
