@@ -4,6 +4,7 @@ use Rattle.std.specs.Prelude.{ℕ, Bool, true, not, List, [], Result, Ok, Err, s
 use Rattle.m4quote.specs.Entry.{Span}
 use Rattle.m4quote.specs.Scan.{used}
 use Rattle.m4quote.specs.declared.fault.QuoteFault.{QuoteFault}
+use Rattle.deftable.specs.CacheName.{is_cache_name}
 use Rattle.deftable.specs.ShellName.{is_shell_name_of}
 use Rattle.textcut.specs.Cuts.{trimmed}
 use Rattle.acstatement.specs.declared.fault.ParseFault.{ParseFault}
@@ -26,6 +27,13 @@ name arg = do
   t ← bare_text arg
   _ ← wants (is_shell_name_of t) (BadName arg.at)
   Ok t
+
+-- A shell name that contains `_cv_`. (Autoconf's manual, "Cache Variable Names")
+unfoldable pub cache_name : Span → Result (List ℕ) ParseFault
+cache_name arg = do
+  n ← name arg
+  _ ← wants (is_cache_name n) (BadName arg.at)
+  Ok n
 
 -- A text on one line, without the blanks at its ends. (own)
 unfoldable pub title : Span → Result (List ℕ) ParseFault

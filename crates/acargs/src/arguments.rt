@@ -7,7 +7,7 @@ ghost use Rattle.acstatement.specs.Reading.{Gives};
 ghost use Rattle.acstatement.specs.Texts as texts;
 
 use acstatement::fault::{ParseFault, moved_by, quote_fault};
-use deftable::{Bytes, Name};
+use deftable::{Bytes, Name, is_cache_name};
 use m4quote::{Arg, QuoteFault, used_text};
 use std::alloc::{AllocError, Global};
 use textcut::trim;
@@ -59,6 +59,22 @@ pub fn name(alloc: Global, arg: Arg<'_>) -> Result<Name, ParseFault>
         Some(name) => Ok(name),
         None => Err(ParseFault::BadName(arg.at)),
     }
+}
+
+/// Returns the name of a cached value: a shell name that contains `_cv_` (Autoconf's manual, "Cache Variable Names").
+///
+/// # Errors
+///
+/// - `BadName` at the argument, if the text without the blanks at its ends is no such name.
+#[tactic(auto, unfolding(crate::specs::Arguments::cache_name))]
+pub fn cache_name(alloc: Global, arg: Arg<'_>) -> Result<Name, ParseFault>
+    ensures { Gives (λ n. n) result (forms.cache_name (span arg.entry)) }
+{
+    let name = name(alloc, arg)?;
+    if !is_cache_name(name.as_slice()) {
+        return Err(ParseFault::BadName(arg.at));
+    }
+    Ok(name)
 }
 
 /// Returns a text on one line, without the blanks at its ends (own).

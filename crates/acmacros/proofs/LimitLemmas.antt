@@ -10,7 +10,7 @@ use Rattle.deftable.specs.NameList.{with_name, has_name, AreDistinct}
 use Rattle.deftable.proofs.Names.{has_name-with_name, with_name-known, with_name-new, AreDistinct-with_name}
 use Rattle.textcut.specs.Cuts.{fields}
 use Rattle.m4quote.specs.Entry.{Span}
-use Rattle.acstatement.specs.declared.fault.ParseFault.TheVariants.{BadName, TooMany}
+use Rattle.acstatement.specs.declared.fault.ParseFault.TheVariants.{BadName}
 use Rattle.syntax.specs.declared.output.Output.{Output}
 use Rattle.syntax.specs.declared.feature.OptionKind.{OptionKind}
 use Rattle.syntax.specs.declared.feature.OptionKind.TheVariants.{Feature, Package}

@@ -5,3 +5,4 @@ pub mod Searches
 pub mod Tries
 pub mod Rows
 pub mod Placement
+pub mod Scene

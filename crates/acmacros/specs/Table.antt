@@ -7,7 +7,7 @@ use Rattle.acargs.specs.Arguments.{is_given}
 use Rattle.acstatement.specs.Texts.{arg_at}
 use Rattle.acmacros.specs.declared.macros.ArgumentMacro.TheVariants.{HelpString, LangProgram, LangSource}
 use Rattle.acmacros.specs.declared.macros.ChoiceMacro.TheVariants.{If, Case}
-use Rattle.acmacros.specs.declared.macros.Macro.TheVariants.{Plain, Choice, Question}
+use Rattle.acmacros.specs.declared.macros.Macro.TheVariants.{Plain, Choice, Question, Check}
 use Rattle.acmacros.specs.declared.macros.Named.{Named}
 use Rattle.acmacros.specs.declared.macros.Named.TheVariants.{Statement, Argument}
 use Rattle.acmacros.specs.declared.macros.PlainMacro.TheVariants.{Init, Prereq, Ignored, Lang, ConfigFiles, Subst, Define, DefineUnquoted, MsgError, ArgVar, ProgCc, CheckProg, CheckProgs, PathProg, Output}
@@ -42,6 +42,7 @@ rows =
     ∷ (codes "AC_MSG_ERROR", Statement (Plain MsgError), 1, 2, false)
     ∷ (codes "AS_IF", Statement (Choice If), 2, any, false)
     ∷ (codes "AS_CASE", Statement (Choice Case), 2, any, false)
+    ∷ (codes "AC_CACHE_CHECK", Statement Check, 3, 3, false)
     ∷ (codes "AC_PROG_CC", Statement (Plain ProgCc), 0, 1, false)
     ∷ (codes "AC_CHECK_PROG", Statement (Plain CheckProg), 3, 4, false)
     ∷ (codes "AC_CHECK_PROGS", Statement (Plain CheckProgs), 2, 3, false)

@@ -4,8 +4,8 @@
 //! in the file's own list of statements. `rows` has the readers, with `searches` for macros that look for programs and
 //! `tries` for those that try programs: each reads the arguments of a call from the left, each by its form, and gives a
 //! statement or a question of the crate `syntax`. `placement` says which calls are allowed before, between and after
-//! AC_INIT and AC_OUTPUT. `limits` has the law that the lists of a source stay within their limits. Read `macros`,
-//! `table`, `rows`, then the rest in any order.
+//! AC_INIT and AC_OUTPUT, and `scene` which are allowed in the commands of AC_CACHE_CHECK. `limits` has the law that the
+//! lists of a source stay within their limits. Read `macros`, `table`, `rows`, then the rest in any order.
 //!
 //! `AC_DEFINE([HAVE_X])` is looked up as `PlainMacro::Define`, which takes one to three arguments, and is read as the
 //! statement `Plain::Define` of `HAVE_X` and `1`.
@@ -17,6 +17,7 @@ pub mod limits;
 pub mod macros;
 pub mod placement;
 pub mod rows;
+pub mod scene;
 mod searches;
 pub mod table;
 mod tries;

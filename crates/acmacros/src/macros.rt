@@ -64,6 +64,8 @@ pub enum Macro {
     Choice(ChoiceMacro),
     /// The two arguments after those of the question hold statements: the first for yes, the second for no.
     Question(QuestionMacro),
+    /// AC_CACHE_CHECK: the third argument holds the commands (Autoconf's manual, "Caching Results").
+    Check,
 }
 
 /// A macro that is read only in arguments of other macros.

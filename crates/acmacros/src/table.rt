@@ -4,7 +4,7 @@ ghost use Rattle.std.specs.Prelude.{◌≡◌, map, length, IfOk};
 ghost use Rattle.m4quote.specs.Entry.{span};
 ghost use Rattle.acmacros.specs.Table as table;
 
-use crate::macros::Macro::{Choice, Plain, Question};
+use crate::macros::Macro::{Check, Choice, Plain, Question};
 use crate::macros::Named::{Argument, Statement};
 use crate::macros::{ArgumentMacro, ChoiceMacro, Macro, Named, PlainMacro, QuestionMacro};
 use acargs::arguments::is_given;
@@ -32,7 +32,7 @@ const ANY: usize = 1_048_576;
 /// The table: a name, what it means, the least and the most arguments, and whether its calls are allowed only at top
 /// level.
 #[rattlefmt::skip]
-const TABLE: [(&[u8], Named, usize, usize, bool); 29] = [
+const TABLE: [(&[u8], Named, usize, usize, bool); 30] = [
     (b"AC_INIT", Statement(Plain(PlainMacro::Init)), 2, 5, true),
     (b"AC_PREREQ", Statement(Plain(PlainMacro::Prereq)), 1, 1, true),
     (b"AC_CONFIG_SRCDIR", Statement(Plain(PlainMacro::Ignored)), 1, 1, true),
@@ -51,6 +51,7 @@ const TABLE: [(&[u8], Named, usize, usize, bool); 29] = [
     (b"AC_MSG_ERROR", Statement(Plain(PlainMacro::MsgError)), 1, 2, false),
     (b"AS_IF", Statement(Choice(ChoiceMacro::If)), 2, ANY, false),
     (b"AS_CASE", Statement(Choice(ChoiceMacro::Case)), 2, ANY, false),
+    (b"AC_CACHE_CHECK", Statement(Check), 3, 3, false),
     (b"AC_PROG_CC", Statement(Plain(PlainMacro::ProgCc)), 0, 1, false),
     (b"AC_CHECK_PROG", Statement(Plain(PlainMacro::CheckProg)), 3, 4, false),
     (b"AC_CHECK_PROGS", Statement(Plain(PlainMacro::CheckProgs)), 2, 3, false),

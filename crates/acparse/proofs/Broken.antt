@@ -1,5 +1,5 @@
 -- An error that is reported is one, and everything before it is right.
-use Rattle.std.proofs.Common.{◌≡◌, ℕ, zero, suc, Bool, false, List, [], ◌∷◌, drop, Option, Some, None, Result, Ok, Err, refl, ap, sym, subst, inl, inr, ◌∙◌}
+use Rattle.std.proofs.Common.{◌≡◌, ℕ, zero, suc, List, [], ◌∷◌, drop, Option, Some, None, Result, Ok, Err, refl, sym, subst, inl, inr}
 use Rattle.m4quote.specs.Entry.{Span, Entry, call, bare}
 use Rattle.m4quote.specs.declared.fault.QuoteFault.{QuoteFault}
 use Rattle.acstatement.specs.declared.fault.ParseFault.{ParseFault}
@@ -8,11 +8,13 @@ use Rattle.acstatement.specs.declared.stand.Edge.{Edge}
 use Rattle.acstatement.specs.Reading.{quoted, quote_fault}
 use Rattle.acstatement.specs.Stand.{edge_of, no_edge}
 use Rattle.acstatement.proofs.Binds.{bind_err, wants_err, err_is}
-use Rattle.acargs.specs.Arguments.{is_given}
+use Rattle.acargs.specs.Arguments.{cache_name, is_given}
+use Rattle.acargs.specs.Shell.{here_text}
+use Rattle.acstatement.specs.Texts.{arg_at}
 use Rattle.acmacros.specs.declared.macros.ArgumentMacro.{ArgumentMacro}
 use Rattle.acmacros.specs.declared.macros.ChoiceMacro.{ChoiceMacro}
 use Rattle.acmacros.specs.declared.macros.Macro.{Macro}
-use Rattle.acmacros.specs.declared.macros.Macro.TheVariants.{Plain, Choice as A_choice, Question as A_question}
+use Rattle.acmacros.specs.declared.macros.Macro.TheVariants.{Plain, Choice as A_choice, Question as A_question, Check as A_check}
 use Rattle.acmacros.specs.declared.macros.Named.{Named}
 use Rattle.acmacros.specs.declared.macros.Named.TheVariants.{Statement, Argument}
 use Rattle.acmacros.specs.declared.macros.QuestionMacro.{QuestionMacro}
@@ -22,14 +24,15 @@ use Rattle.syntax.specs.declared.tree.When.{When}
 use Rattle.syntax.specs.declared.tree.When.TheVariants.{Yes, No, Always}
 use Rattle.syntax.specs.declared.declarations.Declarations as declarations
 use Rattle.syntax.specs.declared.declarations.Stage.{Stage}
+use Rattle.acmacros.specs.Scene.{Scene, Commands, of_case}
 use Rattle.acmacros.specs.Table.{row_named}
 use Rattle.acmacros.specs.declared.table.Row.{Row}
 use Rattle.m4quote.proofs.Laws.{outcome_is_spelling, outcome_is_fault}
 use Rattle.m4quote.specs.Scan.{outcome}
 use Rattle.syntax.specs.Lists.{after_all, after_cases}
 use Rattle.syntax.specs.Script.{Script, Cases}
-use Rattle.acparse.specs.Breaks.{WithinBreaks, MayNotStand, unknown, other_arguments, in_arguments_alone, not_here, in_text, CasesBreak, in_condition, in_body, after_case, in_default, ActionBreaks, in_action, ItemBreaks, other_text, may_not_stand, argument, in_subject, in_cases, in_question, in_yes, in_no, Breaks, here, following, TextBreaks, no_items, in_items, IsBroken}
-use Rattle.acparse.specs.Profile.{Bodies, body_of, items_of, item_of, call_of, checked, known, case_args, case_if, cases_in, choice_of, action_in, action_args, asked_of}
+use Rattle.acparse.specs.Breaks.{WithinBreaks, MayNotStand, unknown, other_arguments, in_arguments_alone, not_here, in_text, not_held, CasesBreak, in_condition, in_body, after_case, in_default, ActionBreaks, in_action, ItemBreaks, other_text, may_not_stand, argument, in_subject, in_cases, in_question, in_yes, in_no, in_message, in_name, in_commands, Breaks, here, following, TextBreaks, no_items, in_items, IsBroken}
+use Rattle.acparse.specs.Profile.{Bodies, body_of, items_of, item_of, call_of, checked, known, case_args, case_if, cases_in, choice_of, action_in, action_args, asked_of, check_of}
 use Rattle.acparse.specs.Statements.{Within, MayStand, IsBody}
 use Rattle.acparse.proofs.Found.{Reads, known_some, is_of_statement, may_stand, action_found, item_found, body_found, quoted_ok}
 
@@ -49,11 +52,11 @@ is_of_arguments : (stage : Stage) (at : ℕ) (named : Named) (f : ParseFault) �
 is_of_arguments stage at (Statement m) f e = absurd cc
 is_of_arguments stage at (Argument m) f e = (m, refl, sym (err_is {A = Macro} _ f e))
 
-may_not_stand_by : (top : Bool) (stage : Stage) (edge : Edge) (name : List ℕ) (args : List Span) (at : ℕ) (next : List Entry) (f : ParseFault)
-    → checked top stage edge name args at next ≡ Err f → MayNotStand top stage edge name args at next f
+may_not_stand_by : (scene : Scene) (stage : Stage) (edge : Edge) (name : List ℕ) (args : List Span) (at : ℕ) (next : List Entry) (f : ParseFault)
+    → checked scene stage edge name args at next ≡ Err f → MayNotStand scene stage edge name args at next f
 unfolding checked
-may_not_stand_by top stage edge name args at next f e =
-    let P : ParseFault → Type 0 = MayNotStand top stage edge name args at next in
+may_not_stand_by scene stage edge name args at next f e =
+    let P : ParseFault → Type 0 = MayNotStand scene stage edge name args at next in
     elim (bind_err _ _ _ e) [
       | inl h ↦ let k = known_none at (row_named name) f h in subst P (sym k.1) (unknown k.0)
       | inr m ↦ elim (bind_err _ _ _ m.2) [
@@ -67,7 +70,10 @@ may_not_stand_by top stage edge name args at next f e =
                 | inl h ↦ not_here is named h
                 | inr p ↦ elim (bind_err _ _ _ p.2) [
                   | inl h ↦ let w = wants_err _ _ _ h in subst P (sym w.1) (in_text is named w.0)
-                  | inr q ↦ absurd (no_macro s.0 q.2)
+                  | inr q ↦ elim (bind_err _ _ _ q.2) [
+                    | inl h ↦ not_held is named h
+                    | inr x ↦ absurd (no_macro s.0 x.2)
+                  ]
                 ]
               ]
         ]
@@ -113,42 +119,55 @@ action_breaks bodies Broken bad when (a ∷ more) c f e =
       | inr x ↦ absurd (no_cases_end _ f x.2)
     ]
 
-item_breaks : (top : Bool) (bodies : Bodies) (Inside : Within) (Broken : WithinBreaks) (ok : Reads bodies Inside) (bad : Faults bodies Broken) (c : declarations.Declarations) (edge : Edge) (item : Entry) (next : List Entry) (f : ParseFault)
-    → item_of top bodies c edge item next ≡ Err f → ItemBreaks top Inside Broken c edge item next f
-unfolding choice_of asked_of
-item_breaks top bodies Inside Broken ok bad c edge (bare text at) next f e = other_text e
-item_breaks top bodies Inside Broken ok bad c edge (call name args at) next f e =
+item_breaks : (scene : Scene) (bodies : Scene → Bodies) (Inside : Scene → Within) (Broken : Scene → WithinBreaks) (ok : (x : Scene) → Reads (bodies x) (Inside x)) (bad : (x : Scene) → Faults (bodies x) (Broken x)) (c : declarations.Declarations) (edge : Edge) (item : Entry) (next : List Entry) (f : ParseFault)
+    → item_of scene bodies c edge item next ≡ Err f → ItemBreaks scene Inside Broken c edge item next f
+unfolding choice_of asked_of check_of
+item_breaks scene bodies Inside Broken ok bad c edge (bare text at) next f e = other_text e
+item_breaks scene bodies Inside Broken ok bad c edge (call name args at) next f e =
     elim (bind_err _ _ _ e) [
-      | inl h ↦ may_not_stand (may_not_stand_by top c.stage edge name args at next f h)
-      | inr m ↦ call_breaks m.0 (may_stand top c.stage edge name args at next m.0 m.1) m.2
+      | inl h ↦ may_not_stand (may_not_stand_by scene c.stage edge name args at next f h)
+      | inr m ↦ call_breaks m.0 (may_stand scene c.stage edge name args at next m.0 m.1) m.2
     ]
   where
-    choice_breaks : (m : ChoiceMacro) → MayStand top c.stage edge name args at next (A_choice m) → choice_of bodies m c args ≡ Err f → ItemBreaks top Inside Broken c edge (call name args at) next f
+    choice_breaks : (m : ChoiceMacro) → MayStand scene c.stage edge name args at next (A_choice m) → choice_of (bodies (of_case scene)) m c args ≡ Err f → ItemBreaks scene Inside Broken c edge (call name args at) next f
     choice_breaks m stands e =
         elim (bind_err _ _ _ e) [
           | inl h ↦ in_subject stands h
           | inr x ↦ elim (bind_err _ _ _ x.2) [
-            | inl h ↦ in_cases stands x.1 (cases_break bodies Inside Broken ok bad m (case_args m args) c f h)
+            | inl h ↦ in_cases stands x.1 (cases_break (bodies (of_case scene)) (Inside (of_case scene)) (Broken (of_case scene)) (ok (of_case scene)) (bad (of_case scene)) m (case_args m args) c f h)
             | inr y ↦ absurd (no_end _ f y.2)
           ]
         ]
 
-    question_breaks : (m : QuestionMacro) → MayStand top c.stage edge name args at next (A_question m) → asked_of bodies m c args ≡ Err f → ItemBreaks top Inside Broken c edge (call name args at) next f
+    question_breaks : (m : QuestionMacro) → MayStand scene c.stage edge name args at next (A_question m) → asked_of (bodies (of_case scene)) m c args ≡ Err f → ItemBreaks scene Inside Broken c edge (call name args at) next f
     question_breaks m stands e =
         elim (bind_err _ _ _ e) [
           | inl h ↦ in_question stands h
           | inr x ↦ elim (bind_err _ _ _ x.2) [
-            | inl h ↦ in_yes stands x.1 (action_breaks bodies Broken bad Yes (action_args m args) (after_question c x.0) f h)
+            | inl h ↦ in_yes stands x.1 (action_breaks (bodies (of_case scene)) (Broken (of_case scene)) (bad (of_case scene)) Yes (action_args m args) (after_question c x.0) f h)
             | inr y ↦ elim (bind_err _ _ _ y.2) [
               | inl h ↦
-                  in_no stands x.1 (action_found bodies Inside ok Yes (action_args m args) (after_question c x.0) y.0 y.1)
-                  (action_breaks bodies Broken bad No (drop 1 (action_args m args)) (after_cases (after_question c x.0) y.0) f h)
+                  in_no stands x.1 (action_found (bodies (of_case scene)) (Inside (of_case scene)) (ok (of_case scene)) Yes (action_args m args) (after_question c x.0) y.0 y.1)
+                  (action_breaks (bodies (of_case scene)) (Broken (of_case scene)) (bad (of_case scene)) No (drop 1 (action_args m args)) (after_cases (after_question c x.0) y.0) f h)
               | inr z ↦ absurd (no_end _ f z.2)
             ]
           ]
         ]
 
-    call_breaks : (m : Macro) → MayStand top c.stage edge name args at next m → call_of bodies c m at args ≡ Err f → ItemBreaks top Inside Broken c edge (call name args at) next f
+    check_breaks : MayStand scene c.stage edge name args at next A_check → check_of bodies c args ≡ Err f → ItemBreaks scene Inside Broken c edge (call name args at) next f
+    check_breaks stands e =
+        elim (bind_err (here_text (arg_at args 0)) _ _ e) [
+          | inl h ↦ in_message stands h
+          | inr x ↦ elim (bind_err (cache_name (arg_at args 1)) _ _ x.2) [
+            | inl h ↦ in_name stands x.1 h
+            | inr y ↦ elim (bind_err (bodies (Commands y.0 (arg_at args 2).at) c (arg_at args 2)) _ _ y.2) [
+              | inl h ↦ in_commands stands x.1 y.1 (bad (Commands y.0 (arg_at args 2).at) c (arg_at args 2) f h)
+              | inr z ↦ absurd (no_end _ f z.2)
+            ]
+          ]
+        ]
+
+    call_breaks : (m : Macro) → MayStand scene c.stage edge name args at next m → call_of scene bodies c m at args ≡ Err f → ItemBreaks scene Inside Broken c edge (call name args at) next f
     call_breaks (Plain m) stands e =
         elim (bind_err _ _ _ e) [
           | inl h ↦ argument stands h
@@ -156,25 +175,26 @@ item_breaks top bodies Inside Broken ok bad c edge (call name args at) next f e 
         ]
     call_breaks (A_choice m) stands e = choice_breaks m stands e
     call_breaks (A_question m) stands e = question_breaks m stands e
+    call_breaks A_check stands e = check_breaks stands e
 
-pub items_break : (top : Bool) (bodies : Bodies) (Inside : Within) (Broken : WithinBreaks) (ok : Reads bodies Inside) (bad : Faults bodies Broken) (items : List Entry) (c : declarations.Declarations) (edge : Edge) (f : ParseFault)
-    → items_of top bodies c edge items ≡ Err f → Breaks top Inside Broken c edge items f
+pub items_break : (scene : Scene) (bodies : Scene → Bodies) (Inside : Scene → Within) (Broken : Scene → WithinBreaks) (ok : (x : Scene) → Reads (bodies x) (Inside x)) (bad : (x : Scene) → Faults (bodies x) (Broken x)) (items : List Entry) (c : declarations.Declarations) (edge : Edge) (f : ParseFault)
+    → items_of scene bodies c edge items ≡ Err f → Breaks scene Inside Broken c edge items f
 unfolding items_of
-items_break top bodies Inside Broken ok bad [] c edge f e = absurd (no_end _ f e)
-items_break top bodies Inside Broken ok bad (item ∷ items) c edge f e =
+items_break scene bodies Inside Broken ok bad [] c edge f e = absurd (no_end _ f e)
+items_break scene bodies Inside Broken ok bad (item ∷ items) c edge f e =
     elim (bind_err _ _ _ e) [
-      | inl h ↦ here (item_breaks top bodies Inside Broken ok bad c edge item items f h)
+      | inl h ↦ here (item_breaks scene bodies Inside Broken ok bad c edge item items f h)
       | inr x ↦ elim (bind_err _ _ _ x.2) [
-        | inl h ↦ following (item_found top bodies Inside ok c edge item items x.0 x.1) (items_break top bodies Inside Broken ok bad items (after_all c x.0) (edge_of item) f h)
+        | inl h ↦ following (item_found scene bodies Inside ok c edge item items x.0 x.1) (items_break scene bodies Inside Broken ok bad items (after_all c x.0) (edge_of item) f h)
         | inr z ↦ absurd (no_end _ f z.2)
       ]
     ]
 
 -- An error of a statement argument.
-pub body_breaks : (room : ℕ) → Faults (body_of room) (IsBroken room)
+pub body_breaks : (room : ℕ) (scene : Scene) → Faults (body_of room scene) (IsBroken room scene)
 unfolding body_of
-body_breaks zero c arg f e = sym (err_is {A = Script} _ f e)
-body_breaks (suc room) c arg f e =
+body_breaks zero scene c arg f e = sym (err_is {A = Script} _ f e)
+body_breaks (suc room) scene c arg f e =
     elim (bind_err _ _ _ e) [
       | inl h ↦ inl h
       | inr a ↦ inr (
@@ -183,10 +203,10 @@ body_breaks (suc room) c arg f e =
         elim (bind_err _ _ _ a.2) [
           | inl h ↦
               let q = quoted_err (outcome a.0.at a.0.text) f h in
-              subst (TextBreaks (IsBody room) (IsBroken room) c a.0) (sym q.2) (no_items ((outcome_is_fault a.0.at a.0.text q.0).0 q.1))
+              subst (TextBreaks scene (IsBody room) (IsBroken room) c a.0) (sym q.2) (no_items ((outcome_is_fault a.0.at a.0.text q.0).0 q.1))
           | inr i ↦
               in_items ((outcome_is_spelling a.0.at a.0.text i.0).0 (quoted_ok (outcome a.0.at a.0.text) i.0 i.1))
-              (items_break false (body_of room) (IsBody room) (IsBroken room) (body_found room) (body_breaks room) i.0 c no_edge f i.2)
+              (items_break scene (body_of room) (IsBody room) (IsBroken room) (body_found room) (body_breaks room) i.0 c no_edge f i.2)
         ],
       )
     ]

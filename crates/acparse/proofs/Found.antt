@@ -1,5 +1,5 @@
 -- The statements that are read are those of the source.
-use Rattle.std.proofs.Common.{◌≡◌, ℕ, zero, suc, Bool, true, false, List, [], ◌∷◌, drop, Option, Some, None, Result, Ok, Err, refl, ap, subst, ◌∙◌}
+use Rattle.std.proofs.Common.{◌≡◌, ℕ, zero, suc, Bool, true, false, List, [], ◌∷◌, drop, Option, Some, None, Result, Ok, Err, refl, subst}
 use Rattle.m4quote.specs.Entry.{Span, Entry, call, bare}
 use Rattle.m4quote.specs.declared.fault.QuoteFault.{QuoteFault}
 use Rattle.acstatement.specs.declared.stand.Edge.{Edge}
@@ -9,12 +9,13 @@ use Rattle.acstatement.specs.Stand.{edge_of, no_edge}
 use Rattle.acstatement.proofs.Binds.{bind_ok, ok_is, wants_ok}
 use Rattle.acmacros.specs.declared.macros.Macro.{Macro}
 use Rattle.acmacros.specs.declared.macros.ChoiceMacro.{ChoiceMacro}
-use Rattle.acmacros.specs.declared.macros.Macro.TheVariants.{Plain, Choice as A_choice, Question as A_question}
+use Rattle.acmacros.specs.declared.macros.Macro.TheVariants.{Plain, Choice as A_choice, Question as A_question, Check as A_check}
 use Rattle.acmacros.specs.declared.macros.Named.{Named}
 use Rattle.acmacros.specs.declared.macros.Named.TheVariants.{Statement, Argument}
 use Rattle.acmacros.specs.declared.macros.QuestionMacro.{QuestionMacro}
 use Rattle.syntax.specs.Lists.{after_question}
 use Rattle.acmacros.specs.Placement.{as_statement}
+use Rattle.acmacros.specs.Scene.{Scene, Commands, of_case}
 use Rattle.acmacros.specs.Table.{row_named}
 use Rattle.acmacros.specs.declared.table.Row.{Row}
 use Rattle.syntax.specs.declared.tree.When.{When}
@@ -28,12 +29,15 @@ use Rattle.baretext.proofs.Laws.{read-text}
 use Rattle.baretext.specs.Reading.{statements_of}
 use Rattle.baretext.specs.declared.fault.BareFault.{BareFault}
 use Rattle.acstatement.specs.declared.fault.ParseFault.{ParseFault}
-use Rattle.acargs.specs.Arguments.{is_given}
+use Rattle.acargs.specs.Arguments.{cache_name, is_given}
+use Rattle.acargs.specs.Shell.{here_text}
+use Rattle.acstatement.specs.Texts.{arg_at}
+use Rattle.baretext.specs.declared.assignments.Assignment.{Assignment}
 use Rattle.syntax.specs.Lists.{after_all, after_cases}
 use Rattle.syntax.specs.Script.{Script, Done, Cases, No_case}
-use Rattle.acparse.specs.Bare.{bare_at, assigned, of_value, idle_or, bare_of}
-use Rattle.acparse.specs.Profile.{action_in, asked_of, action_args, Bodies, body_of, items_of, item_of, call_of, checked, known, case_args, case_if, cases_in, choice_of}
-use Rattle.acparse.specs.Statements.{Within, MayStand, IsBare, before, ended, assignments, AreCases, no_more, default, pair, IsAction, absent, there, IsItem, bare_text, plain_call, choice, question, AreStatements, none, one, IsBody}
+use Rattle.acparse.specs.Bare.{bare_at, assigned, may_assign, of_value, assigned_in, idle_or, bare_of}
+use Rattle.acparse.specs.Profile.{action_in, asked_of, action_args, Bodies, body_of, items_of, item_of, call_of, checked, known, case_args, case_if, cases_in, choice_of, check_of}
+use Rattle.acparse.specs.Statements.{Within, MayStand, IsBare, before, ended, assignments, AreCases, no_more, default, pair, IsAction, absent, there, IsItem, bare_text, plain_call, choice, question, check, AreStatements, none, one, IsBody}
 
 -- The statements that are read from each statement argument are its own.
 abbrev pub Reads : Bodies → Within → Type 0
@@ -51,16 +55,17 @@ pub is_of_statement : (stage : Stage) (at : ℕ) (named : Named) (m : Macro) →
 is_of_statement stage at (Statement k) m e = cc
 is_of_statement stage at (Argument k) m e = absurd cc
 
-pub may_stand : (top : Bool) (stage : Stage) (edge : Edge) (name : List ℕ) (args : List Span) (at : ℕ) (next : List Entry) (m : Macro)
-    → checked top stage edge name args at next ≡ Ok m → MayStand top stage edge name args at next m
+pub may_stand : (scene : Scene) (stage : Stage) (edge : Edge) (name : List ℕ) (args : List Span) (at : ℕ) (next : List Entry) (m : Macro)
+    → checked scene stage edge name args at next ≡ Ok m → MayStand scene stage edge name args at next m
 unfolding checked
-may_stand top stage edge name args at next m e =
+may_stand scene stage edge name args at next m e =
     let k = bind_ok _ _ _ e in
     let n = bind_ok _ _ _ k.2 in
     let s = bind_ok _ _ _ n.2 in
     let p = bind_ok _ _ _ s.2 in
     let q = bind_ok _ _ _ p.2 in
-    subst (MayStand top stage edge name args at next) (ok_is s.0 m q.2)
+    let h = bind_ok _ _ _ q.2 in
+    subst (MayStand scene stage edge name args at next) (ok_is s.0 m h.2)
     (record {
       row = k.0;
       known = known_some at (row_named name) k.0 k.1;
@@ -68,28 +73,33 @@ may_stand top stage edge name args at next m e =
       taken = wants_ok _ _ _ n.1;
       in_place = p.1;
       parted = wants_ok _ _ _ q.1;
+      held = h.1;
     })
 
 bare_at_ok : {A : Type 0} (at : ℕ) (r : Result A BareFault) (x : A) → bare_at at r ≡ Ok x → r ≡ Ok x
 bare_at_ok at (Ok y) x e = cc
 bare_at_ok at (Err f) x e = absurd cc
 
-value_found : (at : ℕ) (text : List ℕ) (r : Result (List ℕ) QuoteFault) (s : Script) → bare_value_of text ≡ r → of_value at r ≡ Ok s → IsBare Open text s
-value_found at text (Ok value) s is e =
-    let l = bind_ok (bare_at at (statements_of value)) (λ list. Ok (assigned list)) s e in
-    subst (IsBare Open text) (ok_is _ s l.2)
-    (assignments ((bare_value_is_value text value).0 is) (read-text value l.0 (bare_at_ok at (statements_of value) l.0 l.1)))
-value_found at text (Err f) s is e = absurd cc
+value_found : (scene : Scene) (at : ℕ) (text : List ℕ) (r : Result (List ℕ) QuoteFault) (list : List Assignment) → bare_value_of text ≡ r → of_value at r ≡ Ok list → may_assign scene list ≡ Ok tt → IsBare scene Open text (assigned list)
+value_found scene at text (Ok value) list is e may = assignments ((bare_value_is_value text value).0 is) (read-text value list (bare_at_ok at (statements_of value) list e)) may
+value_found scene at text (Err f) list is e may = absurd cc
 
-idle_found : (stage : Stage) (text : List ℕ) (f : ParseFault) (s : Script) (b : Bool) → (is_idle text ≡ true → IsBare stage text Done) → is_idle text ≡ b → idle_or b f ≡ Ok s → IsBare stage text s
-idle_found stage text f s true h is e = subst (IsBare stage text) (ok_is Done s e) (h is)
-idle_found stage text f s false h is e = absurd cc
+assigned_found : (scene : Scene) (at : ℕ) (text : List ℕ) (s : Script) → assigned_in scene at text ≡ Ok s → IsBare scene Open text s
+unfolding assigned_in
+assigned_found scene at text s e =
+    let l = bind_ok (of_value at (bare_value_of text)) _ s e in
+    let m = bind_ok (may_assign scene l.0) _ s l.2 in
+    subst (IsBare scene Open text) (ok_is _ s m.2) (value_found scene at text (bare_value_of text) l.0 refl l.1 m.1)
 
-bare_found : (stage : Stage) (at : ℕ) (text : List ℕ) (s : Script) → bare_of stage at text ≡ Ok s → IsBare stage text s
+idle_found : (scene : Scene) (stage : Stage) (text : List ℕ) (f : ParseFault) (s : Script) (b : Bool) → (is_idle text ≡ true → IsBare scene stage text Done) → is_idle text ≡ b → idle_or b f ≡ Ok s → IsBare scene stage text s
+idle_found scene stage text f s true h is e = subst (IsBare scene stage text) (ok_is Done s e) (h is)
+idle_found scene stage text f s false h is e = absurd cc
+
+bare_found : (scene : Scene) (stage : Stage) (at : ℕ) (text : List ℕ) (s : Script) → bare_of scene stage at text ≡ Ok s → IsBare scene stage text s
 unfolding bare_of
-bare_found Before at text s e = idle_found Before text _ s (is_idle text) before refl e
-bare_found Open at text s e = value_found at text (bare_value_of text) s refl e
-bare_found Ended at text s e = idle_found Ended text _ s (is_idle text) ended refl e
+bare_found scene Before at text s e = idle_found scene Before text _ s (is_idle text) before refl e
+bare_found scene Open at text s e = assigned_found scene at text s e
+bare_found scene Ended at text s e = idle_found scene Ended text _ s (is_idle text) ended refl e
 
 pub cases_found : (bodies : Bodies) (Inside : Within) (ok : Reads bodies Inside) (m : ChoiceMacro) (args : List Span) (c : declarations.Declarations) (cases : Cases) → cases_in bodies m c args ≡ Ok cases → AreCases Inside m c args cases
 unfolding cases_in
@@ -111,50 +121,58 @@ action_found bodies Inside ok when (a ∷ more) c cases e =
     let x = bind_ok (bodies c a) (λ body. Ok (case_if when (is_given a) body)) cases e in
     subst (IsAction Inside when c (a ∷ more)) (ok_is _ cases x.2) (there (ok c a x.0 x.1))
 
-pub item_found : (top : Bool) (bodies : Bodies) (Inside : Within) (ok : Reads bodies Inside) (c : declarations.Declarations) (edge : Edge) (item : Entry) (next : List Entry) (s : Script)
-    → item_of top bodies c edge item next ≡ Ok s → IsItem top Inside c edge item next s
-unfolding choice_of asked_of
-item_found top bodies Inside ok c edge (bare text at) next s e = bare_text (bare_found c.stage at text s e)
-item_found top bodies Inside ok c edge (call name args at) next s e =
-    let m = bind_ok _ _ _ e in call_found m.0 (may_stand top c.stage edge name args at next m.0 m.1) m.2
+pub item_found : (scene : Scene) (bodies : Scene → Bodies) (Inside : Scene → Within) (ok : (x : Scene) → Reads (bodies x) (Inside x)) (c : declarations.Declarations) (edge : Edge) (item : Entry) (next : List Entry) (s : Script)
+    → item_of scene bodies c edge item next ≡ Ok s → IsItem scene Inside c edge item next s
+unfolding choice_of asked_of check_of
+item_found scene bodies Inside ok c edge (bare text at) next s e = bare_text (bare_found scene c.stage at text s e)
+item_found scene bodies Inside ok c edge (call name args at) next s e =
+    let m = bind_ok _ _ _ e in call_found m.0 (may_stand scene c.stage edge name args at next m.0 m.1) m.2
   where
-    choice_found : (m : ChoiceMacro) → MayStand top c.stage edge name args at next (A_choice m) → choice_of bodies m c args ≡ Ok s → IsItem top Inside c edge (call name args at) next s
+    choice_found : (m : ChoiceMacro) → MayStand scene c.stage edge name args at next (A_choice m) → choice_of (bodies (of_case scene)) m c args ≡ Ok s → IsItem scene Inside c edge (call name args at) next s
     choice_found m stands e =
         let x = bind_ok _ _ _ e in
         let y = bind_ok _ _ _ x.2 in
-        subst (IsItem top Inside c edge (call name args at) next) (ok_is _ s y.2) (choice stands x.1 (cases_found bodies Inside ok m (case_args m args) c y.0 y.1))
+        subst (IsItem scene Inside c edge (call name args at) next) (ok_is _ s y.2) (choice stands x.1 (cases_found (bodies (of_case scene)) (Inside (of_case scene)) (ok (of_case scene)) m (case_args m args) c y.0 y.1))
 
-    question_found : (m : QuestionMacro) → MayStand top c.stage edge name args at next (A_question m) → asked_of bodies m c args ≡ Ok s → IsItem top Inside c edge (call name args at) next s
+    question_found : (m : QuestionMacro) → MayStand scene c.stage edge name args at next (A_question m) → asked_of (bodies (of_case scene)) m c args ≡ Ok s → IsItem scene Inside c edge (call name args at) next s
     question_found m stands e =
         let x = bind_ok _ _ _ e in
         let y = bind_ok _ _ _ x.2 in
         let z = bind_ok _ _ _ y.2 in
-        subst (IsItem top Inside c edge (call name args at) next) (ok_is _ s z.2)
-        (question stands x.1 (action_found bodies Inside ok Yes (action_args m args) (after_question c x.0) y.0 y.1)
-        (action_found bodies Inside ok No (drop 1 (action_args m args)) (after_cases (after_question c x.0) y.0) z.0 z.1))
+        subst (IsItem scene Inside c edge (call name args at) next) (ok_is _ s z.2)
+        (question stands x.1 (action_found (bodies (of_case scene)) (Inside (of_case scene)) (ok (of_case scene)) Yes (action_args m args) (after_question c x.0) y.0 y.1)
+        (action_found (bodies (of_case scene)) (Inside (of_case scene)) (ok (of_case scene)) No (drop 1 (action_args m args)) (after_cases (after_question c x.0) y.0) z.0 z.1))
 
-    call_found : (m : Macro) → MayStand top c.stage edge name args at next m → call_of bodies c m at args ≡ Ok s → IsItem top Inside c edge (call name args at) next s
+    check_found : MayStand scene c.stage edge name args at next A_check → check_of bodies c args ≡ Ok s → IsItem scene Inside c edge (call name args at) next s
+    check_found stands e =
+        let x = bind_ok (here_text (arg_at args 0)) _ _ e in
+        let y = bind_ok (cache_name (arg_at args 1)) _ _ x.2 in
+        let z = bind_ok (bodies (Commands y.0 (arg_at args 2).at) c (arg_at args 2)) _ _ y.2 in
+        subst (IsItem scene Inside c edge (call name args at) next) (ok_is _ s z.2) (check stands x.1 y.1 (ok (Commands y.0 (arg_at args 2).at) c (arg_at args 2) z.0 z.1))
+
+    call_found : (m : Macro) → MayStand scene c.stage edge name args at next m → call_of scene bodies c m at args ≡ Ok s → IsItem scene Inside c edge (call name args at) next s
     call_found (Plain m) stands e =
         let p = bind_ok _ _ _ e in
-        subst (IsItem top Inside c edge (call name args at) next) (ok_is _ s p.2) (plain_call stands p.1)
+        subst (IsItem scene Inside c edge (call name args at) next) (ok_is _ s p.2) (plain_call stands p.1)
     call_found (A_choice m) stands e = choice_found m stands e
     call_found (A_question m) stands e = question_found m stands e
+    call_found A_check stands e = check_found stands e
 
-pub items_found : (top : Bool) (bodies : Bodies) (Inside : Within) (ok : Reads bodies Inside) (items : List Entry) (c : declarations.Declarations) (edge : Edge) (s : Script)
-    → items_of top bodies c edge items ≡ Ok s → AreStatements top Inside c edge items s
+pub items_found : (scene : Scene) (bodies : Scene → Bodies) (Inside : Scene → Within) (ok : (x : Scene) → Reads (bodies x) (Inside x)) (items : List Entry) (c : declarations.Declarations) (edge : Edge) (s : Script)
+    → items_of scene bodies c edge items ≡ Ok s → AreStatements scene Inside c edge items s
 unfolding items_of
-items_found top bodies Inside ok [] c edge s e = subst (AreStatements top Inside c edge []) (ok_is Done s e) none
-items_found top bodies Inside ok (item ∷ items) c edge s e =
+items_found scene bodies Inside ok [] c edge s e = subst (AreStatements scene Inside c edge []) (ok_is Done s e) none
+items_found scene bodies Inside ok (item ∷ items) c edge s e =
     let f = bind_ok _ _ _ e in
     let r = bind_ok _ _ _ f.2 in
-    subst (AreStatements top Inside c edge (item ∷ items)) (ok_is _ s r.2)
-    (one (item_found top bodies Inside ok c edge item items f.0 f.1) (items_found top bodies Inside ok items (after_all c f.0) (edge_of item) r.0 r.1))
+    subst (AreStatements scene Inside c edge (item ∷ items)) (ok_is _ s r.2)
+    (one (item_found scene bodies Inside ok c edge item items f.0 f.1) (items_found scene bodies Inside ok items (after_all c f.0) (edge_of item) r.0 r.1))
 
 -- The statements that are read from a statement argument are its own.
-pub body_found : (room : ℕ) → Reads (body_of room) (IsBody room)
+pub body_found : (room : ℕ) (scene : Scene) → Reads (body_of room scene) (IsBody room scene)
 unfolding body_of
-body_found zero c arg s e = absurd cc
-body_found (suc room) c arg s e =
+body_found zero scene c arg s e = absurd cc
+body_found (suc room) scene c arg s e =
     let a = bind_ok _ _ _ e in
     let i = bind_ok _ _ _ a.2 in (
       a.0,
@@ -162,6 +180,6 @@ body_found (suc room) c arg s e =
       (
         i.0,
         (outcome_is_spelling a.0.at a.0.text i.0).0 (quoted_ok (outcome a.0.at a.0.text) i.0 i.1),
-        items_found false (body_of room) (IsBody room) (body_found room) i.0 c no_edge s i.2,
+        items_found scene (body_of room) (IsBody room) (body_found room) i.0 c no_edge s i.2,
       ),
     )

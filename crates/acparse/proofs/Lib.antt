@@ -5,3 +5,4 @@ pub mod Only
 pub mod Broken
 pub mod Whole
 pub mod ListLimits
+pub mod Owning

@@ -15,6 +15,7 @@ use Rattle.syntax.specs.declared.declarations.Declarations as declarations
 use Rattle.syntax.specs.declared.declarations.Stage.{Stage}
 use Rattle.syntax.specs.Limits.{IsWithinLimits, HasShortLists}
 use Rattle.syntax.specs.Lists.{start, after_question}
+use Rattle.acmacros.specs.Scene.{Scene, Top, of_case}
 use Rattle.acmacros.proofs.LimitLemmas.{plain_keeps, question_keeps, precious_count, start_fits}
 use Rattle.syntax.specs.declared.tree.Subject.{Subject}
 use Rattle.syntax.specs.declared.tree.Subject.TheVariants.{Nothing, Word}
@@ -22,11 +23,11 @@ use Rattle.syntax.specs.declared.tree.When.{When}
 use Rattle.syntax.specs.declared.tree.When.TheVariants.{Always}
 use Rattle.syntax.specs.Lists.{after_all, after_cases, after_subject, lists_of}
 use Rattle.syntax.specs.declared.tree.Stmt.{Stmt}
-use Rattle.syntax.specs.Script.{Script, Done, Then, Choice, Cases, script_of}
+use Rattle.syntax.specs.Script.{Script, Done, Then, Choice, Check, Cases, script_of}
 use Rattle.syntax.proofs.ScriptLemmas.{after_joined, after_followed}
 use Rattle.acparse.specs.Profile.{source_of, subject_of, case_if}
 use Rattle.acparse.specs.Source.{IsSource}
-use Rattle.acparse.specs.Statements.{Within, IsBare, before, ended, assignments, AreCases, no_more, default, pair, IsAction, absent, there, IsItem, bare_text, plain_call, choice, question, AreStatements, none, one, IsBody}
+use Rattle.acparse.specs.Statements.{Within, IsBare, before, ended, assignments, AreCases, no_more, default, pair, IsAction, absent, there, IsItem, bare_text, plain_call, choice, question, check, AreStatements, none, one, IsBody}
 use Rattle.acparse.proofs.Texts.{assigned_known}
 use Rattle.acparse.proofs.Whole.{source_found}
 
@@ -34,16 +35,17 @@ use Rattle.acparse.proofs.Whole.{source_found}
 abbrev Keeps : Within → Type 0
 Keeps Inside = (c : declarations.Declarations) (arg : Span) (s : Script) → Inside c arg s → IsWithinLimits c → IsWithinLimits (after_all c s)
 
-bare_keeps : {stage : Stage} {text : List ℕ} {s : Script} (c : declarations.Declarations) → IsBare stage text s → IsWithinLimits c → IsWithinLimits (after_all c s)
+bare_keeps : {scene : Scene} {stage : Stage} {text : List ℕ} {s : Script} (c : declarations.Declarations) → IsBare scene stage text s → IsWithinLimits c → IsWithinLimits (after_all c s)
 bare_keeps c (before is) h = h
 bare_keeps c (ended is) h = h
-bare_keeps c (assignments {list = list} v l) h = subst IsWithinLimits (sym (assigned_known list c)) h
+bare_keeps c (assignments {list = list} v l may) h = subst IsWithinLimits (sym (assigned_known list c)) h
 
 case_keeps : (when : When) (given : Bool) (body : Script) (c : declarations.Declarations) → IsWithinLimits (after_all c body) → IsWithinLimits (after_cases c (case_if when given body))
 case_keeps when true body c h = h
 case_keeps when false Done c h = h
 case_keeps when false (Then s rest) c h = h
 case_keeps when false (Choice subject cases rest) c h = h
+case_keeps when false (Check message name commands rest) c h = h
 
 cases_keep : (Inside : Within) (keeps : Keeps Inside) (m : ChoiceMacro) {c : declarations.Declarations} {args : List Span} {cases : Cases} → AreCases Inside m c args cases → IsWithinLimits c → IsWithinLimits (after_cases c cases)
 cases_keep Inside keeps m no_more h = h
@@ -61,29 +63,30 @@ subject_known As_case args subject c e =
     let w = bind_ok (word (arg_at args 0)) _ _ e in
     subst (λ (s : Subject). after_subject c s ≡ c) (ok_is (Word w.0) subject w.2) refl
 
-item_keeps : (top : Bool) (Inside : Within) (keeps : Keeps Inside) (c : declarations.Declarations) (edge : Edge) {item : Entry} {next : List Entry} {s : Script}
-    → IsItem top Inside c edge item next s → IsWithinLimits c → IsWithinLimits (after_all c s)
-item_keeps top Inside keeps c edge (bare_text i) h = bare_keeps c i h
-item_keeps top Inside keeps c edge (plain_call stands p) h = plain_keeps c _ _ _ _ p h
-item_keeps top Inside keeps c edge (choice {m = m} {subject = subject} {cases = cases} stands p i) h =
-    subst (λ (d : declarations.Declarations). IsWithinLimits (after_cases d cases)) (sym (subject_known m _ subject c p)) (cases_keep Inside keeps m i h)
-item_keeps top Inside keeps c edge (question {q = q} {first = first} {other = other} stands p f o) h =
+item_keeps : (scene : Scene) (Inside : Scene → Within) (keeps : (x : Scene) → Keeps (Inside x)) (c : declarations.Declarations) (edge : Edge) {item : Entry} {next : List Entry} {s : Script}
+    → IsItem scene Inside c edge item next s → IsWithinLimits c → IsWithinLimits (after_all c s)
+item_keeps scene Inside keeps c edge (bare_text i) h = bare_keeps c i h
+item_keeps scene Inside keeps c edge (plain_call stands p) h = plain_keeps c _ _ _ _ p h
+item_keeps scene Inside keeps c edge (choice {m = m} {subject = subject} {cases = cases} stands p i) h =
+    subst (λ (d : declarations.Declarations). IsWithinLimits (after_cases d cases)) (sym (subject_known m _ subject c p)) (cases_keep (Inside (of_case scene)) (keeps (of_case scene)) m i h)
+item_keeps scene Inside keeps c edge (question {q = q} {first = first} {other = other} stands p f o) h =
     subst IsWithinLimits (sym (after_followed first other (after_question c q)))
-    (action_keeps Inside keeps _ o (action_keeps Inside keeps _ f (question_keeps c _ _ q p h)))
+    (action_keeps (Inside (of_case scene)) (keeps (of_case scene)) _ o (action_keeps (Inside (of_case scene)) (keeps (of_case scene)) _ f (question_keeps c _ _ q p h)))
+item_keeps scene Inside keeps c edge (check stands m n i) h = keeps _ c _ _ i h
 
-items_keep : (top : Bool) (Inside : Within) (keeps : Keeps Inside) {c : declarations.Declarations} {edge : Edge} {items : List Entry} {s : Script}
-    → AreStatements top Inside c edge items s → IsWithinLimits c → IsWithinLimits (after_all c s)
-items_keep top Inside keeps none h = h
-items_keep top Inside keeps (one {c = c} {first = first} {rest = rest} i more) h =
-    subst IsWithinLimits (sym (after_joined first rest c)) (items_keep top Inside keeps more (item_keeps top Inside keeps c _ i h))
+items_keep : (scene : Scene) (Inside : Scene → Within) (keeps : (x : Scene) → Keeps (Inside x)) {c : declarations.Declarations} {edge : Edge} {items : List Entry} {s : Script}
+    → AreStatements scene Inside c edge items s → IsWithinLimits c → IsWithinLimits (after_all c s)
+items_keep scene Inside keeps none h = h
+items_keep scene Inside keeps (one {c = c} {first = first} {rest = rest} i more) h =
+    subst IsWithinLimits (sym (after_joined first rest c)) (items_keep scene Inside keeps more (item_keeps scene Inside keeps c _ i h))
 
-body_keeps : (room : ℕ) → Keeps (IsBody room)
-body_keeps zero c arg s i h = absurd i
-body_keeps (suc room) c arg s i h = items_keep false (IsBody room) (body_keeps room) i.2.2 h
+body_keeps : (room : ℕ) (scene : Scene) → Keeps (IsBody room scene)
+body_keeps zero scene c arg s i h = absurd i
+body_keeps (suc room) scene c arg s i h = items_keep scene (IsBody room) (body_keeps room) i.2.2 h
 
 -- The lists of a source.
 pub source_fits : (text : List ℕ) (s : Script) → IsSource text s → IsWithinLimits (after_all start s)
-source_fits text s is = items_keep true (IsBody 31) (body_keeps 31) is.list.statements start_fits
+source_fits text s is = items_keep Top (IsBody 31) (body_keeps 31) is.list.statements start_fits
 
 pub lists_fit : (text : List ℕ) (r : Result (List Stmt) ParseFault) → Gives script_of r (source_of text) → IfOk r (λ s. HasShortLists (lists_of (script_of s)))
 lists_fit text (Ok s) is =

@@ -1,5 +1,5 @@
 -- The statements of a source are read.
-use Rattle.std.proofs.Common.{◌≡◌, ℕ, zero, suc, Bool, false, List, Ok, refl, ap, ◌∙◌}
+use Rattle.std.proofs.Common.{◌≡◌, ℕ, zero, suc, List, Ok, refl, ap, ◌∙◌}
 use Rattle.m4quote.specs.Entry.{Span, Entry}
 use Rattle.m4quote.proofs.Laws.{outcome_is_spelling, bare_value_is_value}
 use Rattle.baretext.proofs.Laws.{text-read}
@@ -12,30 +12,33 @@ use Rattle.syntax.specs.declared.declarations.Declarations as declarations
 use Rattle.syntax.specs.declared.declarations.Stage.{Stage}
 use Rattle.syntax.specs.declared.declarations.Stage.TheVariants.{Before, Ended}
 use Rattle.acmacros.specs.Placement.{bare_fault, as_statement}
+use Rattle.acmacros.specs.Scene.{Scene, of_case}
 use Rattle.syntax.specs.declared.tree.When.{When}
 use Rattle.syntax.specs.Script.{Script, Cases}
-use Rattle.acparse.specs.Bare.{bare_at, of_value, idle_or, bare_of}
-use Rattle.acparse.specs.Profile.{Bodies, body_of, items_of, item_of, checked, known, cases_in, choice_of, action_in, asked_of}
-use Rattle.acparse.specs.Statements.{Within, MayStand, IsBare, before, ended, assignments, AreCases, no_more, default, pair, IsAction, absent, there, IsItem, bare_text, plain_call, choice, question, AreStatements, none, one, IsBody}
+use Rattle.m4quote.specs.Scan.{bare_value_of}
+use Rattle.acparse.specs.Bare.{bare_at, of_value, assigned_in, idle_or, bare_of}
+use Rattle.acparse.specs.Profile.{Bodies, body_of, items_of, item_of, checked, known, cases_in, choice_of, action_in, asked_of, check_of}
+use Rattle.acparse.specs.Statements.{Within, MayStand, IsBare, before, ended, assignments, AreCases, no_more, default, pair, IsAction, absent, there, IsItem, bare_text, plain_call, choice, question, check, AreStatements, none, one, IsBody}
 
 -- The statements of each statement argument are read.
 abbrev pub Gets : Bodies → Within → Type 0
 Gets bodies Inside = (c : declarations.Declarations) (arg : Span) (s : Script) → Inside c arg s → bodies c arg ≡ Ok s
 
-pub is_checked : (top : Bool) (stage : Stage) (edge : Edge) (name : List ℕ) (args : List Span) (at : ℕ) (next : List Entry) (m : Macro)
-    → MayStand top stage edge name args at next m → checked top stage edge name args at next ≡ Ok m
+pub is_checked : (scene : Scene) (stage : Stage) (edge : Edge) (name : List ℕ) (args : List Span) (at : ℕ) (next : List Entry) (m : Macro)
+    → MayStand scene stage edge name args at next m → checked scene stage edge name args at next ≡ Ok m
 unfolding checked
-is_checked top stage edge name args at next m h =
+is_checked scene stage edge name args at next m h =
     then_ok _ _ h.row _ (ap (known at) h.known)
     (then_ok _ _ tt _ (wants_true _ _ h.taken)
-    (then_ok _ _ m _ (ap (as_statement stage at) h.named) (then_ok _ _ tt _ h.in_place (then_ok _ _ tt _ (wants_true _ _ h.parted) refl))))
+    (then_ok _ _ m _ (ap (as_statement stage at) h.named) (then_ok _ _ tt _ h.in_place (then_ok _ _ tt _ (wants_true _ _ h.parted) (then_ok _ _ tt _ h.held refl)))))
 
-bare_only : {stage : Stage} (at : ℕ) {text : List ℕ} {s : Script} → IsBare stage text s → bare_of stage at text ≡ Ok s
-unfolding bare_of
+bare_only : {scene : Scene} {stage : Stage} (at : ℕ) {text : List ℕ} {s : Script} → IsBare scene stage text s → bare_of scene stage at text ≡ Ok s
+unfolding bare_of assigned_in
 bare_only at (before is) = ap (λ b. idle_or b (bare_fault Before at)) is
 bare_only at (ended is) = ap (λ b. idle_or b (bare_fault Ended at)) is
-bare_only at (assignments {text = text} {value = value} {list = list} v l) =
-    ap (of_value at) ((bare_value_is_value text value).1 v) ∙ then_ok _ _ list _ (ap (bare_at at) (text-read value list l)) refl
+bare_only at (assignments {text = text} {value = value} {list = list} v l may) =
+    then_ok (of_value at (bare_value_of text)) _ list _ (ap (of_value at) ((bare_value_is_value text value).1 v) ∙ ap (bare_at at) (text-read value list l))
+    (then_ok _ _ tt _ may refl)
 
 cases_only : (bodies : Bodies) (Inside : Within) (ok : Gets bodies Inside) (m : ChoiceMacro) {c : declarations.Declarations} {args : List Span} {cases : Cases} → AreCases Inside m c args cases → cases_in bodies m c args ≡ Ok cases
 unfolding cases_in
@@ -48,27 +51,29 @@ unfolding action_in
 action_only bodies Inside ok when absent = refl
 action_only bodies Inside ok when (there h) = then_ok _ _ _ _ (ok _ _ _ h) refl
 
-item_only : (top : Bool) (bodies : Bodies) (Inside : Within) (ok : Gets bodies Inside) (c : declarations.Declarations) (edge : Edge) {item : Entry} {next : List Entry} {s : Script}
-    → IsItem top Inside c edge item next s → item_of top bodies c edge item next ≡ Ok s
-unfolding choice_of asked_of
-item_only top bodies Inside ok c edge (bare_text h) = bare_only _ h
-item_only top bodies Inside ok c edge (plain_call stands p) = then_ok _ _ _ _ (is_checked _ _ _ _ _ _ _ _ stands) (then_ok _ _ _ _ p refl)
-item_only top bodies Inside ok c edge (choice stands p h) =
-    then_ok _ _ _ _ (is_checked _ _ _ _ _ _ _ _ stands) (then_ok _ _ _ _ p (then_ok _ _ _ _ (cases_only bodies Inside ok _ h) refl))
-item_only top bodies Inside ok c edge (question stands p f o) =
+item_only : (scene : Scene) (bodies : Scene → Bodies) (Inside : Scene → Within) (ok : (x : Scene) → Gets (bodies x) (Inside x)) (c : declarations.Declarations) (edge : Edge) {item : Entry} {next : List Entry} {s : Script}
+    → IsItem scene Inside c edge item next s → item_of scene bodies c edge item next ≡ Ok s
+unfolding choice_of asked_of check_of
+item_only scene bodies Inside ok c edge (bare_text h) = bare_only _ h
+item_only scene bodies Inside ok c edge (plain_call stands p) = then_ok _ _ _ _ (is_checked _ _ _ _ _ _ _ _ stands) (then_ok _ _ _ _ p refl)
+item_only scene bodies Inside ok c edge (choice stands p h) =
+    then_ok _ _ _ _ (is_checked _ _ _ _ _ _ _ _ stands) (then_ok _ _ _ _ p (then_ok _ _ _ _ (cases_only (bodies (of_case scene)) (Inside (of_case scene)) (ok (of_case scene)) _ h) refl))
+item_only scene bodies Inside ok c edge (question stands p f o) =
     then_ok _ _ _ _ (is_checked _ _ _ _ _ _ _ _ stands)
-    (then_ok _ _ _ _ p (then_ok _ _ _ _ (action_only bodies Inside ok _ f) (then_ok _ _ _ _ (action_only bodies Inside ok _ o) refl)))
+    (then_ok _ _ _ _ p (then_ok _ _ _ _ (action_only (bodies (of_case scene)) (Inside (of_case scene)) (ok (of_case scene)) _ f) (then_ok _ _ _ _ (action_only (bodies (of_case scene)) (Inside (of_case scene)) (ok (of_case scene)) _ o) refl)))
+item_only scene bodies Inside ok c edge (check stands m n h) =
+    then_ok _ _ _ _ (is_checked _ _ _ _ _ _ _ _ stands) (then_ok _ _ _ _ m (then_ok _ _ _ _ n (then_ok _ _ _ _ (ok _ _ _ _ h) refl)))
 
-pub items_only : (top : Bool) (bodies : Bodies) (Inside : Within) (ok : Gets bodies Inside) {c : declarations.Declarations} {edge : Edge} {items : List Entry} {s : Script}
-    → AreStatements top Inside c edge items s → items_of top bodies c edge items ≡ Ok s
+pub items_only : (scene : Scene) (bodies : Scene → Bodies) (Inside : Scene → Within) (ok : (x : Scene) → Gets (bodies x) (Inside x)) {c : declarations.Declarations} {edge : Edge} {items : List Entry} {s : Script}
+    → AreStatements scene Inside c edge items s → items_of scene bodies c edge items ≡ Ok s
 unfolding items_of
-items_only top bodies Inside ok none = refl
-items_only top bodies Inside ok (one i more) = then_ok _ _ _ _ (item_only top bodies Inside ok _ _ i) (then_ok _ _ _ _ (items_only top bodies Inside ok more) refl)
+items_only scene bodies Inside ok none = refl
+items_only scene bodies Inside ok (one i more) = then_ok _ _ _ _ (item_only scene bodies Inside ok _ _ i) (then_ok _ _ _ _ (items_only scene bodies Inside ok more) refl)
 
 -- The statements of a statement argument are read.
-pub body_only : (room : ℕ) → Gets (body_of room) (IsBody room)
+pub body_only : (room : ℕ) (scene : Scene) → Gets (body_of room scene) (IsBody room scene)
 unfolding body_of
-body_only zero c arg s h = absurd h
-body_only (suc room) c arg s h =
+body_only zero scene c arg s h = absurd h
+body_only (suc room) scene c arg s h =
     then_ok _ _ h.0 _ h.1 (then_ok _ _ h.2.0 _ (ap quoted ((outcome_is_spelling h.0.at h.0.text h.2.0).1 h.2.1))
-    (items_only false (body_of room) (IsBody room) (body_only room) h.2.2))
+    (items_only scene (body_of room) (IsBody room) (body_only room) h.2.2))

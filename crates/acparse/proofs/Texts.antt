@@ -13,16 +13,15 @@ use Rattle.syntax.specs.declared.declarations.Stage.TheVariants.{Before, Open, E
 use Rattle.syntax.specs.declared.statement.Plain.TheVariants.{Assign}
 use Rattle.syntax.specs.Lists.{after}
 use Rattle.acmacros.specs.Placement.{bare_fault}
+use Rattle.acmacros.specs.Scene.{Scene}
 use Rattle.m4quote.specs.Scan.{bare_value_of}
-use Rattle.m4quote.specs.declared.fault.QuoteFault.{QuoteFault}
-use Rattle.baretext.specs.Reading.{statements_of}
 use Rattle.syntax.specs.declared.tree.Stmt.{Stmt}
-use Rattle.syntax.specs.declared.tree.Stmt.TheVariants.{Plain, Choose'}
+use Rattle.syntax.specs.declared.tree.Stmt.TheVariants.{Plain, Choose', CacheCheck'}
 use Rattle.syntax.specs.declared.tree.When.{When}
 use Rattle.syntax.specs.Lists.{after_all}
 use Rattle.syntax.specs.Script.{Script, Done, Then, Cases, No_case, Case, joined, stmt_then, script_of}
 use Rattle.syntax.proofs.ScriptLemmas.{script_push, joined_assoc, joined_done}
-use Rattle.acparse.specs.Bare.{bare_at, assigned, of_value, idle_or, bare_of}
+use Rattle.acparse.specs.Bare.{assigned, may_assign, of_value, assigned_in, idle_or, bare_of}
 use Rattle.acparse.specs.Profile.{following, is_done, case_if}
 
 assigned_push : (list : List Assignment) (a : Assignment) → assigned (list ++ a ∷ []) ≡ joined (assigned list) (Then (Assign a.name a.value) Done)
@@ -39,14 +38,14 @@ assign_more before out out' seen a e h =
     ∙ ap (joined before) (sym (assigned_push seen a))
 
 -- Text without effect, if no statement is allowed.
-pub idle_adds : (at : ℕ) (text : List ℕ) (out : Script) (stage : Stage) (r : Result (Unit {0}) ParseFault) → (stage ≡ Open → ⊥) → Gives (λ _. Done) r (idle_or (is_idle text) (bare_fault stage at))
-    → Gives (λ _. out) r (following out (bare_of stage at text))
+pub idle_adds : (scene : Scene) (at : ℕ) (text : List ℕ) (out : Script) (stage : Stage) (r : Result (Unit {0}) ParseFault) → (stage ≡ Open → ⊥) → Gives (λ _. Done) r (idle_or (is_idle text) (bare_fault stage at))
+    → Gives (λ _. out) r (following out (bare_of scene stage at text))
 unfolding bare_of
-idle_adds at text out Open r n h = absurd (n refl)
-idle_adds at text out Before (Ok x) n h = ap (following out) h ∙ ap (λ (s : Script). Ok s) (joined_done out)
-idle_adds at text out Before (Err f) n h = fails_bind f _ _ h
-idle_adds at text out Ended (Ok x) n h = ap (following out) h ∙ ap (λ (s : Script). Ok s) (joined_done out)
-idle_adds at text out Ended (Err f) n h = fails_bind f _ _ h
+idle_adds scene at text out Open r n h = absurd (n refl)
+idle_adds scene at text out Before (Ok x) n h = ap (following out) h ∙ ap (λ (s : Script). Ok s) (joined_done out)
+idle_adds scene at text out Before (Err f) n h = fails_bind f _ _ h
+idle_adds scene at text out Ended (Ok x) n h = ap (following out) h ∙ ap (λ (s : Script). Ok s) (joined_done out)
+idle_adds scene at text out Ended (Err f) n h = fails_bind f _ _ h
 
 pub before_open : (stage : Stage) → stage ≡ Before → stage ≡ Open → ⊥
 before_open stage e f = cc
@@ -62,22 +61,23 @@ unfolding after
 assigned_known [] c = refl
 assigned_known (a ∷ more) c = assigned_known more c
 
-value_known : (c : declarations.Declarations) (at : ℕ) (r : Result (List ℕ) QuoteFault) (s : Script) → of_value at r ≡ Ok s → after_all c s ≡ c
-value_known c at (Ok value) s e =
-    let l = bind_ok (bare_at at (statements_of value)) (λ list. Ok (assigned list)) s e in
-    ap (after_all c) (sym (ok_is _ s l.2)) ∙ assigned_known l.0 c
-value_known c at (Err f) s e = absurd cc
+value_known : (c : declarations.Declarations) (scene : Scene) (at : ℕ) (text : List ℕ) (s : Script) → assigned_in scene at text ≡ Ok s → after_all c s ≡ c
+unfolding assigned_in
+value_known c scene at text s e =
+    let l = bind_ok (of_value at (bare_value_of text)) _ s e in
+    let m = bind_ok (may_assign scene l.0) _ s l.2 in
+    ap (after_all c) (sym (ok_is _ s m.2)) ∙ assigned_known l.0 c
 
 idle_known : (c : declarations.Declarations) (b : Bool) (f : ParseFault) (s : Script) → idle_or b f ≡ Ok s → after_all c s ≡ c
 idle_known c true f s e = ap (after_all c) (sym (ok_is Done s e))
 idle_known c false f s e = absurd cc
 
 -- Bare text declares nothing.
-pub bare_known : (c : declarations.Declarations) (stage : Stage) (at : ℕ) (text : List ℕ) (s : Script) → bare_of stage at text ≡ Ok s → after_all c s ≡ c
+pub bare_known : (c : declarations.Declarations) (scene : Scene) (stage : Stage) (at : ℕ) (text : List ℕ) (s : Script) → bare_of scene stage at text ≡ Ok s → after_all c s ≡ c
 unfolding bare_of
-bare_known c Before at text s e = idle_known c (is_idle text) _ s e
-bare_known c Open at text s e = value_known c at (bare_value_of text) s e
-bare_known c Ended at text s e = idle_known c (is_idle text) _ s e
+bare_known c scene Before at text s e = idle_known c (is_idle text) _ s e
+bare_known c scene Open at text s e = value_known c scene at text s e
+bare_known c scene Ended at text s e = idle_known c (is_idle text) _ s e
 
 failed : (out : Script) (r : Result Script ParseFault) (x : ParseFault) → following out r ≡ Err x → r ≡ Err x
 failed out (Ok s) x h = absurd cc
@@ -92,6 +92,7 @@ fails_inside x out r h = failed out r x h
 not_done : (s : Stmt) (rest : Script) → is_done (stmt_then s rest) ≡ false
 not_done (Plain s) rest = refl
 not_done (Choose' subject m cases) rest = refl
+not_done (CacheCheck' message name m commands) rest = refl
 
 pub some_case : (when : When) (given : Bool) (body : List Stmt) → (length body == 0) ≡ false → case_if when given (script_of body) ≡ Case when (script_of body) No_case
 some_case when given [] e = absurd cc

@@ -1,5 +1,5 @@
 -- The same for a whole source.
-use Rattle.std.proofs.Common.{◌≡◌, ℕ, true, List, Result, Ok, Err, refl, ap, sym, subst, inl, inr}
+use Rattle.std.proofs.Common.{◌≡◌, ℕ, List, Result, Ok, Err, refl, ap, sym, subst, inl, inr}
 use Rattle.std.specs.Prelude.{IfOk, IfErr}
 use Rattle.m4quote.proofs.Laws.{outcome_is_spelling, outcome_is_fault}
 use Rattle.m4quote.specs.Scan.{outcome}
@@ -12,6 +12,7 @@ use Rattle.syntax.specs.declared.declarations.Stage.{Stage}
 use Rattle.syntax.specs.declared.declarations.Stage.TheVariants.{Before, Open, Ended}
 use Rattle.syntax.specs.Lists.{start}
 use Rattle.syntax.specs.Lists.{after_all}
+use Rattle.acmacros.specs.Scene.{Top}
 use Rattle.acparse.specs.Profile.{source_of, body_of, ended}
 use Rattle.syntax.specs.declared.tree.Stmt.{Stmt}
 use Rattle.syntax.specs.Script.{Script, script_of}
@@ -34,7 +35,7 @@ source_found text s e =
     let l = bind_ok _ _ _ i.2 in
     let z = ended_ok _ l.0 s l.2 in
     subst (IsSource text) z.1 (record {
-      list = record { items = i.0; spelled = (outcome_is_spelling 0 text i.0).0 (quoted_ok (outcome 0 text) i.0 i.1); statements = items_found true (body_of 31) (IsBody 31) (body_found 31) i.0 start no_edge l.0 l.1 };
+      list = record { items = i.0; spelled = (outcome_is_spelling 0 text i.0).0 (quoted_ok (outcome 0 text) i.0 i.1); statements = items_found Top (body_of 31) (IsBody 31) (body_found 31) i.0 start no_edge l.0 l.1 };
       ended = z.0;
     })
 
@@ -42,7 +43,7 @@ pub source_only : (text : List ℕ) (s : Script) → IsSource text s → source_
 unfolding source_of
 source_only text s h =
     then_ok _ _ h.list.items _ (ap quoted ((outcome_is_spelling 0 text h.list.items).1 h.list.spelled))
-    (then_ok _ _ s _ (items_only true (body_of 31) (IsBody 31) (body_only 31) h.list.statements) (ap (λ stage. ended stage s) h.ended))
+    (then_ok _ _ s _ (items_only Top (body_of 31) (IsBody 31) (body_only 31) h.list.statements) (ap (λ stage. ended stage s) h.ended))
 
 ended_err : (text : List ℕ) (stage : Stage) (s : Script) (f : ParseFault) → (after_all start s).stage ≡ stage → IsList text s → ended stage s ≡ Err f → IsSourceFault text f
 ended_err text Before s f is h e = subst (IsSourceFault text) (err_is {A = Script} _ f e) (no_init h is)
@@ -57,8 +58,8 @@ source_fault text f e =
       | inr i ↦
           let spelled = (outcome_is_spelling 0 text i.0).0 (quoted_ok (outcome 0 text) i.0 i.1) in
           elim (bind_err _ _ _ i.2) [
-            | inl h ↦ in_items spelled (items_break true (body_of 31) (IsBody 31) (IsBroken 31) (body_found 31) (body_breaks 31) i.0 start no_edge f h)
-            | inr s ↦ ended_err text (after_all start s.0).stage s.0 f refl (record { items = i.0; spelled = spelled; statements = items_found true (body_of 31) (IsBody 31) (body_found 31) i.0 start no_edge s.0 s.1 }) s.2
+            | inl h ↦ in_items spelled (items_break Top (body_of 31) (IsBody 31) (IsBroken 31) (body_found 31) (body_breaks 31) i.0 start no_edge f h)
+            | inr s ↦ ended_err text (after_all start s.0).stage s.0 f refl (record { items = i.0; spelled = spelled; statements = items_found Top (body_of 31) (IsBody 31) (body_found 31) i.0 start no_edge s.0 s.1 }) s.2
           ]
     ]
 

@@ -1,5 +1,7 @@
 -- Bare text between calls: the assignments in its value, or blanks and comments alone if no statement is allowed.
 use Rattle.std.specs.Prelude.{ℕ, Bool, true, false, List, [], ◌∷◌, Result, Ok, Err}
+use Rattle.std.specs.List.{list_all}
+use Rattle.std.specs.Str.{bytes_eq}
 use Rattle.m4quote.specs.declared.fault.QuoteFault.{QuoteFault}
 use Rattle.m4quote.specs.Scan.{bare_value_of}
 use Rattle.baretext.specs.declared.assignments.Assignment.{Assignment}
@@ -7,13 +9,14 @@ use Rattle.baretext.specs.declared.fault.BareFault.{BareFault}
 use Rattle.baretext.specs.declared.fault.BareFault.TheVariants as bare
 use Rattle.baretext.specs.Reading.{statements_of}
 use Rattle.acstatement.specs.declared.fault.ParseFault.{ParseFault}
-use Rattle.acstatement.specs.declared.fault.ParseFault.TheVariants.{UnknownStatement, OutOfMemory}
+use Rattle.acstatement.specs.declared.fault.ParseFault.TheVariants.{UnknownStatement, CacheBody, OutOfMemory}
 use Rattle.acstatement.specs.Idle.{is_idle}
-use Rattle.acstatement.specs.Reading.{◌>>=◌, shell_fault}
+use Rattle.acstatement.specs.Reading.{◌>>=◌, wants, shell_fault}
 use Rattle.syntax.specs.declared.declarations.Stage.{Stage}
 use Rattle.syntax.specs.declared.declarations.Stage.TheVariants.{Before, Open, Ended}
 use Rattle.syntax.specs.declared.statement.Plain.TheVariants.{Assign}
 use Rattle.acmacros.specs.Placement.{bare_fault}
+use Rattle.acmacros.specs.Scene.{Scene, Top, Nested, Commands}
 use Rattle.syntax.specs.Script.{Script, Done, Then}
 
 -- An error of bare text, as an error of the source at the offset of the text. (own)
@@ -32,10 +35,27 @@ abbrev pub assigned : List Assignment → Script
 assigned [] = Done
 assigned (a ∷ more) = Then (Assign a.name a.value) (assigned more)
 
--- The statements in a value of bare text. (POSIX shell, "Simple Commands")
-abbrev pub of_value : ℕ → Result (List ℕ) QuoteFault → Result Script ParseFault
-of_value at (Ok value) = bare_at at (statements_of value) >>= λ list. Ok (assigned list)
+-- All assignments are to this variable. (own)
+abbrev pub set_alone : List ℕ → List Assignment → Bool
+set_alone name list = list_all (λ a. bytes_eq a.name name) list
+
+-- The scene may hold these assignments: commands set their own name alone. (own)
+unfoldable pub may_assign : Scene → List Assignment → Result (Unit {0}) ParseFault
+may_assign Top list = Ok tt
+may_assign Nested list = Ok tt
+may_assign (Commands name at) list = wants (set_alone name list) (CacheBody at)
+
+-- The assignments in a value of bare text. (POSIX shell, "Simple Commands")
+abbrev pub of_value : ℕ → Result (List ℕ) QuoteFault → Result (List Assignment) ParseFault
+of_value at (Ok value) = bare_at at (statements_of value)
 of_value at (Err f) = Err (UnknownStatement at)
+
+-- The assignments in bare text at an offset, if the scene may hold them. (own)
+unfoldable pub assigned_in : Scene → ℕ → List ℕ → Result Script ParseFault
+assigned_in scene at text = do
+  list ← of_value at (bare_value_of text)
+  _ ← may_assign scene list
+  Ok (assigned list)
 
 -- Text without effect, or this error. (own)
 abbrev pub idle_or : Bool → ParseFault → Result Script ParseFault
@@ -43,7 +63,7 @@ idle_or true f = Ok Done
 idle_or false f = Err f
 
 -- The statements of bare text at an offset: before AC_INIT and after AC_OUTPUT, none are allowed. (own)
-unfoldable pub bare_of : Stage → ℕ → List ℕ → Result Script ParseFault
-bare_of Before at text = idle_or (is_idle text) (bare_fault Before at)
-bare_of Open at text = of_value at (bare_value_of text)
-bare_of Ended at text = idle_or (is_idle text) (bare_fault Ended at)
+unfoldable pub bare_of : Scene → Stage → ℕ → List ℕ → Result Script ParseFault
+bare_of scene Before at text = idle_or (is_idle text) (bare_fault Before at)
+bare_of scene Open at text = assigned_in scene at text
+bare_of scene Ended at text = idle_or (is_idle text) (bare_fault Ended at)

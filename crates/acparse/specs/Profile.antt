@@ -6,16 +6,16 @@ use Rattle.m4quote.specs.Scan.{outcome}
 use Rattle.acstatement.specs.declared.fault.ParseFault.{ParseFault}
 use Rattle.acstatement.specs.declared.fault.ParseFault.TheVariants.{UnknownMacro, UnknownStatement, ArgCount, NoInit, NoOutput, TooDeep}
 use Rattle.acstatement.specs.declared.stand.Edge.{Edge}
-use Rattle.acargs.specs.Arguments.{is_given}
+use Rattle.acargs.specs.Arguments.{cache_name, is_given}
 use Rattle.acstatement.specs.Texts.{arg_at}
 use Rattle.acstatement.specs.Inside.{inside}
 use Rattle.acstatement.specs.Reading.{◌>>=◌, wants, quoted}
-use Rattle.acargs.specs.Shell.{word, shell_test, patterns}
+use Rattle.acargs.specs.Shell.{word, here_text, shell_test, patterns}
 use Rattle.acstatement.specs.Stand.{edge_of, no_edge, is_statement}
 use Rattle.acmacros.specs.declared.macros.ChoiceMacro.{ChoiceMacro}
 use Rattle.acmacros.specs.declared.macros.ChoiceMacro.TheVariants.{If, Case as As_case}
 use Rattle.acmacros.specs.declared.macros.Macro.{Macro}
-use Rattle.acmacros.specs.declared.macros.Macro.TheVariants.{Plain, Choice as A_choice, Question as A_question}
+use Rattle.acmacros.specs.declared.macros.Macro.TheVariants.{Plain, Choice as A_choice, Question as A_question, Check as A_check}
 use Rattle.acmacros.specs.declared.table.Row.{Row}
 use Rattle.acmacros.specs.declared.macros.QuestionMacro.{QuestionMacro}
 use Rattle.acmacros.specs.declared.macros.QuestionMacro.TheVariants.{Given, Tries}
@@ -25,13 +25,14 @@ use Rattle.syntax.specs.declared.declarations.Declarations as declarations
 use Rattle.acmacros.specs.Rows.{plain_of, question_of}
 use Rattle.syntax.specs.Lists.{start, after_question}
 use Rattle.acmacros.specs.Placement.{as_statement, placed}
+use Rattle.acmacros.specs.Scene.{Scene, Top, Commands, is_top, of_case, may_hold}
 use Rattle.acmacros.specs.Table.{row_named, takes}
 use Rattle.syntax.specs.declared.tree.Subject.{Subject}
 use Rattle.syntax.specs.declared.tree.Subject.TheVariants.{Nothing, Word, Asked}
 use Rattle.syntax.specs.declared.tree.When.{When}
 use Rattle.syntax.specs.declared.tree.When.TheVariants.{Holds, Matches, Yes, No, Always}
 use Rattle.syntax.specs.Lists.{after_all, after_cases}
-use Rattle.syntax.specs.Script.{Script, Done, Then, Choice, Cases, No_case, Case, joined, followed}
+use Rattle.syntax.specs.Script.{Script, Done, Then, Choice, Check, Cases, No_case, Case, joined, followed}
 use Rattle.acparse.specs.Bare.{bare_of}
 
 -- A reader of statement arguments: what has been declared before one, the argument, and its statements. (own)
@@ -71,6 +72,7 @@ abbrev pub is_done : Script → Bool
 is_done Done = true
 is_done (Then s rest) = false
 is_done (Choice subject cases rest) = false
+is_done (Check message name commands rest) = false
 
 -- A case with these statements, unless its argument is absent or empty and has no statement. (own)
 abbrev pub case_if : When → Bool → Script → Cases
@@ -136,6 +138,16 @@ asked_of bodies m c args = do
   other ← action_in bodies No (after_cases (after_question c q) first) (drop 1 (action_args m args))
   Ok (Choice (Asked q) (followed first other) Done)
 
+-- ---- checks
+
+-- AC_CACHE_CHECK(message, name, commands). (Autoconf's manual, "Caching Results")
+unfoldable pub check_of : (Scene → Bodies) → declarations.Declarations → List Span → Result Script ParseFault
+check_of bodies c args = do
+  message ← here_text (arg_at args 0)
+  name ← cache_name (arg_at args 1)
+  commands ← bodies (Commands name (arg_at args 2).at) c (arg_at args 2)
+  Ok (Check message name commands Done)
+
 -- ---- items
 
 -- The row of a macro's name, which is at this offset. (own)
@@ -144,47 +156,49 @@ known at None = Err (UnknownMacro at)
 known at (Some row) = Ok row
 
 -- The macro of a call between what precedes it and the items after it. The conditions are checked in this order: its
--- name is known, it takes these arguments, its calls are statements, one is allowed here, and this one is separate from
--- other text. (own)
-unfoldable pub checked : Bool → Stage → Edge → List ℕ → List Span → ℕ → List Entry → Result Macro ParseFault
-checked top stage edge name args at following = do
+-- name is known, it takes these arguments, its calls are statements, one is allowed here, this one is separate from other
+-- text, and the list may hold it. (own)
+unfoldable pub checked : Scene → Stage → Edge → List ℕ → List Span → ℕ → List Entry → Result Macro ParseFault
+checked scene stage edge name args at following = do
   row ← known at (row_named name)
   _ ← wants (takes row args) (ArgCount at)
   m ← as_statement stage at row.named
-  _ ← placed top stage row.top m at
+  _ ← placed (is_top scene) stage row.top m at
   _ ← wants (is_statement edge name args at following) (UnknownStatement at)
+  _ ← may_hold scene m
   Ok m
 
 -- The statement of a call of a macro with its name at this offset. (own)
-abbrev pub call_of : Bodies → declarations.Declarations → Macro → ℕ → List Span → Result Script ParseFault
-call_of bodies c (Plain m) at args = do
+abbrev pub call_of : Scene → (Scene → Bodies) → declarations.Declarations → Macro → ℕ → List Span → Result Script ParseFault
+call_of scene bodies c (Plain m) at args = do
   s ← plain_of c m at args
   Ok (Then s Done)
-call_of bodies c (A_choice m) at args = choice_of bodies m c args
-call_of bodies c (A_question m) at args = asked_of bodies m c args
+call_of scene bodies c (A_choice m) at args = choice_of (bodies (of_case scene)) m c args
+call_of scene bodies c (A_question m) at args = asked_of (bodies (of_case scene)) m c args
+call_of scene bodies c A_check at args = check_of bodies c args
 
 -- The statements of an item between what precedes it and the items after it. (own)
-abbrev pub item_of : Bool → Bodies → declarations.Declarations → Edge → Entry → List Entry → Result Script ParseFault
-item_of top bodies c edge (bare text at) following = bare_of c.stage at text
-item_of top bodies c edge (call name args at) following = do
-  m ← checked top c.stage edge name args at following
-  call_of bodies c m at args
+abbrev pub item_of : Scene → (Scene → Bodies) → declarations.Declarations → Edge → Entry → List Entry → Result Script ParseFault
+item_of scene bodies c edge (bare text at) following = bare_of scene c.stage at text
+item_of scene bodies c edge (call name args at) following = do
+  m ← checked scene c.stage edge name args at following
+  call_of scene bodies c m at args
 
 -- The statements of items, one after another. (own)
-unfoldable pub items_of : Bool → Bodies → declarations.Declarations → Edge → List Entry → Result Script ParseFault
-items_of top bodies c edge [] = Ok Done
-items_of top bodies c edge (item ∷ items) = do
-  first ← item_of top bodies c edge item items
-  rest ← items_of top bodies (after_all c first) (edge_of item) items
+unfoldable pub items_of : Scene → (Scene → Bodies) → declarations.Declarations → Edge → List Entry → Result Script ParseFault
+items_of scene bodies c edge [] = Ok Done
+items_of scene bodies c edge (item ∷ items) = do
+  first ← item_of scene bodies c edge item items
+  rest ← items_of scene bodies (after_all c first) (edge_of item) items
   Ok (joined first rest)
 
 -- The statements of an argument in which lists nest at most room deep, counting its own. (own)
-unfoldable pub body_of : (room : ℕ) → Bodies
-body_of zero c arg = Err (TooDeep arg.at)
-body_of (suc room) c arg = do
+unfoldable pub body_of : (room : ℕ) → Scene → Bodies
+body_of zero scene c arg = Err (TooDeep arg.at)
+body_of (suc room) scene c arg = do
   a ← inside arg
   items ← quoted (outcome a.at a.text)
-  items_of false (body_of room) c no_edge items
+  items_of scene (body_of room) c no_edge items
 
 -- ---- a source
 
@@ -198,5 +212,5 @@ ended Ended s = Ok s
 unfoldable pub source_of : List ℕ → Result Script ParseFault
 source_of text = do
   items ← quoted (outcome 0 text)
-  s ← items_of true (body_of 31) start no_edge items
+  s ← items_of Top (body_of 31) start no_edge items
   ended (after_all start s).stage s

@@ -1,18 +1,20 @@
 -- Which statements items have. There is no order of reading: there is a case for each form of item.
-use Rattle.std.specs.Prelude.{◌≡◌, ℕ, zero, suc, Bool, true, false, List, [], ◌∷◌, drop, Some, Ok}
+use Rattle.std.specs.Prelude.{◌≡◌, ℕ, zero, suc, true, List, [], ◌∷◌, drop, Some, Ok}
 use Rattle.m4quote.specs.Entry.{Span, Entry, call, bare}
 use Rattle.m4quote.specs.Spelling.{IsSpelling}
 use Rattle.m4quote.specs.Used.{IsBareValue}
 use Rattle.baretext.specs.declared.assignments.Assignment.{Assignment}
 use Rattle.baretext.specs.Statements.{IsBareText}
 use Rattle.acstatement.specs.declared.stand.Edge.{Edge}
-use Rattle.acargs.specs.Arguments.{is_given}
+use Rattle.acargs.specs.Arguments.{cache_name, is_given}
+use Rattle.acargs.specs.Shell.{here_text}
 use Rattle.acstatement.specs.Idle.{is_idle}
 use Rattle.acstatement.specs.Inside.{inside}
+use Rattle.acstatement.specs.Texts.{arg_at}
 use Rattle.acstatement.specs.Stand.{edge_of, no_edge, is_statement}
 use Rattle.acmacros.specs.declared.macros.ChoiceMacro.{ChoiceMacro}
 use Rattle.acmacros.specs.declared.macros.Macro.{Macro}
-use Rattle.acmacros.specs.declared.macros.Macro.TheVariants.{Plain, Choice as A_choice, Question as A_question}
+use Rattle.acmacros.specs.declared.macros.Macro.TheVariants.{Plain, Choice as A_choice, Question as A_question, Check as A_check}
 use Rattle.acmacros.specs.declared.macros.QuestionMacro.{QuestionMacro}
 use Rattle.acmacros.specs.declared.macros.Named.TheVariants.{Statement}
 use Rattle.acmacros.specs.declared.macros.PlainMacro.{PlainMacro}
@@ -20,19 +22,21 @@ use Rattle.acmacros.specs.declared.table.Row.{Row}
 use Rattle.syntax.specs.declared.declarations.Declarations as declarations
 use Rattle.syntax.specs.declared.declarations.Stage.{Stage}
 use Rattle.syntax.specs.declared.declarations.Stage.TheVariants.{Before, Open, Ended}
+use Rattle.shellword.specs.declared.part.Part.{Part}
 use Rattle.syntax.specs.declared.statement.Plain as plain
 use Rattle.syntax.specs.declared.statement.Question.{Question}
 use Rattle.acmacros.specs.Rows.{plain_of, question_of}
 use Rattle.syntax.specs.Lists.{after_question}
 use Rattle.acmacros.specs.Placement.{placed}
+use Rattle.acmacros.specs.Scene.{Scene, Commands, is_top, of_case, may_hold}
 use Rattle.acmacros.specs.Table.{row_named, takes}
 use Rattle.syntax.specs.declared.tree.Subject.{Subject}
 use Rattle.syntax.specs.declared.tree.Subject.TheVariants.{Asked}
 use Rattle.syntax.specs.declared.tree.When.{When}
 use Rattle.syntax.specs.declared.tree.When.TheVariants.{Yes, No, Always}
 use Rattle.syntax.specs.Lists.{after_all, after_cases}
-use Rattle.syntax.specs.Script.{Script, Done, Then, Choice, Cases, No_case, Case, joined, followed}
-use Rattle.acparse.specs.Bare.{assigned}
+use Rattle.syntax.specs.Script.{Script, Done, Then, Choice, Check, Cases, No_case, Case, joined, followed}
+use Rattle.acparse.specs.Bare.{assigned, may_assign}
 use Rattle.acparse.specs.Profile.{when_of, subject_of, case_args, case_if, action_args}
 
 -- The statements of a statement argument, given what has been declared before it. (own)
@@ -40,19 +44,22 @@ abbrev pub Within : Type 1
 Within = declarations.Declarations → Span → Script → Type 0
 
 -- A call of the macro is a statement between what precedes it and the items after it. (own)
-pub record MayStand (top : Bool) (stage : Stage) (edge : Edge) (name : List ℕ) (args : List Span) (at : ℕ) (following : List Entry) (m : Macro) : Type 0 where
+pub record MayStand (scene : Scene) (stage : Stage) (edge : Edge) (name : List ℕ) (args : List Span) (at : ℕ) (following : List Entry) (m : Macro) : Type 0 where
   pub row : Row
   pub known : row_named name ≡ Some row
   pub named : row.named ≡ Statement m
   pub taken : takes row args ≡ true
-  pub in_place : placed top stage row.top m at ≡ Ok tt
+  pub in_place : placed (is_top scene) stage row.top m at ≡ Ok tt
   pub parted : is_statement edge name args at following ≡ true
+  pub held : may_hold scene m ≡ Ok tt
 
--- Bare text has these statements: the assignments in its value; before AC_INIT and after AC_OUTPUT, none. (own)
-pub data IsBare : Stage → List ℕ → Script → Type 0 where
-  before : {text : List ℕ} → is_idle text ≡ true → IsBare Before text Done
-  ended : {text : List ℕ} → is_idle text ≡ true → IsBare Ended text Done
-  assignments : {text value : List ℕ} {list : List Assignment} → IsBareValue text value → IsBareText value list → IsBare Open text (assigned list)
+-- Bare text has these statements: the assignments in its value, which the scene may hold; before AC_INIT and after
+-- AC_OUTPUT, none. (own)
+pub data IsBare (scene : Scene) : Stage → List ℕ → Script → Type 0 where
+  before : {text : List ℕ} → is_idle text ≡ true → IsBare scene Before text Done
+  ended : {text : List ℕ} → is_idle text ≡ true → IsBare scene Ended text Done
+  assignments : {text value : List ℕ} {list : List Assignment} → IsBareValue text value → IsBareText value list → may_assign scene list ≡ Ok tt
+      → IsBare scene Open text (assigned list)
 
 -- Arguments make these cases: conditions and statements in pairs, and at the end a default alone. (Autoconf's manual,
 -- "Common Shell Constructs")
@@ -69,30 +76,34 @@ pub data IsAction (Inside : Within) (when : When) : declarations.Declarations �
   there : {c : declarations.Declarations} {arg : Span} {more : List Span} {body : Script} → Inside c arg body → IsAction Inside when c (arg ∷ more) (case_if when (is_given arg) body)
 
 -- An item has these statements. (own)
-pub data IsItem (top : Bool) (Inside : Within) (c : declarations.Declarations) (edge : Edge) : Entry → List Entry → Script → Type 0 where
-  bare_text : {text : List ℕ} {at : ℕ} {following : List Entry} {s : Script} → IsBare c.stage text s → IsItem top Inside c edge (bare text at) following s
+pub data IsItem (scene : Scene) (Inside : Scene → Within) (c : declarations.Declarations) (edge : Edge) : Entry → List Entry → Script → Type 0 where
+  bare_text : {text : List ℕ} {at : ℕ} {following : List Entry} {s : Script} → IsBare scene c.stage text s → IsItem scene Inside c edge (bare text at) following s
   plain_call : {name : List ℕ} {args : List Span} {at : ℕ} {following : List Entry} {m : PlainMacro} {s : plain.Plain}
-      → MayStand top c.stage edge name args at following (Plain m) → plain_of c m at args ≡ Ok s
-      → IsItem top Inside c edge (call name args at) following (Then s Done)
+      → MayStand scene c.stage edge name args at following (Plain m) → plain_of c m at args ≡ Ok s
+      → IsItem scene Inside c edge (call name args at) following (Then s Done)
   choice : {name : List ℕ} {args : List Span} {at : ℕ} {following : List Entry} {m : ChoiceMacro} {subject : Subject} {cases : Cases}
-      → MayStand top c.stage edge name args at following (A_choice m) → subject_of m args ≡ Ok subject → AreCases Inside m c (case_args m args) cases
-      → IsItem top Inside c edge (call name args at) following (Choice subject cases Done)
+      → MayStand scene c.stage edge name args at following (A_choice m) → subject_of m args ≡ Ok subject → AreCases (Inside (of_case scene)) m c (case_args m args) cases
+      → IsItem scene Inside c edge (call name args at) following (Choice subject cases Done)
   question : {name : List ℕ} {args : List Span} {at : ℕ} {following : List Entry} {m : QuestionMacro} {q : Question} {first other : Cases}
-      → MayStand top c.stage edge name args at following (A_question m) → question_of c m args ≡ Ok q
-      → IsAction Inside Yes (after_question c q) (action_args m args) first
-      → IsAction Inside No (after_cases (after_question c q) first) (drop 1 (action_args m args)) other
-      → IsItem top Inside c edge (call name args at) following (Choice (Asked q) (followed first other) Done)
+      → MayStand scene c.stage edge name args at following (A_question m) → question_of c m args ≡ Ok q
+      → IsAction (Inside (of_case scene)) Yes (after_question c q) (action_args m args) first
+      → IsAction (Inside (of_case scene)) No (after_cases (after_question c q) first) (drop 1 (action_args m args)) other
+      → IsItem scene Inside c edge (call name args at) following (Choice (Asked q) (followed first other) Done)
+  check : {name : List ℕ} {args : List Span} {at : ℕ} {following : List Entry} {message : List Part} {variable : List ℕ} {commands : Script}
+      → MayStand scene c.stage edge name args at following A_check → here_text (arg_at args 0) ≡ Ok message → cache_name (arg_at args 1) ≡ Ok variable
+      → Inside (Commands variable (arg_at args 2).at) c (arg_at args 2) commands
+      → IsItem scene Inside c edge (call name args at) following (Check message variable commands Done)
 
 -- Items have these statements, one after another. (own)
-pub data AreStatements (top : Bool) (Inside : Within) : declarations.Declarations → Edge → List Entry → Script → Type 0 where
-  none : {c : declarations.Declarations} {edge : Edge} → AreStatements top Inside c edge [] Done
+pub data AreStatements (scene : Scene) (Inside : Scene → Within) : declarations.Declarations → Edge → List Entry → Script → Type 0 where
+  none : {c : declarations.Declarations} {edge : Edge} → AreStatements scene Inside c edge [] Done
   one : {c : declarations.Declarations} {edge : Edge} {item : Entry} {items : List Entry} {first rest : Script}
-      → IsItem top Inside c edge item items first → AreStatements top Inside (after_all c first) (edge_of item) items rest
-      → AreStatements top Inside c edge (item ∷ items) (joined first rest)
+      → IsItem scene Inside c edge item items first → AreStatements scene Inside (after_all c first) (edge_of item) items rest
+      → AreStatements scene Inside c edge (item ∷ items) (joined first rest)
 
 -- A statement argument has these statements, with lists that nest at most n deep, counting its own: the text that it
 -- denotes spells items, and these are their statements. (own)
-abbrev pub IsBody : ℕ → Within
-IsBody zero c arg s = ⊥
-IsBody (suc room) c arg s =
-    (a : Span) × (inside arg ≡ Ok a) × ((items : List Entry) × IsSpelling a.at a.text items × AreStatements false (IsBody room) c no_edge items s)
+abbrev pub IsBody : ℕ → Scene → Within
+IsBody zero scene c arg s = ⊥
+IsBody (suc room) scene c arg s =
+    (a : Span) × (inside arg ≡ Ok a) × ((items : List Entry) × IsSpelling a.at a.text items × AreStatements scene (IsBody room) c no_edge items s)

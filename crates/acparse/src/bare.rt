@@ -2,6 +2,7 @@
 
 ghost use Rattle.std.specs.Prelude.{◌≡◌, OnOk};
 ghost use Rattle.m4quote.specs.Scan.{bare_value_of};
+ghost use Rattle.acmacros.specs.Scene.{scene_of};
 ghost use Rattle.acstatement.specs.Reading.{Gives};
 ghost use Rattle.acparse.specs.Bare as words;
 ghost use Rattle.acparse.specs.Profile.{following};
@@ -11,6 +12,7 @@ ghost use Rattle.syntax.specs.Script.{script_of, joined, Done};
 
 use acargs::ParseFault;
 use acmacros::placement::bare_fault;
+use acmacros::scene::Scene;
 use acstatement::fault::shell_fault;
 use acstatement::idle::is_idle;
 use baretext::{Assignment, Assignments, BareFault, read_statements};
@@ -29,9 +31,34 @@ fn text_fault(at: usize, fault: BareFault) -> ParseFault
     }
 }
 
+/// Returns whether all assignments are to this variable.
+fn set_alone(name: &[u8], assignments: &[Assignment]) -> bool
+    ensures { result ≡ words.set_alone name.now assignments.now }
+{
+    assignments.iter().all(|a| a.name.as_slice() == name)
+}
+
+/// Checks that a list may hold these assignments.
+#[tactic(auto, unfolding(crate::specs::Bare::may_assign))]
+fn check_assignments(scene: Scene<'_>, assignments: &[Assignment]) -> Result<(), ParseFault>
+    ensures { Gives (λ x. x) result (words.may_assign (scene_of scene.entry) assignments.now) }
+{
+    match scene {
+        Scene::Top => Ok(()),
+        Scene::Nested => Ok(()),
+        Scene::Commands { name, at } => {
+            if set_alone(name, assignments) {
+                Ok(())
+            } else {
+                Err(ParseFault::CacheBody(at))
+            }
+        }
+    }
+}
+
 /// Reads the assignments in the value of bare text at `at`.
-fn assignments(alloc: Global, at: usize, text: &[u8]) -> Result<Assignments, ParseFault>
-    ensures { Gives words.assigned result (words.of_value at (bare_value_of text.now)) }
+fn value_assignments(alloc: Global, at: usize, text: &[u8]) -> Result<Assignments, ParseFault>
+    ensures { Gives (λ list. list) result (words.of_value at (bare_value_of text.now)) }
 {
     match bare_value(alloc, text) {
         Ok(value) => match read_statements(alloc, value.as_slice()) {
@@ -41,6 +68,20 @@ fn assignments(alloc: Global, at: usize, text: &[u8]) -> Result<Assignments, Par
         Err(QuoteFault::OutOfMemory) => Err(ParseFault::OutOfMemory),
         Err(_) => Err(ParseFault::UnknownStatement(at)),
     }
+}
+
+/// Reads the assignments in bare text at `at`, if the list may hold them.
+#[tactic(auto, unfolding(crate::specs::Bare::assigned_in))]
+fn assignments(
+    alloc: Global,
+    scene: Scene<'_>,
+    at: usize,
+    text: &[u8],
+) -> Result<Assignments, ParseFault>
+    ensures { Gives words.assigned result (words.assigned_in (scene_of scene.entry) at text.now) }
+{
+    let assignments = value_assignments(alloc, at, text)?;
+    check_assignments(scene, assignments.as_slice()).map(|()| assignments)
 }
 
 /// Appends assignments to statements.
@@ -65,21 +106,22 @@ fn check_idle(alloc: Global, stage: Stage, at: usize, text: &[u8]) -> Result<(),
     }
 }
 
-/// Appends the statements of bare text at `at`: the assignments in its value. Before AC_INIT and after AC_OUTPUT, it
+/// Appends the statements of bare text at `at`: the assignments in its value, if the list may hold them. Before AC_INIT and after AC_OUTPUT, it
 /// may have blanks and comments alone.
 #[tactic(auto, unfolding(crate::specs::Bare::bare_of))]
 pub(crate) fn read_bare(
     alloc: Global,
+    scene: Scene<'_>,
     stage: Stage,
     at: usize,
     text: &[u8],
     out: &mut Vec<Stmt>,
 ) -> Result<(), ParseFault>
-    ensures { Gives (λ _. script_of out.new.items) result (following (script_of out.old.items) (words.bare_of stage at text.now)) }
+    ensures { Gives (λ _. script_of out.new.items) result (following (script_of out.old.items) (words.bare_of (scene_of scene.entry) stage at text.now)) }
 {
     match stage {
         Stage::Open => {
-            let assignments = assignments(alloc, at, text)?;
+            let assignments = assignments(alloc, scene, at, text)?;
             push_all(assignments.into_vec(), out)?;
             Ok(())
         }

@@ -5,7 +5,8 @@
 //!
 //! Read `bare` (text), then `read` (calls and lists of statements), then `source`, which has the theorem: unless memory
 //! runs out, `parse` returns a tree exactly if the source has one by `specs/Source.antt` and, item by item,
-//! `specs/Statements.antt`.
+//! `specs/Statements.antt`. A list of statements is read with its scene (`acmacros::scene`): the file's own list and the
+//! commands of AC_CACHE_CHECK differ from other lists in what they may hold.
 //!
 //! `parse(alloc, b"AC_INIT([demo],[1.0])\nAC_OUTPUT\n")` gives a source of two statements.
 //!

@@ -9,16 +9,19 @@ ghost use Rattle.acparse.specs.Profile.{Adds};
 ghost use Rattle.acmacros.specs.declared.macros.Macro.TheVariants.{Plain};
 ghost use Rattle.syntax.specs.declared.declarations.Declarations as declarations;
 ghost use Rattle.acmacros.specs.Rows.{question_of};
+ghost use Rattle.acmacros.specs.Scene as scenes;
+ghost use Rattle.acmacros.specs.Scene.{scene_of};
 ghost use Rattle.syntax.specs.Lists.{after_question};
 ghost use Rattle.syntax.specs.Lists.{after_all, after_cases, after_subject};
 ghost use Rattle.syntax.specs.Script.{script_of, cases_of, followed, Done};
 
 use crate::bare::read_bare;
 use acargs::ParseFault;
-use acargs::arguments::is_given;
-use acargs::shell::{patterns, test, word};
+use acargs::arguments::{cache_name, is_given};
+use acargs::shell::{here_text, patterns, test, word};
 use acmacros::placement::{as_statement, check_place};
 use acmacros::rows::{plain, question};
+use acmacros::scene::{Scene, check_scene};
 use acmacros::table::{row_named, takes};
 use acmacros::{ChoiceMacro, Macro, PlainMacro, QuestionMacro};
 use acstatement::fault::quote_fault;
@@ -28,14 +31,14 @@ use acstatement::texts::arg_at;
 use m4quote::{Arg, Item, read_items_at};
 use std::alloc::{AllocError, Global};
 use syntax::declarations::{declare, declare_question};
-use syntax::{Case, Declarations, Question, Stage, Stmt, Subject, When, choose};
+use syntax::{Case, Declarations, Question, Stage, Stmt, Subject, When, cache_check, choose};
 
 /// Returns the macro of a call, if the call is a statement between what precedes it (`edge`) and the items after it
-/// (`following`).
+/// (`following`), and the list may hold it.
 #[tactic(auto, unfolding(crate::specs::Profile::checked))]
 fn check_call(
     alloc: Global,
-    top: bool,
+    scene: Scene<'_>,
     stage: Stage,
     edge: Edge,
     name: &[u8],
@@ -43,7 +46,7 @@ fn check_call(
     at: usize,
     following: &[Item<'_>],
 ) -> Result<Macro, ParseFault>
-    ensures { Gives (λ m. m) result (profile.checked top stage edge name.now (map span args.now) at (views following.now)) }
+    ensures { Gives (λ m. m) result (profile.checked (scene_of scene.entry) stage edge name.now (map span args.now) at (views following.now)) }
 {
     let Some(row) = row_named(name) else {
         return Err(ParseFault::UnknownMacro(at));
@@ -52,10 +55,11 @@ fn check_call(
         return Err(ParseFault::ArgCount(at));
     }
     let m = as_statement(stage, at, row.named)?;
-    check_place(top, stage, row.top, m, at)?;
+    check_place(scene.is_top(), stage, row.top, m, at)?;
     if !is_statement(edge, name, args, at, following) {
         return Err(ParseFault::UnknownStatement(at));
     }
+    check_scene(scene, m)?;
     Ok(m)
 }
 
@@ -153,16 +157,18 @@ fn both(alloc: Global, first: Option<Case>, other: Option<Case>) -> Result<Vec<C
     with_last(one, other)
 }
 
-/// Reads the statements of a statement argument. Lists nest at most `room` deep in it, counting its own.
+/// Reads the statements of a statement argument, whose list has this scene. Lists nest at most `room` deep in it, counting
+/// its own.
 #[cycle(list)]
 #[tactic(auto, unfolding(crate::specs::Profile::body_of))]
 fn read_body(
     alloc: Global,
     room: u8,
+    scene: Scene<'_>,
     known: &mut Declarations,
     arg: Arg<'_>,
 ) -> Result<Vec<Stmt>, ParseFault>
-    ensures value { Gives (λ v. script_of v.items) result (profile.body_of room known.old (span arg.entry)) }
+    ensures value { Gives (λ v. script_of v.items) result (profile.body_of room (scene_of scene.entry) known.old (span arg.entry)) }
     ensures after { IfOk result (λ v. known.new ≡ after_all known.old (script_of v.items)) }
 {
     if room == 0 {
@@ -171,7 +177,7 @@ fn read_body(
     let inner = inside(alloc, arg)?;
     match read_items_at(alloc, inner.text, inner.at) {
         Err(fault) => Err(quote_fault(fault)),
-        Ok(items) => read_statements(alloc, false, room - 1, known, &items),
+        Ok(items) => read_statements(alloc, room - 1, scene, known, &items),
     }
 }
 
@@ -181,19 +187,20 @@ fn read_body(
 fn read_default(
     alloc: Global,
     room: u8,
+    scene: Scene<'_>,
     known: &mut Declarations,
     m: ChoiceMacro,
     args: &[Arg<'_>],
 ) -> Result<Option<Case>, ParseFault>
     requires { length args.now ≤ 1 }
-    ensures value { Gives (λ o. cases_of (option_to_list o)) result (profile.cases_in (profile.body_of room) m known.old (map span args.now)) }
+    ensures value { Gives (λ o. cases_of (option_to_list o)) result (profile.cases_in (profile.body_of room (scene_of scene.entry)) m known.old (map span args.now)) }
     ensures after { IfOk result (λ o. known.new ≡ after_cases known.old (cases_of (option_to_list o))) }
 {
     match args {
         [] => Ok(None),
         [only, ..] => {
             let given = is_given(alloc, *only)?;
-            let body = read_body(alloc, room, known, *only)?;
+            let body = read_body(alloc, room, scene, known, *only)?;
             Ok(case_if(When::Always, given, body))
         }
     }
@@ -205,16 +212,17 @@ fn read_default(
 fn read_case(
     alloc: Global,
     room: u8,
+    scene: Scene<'_>,
     known: &mut Declarations,
     m: ChoiceMacro,
     condition: Arg<'_>,
     arg: Arg<'_>,
 ) -> Result<Case, ParseFault>
-    ensures value { Gives (λ k. cases_of (k ∷ [])) result (profile.case_of (profile.body_of room) m known.old (span condition.entry) (span arg.entry)) }
+    ensures value { Gives (λ k. cases_of (k ∷ [])) result (profile.case_of (profile.body_of room (scene_of scene.entry)) m known.old (span condition.entry) (span arg.entry)) }
     ensures after { IfOk result (λ k. known.new ≡ after_all known.old (script_of k.body.items)) }
 {
     let when = when(alloc, m, condition)?;
-    read_body(alloc, room, known, arg).map(|body| Case { when, body })
+    read_body(alloc, room, scene, known, arg).map(|body| Case { when, body })
 }
 
 /// Reads the cases of a choice.
@@ -222,21 +230,22 @@ fn read_case(
 fn read_cases(
     alloc: Global,
     room: u8,
+    scene: Scene<'_>,
     known: &mut Declarations,
     m: ChoiceMacro,
     args: &[Arg<'_>],
 ) -> Result<Vec<Case>, ParseFault>
-    ensures value { Gives (λ v. cases_of v.items) result (profile.cases_in (profile.body_of room) m known.old (map span args.now)) }
+    ensures value { Gives (λ v. cases_of v.items) result (profile.cases_in (profile.body_of room (scene_of scene.entry)) m known.old (map span args.now)) }
     ensures after { IfOk result (λ v. known.new ≡ after_cases known.old (cases_of v.items)) }
 {
     let mut cases = Vec::new(alloc);
     let mut i = 0;
     while i + 1 < args.len() {
-        let case = read_case(alloc, room, known, m, args[i], args[i + 1])?;
+        let case = read_case(alloc, room, scene, known, m, args[i], args[i + 1])?;
         cases.push(case)?;
         i += 2;
     }
-    let last = read_default(alloc, room, known, m, &args[i..])?;
+    let last = read_default(alloc, room, scene, known, m, &args[i..])?;
     Ok(with_last(cases, last)?)
 }
 
@@ -246,15 +255,16 @@ fn read_cases(
 fn read_choice(
     alloc: Global,
     room: u8,
+    scene: Scene<'_>,
     known: &mut Declarations,
     m: ChoiceMacro,
     args: &[Arg<'_>],
 ) -> Result<Stmt, ParseFault>
-    ensures value { Gives (λ s. script_of (s ∷ [])) result (profile.choice_of (profile.body_of room) m known.old (map span args.now)) }
+    ensures value { Gives (λ s. script_of (s ∷ [])) result (profile.choice_of (profile.body_of room (scene_of scene.entry)) m known.old (map span args.now)) }
     ensures after { IfOk result (λ s. known.new ≡ after_all known.old (script_of (s ∷ []))) }
 {
     let subject = subject(alloc, m, args)?;
-    read_cases(alloc, room, known, m, case_args(m, args)).map(|cases| choose(subject, cases))
+    read_cases(alloc, room, scene, known, m, case_args(m, args)).map(|cases| choose(subject, cases))
 }
 
 /// Returns the condition of the case for an answer.
@@ -270,18 +280,23 @@ fn answer(yes: bool) -> When
 fn read_action(
     alloc: Global,
     room: u8,
+    scene: Scene<'_>,
     known: &mut Declarations,
     yes: bool,
     args: &[Arg<'_>],
 ) -> Result<Option<Case>, ParseFault>
-    ensures value { Gives (λ o. cases_of (option_to_list o)) result (profile.action_in (profile.body_of room) (profile.answer yes) known.old (map span args.now)) }
+    ensures value { Gives (λ o. cases_of (option_to_list o)) result (profile.action_in (profile.body_of room (scene_of scene.entry)) (profile.answer yes) known.old (map span args.now)) }
     ensures after { IfOk result (λ o. known.new ≡ after_cases known.old (cases_of (option_to_list o))) }
 {
     match args {
         [] => Ok(None),
         [first, ..] => {
             let given = is_given(alloc, *first)?;
-            read_body(alloc, room, known, *first).map(|body| case_if(answer(yes), given, body))
+            read_body(alloc, room, scene, known, *first).map(|body| case_if(
+                answer(yes),
+                given,
+                body,
+            ))
         }
     }
 }
@@ -292,14 +307,15 @@ fn read_action(
 fn read_answers(
     alloc: Global,
     room: u8,
+    scene: Scene<'_>,
     known: &mut Declarations,
     args: &[Arg<'_>],
 ) -> Result<Vec<Case>, ParseFault>
-    ensures value { Gives (λ v. cases_of v.items) result (profile.answers_in (profile.body_of room) known.old (map span args.now)) }
+    ensures value { Gives (λ v. cases_of v.items) result (profile.answers_in (profile.body_of room (scene_of scene.entry)) known.old (map span args.now)) }
     ensures after { IfOk result (λ v. known.new ≡ after_cases known.old (cases_of v.items)) }
 {
-    let first = read_action(alloc, room, known, true, args)?;
-    let read = read_action(alloc, room, known, false, after_first(args));
+    let first = read_action(alloc, room, scene, known, true, args)?;
+    let read = read_action(alloc, room, scene, known, false, after_first(args));
     read.and_then(|other| Ok(both(alloc, first, other)?))
 }
 
@@ -323,18 +339,42 @@ fn ask(
 fn read_question(
     alloc: Global,
     room: u8,
+    scene: Scene<'_>,
     known: &mut Declarations,
     m: QuestionMacro,
     args: &[Arg<'_>],
 ) -> Result<Stmt, ParseFault>
-    ensures value { Gives (λ s. script_of (s ∷ [])) result (profile.asked_of (profile.body_of room) m known.old (map span args.now)) }
+    ensures value { Gives (λ s. script_of (s ∷ [])) result (profile.asked_of (profile.body_of room (scene_of scene.entry)) m known.old (map span args.now)) }
     ensures after { IfOk result (λ s. known.new ≡ after_all known.old (script_of (s ∷ []))) }
 {
     let question = ask(alloc, known, m, args)?;
-    read_answers(alloc, room, known, action_args(m, args)).map(|cases| choose(
+    read_answers(alloc, room, scene, known, action_args(m, args)).map(|cases| choose(
         Subject::Asked(question),
         cases,
     ))
+}
+
+/// Reads AC_CACHE_CHECK.
+#[cycle(list)]
+#[tactic(auto, unfolding(crate::specs::Profile::check_of))]
+fn read_check(
+    alloc: Global,
+    room: u8,
+    known: &mut Declarations,
+    args: &[Arg<'_>],
+) -> Result<Stmt, ParseFault>
+    ensures value { Gives (λ s. script_of (s ∷ [])) result (profile.check_of (profile.body_of room) known.old (map span args.now)) }
+    ensures after { IfOk result (λ s. known.new ≡ after_all known.old (script_of (s ∷ []))) }
+{
+    let message = here_text(alloc, arg_at(args, 0))?;
+    let name = cache_name(alloc, arg_at(args, 1))?;
+    let arg = arg_at(args, 2);
+    let scene = Scene::Commands {
+        name: name.as_slice(),
+        at: arg.at,
+    };
+    let commands = read_body(alloc, room, scene, known, arg);
+    commands.map(|commands| cache_check(message, name, commands))
 }
 
 /// Reads a statement with no statements in it, and adds what it declares.
@@ -345,7 +385,7 @@ fn read_plain(
     at: usize,
     args: &[Arg<'_>],
 ) -> Result<Stmt, ParseFault>
-    ensures value { Gives (λ s. script_of (s ∷ [])) result (profile.call_of (profile.body_of 0) known.old (Plain m) at (map span args.now)) }
+    ensures value { Gives (λ s. script_of (s ∷ [])) result (profile.call_of scenes.Top (profile.body_of 0) known.old (Plain m) at (map span args.now)) }
     ensures after { IfOk result (λ s. known.new ≡ after_all known.old (script_of (s ∷ []))) }
 {
     let s = plain(alloc, known, m, at, args)?;
@@ -357,18 +397,20 @@ fn read_plain(
 fn read_call(
     alloc: Global,
     room: u8,
+    scene: Scene<'_>,
     known: &mut Declarations,
     m: Macro,
     at: usize,
     args: &[Arg<'_>],
 ) -> Result<Stmt, ParseFault>
-    ensures value { Gives (λ s. script_of (s ∷ [])) result (profile.call_of (profile.body_of room) known.old m at (map span args.now)) }
+    ensures value { Gives (λ s. script_of (s ∷ [])) result (profile.call_of (scene_of scene.entry) (profile.body_of room) known.old m at (map span args.now)) }
     ensures after { IfOk result (λ s. known.new ≡ after_all known.old (script_of (s ∷ []))) }
 {
     match m {
         Macro::Plain(m) => read_plain(alloc, known, m, at, args),
-        Macro::Choice(m) => read_choice(alloc, room, known, m, args),
-        Macro::Question(m) => read_question(alloc, room, known, m, args),
+        Macro::Choice(m) => read_choice(alloc, room, scene.of_case(), known, m, args),
+        Macro::Question(m) => read_question(alloc, room, scene.of_case(), known, m, args),
+        Macro::Check => read_check(alloc, room, known, args),
     }
 }
 
@@ -376,39 +418,38 @@ fn read_call(
 #[cycle(list)]
 fn read_item(
     alloc: Global,
-    top: bool,
     room: u8,
+    scene: Scene<'_>,
     known: &mut Declarations,
     edge: Edge,
     item: &Item<'_>,
     following: &[Item<'_>],
     out: &mut Vec<Stmt>,
 ) -> Result<(), ParseFault>
-    ensures { MatchResult result (λ _. Adds known.old known.new (script_of out.old.items) (script_of out.new.items) (profile.item_of top (profile.body_of room) known.old edge (view item.now) (views following.now)))
-        (λ e. Fails e (profile.item_of top (profile.body_of room) known.old edge (view item.now) (views following.now))) }
+    ensures { MatchResult result (λ _. Adds known.old known.new (script_of out.old.items) (script_of out.new.items) (profile.item_of (scene_of scene.entry) (profile.body_of room) known.old edge (view item.now) (views following.now)))
+        (λ e. Fails e (profile.item_of (scene_of scene.entry) (profile.body_of room) known.old edge (view item.now) (views following.now))) }
 {
     match item {
-        Item::Bare { text, at } => read_bare(alloc, known.stage, *at, text, out),
+        Item::Bare { text, at } => read_bare(alloc, scene, known.stage, *at, text, out),
         Item::Call { name, args, at } => {
-            let m = check_call(alloc, top, known.stage, edge, name, args, *at, following)?;
-            let s = read_call(alloc, room, known, m, *at, args)?;
+            let m = check_call(alloc, scene, known.stage, edge, name, args, *at, following)?;
+            let s = read_call(alloc, room, scene, known, m, *at, args)?;
             out.push(s)?;
             Ok(())
         }
     }
 }
 
-/// Reads the statements of a list's items. `top` is true if it is the file's own list, and lists nest at most `room`
-/// deep within it.
+/// Reads the statements of a list's items. Lists nest at most `room` deep within it.
 #[cycle(list)]
 pub(crate) fn read_statements(
     alloc: Global,
-    top: bool,
     room: u8,
+    scene: Scene<'_>,
     known: &mut Declarations,
     items: &[Item<'_>],
 ) -> Result<Vec<Stmt>, ParseFault>
-    ensures value { Gives (λ v. script_of v.items) result (profile.items_of top (profile.body_of room) known.old no_edge (views items.now)) }
+    ensures value { Gives (λ v. script_of v.items) result (profile.items_of (scene_of scene.entry) (profile.body_of room) known.old no_edge (views items.now)) }
     ensures after { IfOk result (λ v. known.new ≡ after_all known.old (script_of v.items)) }
 {
     let mut out = Vec::new(alloc);
@@ -417,8 +458,8 @@ pub(crate) fn read_statements(
         let item = &items[i];
         read_item(
             alloc,
-            top,
             room,
+            scene,
             known,
             edge,
             item,

@@ -7,10 +7,12 @@ ghost use Rattle.syntax.specs.Lists.{after_all, lists_of, start};
 ghost use Rattle.acparse.specs.Profile.{ended, source_of};
 ghost use Rattle.syntax.specs.Script.{Script, script_of};
 ghost use Rattle.acparse.specs.Source.{IsSource, IsSourceFault};
+ghost use Rattle.syntax.specs.Commands.{HasCommands};
 ghost use Rattle.syntax.specs.Limits.{HasShortLists};
 
 use crate::read::read_statements;
 use acargs::ParseFault;
+use acmacros::scene::Scene;
 use acstatement::fault::quote_fault;
 use m4quote::read_items;
 use std::alloc::Global;
@@ -38,7 +40,7 @@ fn read_whole(alloc: Global, known: &mut Declarations, text: &[u8]) -> Result<Ve
         Ok(items) => items,
         Err(fault) => return Err(quote_fault(fault)),
     };
-    let statements = read_statements(alloc, true, 31, known, &items)?;
+    let statements = read_statements(alloc, 31, Scene::Top, known, &items)?;
     check_end(known)?;
     Ok(statements)
 }
@@ -62,6 +64,8 @@ pub fn parse(alloc: Global, text: &[u8]) -> Result<Source, ParseFault>
     ensures sound { IfOk result (λ s. IsSource text.now (script_of s)) }
     // Its lists are within their limits.
     ensures limits { IfOk result (λ s. HasShortLists (lists_of (script_of s))) }
+    // Each AC_CACHE_CHECK has a cache name, and commands that set it and do nothing else.
+    ensures commands { IfOk result (λ s. HasCommands (script_of s)) }
     // If a source has statements, they are returned, unless memory runs out.
     ensures complete { (s : Script) → IsSource text.now s → Gives script_of result (Ok s) }
     // An error names what is wrong at its offset, and everything before it is right.

@@ -44,6 +44,9 @@ pub enum ParseFault {
     /// Something other than blanks and comments after AC_OUTPUT.
     #[error("10 at {0}")]
     AfterOutput(usize),
+    /// Commands of AC_CACHE_CHECK that hold something other than assignments to its name, choices and tries.
+    #[error("11 at {0}")]
+    CacheBody(usize),
     /// Statement lists that nest too deep.
     #[error("12 at {0}")]
     TooDeep(usize),

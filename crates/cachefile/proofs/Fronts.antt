@@ -1,13 +1,11 @@
 -- Fronts and ends of a line.
-use Rattle.std.proofs.Common.{◌≡◌, ◌≢◌, ℕ, ◌+◌, ◌<◌, ◌≤◌, Bool, true, false, ◌==◌, ◌||◌, List, [], ◌∷◌, ◌++◌, Option, Some, None, Bor, length, drop, get_or, refl, sym, ap, ◌∙◌, inl, inr, ◌⊎◌}
-use Rattle.std.specs.Prelude.{option_map, nat_eq, codes}
+use Rattle.std.proofs.Common.{◌≡◌, ◌≢◌, ℕ, ◌+◌, ◌<◌, ◌≤◌, Bool, true, false, ◌==◌, List, [], ◌∷◌, ◌++◌, Option, Some, None, Bor, length, drop, get_or, refl, sym, ap, ◌∙◌, inl, inr, ◌⊎◌}
+use Rattle.std.specs.Prelude.{option_map}
 use Rattle.std.specs.Option.{MatchOption}
-use Rattle.std.specs.List.{starts_with}
 use Rattle.std.proofs.lemmas.List.{drop_more}
 use Rattle.std.proofs.Math.ListN.{drop_of_length-le}
 use Rattle.std.proofs.lemmas.Bool.Decides.{eqb_tells}
 use Rattle.cachefile.specs.Line.{rest_after, before_brace, sets_nothing, is_space}
-use Rattle.cachefile.specs.Name.{has_cv}
 
 pub same : (n : ℕ) → (n == n) ≡ true
 same n = elim (eqb_tells n n) [ inl h ↦ h.0 | inr h ↦ absurd (h.1 refl) ]
@@ -90,22 +88,3 @@ nothing_stop whole xs i d lt is h = h ∙ ap sets_nothing (drop_more xs i d lt) 
 pub nothing_end : (whole : Bool) (xs : List ℕ) (i : ℕ) → length xs ≤ i → whole ≡ sets_nothing (drop i xs) → whole ≡ true
 unfolding sets_nothing
 nothing_end whole xs i le h = h ∙ ap sets_nothing (drop_of_length-le xs le)
-
-begins : List ℕ → Bool
-begins text = starts_with nat_eq text (codes "_cv_")
-
-pub cv_more : (whole : Bool) (xs : List ℕ) (i : ℕ) → i < length xs → starts_with nat_eq (drop i xs) (codes "_cv_") ≡ false → whole ≡ has_cv (drop i xs) → whole ≡ has_cv (drop (i + 1) xs)
-unfolding has_cv
-cv_more whole xs i lt is h =
-    let e = drop_more xs i 0 lt in
-    h ∙ ap has_cv e ∙ ap (λ b. b || has_cv (drop (i + 1) xs)) (sym (ap (λ t. starts_with nat_eq t (codes "_cv_")) e) ∙ is)
-
-pub cv_stop : (whole : Bool) (xs : List ℕ) (i : ℕ) → i < length xs → starts_with nat_eq (drop i xs) (codes "_cv_") ≡ true → whole ≡ has_cv (drop i xs) → whole ≡ true
-unfolding has_cv
-cv_stop whole xs i lt is h =
-    let e = drop_more xs i 0 lt in
-    h ∙ ap has_cv e ∙ ap (λ b. b || has_cv (drop (i + 1) xs)) (sym (ap (λ t. starts_with nat_eq t (codes "_cv_")) e) ∙ is)
-
-pub cv_end : (whole : Bool) (xs : List ℕ) (i : ℕ) → length xs ≤ i → whole ≡ has_cv (drop i xs) → whole ≡ false
-unfolding has_cv
-cv_end whole xs i le h = h ∙ ap has_cv (drop_of_length-le xs le)

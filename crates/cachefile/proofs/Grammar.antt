@@ -5,7 +5,7 @@ use Rattle.std.proofs.lemmas.Bool.Decides.{Decides-ltb, nat_tests}
 use Rattle.textcut.specs.Cuts.{parts}
 use Rattle.cachefile.specs.declared.fault.CacheFault.{CacheFault}
 use Rattle.cachefile.specs.declared.fault.CacheFault.TheVariants.{BadLine, BadName, OutOfMemory}
-use Rattle.cachefile.specs.Name.{is_cache_name}
+use Rattle.deftable.specs.CacheName.{is_cache_name}
 use Rattle.cachefile.specs.Line.{Setting, name_of, line_of}
 use Rattle.cachefile.specs.Form.{IsLine}
 use Rattle.cachefile.specs.Reading.{◌>>=◌, Fails, Gives}

@@ -10,7 +10,8 @@ use Rattle.textcut.specs.Cuts.{parts, parts_by}
 use Rattle.deftable.specs.Table.{value_of, names_of, HasDistinctNames}
 use Rattle.deftable.specs.ShellName.{is_shell_name_of, starts_name, continues_name}
 use Rattle.std.specs.Int.{is_in_range}
-use Rattle.cachefile.specs.Name.{has_cv, is_word, is_word_byte, is_cache_name, is_mark}
+use Rattle.cachefile.specs.Name.{is_word, is_word_byte, is_mark}
+use Rattle.deftable.specs.CacheName.{has_cv, is_cache_name}
 use Rattle.cachefile.specs.Word.{word_of, quoted_text, quoted_byte, is_safe}
 use Rattle.cachefile.specs.Line.{Setting, Sets, Defaults, line_of, sets_nothing, name_of}
 use Rattle.cachefile.specs.Form.{IsLine}

@@ -6,7 +6,7 @@ use Rattle.deftable.specs.Table.{with_entry}
 use Rattle.deftable.specs.Table as table
 use Rattle.cachefile.specs.declared.fault.CacheFault.{CacheFault}
 use Rattle.cachefile.specs.declared.fault.CacheFault.TheVariants.{BadLine, BadName, TooLarge}
-use Rattle.cachefile.specs.Name.{is_cache_name}
+use Rattle.deftable.specs.CacheName.{is_cache_name}
 use Rattle.cachefile.specs.Line.{Setting, Sets, Defaults, name_of, line_of}
 use Rattle.cachefile.specs.Form.{IsLine}
 use Rattle.cachefile.specs.Reading.{◌>>=◌}

@@ -1,8 +1,7 @@
 -- Names in a cache file.
-use Rattle.std.specs.Prelude.{ℕ, ◌==◌, nat_eq, ◌||◌, ◌&&◌, Bool, false, List, [], ◌∷◌, codes}
+use Rattle.std.specs.Prelude.{ℕ, ◌==◌, nat_eq, ◌||◌, Bool, false, List, [], ◌∷◌, codes}
 use Rattle.std.specs.Char.{is_ascii_alphanumeric}
 use Rattle.std.specs.List.{list_all, starts_with}
-use Rattle.deftable.specs.ShellName.{is_shell_name_of}
 
 -- whether the byte is a letter, a digit or `_` (POSIX, "Name")
 abbrev pub is_word_byte : ℕ → Bool
@@ -12,15 +11,6 @@ is_word_byte b = is_ascii_alphanumeric b || b == 95
 abbrev pub is_word : List ℕ → Bool
 is_word [] = false
 is_word (b ∷ bs) = list_all is_word_byte (b ∷ bs)
-
--- whether the text contains `_cv_` (Autoconf's manual, "Cache Variable Names")
-unfoldable pub has_cv : List ℕ → Bool
-has_cv [] = false
-has_cv (b ∷ bs) = starts_with nat_eq (b ∷ bs) (codes "_cv_") || has_cv bs
-
--- whether the text is a cache name: a shell name that contains `_cv_` (Autoconf's manual, "Cache Variable Names")
-unfoldable pub is_cache_name : List ℕ → Bool
-is_cache_name name = is_shell_name_of name && has_cv name
 
 -- Whether the name begins with `ac_cv_env_`, as those do under which configure saves its precious variables. (own;
 -- Autoconf's manual, "Setting Output Variables", has the precious variables)

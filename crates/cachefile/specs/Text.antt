@@ -8,7 +8,8 @@ use Rattle.std.specs.Cmp.Lexicographic.{slice_cmp}
 use Rattle.deftable.specs.Table.{value_of, names_of}
 use Rattle.cachefile.specs.Cache.{cache_of, vars_after}
 use Rattle.cachefile.specs.Line.{Setting}
-use Rattle.cachefile.specs.Name.{is_cache_name, is_mark}
+use Rattle.cachefile.specs.Name.{is_mark}
+use Rattle.deftable.specs.CacheName.{is_cache_name}
 use Rattle.cachefile.specs.Word.{word_of}
 
 -- ---- lines

@@ -11,8 +11,7 @@ ghost use Rattle.cachefile.specs.declared.fault.CacheFault.TheVariants.{OutOfMem
 use crate::entry::Entry;
 use crate::fault::CacheFault;
 use crate::line::line;
-use crate::name::is_cache_name;
-use deftable::Vars;
+use deftable::{Vars, is_cache_name};
 use std::alloc::{AllocError, Global};
 use std::marker::Model;
 use textcut::parts;

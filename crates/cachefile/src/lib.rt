@@ -31,7 +31,7 @@ mod text;
 mod word;
 
 pub use cache::{OldCache, read_cache};
+pub use deftable::is_cache_name;
 pub use fault::CacheFault;
-pub use name::is_cache_name;
 pub use text::cache_text;
 pub use word::word_text;

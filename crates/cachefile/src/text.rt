@@ -6,9 +6,9 @@ ghost use Rattle.cachefile.specs.Cache as cache;
 ghost use Rattle.cachefile.specs.Text as words;
 ghost use Rattle.cachefile.specs.Word.{word_of};
 
-use crate::name::{is_cache_name, is_mark};
+use crate::name::is_mark;
 use crate::word::word_text;
-use deftable::{Bytes, Vars};
+use deftable::{Bytes, Vars, is_cache_name};
 use std::alloc::{AllocError, Global};
 use std::collections::BTreeMap;
 

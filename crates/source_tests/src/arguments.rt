@@ -2,7 +2,7 @@
 
 use crate::told::{Next, Told, put_made, put_next};
 use acargs::ParseFault;
-use acargs::arguments::{is_given, line, name, text, title};
+use acargs::arguments::{cache_name, is_given, line, name, text, title};
 use acargs::feature::feature_variable;
 use acargs::helping::{help, sole_call};
 use acargs::numbers::{language, status, version};
@@ -28,6 +28,7 @@ enum Reader {
     Line,
     Title,
     Name,
+    CacheName,
     Feature,
     Package,
     Program,
@@ -44,11 +45,12 @@ enum Reader {
     Help,
 }
 
-const READERS: [(&[u8], Reader); 18] = [
+const READERS: [(&[u8], Reader); 19] = [
     (b"text", Reader::Text),
     (b"line", Reader::Line),
     (b"title", Reader::Title),
     (b"name", Reader::Name),
+    (b"cache_name", Reader::CacheName),
     (b"feature", Reader::Feature),
     (b"package", Reader::Package),
     (b"program", Reader::Program),
@@ -96,6 +98,7 @@ impl Reader {
             Reader::Test => put_made(page, test(alloc, arg)),
             Reader::Patterns => put_made(page, patterns(alloc, arg)),
             Reader::Inside => put_made(page, inside(alloc, arg)),
+            Reader::CacheName => put_made(page, cache_name(alloc, arg)),
             _ => put_made(page, help(alloc, arg)),
         }
     }
@@ -114,6 +117,12 @@ title [a^Jb] => 5 at 0
 // names
 name [ a ] => [a]
 name [a-b] => 5 at 0
+cache_name [ v_cv_x ] => [v_cv_x]
+cache_name _cv_ => [_cv_]
+cache_name [v_cx_x] => 5 at 0
+cache_name [1_cv_x] => 5 at 0
+cache_name [v_cv_x y] => 5 at 0
+cache_name  => 5 at 0
 feature [a-b+c.d] => [enable_a_b_c_d]
 feature  => 5 at 0
 package [ x ] => [with_x]
@@ -314,7 +323,7 @@ impl Next<Help> for Other {
 }
 
 /// Every kind of error, as docs/formats.md numbers them.
-const ERRORS: [ParseFault; 14] = [
+const ERRORS: [ParseFault; 15] = [
     ParseFault::Quote(QuoteFault::UnclosedParen(9)),
     ParseFault::UnknownMacro(9),
     ParseFault::UnknownStatement(9),
@@ -325,6 +334,7 @@ const ERRORS: [ParseFault; 14] = [
     ParseFault::NoInit,
     ParseFault::NoOutput,
     ParseFault::AfterOutput(9),
+    ParseFault::CacheBody(9),
     ParseFault::TooDeep(9),
     ParseFault::TooMany(9),
     ParseFault::NewerVersion(9),
@@ -402,7 +412,7 @@ added old => yesnoyesno2 old:old.in old:old.in
 twice AS_HELP_STRING([a],[b]) => [a] [b];[a] [b];
 twice [c] => [c];[c];
 // errors
-errors => 1.2 at 9;2 at 9;3 at 9;4 at 9;5 at 9;6.2 at 9;7 at 9;8;9;10 at 9;12 at 9;13 at 9;14 at 9;memory;
+errors => 1.2 at 9;2 at 9;3 at 9;4 at 9;5 at 9;6.2 at 9;7 at 9;8;9;10 at 9;11 at 9;12 at 9;13 at 9;14 at 9;memory;
 offsets => yesyes
 "#;
 

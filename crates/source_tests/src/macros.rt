@@ -5,6 +5,7 @@ use crate::told::{Next, Told, add, put_each, put_if, put_made, put_next, put_of}
 use acargs::ParseFault;
 use acmacros::placement::{as_statement, bare_fault, check_place};
 use acmacros::rows::{plain, question};
+use acmacros::scene::{Scene, check_scene};
 use acmacros::table::{row_named, takes};
 use acmacros::{ArgumentMacro, ChoiceMacro, Macro, Named, PlainMacro, QuestionMacro};
 use m4quote::{Arg, Item, read_items};
@@ -30,6 +31,7 @@ fn meaning(named: Named) -> &'static [u8] {
         }
         Named::Statement(Macro::Question(QuestionMacro::Tries(Try::Link))) => b"question Link ",
         Named::Statement(Macro::Question(QuestionMacro::Tries(Try::Run))) => b"question Run ",
+        Named::Statement(Macro::Check) => b"check ",
         Named::Argument(ArgumentMacro::LangSource) => b"argument LangSource ",
         _ => b"another ",
     }
@@ -60,6 +62,19 @@ fn allowed(is_top: bool, stage: Stage, name: &[u8]) -> Result<(), ParseFault> {
     };
     let m = as_statement(stage, 3, row.named)?;
     check_place(is_top, stage, row.top, m, 3)
+}
+
+/// Checks whether the commands of AC_CACHE_CHECK may call a macro of this name.
+fn allowed_in_commands(name: &[u8]) -> Result<(), ParseFault> {
+    let scene = Scene::Commands {
+        name: b"v_cv_x",
+        at: 9,
+    };
+    let Some(row) = row_named(name) else {
+        return Err(bare_fault(Stage::Open, 3));
+    };
+    let m = as_statement(Stage::Open, 3, row.named)?;
+    check_scene(scene.of_case(), m)
 }
 
 // ---- readers
@@ -191,18 +206,21 @@ enum Reader {
     /// Whether a call may stand in the file's own list, in another, before AC_INIT, or after AC_OUTPUT.
     Top,
     Inside,
+    /// Whether it may stand in the commands of AC_CACHE_CHECK.
+    Commands,
     Before,
     After,
     First,
     Programs,
 }
 
-const READERS: [(&[u8], Reader); 9] = [
+const READERS: [(&[u8], Reader); 10] = [
     (b"row", Reader::Row),
     (b"takes", Reader::Takes),
     (b"reads", Reader::Reads),
     (b"top", Reader::Top),
     (b"inside", Reader::Inside),
+    (b"commands", Reader::Commands),
     (b"before", Reader::Before),
     (b"after", Reader::After),
     (b"first", Reader::First),
@@ -247,6 +265,7 @@ impl Call for Reader {
             Reader::Takes | Reader::Reads => put_next(page, read_items(alloc, text), self),
             Reader::Top => put_made(page, allowed(true, Stage::Open, text)),
             Reader::Inside => put_made(page, allowed(false, Stage::Open, text)),
+            Reader::Commands => put_made(page, allowed_in_commands(text)),
             Reader::Before => put_made(page, allowed(true, Stage::Before, text)),
             Reader::After => put_made(page, allowed(true, Stage::Ended, text)),
             Reader::First => put_of(page, Declarations::new(alloc), self),
@@ -264,6 +283,7 @@ row AS_CASE => choice Case 2 to any number
 row AC_ARG_WITH => question Package 1 to 4
 row AC_LINK_IFELSE => question Link 1 to 3
 row AC_RUN_IFELSE => question Run 1 to 4
+row AC_CACHE_CHECK => check 3 to 3
 row AC_LANG_SOURCE => argument LangSource 1 to 1
 row AC_NOPE =>
 // arguments that are taken
@@ -287,6 +307,17 @@ top a => 3 at 3
 // in another list
 inside AC_CONFIG_FILES => 7 at 3
 inside AC_SUBST => accepted
+inside AC_CACHE_CHECK => accepted
+// in the commands of AC_CACHE_CHECK
+commands AC_COMPILE_IFELSE => accepted
+commands AC_RUN_IFELSE => accepted
+commands AS_IF => accepted
+commands AS_CASE => accepted
+commands AC_CACHE_CHECK => 11 at 9
+commands AC_ARG_WITH => 11 at 9
+commands AC_DEFINE => 11 at 9
+commands AC_MSG_ERROR => 11 at 9
+commands AC_LANG => 11 at 9
 // before AC_INIT
 before AC_CONFIG_FILES => 8
 before AC_INIT => accepted

@@ -1,13 +1,28 @@
 //! Whole sources. The crate `cases` has them macro by macro and error by error.
 
 use crate::told::{Told, put_each, put_made};
-use acparse::{ParseFault, Source, parse};
+use acparse::{ParseFault, Source, Stmt, parse};
 use std::alloc::Global;
 use std::test::Fail;
 use testrows::{Call, Page, try_rows};
 
+/// Puts the message of AC_CACHE_CHECK, its name, and how many commands it has.
+fn put_check(page: &mut Page, statement: &Stmt) {
+    if let Stmt::CacheCheck {
+        message,
+        name,
+        commands,
+    } = statement
+    {
+        page.put(b";");
+        message.tell(page);
+        page.put_text(name.as_slice());
+        page.put_number(commands.len());
+    }
+}
+
 /// How many statements there are, the output variables, the precious ones, the features, the packages, the help and the
-/// files.
+/// files, and each AC_CACHE_CHECK.
 impl Told for Source {
     fn tell(&self, page: &mut Page) {
         page.put_number(self.statements().len());
@@ -26,6 +41,9 @@ impl Told for Source {
         }
         page.put(b";");
         self.files().tell(page);
+        for statement in self.statements() {
+            put_check(page, statement);
+        }
     }
 }
 
@@ -49,6 +67,51 @@ AC_INIT([x],[1])AC_CHECK_PROG([P],[p],[yes])AC_CHECK_PROGS([Q],[p q])AC_PATH_PRO
 // at fault
 AC_INIT([x],[1] => 1.2 at 7
  => 8
+// AC_CACHE_CHECK: commands that try a program
+AC_INIT([x],[1])^JAC_CACHE_CHECK([for $x],[v_cv_x],[AC_COMPILE_IFELSE([AC_LANG_PROGRAM],[v_cv_x=yes],[v_cv_x=no])])^JAC_OUTPUT^J => 3;;;;;;0;for $[x][v_cv_x]1
+AC_INIT([x],[1])^JAC_CACHE_CHECK(x, [ v_cv_x ],v_cv_x=1 v_cv_x=2; :^J: # c^J)^JAC_OUTPUT^J => 3;;;;;;0;x[v_cv_x]2
+AC_INIT([x],[1])^JAC_CACHE_CHECK([x],[v_cv_x],[AS_IF([test a],[AS_CASE([$a],[b],[v_cv_x=$b])],[AC_RUN_IFELSE([AC_LANG_SOURCE([c])],[],[v_cv_x=1])])])^JAC_OUTPUT^J => 3;;;;;;0;x[v_cv_x]1
+// commands that are empty
+AC_INIT([x],[1])^JAC_CACHE_CHECK([x],[v_cv_x],[])^JAC_OUTPUT^J => 3;;;;;;0;x[v_cv_x]0
+AC_INIT([x],[1])^JAC_CACHE_CHECK([x],[v_cv_x],)^JAC_OUTPUT^J => 3;;;;;;0;x[v_cv_x]0
+// commands that set another name
+AC_INIT([x],[1])^JAS_IF([:],[AC_CACHE_CHECK([x],[v_cv_x],[v_cv_y=1])])^JAC_OUTPUT^J => 11 at 56
+AC_INIT([x],[1])^JAC_CACHE_CHECK([x],[v_cv_x],[y=1])^JAC_OUTPUT^J => 11 at 45
+AC_INIT([x],[1])^JAC_CACHE_CHECK([x],[v_cv_x], [v_cv_x=1 y=1])^JAC_OUTPUT^J => 11 at 46
+AC_INIT([x],[1])^JAC_CACHE_CHECK([x],[v_cv_x],[AC_COMPILE_IFELSE([AC_LANG_PROGRAM],[v_cv_x=1],[v_cv_xx=1])])^JAC_OUTPUT^J => 11 at 45
+// commands that may not be held
+AC_INIT([x],[1])^JAC_CACHE_CHECK([x],[v_cv_x],[AC_CACHE_CHECK([x],[v_cv_x],[v_cv_x=1])])^JAC_OUTPUT^J => 11 at 45
+AC_INIT([x],[1])^JAC_CACHE_CHECK([x],[v_cv_x],[AS_IF([:],[AC_SUBST([v_cv_x],[1])])])^JAC_OUTPUT^J => 11 at 45
+AC_INIT([x],[1])^JAC_CACHE_CHECK([x],[v_cv_x],[AC_DEFINE([A])])^JAC_OUTPUT^J => 11 at 45
+AC_INIT([x],[1])^JAC_CACHE_CHECK([x],[v_cv_x],[AC_MSG_ERROR([no])])^JAC_OUTPUT^J => 11 at 45
+AC_INIT([x],[1])^JAC_CACHE_CHECK([x],[v_cv_x],[AC_ARG_ENABLE([a])])^JAC_OUTPUT^J => 11 at 45
+// before its arguments
+AC_INIT([x],[1])^JAC_CACHE_CHECK([x],[v_cv_x],[AC_SUBST([a-b])])^JAC_OUTPUT^J => 11 at 45
+// what is named first
+AC_INIT([x],[1])^JAC_CACHE_CHECK([x],[v_cv_x],[AC_INIT([x],[1])])^JAC_OUTPUT^J => 7 at 46
+AC_INIT([x],[1])^JAC_CACHE_CHECK([x],[v_cv_x],[AS_IF([:],[AC_OUTPUT])])^JAC_OUTPUT^J => 7 at 57
+AC_INIT([x],[1])^JAC_CACHE_CHECK([x],[v_cv_x],[AC_NOPE])^JAC_OUTPUT^J => 2 at 46
+AC_INIT([x],[1])^JAC_CACHE_CHECK([x],[v_cv_x],[AC_SUBST])^JAC_OUTPUT^J => 4 at 46
+AC_INIT([x],[1])^JAC_CACHE_CHECK([x],[v_cv_x],[:^JAC_SUBST([b]) c])^JAC_OUTPUT^J => 3 at 48
+AC_INIT([x],[1])^JAC_CACHE_CHECK([x],[v_cv_x],[y=1; z=`a`])^JAC_OUTPUT^J => 6.1 at 46
+AC_INIT([x],[1])^JAC_CACHE_CHECK([x],[v_cv_x],[y=1; foo])^JAC_OUTPUT^J => 3 at 46
+AC_INIT([x],[1])^JAC_CACHE_CHECK([x],[v_cv_x],[y=1^JAC_NOPE])^JAC_OUTPUT^J => 11 at 45
+// a name that is no cache name, and a message that is no text
+AC_INIT([x],[1])^JAC_CACHE_CHECK([x],[vcvx],[y=1])^JAC_OUTPUT^J => 5 at 36
+AC_INIT([x],[1])^JAC_CACHE_CHECK([x],[v_cv_$x],[])^JAC_OUTPUT^J => 5 at 36
+AC_INIT([x],[1])^JAC_CACHE_CHECK([`],[vcvx],[y=1])^JAC_OUTPUT^J => 6.1 at 32
+// two arguments, and four
+AC_INIT([x],[1])^JAC_CACHE_CHECK([x],[v_cv_x])^JAC_OUTPUT^J => 4 at 17
+AC_INIT([x],[1])^JAC_CACHE_CHECK([x],[v_cv_x],[],[])^JAC_OUTPUT^J => 4 at 17
+// commands that are no statement argument
+AC_INIT([x],[1])^JAC_CACHE_CHECK([x],[v_cv_x],[a] b)^JAC_OUTPUT^J => 3 at 45
+// lists that nest 32 deep, and 33
+AC_INIT([x],[1])^JAS_IF([:],[AS_IF([:],[AS_IF([:],[AS_IF([:],[AS_IF([:],[AS_IF([:],[AS_IF([:],[AS_IF([:],[AS_IF([:],[AS_IF([:],[AS_IF([:],[AS_IF([:],[AS_IF([:],[AS_IF([:],[AS_IF([:],[AS_IF([:],[AS_IF([:],[AS_IF([:],[AS_IF([:],[AS_IF([:],[AS_IF([:],[AS_IF([:],[AS_IF([:],[AS_IF([:],[AS_IF([:],[AS_IF([:],[AS_IF([:],[AS_IF([:],[AS_IF([:],[AS_IF([:],[AC_CACHE_CHECK([x],[v_cv_x],[v_cv_x=1])])])])])])])])])])])])])])])])])])])])])])])])])])])])])])])^JAC_OUTPUT^J => 3;;;;;;0
+AC_INIT([x],[1])^JAS_IF([:],[AS_IF([:],[AS_IF([:],[AS_IF([:],[AS_IF([:],[AS_IF([:],[AS_IF([:],[AS_IF([:],[AS_IF([:],[AS_IF([:],[AS_IF([:],[AS_IF([:],[AS_IF([:],[AS_IF([:],[AS_IF([:],[AS_IF([:],[AS_IF([:],[AS_IF([:],[AS_IF([:],[AS_IF([:],[AS_IF([:],[AS_IF([:],[AS_IF([:],[AS_IF([:],[AS_IF([:],[AS_IF([:],[AS_IF([:],[AS_IF([:],[AS_IF([:],[AS_IF([:],[AC_CACHE_CHECK([x],[v_cv_x],[AS_IF([:],[v_cv_x=1])])])])])])])])])])])])])])])])])])])])])])])])])])])])])])])])^JAC_OUTPUT^J => 12 at 386
+AC_INIT([x],[1])^JAS_IF([:],[AS_IF([:],[AS_IF([:],[AS_IF([:],[AS_IF([:],[AS_IF([:],[AS_IF([:],[AS_IF([:],[AS_IF([:],[AS_IF([:],[AS_IF([:],[AS_IF([:],[AS_IF([:],[AS_IF([:],[AS_IF([:],[AS_IF([:],[AS_IF([:],[AS_IF([:],[AS_IF([:],[AS_IF([:],[AS_IF([:],[AS_IF([:],[AS_IF([:],[AS_IF([:],[AS_IF([:],[AS_IF([:],[AS_IF([:],[AS_IF([:],[AS_IF([:],[AS_IF([:],[AS_IF([:],[AC_CACHE_CHECK([x],[v_cv_x],[y=1])])])])])])])])])])])])])])])])])])])])])])])])])])])])])])])])^JAC_OUTPUT^J => 12 at 386
+// before AC_INIT, and after AC_OUTPUT
+AC_CACHE_CHECK([x],[v_cv_x],[v_cv_x=1]) => 8
+AC_INIT([x],[1])^JAC_OUTPUT^JAC_CACHE_CHECK([x],[v_cv_x],[v_cv_x=1])^J => 10 at 27
 "#;
 
 #[test]

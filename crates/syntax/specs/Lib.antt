@@ -4,3 +4,4 @@ pub mod Output
 pub mod Script
 pub mod Lists
 pub mod Limits
+pub mod Commands

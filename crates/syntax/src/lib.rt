@@ -6,7 +6,8 @@
 //! to them. `source` puts both together. Read them in this order.
 //!
 //! Contracts see a list of statements as its first statement and what follows: `specs/Script.antt`. `specs/Lists.antt`
-//! says which lists statements declare, also in cases that a run does not take.
+//! says which lists statements declare, also in cases that a run does not take. `specs/Commands.antt` says what the
+//! commands of AC_CACHE_CHECK hold.
 //!
 //! `AS_IF([test x = y], [a=1], [a=2])` is a `Choose` of two cases: one decided by the test, and one that is always
 //! taken.

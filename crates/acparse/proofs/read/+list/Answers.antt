@@ -4,6 +4,7 @@ use Rattle.syntax.specs.Script.{Cases}
 use Rattle.std.proofs.lemmas.Result.{err_from_is_err_and}
 use Rattle.std.proofs.Math.ListN.{drop_of_length-le}
 use Rattle.m4quote.specs.Entry.{span, view, views}
+use Rattle.acparse.specs.Profile.{body_of}
 use Rattle.acparse.proofs.Steps.{views_drop, slice_from, call_adds, bare_adds, spans_drop, items_step, items_stop, items_done, cases_step, cases_fail, case_is, case_fails, cases_done, default_known, asked_is}
 use Rattle.acparse.proofs.read.+list.Goals as goal
 
@@ -24,11 +25,11 @@ pub read_statements-returns-clause-value : goal.read_statements-returns-clause-v
 read_statements-returns-clause-value t c = items_done _ _ _ _ _ _ _ _ (ap views (drop_of_length-le c.args.items.now c.loop-i-test.false)) c.loop-i.invariant
 
 pub read_item-returns-in-Bare : goal.read_item-returns-in-Bare
-read_item-returns-in-Bare t c = bare_adds c.read_bare.result _ _ _ _ _ _ _ _ _ _ (ap view c.in-Bare.is) c.read_bare.ensures
+read_item-returns-in-Bare t c = bare_adds c.read_bare.result _ (body_of c.args.room) _ _ _ _ _ (views c.args.following.now) _ _ (ap view c.in-Bare.is) c.read_bare.ensures
 
 pub read_item-returns-in_ok-push-in-Call : goal.read_item-returns-in_ok-push-in-Call
 read_item-returns-in_ok-push-in-Call t c =
-    call_adds _ _ _ _ _ _ _ (map span c.in-Call.args.items) _ _ _ _ _ _ (ap view c.in-Call.is)
+    call_adds _ (body_of c.args.room) _ _ _ _ _ (map span c.in-Call.args.items) _ _ _ _ _ _ (ap view c.in-Call.is)
     (rw c.deref.ensures.value at c.in_ok-m-in-Call.ensures) (rw c.deref-in-Call.ensures.value at c.in_ok-s-in-Call.ensures.value) c.in_ok-s-in-Call.ensures.after c.in_ok-push-in-Call.ensures.items
 
 -- ---- cases

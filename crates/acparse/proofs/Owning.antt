@@ -1,0 +1,232 @@
+-- The commands of each AC_CACHE_CHECK set its name alone.
+use Rattle.std.proofs.Common.{◌≡◌, ℕ, zero, suc, Bool, true, false, ◌&&◌, List, [], ◌∷◌, Result, Ok, Err, refl, subst}
+use Rattle.std.specs.Prelude.{IfOk}
+use Rattle.std.specs.Str.{bytes_eq}
+use Rattle.std.proofs.lemmas.Slice.Eq.{bytes_eq-Decides}
+use Rattle.shellword.specs.declared.part.Part.{Part}
+use Rattle.baretext.specs.declared.assignments.Assignment.{Assignment}
+use Rattle.m4quote.specs.Entry.{Span, Entry}
+use Rattle.deftable.specs.CacheName.{is_cache_name}
+use Rattle.acstatement.specs.declared.fault.ParseFault.{ParseFault}
+use Rattle.acstatement.specs.declared.stand.Edge.{Edge}
+use Rattle.acstatement.specs.Reading.{Gives}
+use Rattle.acstatement.specs.Texts.{arg_at}
+use Rattle.acstatement.proofs.Binds.{bind_ok, ok_is, wants_ok}
+use Rattle.acargs.specs.Arguments.{name, cache_name, is_given}
+use Rattle.acargs.specs.Shell.{word}
+use Rattle.acmacros.specs.declared.macros.ChoiceMacro.{ChoiceMacro}
+use Rattle.acmacros.specs.declared.macros.ChoiceMacro.TheVariants.{If, Case as As_case}
+use Rattle.acmacros.specs.declared.macros.Macro.TheVariants.{Plain as A_plain, Question as A_question, Check as A_check}
+use Rattle.acmacros.specs.declared.macros.PlainMacro.{PlainMacro}
+use Rattle.acmacros.specs.declared.macros.QuestionMacro.{QuestionMacro}
+use Rattle.acmacros.specs.declared.macros.QuestionMacro.TheVariants.{Given, Tries}
+use Rattle.acmacros.specs.Rows.{question_of}
+use Rattle.acmacros.specs.Scene.{Scene, Top, Nested, Commands, of_case, may_hold}
+use Rattle.acmacros.specs.Tries.{tries, tried_program}
+use Rattle.syntax.specs.declared.declarations.Declarations as declarations
+use Rattle.syntax.specs.declared.declarations.Stage.{Stage}
+use Rattle.syntax.specs.declared.statement.Plain as plain
+use Rattle.syntax.specs.declared.statement.Question as question_of_tree
+use Rattle.syntax.specs.declared.tree.Stmt.{Stmt}
+use Rattle.syntax.specs.declared.tree.Subject.{Subject}
+use Rattle.syntax.specs.declared.tree.Subject.TheVariants.{Nothing, Word, Asked}
+use Rattle.syntax.specs.declared.tree.When.{When}
+use Rattle.syntax.specs.declared.tree.When.TheVariants.{Always}
+use Rattle.syntax.specs.Commands.{TriesAlone, AreCommands, AreCommandsIn, HasCommands, HasCommandsIn}
+use Rattle.syntax.specs.Script.{Script, Done, Then, Choice, Check, Cases, No_case, Case, joined, followed, script_of}
+use Rattle.acparse.specs.Bare.{assigned, may_assign, set_alone}
+use Rattle.acparse.specs.Profile.{source_of, subject_of, case_if}
+use Rattle.acparse.specs.Source.{IsSource}
+use Rattle.acparse.specs.Statements.{Within, IsBare, before, ended, assignments, AreCases, no_more, default, pair, IsAction, absent, there, IsItem, bare_text, plain_call, choice, question, check, AreStatements, none, one, IsBody}
+use Rattle.acparse.proofs.Whole.{source_found}
+
+-- The statements of a scene: commands, or statements with commands in them.
+abbrev Held : Scene → Script → Type 0
+Held Top s = HasCommands s
+Held Nested s = HasCommands s
+Held (Commands n at) s = AreCommands n s
+
+abbrev HeldIn : Scene → Cases → Type 0
+HeldIn Top cases = HasCommandsIn cases
+HeldIn Nested cases = HasCommandsIn cases
+HeldIn (Commands n at) cases = AreCommandsIn n cases
+
+-- Each statement argument of a scene has such statements.
+abbrev Holds : Scene → Within → Type 0
+Holds scene Inside = (c : declarations.Declarations) (arg : Span) (s : Script) → Inside c arg s → Held scene s
+
+-- ---- one list after another
+
+commands_joined : (n : List ℕ) (a b : Script) → AreCommands n a → AreCommands n b → AreCommands n (joined a b)
+commands_joined n Done b h k = k
+commands_joined n (Then s rest) b h k = (h.0, commands_joined n rest b h.1 k)
+commands_joined n (Choice subject cases rest) b h k = (h.0, (h.1.0, commands_joined n rest b h.1.1 k))
+commands_joined n (Check message other commands rest) b h k = absurd h
+
+has_joined : (a b : Script) → HasCommands a → HasCommands b → HasCommands (joined a b)
+has_joined Done b h k = k
+has_joined (Then s rest) b h k = has_joined rest b h k
+has_joined (Choice subject cases rest) b h k = (h.0, has_joined rest b h.1 k)
+has_joined (Check message n commands rest) b h k = (h.0, (h.1.0, has_joined rest b h.1.1 k))
+
+held_joined : (scene : Scene) (a b : Script) → Held scene a → Held scene b → Held scene (joined a b)
+held_joined Top a b h k = has_joined a b h k
+held_joined Nested a b h k = has_joined a b h k
+held_joined (Commands n at) a b h k = commands_joined n a b h k
+
+commands_followed : (n : List ℕ) (a b : Cases) → AreCommandsIn n a → AreCommandsIn n b → AreCommandsIn n (followed a b)
+commands_followed n No_case b h k = k
+commands_followed n (Case when body more) b h k = (h.0, commands_followed n more b h.1 k)
+
+has_followed : (a b : Cases) → HasCommandsIn a → HasCommandsIn b → HasCommandsIn (followed a b)
+has_followed No_case b h k = k
+has_followed (Case when body more) b h k = (h.0, has_followed more b h.1 k)
+
+held_followed : (scene : Scene) (a b : Cases) → HeldIn scene a → HeldIn scene b → HeldIn scene (followed a b)
+held_followed Top a b h k = has_followed a b h k
+held_followed Nested a b h k = has_followed a b h k
+held_followed (Commands n at) a b h k = commands_followed n a b h k
+
+-- ---- text
+
+both_true : (a b : Bool) → (a && b) ≡ true → (a ≡ true) × (b ≡ true)
+both_true true b e = (refl, e)
+both_true false b e = absurd cc
+
+commands_assigned : (n : List ℕ) (list : List Assignment) → set_alone n list ≡ true → AreCommands n (assigned list)
+commands_assigned n [] e = tt
+commands_assigned n (a ∷ more) e =
+    let p = both_true (bytes_eq a.name n) (set_alone n more) e in ((bytes_eq-Decides a.name n).0 p.0, commands_assigned n more p.1)
+
+has_assigned : (list : List Assignment) → HasCommands (assigned list)
+has_assigned [] = tt
+has_assigned (a ∷ more) = has_assigned more
+
+held_assigned : (scene : Scene) (list : List Assignment) → may_assign scene list ≡ Ok tt → Held scene (assigned list)
+unfolding may_assign
+held_assigned Top list e = has_assigned list
+held_assigned Nested list e = has_assigned list
+held_assigned (Commands n at) list e = commands_assigned n list (wants_ok (set_alone n list) _ _ e)
+
+held_done : (scene : Scene) → Held scene Done
+held_done Top = tt
+held_done Nested = tt
+held_done (Commands n at) = tt
+
+bare_held : {stage : Stage} {text : List ℕ} {s : Script} (scene : Scene) → IsBare scene stage text s → Held scene s
+bare_held scene (before is) = held_done scene
+bare_held scene (ended is) = held_done scene
+bare_held scene (assignments {list = list} v l may) = held_assigned scene list may
+
+-- ---- cases
+
+held_case : (scene : Scene) (when : When) (body : Script) (more : Cases) → Held scene body → HeldIn scene more → HeldIn scene (Case when body more)
+held_case Top when body more h k = (h, k)
+held_case Nested when body more h k = (h, k)
+held_case (Commands n at) when body more h k = (h, k)
+
+held_no_case : (scene : Scene) → HeldIn scene No_case
+held_no_case Top = tt
+held_no_case Nested = tt
+held_no_case (Commands n at) = tt
+
+held_if : (scene : Scene) (when : When) (given : Bool) (body : Script) → Held scene body → HeldIn scene (case_if when given body)
+held_if scene when true body h = held_case scene when body No_case h (held_no_case scene)
+held_if scene when false Done h = held_no_case scene
+held_if scene when false (Then s rest) h = held_case scene when (Then s rest) No_case h (held_no_case scene)
+held_if scene when false (Choice subject cases rest) h = held_case scene when (Choice subject cases rest) No_case h (held_no_case scene)
+held_if scene when false (Check message n commands rest) h = held_case scene when (Check message n commands rest) No_case h (held_no_case scene)
+
+cases_held : (scene : Scene) (Inside : Within) (holds : Holds scene Inside) (m : ChoiceMacro) {c : declarations.Declarations} {args : List Span} {cases : Cases} → AreCases Inside m c args cases → HeldIn scene cases
+cases_held scene Inside holds m no_more = held_no_case scene
+cases_held scene Inside holds m (default {c = c} {arg = arg} {body = body} i) = held_if scene Always (is_given arg) body (holds c arg body i)
+cases_held scene Inside holds m (pair {when = when} {body = body} {others = others} w i more) = held_case scene when body others (holds _ _ _ i) (cases_held scene Inside holds m more)
+
+action_held : (scene : Scene) (Inside : Within) (holds : Holds scene Inside) (when : When) {c : declarations.Declarations} {args : List Span} {cases : Cases} → IsAction Inside when c args cases → HeldIn scene cases
+action_held scene Inside holds when absent = held_no_case scene
+action_held scene Inside holds when (there {c = c} {arg = arg} {body = body} i) = held_if scene when (is_given arg) body (holds c arg body i)
+
+-- ---- calls
+
+-- The statements of a case are those of its scene.
+of_case_held : (scene : Scene) (s : Script) → Held (of_case scene) s → Held scene s
+of_case_held Top s h = h
+of_case_held Nested s h = h
+of_case_held (Commands n at) s h = h
+
+plain_held : (scene : Scene) (m : PlainMacro) (s : plain.Plain) → may_hold scene (A_plain m) ≡ Ok tt → Held scene (Then s Done)
+unfolding may_hold
+plain_held Top m s e = tt
+plain_held Nested m s e = tt
+plain_held (Commands n at) m s e = absurd cc
+
+subject_tries : (m : ChoiceMacro) (args : List Span) (subject : Subject) → subject_of m args ≡ Ok subject → TriesAlone subject
+unfolding subject_of
+subject_tries If args subject e = subst TriesAlone (ok_is Nothing subject e) tt
+subject_tries As_case args subject e =
+    let w = bind_ok (word (arg_at args 0)) _ _ e in
+    subst TriesAlone (ok_is (Word w.0) subject w.2) tt
+
+held_choice : (scene : Scene) (subject : Subject) (cases : Cases) → TriesAlone subject → HeldIn scene cases → Held scene (Choice subject cases Done)
+held_choice Top subject cases t h = (h, tt)
+held_choice Nested subject cases t h = (h, tt)
+held_choice (Commands n at) subject cases t h = (t, (h, tt))
+
+tried : (c : declarations.Declarations) (m : QuestionMacro) (args : List Span) (q : question_of_tree.Question) (n : List ℕ) (at : ℕ) → may_hold (Commands n at) (A_question m) ≡ Ok tt → question_of c m args ≡ Ok q → TriesAlone (Asked q)
+unfolding may_hold tries
+tried c (Given kind) args q n at e f = absurd cc
+tried c (Tries kind) args q n at e f =
+    let p = bind_ok (tried_program (arg_at args 0)) _ _ f in
+    subst (λ (q : question_of_tree.Question). TriesAlone (Asked q)) (ok_is _ q p.2) tt
+
+held_question : (scene : Scene) (c : declarations.Declarations) (m : QuestionMacro) (args : List Span) (q : question_of_tree.Question) (cases : Cases) → may_hold scene (A_question m) ≡ Ok tt → question_of c m args ≡ Ok q → HeldIn scene cases
+    → Held scene (Choice (Asked q) cases Done)
+held_question Top c m args q cases e f h = (h, tt)
+held_question Nested c m args q cases e f h = (h, tt)
+held_question (Commands n at) c m args q cases e f h = (tried c m args q n at e f, (h, tt))
+
+named : (arg : Span) (n : List ℕ) → cache_name arg ≡ Ok n → is_cache_name n ≡ true
+unfolding cache_name
+named arg n e =
+    let x = bind_ok (name arg) _ _ e in
+    let y = bind_ok _ _ _ x.2 in
+    subst (λ (n : List ℕ). is_cache_name n ≡ true) (ok_is x.0 n y.2) (wants_ok (is_cache_name x.0) _ _ y.1)
+
+held_check : (scene : Scene) (arg : Span) (message : List Part) (n : List ℕ) (at : ℕ) (commands : Script) → may_hold scene A_check ≡ Ok tt → cache_name arg ≡ Ok n → AreCommands n commands → Held scene (Check message n commands Done)
+unfolding may_hold
+held_check Top arg message n at commands e f h = (named arg n f, (h, tt))
+held_check Nested arg message n at commands e f h = (named arg n f, (h, tt))
+held_check (Commands other to) arg message n at commands e f h = absurd cc
+
+-- ---- items
+
+item_held : (scene : Scene) (Inside : Scene → Within) (holds : (x : Scene) → Holds x (Inside x)) (c : declarations.Declarations) (edge : Edge) {item : Entry} {next : List Entry} {s : Script}
+    → IsItem scene Inside c edge item next s → Held scene s
+item_held scene Inside holds c edge (bare_text i) = bare_held scene i
+item_held scene Inside holds c edge (plain_call {m = m} {s = s} stands p) = plain_held scene m s stands.held
+item_held scene Inside holds c edge (choice {args = args} {m = m} {subject = subject} {cases = cases} stands p i) =
+    held_choice scene subject cases (subject_tries m args subject p) (cases_held scene (Inside (of_case scene)) (λ c arg s x. of_case_held scene s (holds (of_case scene) c arg s x)) m i)
+item_held scene Inside holds c edge (question {args = args} {m = m} {q = q} {first = first} {other = other} stands p f o) =
+    let inner : Holds scene (Inside (of_case scene)) = λ c arg s x. of_case_held scene s (holds (of_case scene) c arg s x) in
+    held_question scene c m args q (followed first other) stands.held p
+    (held_followed scene first other (action_held scene (Inside (of_case scene)) inner _ f) (action_held scene (Inside (of_case scene)) inner _ o))
+item_held scene Inside holds c edge (check {args = args} {message = message} {variable = variable} {commands = commands} stands m n i) =
+    let at = (arg_at args 2).at in
+    held_check scene (arg_at args 1) message variable at commands stands.held n (holds (Commands variable at) c (arg_at args 2) commands i)
+
+items_held : (scene : Scene) (Inside : Scene → Within) (holds : (x : Scene) → Holds x (Inside x)) {c : declarations.Declarations} {edge : Edge} {items : List Entry} {s : Script}
+    → AreStatements scene Inside c edge items s → Held scene s
+items_held scene Inside holds none = held_done scene
+items_held scene Inside holds (one {c = c} {first = first} {rest = rest} i more) = held_joined scene first rest (item_held scene Inside holds c _ i) (items_held scene Inside holds more)
+
+body_held : (room : ℕ) (scene : Scene) → Holds scene (IsBody room scene)
+body_held zero scene c arg s i = absurd i
+body_held (suc room) scene c arg s i = items_held scene (IsBody room) (body_held room) i.2.2
+
+-- The commands in a source.
+source_held : (text : List ℕ) (s : Script) → IsSource text s → HasCommands s
+source_held text s is = items_held Top (IsBody 31) (body_held 31) is.list.statements
+
+pub commands_held : (text : List ℕ) (r : Result (List Stmt) ParseFault) → Gives script_of r (source_of text) → IfOk r (λ s. HasCommands (script_of s))
+commands_held text (Ok s) is = source_held text (script_of s) (source_found text (script_of s) is)
+commands_held text (Err f) is = tt

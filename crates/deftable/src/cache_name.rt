@@ -1,0 +1,28 @@
+//! The form of the names of cached values.
+
+ghost use Rattle.std.specs.Prelude.{◌≡◌, drop, codes, nat_eq};
+ghost use Rattle.std.specs.List.{starts_with};
+ghost use Rattle.deftable.specs.CacheName as words;
+
+use crate::shell_name::is_shell_name;
+
+#[tactic(auto, using(crate::proofs::CacheNames::cv_more, crate::proofs::CacheNames::cv_stop, crate::proofs::CacheNames::cv_end))]
+fn has_cv(text: &[u8]) -> bool
+    ensures { result ≡ words.has_cv text.now }
+{
+    for i in 0..text.len() {
+        if text[i..].starts_with(b"_cv_") {
+            return true;
+        }
+    }
+    false
+}
+
+/// Returns whether the text is a cache name: a shell name that contains `_cv_` (Autoconf's manual, "Cache Variable
+/// Names").
+#[tactic(auto, unfolding(crate::specs::CacheName::is_cache_name))]
+pub fn is_cache_name(name: &[u8]) -> bool
+    ensures value { result ≡ words.is_cache_name name.now }
+{
+    is_shell_name(name) && has_cv(name)
+}

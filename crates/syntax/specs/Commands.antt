@@ -1,0 +1,48 @@
+-- What the commands of AC_CACHE_CHECK hold: statements that find the value of its name, and do nothing else. All of this
+-- is own.
+use Rattle.std.specs.Prelude.{◌≡◌, ℕ, true, List}
+use Rattle.deftable.specs.CacheName.{is_cache_name}
+use Rattle.syntax.specs.declared.statement.Plain as plain
+use Rattle.syntax.specs.declared.statement.Plain.TheVariants.{Assign}
+use Rattle.syntax.specs.declared.statement.Question.TheVariants.{Given, Tries}
+use Rattle.syntax.specs.declared.tree.Subject.{Subject}
+use Rattle.syntax.specs.declared.tree.Subject.TheVariants.{Nothing, Word, Asked}
+use Rattle.syntax.specs.Script.{Script, Done, Then, Choice, Check, Cases, No_case, Case}
+
+-- The statement is an assignment to this name.
+abbrev pub AssignsAlone : List ℕ → plain.Plain → Type 0
+AssignsAlone name (Assign variable value) = variable ≡ name
+AssignsAlone name _ = ⊥
+
+-- The choice asks no question, unless whether a program passes.
+abbrev pub TriesAlone : Subject → Type 0
+TriesAlone Nothing = Unit {0}
+TriesAlone (Word word) = Unit {0}
+TriesAlone (Asked (Tries kind program)) = Unit {0}
+TriesAlone (Asked (Given kind variable help)) = ⊥
+
+abbrev mutual
+  -- The statements are commands that set this name: assignments to it, and choices that hold such commands.
+  pub AreCommands : List ℕ → Script → Type 0
+  AreCommands name Done = Unit {0}
+  AreCommands name (Then s rest) = AssignsAlone name s × AreCommands name rest
+  AreCommands name (Choice subject cases rest) = TriesAlone subject × (AreCommandsIn name cases × AreCommands name rest)
+  AreCommands name (Check message other commands rest) = ⊥
+
+  -- The statements of all cases are such commands.
+  pub AreCommandsIn : List ℕ → Cases → Type 0
+  AreCommandsIn name No_case = Unit {0}
+  AreCommandsIn name (Case when body more) = AreCommands name body × AreCommandsIn name more
+
+abbrev mutual
+  -- Each AC_CACHE_CHECK among the statements has a cache name, and commands that set it.
+  pub HasCommands : Script → Type 0
+  HasCommands Done = Unit {0}
+  HasCommands (Then s rest) = HasCommands rest
+  HasCommands (Choice subject cases rest) = HasCommandsIn cases × HasCommands rest
+  HasCommands (Check message name commands rest) = (is_cache_name name ≡ true) × (AreCommands name commands × HasCommands rest)
+
+  -- So has each among the statements of all cases.
+  pub HasCommandsIn : Cases → Type 0
+  HasCommandsIn No_case = Unit {0}
+  HasCommandsIn (Case when body more) = HasCommands body × HasCommandsIn more
