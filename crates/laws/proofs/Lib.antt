@@ -1,0 +1,4 @@
+pub mod Values
+pub mod Endings
+pub mod CachedTests
+pub mod Kept
