@@ -2,14 +2,23 @@
 use Rattle.std.proofs.Common.{◌≡◌, ℕ, Some, List, ◌++◌, codes, refl, sym, ap, ◌∙◌, subst, ⊎_elim}
 use Rattle.deftable.specs.Table.{value_of, without_entry}
 use Rattle.meaning.specs.State.{State, How, Goes_on, Completed, Stopped, Cut, Ends, then_run}
-use Rattle.meaning.specs.Tests.{Test, broken, guarded, checking, with_result, test_by, cached_test}
+use Rattle.meaning.specs.Tests.{Row, tested_by, may_begin, tested, Test, broken, guarded, checking, with_result, test_by, cached_test}
 use Rattle.laws.specs.Ends.{AtEnds, Breaks}
-use Rattle.laws.specs.Cached.{IsUnset, StandsOnce, BrokenIsUnset}
+use Rattle.laws.specs.Cached.{with_cached, SetRowAsksNothing, IsUnset, StandsOnce, BrokenIsUnset}
 use Rattle.laws.proofs.Values.{cases_value, once_unset}
 use Rattle.laws.proofs.Endings.{ends_then, ends_ended}
 
 pub set_cached : (t : Test) (value : List ℕ) (st : State) → value_of st.vars t.name ≡ Some value → cached_test t st ≡ Ends Goes_on (with_result (codes "(cached) " ++ t.shown (Some value)) (checking t.message st))
 set_cached t value st e = ap (λ o. test_by o t (checking t.message st)) e
+
+pub set_row : (r : Row) (value : List ℕ) (st : State) → value_of st.vars r.test.name ≡ Some value → tested r st ≡ Ends Goes_on (r.after (Some value) (with_cached r.test value st))
+set_row r value st e =
+    ap (λ o. tested_by (may_begin o r.ready) r st) e
+    ∙ ap (λ run. then_run run (λ now. Ends Goes_on (r.after (value_of now.vars r.test.name) now))) (set_cached r.test value st e)
+    ∙ ap (λ o. Ends Goes_on (r.after o (with_cached r.test value st))) e
+
+pub set_row_asks_nothing : SetRowAsksNothing
+set_row_asks_nothing r value st e = record { run = set_row r value st e; vars = refl; defs = refl }
 
 pub unset_cached : (t : Test) (st : State) → IsUnset t.name st.vars
     → cached_test t st ≡ then_run (guarded t.name (t.body (checking t.message st))) (λ now. Ends Goes_on (with_result (t.shown (value_of now.vars t.name)) now))

@@ -2,3 +2,4 @@ pub mod Values
 pub mod Endings
 pub mod CachedTests
 pub mod Kept
+pub mod CommandLemmas

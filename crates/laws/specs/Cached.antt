@@ -1,10 +1,10 @@
 -- Laws of cached tests: what they leave in the variables.
-use Rattle.std.specs.Prelude.{◌≡◌, ℕ, List, Some, None}
+use Rattle.std.specs.Prelude.{◌≡◌, ℕ, List, ◌++◌, Some, None, codes}
 use Rattle.deftable.specs.Table.{value_of, without_entry}
 use Rattle.shellword.specs.declared.part.Part.{Part}
 use Rattle.syntax.specs.Script.{Script}
-use Rattle.meaning.specs.State.{State, Run}
-use Rattle.meaning.specs.Tests.{Test, cached_test, tested}
+use Rattle.meaning.specs.State.{State, Goes_on, Run, Ends}
+use Rattle.meaning.specs.Tests.{Test, cached_test, checking, with_result, Row, tested}
 use Rattle.meaning.specs.Rows.{Kind, name_of, row_of}
 use Rattle.meaning.specs.Meaning.{check, meaning}
 use Rattle.laws.specs.Ends.{AtEnds, Breaks}
@@ -50,3 +50,19 @@ BrokenCheckIsUnset = (message : List Part) (name : List ℕ) (commands : Script)
 -- A name that is set is set at each end of any statements. (own)
 abbrev pub SetStaysSet : Type 0
 SetStaysSet = (script : Script) (name : List ℕ) (st : State) → IsSet name st.vars → AtEnds (λ how now. IsSet name now.vars) (meaning script st)
+
+-- The state after a test whose name is set to this value: it has printed what is checked, and the value. (Autoconf's
+-- manual, "Caching Results")
+abbrev pub with_cached : Test → List ℕ → State → State
+with_cached test value st = with_result (codes "(cached) " ++ test.shown (Some value)) (checking test.message st)
+
+-- A test in a statement whose name is set asks for nothing. Variables and definitions are those from before, and then
+-- what is done with the value is done. (own)
+pub record AsksNothing (row : Row) (value : List ℕ) (st : State) : Type 0 where
+  pub run : tested row st ≡ Ends Goes_on (row.after (Some value) (with_cached row.test value st))
+  pub vars : (with_cached row.test value st).vars ≡ st.vars
+  pub defs : (with_cached row.test value st).defs ≡ st.defs
+
+-- This holds of each test whose name is set. (Autoconf's manual, "Caching Results")
+abbrev pub SetRowAsksNothing : Type 0
+SetRowAsksNothing = (row : Row) (value : List ℕ) (st : State) → value_of st.vars row.test.name ≡ Some value → AsksNothing row value st
