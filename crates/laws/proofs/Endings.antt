@@ -17,6 +17,10 @@ pub ends_ended : (P Q : How → State → Type 0) (early : How → State → Sta
 ends_ended P Q early (Ends how st) h to = to how st h
 ends_ended P Q early (Asks jobs ask) h to = λ replies. ends_ended P Q early (ask replies) (h replies) to
 
+pub ends_map : (P Q : How → State → Type 0) (r : Run) → AtEnds P r → ((how : How) (st : State) → P how st → Q how st) → AtEnds Q r
+ends_map P Q (Ends how st) h to = to how st h
+ends_map P Q (Asks jobs ask) h to = λ replies. ends_map P Q (ask replies) (h replies) to
+
 pub ends_either : (P : How → State → Type 0) (b : Bool) (x y : Run) → AtEnds P x → AtEnds P y → AtEnds P (cond b x y)
 ends_either P true x y h k = h
 ends_either P false x y h k = k

@@ -98,11 +98,11 @@ either_state : (I : State → Type 0) (b : Bool) (x y : State) → I x → I y �
 either_state I true x y h k = h
 either_state I false x y h k = k
 
-defaulted_keeps : (I : State → Type 0) → Closed I → (variable : List ℕ) (value : Option (List ℕ)) (st : State) → I st → I (defaulted variable value st)
+pub defaulted_keeps : (I : State → Type 0) → Closed I → (variable : List ℕ) (value : Option (List ℕ)) (st : State) → I st → I (defaulted variable value st)
 defaulted_keeps I c variable None st h = h
 defaulted_keeps I c variable (Some value) st h = either_state I (has_value st variable) st (with_variable variable value st) h (c.variables variable value st h)
 
-settled_keeps : (I : State → Type 0) → Closed I → (name value : List ℕ) (st : State) → I st → I (settled name value st)
+pub settled_keeps : (I : State → Type 0) → Closed I → (name value : List ℕ) (st : State) → I st → I (settled name value st)
 settled_keeps I c name value st h = either_state I (is_unsettled (value_of st.vars name)) (with_variable name value st) st (c.variables name value st h) h
 
 package_keeps : (I : State → Type 0) → Closed I → (name value : List ℕ) (st : State) → I st → I (with_package st name value)

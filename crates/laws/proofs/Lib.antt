@@ -3,3 +3,4 @@ pub mod Endings
 pub mod CachedTests
 pub mod Kept
 pub mod CommandLemmas
+pub mod Accounting

@@ -2,11 +2,13 @@
 //!
 //! There is no code here. Each function does nothing, and its contract is a theorem on the definitions of `meaning`.
 //! Read `specs/Ends.antt` (what holds at the ends of a run), `specs/Cached.antt` (cached
-//! tests: their names), then `specs/Commands.antt` (tests that set their name alone).
+//! tests: their names), `specs/Commands.antt` (tests that set their name alone), then
+//! `specs/Deeds.antt` (what each name that is set at the end comes from).
 #![tactic(auto)]
 
 ghost use Rattle.laws.specs.Cached.{NamesStandOnce, BrokenIsUnset, BrokenRowIsUnset, BrokenCheckIsUnset, SetStaysSet, SetRowAsksNothing};
 ghost use Rattle.laws.specs.Commands.{BrokenLeavesVariables, BrokenRowLeavesVariables, CommandsWriteAlone, BrokenCheckLeavesVariables};
+ghost use Rattle.laws.specs.Deeds.{DeedsAccount};
 
 /// Statements never give a name a second entry in the variables.
 pub fn names_stand_once()
@@ -57,4 +59,11 @@ pub fn commands_write_alone()
 /// AC_CACHE_CHECK with such commands leaves the variables as they were if it doesn't continue.
 pub fn broken_check_leaves_variables()
     ensures same { BrokenCheckLeavesVariables }
+{}
+
+/// A name that is set at the end of a run was set at its beginning, or was assigned by a statement, or was left set by a
+/// completed test; what the commands of AC_CACHE_CHECK do to its own name does not count. Each name that a completed test
+/// left set is set at the end.
+pub fn deeds_account()
+    ensures account { DeedsAccount }
 {}
