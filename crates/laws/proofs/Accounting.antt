@@ -27,14 +27,14 @@ use Rattle.meaning.specs.Play.{play, first_number, refused_after, with_cut_line,
 use Rattle.meaning.specs.Tries.{first_probe, after_first, text_of}
 use Rattle.meaning.specs.Meaning.{settled, is_unsettled, has_value, check_prog, looks, looks_all, defaulted, effect, value_name, given, begun, is_taken, check, meaning, chosen}
 use Rattle.laws.specs.Ends.{AtEnds, Breaks}
-use Rattle.laws.specs.Cached.{IsSet, StandsOnce}
+use Rattle.laws.specs.Cached.{IsSet, IsUnset, StandsOnce}
 use Rattle.laws.specs.Commands.{WritesOwn}
-use Rattle.laws.specs.Deeds.{Deed, Assigned, Tested, deeds_after, left_set, assigned_by, kind_deeds, look_deeds, looks_deeds, default_deeds, prefix_deeds, effect_deeds, given_deeds, yes_or_no, deeds_answered, subject_deeds, name_in, others_than, check_deeds, deeds, case_deeds, Among, Accounts, DeedsAccount}
+use Rattle.laws.specs.Deeds.{Deed, Assigned, Tested, deeds_after, left_set, assigned_by, kind_deeds, look_deeds, looks_deeds, default_deeds, prefix_deeds, effect_deeds, given_deeds, yes_or_no, deeds_answered, subject_deeds, name_in, others_than, check_deeds, deeds, case_deeds, Among, ComesFrom, Accounts, DeedsAccount}
 use Rattle.laws.proofs.Values.{same_text, not_same, apart, cond_true, cond_false, cases_value, value_here, value_there, set_write, value_without, once_unset, rewritten}
 use Rattle.laws.proofs.Endings.{ends_then, ends_map}
 use Rattle.laws.proofs.CachedTests.{set_cached, unset_cached, broken_ends, broken_vars}
 use Rattle.laws.proofs.CommandLemmas.{own_unset, row_alone}
-use Rattle.laws.proofs.Kept.{Keeps, stays_set, then_keeps, looks_all_keeps, defaulted_keeps, settled_keeps, meaning_keeps, chosen_keeps, names_stand_once}
+use Rattle.laws.proofs.Kept.{names_stand_once}
 
 abbrev Variables : Type 0
 Variables = List (List ℕ × List ℕ)
@@ -52,27 +52,43 @@ among_either : (d : Deed) (a b : List Deed) → Among d (a ++ b) → Among d a �
 among_either d [] b h = inr h
 among_either d (e ∷ a) b h = ⊎_elim (λ x. inl (inl x)) (λ k. ⊎_elim (λ l. inl (inr l)) (λ r. inr r) (among_either d a b k)) h
 
-pub joined : (before mid now : Variables) (a b : List Deed) → Accounts before a mid → Accounts mid b now → ((n : List ℕ) → IsSet n mid → IsSet n now) → Accounts before (a ++ b) now
-joined before mid now a b x y stays = record {
-  only = λ n h. ⊎_elim
-      (λ m. ⊎_elim (λ k. inl k) (λ k. inr (⊎_elim (λ l. inl (among_left (Assigned n) a b l)) (λ l. inr (among_left (Tested n) a b l)) k)) (x.only n m))
-      (λ k. inr (⊎_elim (λ l. inl (among_right (Assigned n) a b l)) (λ l. inr (among_right (Tested n) a b l)) k))
-      (y.only n h);
-  lasts = λ n h. ⊎_elim (λ l. stays n (x.lasts n l)) (λ r. y.lasts n r) (among_either (Tested n) a b h);
+-- Where a name comes from, by both ways.
+from_left : (n : List ℕ) (before : Variables) (a b : List Deed) → ComesFrom n before a → ComesFrom n before (a ++ b)
+from_left n before a b h = ⊎_elim (λ k. inl k) (λ k. inr (⊎_elim (λ l. inl (among_left (Assigned n) a b l)) (λ l. inr (among_left (Tested n) a b l)) k)) h
+
+from_right : (n : List ℕ) (before mid : Variables) (a b : List Deed) → (IsSet n mid → ComesFrom n before a) → ComesFrom n mid b → ComesFrom n before (a ++ b)
+from_right n before mid a b first h =
+    ⊎_elim (λ k. from_left n before a b (first k)) (λ k. inr (⊎_elim (λ l. inl (among_right (Assigned n) a b l)) (λ l. inr (among_right (Tested n) a b l)) k)) h
+
+from_both : (n : List ℕ) (before mid : Variables) (a b : List Deed) → (ComesFrom n before a → IsSet n mid) → ComesFrom n before (a ++ b) → ComesFrom n mid b
+from_both n before mid a b first h =
+    ⊎_elim
+    (λ k. inl (first (inl k)))
+    (λ k. ⊎_elim
+    (λ l. ⊎_elim (λ x. inl (first (inr (inl x)))) (λ x. inr (inl x)) (among_either (Assigned n) a b l))
+    (λ l. ⊎_elim (λ x. inl (first (inr (inr x)))) (λ x. inr (inr x)) (among_either (Tested n) a b l))
+    k)
+    h
+
+unset_before : (n : List ℕ) (before mid : Variables) → (IsSet n before → IsSet n mid) → IsUnset n mid → IsUnset n before
+unset_before n before mid stays u =
+    ⊎_elim (λ e. e) (λ some. let z : None ≡ Some (stays some).0 = sym u ∙ (stays some).1 in cc) (cases_value (value_of before n))
+
+pub joined : (before mid now : Variables) (a b : List Deed) → Accounts before a mid → Accounts mid b now → Accounts before (a ++ b) now
+joined before mid now a b x y = record {
+  only = λ n h. from_right n before mid a b (x.only n) (y.only n h);
+  all = λ n h. y.all n (from_both n before mid a b (x.all n) h);
+  tested = λ n h. ⊎_elim (λ l. x.tested n l) (λ r. unset_before n before mid (λ k. x.all n (inl k)) (y.tested n r)) (among_either (Tested n) a b h);
 }
 
 nothing : (vars : Variables) → Accounts vars [] vars
-nothing vars = record { only = λ n h. inl h; lasts = λ n h. absurd h }
+nothing vars = record { only = λ n h. inl h; all = λ n h. ⊎_elim (λ k. k) (λ k. ⊎_elim (λ l. absurd l) (λ l. absurd l) k) h; tested = λ n h. absurd h }
 
 unchanged : (before now : Variables) → now ≡ before → Accounts before [] now
 unchanged before now e = subst (Accounts before []) (sym e) (nothing before)
 
 ended_there : (before now : Variables) (a : List Deed) → Accounts before a now → Accounts before (a ++ []) now
 ended_there before now a h = subst (λ l. Accounts before l now) (sym (append-nil a)) h
-
-either_accounts : (b : Bool) (before now later : Variables) (p q : List Deed) → Accounts before p now → Accounts before q later → Accounts before (cond b p q) (cond b now later)
-either_accounts true before now later p q h k = h
-either_accounts false before now later p q h k = k
 
 -- Writes.
 writes : (vars : Variables) (name value : List ℕ) → Accounts vars (Assigned name ∷ []) (with_entry vars name value)
@@ -81,17 +97,19 @@ writes vars name value = record {
       (λ t. inr (inl (inl (ap Assigned (sym (same_text n name t))))))
       (λ f. inl (h.0, sym (value_there vars name value n f) ∙ h.1))
       (cases_Bool (bytes_eq n name));
-  lasts = λ n h. ⊎_elim (λ e. cc) (λ z. absurd z) h;
+  all = λ n h. ⊎_elim
+      (λ k. set_write vars name value n k)
+      (λ k. ⊎_elim (λ l. ⊎_elim (λ e. here n (ap name_in e)) (λ z. absurd z) l) (λ l. ⊎_elim (λ e. cc) (λ z. absurd z) l) k)
+      h;
+  tested = λ n h. ⊎_elim (λ e. cc) (λ z. absurd z) h;
 }
+  where
+    here : (n : List ℕ) → name ≡ n → IsSet n (with_entry vars name value)
+    here n e = (value, ap (value_of (with_entry vars name value)) (sym e) ∙ value_here vars name value)
 
 -- A write after deeds.
 writes_more : (before mid : Variables) (a : List Deed) (name value : List ℕ) → Accounts before a mid → Accounts before (a ++ Assigned name ∷ []) (with_entry mid name value)
-writes_more before mid a name value x = joined before mid (with_entry mid name value) a (Assigned name ∷ []) x (writes mid name value) (λ n h. set_write mid name value n h)
-
--- What holds at the ends of a run holds at its end under replies.
-at_end : (P : How → State → Type 0) (r : Run) (rs : List Reply) → AtEnds P r → P (play r rs).how (play r rs).state
-at_end P (Ends how st) rs h = h
-at_end P (Asks jobs ask) rs h = at_end P (ask (take (length jobs) rs)) (drop (length jobs) rs) (h (take (length jobs) rs))
+writes_more before mid a name value x = joined before mid (with_entry mid name value) a (Assigned name ∷ []) x (writes mid name value)
 
 -- A run, by what holds at its ends.
 ends_account : (P : How → State → Type 0) (r : Run) (rs : List Reply) (before : Variables) (own : State → List Deed) → AtEnds P r
@@ -107,19 +125,28 @@ ends_account P (Asks jobs ask) rs before own h on off = ends_account P (ask (tak
 abbrev Follow : (State → Run) → (State → List Reply → List Deed) → Type 0
 Follow rest did = (st : State) (rs : List Reply) → Accounts st.vars (did st rs) (play (rest st) rs).state.vars
 
-abbrev StaySet : (State → Run) → Type 0
-StaySet rest = (n : List ℕ) (st : State) → IsSet n st.vars → Keeps (λ now. IsSet n now.vars) (rest st)
-
 then_accounts : (r : Run) (rs : List Reply) (before : Variables) (a : List Deed) (rest : State → Run) (did : State → List Reply → List Deed)
-    → Accounts before a (play r rs).state.vars → Follow rest did → StaySet rest → Accounts before (a ++ deeds_after r rs did) (play (then_run r rest) rs).state.vars
-then_accounts (Ends Goes_on st) rs before a rest did x y stays =
-    joined before st.vars (play (rest st) rs).state.vars a (did st rs) x (y st rs) (λ n h. at_end (λ how now. IsSet n now.vars) (rest st) rs (stays n st h))
-then_accounts (Ends Completed st) rs before a rest did x y stays = ended_there before st.vars a x
-then_accounts (Ends (Stopped s) st) rs before a rest did x y stays = ended_there before st.vars a x
-then_accounts (Ends Cut st) rs before a rest did x y stays = ended_there before st.vars a x
-then_accounts (Asks jobs ask) rs before a rest did x y stays = then_accounts (ask (take (length jobs) rs)) (drop (length jobs) rs) before a rest did x y stays
+    → Accounts before a (play r rs).state.vars → Follow rest did → Accounts before (a ++ deeds_after r rs did) (play (then_run r rest) rs).state.vars
+then_accounts (Ends Goes_on st) rs before a rest did x y = joined before st.vars (play (rest st) rs).state.vars a (did st rs) x (y st rs)
+then_accounts (Ends Completed st) rs before a rest did x y = ended_there before st.vars a x
+then_accounts (Ends (Stopped s) st) rs before a rest did x y = ended_there before st.vars a x
+then_accounts (Ends Cut st) rs before a rest did x y = ended_there before st.vars a x
+then_accounts (Asks jobs ask) rs before a rest did x y = then_accounts (ask (take (length jobs) rs)) (drop (length jobs) rs) before a rest did x y
 
 -- One test.
+tested_more : (before now : Variables) (ds : List Deed) (name : List ℕ) → IsUnset name before → IsSet name now → Accounts before ds now → Accounts before (Tested name ∷ ds) now
+tested_more before now ds name u set x = record {
+  only = λ n h. ⊎_elim (λ k. inl k) (λ k. inr (⊎_elim (λ l. inl (inr l)) (λ l. inr (inr l)) k)) (x.only n h);
+  all = λ n h. ⊎_elim
+      (λ k. x.all n (inl k))
+      (λ k. ⊎_elim
+      (λ l. ⊎_elim (λ e. cc) (λ m. x.all n (inr (inl m))) l)
+      (λ l. ⊎_elim (λ e. subst (λ q. IsSet q now) (ap name_in e) set) (λ m. x.all n (inr (inr m))) l)
+      k)
+      h;
+  tested = λ n h. ⊎_elim (λ e. subst (λ q. IsUnset q before) (ap name_in e) u) (λ k. x.tested n k) h;
+}
+
 set_deeds : (name : List ℕ) (before mid : Variables) → WritesOwn name before mid → Accounts before (left_set name (value_of before name) (value_of mid name)) mid
 set_deeds name before mid own =
     ⊎_elim
@@ -131,13 +158,20 @@ set_deeds name before mid own =
     still None = nothing before
     still (Some v) = nothing before
 
-    new : (w : List ℕ) → Accounts before (Tested name ∷ []) (with_entry before name w)
-    new w = record {
+    new : (w : List ℕ) → IsUnset name before → Accounts before (Tested name ∷ []) (with_entry before name w)
+    new w u = record {
       only = λ n h. ⊎_elim
           (λ t. inr (inr (inl (ap Tested (sym (same_text n name t))))))
           (λ f. inl (h.0, sym (value_there before name w n f) ∙ h.1))
           (cases_Bool (bytes_eq n name));
-      lasts = λ n h. ⊎_elim (λ s. (w, ap (value_of (with_entry before name w)) (sym (ap name_in s)) ∙ value_here before name w)) (λ z. absurd z) h;
+      all = λ n h. ⊎_elim
+          (λ k. set_write before name w n k)
+          (λ k. ⊎_elim
+          (λ l. ⊎_elim (λ e. cc) (λ z. absurd z) l)
+          (λ l. ⊎_elim (λ e. (w, ap (value_of (with_entry before name w)) (sym (ap name_in e)) ∙ value_here before name w)) (λ z. absurd z) l)
+          k)
+          h;
+      tested = λ n h. ⊎_elim (λ e. subst (λ q. IsUnset q before) (ap name_in e) u) (λ z. absurd z) h;
     }
 
     kept : (w v : List ℕ) → value_of before name ≡ Some v → Accounts before [] (with_entry before name w)
@@ -146,12 +180,13 @@ set_deeds name before mid own =
           (λ t. inl (v, ap (value_of before) (same_text n name t) ∙ s))
           (λ f. inl (h.0, sym (value_there before name w n f) ∙ h.1))
           (cases_Bool (bytes_eq n name));
-      lasts = λ n h. absurd h;
+      all = λ n h. ⊎_elim (λ k. set_write before name w n k) (λ k. ⊎_elim (λ l. absurd l) (λ l. absurd l) k) h;
+      tested = λ n h. absurd h;
     }
 
     wrote : (w : List ℕ) (o : Option (List ℕ)) → value_of before name ≡ o → Accounts before (left_set name o (value_of (with_entry before name w) name)) (with_entry before name w)
     wrote w (Some v) e = kept w v e
-    wrote w None e = subst (λ o. Accounts before (left_set name None o) (with_entry before name w)) (sym (value_here before name w)) (new w)
+    wrote w None e = subst (λ o. Accounts before (left_set name None o) (with_entry before name w)) (sym (value_here before name w)) (new w e)
 
 -- How a test in a statement ends: it leaves the variables, or wrote its name alone and then what follows.
 abbrev AfterVars : Kind → Variables → Variables → Type 0
@@ -187,12 +222,6 @@ kind_ends kind first st true =
 kind_ends kind first st false = record { breaks = λ b. refl; goes = λ g. cc }
 
 -- A program's test, and then its variable. The two may have one name.
-tested_more : (before now : Variables) (ds : List Deed) (name : List ℕ) → IsSet name now → Accounts before ds now → Accounts before (Tested name ∷ ds) now
-tested_more before now ds name set x = record {
-  only = λ n h. ⊎_elim (λ k. inl k) (λ k. inr (⊎_elim (λ l. inl (inr l)) (λ l. inr (inr l)) k)) (x.only n h);
-  lasts = λ n h. ⊎_elim (λ s. subst (λ q. IsSet q now) (ap name_in s) set) (λ k. x.lasts n k) h;
-}
-
 one_name : (name variable value : List ℕ) (before mid : Variables) → name ≡ variable → WritesOwn name before mid → with_entry mid variable value ≡ with_entry before variable value
 one_name name variable value before mid e own =
     ⊎_elim
@@ -200,9 +229,9 @@ one_name name variable value before mid e own =
     (λ set. ap (λ l. with_entry l variable value) set.1 ∙ ap (λ q. with_entry (with_entry before q set.0) variable value) e ∙ rewritten before variable set.0 value)
     own
 
-with_test : (name : List ℕ) (before now : Variables) (ds : List Deed) (o : Option (List ℕ)) → IsSet name now → Accounts before ds now → Accounts before (left_set name o (value_of now name) ++ ds) now
-with_test name before now ds (Some v) set x = x
-with_test name before now ds None set x = subst (λ o. Accounts before (left_set name None o ++ ds) now) (sym set.1) (tested_more before now ds name set x)
+with_test : (name : List ℕ) (before now : Variables) (ds : List Deed) (o : Option (List ℕ)) → value_of before name ≡ o → IsSet name now → Accounts before ds now → Accounts before (left_set name o (value_of now name) ++ ds) now
+with_test name before now ds (Some v) e set x = x
+with_test name before now ds None e set x = subst (λ o. Accounts before (left_set name None o ++ ds) now) (sym set.1) (tested_more before now ds name e set x)
 
 variable_accounts : (name variable value : List ℕ) (before mid : Variables) → WritesOwn name before mid
     → Accounts before (left_set name (value_of before name) (value_of (with_entry mid variable value) name) ++ Assigned variable ∷ []) (with_entry mid variable value)
@@ -210,7 +239,7 @@ variable_accounts name variable value before mid own =
     ⊎_elim
     (λ t.
     let e = same_text name variable t in
-    with_test name before (with_entry mid variable value) (Assigned variable ∷ []) (value_of before name) (value, ap (value_of (with_entry mid variable value)) e ∙ value_here mid variable value)
+    with_test name before (with_entry mid variable value) (Assigned variable ∷ []) (value_of before name) refl (value, ap (value_of (with_entry mid variable value)) e ∙ value_here mid variable value)
     (subst (Accounts before (Assigned variable ∷ [])) (sym (one_name name variable value before mid e own)) (writes before variable value)))
     (λ f. subst (λ o. Accounts before (left_set name (value_of before name) o ++ Assigned variable ∷ []) (with_entry mid variable value)) (sym (value_there mid variable value name f))
     (writes_more before mid (left_set name (value_of before name) (value_of mid name)) variable value (set_deeds name before mid own)))
@@ -241,14 +270,11 @@ look_accounts variable program always st rs =
     let kind = Program s (value_if (has_value st variable) (value_or_empty st s.variable)) in
     either_run (always || not (has_value st variable)) st.vars (kind_deeds kind st rs) [] (tested (row_of kind st) st) (Ends Goes_on st) rs (kind_accounts kind st rs) (nothing st.vars)
 
-set_looks : (variable : List ℕ) (programs : List (List ℕ)) (always : Bool) → StaySet (looks_all variable programs always)
-set_looks variable programs always n st h = looks_all_keeps (λ now. IsSet n now.vars) (stays_set n) variable programs always st h
-
 looks_account : (variable : List ℕ) (programs : List (List ℕ)) (always : Bool) → Follow (looks_all variable programs always) (looks_deeds variable programs always)
 looks_account variable [] always st rs = nothing st.vars
 looks_account variable (program ∷ more) always st rs =
     then_accounts (looks variable program always st) rs st.vars (look_deeds variable program always st rs) (looks_all variable more false) (looks_deeds variable more false)
-    (look_accounts variable program always st rs) (looks_account variable more false) (set_looks variable more false)
+    (look_accounts variable program always st rs) (looks_account variable more false)
 
 default_by : (b : Bool) (variable value : List ℕ) (st : State) → Accounts st.vars (cond b [] (Assigned variable ∷ [])) (cond b st (with_variable variable value st)).vars
 default_by true variable value st = nothing st.vars
@@ -257,9 +283,6 @@ default_by false variable value st = writes st.vars variable value
 default_accounts : (variable : List ℕ) (word : Option (List Part)) (st : State) → Accounts st.vars (default_deeds variable word st) (defaulted variable (option_map (λ t. word_value t st.vars) word) st).vars
 default_accounts variable None st = nothing st.vars
 default_accounts variable (Some word) st = default_by (has_value st variable) variable (word_value word st.vars) st
-
-set_default : (variable : List ℕ) (value : Option (List ℕ)) (st : State) (n : List ℕ) → IsSet n st.vars → IsSet n (defaulted variable value st).vars
-set_default variable value st n h = defaulted_keeps (λ now. IsSet n now.vars) (stays_set n) variable value st h
 
 prefix_by : (b : Bool) (name value : List ℕ) (st : State) → Accounts st.vars (cond b (Assigned name ∷ []) []) (cond b (with_variable name value st) st).vars
 prefix_by true name value st = writes st.vars name value
@@ -285,30 +308,25 @@ effect_accounts (ArgVar name help) st rs = nothing st.vars
 effect_accounts (CheckProg variable program found otherwise) st rs = kind_accounts (Program _ _) st rs
 effect_accounts (CheckProgs variable programs otherwise) st rs =
     then_accounts (looks_all variable programs true st) rs st.vars (looks_deeds variable programs true st rs) _ (λ now left. default_deeds variable otherwise now)
-    (looks_account variable programs true st rs) (λ now left. default_accounts variable otherwise now) (λ n now h. set_default variable (option_map (λ t. word_value t now.vars) otherwise) now n h)
+    (looks_account variable programs true st rs) (λ now left. default_accounts variable otherwise now)
 effect_accounts (PathProg variable program otherwise) st rs = kind_accounts (Program _ _) st rs
 effect_accounts (ProgCc programs) st rs = looks_account (codes "CC") programs true st rs
 effect_accounts Output st rs =
     let first = settled (codes "prefix") (codes "/usr/local") st in
     joined st.vars first.vars (settled (codes "exec_prefix") (codes "${prefix}") first).vars (prefix_deeds (codes "prefix") st) (prefix_deeds (codes "exec_prefix") first)
     (prefix_accounts (codes "prefix") (codes "/usr/local") st) (prefix_accounts (codes "exec_prefix") (codes "${prefix}") first)
-    (λ n h. settled_keeps (λ now. IsSet n now.vars) (stays_set n) (codes "exec_prefix") (codes "${prefix}") first h)
 
 -- Choices.
 abbrev FollowChoice : (Scope → State → Run) → (Scope → State → List Reply → List Deed) → Type 0
 FollowChoice go did = (scope : Scope) → Follow (go scope) (did scope)
 
-abbrev StaySetThere : (Scope → State → Run) → Type 0
-StaySetThere go = (scope : Scope) → StaySet (go scope)
-
-given_accounts : (o : Option (List ℕ)) (kind : OptionKind) (st : State) (rs : List Reply) (go : Scope → State → Run) (did : Scope → State → List Reply → List Deed) → FollowChoice go did → StaySetThere go
+given_accounts : (o : Option (List ℕ)) (kind : OptionKind) (st : State) (rs : List Reply) (go : Scope → State → Run) (did : Scope → State → List Reply → List Deed) → FollowChoice go did
     → Accounts st.vars (given_deeds o kind ++ deeds_answered (given o kind st yes_or_no) rs did) (play (given o kind st go) rs).state.vars
-given_accounts None kind st rs go did y stays = y (answered false) st rs
-given_accounts (Some value) kind st rs go did y stays =
+given_accounts None kind st rs go did y = y (answered false) st rs
+given_accounts (Some value) kind st rs go did y =
     let now = with_variable (value_name kind) value st in
     joined st.vars now.vars (play (go (answered true) now) rs).state.vars (Assigned (value_name kind) ∷ []) (did (answered true) now rs)
     (writes st.vars (value_name kind) value) (y (answered true) now rs)
-    (λ n h. at_end (λ how x. IsSet n x.vars) (go (answered true) now) rs (stays (answered true) n now h))
 
 -- What follows a question accounts, however it is answered.
 abbrev Answers : Variables → (Scope → State → List Reply → List Deed) → Run → Run → Type 0
@@ -339,13 +357,13 @@ either_answers : (did : Scope → State → List Reply → List Deed) (go : Scop
 either_answers did go y true now = λ left. y (answered true) now left
 either_answers did go y false now = λ left. y (answered false) now left
 
-subject_accounts : (subject : Subject) (st : State) (rs : List Reply) (go : Scope → State → Run) (did : Scope → State → List Reply → List Deed) → FollowChoice go did → StaySetThere go
+subject_accounts : (subject : Subject) (st : State) (rs : List Reply) (go : Scope → State → Run) (did : Scope → State → List Reply → List Deed) → FollowChoice go did
     → Accounts st.vars (subject_deeds subject st rs did) (play (begun as_is subject st go) rs).state.vars
 unfolding begun
-subject_accounts Nothing st rs go did y stays = y no_choice st rs
-subject_accounts (Word word) st rs go did y stays = y (about (word_value word st.vars)) st rs
-subject_accounts (Asked (Given kind variable help)) st rs go did y stays = given_accounts (value_of st.vars variable) kind st rs go did y stays
-subject_accounts (Asked (Tries kind program)) st rs go did y stays =
+subject_accounts Nothing st rs go did y = y no_choice st rs
+subject_accounts (Word word) st rs go did y = y (about (word_value word st.vars)) st rs
+subject_accounts (Asked (Given kind variable help)) st rs go did y = given_accounts (value_of st.vars variable) kind st rs go did y
+subject_accounts (Asked (Tries kind program)) st rs go did y =
     compiled_answers did (job_of (first_probe kind (text_of program st.vars)) 0 st.vars st.defs) st _ _
     (first_answers did kind (λ b. yes_or_no (answered b)) (λ b. go (answered b)) (either_answers did go y)) rs
 
@@ -380,50 +398,73 @@ from_others : (name n : List ℕ) (before : Variables) (inner : List Deed) → b
 from_others name n before inner ne h =
     ⊎_elim (λ k. inl k) (λ k. inr (⊎_elim (λ a. inl (among_others name (Assigned n) inner ne a)) (λ a. inr (among_others name (Tested n) inner ne a)) k)) h
 
+to_inner : (name n : List ℕ) (before : Variables) (inner : List Deed) → ComesFrom n before (others_than name inner) → ComesFrom n before inner
+to_inner name n before inner h =
+    ⊎_elim (λ k. inl k) (λ k. inr (⊎_elim (λ a. inl (others_among name (Assigned n) inner a).1) (λ a. inr (others_among name (Tested n) inner a).1) k)) h
+
+is_other : (name n : List ℕ) (before : Variables) (inner : List Deed) → IsUnset name before → ComesFrom n before (others_than name inner) → bytes_eq name n ≡ false
+is_other name n before inner u h =
+    ⊎_elim
+    (λ k. not_same name n (λ same. let z : None ≡ Some k.0 = sym u ∙ ap (value_of before) same ∙ k.1 in cc))
+    (λ k. ⊎_elim (λ a. (others_among name (Assigned n) inner a).0) (λ a. (others_among name (Tested n) inner a).0) k)
+    h
+
 -- The commands continued.
-check_goes : (name : List ℕ) (before now : Variables) (inner : List Deed) (o : Option (List ℕ)) → value_of now name ≡ o → Accounts before inner now → Accounts before (others_than name inner ++ left_set name None o) now
-check_goes name before now inner None e x = ended_there before now (others_than name inner) (record {
+check_goes : (name : List ℕ) (before now : Variables) (inner : List Deed) → IsUnset name before → (o : Option (List ℕ)) → value_of now name ≡ o → Accounts before inner now → Accounts before (others_than name inner ++ left_set name None o) now
+check_goes name before now inner u None e x = ended_there before now (others_than name inner) (record {
   only = λ n h.
       let ne : bytes_eq name n ≡ false = not_same name n (λ same. let z : None ≡ Some h.0 = sym e ∙ ap (value_of now) same ∙ h.1 in cc) in
       from_others name n before inner ne (x.only n h);
-  lasts = λ n h. x.lasts n (others_among name (Tested n) inner h).1;
+  all = λ n h. x.all n (to_inner name n before inner h);
+  tested = λ n h. x.tested n (others_among name (Tested n) inner h).1;
 })
-check_goes name before now inner (Some v) e x = record {
+check_goes name before now inner u (Some v) e x = record {
   only = λ n h. ⊎_elim
       (λ t. inr (inr (among_right (Tested n) (others_than name inner) (Tested name ∷ []) (inl (ap Tested (same_text name n t))))))
-      (λ f. ⊎_elim (λ k. inl k) (λ k. inr (⊎_elim (λ a. inl (among_left (Assigned n) (others_than name inner) (Tested name ∷ []) a)) (λ a. inr (among_left (Tested n) (others_than name inner) (Tested name ∷ []) a)) k))
-      (from_others name n before inner f (x.only n h)))
+      (λ f. from_left n before (others_than name inner) (Tested name ∷ []) (from_others name n before inner f (x.only n h)))
       (cases_Bool (bytes_eq name n));
-  lasts = λ n h. ⊎_elim
-      (λ a. x.lasts n (others_among name (Tested n) inner a).1)
-      (λ a. ⊎_elim (λ same. (v, ap (value_of now) (sym (ap name_in same)) ∙ e)) (λ z. absurd z) a)
+  all = λ n h. all_set n (from_both n before now (others_than name inner) (Tested name ∷ []) (λ k. x.all n (to_inner name n before inner k)) h);
+  tested = λ n h. ⊎_elim
+      (λ a. x.tested n (others_among name (Tested n) inner a).1)
+      (λ a. ⊎_elim (λ same. subst (λ q. IsUnset q before) (ap name_in same) u) (λ z. absurd z) a)
       (among_either (Tested n) (others_than name inner) (Tested name ∷ []) h);
 }
+  where
+    all_set : (n : List ℕ) → ComesFrom n now (Tested name ∷ []) → IsSet n now
+    all_set n h =
+        ⊎_elim
+        (λ k. k)
+        (λ k. ⊎_elim
+        (λ a. ⊎_elim (λ z. cc) (λ z. absurd z) a)
+        (λ a. ⊎_elim (λ same. (v, ap (value_of now) (sym (ap name_in same)) ∙ e)) (λ z. absurd z) a)
+        k)
+        h
 
 -- They didn't: the name is unset again.
-check_breaks : (name : List ℕ) (before now : Variables) (inner : List Deed) → StandsOnce name now → Accounts before inner now → Accounts before (others_than name inner ++ []) (without_entry now name)
-check_breaks name before now inner once x = ended_there before (without_entry now name) (others_than name inner) (record {
+check_breaks : (name : List ℕ) (before now : Variables) (inner : List Deed) → IsUnset name before → StandsOnce name now → Accounts before inner now → Accounts before (others_than name inner ++ []) (without_entry now name)
+check_breaks name before now inner u once x = ended_there before (without_entry now name) (others_than name inner) (record {
   only = λ n h.
       let f : bytes_eq n name ≡ false = not_same n name (λ same. let z : None ≡ Some h.0 = sym once ∙ ap (value_of (without_entry now name)) (sym same) ∙ h.1 in cc) in
       let ne : bytes_eq name n ≡ false = not_same name n (λ same. apart n name f (sym same)) in
       from_others name n before inner ne (x.only n (h.0, sym (value_without now name n f) ∙ h.1));
-  lasts = λ n h.
-      let k = others_among name (Tested n) inner h in
-      let set = x.lasts n k.1 in
-      (set.0, value_without now name n (not_same n name (λ same. apart name n k.0 (sym same))) ∙ set.1);
+  all = λ n h.
+      let ne = is_other name n before inner u h in
+      let set = x.all n (to_inner name n before inner h) in
+      (set.0, value_without now name n (not_same n name (λ same. apart name n ne (sym same))) ∙ set.1);
+  tested = λ n h. x.tested n (others_among name (Tested n) inner h).1;
 })
 
 abbrev printed : (Option (List ℕ) → List ℕ) → List ℕ → State → Run
 printed shown name now = Ends Goes_on (with_result (shown (value_of now.vars name)) now)
 
-check_by : (r : Run) (rs : List Reply) (name : List ℕ) (before : Variables) (inner : List Deed) (shown : Option (List ℕ) → List ℕ) → AtEnds (λ how now. StandsOnce name now.vars) r → Accounts before inner (play r rs).state.vars
+check_by : (r : Run) (rs : List Reply) (name : List ℕ) (before : Variables) (inner : List Deed) (shown : Option (List ℕ) → List ℕ) → IsUnset name before → AtEnds (λ how now. StandsOnce name now.vars) r → Accounts before inner (play r rs).state.vars
     → Accounts before (check_deeds None name inner (then_run (guarded name r) (printed shown name)) rs) (play (then_run (guarded name r) (printed shown name)) rs).state.vars
-check_by (Ends Goes_on st) rs name before inner shown once x = check_goes name before st.vars inner (value_of st.vars name) refl x
-check_by (Ends Completed st) rs name before inner shown once x = check_breaks name before st.vars inner once x
-check_by (Ends (Stopped s) st) rs name before inner shown once x = check_breaks name before st.vars inner once x
-check_by (Ends Cut st) rs name before inner shown once x = check_breaks name before st.vars inner once x
-check_by (Asks jobs ask) rs name before inner shown once x =
-    check_by (ask (take (length jobs) rs)) (drop (length jobs) rs) name before inner shown (once (take (length jobs) rs)) x
+check_by (Ends Goes_on st) rs name before inner shown u once x = check_goes name before st.vars inner u (value_of st.vars name) refl x
+check_by (Ends Completed st) rs name before inner shown u once x = check_breaks name before st.vars inner u once x
+check_by (Ends (Stopped s) st) rs name before inner shown u once x = check_breaks name before st.vars inner u once x
+check_by (Ends Cut st) rs name before inner shown u once x = check_breaks name before st.vars inner u once x
+check_by (Asks jobs ask) rs name before inner shown u once x =
+    check_by (ask (take (length jobs) rs)) (drop (length jobs) rs) name before inner shown u (once (take (length jobs) rs)) x
 
 check_accounts : (message : List Part) (name : List ℕ) (commands : Script) (st : State) (rs : List Reply)
     → Accounts st.vars (deeds commands (checking (word_value message st.vars) st) rs) (play (meaning commands (checking (word_value message st.vars) st)) rs).state.vars
@@ -436,37 +477,27 @@ check_accounts message name commands st rs x =
     ⊎_elim
     (λ e. subst (λ o. Accounts st.vars (check_deeds o name inner (cached_test t st) rs) (play (cached_test t st) rs).state.vars) (sym e)
     (subst (λ r. Accounts st.vars (check_deeds None name inner r rs) (play r rs).state.vars) (sym (unset_cached t st e))
-    (check_by (meaning commands s) rs name st.vars inner t.shown (names_stand_once commands name s (once_unset st.vars name e)) x)))
+    (check_by (meaning commands s) rs name st.vars inner t.shown e (names_stand_once commands name s (once_unset st.vars name e)) x)))
     (λ some. subst (λ o. Accounts st.vars (check_deeds o name inner (cached_test t st) rs) (play (cached_test t st) rs).state.vars) (sym some.1)
     (subst (λ r. Accounts st.vars [] (play r rs).state.vars) (sym (set_cached t some.0 st some.1)) (nothing st.vars)))
     (cases_value (value_of st.vars name))
 
 -- All statements.
-set_meaning : (script : Script) → StaySet (meaning script)
-set_meaning script n st h = meaning_keeps (λ now. IsSet n now.vars) (stays_set n) script st h
-
-set_chosen : (cases : Cases) → StaySetThere (chosen cases)
-set_chosen cases scope n st h = chosen_keeps (λ now. IsSet n now.vars) (stays_set n) cases scope st h
-
-set_after : (cases : Cases) (rest : Script) → StaySetThere (λ scope now. then_run (chosen cases scope now) (meaning rest))
-set_after cases rest scope n st h = then_keeps (λ now. IsSet n now.vars) (chosen cases scope st) (meaning rest) (set_chosen cases scope n st h) (λ now k. set_meaning rest n now k)
-
 mutual
   unfolding meaning chosen deeds case_deeds
 
   meaning_accounts : (script : Script) (st : State) (rs : List Reply) → Accounts st.vars (deeds script st rs) (play (meaning script st) rs).state.vars
   meaning_accounts Done st rs = nothing st.vars
   meaning_accounts (Then s rest) st rs =
-      then_accounts (effect s st) rs st.vars (effect_deeds s st rs) (meaning rest) (deeds rest) (effect_accounts s st rs) (λ now left. meaning_accounts rest now left) (set_meaning rest)
+      then_accounts (effect s st) rs st.vars (effect_deeds s st rs) (meaning rest) (deeds rest) (effect_accounts s st rs) (λ now left. meaning_accounts rest now left)
   meaning_accounts (Choice subject cases rest) st rs =
       subject_accounts subject st rs (λ scope now. then_run (chosen cases scope now) (meaning rest)) (λ scope now left. case_deeds cases scope now left ++ deeds_after (chosen cases scope now) left (deeds rest))
       (λ scope now left. then_accounts (chosen cases scope now) left now.vars (case_deeds cases scope now left) (meaning rest) (deeds rest)
-      (case_accounts cases scope now left) (λ later l. meaning_accounts rest later l) (set_meaning rest))
-      (set_after cases rest)
+      (case_accounts cases scope now left) (λ later l. meaning_accounts rest later l))
   meaning_accounts (Check message name commands rest) st rs =
       then_accounts (cached_test (check message name (meaning commands) st) st) rs st.vars _ (meaning rest) (deeds rest)
       (check_accounts message name commands st rs (meaning_accounts commands (checking (word_value message st.vars) st) rs))
-      (λ now left. meaning_accounts rest now left) (set_meaning rest)
+      (λ now left. meaning_accounts rest now left)
 
   case_accounts : (cases : Cases) (scope : Scope) (st : State) (rs : List Reply) → Accounts st.vars (case_deeds cases scope st rs) (play (chosen cases scope st) rs).state.vars
   case_accounts No_case scope st rs = nothing st.vars

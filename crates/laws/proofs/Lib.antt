@@ -4,3 +4,4 @@ pub mod CachedTests
 pub mod Kept
 pub mod CommandLemmas
 pub mod Accounting
+pub mod OtherDeeds

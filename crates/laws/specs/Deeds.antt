@@ -17,7 +17,8 @@ use Rattle.meaning.specs.Tests.{checking, cached_test, tested}
 use Rattle.meaning.specs.Rows.{Kind, Program, Search, name_of, value_or_empty, value_if, row_of}
 use Rattle.meaning.specs.Play.{play, whole}
 use Rattle.meaning.specs.Meaning.{settled, is_unsettled, check_prog, path_prog, has_value, is_full_name, looks, looks_all, effect, value_name, asked, is_taken, check, meaning, chosen}
-use Rattle.laws.specs.Cached.{IsSet}
+use Rattle.laws.specs.Cached.{IsSet, IsUnset}
+use Rattle.laws.specs.Commands.{AreCommands}
 
 -- What a run did to a name: a statement assigned it, or a test that was run to its end left it set. (own)
 pub data Deed : Type 0 where
@@ -164,13 +165,22 @@ abbrev pub Among : Deed → List Deed → Type 0
 Among deed [] = ⊥
 Among deed (first ∷ more) = (first ≡ deed) ⊎ Among deed more
 
--- A name that is set after these deeds was set before them, or was assigned, or was left set by a completed test. Each
--- name that a completed test left set is set after them. (own)
+-- The name was set before these deeds, or was assigned, or a completed test left it set. (own)
+abbrev pub ComesFrom : List ℕ → List (List ℕ × List ℕ) → List Deed → Type 0
+ComesFrom name before ds = IsSet name before ⊎ (Among (Assigned name) ds ⊎ Among (Tested name) ds)
+
+-- Exactly these names are set after the deeds, and a name that a completed test left set was unset before them. (own)
 pub record Accounts (before : List (List ℕ × List ℕ)) (ds : List Deed) (now : List (List ℕ × List ℕ)) : Type 0 where
-  pub only : (name : List ℕ) → IsSet name now → IsSet name before ⊎ (Among (Assigned name) ds ⊎ Among (Tested name) ds)
-  pub lasts : (name : List ℕ) → Among (Tested name) ds → IsSet name now
+  pub only : (name : List ℕ) → IsSet name now → ComesFrom name before ds
+  pub all : (name : List ℕ) → ComesFrom name before ds → IsSet name now
+  pub tested : (name : List ℕ) → Among (Tested name) ds → IsUnset name before
 
 -- The deeds of a run account for the names that are set at its end, whatever the replies. (own)
 abbrev pub DeedsAccount : Type 0
 DeedsAccount = (script : Script) (st : State) (replies : List Reply)
     → Accounts st.vars (deeds script st replies) (play (whole (meaning script st)) replies).state.vars
+
+-- The commands that AC_CACHE_CHECK may have do nothing to other names: its deeds are those of its test alone. (own)
+abbrev pub CommandsHaveNoDeeds : Type 0
+CommandsHaveNoDeeds = (commands : Script) (name : List ℕ) (st : State) (replies : List Reply) → AreCommands name commands
+    → others_than name (deeds commands st replies) ≡ []

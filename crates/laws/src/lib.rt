@@ -8,7 +8,7 @@
 
 ghost use Rattle.laws.specs.Cached.{NamesStandOnce, BrokenIsUnset, BrokenRowIsUnset, BrokenCheckIsUnset, SetStaysSet, SetRowAsksNothing};
 ghost use Rattle.laws.specs.Commands.{BrokenLeavesVariables, BrokenRowLeavesVariables, CommandsWriteAlone, BrokenCheckLeavesVariables};
-ghost use Rattle.laws.specs.Deeds.{DeedsAccount};
+ghost use Rattle.laws.specs.Deeds.{DeedsAccount, CommandsHaveNoDeeds};
 
 /// Statements never give a name a second entry in the variables.
 pub fn names_stand_once()
@@ -61,9 +61,14 @@ pub fn broken_check_leaves_variables()
     ensures same { BrokenCheckLeavesVariables }
 {}
 
-/// A name that is set at the end of a run was set at its beginning, or was assigned by a statement, or was left set by a
-/// completed test; what the commands of AC_CACHE_CHECK do to its own name does not count. Each name that a completed test
-/// left set is set at the end.
+/// The names that are set at the end of a run are exactly those that were set at its beginning, those that a statement
+/// assigned, and those that a completed test left set. Such a test was of a name that was unset at the beginning. What the
+/// commands of AC_CACHE_CHECK do to its own name does not count.
 pub fn deeds_account()
     ensures account { DeedsAccount }
+{}
+
+/// The commands that AC_CACHE_CHECK may have do nothing to other names.
+pub fn commands_have_no_deeds()
+    ensures others { CommandsHaveNoDeeds }
 {}
