@@ -1,0 +1,186 @@
+-- A law of names: what each name that is set at the end of a run comes from.
+use Rattle.std.specs.Prelude.{◌≡◌, ◌||◌, ℕ, Bool, true, false, not, List, [], ◌∷◌, ◌++◌, ◌⊎◌, Option, Some, None, bytes_eq, codes, length, take, drop, if◌then◌else◌, option_map}
+use Rattle.crew.specs.declared.reply.Reply.{Reply}
+use Rattle.deftable.specs.Table.{value_of}
+use Rattle.shellword.specs.declared.part.Part.{Part}
+use Rattle.shellword.specs.Value.{word_value}
+use Rattle.syntax.specs.declared.feature.OptionKind.{OptionKind}
+use Rattle.syntax.specs.declared.statement.Plain as plain
+use Rattle.syntax.specs.declared.statement.Plain.TheVariants.{Init, Accepted, ConfigFiles, Assign, Subst, SubstValue, Define, DefineUnquoted, Error, ArgVar, CheckProg, CheckProgs, PathProg, ProgCc, Output}
+use Rattle.syntax.specs.declared.statement.Question as asks
+use Rattle.syntax.specs.declared.statement.Question.TheVariants.{Given, Tries}
+use Rattle.syntax.specs.declared.tree.Subject.{Subject}
+use Rattle.syntax.specs.declared.tree.Subject.TheVariants.{Nothing, Word, Asked}
+use Rattle.syntax.specs.Script.{Script, Done, Then, Choice, Check, Cases, No_case, Case}
+use Rattle.meaning.specs.State.{State, Scope, no_choice, about, answered, Goes_on, Completed, Stopped, Cut, Run, Ends, Asks, as_is}
+use Rattle.meaning.specs.Tests.{checking, cached_test, tested}
+use Rattle.meaning.specs.Rows.{Kind, Program, Search, name_of, value_or_empty, value_if, row_of}
+use Rattle.meaning.specs.Play.{play, whole}
+use Rattle.meaning.specs.Meaning.{settled, is_unsettled, check_prog, path_prog, has_value, is_full_name, looks, looks_all, effect, value_name, asked, is_taken, check, meaning, chosen}
+use Rattle.laws.specs.Cached.{IsSet, IsUnset}
+use Rattle.laws.specs.Commands.{AreCommands}
+
+-- What a run did to a name: a statement assigned it, or a test that was run to its end left it set. (own)
+pub data Deed : Type 0 where
+  Assigned : (name : List ℕ) → Deed
+  Tested : (name : List ℕ) → Deed
+
+-- The deeds after a run under replies, if it continues; what follows takes the replies that are left. (own)
+abbrev pub deeds_after : Run → List Reply → (State → List Reply → List Deed) → List Deed
+deeds_after (Ends Goes_on st) replies rest = rest st replies
+deeds_after (Ends Completed st) replies rest = []
+deeds_after (Ends (Stopped status) st) replies rest = []
+deeds_after (Ends Cut st) replies rest = []
+deeds_after (Asks jobs next) replies rest = deeds_after (next (take (length jobs) replies)) (drop (length jobs) replies) rest
+
+-- The deed of a completed test, by the values of its name before and after it: a cached value is no deed. (own)
+abbrev pub left_set : List ℕ → Option (List ℕ) → Option (List ℕ) → List Deed
+left_set name (Some value) now = []
+left_set name None None = []
+left_set name None (Some value) = Tested name ∷ []
+
+-- What a kind of test assigns after its test: a program's variable. (own)
+abbrev pub assigned_by : Kind → List Deed
+assigned_by (Program s own) = Assigned s.variable ∷ []
+
+-- The deeds of a test in a statement. (own)
+abbrev pub kind_deeds : Kind → State → List Reply → List Deed
+kind_deeds kind st replies =
+    deeds_after (tested (row_of kind st) st) replies
+    (λ now left. left_set (name_of kind) (value_of st.vars (name_of kind)) (value_of now.vars (name_of kind)) ++ assigned_by kind)
+
+-- The deeds of the test of a program; `counts` says whether the variable's own value counts. (own)
+abbrev pub program_deeds : Search → Bool → State → List Reply → List Deed
+program_deeds s counts st replies = kind_deeds (Program s (value_if counts (value_or_empty st s.variable))) st replies
+
+-- The deeds of one program of several. (own)
+abbrev pub look_deeds : List ℕ → List ℕ → Bool → State → List Reply → List Deed
+look_deeds variable program always st replies =
+    if always || not (has_value st variable)
+    then program_deeds (check_prog variable program program None) (has_value st variable) st replies
+    else []
+
+-- The deeds of programs, one after the other. (own)
+abbrev pub looks_deeds : List ℕ → List (List ℕ) → Bool → State → List Reply → List Deed
+looks_deeds variable [] always st replies = []
+looks_deeds variable (program ∷ more) always st replies =
+    look_deeds variable program always st replies ++ deeds_after (looks variable program always st) replies (looks_deeds variable more false)
+
+-- A variable that is empty is assigned its default, if it has one. (own)
+abbrev pub default_deeds : List ℕ → Option (List Part) → State → List Deed
+default_deeds variable None st = []
+default_deeds variable (Some word) st = if has_value st variable then [] else Assigned variable ∷ []
+
+-- A prefix is assigned if it is still `NONE`. (own)
+abbrev pub prefix_deeds : List ℕ → State → List Deed
+prefix_deeds name st = if is_unsettled (value_of st.vars name) then Assigned name ∷ [] else []
+
+-- The deeds of a statement. (own)
+unfoldable pub effect_deeds : plain.Plain → State → List Reply → List Deed
+effect_deeds (Init title version bug tarname url) st replies =
+    Assigned (codes "PACKAGE_NAME") ∷ Assigned (codes "PACKAGE_TARNAME") ∷ Assigned (codes "PACKAGE_VERSION")
+    ∷ Assigned (codes "PACKAGE_STRING") ∷ Assigned (codes "PACKAGE_BUGREPORT") ∷ Assigned (codes "PACKAGE_URL") ∷ []
+effect_deeds Accepted st replies = []
+effect_deeds (ConfigFiles outputs) st replies = []
+effect_deeds (Assign name value) st replies = Assigned name ∷ []
+effect_deeds (Subst name) st replies = []
+effect_deeds (SubstValue name value) st replies = Assigned name ∷ []
+effect_deeds (Define name value) st replies = []
+effect_deeds (DefineUnquoted name value) st replies = []
+effect_deeds (Error message status) st replies = []
+effect_deeds (ArgVar name help) st replies = []
+effect_deeds (CheckProg variable program found otherwise) st replies =
+    program_deeds (check_prog variable program (word_value found st.vars) (option_map (λ t. word_value t st.vars) otherwise)) (has_value st variable) st replies
+effect_deeds (CheckProgs variable programs otherwise) st replies =
+    looks_deeds variable programs true st replies ++ deeds_after (looks_all variable programs true st) replies (λ now left. default_deeds variable otherwise now)
+effect_deeds (PathProg variable program otherwise) st replies =
+    program_deeds (path_prog variable program (option_map (λ t. word_value t st.vars) otherwise)) (is_full_name (value_or_empty st variable)) st replies
+effect_deeds (ProgCc programs) st replies = looks_deeds (codes "CC") programs true st replies
+effect_deeds Output st replies = prefix_deeds (codes "prefix") st ++ prefix_deeds (codes "exec_prefix") (settled (codes "prefix") (codes "/usr/local") st)
+
+-- An option that is given assigns its variable. (own)
+abbrev pub given_deeds : Option (List ℕ) → OptionKind → List Deed
+given_deeds None kind = []
+given_deeds (Some value) kind = Assigned (value_name kind) ∷ []
+
+-- The deeds of a question itself. (own)
+abbrev pub question_deeds : asks.Question → State → List Deed
+question_deeds (Given kind variable help) st = given_deeds (value_of st.vars variable) kind
+question_deeds (Tries kind program) st = []
+
+-- A run that asks a question and continues if the answer is yes, and completes if it is no, is asked with this. (own)
+abbrev pub yes_or_no : Scope → State → Run
+yes_or_no scope st = Ends (if scope.answer then Goes_on else Completed) st
+
+-- The deeds after the answer of such a run. (own)
+abbrev pub deeds_answered : Run → List Reply → (Scope → State → List Reply → List Deed) → List Deed
+deeds_answered (Ends Goes_on st) replies rest = rest (answered true) st replies
+deeds_answered (Ends Completed st) replies rest = rest (answered false) st replies
+deeds_answered (Ends (Stopped status) st) replies rest = []
+deeds_answered (Ends Cut st) replies rest = []
+deeds_answered (Asks jobs next) replies rest = deeds_answered (next (take (length jobs) replies)) (drop (length jobs) replies) rest
+
+-- The deeds of a choice, from the beginning of its subject. (own)
+abbrev pub subject_deeds : Subject → State → List Reply → (Scope → State → List Reply → List Deed) → List Deed
+subject_deeds Nothing st replies rest = rest no_choice st replies
+subject_deeds (Word word) st replies rest = rest (about (word_value word st.vars)) st replies
+subject_deeds (Asked question) st replies rest = question_deeds question st ++ deeds_answered (asked as_is question st yes_or_no) replies rest
+
+-- The name of a deed. (own)
+abbrev pub name_in : Deed → List ℕ
+name_in (Assigned name) = name
+name_in (Tested name) = name
+
+-- The deeds about other names. (own)
+abbrev pub others_than : List ℕ → List Deed → List Deed
+others_than name [] = []
+others_than name (deed ∷ more) = if bytes_eq name (name_in deed) then others_than name more else deed ∷ others_than name more
+
+-- The deeds of AC_CACHE_CHECK, given the value of its name and the deeds of its commands: what these do to its own name
+-- is no deed. (own)
+abbrev pub check_deeds : Option (List ℕ) → List ℕ → List Deed → Run → List Reply → List Deed
+check_deeds (Some value) name inner run replies = []
+check_deeds None name inner run replies =
+    others_than name inner ++ deeds_after run replies (λ now left. left_set name None (value_of now.vars name))
+
+unfoldable mutual
+  -- What statements did to names under replies, in order. (own)
+  pub deeds : Script → State → List Reply → List Deed
+  deeds Done st replies = []
+  deeds (Then s rest) st replies = effect_deeds s st replies ++ deeds_after (effect s st) replies (deeds rest)
+  deeds (Choice subject cases rest) st replies =
+      subject_deeds subject st replies (λ scope now left. case_deeds cases scope now left ++ deeds_after (chosen cases scope now) left (deeds rest))
+  deeds (Check message name commands rest) st replies =
+      check_deeds (value_of st.vars name) name (deeds commands (checking (word_value message st.vars) st) replies)
+      (cached_test (check message name (meaning commands) st) st) replies
+      ++ deeds_after (cached_test (check message name (meaning commands) st) st) replies (deeds rest)
+
+  -- The deeds of the first case that is taken, if any. (own)
+  pub case_deeds : Cases → Scope → State → List Reply → List Deed
+  case_deeds No_case scope st replies = []
+  case_deeds (Case when body more) scope st replies = if is_taken when scope st.vars then deeds body st replies else case_deeds more scope st replies
+
+-- A deed is among these. (own)
+abbrev pub Among : Deed → List Deed → Type 0
+Among deed [] = ⊥
+Among deed (first ∷ more) = (first ≡ deed) ⊎ Among deed more
+
+-- The name was set before these deeds, or was assigned, or a completed test left it set. (own)
+abbrev pub ComesFrom : List ℕ → List (List ℕ × List ℕ) → List Deed → Type 0
+ComesFrom name before ds = IsSet name before ⊎ (Among (Assigned name) ds ⊎ Among (Tested name) ds)
+
+-- Exactly these names are set after the deeds, and a name that a completed test left set was unset before them. (own)
+pub record Accounts (before : List (List ℕ × List ℕ)) (ds : List Deed) (now : List (List ℕ × List ℕ)) : Type 0 where
+  pub only : (name : List ℕ) → IsSet name now → ComesFrom name before ds
+  pub all : (name : List ℕ) → ComesFrom name before ds → IsSet name now
+  pub tested : (name : List ℕ) → Among (Tested name) ds → IsUnset name before
+
+-- The deeds of a run account for the names that are set at its end, whatever the replies. (own)
+abbrev pub DeedsAccount : Type 0
+DeedsAccount = (script : Script) (st : State) (replies : List Reply)
+    → Accounts st.vars (deeds script st replies) (play (whole (meaning script st)) replies).state.vars
+
+-- The commands that AC_CACHE_CHECK may have do nothing to other names: its deeds are those of its test alone. (own)
+abbrev pub CommandsHaveNoDeeds : Type 0
+CommandsHaveNoDeeds = (commands : Script) (name : List ℕ) (st : State) (replies : List Reply) → AreCommands name commands
+    → others_than name (deeds commands st replies) ≡ []

@@ -1,0 +1,4 @@
+pub mod Ends
+pub mod Cached
+pub mod Commands
+pub mod Deeds

@@ -1,0 +1,74 @@
+//! Laws of the meaning: theorems on what a run of statements leaves in its variables.
+//!
+//! There is no code here. Each function does nothing, and its contract is a theorem on the definitions of `meaning`.
+//! Read `specs/Ends.antt` (what holds at the ends of a run), `specs/Cached.antt` (cached
+//! tests: their names), `specs/Commands.antt` (tests that set their name alone), then
+//! `specs/Deeds.antt` (what each name that is set at the end comes from).
+#![tactic(auto)]
+
+ghost use Rattle.laws.specs.Cached.{NamesStandOnce, BrokenIsUnset, BrokenRowIsUnset, BrokenCheckIsUnset, SetStaysSet, SetRowAsksNothing};
+ghost use Rattle.laws.specs.Commands.{BrokenLeavesVariables, BrokenRowLeavesVariables, CommandsWriteAlone, BrokenCheckLeavesVariables};
+ghost use Rattle.laws.specs.Deeds.{DeedsAccount, CommandsHaveNoDeeds};
+
+/// Statements never give a name a second entry in the variables.
+pub fn names_stand_once()
+    ensures once { NamesStandOnce }
+{}
+
+/// A test that doesn't continue leaves its name unset, if its body never gives the name a second entry.
+pub fn broken_is_unset()
+    ensures unset { BrokenIsUnset }
+{}
+
+/// The test of each kind leaves its name unset if it doesn't continue.
+pub fn broken_row_is_unset()
+    ensures unset { BrokenRowIsUnset }
+{}
+
+/// AC_CACHE_CHECK that doesn't continue leaves its name unset, whatever its commands.
+pub fn broken_check_is_unset()
+    ensures unset { BrokenCheckIsUnset }
+{}
+
+/// A name that is set is set at each end of any statements.
+pub fn set_stays_set()
+    ensures set { SetStaysSet }
+{}
+
+/// A test in a statement asks for nothing if its name is set. Variables and definitions are those from before, and then
+/// what is done with the value is done.
+pub fn set_row_asks_nothing()
+    ensures nothing { SetRowAsksNothing }
+{}
+
+/// A test that doesn't continue leaves the variables as they were, if its body sets its name alone.
+pub fn broken_leaves_variables()
+    ensures same { BrokenLeavesVariables }
+{}
+
+/// The test of each kind leaves variables and definitions as they were if it doesn't continue.
+pub fn broken_row_leaves_variables()
+    ensures same { BrokenRowLeavesVariables }
+{}
+
+/// The commands that AC_CACHE_CHECK may have set its name alone.
+pub fn commands_write_alone()
+    ensures alone { CommandsWriteAlone }
+{}
+
+/// AC_CACHE_CHECK with such commands leaves the variables as they were if it doesn't continue.
+pub fn broken_check_leaves_variables()
+    ensures same { BrokenCheckLeavesVariables }
+{}
+
+/// The names that are set at the end of a run are exactly those that were set at its beginning, those that a statement
+/// assigned, and those that a completed test left set. Such a test was of a name that was unset at the beginning. What the
+/// commands of AC_CACHE_CHECK do to its own name does not count.
+pub fn deeds_account()
+    ensures account { DeedsAccount }
+{}
+
+/// The commands that AC_CACHE_CHECK may have do nothing to other names.
+pub fn commands_have_no_deeds()
+    ensures others { CommandsHaveNoDeeds }
+{}
