@@ -5,6 +5,7 @@ use crate::plain_words::{put_files, put_help, put_plain};
 use crate::shell_words::{put_here, put_patterns, put_test, put_word};
 use acparse::{Case, Help, Source, Stmt, Subject, When};
 use deftable::SubstList;
+use shellword::HereText;
 use syntax::{OptionKind, Program, Question, Try};
 use testrows::Page;
 
@@ -75,6 +76,13 @@ fn put_when(page: &mut Page, when: &When) {
     }
 }
 
+fn put_check(page: &mut Page, name: &[u8], message: &HereText) {
+    page.put(b"check ");
+    page.put(name);
+    put_here(page, message);
+    page.put(b"\n");
+}
+
 #[cycle(tree)]
 fn put_cases(page: &mut Page, depth: usize, cases: &[Case]) {
     for case in cases {
@@ -99,6 +107,14 @@ pub fn put_statements(page: &mut Page, depth: usize, statements: &[Stmt]) {
                 put_subject(page, subject);
                 page.put(b"\n");
                 put_cases(page, depth.saturating_add(1), cases.as_slice());
+            }
+            Stmt::CacheCheck {
+                message,
+                name,
+                commands,
+            } => {
+                put_check(page, name.as_slice(), message);
+                put_statements(page, depth.saturating_add(1), commands.as_slice());
             }
         }
     }

@@ -103,6 +103,7 @@ fn texts_at_their_limits(rt: HostRuntime) -> Result<(), Fail> {
 fn put_statement(page: &mut Page, statement: &Stmt) {
     page.put_number(match statement {
         Stmt::Choose { cases, .. } => cases.len(),
+        Stmt::CacheCheck { commands, .. } => commands.len(),
         Stmt::Plain(Plain::CheckProgs { programs, .. }) => programs.as_slice().len(),
         Stmt::Plain(Plain::Define { value, .. }) => value.len(),
         _ => 0,
