@@ -2,8 +2,8 @@
 use Rattle.std.specs.Prelude.{◌≡◌, ℕ, List, ◌∷◌, ◌++◌, Option, Some, None, codes}
 use Rattle.meaning.specs.State.{State}
 use Rattle.meaning.specs.Tests.{with_result}
-use Rattle.execution.specs.declared.flow.Flow.{Flow}
-use Rattle.execution.specs.declared.flow.Flow.TheVariants as flow
+use Rattle.searching.specs.declared.flow.Flow.{Flow}
+use Rattle.searching.specs.declared.flow.Flow.TheVariants as flow
 
 -- If the name has a value, it is printed as a cached one, and so many steps are passed; otherwise the test is open from
 -- here on. (Autoconf's manual, "Caching Results")

@@ -1,4 +1,1 @@
-pub mod Waits
-pub mod Known
-pub mod Flows
 pub mod Checks

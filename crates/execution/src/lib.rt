@@ -8,19 +8,13 @@
 //! }
 //! ```
 //!
-//! Read `specs/Waits` and `specs/Flows` first (what a step waits for, and what follows it), then `flow` and `wait`, which have
-//! their types, then `stepping` (one step, and what follows the replies to its jobs) and `search` (programs that are looked
-//! for). The crate `runstate` has what the steps change, and the crate `machine` goes from step to step.
+//! Read the crate `searching` first: it says what a step waits for and what follows it, and looks for programs. Then read
+//! `stepping`: one step, and what follows the replies to its jobs. The crate `runstate` has what the steps change, and the crate
+//! `machine` goes from step to step.
 //!
 //! The theorem is about one step of a plan's walk, as a function of what follows it: the walk goes on as the flow says.
 #![tactic(auto)]
 
-mod flow;
-mod search;
 mod stepping;
-mod wait;
 
-pub use flow::Flow;
-pub use search::{Directories, Search};
 pub use stepping::{do_step, hear};
-pub use wait::Wait;

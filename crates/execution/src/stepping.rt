@@ -17,14 +17,11 @@ ghost use Rattle.meaning.specs.Tries.{first_probe, text_of, tried};
 ghost use Rattle.shellword.specs.Value.{word_value};
 ghost use Rattle.plan.specs.Inside.{asks_about, asks_by, asks_of, asks_to_try, reach};
 ghost use Rattle.plan.specs.Walk.{act, minded, outer_tests, own_effect, shown};
-ghost use Rattle.execution.specs.Flows.{Continues, Heeds, IsGroup, Leads, asks_now, passed};
+ghost use Rattle.searching.specs.Flows.{Continues, Heeds, IsGroup, Leads, asks_now, passed};
 ghost use Rattle.execution.specs.Checks.{IsOpened};
-ghost use Rattle.execution.specs.declared.flow.Flow.TheVariants.{Complete, Cut, Pass, Stop};
-ghost use Rattle.execution.specs.Waits.{Awaits, broken_off, finished, given, resumed, searched, told_to, tests_in, waits_for, with_asked};
+ghost use Rattle.searching.specs.declared.flow.Flow.TheVariants.{Complete, Cut, Pass, Stop};
+ghost use Rattle.searching.specs.Waits.{Awaits, broken_off, finished, given, resumed, searched, told_to, tests_in, waits_for, with_asked};
 
-use crate::flow::Flow;
-use crate::search::{Directories, Search, alone, look_for, look_on, pass_search};
-use crate::wait::Wait;
 use conftest::{Job, run_job};
 use crew::Reply;
 use deftable::Bytes;
@@ -33,6 +30,8 @@ use runstate::pieces::{
     begin_check, break_test, end_check, end_known_check, report_error, report_no_compiler,
 };
 use runstate::{About, OpenTests, Store, initialise};
+use searching::search::{alone, look_for, look_on, pass_search};
+use searching::{Directories, Flow, Search, Wait};
 use shellword::{HereText, Word};
 use std::alloc::{AllocError, Global};
 use syntax::{OptionKind, Plain, Program, Question, Subject, Try, When};

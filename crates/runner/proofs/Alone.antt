@@ -6,7 +6,7 @@ use Rattle.conftest.specs.declared.job.Job.{Job}
 use Rattle.crew.specs.declared.reply.Reply.{Reply}
 use Rattle.crew.specs.declared.reply.Reply.TheVariants.{StartRefused}
 use Rattle.machine.specs.Standing.{Standing, run_under, run_in, run_at, left_in, run_left, Shows, CutsAt, Refusals, Holds, Fits, fits_in, Turned, outcome_of, outcome_by}
-use Rattle.execution.specs.Waits.{given, refused_rest, early_in, with_asked}
+use Rattle.searching.specs.Waits.{given, refused_rest, early_in, with_asked}
 use Rattle.machine.specs.declared.machine.Outcome.{Outcome}
 use Rattle.machine.specs.declared.machine.Outcome.TheVariants as outcome
 use Rattle.machine.specs.declared.machine.Phase.{Phase}
@@ -14,7 +14,7 @@ use Rattle.machine.specs.declared.machine.Phase.TheVariants as phase
 use Rattle.machine.specs.declared.machine.RunEnd.{RunEnd}
 use Rattle.machine.specs.declared.machine.Turn.{Turn}
 use Rattle.machine.specs.declared.machine.Turn.TheVariants as turn
-use Rattle.execution.specs.declared.wait.Wait.TheVariants as waits
+use Rattle.searching.specs.declared.wait.Wait.TheVariants as waits
 use Rattle.meaning.specs.Play.{play, after, first_refused, refused_after, with_cut_line, whole}
 use Rattle.meaning.specs.State.{State, How, Goes_on, Completed, Stopped, Cut, Run, Ends, Asks}
 use Rattle.plan.specs.Walk.{empty_mind, Instruction, walk}

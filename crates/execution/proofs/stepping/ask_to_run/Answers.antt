@@ -1,4 +1,4 @@
-use Rattle.execution.proofs.Searches.{one_awaits}
+use Rattle.searching.proofs.Searches.{one_awaits}
 use Rattle.execution.proofs.stepping.ask_to_run.Goals as goal
 
 pub returns-clause-group : goal.returns-clause-group

@@ -4,8 +4,8 @@ use Rattle.meaning.specs.Meaning.{begun, looks}
 use Rattle.meaning.specs.State.{then_run}
 use Rattle.meaning.specs.Tests.{broken_all, guarded_all}
 use Rattle.plan.specs.Walk.{act, minded, own_effect, shown}
-use Rattle.execution.specs.Flows.{Continues}
-use Rattle.execution.proofs.Searches.{continued_ok, for_scope, opened_ok, opened_passes, opened_asks, opened_group, opened_heeds}
+use Rattle.searching.specs.Flows.{Continues}
+use Rattle.execution.proofs.Steps.{continued_ok, for_scope}
 use Rattle.execution.proofs.stepping.do_step.Goals as goal
 
 pub returns-in-Do-clause-leads : goal.returns-in-Do-clause-leads

@@ -1,7 +1,8 @@
 use Rattle.std.proofs.Common.{refl, ap}
 use Rattle.meaning.specs.State.{then_run}
 use Rattle.meaning.specs.Tests.{guarded_all}
-use Rattle.execution.proofs.Searches.{led_ok, check_effect, path_effect}
+use Rattle.searching.proofs.Searches.{led_ok}
+use Rattle.execution.proofs.Steps.{check_effect, path_effect}
 use Rattle.execution.proofs.stepping.execute.Goals as goal
 
 pub returns-in-CheckProg-clause-leads : goal.returns-in-CheckProg-clause-leads

@@ -3,7 +3,7 @@ use Rattle.meaning.specs.Meaning.{path_prog, program_test, is_full_name}
 use Rattle.meaning.specs.Rows.{value_or_empty}
 use Rattle.meaning.specs.State.{then_run}
 use Rattle.meaning.specs.Tests.{guarded_all}
-use Rattle.execution.proofs.Searches.{led_ok}
+use Rattle.searching.proofs.Searches.{led_ok}
 use Rattle.execution.proofs.stepping.find_for.Goals as goal
 
 pub returns-clause-leads : goal.returns-clause-leads

@@ -1,7 +1,7 @@
 use Rattle.std.proofs.Common.{IfOk, subst, [], ◌∷◌}
 use Rattle.std.specs.Prelude.{option_to_list}
-use Rattle.execution.specs.Flows.{Leads}
-use Rattle.execution.specs.Waits.{given, resumed}
+use Rattle.searching.specs.Flows.{Leads}
+use Rattle.searching.specs.Waits.{given, resumed}
 use Rattle.execution.proofs.stepping.hear.Goals as goal
 
 pub returns-clause-leads : goal.returns-clause-leads

@@ -2,8 +2,8 @@ use Rattle.std.proofs.Common.{ap, ◌∙◌, [], ◌∷◌}
 use Rattle.std.specs.Prelude.{option_to_list}
 use Rattle.meaning.specs.Asking.{heard}
 use Rattle.meaning.specs.Tests.{broken_all}
-use Rattle.execution.specs.Waits.{tests_in, told_to, with_asked}
-use Rattle.execution.proofs.Searches.{led_one}
+use Rattle.searching.specs.Waits.{tests_in, told_to, with_asked}
+use Rattle.searching.proofs.Searches.{led_one}
 use Rattle.execution.proofs.stepping.hear_one.Goals as goal
 
 pub returns-clause-leads : goal.returns-clause-leads

@@ -2,7 +2,8 @@ use Rattle.std.proofs.Common.{ap, ◌∙◌, None}
 use Rattle.meaning.specs.Meaning.{check_prog, has_value, program_test}
 use Rattle.meaning.specs.State.{then_run}
 use Rattle.meaning.specs.Tests.{guarded_all}
-use Rattle.execution.proofs.Searches.{led, looks_test}
+use Rattle.searching.proofs.Searches.{led}
+use Rattle.execution.proofs.Steps.{looks_test}
 use Rattle.execution.proofs.stepping.look.Goals as goal
 
 pub returns-clause-leads : goal.returns-clause-leads

@@ -1,7 +1,7 @@
 use Rattle.std.proofs.Common.{subst, sym}
-use Rattle.execution.specs.Flows.{Leads}
-use Rattle.execution.specs.Waits.{told_to}
-use Rattle.execution.specs.declared.wait.Wait.TheVariants as waits
+use Rattle.searching.specs.Flows.{Leads}
+use Rattle.searching.specs.Waits.{told_to}
+use Rattle.searching.specs.declared.wait.Wait.TheVariants as waits
 use Rattle.execution.proofs.stepping.tell.Goals as goal
 
 pub returns-in_ok-flow-in-Link-clause-leads : goal.returns-in_ok-flow-in-Link-clause-leads

@@ -1,7 +1,7 @@
 use Rattle.std.proofs.Common.{subst, IfOk, cond, sym, Some, unwrap_or}
 use Rattle.meaning.specs.State.{Scope}
-use Rattle.execution.specs.Flows.{Leads}
-use Rattle.execution.specs.Waits.{finished, searched}
+use Rattle.searching.specs.Flows.{Leads}
+use Rattle.searching.specs.Waits.{finished, searched}
 use Rattle.execution.proofs.stepping.tell_search.Goals as goal
 
 pub returns-then-not-found-clause-leads : goal.returns-then-not-found-clause-leads

@@ -1,6 +1,6 @@
 use Rattle.std.proofs.Common.{IfOk, subst}
-use Rattle.execution.specs.Flows.{Leads}
-use Rattle.execution.specs.Waits.{given, resumed}
+use Rattle.searching.specs.Flows.{Leads}
+use Rattle.searching.specs.Waits.{given, resumed}
 use Rattle.machine.proofs.machine.Machine.hear.Goals as goal
 
 pub returns-clause-leads : goal.returns-clause-leads

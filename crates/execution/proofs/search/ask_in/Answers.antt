@@ -1,5 +1,0 @@
-use Rattle.execution.proofs.Searches.{one_awaits}
-use Rattle.execution.proofs.search.ask_in.Goals as goal
-
-pub returns-clause-group : goal.returns-clause-group
-returns-clause-group c = one_awaits _ _ _ c.in_ok-file.ensures.1
