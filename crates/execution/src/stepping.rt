@@ -785,7 +785,7 @@ fn only_reply(mut replies: Vec<Option<Reply>>) -> Reply
 /// # Errors
 ///
 /// Fails only if memory runs out.
-#[tactic(auto, unfolding(crate::specs::Waits::Suits))]
+#[tactic(auto, unfolding(searching::specs::Waits::Suits))]
 pub fn hear(
     alloc: Global,
     store: &mut Store,

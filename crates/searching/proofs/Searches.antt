@@ -1,27 +1,18 @@
 -- The directories of a path, and flows.
-use Rattle.std.proofs.Common.{◌≡◌, ℕ, zero, suc, ◌+◌, ◌-◌, ◌≤◌, ◌==◌, Bool, true, cond, List, [], ◌∷◌, length, map, take, get_or, Bor, Option, Some, None, codes, ◌++◌, Result, Ok, Err, IfOk, refl, sym, ap, ◌∙◌, subst, arith}
-use Rattle.std.specs.Prelude.{not, ◌||◌, option_map}
+use Rattle.std.proofs.Common.{◌≡◌, ℕ, zero, suc, ◌+◌, ◌-◌, ◌≤◌, ◌==◌, true, cond, List, [], ◌∷◌, length, map, take, get_or, Bor, Result, Ok, Err, IfOk, refl, sym, ap, ◌∙◌, subst, arith}
 use Rattle.std.proofs.lemmas.List.{length-map, take-map}
 use Rattle.std.specs.declared.alloc.AllocError.{AllocError}
 use Rattle.conftest.specs.declared.job.Job.{Job}
 use Rattle.textcut.specs.Cuts.{parts}
-use Rattle.shellword.specs.declared.part.Part.{Part}
-use Rattle.shellword.specs.Value.{word_value}
-use Rattle.syntax.specs.declared.statement.Plain as plain
-use Rattle.syntax.specs.declared.statement.Plain.TheVariants.{CheckProg, PathProg}
-use Rattle.meaning.specs.State.{State, Scope, Run, Ends, Goes_on}
-use Rattle.meaning.specs.Meaning.{effect, check_prog, path_prog, program_test, has_value, is_full_name, looks}
-use Rattle.plan.specs.Walk.{Mind, minded, opened, own_effect}
+use Rattle.meaning.specs.State.{State, Scope, Run}
+use Rattle.plan.specs.Walk.{Mind, minded}
 use Rattle.searching.specs.declared.flow.Flow.{Flow}
 use Rattle.searching.specs.declared.flow.Flow.TheVariants as flow
-use Rattle.searching.specs.Flows.{Leads, Continues, passed, asks_now, IsGroup, Heeds}
+use Rattle.searching.specs.Flows.{Leads, Continues, asks_now}
 use Rattle.meaning.specs.Directories.{ends_empty, without_last_empty, directory_of, directories_of}
-use Rattle.meaning.specs.Rows.{Search, value_or_empty}
+use Rattle.meaning.specs.Rows.{Search}
 use Rattle.searching.specs.declared.wait.Wait.{Wait}
-use Rattle.searching.specs.Waits.{Awaits, Suits, searched, tests_in, broken_off}
-use Rattle.searching.specs.declared.wait.Wait.TheVariants as waits
-use Rattle.execution.specs.Checks.{IsOpened}
-use Rattle.meaning.specs.Tests.{refused_all, with_result}
+use Rattle.searching.specs.Waits.{Awaits, Suits, searched}
 
 -- The last part.
 pub last_at : (xs : List (Bor (List ℕ))) (d : Bor (List ℕ)) (i : ℕ) → i + 1 ≡ length xs → (length (get_or xs i d).now == 0) ≡ ends_empty (map (λ part. part.now) xs)

@@ -2,7 +2,6 @@
 use Rattle.std.proofs.Common.{◌≡◌, ℕ, Bool, true, false, cond, List, [], ◌∷◌, ◌++◌, codes, Option, Some, None, refl, sym, ap, ◌∙◌, subst}
 use Rattle.std.specs.Prelude.{unwrap_or}
 use Rattle.std.proofs.Math.Path.{fun_ext}
-use Rattle.conftest.specs.declared.job.Job.{Job}
 use Rattle.deftable.specs.Table.{value_of}
 use Rattle.meaning.specs.State.{State, with_variable, How, as_is, Run, Ends, Goes_on, then_run}
 use Rattle.meaning.specs.Asking.{Attempt, same, compiled, attempted}

@@ -1,5 +1,4 @@
-use Rattle.std.proofs.Common.{IfOk, ap, refl, subst, sym, ◌∙◌}
-use Rattle.deftable.specs.Table.{value_of}
+use Rattle.std.proofs.Common.{IfOk, refl, subst, sym}
 use Rattle.meaning.specs.Meaning.{begun, looks}
 use Rattle.meaning.specs.State.{then_run}
 use Rattle.meaning.specs.Tests.{broken_all, guarded_all}

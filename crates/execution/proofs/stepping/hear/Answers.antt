@@ -1,4 +1,4 @@
-use Rattle.std.proofs.Common.{IfOk, subst, [], ◌∷◌}
+use Rattle.std.proofs.Common.{IfOk, subst}
 use Rattle.std.specs.Prelude.{option_to_list}
 use Rattle.searching.specs.Flows.{Leads}
 use Rattle.searching.specs.Waits.{given, resumed}
