@@ -3,16 +3,22 @@ use Rattle.std.proofs.Common.{◌≡◌, ℕ, List, [], ◌∷◌, Option, Some,
 use Rattle.deftable.specs.NameList.{has_name}
 use Rattle.deftable.specs.Table.{value_of, with_entry}
 use Rattle.deftable.specs.declared.note.Note.{Note}
+use Rattle.cachefile.specs.Line.{Setting, Sets, Defaults}
 use Rattle.commandline.specs.Arguments.{switch_of, install_directory_of, target_of, package_of, choice_of, said_with_value, dashed_of, said_by, value_in, rest_after, given}
 use Rattle.commandline.specs.CommandLine.{key_of}
 use Rattle.commandline.specs.Directories.{directories, variable_of, default_of, option_of, directory_named}
 use Rattle.options.specs.Opening.{cache_named, source_directory, setters, set_by, with_unslashed, with_marks, finished, is_declared, run_settings, opened_by, opening}
 use Rattle.commandline.specs.Slashes.{unslashed, without_slashes}
 use Rattle.commandline.specs.Srcdir.{srcdir_from, srcdir_of}
+use Rattle.options.specs.Precious.{old_value, restored, restored_variable, restored_from, blanks_note, checked}
+use Rattle.options.specs.WholeOpening.{OpeningFault, OfArguments, OfPrecious, with_cache, opened_with}
 use Rattle.options.specs.Unrecognized.{after_comma, listed, warning, notes_of}
 use Rattle.commandline.specs.declared.fault.OptionFault.{OptionFault}
 use Rattle.commandline.specs.declared.fault.OptionFault.TheVariants.{Unknown, BadFeature, BadVariable, MissingValue, FatalUnrecognized}
+use Rattle.options.specs.declared.fault.PreciousFault.{PreciousFault}
+use Rattle.options.specs.declared.fault.PreciousFault.TheVariants.{WasSet, WasUnset, Changed}
 use Rattle.options.specs.declared.settings.Settings.{Settings}
+use Rattle.textcut.specs.Cuts.{fields, parts_by}
 
 -- The opening for a source with AC_ARG_ENABLE([a-b]) and a precious variable CC.
 abbrev opened : List (List ℕ) → List (List ℕ × List ℕ) → Result Settings OptionFault
@@ -137,3 +143,85 @@ last_source :
     × (directory (opened [] []) ≡ codes ".")
 unfolding opening given said_by dashed_of switch_of said_with_value target_of install_directory_of choice_of package_of value_in rest_after key_of directory_named directories variable_of default_of option_of opened_by run_settings source_directory setters set_by finished with_unslashed with_marks is_declared cache_named unslashed without_slashes notes_of warning listed after_comma value_of with_entry has_name
 last_source = (refl, refl)
+
+-- ---- precious variables and a cache
+
+-- The cache of a run with this value of CC.
+abbrev cache_of : List ℕ → List Setting
+cache_of value = Sets (codes "ac_cv_env_CC_set") (codes "set") ∷ Sets (codes "ac_cv_env_CC_value") value ∷ []
+
+-- The cache of a run without CC.
+abbrev cache_without : List Setting
+cache_without = Sets (codes "ac_cv_env_CC_set") (codes "") ∷ Sets (codes "ac_cv_env_CC_value") (codes "") ∷ []
+
+-- The variables of a run with this value of CC, and their marks.
+abbrev run_with : List ℕ → List (List ℕ × List ℕ)
+run_with value = (codes "CC", value) ∷ (codes "ac_cv_env_CC_set", codes "set") ∷ (codes "ac_cv_env_CC_value", value) ∷ []
+
+-- The variables of a run without CC, and their marks.
+abbrev run_without : List (List ℕ × List ℕ)
+run_without = (codes "ac_cv_env_CC_set", codes "") ∷ (codes "ac_cv_env_CC_value", codes "") ∷ []
+
+abbrev check : List (List ℕ × List ℕ) → List Setting → Result (List (List ℕ × List ℕ) × List Note) PreciousFault
+check vars cache = checked (codes "CC" ∷ []) vars cache
+
+-- CC after a check.
+abbrev compiler : Result (List (List ℕ × List ℕ) × List Note) PreciousFault → Result (Option (List ℕ)) PreciousFault
+compiler (Ok after) = Ok (value_of after.0 (codes "CC"))
+compiler (Err fault) = Err fault
+
+abbrev check_notes : Result (List (List ℕ × List ℕ) × List Note) PreciousFault → List (List ℕ)
+check_notes (Ok after) = note_texts after.1
+check_notes (Err fault) = []
+
+-- Blanks alone give the old value back, and a note.
+changed_blanks :
+    (compiler (check (run_with (codes "gcc -O")) (cache_of (codes "gcc  -O"))) ≡ Ok (Some (codes "gcc  -O")))
+    × (check_notes (check (run_with (codes "gcc -O")) (cache_of (codes "gcc  -O"))) ≡ codes "configure: WARNING: blanks of CC have changed, old value used\n" ∷ [])
+    × (compiler (check (run_with (codes "\tgcc\n-O ")) (cache_of (codes "gcc -O"))) ≡ Ok (Some (codes "gcc -O")))
+    × (compiler (check (run_with (codes "")) (cache_of (codes " "))) ≡ Ok (Some (codes " ")))
+unfolding checked restored_from restored_variable restored old_value blanks_note value_of with_entry fields parts_by
+changed_blanks = (refl, refl, refl, refl)
+
+-- What is as it was, and what the cache lacks, stays.
+unchanged_values :
+    (check (run_with (codes "gcc")) (cache_of (codes "gcc")) ≡ Ok (run_with (codes "gcc"), []))
+    × (check run_without cache_without ≡ Ok (run_without, []))
+    × (check (run_with (codes "gcc")) [] ≡ Ok (run_with (codes "gcc"), []))
+    × (check (run_with (codes "gcc")) (Defaults (codes "ac_cv_env_CC_value") (codes "cc") ∷ []) ≡ Ok (run_with (codes "gcc"), []))
+unfolding checked restored_from restored_variable restored old_value blanks_note value_of with_entry fields parts_by
+unchanged_values = (refl, refl, refl, refl)
+
+-- The first fault counts.
+precious_faults :
+    (check (run_with (codes "cc")) (cache_of (codes "gcc  -O")) ≡ Err (Changed 1))
+    × (check run_without (cache_of (codes "gcc  -O")) ≡ Err (WasSet 1))
+    × (check (run_with (codes "")) cache_without ≡ Err (WasUnset 1))
+    × (checked (codes "LD" ∷ codes "CC" ∷ codes "AR" ∷ []) (run_with (codes "cc")) (Sets (codes "ac_cv_env_AR_set") (codes "set") ∷ cache_of (codes "gcc")) ≡ Err (Changed 2))
+unfolding checked restored_from restored_variable restored old_value blanks_note value_of with_entry fields parts_by
+precious_faults = (refl, refl, refl, refl)
+
+-- ---- the whole opening
+
+abbrev whole : List (List ℕ) → List Setting → Result Settings OpeningFault
+whole arguments cache = opened_with [] [] (codes "CC" ∷ []) arguments [] cache
+
+abbrev whole_variable : List ℕ → Result Settings OpeningFault → Option (List ℕ)
+whole_variable name (Ok settings) = value_of settings.vars name
+whole_variable name (Err fault) = None
+
+abbrev whole_notes : Result Settings OpeningFault → List (List ℕ)
+whole_notes (Ok settings) = note_texts settings.notes
+whole_notes (Err fault) = []
+
+-- The cache is poured over the checked variables, and the notes of the check are last.
+whole_openings :
+    (whole_variable (codes "CC") (whole (codes "CC=gcc -O" ∷ []) (cache_of (codes "gcc  -O"))) ≡ Some (codes "gcc  -O"))
+    × (whole_variable (codes "ac_cv_env_CC_value") (whole (codes "CC=gcc -O" ∷ []) (cache_of (codes "gcc  -O"))) ≡ Some (codes "gcc  -O"))
+    × (whole_variable (codes "v_cv_a") (whole [] (Defaults (codes "v_cv_a") (codes "1") ∷ [])) ≡ Some (codes "1"))
+    × (whole_notes (whole (codes "--with-x" ∷ codes "CC=gcc -O" ∷ []) (cache_of (codes "gcc  -O")))
+    ≡ codes "configure: WARNING: unrecognized options: --with-x\n" ∷ codes "configure: WARNING: blanks of CC have changed, old value used\n" ∷ [])
+    × (whole (codes "CC=cc" ∷ []) (cache_of (codes "gcc")) ≡ Err (OfPrecious (Changed 1)))
+    × (whole (codes "CC=cc" ∷ codes "1=2" ∷ []) (cache_of (codes "gcc")) ≡ Err (OfArguments (BadVariable 2)))
+unfolding opened_with with_cache checked restored_from restored_variable restored old_value blanks_note fields parts_by opening given said_by dashed_of switch_of said_with_value target_of install_directory_of choice_of package_of value_in rest_after key_of directory_named directories variable_of default_of option_of opened_by run_settings source_directory setters set_by finished with_unslashed with_marks is_declared cache_named unslashed without_slashes notes_of warning listed after_comma value_of with_entry has_name
+whole_openings = (refl, refl, refl, refl, refl, refl)

@@ -1,8 +1,12 @@
 //! The settings and the help text of a source, from what it declares.
 
-ghost use Rattle.std.specs.Prelude.{◌≡◌, ◌≢◌, Ok, Err, IfOk, IfErr};
+ghost use Rattle.std.specs.Prelude.{◌≡◌, ◌≢◌, Ok, Err, IfOk, IfErr, OnErr};
 ghost use Rattle.options.specs.HelpText.{help_text as text_of};
 ghost use Rattle.options.specs.Opening.{opening, IsOpening, IsOpeningFault};
+ghost use Rattle.options.specs.Precious.{checked, AreUnchanged, IsChecked, IsPreciousFault};
+ghost use Rattle.options.specs.Reading.{Gives as Checks};
+ghost use Rattle.options.specs.declared.fault.PreciousFault as precious;
+ghost use Rattle.options.specs.declared.fault.PreciousFault.TheVariants.{OutOfMemory as NoMemory};
 ghost use Rattle.commandline.specs.Reading.{Gives};
 ghost use Rattle.commandline.specs.Srcdir.{srcdir_of};
 ghost use Rattle.commandline.specs.declared.fault.OptionFault as faults;
@@ -11,10 +15,13 @@ ghost use Rattle.syntax.specs.Lists.{lists_of};
 ghost use Rattle.syntax.specs.Script.{script_of};
 ghost use Rattle.options.specs.declared.settings.Settings as settings;
 
+use crate::fault::PreciousFault;
 use crate::help::help_text_of;
+use crate::precious::check_precious_of;
 use crate::settings::{Settings, read_args_of};
+use cachefile::OldCache;
 use commandline::fault::OptionFault;
-use deftable::Bytes;
+use deftable::{Bytes, Notes, Vars};
 use std::alloc::{AllocError, Global};
 use syntax::Source;
 
@@ -50,6 +57,29 @@ pub fn read_args(
         args,
         env,
     )
+}
+
+/// Checks the precious variables of this source against a cache that is still to be poured over the variables, as
+/// [`check_precious_of`](crate::check_precious_of) does.
+///
+/// # Errors
+///
+/// Returns the fault of the first precious variable that has one. If it fails, the variables are unchanged.
+pub fn check_precious(
+    alloc: Global,
+    source: &Source,
+    vars: &mut Vars,
+    cache: &OldCache,
+) -> Result<Notes, PreciousFault>
+    ensures sound { IfOk result (λ notes. IsChecked (lists_of (script_of source.now)).precious vars.old cache.now vars.new notes) }
+    ensures complete { AreUnchanged (lists_of (script_of source.now)).precious vars.old cache.now → IfErr result (λ fault. fault ≡ NoMemory) }
+    ensures error_sound { IfErr result (λ fault. fault ≢ NoMemory → IsPreciousFault (lists_of (script_of source.now)).precious vars.old cache.now fault) }
+    ensures error_complete { (fault : precious.PreciousFault) → IsPreciousFault (lists_of (script_of source.now)).precious vars.old cache.now fault
+        → Checks (λ notes. notes) result (Err fault) }
+    ensures exact { Checks (λ notes. (vars.new, notes)) result (checked (lists_of (script_of source.now)).precious vars.old cache.now) }
+    ensures unchanged { OnErr result (vars.new ≡ vars.old) }
+{
+    check_precious_of(alloc, source.precious(), vars, cache)
 }
 
 /// Returns the text that `--help` prints: the usage, and the lines of each option and precious variable of the source,

@@ -52,7 +52,7 @@ impl Told for Settings {
 }
 
 /// Returns the arguments of a line, with a bar between each two.
-fn arguments_of(page: &mut Page, line: &[u8]) -> Vec<Bytes> {
+pub fn arguments_of(page: &mut Page, line: &[u8]) -> Vec<Bytes> {
     let mut arguments = Vec::new(page.alloc());
     if let Some(parts) = page.given(parts(page.alloc(), line, b'|')) {
         for part in &parts {

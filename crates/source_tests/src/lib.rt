@@ -3,8 +3,8 @@
 //!
 //! Each test is a table of rows, in the form that the crate `testrows` reads. A row begins with the name of a call. There is a
 //! module for each crate: `shell_words` for shellword, `bare_texts` for baretext, `arguments` for acargs, `macros` for
-//! acmacros, `sources` for acparse, and `command_lines` for options. `told` has how answers are written. The crate `cases` has
-//! more sources and command lines, in files.
+//! acmacros, `sources` for acparse, and for options `command_lines` and `precious`. `told` has how answers are written. The
+//! crate `cases` has more sources and command lines, in files.
 #![tactic(auto)]
 
 #[cfg(test)]
@@ -15,6 +15,8 @@ mod bare_texts;
 mod command_lines;
 #[cfg(test)]
 mod macros;
+#[cfg(test)]
+mod precious;
 #[cfg(test)]
 mod shell_words;
 #[cfg(test)]
