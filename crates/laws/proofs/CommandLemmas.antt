@@ -143,5 +143,5 @@ pub commands_write_alone : CommandsWriteAlone
 commands_write_alone commands name a st = commands_write name st.vars commands st a (inl refl)
 
 pub broken_check_leaves_variables : BrokenCheckLeavesVariables
-broken_check_leaves_variables message name commands st a =
+broken_check_leaves_variables message name commands a st =
     broken_leaves_variables (check message name (meaning commands) st) st (commands_write_alone commands name a)

@@ -28,7 +28,8 @@ SameIfBroken st run = AtEnds (λ how now. Breaks how → now.vars ≡ st.vars) r
 
 -- A test that doesn't continue leaves the variables as they were, if its body sets its name alone. (own)
 abbrev pub BrokenLeavesVariables : Type 0
-BrokenLeavesVariables = (test : Test) (st : State) → WritesAlone test.name test.body → SameIfBroken st (cached_test test st)
+BrokenLeavesVariables = (test : Test) (st : State) → WritesAlone test.name test.body
+    → SameIfBroken st (cached_test test st)
 
 -- The test of each kind leaves variables and definitions as they were if it doesn't continue. (own)
 abbrev pub BrokenRowLeavesVariables : Type 0
@@ -76,9 +77,10 @@ abbrev mutual
 
 -- Such commands set this name alone. (own)
 abbrev pub CommandsWriteAlone : Type 0
-CommandsWriteAlone = (commands : Script) (name : List ℕ) → AreCommands name commands → WritesAlone name (meaning commands)
+CommandsWriteAlone = (commands : Script) (name : List ℕ) → AreCommands name commands
+    → WritesAlone name (meaning commands)
 
 -- AC_CACHE_CHECK with such commands leaves the variables as they were if it doesn't continue. (own)
 abbrev pub BrokenCheckLeavesVariables : Type 0
-BrokenCheckLeavesVariables = (message : List Part) (name : List ℕ) (commands : Script) (st : State) → AreCommands name commands
-    → SameIfBroken st (cached_test (check message name (meaning commands) st) st)
+BrokenCheckLeavesVariables = (message : List Part) (name : List ℕ) (commands : Script) → AreCommands name commands
+    → (st : State) → SameIfBroken st (cached_test (check message name (meaning commands) st) st)

@@ -62,8 +62,9 @@ pub fn broken_check_leaves_variables()
 {}
 
 /// The names that are set at the end of a run are exactly those that were set at its beginning, those that a statement
-/// assigned, and those that a completed test left set. Such a test was of a name that was unset at the beginning. What the
-/// commands of AC_CACHE_CHECK do to its own name does not count.
+/// assigned, and those that a completed test left set. Such a test was of a name that was unset at the beginning. A
+/// name that was set and that no statement assigned keeps its value. What the commands of AC_CACHE_CHECK do to its own name
+/// does not count.
 pub fn deeds_account()
     ensures account { DeedsAccount }
 {}
