@@ -1,9 +1,13 @@
 //! Laws of the meaning: theorems on what a run of statements leaves in its variables.
 //!
 //! There is no code here. Each function does nothing, and its contract is a theorem on the definitions of `meaning`.
-//! Read `specs/Ends.antt` (what holds at the ends of a run), `specs/Cached.antt` (cached
-//! tests: their names), `specs/Commands.antt` (tests that set their name alone), then
-//! `specs/Deeds.antt` (what each name that is set at the end comes from).
+//! Read `specs/Ends.antt` (what holds at the ends of a run), `specs/Cached.antt` (cached tests: their names),
+//! `specs/Commands.antt` (tests that set their name alone), then `specs/Deeds.antt` (what each name that is set at the end
+//! comes from).
+//!
+//! For example, say that AC_CACHE_CHECK of the name `v_cv_x` has the commands `v_cv_x=no` and then a program that is
+//! compiled, and that the compiler can't be started. By `broken_check_is_unset` the name is unset at the end, and by
+//! `broken_check_leaves_variables` all variables are as they were.
 #![tactic(auto)]
 
 ghost use Rattle.laws.specs.Cached.{NamesStandOnce, BrokenIsUnset, BrokenRowIsUnset, BrokenCheckIsUnset, SetStaysSet, SetRowAsksNothing};
