@@ -11,6 +11,7 @@ use Rattle.syntax.specs.declared.statement.Question as asks
 use Rattle.syntax.specs.declared.statement.Question.TheVariants.{Given, Tries}
 use Rattle.syntax.specs.declared.tree.Subject.{Subject}
 use Rattle.syntax.specs.declared.tree.Subject.TheVariants.{Nothing, Word, Asked}
+use Rattle.syntax.specs.Commands.{AreCommands}
 use Rattle.syntax.specs.Script.{Script, Done, Then, Choice, Check, Cases, No_case, Case}
 use Rattle.meaning.specs.State.{State, Scope, no_choice, about, answered, Goes_on, Completed, Stopped, Cut, Run, Ends, Asks, as_is}
 use Rattle.meaning.specs.Tests.{checking, cached_test, tested}
@@ -18,7 +19,6 @@ use Rattle.meaning.specs.Rows.{Kind, Program, Search, name_of, value_or_empty, v
 use Rattle.meaning.specs.Play.{play, whole}
 use Rattle.meaning.specs.Meaning.{settled, is_unsettled, check_prog, path_prog, has_value, is_full_name, looks, looks_all, effect, value_name, asked, is_taken, check, meaning, chosen}
 use Rattle.laws.specs.Cached.{IsSet, IsUnset}
-use Rattle.laws.specs.Commands.{AreCommands}
 
 -- What a run did to a name: a statement assigned it, or a test that was run to its end left it set. (own)
 pub data Deed : Type 0 where
@@ -196,7 +196,7 @@ abbrev pub DeedsAccount : Type 0
 DeedsAccount = (script : Script) (st : State) (replies : List Reply)
     → Accounts st.vars (deeds script st replies) (play (whole (meaning script st)) replies).state.vars
 
--- The commands that AC_CACHE_CHECK may have do nothing to other names: its deeds are those of its test alone. (own)
+-- Commands of AC_CACHE_CHECK do nothing to other names: its deeds are those of its test alone. (own)
 abbrev pub CommandsHaveNoDeeds : Type 0
 CommandsHaveNoDeeds = (commands : Script) (name : List ℕ) (st : State) (replies : List Reply)
     → AreCommands name commands

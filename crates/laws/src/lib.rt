@@ -7,7 +7,7 @@
 //!
 //! For example, say that AC_CACHE_CHECK of the name `v_cv_x` has the commands `v_cv_x=no` and then a program that is
 //! compiled, and that the compiler can't be started. By `broken_check_is_unset` the name is unset at the end, and by
-//! `broken_check_leaves_variables` all variables are as they were.
+//! `broken_check_leaves_variables` all variables and definitions are as they were.
 #![tactic(auto)]
 
 ghost use Rattle.laws.specs.Cached.{NamesStandOnce, BrokenIsUnset, BrokenRowIsUnset, BrokenCheckIsUnset, SetStaysSet, SetRowAsksNothing};
@@ -55,12 +55,12 @@ pub fn broken_row_leaves_variables()
     ensures same { BrokenRowLeavesVariables }
 {}
 
-/// The commands that AC_CACHE_CHECK may have set its name alone.
+/// The commands that AC_CACHE_CHECK may have set its name alone, and define nothing.
 pub fn commands_write_alone()
     ensures alone { CommandsWriteAlone }
 {}
 
-/// AC_CACHE_CHECK with such commands leaves the variables as they were if it doesn't continue.
+/// AC_CACHE_CHECK with such commands leaves variables and definitions as they were if it doesn't continue.
 pub fn broken_check_leaves_variables()
     ensures same { BrokenCheckLeavesVariables }
 {}
