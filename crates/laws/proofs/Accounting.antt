@@ -79,10 +79,16 @@ joined before mid now a b x y = record {
   only = λ n h. from_right n before mid a b (x.only n) (y.only n h);
   all = λ n h. y.all n (from_both n before mid a b (x.all n) h);
   tested = λ n h. ⊎_elim (λ l. x.tested n l) (λ r. unset_before n before mid (λ k. x.all n (inl k)) (y.tested n r)) (among_either (Tested n) a b h);
+  keeps = λ n v e no. y.keeps n v (x.keeps n v e (λ l. no (among_left (Assigned n) a b l))) (λ r. no (among_right (Assigned n) a b r));
 }
 
 nothing : (vars : Variables) → Accounts vars [] vars
-nothing vars = record { only = λ n h. inl h; all = λ n h. ⊎_elim (λ k. k) (λ k. ⊎_elim (λ l. absurd l) (λ l. absurd l) k) h; tested = λ n h. absurd h }
+nothing vars = record {
+  only = λ n h. inl h;
+  all = λ n h. ⊎_elim (λ k. k) (λ k. ⊎_elim (λ l. absurd l) (λ l. absurd l) k) h;
+  tested = λ n h. absurd h;
+  keeps = λ n v e no. e;
+}
 
 unchanged : (before now : Variables) → now ≡ before → Accounts before [] now
 unchanged before now e = subst (Accounts before []) (sym e) (nothing before)
@@ -102,6 +108,10 @@ writes vars name value = record {
       (λ k. ⊎_elim (λ l. ⊎_elim (λ e. here n (ap name_in e)) (λ z. absurd z) l) (λ l. ⊎_elim (λ e. cc) (λ z. absurd z) l) k)
       h;
   tested = λ n h. ⊎_elim (λ e. cc) (λ z. absurd z) h;
+  keeps = λ n v e no. ⊎_elim
+      (λ t. absurd (no (inl (ap Assigned (sym (same_text n name t))))))
+      (λ f. value_there vars name value n f ∙ e)
+      (cases_Bool (bytes_eq n name));
 }
   where
     here : (n : List ℕ) → name ≡ n → IsSet n (with_entry vars name value)
@@ -145,48 +155,48 @@ tested_more before now ds name u set x = record {
       k)
       h;
   tested = λ n h. ⊎_elim (λ e. subst (λ q. IsUnset q before) (ap name_in e) u) (λ k. x.tested n k) h;
+  keeps = λ n v e no. x.keeps n v e (λ k. no (inr k));
 }
 
-set_deeds : (name : List ℕ) (before mid : Variables) → WritesOwn name before mid → Accounts before (left_set name (value_of before name) (value_of mid name)) mid
+-- The variables after a test: those from before, or its name alone was set, which was unset.
+abbrev TestWrites : List ℕ → Variables → Variables → Type 0
+TestWrites name before now = (now ≡ before) ⊎ ((value : List ℕ) × (IsUnset name before × (now ≡ with_entry before name value)))
+
+test_writes : (name : List ℕ) (before now : Variables) → IsUnset name before → WritesOwn name before now → TestWrites name before now
+test_writes name before now u own = ⊎_elim (λ same. inl same) (λ set. inr (set.0, (u, set.1))) own
+
+new_deed : (name : List ℕ) (before : Variables) (w : List ℕ) → IsUnset name before → Accounts before (Tested name ∷ []) (with_entry before name w)
+new_deed name before w u = record {
+  only = λ n h. ⊎_elim
+      (λ t. inr (inr (inl (ap Tested (sym (same_text n name t))))))
+      (λ f. inl (h.0, sym (value_there before name w n f) ∙ h.1))
+      (cases_Bool (bytes_eq n name));
+  all = λ n h. ⊎_elim
+      (λ k. set_write before name w n k)
+      (λ k. ⊎_elim
+      (λ l. ⊎_elim (λ e. cc) (λ z. absurd z) l)
+      (λ l. ⊎_elim (λ e. (w, ap (value_of (with_entry before name w)) (sym (ap name_in e)) ∙ value_here before name w)) (λ z. absurd z) l)
+      k)
+      h;
+  tested = λ n h. ⊎_elim (λ e. subst (λ q. IsUnset q before) (ap name_in e) u) (λ z. absurd z) h;
+  keeps = λ n v e no. ⊎_elim
+      (λ t. let z : None ≡ Some v = sym u ∙ ap (value_of before) (sym (same_text n name t)) ∙ e in cc)
+      (λ f. value_there before name w n f ∙ e)
+      (cases_Bool (bytes_eq n name));
+}
+
+no_deed : (name : List ℕ) (before : Variables) (o : Option (List ℕ)) → Accounts before (left_set name o o) before
+no_deed name before None = nothing before
+no_deed name before (Some v) = nothing before
+
+set_deeds : (name : List ℕ) (before mid : Variables) → TestWrites name before mid → Accounts before (left_set name (value_of before name) (value_of mid name)) mid
 set_deeds name before mid own =
     ⊎_elim
-    (λ same. subst (λ l. Accounts before (left_set name (value_of before name) (value_of l name)) l) (sym same) (still (value_of before name)))
-    (λ set. subst (λ l. Accounts before (left_set name (value_of before name) (value_of l name)) l) (sym set.1) (wrote set.0 (value_of before name) refl))
+    (λ same. subst (λ l. Accounts before (left_set name (value_of before name) (value_of l name)) l) (sym same) (no_deed name before (value_of before name)))
+    (λ set. subst (λ l. Accounts before (left_set name (value_of before name) (value_of l name)) l) (sym set.1.1)
+    (subst (λ o. Accounts before (left_set name o (value_of (with_entry before name set.0) name)) (with_entry before name set.0)) (sym set.1.0)
+    (subst (λ o. Accounts before (left_set name None o) (with_entry before name set.0)) (sym (value_here before name set.0)) (new_deed name before set.0 set.1.0))))
     own
-  where
-    still : (o : Option (List ℕ)) → Accounts before (left_set name o o) before
-    still None = nothing before
-    still (Some v) = nothing before
-
-    new : (w : List ℕ) → IsUnset name before → Accounts before (Tested name ∷ []) (with_entry before name w)
-    new w u = record {
-      only = λ n h. ⊎_elim
-          (λ t. inr (inr (inl (ap Tested (sym (same_text n name t))))))
-          (λ f. inl (h.0, sym (value_there before name w n f) ∙ h.1))
-          (cases_Bool (bytes_eq n name));
-      all = λ n h. ⊎_elim
-          (λ k. set_write before name w n k)
-          (λ k. ⊎_elim
-          (λ l. ⊎_elim (λ e. cc) (λ z. absurd z) l)
-          (λ l. ⊎_elim (λ e. (w, ap (value_of (with_entry before name w)) (sym (ap name_in e)) ∙ value_here before name w)) (λ z. absurd z) l)
-          k)
-          h;
-      tested = λ n h. ⊎_elim (λ e. subst (λ q. IsUnset q before) (ap name_in e) u) (λ z. absurd z) h;
-    }
-
-    kept : (w v : List ℕ) → value_of before name ≡ Some v → Accounts before [] (with_entry before name w)
-    kept w v s = record {
-      only = λ n h. ⊎_elim
-          (λ t. inl (v, ap (value_of before) (same_text n name t) ∙ s))
-          (λ f. inl (h.0, sym (value_there before name w n f) ∙ h.1))
-          (cases_Bool (bytes_eq n name));
-      all = λ n h. ⊎_elim (λ k. set_write before name w n k) (λ k. ⊎_elim (λ l. absurd l) (λ l. absurd l) k) h;
-      tested = λ n h. absurd h;
-    }
-
-    wrote : (w : List ℕ) (o : Option (List ℕ)) → value_of before name ≡ o → Accounts before (left_set name o (value_of (with_entry before name w) name)) (with_entry before name w)
-    wrote w (Some v) e = kept w v e
-    wrote w None e = subst (λ o. Accounts before (left_set name None o) (with_entry before name w)) (sym (value_here before name w)) (new w e)
 
 -- How a test in a statement ends: it leaves the variables, or wrote its name alone and then what follows.
 abbrev AfterVars : Kind → Variables → Variables → Type 0
@@ -197,18 +207,18 @@ after_through (Program s own) value st = (unwrap_or value [], refl)
 
 record KindEnds (kind : Kind) (before : Variables) (how : How) (now : Variables) : Type 0 where
   pub breaks : Breaks how → now ≡ before
-  pub goes : how ≡ Goes_on → (mid : Variables) × (WritesOwn (name_of kind) before mid × AfterVars kind mid now)
+  pub goes : how ≡ Goes_on → (mid : Variables) × (TestWrites (name_of kind) before mid × AfterVars kind mid now)
 
 record CachedEnds (name : List ℕ) (before : Variables) (how : How) (now : Variables) : Type 0 where
   pub breaks : Breaks how → now ≡ before
-  pub own : WritesOwn name before now
+  pub own : TestWrites name before now
 
 cached_ends : (t : Test) (st : State) → AtEnds (λ how now. WritesOwn t.name st.vars now.vars) (t.body (checking t.message st)) → AtEnds (λ how now. CachedEnds t.name st.vars how now.vars) (cached_test t st)
 cached_ends t st alone =
     ⊎_elim
     (λ e. broken_ends (λ how now. WritesOwn t.name st.vars now.vars) (λ how now. CachedEnds t.name st.vars how now.vars) t st e alone
     (λ how now breaks w. let same = broken_vars t.name how now breaks ∙ own_unset st.vars now.vars t.name e w in record { breaks = λ b. same; own = inl same })
-    (λ now w. record { breaks = λ b. absurd (b refl); own = w }))
+    (λ now w. record { breaks = λ b. absurd (b refl); own = test_writes t.name st.vars now.vars e w }))
     (λ some. subst (AtEnds (λ how now. CachedEnds t.name st.vars how now.vars)) (sym (set_cached t some.0 st some.1)) (record { breaks = λ b. refl; own = inl refl }))
     (cases_value (value_of st.vars t.name))
 
@@ -222,18 +232,18 @@ kind_ends kind first st true =
 kind_ends kind first st false = record { breaks = λ b. refl; goes = λ g. cc }
 
 -- A program's test, and then its variable. The two may have one name.
-one_name : (name variable value : List ℕ) (before mid : Variables) → name ≡ variable → WritesOwn name before mid → with_entry mid variable value ≡ with_entry before variable value
+one_name : (name variable value : List ℕ) (before mid : Variables) → name ≡ variable → TestWrites name before mid → with_entry mid variable value ≡ with_entry before variable value
 one_name name variable value before mid e own =
     ⊎_elim
     (λ same. ap (λ l. with_entry l variable value) same)
-    (λ set. ap (λ l. with_entry l variable value) set.1 ∙ ap (λ q. with_entry (with_entry before q set.0) variable value) e ∙ rewritten before variable set.0 value)
+    (λ set. ap (λ l. with_entry l variable value) set.1.1 ∙ ap (λ q. with_entry (with_entry before q set.0) variable value) e ∙ rewritten before variable set.0 value)
     own
 
 with_test : (name : List ℕ) (before now : Variables) (ds : List Deed) (o : Option (List ℕ)) → value_of before name ≡ o → IsSet name now → Accounts before ds now → Accounts before (left_set name o (value_of now name) ++ ds) now
 with_test name before now ds (Some v) e set x = x
 with_test name before now ds None e set x = subst (λ o. Accounts before (left_set name None o ++ ds) now) (sym set.1) (tested_more before now ds name e set x)
 
-variable_accounts : (name variable value : List ℕ) (before mid : Variables) → WritesOwn name before mid
+variable_accounts : (name variable value : List ℕ) (before mid : Variables) → TestWrites name before mid
     → Accounts before (left_set name (value_of before name) (value_of (with_entry mid variable value) name) ++ Assigned variable ∷ []) (with_entry mid variable value)
 variable_accounts name variable value before mid own =
     ⊎_elim
@@ -245,7 +255,7 @@ variable_accounts name variable value before mid own =
     (writes_more before mid (left_set name (value_of before name) (value_of mid name)) variable value (set_deeds name before mid own)))
     (cases_Bool (bytes_eq name variable))
 
-after_accounts : (kind : Kind) (before mid now : Variables) → WritesOwn (name_of kind) before mid → AfterVars kind mid now
+after_accounts : (kind : Kind) (before mid now : Variables) → TestWrites (name_of kind) before mid → AfterVars kind mid now
     → Accounts before (left_set (name_of kind) (value_of before (name_of kind)) (value_of now (name_of kind)) ++ assigned_by kind) now
 after_accounts (Program s own) before mid now alone after =
     subst (λ l. Accounts before (left_set s.name (value_of before s.name) (value_of l s.name) ++ Assigned s.variable ∷ []) l) (sym after.1)
@@ -398,6 +408,9 @@ from_others : (name n : List ℕ) (before : Variables) (inner : List Deed) → b
 from_others name n before inner ne h =
     ⊎_elim (λ k. inl k) (λ k. inr (⊎_elim (λ a. inl (among_others name (Assigned n) inner ne a)) (λ a. inr (among_others name (Tested n) inner ne a)) k)) h
 
+set_is_other : (name n v : List ℕ) (before : Variables) → IsUnset name before → value_of before n ≡ Some v → bytes_eq name n ≡ false
+set_is_other name n v before u s = not_same name n (λ same. let z : None ≡ Some v = sym u ∙ ap (value_of before) same ∙ s in cc)
+
 to_inner : (name n : List ℕ) (before : Variables) (inner : List Deed) → ComesFrom n before (others_than name inner) → ComesFrom n before inner
 to_inner name n before inner h =
     ⊎_elim (λ k. inl k) (λ k. inr (⊎_elim (λ a. inl (others_among name (Assigned n) inner a).1) (λ a. inr (others_among name (Tested n) inner a).1) k)) h
@@ -405,7 +418,7 @@ to_inner name n before inner h =
 is_other : (name n : List ℕ) (before : Variables) (inner : List Deed) → IsUnset name before → ComesFrom n before (others_than name inner) → bytes_eq name n ≡ false
 is_other name n before inner u h =
     ⊎_elim
-    (λ k. not_same name n (λ same. let z : None ≡ Some k.0 = sym u ∙ ap (value_of before) same ∙ k.1 in cc))
+    (λ k. set_is_other name n k.0 before u k.1)
     (λ k. ⊎_elim (λ a. (others_among name (Assigned n) inner a).0) (λ a. (others_among name (Tested n) inner a).0) k)
     h
 
@@ -417,6 +430,7 @@ check_goes name before now inner u None e x = ended_there before now (others_tha
       from_others name n before inner ne (x.only n h);
   all = λ n h. x.all n (to_inner name n before inner h);
   tested = λ n h. x.tested n (others_among name (Tested n) inner h).1;
+  keeps = λ n v s no. x.keeps n v s (λ a. no (among_others name (Assigned n) inner (set_is_other name n v before u s) a));
 })
 check_goes name before now inner u (Some v) e x = record {
   only = λ n h. ⊎_elim
@@ -428,6 +442,7 @@ check_goes name before now inner u (Some v) e x = record {
       (λ a. x.tested n (others_among name (Tested n) inner a).1)
       (λ a. ⊎_elim (λ same. subst (λ q. IsUnset q before) (ap name_in same) u) (λ z. absurd z) a)
       (among_either (Tested n) (others_than name inner) (Tested name ∷ []) h);
+  keeps = λ n v s no. x.keeps n v s (λ a. no (among_left (Assigned n) (others_than name inner) (Tested name ∷ []) (among_others name (Assigned n) inner (set_is_other name n v before u s) a)));
 }
   where
     all_set : (n : List ℕ) → ComesFrom n now (Tested name ∷ []) → IsSet n now
@@ -452,6 +467,9 @@ check_breaks name before now inner u once x = ended_there before (without_entry 
       let set = x.all n (to_inner name n before inner h) in
       (set.0, value_without now name n (not_same n name (λ same. apart name n ne (sym same))) ∙ set.1);
   tested = λ n h. x.tested n (others_among name (Tested n) inner h).1;
+  keeps = λ n v s no.
+      let ne = set_is_other name n v before u s in
+      value_without now name n (not_same n name (λ same. apart name n ne (sym same))) ∙ x.keeps n v s (λ a. no (among_others name (Assigned n) inner ne a));
 })
 
 abbrev printed : (Option (List ℕ) → List ℕ) → List ℕ → State → Run

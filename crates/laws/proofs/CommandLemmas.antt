@@ -4,10 +4,11 @@ use Rattle.conftest.specs.Probe.{job_of}
 use Rattle.deftable.specs.Table.{value_of, with_entry, without_entry}
 use Rattle.shellword.specs.Value.{word_value}
 use Rattle.syntax.specs.declared.statement.Plain as plain
-use Rattle.syntax.specs.declared.statement.Plain.TheVariants.{Init, Accepted, ConfigFiles, Assign, Subst, SubstValue, Define, DefineUnquoted, Error, ArgVar, CheckProg, CheckProgs, PathProg, ProgCc, Output}
+use Rattle.syntax.specs.declared.statement.Plain.TheVariants.{Assign}
 use Rattle.syntax.specs.declared.statement.Question.TheVariants.{Given, Tries}
 use Rattle.syntax.specs.declared.tree.Subject.{Subject}
 use Rattle.syntax.specs.declared.tree.Subject.TheVariants.{Nothing, Word, Asked}
+use Rattle.syntax.specs.Commands.{AssignsAlone, TriesAlone, AreCommands, AreCommandsIn}
 use Rattle.syntax.specs.Script.{Script, Done, Then, Choice, Check, Cases, No_case, Case}
 use Rattle.meaning.specs.State.{State, Scope, answered, How, Goes_on, Completed, Stopped, Cut, Run, as_is}
 use Rattle.meaning.specs.Tests.{Test, broken, checking, cached_test, with_value, tested_by, may_begin}
@@ -16,7 +17,7 @@ use Rattle.meaning.specs.Tries.{first_probe, text_of}
 use Rattle.meaning.specs.Meaning.{effect, begun, is_taken, check, meaning, chosen}
 use Rattle.laws.specs.Ends.{AtEnds, Breaks}
 use Rattle.laws.specs.Cached.{IsUnset}
-use Rattle.laws.specs.Commands.{WritesOwn, SameIfBroken, BrokenLeavesVariables, BrokenRowLeavesVariables, SetsOnly, AsksNoOption, AreCommands, AreCommandsIn, CommandsWriteAlone, BrokenCheckLeavesVariables}
+use Rattle.laws.specs.Commands.{WritesOwn, SameIfBroken, BrokenLeavesVariables, BrokenRowLeavesVariables, CommandsWriteAlone, BrokenCheckLeavesVariables}
 use Rattle.laws.proofs.Values.{without_unset, reset_own, rewritten}
 use Rattle.laws.proofs.Endings.{ends_then, ends_either, ends_compiled, ends_attempted}
 use Rattle.laws.proofs.CachedTests.{broken_ends, broken_vars, set_or_broken}
@@ -30,32 +31,20 @@ own_unset before now name e w =
     (λ set. ap (λ l. without_entry l name) set.1 ∙ reset_own before name set.0 e)
     w
 
-broken_leaves : (t : Test) (st : State) → AtEnds (λ how now. WritesOwn t.name st.vars now.vars) (t.body (checking t.message st)) → SameIfBroken st (cached_test t st)
-broken_leaves t st alone =
+pub broken_leaves_variables : BrokenLeavesVariables
+broken_leaves_variables t st alone =
     set_or_broken (λ now. now.vars ≡ st.vars) t st
-    (λ e. broken_ends (λ how now. WritesOwn t.name st.vars now.vars) (λ how now. Breaks how → now.vars ≡ st.vars) t st e alone
+    (λ e. broken_ends (λ how now. WritesOwn t.name st.vars now.vars) (λ how now. Breaks how → now.vars ≡ st.vars) t st e (alone (checking t.message st))
     (λ how now breaks w again. broken_vars t.name how now breaks ∙ own_unset st.vars now.vars t.name e w)
     (λ now w breaks. absurd (breaks refl)))
 
-pub broken_leaves_variables : BrokenLeavesVariables
-broken_leaves_variables t st alone = broken_leaves t st (alone (checking t.message st))
-
--- Rows.
+-- Variables and definitions are the same.
 abbrev Leaves : State → State → Type 0
 Leaves st now = (now.vars ≡ st.vars) × (now.defs ≡ st.defs)
 
-abbrev OwnOnly : List ℕ → State → State → Type 0
+-- They are, or the name alone was set.
+abbrev pub OwnOnly : List ℕ → State → State → Type 0
 OwnOnly name st now = WritesOwn name st.vars now.vars × (now.defs ≡ st.defs)
-
-with_value_own : (name : List ℕ) (value : Option (List ℕ)) (st now : State) → Leaves st now → OwnOnly name st (with_value name value now)
-with_value_own name None st now h = (inl h.0, h.1)
-with_value_own name (Some value) st now h = (inr (value, ap (λ l. with_entry l name value) h.0), h.1)
-
--- The body of a row.
-pub row_alone : (kind : Kind) (first st : State) → AtEnds (λ how now. OwnOnly (name_of kind) st now) ((row_of kind first).test.body st)
-row_alone kind first st =
-    ends_attempted (λ now. Leaves st now) (λ how now. OwnOnly (name_of kind) st now) (λ job reply now h. h) (attempts_of kind first) (otherwise_of kind) _
-    (λ now h. (inl h.0, h.1)) (λ now h. (inl h.0, h.1)) (λ value now h. with_value_own (name_of kind) value st now h) st (refl, refl)
 
 broken_defs : (name : List ℕ) (how : How) (st : State) → (broken name how st).defs ≡ st.defs
 broken_defs name Goes_on st = refl
@@ -63,27 +52,38 @@ broken_defs name Completed st = refl
 broken_defs name (Stopped s) st = refl
 broken_defs name Cut st = refl
 
-begun_row : (kind : Kind) (first st : State) → AtEnds (λ how now. Breaks how → Leaves st now) (tested_by true (row_of kind first) st)
+broken_same : (t : Test) (st : State) → AtEnds (λ how now. OwnOnly t.name st now) (t.body (checking t.message st)) → SameIfBroken st (cached_test t st)
+broken_same t st alone =
+    set_or_broken (λ now. Leaves st now) t st
+    (λ e. broken_ends (λ how now. OwnOnly t.name st now) (λ how now. Breaks how → Leaves st now) t st e alone
+    (λ how now breaks w again. (broken_vars t.name how now breaks ∙ own_unset st.vars now.vars t.name e w.0, broken_defs t.name how now ∙ w.1))
+    (λ now w breaks. absurd (breaks refl)))
+
+-- Rows.
+with_value_own : (name : List ℕ) (value : Option (List ℕ)) (st now : State) → Leaves st now → OwnOnly name st (with_value name value now)
+with_value_own name None st now h = (inl h.0, h.1)
+with_value_own name (Some value) st now h = (inr (value, ap (λ l. with_entry l name value) h.0), h.1)
+
+pub row_alone : (kind : Kind) (first st : State) → AtEnds (λ how now. OwnOnly (name_of kind) st now) ((row_of kind first).test.body st)
+row_alone kind first st =
+    ends_attempted (λ now. Leaves st now) (λ how now. OwnOnly (name_of kind) st now) (λ job reply now h. h) (attempts_of kind first) (otherwise_of kind) _
+    (λ now h. (inl h.0, h.1)) (λ now h. (inl h.0, h.1)) (λ value now h. with_value_own (name_of kind) value st now h) st (refl, refl)
+
+begun_row : (kind : Kind) (first st : State) → SameIfBroken st (tested_by true (row_of kind first) st)
 begun_row kind first st =
     let t = (row_of kind first).test in
     ends_then (λ how now. Breaks how → Leaves st now) (λ how now. Breaks how → Leaves st now) (cached_test t st) _
-    (set_or_broken (λ now. Leaves st now) t st
-    (λ e. broken_ends (λ how now. OwnOnly t.name st now) (λ how now. Breaks how → Leaves st now) t st e (row_alone kind first (checking t.message st))
-    (λ how now breaks w again. (broken_vars t.name how now breaks ∙ own_unset st.vars now.vars t.name e w.0, broken_defs t.name how now ∙ w.1))
-    (λ now w breaks. absurd (breaks refl))))
+    (broken_same t st (row_alone kind first (checking t.message st)))
     (λ now h breaks. absurd (breaks refl)) (λ how now breaks h. h)
 
 pub broken_row_leaves_variables : BrokenRowLeavesVariables
 broken_row_leaves_variables kind st = by_begin (may_begin (value_of st.vars (name_of kind)) (row_of kind st).ready)
   where
-    by_begin : (b : Bool) → AtEnds (λ how now. Breaks how → Leaves st now) (tested_by b (row_of kind st) st)
+    by_begin : (b : Bool) → SameIfBroken st (tested_by b (row_of kind st) st)
     by_begin true = begun_row kind st st
     by_begin false = λ breaks. (refl, refl)
 
 -- Commands.
-abbrev Own : List ℕ → List (List ℕ × List ℕ) → State → Type 0
-Own name before st = WritesOwn name before st.vars
-
 own_write : (before now : List (List ℕ × List ℕ)) (name value : List ℕ) → WritesOwn name before now → WritesOwn name before (with_entry now name value)
 own_write before now name value w =
     ⊎_elim
@@ -91,57 +91,42 @@ own_write before now name value w =
     (λ set. inr (value, ap (λ l. with_entry l name value) set.1 ∙ rewritten before name set.0 value))
     w
 
-variable_write : (name : List ℕ) (before : List (List ℕ × List ℕ)) (variable value : List ℕ) (st : State) → variable ≡ name → Own name before st → WritesOwn name before (with_entry st.vars variable value)
-variable_write name before variable value st a h = subst (λ x. WritesOwn name before (with_entry st.vars x value)) (sym a) (own_write before st.vars name value h)
-
-effect_writes : (name : List ℕ) (before : List (List ℕ × List ℕ)) (s : plain.Plain) (st : State) → SetsOnly name s → Own name before st → Keeps (Own name before) (effect s st)
+effect_writes : (name : List ℕ) (first : State) (s : plain.Plain) (st : State) → AssignsAlone name s → OwnOnly name first st → Keeps (OwnOnly name first) (effect s st)
 unfolding effect
-effect_writes name before (Init title version bug tarname url) st a h = absurd a
-effect_writes name before Accepted st a h = h
-effect_writes name before (ConfigFiles outputs) st a h = h
-effect_writes name before (Assign variable value) st a h = variable_write name before variable (word_value value st.vars) st a h
-effect_writes name before (Subst variable) st a h = h
-effect_writes name before (SubstValue variable value) st a h = variable_write name before variable (word_value value st.vars) st a h
-effect_writes name before (Define macro value) st a h = h
-effect_writes name before (DefineUnquoted macro value) st a h = h
-effect_writes name before (Error message status) st a h = h
-effect_writes name before (ArgVar variable help) st a h = h
-effect_writes name before (CheckProg variable program found otherwise) st a h = absurd a
-effect_writes name before (CheckProgs variable programs otherwise) st a h = absurd a
-effect_writes name before (PathProg variable program otherwise) st a h = absurd a
-effect_writes name before (ProgCc programs) st a h = absurd a
-effect_writes name before Output st a h = absurd a
+effect_writes name first (Assign variable value) st a h =
+    (subst (λ x. WritesOwn name first.vars (with_entry st.vars x (word_value value st.vars))) (sym a) (own_write first.vars st.vars name (word_value value st.vars) h.0), h.1)
+effect_writes name first _ st a h = absurd a
 
-begun_writes : (name : List ℕ) (before : List (List ℕ × List ℕ)) (subject : Subject) (st : State) (go : Scope → State → Run) → AsksNoOption subject → ((scope : Scope) (now : State) → Own name before now → Keeps (Own name before) (go scope now)) → Own name before st → Keeps (Own name before) (begun as_is subject st go)
+begun_writes : (name : List ℕ) (first : State) (subject : Subject) (st : State) (go : Scope → State → Run) → TriesAlone subject → ((scope : Scope) (now : State) → OwnOnly name first now → Keeps (OwnOnly name first) (go scope now)) → OwnOnly name first st → Keeps (OwnOnly name first) (begun as_is subject st go)
 unfolding begun
-begun_writes name before Nothing st go a k h = k _ st h
-begun_writes name before (Word word) st go a k h = k _ st h
-begun_writes name before (Asked (Given kind variable help)) st go a k h = absurd a
-begun_writes name before (Asked (Tries kind program)) st go a k h =
-    ends_compiled (Own name before) (λ how now. Own name before now) (λ job reply now x. x) (job_of (first_probe kind (text_of program st.vars)) 0 st.vars st.defs) st _ (λ now x. x) (λ now x. x)
-    (first_ends (Own name before) (λ how now. Own name before now) (λ job reply now x. x) (λ now x. x) kind (λ b. go (answered b)) (λ b now x. k (answered b) now x)) h
+begun_writes name first Nothing st go a k h = k _ st h
+begun_writes name first (Word word) st go a k h = k _ st h
+begun_writes name first (Asked (Given kind variable help)) st go a k h = absurd a
+begun_writes name first (Asked (Tries kind program)) st go a k h =
+    ends_compiled (OwnOnly name first) (λ how now. OwnOnly name first now) (λ job reply now x. x) (job_of (first_probe kind (text_of program st.vars)) 0 st.vars st.defs) st _ (λ now x. x) (λ now x. x)
+    (first_ends (OwnOnly name first) (λ how now. OwnOnly name first now) (λ job reply now x. x) (λ now x. x) kind (λ b. go (answered b)) (λ b now x. k (answered b) now x)) h
 
 mutual
   unfolding meaning chosen
 
-  commands_write : (name : List ℕ) (before : List (List ℕ × List ℕ)) (script : Script) (st : State) → AreCommands name script → Own name before st → Keeps (Own name before) (meaning script st)
-  commands_write name before Done st a h = h
-  commands_write name before (Then s rest) st a h =
-      then_keeps (Own name before) (effect s st) (meaning rest) (effect_writes name before s st a.0 h) (λ now k. commands_write name before rest now a.1 k)
-  commands_write name before (Choice subject cases rest) st a h =
-      begun_writes name before subject st _ a.0
-      (λ scope now k. then_keeps (Own name before) (chosen cases scope now) (meaning rest) (cases_write name before cases scope now a.1 k) (λ later l. commands_write name before rest later a.2 l)) h
-  commands_write name before (Check message other commands rest) st a h = absurd a
+  commands_write : (name : List ℕ) (first : State) (script : Script) (st : State) → AreCommands name script → OwnOnly name first st → Keeps (OwnOnly name first) (meaning script st)
+  commands_write name first Done st a h = h
+  commands_write name first (Then s rest) st a h =
+      then_keeps (OwnOnly name first) (effect s st) (meaning rest) (effect_writes name first s st a.0 h) (λ now k. commands_write name first rest now a.1 k)
+  commands_write name first (Choice subject cases rest) st a h =
+      begun_writes name first subject st _ a.0
+      (λ scope now k. then_keeps (OwnOnly name first) (chosen cases scope now) (meaning rest) (cases_write name first cases scope now a.1.0 k) (λ later l. commands_write name first rest later a.1.1 l)) h
+  commands_write name first (Check message other commands rest) st a h = absurd a
 
-  cases_write : (name : List ℕ) (before : List (List ℕ × List ℕ)) (cases : Cases) (scope : Scope) (st : State) → AreCommandsIn name cases → Own name before st → Keeps (Own name before) (chosen cases scope st)
-  cases_write name before No_case scope st a h = h
-  cases_write name before (Case when body more) scope st a h =
-      ends_either (λ how now. Own name before now) (is_taken when scope st.vars) (meaning body st) (chosen more scope st)
-      (commands_write name before body st a.0 h) (cases_write name before more scope st a.1 h)
+  cases_write : (name : List ℕ) (first : State) (cases : Cases) (scope : Scope) (st : State) → AreCommandsIn name cases → OwnOnly name first st → Keeps (OwnOnly name first) (chosen cases scope st)
+  cases_write name first No_case scope st a h = h
+  cases_write name first (Case when body more) scope st a h =
+      ends_either (λ how now. OwnOnly name first now) (is_taken when scope st.vars) (meaning body st) (chosen more scope st)
+      (commands_write name first body st a.0 h) (cases_write name first more scope st a.1 h)
 
 pub commands_write_alone : CommandsWriteAlone
-commands_write_alone commands name a st = commands_write name st.vars commands st a (inl refl)
+commands_write_alone commands name a st = commands_write name st commands st a (inl refl, refl)
 
 pub broken_check_leaves_variables : BrokenCheckLeavesVariables
-broken_check_leaves_variables message name commands st a =
-    broken_leaves_variables (check message name (meaning commands) st) st (commands_write_alone commands name a)
+broken_check_leaves_variables message name commands a st =
+    broken_same (check message name (meaning commands) st) st (commands_write_alone commands name a (checking (word_value message st.vars) st))

@@ -5,14 +5,14 @@ use Rattle.std.proofs.lemmas.Bool.{cases_Bool}
 use Rattle.crew.specs.declared.reply.Reply.{Reply}
 use Rattle.shellword.specs.Value.{word_value}
 use Rattle.syntax.specs.declared.statement.Plain as plain
-use Rattle.syntax.specs.declared.statement.Plain.TheVariants.{Init, Accepted, ConfigFiles, Assign, Subst, SubstValue, Define, DefineUnquoted, Error, ArgVar, CheckProg, CheckProgs, PathProg, ProgCc, Output}
+use Rattle.syntax.specs.declared.statement.Plain.TheVariants.{Assign}
 use Rattle.syntax.specs.declared.statement.Question.TheVariants.{Given, Tries}
 use Rattle.syntax.specs.declared.tree.Subject.{Subject}
 use Rattle.syntax.specs.declared.tree.Subject.TheVariants.{Nothing, Word, Asked}
+use Rattle.syntax.specs.Commands.{AssignsAlone, TriesAlone, AreCommands, AreCommandsIn}
 use Rattle.syntax.specs.Script.{Script, Done, Then, Choice, Check, Cases, No_case, Case}
 use Rattle.meaning.specs.State.{State, Scope, no_choice, about, answered, Goes_on, Completed, Stopped, Cut, Run, Ends, Asks, as_is}
 use Rattle.meaning.specs.Meaning.{effect, asked, is_taken, chosen}
-use Rattle.laws.specs.Commands.{SetsOnly, AsksNoOption, AreCommands, AreCommandsIn}
 use Rattle.laws.specs.Deeds.{Deed, Assigned, deeds_after, effect_deeds, yes_or_no, deeds_answered, subject_deeds, name_in, others_than, deeds, case_deeds, CommandsHaveNoDeeds}
 use Rattle.laws.proofs.Values.{same_self, cond_true, cond_false}
 
@@ -50,25 +50,12 @@ none_answered name (Asks jobs ask) rs rest h = none_answered name (ask (take (le
 own_assigned : (name variable : List ℕ) → variable ≡ name → NoOthers name (Assigned variable ∷ [])
 own_assigned name variable e = cond_true (bytes_eq name variable) [] (Assigned variable ∷ []) (ap (bytes_eq name) e ∙ same_self name)
 
-effect_none : (name : List ℕ) (s : plain.Plain) (st : State) (rs : List Reply) → SetsOnly name s → NoOthers name (effect_deeds s st rs)
+effect_none : (name : List ℕ) (s : plain.Plain) (st : State) (rs : List Reply) → AssignsAlone name s → NoOthers name (effect_deeds s st rs)
 unfolding effect_deeds
-effect_none name (Init title version bug tarname url) st rs a = absurd a
-effect_none name Accepted st rs a = refl
-effect_none name (ConfigFiles outputs) st rs a = refl
 effect_none name (Assign variable value) st rs a = own_assigned name variable a
-effect_none name (Subst variable) st rs a = refl
-effect_none name (SubstValue variable value) st rs a = own_assigned name variable a
-effect_none name (Define macro value) st rs a = refl
-effect_none name (DefineUnquoted macro value) st rs a = refl
-effect_none name (Error message status) st rs a = refl
-effect_none name (ArgVar variable help) st rs a = refl
-effect_none name (CheckProg variable program found otherwise) st rs a = absurd a
-effect_none name (CheckProgs variable programs otherwise) st rs a = absurd a
-effect_none name (PathProg variable program otherwise) st rs a = absurd a
-effect_none name (ProgCc programs) st rs a = absurd a
-effect_none name Output st rs a = absurd a
+effect_none name _ st rs a = absurd a
 
-subject_none : (name : List ℕ) (subject : Subject) (st : State) (rs : List Reply) (rest : Scope → State → List Reply → List Deed) → AsksNoOption subject → ((scope : Scope) (now : State) (left : List Reply) → NoOthers name (rest scope now left)) → NoOthers name (subject_deeds subject st rs rest)
+subject_none : (name : List ℕ) (subject : Subject) (st : State) (rs : List Reply) (rest : Scope → State → List Reply → List Deed) → TriesAlone subject → ((scope : Scope) (now : State) (left : List Reply) → NoOthers name (rest scope now left)) → NoOthers name (subject_deeds subject st rs rest)
 subject_none name Nothing st rs rest a h = h no_choice st rs
 subject_none name (Word word) st rs rest a h = h (about (word_value word st.vars)) st rs
 subject_none name (Asked (Given kind variable help)) st rs rest a h = absurd a
@@ -83,8 +70,8 @@ mutual
       none_both name (effect_deeds s st rs) (deeds_after (effect s st) rs (deeds rest)) (effect_none name s st rs a.0) (none_after name (effect s st) rs (deeds rest) (λ now left. commands_none name rest now left a.1))
   commands_none name (Choice subject cases rest) st rs a =
       subject_none name subject st rs _ a.0
-      (λ scope now left. none_both name (case_deeds cases scope now left) (deeds_after (chosen cases scope now) left (deeds rest)) (cases_none name cases scope now left a.1)
-      (none_after name (chosen cases scope now) left (deeds rest) (λ later l. commands_none name rest later l a.2)))
+      (λ scope now left. none_both name (case_deeds cases scope now left) (deeds_after (chosen cases scope now) left (deeds rest)) (cases_none name cases scope now left a.1.0)
+      (none_after name (chosen cases scope now) left (deeds rest) (λ later l. commands_none name rest later l a.1.1)))
   commands_none name (Check message other commands rest) st rs a = absurd a
 
   cases_none : (name : List ℕ) (cases : Cases) (scope : Scope) (st : State) (rs : List Reply) → AreCommandsIn name cases → NoOthers name (case_deeds cases scope st rs)

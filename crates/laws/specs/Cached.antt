@@ -23,7 +23,8 @@ StandsOnce name vars = IsUnset name (without_entry vars name)
 
 -- If the name has one entry at most, it has one at most at each end of the run. (own)
 abbrev pub KeepsOnce : List ℕ → (State → Run) → Type 0
-KeepsOnce name run = (st : State) → StandsOnce name st.vars → AtEnds (λ how now. StandsOnce name now.vars) (run st)
+KeepsOnce name run =
+    (st : State) → StandsOnce name st.vars → AtEnds (λ how now. StandsOnce name now.vars) (run st)
 
 -- Statements never give a name a second entry. (own)
 abbrev pub NamesStandOnce : Type 0
@@ -35,7 +36,8 @@ UnsetIfBroken name run = AtEnds (λ how now. Breaks how → IsUnset name now.var
 
 -- A test that doesn't continue leaves its name unset, if its body never gives the name a second entry. (own)
 abbrev pub BrokenIsUnset : Type 0
-BrokenIsUnset = (test : Test) (st : State) → KeepsOnce test.name test.body → UnsetIfBroken test.name (cached_test test st)
+BrokenIsUnset = (test : Test) (st : State) → KeepsOnce test.name test.body
+    → UnsetIfBroken test.name (cached_test test st)
 
 -- The test of a kind that begins, and doesn't continue, leaves its name unset. (own)
 abbrev pub BrokenRowIsUnset : Type 0
@@ -49,7 +51,8 @@ BrokenCheckIsUnset = (message : List Part) (name : List ℕ) (commands : Script)
 
 -- A name that is set is set at each end of any statements. (own)
 abbrev pub SetStaysSet : Type 0
-SetStaysSet = (script : Script) (name : List ℕ) (st : State) → IsSet name st.vars → AtEnds (λ how now. IsSet name now.vars) (meaning script st)
+SetStaysSet = (script : Script) (name : List ℕ) (st : State) → IsSet name st.vars
+    → AtEnds (λ how now. IsSet name now.vars) (meaning script st)
 
 -- The state after a test whose name is set to this value: it has printed what is checked, and the value. (Autoconf's
 -- manual, "Caching Results")
@@ -65,4 +68,5 @@ pub record AsksNothing (row : Row) (value : List ℕ) (st : State) : Type 0 wher
 
 -- This holds of each test whose name is set. (Autoconf's manual, "Caching Results")
 abbrev pub SetRowAsksNothing : Type 0
-SetRowAsksNothing = (row : Row) (value : List ℕ) (st : State) → value_of st.vars row.test.name ≡ Some value → AsksNothing row value st
+SetRowAsksNothing = (row : Row) (value : List ℕ) (st : State) → value_of st.vars row.test.name ≡ Some value
+    → AsksNothing row value st

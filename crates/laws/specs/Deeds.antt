@@ -11,6 +11,7 @@ use Rattle.syntax.specs.declared.statement.Question as asks
 use Rattle.syntax.specs.declared.statement.Question.TheVariants.{Given, Tries}
 use Rattle.syntax.specs.declared.tree.Subject.{Subject}
 use Rattle.syntax.specs.declared.tree.Subject.TheVariants.{Nothing, Word, Asked}
+use Rattle.syntax.specs.Commands.{AreCommands}
 use Rattle.syntax.specs.Script.{Script, Done, Then, Choice, Check, Cases, No_case, Case}
 use Rattle.meaning.specs.State.{State, Scope, no_choice, about, answered, Goes_on, Completed, Stopped, Cut, Run, Ends, Asks, as_is}
 use Rattle.meaning.specs.Tests.{checking, cached_test, tested}
@@ -18,7 +19,6 @@ use Rattle.meaning.specs.Rows.{Kind, Program, Search, name_of, value_or_empty, v
 use Rattle.meaning.specs.Play.{play, whole}
 use Rattle.meaning.specs.Meaning.{settled, is_unsettled, check_prog, path_prog, has_value, is_full_name, looks, looks_all, effect, value_name, asked, is_taken, check, meaning, chosen}
 use Rattle.laws.specs.Cached.{IsSet, IsUnset}
-use Rattle.laws.specs.Commands.{AreCommands}
 
 -- What a run did to a name: a statement assigned it, or a test that was run to its end left it set. (own)
 pub data Deed : Type 0 where
@@ -31,7 +31,8 @@ deeds_after (Ends Goes_on st) replies rest = rest st replies
 deeds_after (Ends Completed st) replies rest = []
 deeds_after (Ends (Stopped status) st) replies rest = []
 deeds_after (Ends Cut st) replies rest = []
-deeds_after (Asks jobs next) replies rest = deeds_after (next (take (length jobs) replies)) (drop (length jobs) replies) rest
+deeds_after (Asks jobs next) replies rest =
+    deeds_after (next (take (length jobs) replies)) (drop (length jobs) replies) rest
 
 -- The deed of a completed test, by the values of its name before and after it: a cached value is no deed. (own)
 abbrev pub left_set : List ℕ → Option (List ℕ) → Option (List ℕ) → List Deed
@@ -47,7 +48,8 @@ assigned_by (Program s own) = Assigned s.variable ∷ []
 abbrev pub kind_deeds : Kind → State → List Reply → List Deed
 kind_deeds kind st replies =
     deeds_after (tested (row_of kind st) st) replies
-    (λ now left. left_set (name_of kind) (value_of st.vars (name_of kind)) (value_of now.vars (name_of kind)) ++ assigned_by kind)
+    (λ now left. left_set (name_of kind) (value_of st.vars (name_of kind)) (value_of now.vars (name_of kind))
+    ++ assigned_by kind)
 
 -- The deeds of the test of a program; `counts` says whether the variable's own value counts. (own)
 abbrev pub program_deeds : Search → Bool → State → List Reply → List Deed
@@ -64,7 +66,8 @@ look_deeds variable program always st replies =
 abbrev pub looks_deeds : List ℕ → List (List ℕ) → Bool → State → List Reply → List Deed
 looks_deeds variable [] always st replies = []
 looks_deeds variable (program ∷ more) always st replies =
-    look_deeds variable program always st replies ++ deeds_after (looks variable program always st) replies (looks_deeds variable more false)
+    look_deeds variable program always st replies
+    ++ deeds_after (looks variable program always st) replies (looks_deeds variable more false)
 
 -- A variable that is empty is assigned its default, if it has one. (own)
 abbrev pub default_deeds : List ℕ → Option (List Part) → State → List Deed
@@ -90,13 +93,18 @@ effect_deeds (DefineUnquoted name value) st replies = []
 effect_deeds (Error message status) st replies = []
 effect_deeds (ArgVar name help) st replies = []
 effect_deeds (CheckProg variable program found otherwise) st replies =
-    program_deeds (check_prog variable program (word_value found st.vars) (option_map (λ t. word_value t st.vars) otherwise)) (has_value st variable) st replies
+    program_deeds (check_prog variable program (word_value found st.vars) (option_map (λ t. word_value t st.vars) otherwise))
+    (has_value st variable) st replies
 effect_deeds (CheckProgs variable programs otherwise) st replies =
-    looks_deeds variable programs true st replies ++ deeds_after (looks_all variable programs true st) replies (λ now left. default_deeds variable otherwise now)
+    looks_deeds variable programs true st replies
+    ++ deeds_after (looks_all variable programs true st) replies (λ now left. default_deeds variable otherwise now)
 effect_deeds (PathProg variable program otherwise) st replies =
-    program_deeds (path_prog variable program (option_map (λ t. word_value t st.vars) otherwise)) (is_full_name (value_or_empty st variable)) st replies
+    program_deeds (path_prog variable program (option_map (λ t. word_value t st.vars) otherwise))
+    (is_full_name (value_or_empty st variable)) st replies
 effect_deeds (ProgCc programs) st replies = looks_deeds (codes "CC") programs true st replies
-effect_deeds Output st replies = prefix_deeds (codes "prefix") st ++ prefix_deeds (codes "exec_prefix") (settled (codes "prefix") (codes "/usr/local") st)
+effect_deeds Output st replies =
+    prefix_deeds (codes "prefix") st
+    ++ prefix_deeds (codes "exec_prefix") (settled (codes "prefix") (codes "/usr/local") st)
 
 -- An option that is given assigns its variable. (own)
 abbrev pub given_deeds : Option (List ℕ) → OptionKind → List Deed
@@ -108,23 +116,25 @@ abbrev pub question_deeds : asks.Question → State → List Deed
 question_deeds (Given kind variable help) st = given_deeds (value_of st.vars variable) kind
 question_deeds (Tries kind program) st = []
 
--- A run that asks a question and continues if the answer is yes, and completes if it is no, is asked with this. (own)
+-- What a question is asked with here: the run continues if the answer is yes, and completes if it is no. (own)
 abbrev pub yes_or_no : Scope → State → Run
 yes_or_no scope st = Ends (if scope.answer then Goes_on else Completed) st
 
--- The deeds after the answer of such a run. (own)
+-- The deeds after the answer of such a run, if there is one. (own)
 abbrev pub deeds_answered : Run → List Reply → (Scope → State → List Reply → List Deed) → List Deed
 deeds_answered (Ends Goes_on st) replies rest = rest (answered true) st replies
 deeds_answered (Ends Completed st) replies rest = rest (answered false) st replies
 deeds_answered (Ends (Stopped status) st) replies rest = []
 deeds_answered (Ends Cut st) replies rest = []
-deeds_answered (Asks jobs next) replies rest = deeds_answered (next (take (length jobs) replies)) (drop (length jobs) replies) rest
+deeds_answered (Asks jobs next) replies rest =
+    deeds_answered (next (take (length jobs) replies)) (drop (length jobs) replies) rest
 
 -- The deeds of a choice, from the beginning of its subject. (own)
 abbrev pub subject_deeds : Subject → State → List Reply → (Scope → State → List Reply → List Deed) → List Deed
 subject_deeds Nothing st replies rest = rest no_choice st replies
 subject_deeds (Word word) st replies rest = rest (about (word_value word st.vars)) st replies
-subject_deeds (Asked question) st replies rest = question_deeds question st ++ deeds_answered (asked as_is question st yes_or_no) replies rest
+subject_deeds (Asked question) st replies rest =
+    question_deeds question st ++ deeds_answered (asked as_is question st yes_or_no) replies rest
 
 -- The name of a deed. (own)
 abbrev pub name_in : Deed → List ℕ
@@ -134,7 +144,8 @@ name_in (Tested name) = name
 -- The deeds about other names. (own)
 abbrev pub others_than : List ℕ → List Deed → List Deed
 others_than name [] = []
-others_than name (deed ∷ more) = if bytes_eq name (name_in deed) then others_than name more else deed ∷ others_than name more
+others_than name (deed ∷ more) =
+    if bytes_eq name (name_in deed) then others_than name more else deed ∷ others_than name more
 
 -- The deeds of AC_CACHE_CHECK, given the value of its name and the deeds of its commands: what these do to its own name
 -- is no deed. (own)
@@ -149,7 +160,8 @@ unfoldable mutual
   deeds Done st replies = []
   deeds (Then s rest) st replies = effect_deeds s st replies ++ deeds_after (effect s st) replies (deeds rest)
   deeds (Choice subject cases rest) st replies =
-      subject_deeds subject st replies (λ scope now left. case_deeds cases scope now left ++ deeds_after (chosen cases scope now) left (deeds rest))
+      subject_deeds subject st replies
+      (λ scope now left. case_deeds cases scope now left ++ deeds_after (chosen cases scope now) left (deeds rest))
   deeds (Check message name commands rest) st replies =
       check_deeds (value_of st.vars name) name (deeds commands (checking (word_value message st.vars) st) replies)
       (cached_test (check message name (meaning commands) st) st) replies
@@ -158,7 +170,8 @@ unfoldable mutual
   -- The deeds of the first case that is taken, if any. (own)
   pub case_deeds : Cases → Scope → State → List Reply → List Deed
   case_deeds No_case scope st replies = []
-  case_deeds (Case when body more) scope st replies = if is_taken when scope st.vars then deeds body st replies else case_deeds more scope st replies
+  case_deeds (Case when body more) scope st replies =
+      if is_taken when scope st.vars then deeds body st replies else case_deeds more scope st replies
 
 -- A deed is among these. (own)
 abbrev pub Among : Deed → List Deed → Type 0
@@ -169,18 +182,22 @@ Among deed (first ∷ more) = (first ≡ deed) ⊎ Among deed more
 abbrev pub ComesFrom : List ℕ → List (List ℕ × List ℕ) → List Deed → Type 0
 ComesFrom name before ds = IsSet name before ⊎ (Among (Assigned name) ds ⊎ Among (Tested name) ds)
 
--- Exactly these names are set after the deeds, and a name that a completed test left set was unset before them. (own)
+-- Exactly these names are set after the deeds. A name that a completed test left set was unset before them, and a name
+-- that was set before them and is not assigned keeps its value. (own)
 pub record Accounts (before : List (List ℕ × List ℕ)) (ds : List Deed) (now : List (List ℕ × List ℕ)) : Type 0 where
   pub only : (name : List ℕ) → IsSet name now → ComesFrom name before ds
   pub all : (name : List ℕ) → ComesFrom name before ds → IsSet name now
   pub tested : (name : List ℕ) → Among (Tested name) ds → IsUnset name before
+  pub keeps : (name value : List ℕ) → value_of before name ≡ Some value → (Among (Assigned name) ds → ⊥)
+      → value_of now name ≡ Some value
 
 -- The deeds of a run account for the names that are set at its end, whatever the replies. (own)
 abbrev pub DeedsAccount : Type 0
 DeedsAccount = (script : Script) (st : State) (replies : List Reply)
     → Accounts st.vars (deeds script st replies) (play (whole (meaning script st)) replies).state.vars
 
--- The commands that AC_CACHE_CHECK may have do nothing to other names: its deeds are those of its test alone. (own)
+-- Commands of AC_CACHE_CHECK do nothing to other names: its deeds are those of its test alone. (own)
 abbrev pub CommandsHaveNoDeeds : Type 0
-CommandsHaveNoDeeds = (commands : Script) (name : List ℕ) (st : State) (replies : List Reply) → AreCommands name commands
+CommandsHaveNoDeeds = (commands : Script) (name : List ℕ) (st : State) (replies : List Reply)
+    → AreCommands name commands
     → others_than name (deeds commands st replies) ≡ []

@@ -1,9 +1,13 @@
 //! Laws of the meaning: theorems on what a run of statements leaves in its variables.
 //!
 //! There is no code here. Each function does nothing, and its contract is a theorem on the definitions of `meaning`.
-//! Read `specs/Ends.antt` (what holds at the ends of a run), `specs/Cached.antt` (cached
-//! tests: their names), `specs/Commands.antt` (tests that set their name alone), then
-//! `specs/Deeds.antt` (what each name that is set at the end comes from).
+//! Read `specs/Ends.antt` (what holds at the ends of a run), `specs/Cached.antt` (cached tests: their names),
+//! `specs/Commands.antt` (tests that set their name alone), then `specs/Deeds.antt` (what each name that is set at the end
+//! comes from).
+//!
+//! For example, say that AC_CACHE_CHECK of the name `v_cv_x` has the commands `v_cv_x=no` and then a program that is
+//! compiled, and that the compiler can't be started. By `broken_check_is_unset` the name is unset at the end, and by
+//! `broken_check_leaves_variables` all variables and definitions are as they were.
 #![tactic(auto)]
 
 ghost use Rattle.laws.specs.Cached.{NamesStandOnce, BrokenIsUnset, BrokenRowIsUnset, BrokenCheckIsUnset, SetStaysSet, SetRowAsksNothing};
@@ -51,19 +55,20 @@ pub fn broken_row_leaves_variables()
     ensures same { BrokenRowLeavesVariables }
 {}
 
-/// The commands that AC_CACHE_CHECK may have set its name alone.
+/// The commands that AC_CACHE_CHECK may have set its name alone, and define nothing.
 pub fn commands_write_alone()
     ensures alone { CommandsWriteAlone }
 {}
 
-/// AC_CACHE_CHECK with such commands leaves the variables as they were if it doesn't continue.
+/// AC_CACHE_CHECK with such commands leaves variables and definitions as they were if it doesn't continue.
 pub fn broken_check_leaves_variables()
     ensures same { BrokenCheckLeavesVariables }
 {}
 
 /// The names that are set at the end of a run are exactly those that were set at its beginning, those that a statement
-/// assigned, and those that a completed test left set. Such a test was of a name that was unset at the beginning. What the
-/// commands of AC_CACHE_CHECK do to its own name does not count.
+/// assigned, and those that a completed test left set. Such a test was of a name that was unset at the beginning. A
+/// name that was set and that no statement assigned keeps its value. What the commands of AC_CACHE_CHECK do to its own name
+/// does not count.
 pub fn deeds_account()
     ensures account { DeedsAccount }
 {}
