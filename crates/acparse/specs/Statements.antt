@@ -43,7 +43,7 @@ use Rattle.acparse.specs.Profile.{when_of, subject_of, case_args, case_if, actio
 abbrev pub Within : Type 1
 Within = declarations.Declarations → Span → Script → Type 0
 
--- A call of the macro is a statement between what precedes it and the items after it. (own)
+-- A call of the macro is a statement between what precedes it and the items after it, and the scene may hold it. (own)
 pub record MayStand (scene : Scene) (stage : Stage) (edge : Edge) (name : List ℕ) (args : List Span) (at : ℕ) (following : List Entry) (m : Macro) : Type 0 where
   pub row : Row
   pub known : row_named name ≡ Some row

@@ -28,6 +28,7 @@ use acstatement::fault::quote_fault;
 use acstatement::inside::inside;
 use acstatement::stand::{Edge, NO_EDGE, edge_of, is_statement};
 use acstatement::texts::arg_at;
+use deftable::Name;
 use m4quote::{Arg, Item, read_items_at};
 use std::alloc::{AllocError, Global};
 use syntax::declarations::{declare, declare_question};
@@ -354,6 +355,16 @@ fn read_question(
     ))
 }
 
+/// Returns the scene of the commands in an argument, which set this name.
+fn commands_in<'a>(name: &'a Name, arg: Arg<'_>) -> Scene<'a>
+    ensures { scene_of result ≡ scenes.Commands name.now (span arg.entry).at }
+{
+    Scene::Commands {
+        name: name.as_slice(),
+        at: arg.at,
+    }
+}
+
 /// Reads AC_CACHE_CHECK.
 #[cycle(list)]
 #[tactic(auto, unfolding(crate::specs::Profile::check_of))]
@@ -369,11 +380,7 @@ fn read_check(
     let message = here_text(alloc, arg_at(args, 0))?;
     let name = cache_name(alloc, arg_at(args, 1))?;
     let arg = arg_at(args, 2);
-    let scene = Scene::Commands {
-        name: name.as_slice(),
-        at: arg.at,
-    };
-    let commands = read_body(alloc, room, scene, known, arg);
+    let commands = read_body(alloc, room, commands_in(&name, arg), known, arg);
     commands.map(|commands| cache_check(message, name, commands))
 }
 
