@@ -6,7 +6,7 @@ use Rattle.conftest.specs.declared.job.Job.{Job}
 use Rattle.crew.specs.declared.reply.Reply.{Reply}
 use Rattle.crew.specs.declared.reply.Reply.TheVariants.{StartRefused}
 use Rattle.machine.specs.Standing.{Standing, run_under, run_in, run_at, left_in, run_left, Shows, CutsAt, Refusals, Holds, Fits, fits_in, Turned, outcome_of, outcome_by}
-use Rattle.searching.specs.Waits.{given, refused_rest, early_in, with_asked}
+use Rattle.searching.specs.Waits.{given, refused_rest, tests_in, with_asked}
 use Rattle.machine.specs.declared.machine.Outcome.{Outcome}
 use Rattle.machine.specs.declared.machine.Outcome.TheVariants as outcome
 use Rattle.machine.specs.declared.machine.Phase.{Phase}
@@ -15,6 +15,7 @@ use Rattle.machine.specs.declared.machine.RunEnd.{RunEnd}
 use Rattle.machine.specs.declared.machine.Turn.{Turn}
 use Rattle.machine.specs.declared.machine.Turn.TheVariants as turn
 use Rattle.searching.specs.declared.wait.Wait.TheVariants as waits
+use Rattle.meaning.specs.Tests.{refused_all}
 use Rattle.meaning.specs.Play.{play, after, first_refused, refused_after, with_cut_line, whole}
 use Rattle.meaning.specs.State.{State, How, Goes_on, Completed, Stopped, Cut, Run, Ends, Asks}
 use Rattle.plan.specs.Walk.{empty_mind, Instruction, walk}
@@ -76,7 +77,7 @@ next_of plan m replies = run_under replies plan m
 
 -- The state of a machine that is cut short because the starts of its jobs, one more than n, are refused.
 abbrev last_of : ℕ → Standing → State
-last_of n m = with_cut_line (refused_after m.before (StartRefused ∷ replicate n StartRefused)) (early_in m.wait Cut (with_asked m.jobs (StartRefused ∷ replicate n StartRefused) m.state))
+last_of n m = with_cut_line (refused_after m.before (StartRefused ∷ replicate n StartRefused)) (refused_all (tests_in m.wait m.mind.open_tests) (with_asked m.jobs (StartRefused ∷ replicate n StartRefused) m.state))
 
 fits_at : (p : Phase) (plan : List Instruction) (m : Standing) → p ≡ phase.Asking → fits_in p plan m → Holds plan m
 fits_at p plan m e h = let q : fits_in phase.Asking plan m = subst (λ x. fits_in x plan m) e h in q
