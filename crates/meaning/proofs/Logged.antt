@@ -24,7 +24,7 @@ use Rattle.syntax.specs.Script.{Script, Done, Then, Choice, Check, Cases, No_cas
 use Rattle.meaning.specs.State.{State, piece, told, with_child, with_variable, without_variable, Scope, answered, How, Goes_on, Completed, Stopped, Cut, Run, Ends, Asks, then_run, ended, as_is}
 use Rattle.meaning.specs.Asking.{success, only_reply, heard, child, compiled, no_compiler, same, Attempt, attempted}
 use Rattle.meaning.specs.Tests.{Test, broken, guarded, checking, test_by, cached_test, with_value, tested_by, may_begin, tested}
-use Rattle.meaning.specs.Rows.{Kind, Program, name_of, attempts_of, otherwise_of, after_of, row_of}
+use Rattle.meaning.specs.Rows.{Listed, Header, Function, Declaration, Kind, Program, Single, Sized, symbol_part, is_yes, defined_if, name_of, attempts_of, otherwise_of, after_of, row_of}
 use Rattle.meaning.specs.Package.{initialised}
 use Rattle.meaning.specs.Play.{first_number, refused_after, with_cut_line, cut_line, last_words}
 use Rattle.meaning.specs.Tries.{first_probe, after_first, text_of}
@@ -101,8 +101,18 @@ cached_logs t st h =
     let s = checking t.message st in
     subst (λ x. Logs x (cached_test t st)) (told_kids Out (codes "checking " ++ t.message ++ codes "... ") st) (by_logs (value_of st.vars t.name) t s (h s))
 
+defined_kids : (b : Bool) (name : List ℕ) (st : State) → kids (defined_if b name st) ≡ kids st
+defined_kids true name st = refl
+defined_kids false name st = refl
+
 after_kids : (kind : Kind) (value : Option (List ℕ)) (st : State) → kids (after_of kind value st) ≡ kids st
 after_kids (Program s own) value st = refl
+after_kids (Single listed entry includes false) value st = refl
+after_kids (Single Header entry includes true) value st = defined_kids (is_yes value) (codes "HAVE_" ++ symbol_part entry) st
+after_kids (Single Function entry includes true) value st = defined_kids (is_yes value) (codes "HAVE_" ++ symbol_part entry) st
+after_kids (Single Declaration entry includes true) value st = refl
+after_kids (Sized name includes false) value st = refl
+after_kids (Sized name includes true) value st = defined_kids (is_yes value) (codes "HAVE_" ++ symbol_part name) st
 
 value_kids : (name : List ℕ) (value : Option (List ℕ)) (st : State) → kids (with_value name value st) ≡ kids st
 value_kids name None st = refl

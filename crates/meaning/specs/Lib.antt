@@ -8,3 +8,4 @@ pub mod Package
 pub mod Tries
 pub mod Meaning
 pub mod Laws
+pub mod Batches

@@ -1,8 +1,13 @@
 -- The rows of the kinds of tests.
-use Rattle.std.specs.Prelude.{ℕ, Bool, true, false, List, [], ◌∷◌, ◌++◌, Option, Some, None, codes, map, unwrap_or}
-use Rattle.conftest.specs.Probe.{path_of}
+use Rattle.std.specs.Prelude.{ℕ, Bool, true, false, List, [], ◌∷◌, ◌++◌, Option, Some, None, codes, map, unwrap_or, is_some, bytes_eq, if◌then◌else◌}
+use Rattle.conftest.specs.declared.job.Job.{Job}
+use Rattle.conftest.specs.Probe.{Probe, Compile, Link, path_of, job_of}
+use Rattle.csource.specs.Sources.{default_includes, header_source, function_source, declaration_source, type_source, second_type_source}
 use Rattle.deftable.specs.Table.{value_of}
-use Rattle.meaning.specs.State.{State, with_variable}
+use Rattle.m4quote.specs.Names.{sh_byte, cpp_byte}
+use Rattle.shellword.specs.declared.part.Part.{Part}
+use Rattle.shellword.specs.Value.{word_value}
+use Rattle.meaning.specs.State.{State, with_variable, with_definition}
 use Rattle.meaning.specs.Asking.{Attempt}
 use Rattle.meaning.specs.Tests.{Row, by_attempts}
 use Rattle.meaning.specs.Directories.{directories_of}
@@ -16,9 +21,19 @@ pub record Search : Type 0 where
   pub found : Option (List ℕ)
   pub otherwise : Option (List ℕ)
 
--- The kinds of tests. `own` is the variable's own value, if it counts. (own)
+-- What one child decides: whether a header can be included, a function linked, or a name is declared. (Autoconf's manual,
+-- "Generic Headers", "Generic Functions" and "Generic Declarations")
+pub data Listed : Type 0 where
+  Header : Listed
+  Function : Listed
+  Declaration : Listed
+
+-- The kinds of tests: a program, what one child decides, and a type. `own` is the variable's own value, if it counts.
+-- `defines` says whether the result is defined, as the macros of lists do. (own)
 pub data Kind : Type 0 where
   Program : (search : Search) (own : Option (List ℕ)) → Kind
+  Single : (listed : Listed) (entry : List ℕ) (includes : Option (List Part)) (defines : Bool) → Kind
+  Sized : (name : List ℕ) (includes : Option (List Part)) (defines : Bool) → Kind
 
 -- A variable's value, or the empty text if it isn't set. (POSIX shell, "Parameter Expansion")
 abbrev pub value_or_empty : State → List ℕ → List ℕ
@@ -53,34 +68,114 @@ abbrev pub text_or_no : List ℕ → List ℕ
 text_or_no [] = codes "no"
 text_or_no (b ∷ bs) = b ∷ bs
 
--- The name of the test. (Autoconf's manual, "Cache Variables")
+-- The text as the end of a shell variable's name. (Autoconf's manual, AS_TR_SH in "Common Shell Constructs")
+abbrev pub shell_part : List ℕ → List ℕ
+shell_part text = map sh_byte text
+
+-- The text as the end of a preprocessor symbol. (Autoconf's manual, AS_TR_CPP in "Common Shell Constructs")
+abbrev pub symbol_part : List ℕ → List ℕ
+symbol_part text = map cpp_byte text
+
+-- The cached name of an entry. (Autoconf's manual, "Cache Variable Names")
+abbrev pub entry_name : Listed → List ℕ → List ℕ
+entry_name Header entry = codes "ac_cv_header_" ++ shell_part entry
+entry_name Function entry = codes "ac_cv_func_" ++ shell_part entry
+entry_name Declaration entry = codes "ac_cv_have_decl_" ++ shell_part entry
+
+-- What is checked of an entry. (Autoconf's manual, "Printing Messages")
+abbrev pub entry_message : Listed → List ℕ → List ℕ
+entry_message Header entry = codes "for " ++ entry
+entry_message Function entry = codes "for " ++ entry
+entry_message Declaration entry = codes "whether " ++ entry ++ codes " is declared"
+
+-- The value of the includes, or the default ones if there are none. (Autoconf's manual, "Default Includes")
+abbrev pub includes_text : Option (List Part) → List (List ℕ × List ℕ) → List ℕ
+includes_text None vars = default_includes
+includes_text (Some text) vars = word_value text vars
+
+-- The task of the child that decides about an entry. (Autoconf's manual, "Generic Headers", "Generic Functions" and
+-- "Generic Declarations")
+abbrev pub entry_probe : Listed → List ℕ → List ℕ → Probe
+entry_probe Header entry includes = Compile (header_source includes entry)
+entry_probe Function entry includes = Link (function_source entry)
+entry_probe Declaration entry includes = Compile (declaration_source includes entry)
+
+-- The job of that child, with its number; none if there is no compiler. (own)
+abbrev pub entry_job : Listed → List ℕ → Option (List Part) → ℕ → State → Option Job
+entry_job listed entry includes number st =
+    job_of (entry_probe listed entry (includes_text includes st.vars)) number st.vars st.defs
+
+-- The job that compiles the program made of the includes and the name of a type; none if there is no compiler.
+-- (Autoconf's manual, "Generic Types")
+abbrev pub type_job : (List ℕ → List ℕ → List ℕ) → List ℕ → Option (List Part) → State → Option Job
+type_job program name includes st = job_of (Compile (program (includes_text includes st.vars) name)) 0 st.vars st.defs
+
+-- The test has found what it looks for: its value is `yes`. (Autoconf's manual, "Caching Results")
+abbrev pub is_yes : Option (List ℕ) → Bool
+is_yes None = false
+is_yes (Some value) = bytes_eq value (codes "yes")
+
+-- A name is defined as 1 if this is true. (own)
+abbrev pub defined_if : Bool → List ℕ → State → State
+defined_if true name st = with_definition name (codes "1") st
+defined_if false name st = st
+
+-- What the result of an entry defines: `HAVE_` and its name if it is found, and for a declaration `HAVE_DECL_` and its name,
+-- as 1 or 0. (Autoconf's manual, "Generic Headers", "Generic Functions" and "Generic Declarations")
+abbrev pub with_entry_defined : Listed → List ℕ → Bool → State → State
+with_entry_defined Header entry found st = defined_if found (codes "HAVE_" ++ symbol_part entry) st
+with_entry_defined Function entry found st = defined_if found (codes "HAVE_" ++ symbol_part entry) st
+with_entry_defined Declaration entry found st =
+    with_definition (codes "HAVE_DECL_" ++ symbol_part entry) (if found then codes "1" else codes "0") st
+
+-- The name of the test. (Autoconf's manual, "Cache Variable Names")
 abbrev pub name_of : Kind → List ℕ
 name_of (Program s own) = s.name
+name_of (Single listed entry includes defines) = entry_name listed entry
+name_of (Sized name includes defines) = codes "ac_cv_type_" ++ shell_part name
 
 -- What is checked. (Autoconf's manual, "Printing Messages")
 abbrev pub message_of : Kind → List ℕ
 message_of (Program s own) = codes "for " ++ s.program
+message_of (Single listed entry includes defines) = entry_message listed entry
+message_of (Sized name includes defines) = codes "for " ++ name
 
--- The children of the test. (Autoconf's manual, "Generic Programs")
+-- The children of the test. A type is found if it has a size, and has none in parentheses, as a value would. (Autoconf's
+-- manual, "Generic Programs" and "Generic Types")
 abbrev pub attempts_of : Kind → State → List Attempt
 attempts_of (Program s own) st = program_attempts own s (directories_of (value_or_empty st (codes "PATH")))
+attempts_of (Single listed entry includes defines) st =
+    record { job = entry_job listed entry includes 0 st; ends_on = true; value = Some (codes "yes") } ∷ []
+attempts_of (Sized name includes defines) st =
+    record { job = type_job type_source name includes st; ends_on = false; value = Some (codes "no") }
+    ∷ record { job = type_job second_type_source name includes st; ends_on = true; value = Some (codes "no") } ∷ []
 
 -- The value if no child ends the test. (Autoconf's manual, "Generic Programs")
 abbrev pub otherwise_of : Kind → Option (List ℕ)
 otherwise_of (Program s own) = first_of own s.otherwise
+otherwise_of (Single listed entry includes defines) = Some (codes "no")
+otherwise_of (Sized name includes defines) = Some (codes "yes")
 
 -- What is printed of the value. (Autoconf's manual, "Printing Messages")
 abbrev pub shown_of : Kind → Option (List ℕ) → List ℕ
 shown_of (Program s own) value = text_or_no (unwrap_or value [])
+shown_of (Single listed entry includes defines) value = unwrap_or value []
+shown_of (Sized name includes defines) value = unwrap_or value []
 
--- The test can begin. (own)
+-- The test can begin: it needs no compiler, or there is one. (own)
 abbrev pub is_ready : Kind → State → Bool
 is_ready (Program s own) st = true
+is_ready (Single listed entry includes defines) st = is_some (entry_job listed entry includes 0 st)
+is_ready (Sized name includes defines) st = is_some (type_job type_source name includes st)
 
--- What is done with the value: a program's variable gets it, or is set to the empty text. (Autoconf's manual, "Generic
--- Programs")
+-- What is done with the value: a program's variable gets it, or is set to the empty text, and the macros of lists define
+-- the result. (Autoconf's manual, "Generic Programs", "Generic Headers" and "Generic Types")
 abbrev pub after_of : Kind → Option (List ℕ) → State → State
 after_of (Program s own) value st = with_variable s.variable (unwrap_or value []) st
+after_of (Single listed entry includes true) value st = with_entry_defined listed entry (is_yes value) st
+after_of (Single listed entry includes false) value st = st
+after_of (Sized name includes true) value st = defined_if (is_yes value) (codes "HAVE_" ++ symbol_part name) st
+after_of (Sized name includes false) value st = st
 
 -- The test of a kind, as a statement has it. (own)
 abbrev pub row_of : Kind → State → Row
