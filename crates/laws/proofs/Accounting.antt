@@ -21,7 +21,7 @@ use Rattle.syntax.specs.Script.{Script, Done, Then, Choice, Check, Cases, No_cas
 use Rattle.meaning.specs.State.{State, Scope, no_choice, about, answered, How, Goes_on, Completed, Stopped, Cut, Run, Ends, Asks, then_run, as_is, with_child, with_variable}
 use Rattle.meaning.specs.Asking.{success, only_reply, heard, child, compiled}
 use Rattle.meaning.specs.Tests.{Test, guarded, checking, with_result, cached_test, tested_by, may_begin, tested}
-use Rattle.meaning.specs.Rows.{Kind, Program, name_of, value_or_empty, value_if, after_of, row_of}
+use Rattle.meaning.specs.Rows.{Listed, Header, Function, Declaration, Kind, Program, Single, Sized, entry_name, shell_part, symbol_part, is_yes, defined_if, name_of, value_or_empty, value_if, after_of, row_of}
 use Rattle.meaning.specs.Package.{package_string, initialised}
 use Rattle.meaning.specs.Play.{play, first_number, refused_after, with_cut_line, last_words}
 use Rattle.meaning.specs.Tries.{first_probe, after_first, text_of}
@@ -201,9 +201,21 @@ set_deeds name before mid own =
 -- How a test in a statement ends: it leaves the variables, or wrote its name alone and then what follows.
 abbrev AfterVars : Kind → Variables → Variables → Type 0
 AfterVars (Program s own) mid now = (value : List ℕ) × (now ≡ with_entry mid s.variable value)
+AfterVars (Single listed entry includes defines) mid now = now ≡ mid
+AfterVars (Sized name includes defines) mid now = now ≡ mid
+
+defined_vars : (b : Bool) (name : List ℕ) (st : State) → (defined_if b name st).vars ≡ st.vars
+defined_vars true name st = refl
+defined_vars false name st = refl
 
 after_through : (kind : Kind) (value : Option (List ℕ)) (st : State) → AfterVars kind st.vars (after_of kind value st).vars
 after_through (Program s own) value st = (unwrap_or value [], refl)
+after_through (Single listed entry includes false) value st = refl
+after_through (Single Header entry includes true) value st = defined_vars (is_yes value) (codes "HAVE_" ++ symbol_part entry) st
+after_through (Single Function entry includes true) value st = defined_vars (is_yes value) (codes "HAVE_" ++ symbol_part entry) st
+after_through (Single Declaration entry includes true) value st = refl
+after_through (Sized name includes false) value st = refl
+after_through (Sized name includes true) value st = defined_vars (is_yes value) (codes "HAVE_" ++ symbol_part name) st
 
 record KindEnds (kind : Kind) (before : Variables) (how : How) (now : Variables) : Type 0 where
   pub breaks : Breaks how → now ≡ before
@@ -255,11 +267,21 @@ variable_accounts name variable value before mid own =
     (writes_more before mid (left_set name (value_of before name) (value_of mid name)) variable value (set_deeds name before mid own)))
     (cases_Bool (bytes_eq name variable))
 
+same_accounts : (name : List ℕ) (before mid now : Variables) → TestWrites name before mid → now ≡ mid
+    → Accounts before (left_set name (value_of before name) (value_of now name) ++ []) now
+same_accounts name before mid now alone same =
+    subst (λ l. Accounts before (left_set name (value_of before name) (value_of l name) ++ []) l) (sym same)
+    (subst (λ ds. Accounts before ds mid) (sym (append-nil (left_set name (value_of before name) (value_of mid name)))) (set_deeds name before mid alone))
+
 after_accounts : (kind : Kind) (before mid now : Variables) → TestWrites (name_of kind) before mid → AfterVars kind mid now
     → Accounts before (left_set (name_of kind) (value_of before (name_of kind)) (value_of now (name_of kind)) ++ assigned_by kind) now
 after_accounts (Program s own) before mid now alone after =
     subst (λ l. Accounts before (left_set s.name (value_of before s.name) (value_of l s.name) ++ Assigned s.variable ∷ []) l) (sym after.1)
     (variable_accounts s.name s.variable after.0 before mid alone)
+after_accounts (Single listed entry includes defines) before mid now alone after =
+    same_accounts (entry_name listed entry) before mid now alone after
+after_accounts (Sized name includes defines) before mid now alone after =
+    same_accounts (codes "ac_cv_type_" ++ shell_part name) before mid now alone after
 
 kind_accounts : (kind : Kind) (st : State) (rs : List Reply) → Accounts st.vars (kind_deeds kind st rs) (play (tested (row_of kind st) st) rs).state.vars
 kind_accounts kind st rs =

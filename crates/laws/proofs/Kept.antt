@@ -21,7 +21,7 @@ use Rattle.syntax.specs.Script.{Script, Done, Then, Choice, Check, Cases, No_cas
 use Rattle.meaning.specs.State.{State, told, with_child, with_variable, with_definition, without_variable, Scope, answered, How, Goes_on, Completed, Stopped, Cut, Run, Ends, then_run, as_is}
 use Rattle.meaning.specs.Asking.{no_compiler}
 use Rattle.meaning.specs.Tests.{Test, broken, guarded, checking, cached_test, with_value, tested_by, may_begin, tested}
-use Rattle.meaning.specs.Rows.{Kind, Program, name_of, attempts_of, otherwise_of, after_of, row_of}
+use Rattle.meaning.specs.Rows.{Listed, Header, Function, Declaration, Kind, Program, Single, Sized, symbol_part, is_yes, defined_if, name_of, attempts_of, otherwise_of, after_of, row_of}
 use Rattle.meaning.specs.Package.{with_package, package_string, literal, initialised}
 use Rattle.meaning.specs.Tries.{first_probe, after_first, text_of}
 use Rattle.meaning.specs.Meaning.{settled, is_unsettled, has_value, check_prog, looks, looks_all, defaulted, error_line, effect, value_name, given, asked, begun, is_taken, check, meaning, chosen}
@@ -72,8 +72,19 @@ body_keeps I c kind first st h =
     ends_attempted I (λ how now. I now) c.children (attempts_of kind first) (otherwise_of kind) (λ value now. Ends Goes_on (with_value (name_of kind) value now))
     (λ now k. c.tells Err no_compiler now k) (λ now k. k) (λ value now k. value_keeps I c (name_of kind) value now k) st h
 
+defined_keeps : (I : State → Type 0) → Closed I → (b : Bool) (name : List ℕ) (st : State) → I st → I (defined_if b name st)
+defined_keeps I c true name st h = c.definitions name (codes "1") st h
+defined_keeps I c false name st h = h
+
 after_keeps : (I : State → Type 0) → Closed I → (kind : Kind) (value : Option (List ℕ)) (st : State) → I st → I (after_of kind value st)
 after_keeps I c (Program s own) value st h = c.variables s.variable (unwrap_or value []) st h
+after_keeps I c (Single listed entry includes false) value st h = h
+after_keeps I c (Single Header entry includes true) value st h = defined_keeps I c (is_yes value) (codes "HAVE_" ++ symbol_part entry) st h
+after_keeps I c (Single Function entry includes true) value st h = defined_keeps I c (is_yes value) (codes "HAVE_" ++ symbol_part entry) st h
+after_keeps I c (Single Declaration entry includes true) value st h =
+    c.definitions (codes "HAVE_DECL_" ++ symbol_part entry) (cond (is_yes value) (codes "1") (codes "0")) st h
+after_keeps I c (Sized name includes false) value st h = h
+after_keeps I c (Sized name includes true) value st h = defined_keeps I c (is_yes value) (codes "HAVE_" ++ symbol_part name) st h
 
 kind_keeps_by : (I : State → Type 0) → Closed I → (b : Bool) (kind : Kind) (first st : State) → I st → Keeps I (tested_by b (row_of kind first) st)
 kind_keeps_by I c true kind first st h =

@@ -15,7 +15,7 @@ use Rattle.syntax.specs.Commands.{AreCommands}
 use Rattle.syntax.specs.Script.{Script, Done, Then, Choice, Check, Cases, No_case, Case}
 use Rattle.meaning.specs.State.{State, Scope, no_choice, about, answered, Goes_on, Completed, Stopped, Cut, Run, Ends, Asks, as_is}
 use Rattle.meaning.specs.Tests.{checking, cached_test, tested}
-use Rattle.meaning.specs.Rows.{Kind, Program, Search, name_of, value_or_empty, value_if, row_of}
+use Rattle.meaning.specs.Rows.{Kind, Program, Single, Sized, Search, name_of, value_or_empty, value_if, row_of}
 use Rattle.meaning.specs.Play.{play, whole}
 use Rattle.meaning.specs.Meaning.{settled, is_unsettled, check_prog, path_prog, has_value, is_full_name, looks, looks_all, effect, value_name, asked, is_taken, check, meaning, chosen}
 use Rattle.laws.specs.Cached.{IsSet, IsUnset}
@@ -40,9 +40,11 @@ left_set name (Some value) now = []
 left_set name None None = []
 left_set name None (Some value) = Tested name ∷ []
 
--- What a kind of test assigns after its test: a program's variable. (own)
+-- What a kind of test assigns after its test: a program's variable, and nothing for the others. (own)
 abbrev pub assigned_by : Kind → List Deed
 assigned_by (Program s own) = Assigned s.variable ∷ []
+assigned_by (Single listed entry includes defines) = []
+assigned_by (Sized name includes defines) = []
 
 -- The deeds of a test in a statement. (own)
 abbrev pub kind_deeds : Kind → State → List Reply → List Deed
