@@ -5,3 +5,5 @@ pub mod Kept
 pub mod CommandLemmas
 pub mod Accounting
 pub mod OtherDeeds
+pub mod BatchEntries
+pub mod BatchLemmas

@@ -2,3 +2,4 @@ pub mod Ends
 pub mod Cached
 pub mod Commands
 pub mod Deeds
+pub mod Batched

@@ -3,13 +3,14 @@
 //! There is no code here. Each function does nothing, and its contract is a theorem on the definitions of `meaning`.
 //! Read `specs/Ends.antt` (what holds at the ends of a run), `specs/Cached.antt` (cached tests: their names),
 //! `specs/Commands.antt` (tests that set their name alone), then `specs/Deeds.antt` (what each name that is set at the end
-//! comes from).
+//! comes from). `specs/Batched.antt` is about batches, which no statement has yet.
 //!
 //! For example, say that AC_CACHE_CHECK of the name `v_cv_x` has the commands `v_cv_x=no` and then a program that is
 //! compiled, and that the compiler can't be started. By `broken_check_is_unset` the name is unset at the end, and by
 //! `broken_check_leaves_variables` all variables and definitions are as they were.
 #![tactic(auto)]
 
+ghost use Rattle.laws.specs.Batched.{BatchCommits, BatchAsksUnset, BatchStops, BatchAsksFew};
 ghost use Rattle.laws.specs.Cached.{NamesStandOnce, BrokenIsUnset, BrokenRowIsUnset, BrokenCheckIsUnset, SetStaysSet, SetRowAsksNothing};
 ghost use Rattle.laws.specs.Commands.{BrokenLeavesVariables, BrokenRowLeavesVariables, CommandsWriteAlone, BrokenCheckLeavesVariables};
 ghost use Rattle.laws.specs.Deeds.{DeedsAccount, CommandsHaveNoDeeds};
@@ -76,4 +77,27 @@ pub fn deeds_account()
 /// The commands that AC_CACHE_CHECK may have do nothing to other names.
 pub fn commands_have_no_deeds()
     ensures others { CommandsHaveNoDeeds }
+{}
+
+/// If there is a compiler, a batch is cut exactly if one of its children is refused. Each name has its value from before, or
+/// the one that the reply to its child gives. The children are logged in the order of the list.
+pub fn batch_commits()
+    ensures commits { BatchCommits }
+{}
+
+/// If there is a compiler, a batch asks for a child for each name of an entry that is unset when it begins, and for no other
+/// name.
+pub fn batch_asks_unset()
+    ensures unset { BatchAsksUnset }
+{}
+
+/// If there is no compiler, a batch asks for nothing and leaves the variables as they were. The run stops with status 1,
+/// unless the name of each entry is set.
+pub fn batch_stops()
+    ensures stops { BatchStops }
+{}
+
+/// A batch asks for no more children than it has entries.
+pub fn batch_asks_few()
+    ensures few { BatchAsksFew }
 {}

@@ -1,0 +1,5 @@
+use Rattle.laws.proofs.BatchLemmas.{batch_asks_few}
+use Rattle.laws.proofs.batch_asks_few.Goals as goal
+
+pub returns : goal.returns
+returns c = record { few = batch_asks_few }

@@ -1,0 +1,85 @@
+-- Laws of batches: which entries ask for a child, and what becomes of the replies.
+use Rattle.std.specs.Prelude.{◌≡◌, ◌≤◌, ◌==◌, ℕ, Bool, true, false, List, [], ◌∷◌, ◌++◌, ◌⊎◌, Option, Some, None, option_map, is_some, bytes_eq, drop, length, codes, if◌then◌else◌}
+use Rattle.conftest.specs.declared.job.Job.{Job}
+use Rattle.conftest.specs.Probe.{words_of}
+use Rattle.crew.specs.declared.reply.Reply.{Reply}
+use Rattle.deftable.specs.Table.{value_of}
+use Rattle.meaning.specs.State.{State, How, Goes_on, Stopped, Cut, Run, Ends}
+use Rattle.meaning.specs.Asking.{success, only_reply}
+use Rattle.meaning.specs.Rows.{entry_name}
+use Rattle.meaning.specs.Batches.{Batch, asking, jobs_in, committed, batched, yes_or_no}
+use Rattle.meaning.specs.Play.{first_refused}
+use Rattle.meaning.specs.Laws.{children_of, paired}
+
+-- The variable CC has no word, so there is no compiler. (Autoconf's manual, "Running the Compiler")
+abbrev pub lacks_compiler : State → Bool
+lacks_compiler st = length (words_of st.vars (codes "CC")) == 0
+
+-- The reply to the child that a name asked for. (own)
+abbrev pub answer_to : List ℕ → Batch → List (List ℕ × Option Job) → List Reply → Option Reply
+answer_to name batch [] replies = None
+answer_to name batch ((entry, None) ∷ more) replies = answer_to name batch more replies
+answer_to name batch ((entry, Some job) ∷ more) replies =
+    if bytes_eq name (entry_name batch.listed entry) then Some (only_reply replies) else answer_to name batch more (drop 1 replies)
+
+-- A value that was there stays. Otherwise an answer gives one, and a refusal none. (own)
+abbrev pub value_by : Option (List ℕ) → Option Reply → Option (List ℕ)
+value_by (Some value) reply = Some value
+value_by None None = None
+value_by None (Some reply) = option_map yes_or_no (success reply)
+
+-- The run is cut if there is such a number. (own)
+abbrev pub cut_by : Option ℕ → How
+cut_by None = Goes_on
+cut_by (Some number) = Cut
+
+-- The end of a batch under the replies to its children: it is cut exactly if one was refused. Each name has its value from
+-- before, or the one that the reply to its child gives. The children are logged in the order of the list. (own)
+pub record Commits (batch : Batch) (st : State) (replies : List Reply) (run : Run) : Type 0 where
+  pub now : State
+  pub is : run ≡ Ends (cut_by (first_refused replies)) now
+  pub value : (name : List ℕ) → value_of now.vars name ≡ value_by (value_of st.vars name) (answer_to name batch (asking batch 1 [] batch.entries st) replies)
+  pub logged : children_of now.log ≡ children_of st.log ++ paired (jobs_in (asking batch 1 [] batch.entries st)) replies
+
+-- If there is a compiler, a batch ends so under any replies. (own)
+abbrev pub BatchCommits : Type 0
+BatchCommits = (batch : Batch) (st : State) (replies : List Reply) → lacks_compiler st ≡ false
+    → length replies ≡ length (jobs_in (asking batch 1 [] batch.entries st))
+    → Commits batch st replies (committed batch st (asking batch 1 [] batch.entries st) replies false st)
+
+-- The name is that of one of these entries. (own)
+abbrev pub IsEntry : Batch → List ℕ → List (List ℕ) → Type 0
+IsEntry batch name [] = ⊥
+IsEntry batch name (entry ∷ more) = (entry_name batch.listed entry ≡ name) ⊎ IsEntry batch name more
+
+-- A name that is unset when the batch begins has a child if it is that of an entry. No other name has one. (own)
+pub record AsksUnset (batch : Batch) (st : State) (name : List ℕ) (replies : List Reply) : Type 0 where
+  pub unset : IsEntry batch name batch.entries → value_of st.vars name ≡ None
+      → (reply : Reply) × (answer_to name batch (asking batch 1 [] batch.entries st) replies ≡ Some reply)
+  pub known : (value : List ℕ) → value_of st.vars name ≡ Some value → answer_to name batch (asking batch 1 [] batch.entries st) replies ≡ None
+  pub stranger : (IsEntry batch name batch.entries → ⊥) → answer_to name batch (asking batch 1 [] batch.entries st) replies ≡ None
+
+-- If there is a compiler, this holds of each name. (own)
+abbrev pub BatchAsksUnset : Type 0
+BatchAsksUnset = (batch : Batch) (st : State) (name : List ℕ) (replies : List Reply) → lacks_compiler st ≡ false → AsksUnset batch st name replies
+
+-- The name of each entry is set. (own)
+abbrev pub all_set : Batch → List (List ℕ) → State → Bool
+all_set batch [] st = true
+all_set batch (entry ∷ more) st = if is_some (value_of st.vars (entry_name batch.listed entry)) then all_set batch more st else false
+
+-- The run asks for nothing, and leaves the variables as they were and no child in the log. It continues, or stops with
+-- status 1. (own)
+pub record StopsUnless (continues : Bool) (st : State) (run : Run) : Type 0 where
+  pub now : State
+  pub is : run ≡ Ends (if continues then Goes_on else Stopped 1) now
+  pub vars : now.vars ≡ st.vars
+  pub logged : children_of now.log ≡ children_of st.log
+
+-- If there is no compiler, a batch stops unless each of its names is set. (own)
+abbrev pub BatchStops : Type 0
+BatchStops = (batch : Batch) (st : State) → lacks_compiler st ≡ true → StopsUnless (all_set batch batch.entries st) st (batched batch st)
+
+-- A batch asks for no more children than it has entries. (own)
+abbrev pub BatchAsksFew : Type 0
+BatchAsksFew = (batch : Batch) (st : State) → length (jobs_in (asking batch 1 [] batch.entries st)) ≤ length batch.entries
