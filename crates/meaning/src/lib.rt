@@ -5,8 +5,9 @@
 //! `specs/Asking.antt` (how a run asks for a child and continues with its reply), `specs/Tests.antt` (cached tests: what
 //! they ask, print and leave), `specs/Rows.antt` (the kinds of tests), `specs/Package.antt` (what AC_INIT sets),
 //! `specs/Tries.antt` (programs that are tried), then `specs/Meaning.antt` (the meaning of a statement and of a list of
-//! statements). `specs/Play.antt` is about a run under given replies, and its last words. The functions here are laws: they
-//! do nothing, and their contracts are theorems on the definitions.
+//! statements). `specs/Play.antt` is about a run under given replies, and its last words. The tests of headers, functions,
+//! declarations and types in `specs/Rows.antt`, and batches of them in `specs/Batches.antt`, are for macros to come: no
+//! statement has them yet. The functions here are laws: they do nothing, and their contracts are theorems on the definitions.
 //!
 //! The meaning of `AC_DEFINE([A],[1])` and `AC_OUTPUT`, begun with no variables and no definitions, is to complete with
 //! no variables and with `A` defined as `1`.
