@@ -9,12 +9,13 @@
 //! ```
 //!
 //! Read the crate `searching` first: it says what a step waits for and what follows it, and looks for programs. Then read
-//! `stepping`: one step, and what follows the replies to its jobs. The crate `runstate` has what the steps change, and the crate
-//! `machine` goes from step to step.
+//! `stepping`: one step, and what follows the replies to its jobs. `checks` begins and ends AC_CACHE_CHECK. The crate
+//! `runstate` has what the steps change, and the crate `machine` goes from step to step.
 //!
 //! The theorem is about one step of a plan's walk, as a function of what follows it: the walk goes on as the flow says.
 #![tactic(auto)]
 
+mod checks;
 mod stepping;
 
 pub use stepping::{do_step, hear};

@@ -12,23 +12,21 @@ ghost use Rattle.meaning.specs.Play.{refused_after, refused_here};
 ghost use Rattle.meaning.specs.Rows.{value_or_empty};
 ghost use Rattle.meaning.specs.State.{Scope, State, answered, then_run, told, with_child, with_definition, with_variable};
 ghost use Rattle.conftest.specs.Probe.{job_of, run_of};
-ghost use Rattle.meaning.specs.Tests.{broken_all, checking, guarded_all, with_result};
+ghost use Rattle.meaning.specs.Tests.{broken_all, guarded_all};
 ghost use Rattle.meaning.specs.Tries.{first_probe, text_of, tried};
 ghost use Rattle.shellword.specs.Value.{word_value};
 ghost use Rattle.plan.specs.Inside.{asks_about, asks_by, asks_of, asks_to_try, reach};
-ghost use Rattle.plan.specs.Walk.{act, minded, outer_tests, own_effect, shown};
+ghost use Rattle.plan.specs.Walk.{act, minded, own_effect, shown};
 ghost use Rattle.searching.specs.Flows.{Continues, Heeds, IsGroup, Leads, asks_now, passed};
-ghost use Rattle.execution.specs.Checks.{IsOpened};
 ghost use Rattle.searching.specs.declared.flow.Flow.TheVariants.{Complete, Cut, Pass, Stop};
 ghost use Rattle.searching.specs.Waits.{Awaits, broken_off, finished, given, resumed, searched, told_to, tests_in, waits_for, with_asked};
 
+use crate::checks::{close_check, open_check};
 use conftest::{Job, run_job};
 use crew::Reply;
 use deftable::Bytes;
 use plan::Step;
-use runstate::pieces::{
-    begin_check, break_test, end_check, end_known_check, report_error, report_no_compiler,
-};
+use runstate::pieces::{break_test, report_error, report_no_compiler};
 use runstate::{About, OpenTests, Store, initialise};
 use searching::search::{alone, look_for, look_on, pass_search};
 use searching::{Directories, Flow, Search, Wait};
@@ -502,71 +500,6 @@ fn skip_unless(
         return Ok(Flow::Pass { more: 0 });
     }
     Ok(Flow::Pass { more: steps })
-}
-
-/// Prints what a check checks.
-fn begin_message(alloc: Global, store: &mut Store, message: &HereText) -> Result<(), AllocError>
-    ensures { OnOk result (store.new ≡ checking (word_value message.now store.old.vars) store.old) }
-{
-    let message = store.here_text(alloc, message)?;
-    begin_check(alloc, store, message.as_slice())
-}
-
-/// Opens a test or, if its name is set, prints the value and passes `steps` steps.
-fn open_test(
-    alloc: Global,
-    store: &mut Store,
-    tests: &mut OpenTests,
-    name: &[u8],
-    steps: usize,
-) -> Result<Flow, AllocError>
-    ensures { IfOk result (λ flow. IsOpened (tables.value_of store.old.vars name.now) name.now steps flow tests.old tests.new store.old store.new) }
-{
-    let Some(value) = store.value_of(alloc, name)? else {
-        tests.open(alloc, name)?;
-        return Ok(Flow::Pass { more: 0 });
-    };
-    end_known_check(alloc, store, value.as_slice())?;
-    Ok(Flow::Pass { more: steps })
-}
-
-/// Begins a check. If its name is set, passes `steps` steps.
-fn open_check(
-    alloc: Global,
-    store: &mut Store,
-    tests: &mut OpenTests,
-    message: &HereText,
-    name: &[u8],
-    steps: usize,
-) -> Result<Flow, AllocError>
-    ensures { IfOk result (λ flow. IsOpened (tables.value_of store.old.vars name.now) name.now steps flow tests.old tests.new (checking (word_value message.now store.old.vars) store.old) store.new) }
-{
-    begin_message(alloc, store, message)?;
-    open_test(alloc, store, tests, name, steps)
-}
-
-/// Prints the value of a test's name, or nothing if it isn't set.
-fn print_value(alloc: Global, store: &mut Store, name: &[u8]) -> Result<(), AllocError>
-    ensures { OnOk result (store.new ≡ with_result (value_or_empty store.old name.now) store.old) }
-{
-    let value = store.value_or_empty(alloc, name)?;
-    end_check(alloc, store, value.as_slice())
-}
-
-/// Ends the check of this name, which began last.
-fn close_check(
-    alloc: Global,
-    store: &mut Store,
-    tests: &mut OpenTests,
-    name: &[u8],
-) -> Result<Flow, AllocError>
-    ensures passes { IfOk result (λ flow. flow ≡ Pass 0) }
-    ensures closes { OnOk result (tests.new ≡ outer_tests tests.old) }
-    ensures prints { OnOk result (store.new ≡ with_result (value_or_empty store.old name.now) store.old) }
-{
-    print_value(alloc, store, name)?;
-    let _ = tests.close();
-    Ok(Flow::Pass { more: 0 })
 }
 
 /// Does one step.
