@@ -29,7 +29,7 @@ fn depth_after(depth: usize, byte: u8) -> usize
 ///
 /// There is one part more than there are such commas. A `)` where no parenthesis is open is an ordinary byte, and a
 /// parenthesis that is never closed holds the rest of the text.
-pub fn comma_parts(alloc: Global, text: &[u8]) -> Result<Vec<&[u8]>, AllocError>
+pub(crate) fn comma_parts(alloc: Global, text: &[u8]) -> Result<Vec<&[u8]>, AllocError>
     ensures value { IfOk result (λ v. map (λ part. part.now) v.items ≡ specs.comma_parts text.now) }
 {
     let mut parts = Vec::new(alloc);
@@ -63,7 +63,7 @@ fn filled<'a>(alloc: Global, parts: &[&'a [u8]]) -> Result<Vec<&'a [u8]>, AllocE
 
 /// Returns the entries of a text that are separated by commas outside parentheses: its parts without the blanks at their
 /// ends, except those that are then empty (own).
-pub fn comma_entries(alloc: Global, text: &[u8]) -> Result<Vec<&[u8]>, AllocError>
+pub(crate) fn comma_entries(alloc: Global, text: &[u8]) -> Result<Vec<&[u8]>, AllocError>
     ensures value { IfOk result (λ v. map (λ entry. entry.now) v.items ≡ specs.comma_entries text.now) }
 {
     let parts = comma_parts(alloc, text)?;

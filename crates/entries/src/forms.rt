@@ -50,7 +50,7 @@ fn are_type_bytes(text: &[u8]) -> bool
 ///
 /// A header is not empty, and has no blank, `$`, `<`, `>`, `"`, backslash or backquote. A function and a declaration are C
 /// identifiers. A type is not empty, and has no newline, `$`, backslash or backquote.
-pub fn has_form(kind: Listed, text: &[u8]) -> bool
+pub(crate) fn has_form(kind: Listed, text: &[u8]) -> bool
     ensures { result ≡ specs.has_form kind text.now }
 {
     match kind {

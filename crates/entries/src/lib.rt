@@ -18,10 +18,10 @@
 //! The error sections below name the other variants.
 #![tactic(auto)]
 
-pub mod commas;
+mod commas;
 mod facts;
-pub mod forms;
-pub mod list;
+mod forms;
+mod list;
 pub mod reading;
 
 pub use facts::comma_laws;

@@ -6,7 +6,7 @@ use deftable::Bytes;
 use std::marker::Model;
 
 /// The largest number of entries of a list (own).
-pub const MAX_ENTRIES: usize = 256;
+pub(crate) const MAX_ENTRIES: usize = 256;
 
 /// The entries of a list, in order: at least one, and at most 256. One that is listed twice is there twice. Contracts see the
 /// list of their texts.
