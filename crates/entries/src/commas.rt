@@ -30,7 +30,7 @@ fn depth_after(depth: usize, byte: u8) -> usize
 /// There is one part more than there are such commas. A `)` where no parenthesis is open is an ordinary byte, and a
 /// parenthesis that is never closed holds the rest of the text.
 pub(crate) fn comma_parts(alloc: Global, text: &[u8]) -> Result<Vec<&[u8]>, AllocError>
-    ensures value { IfOk result (λ v. map (λ part. part.now) v.items ≡ specs.comma_parts text.now) }
+    ensures value { IfOk result (λ v. map (λ p. p.now) v.items ≡ specs.comma_parts text.now) }
 {
     let mut parts = Vec::new(alloc);
     let mut start = 0;
@@ -49,7 +49,7 @@ pub(crate) fn comma_parts(alloc: Global, text: &[u8]) -> Result<Vec<&[u8]>, Allo
 
 /// Returns the parts without the blanks at their ends, and without those that are then empty.
 fn filled<'a>(alloc: Global, parts: &[&'a [u8]]) -> Result<Vec<&'a [u8]>, AllocError>
-    ensures { IfOk result (λ v. map (λ entry. entry.now) v.items ≡ specs.filled (map (λ part. part.now) parts.now)) }
+    ensures { IfOk result (λ v. map (λ e. e.now) v.items ≡ specs.filled (map (λ p. p.now) parts.now)) }
 {
     let mut entries = Vec::new(alloc);
     for part in parts {
@@ -64,7 +64,7 @@ fn filled<'a>(alloc: Global, parts: &[&'a [u8]]) -> Result<Vec<&'a [u8]>, AllocE
 /// Returns the entries of a text that are separated by commas outside parentheses: its parts without the blanks at their
 /// ends, except those that are then empty (own).
 pub(crate) fn comma_entries(alloc: Global, text: &[u8]) -> Result<Vec<&[u8]>, AllocError>
-    ensures value { IfOk result (λ v. map (λ entry. entry.now) v.items ≡ specs.comma_entries text.now) }
+    ensures value { IfOk result (λ v. map (λ e. e.now) v.items ≡ specs.comma_entries text.now) }
 {
     let parts = comma_parts(alloc, text)?;
     filled(alloc, parts.as_slice())

@@ -70,7 +70,7 @@ pub(crate) fn have_form(kind: Listed, texts: &[&[u8]]) -> bool
 /// Splits a text at blanks or at commas outside parentheses, as lists of the kind are separated. No entry is empty, and each
 /// may have any form.
 pub(crate) fn split(alloc: Global, kind: Listed, text: &[u8]) -> Result<Vec<&[u8]>, AllocError>
-    ensures { IfOk result (λ v. map (λ entry. entry.now) v.items ≡ specs.split kind text.now) }
+    ensures { IfOk result (λ v. map (λ e. e.now) v.items ≡ specs.split kind text.now) }
 {
     match kind {
         Listed::Header | Listed::Function => fields(alloc, text),

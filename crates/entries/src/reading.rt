@@ -43,8 +43,8 @@ pub fn entry(alloc: Global, kind: Listed, arg: Arg<'_>) -> Result<Bytes, ParseFa
     Ok(Bytes::from_slice(alloc, entry)?)
 }
 
-#[tactic(auto, using(crate::proofs::Lists::mapped_and_counted))]
 /// Checks the entries of an argument at `at`: their number first, and then their form.
+#[tactic(auto, using(crate::proofs::Lists::mapped_and_counted))]
 fn check(kind: Listed, at: usize, entries: &[&[u8]]) -> Result<(), ParseFault>
     ensures { Gives (λ _. tt) result (readers.wanted kind at (map (λ e. e.now) entries.now)) }
 {
