@@ -1,6 +1,7 @@
 //! How answers are written.
 
 use deftable::{Bytes, Name, Vars};
+use entries::Entries;
 use m4quote::Arg;
 use shellword::{HereText, Part, Pattern, Patterns, Piece, Test, Word};
 use std::fmt::Display;
@@ -146,6 +147,12 @@ pub fn put_each(page: &mut Page, texts: &[Bytes]) {
 }
 
 impl Told for Vec<Bytes> {
+    fn tell(&self, page: &mut Page) {
+        put_each(page, self.as_slice());
+    }
+}
+
+impl Told for Entries {
     fn tell(&self, page: &mut Page) {
         put_each(page, self.as_slice());
     }

@@ -1,0 +1,4 @@
+pub mod FaultLemmas
+pub mod Lists
+pub mod PartsLaws
+pub mod PartsLoop
