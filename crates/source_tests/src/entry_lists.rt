@@ -18,96 +18,21 @@ enum Reads {
 }
 
 /// A reader of entries of a kind.
-struct Reader {
-    kind: Listed,
-    reads: Reads,
-}
+struct Reader(Listed, Reads);
 
 const READERS: [(&[u8], Reader); 12] = [
-    (
-        b"header",
-        Reader {
-            kind: Listed::Header,
-            reads: Reads::One,
-        },
-    ),
-    (
-        b"function",
-        Reader {
-            kind: Listed::Function,
-            reads: Reads::One,
-        },
-    ),
-    (
-        b"declaration",
-        Reader {
-            kind: Listed::Declaration,
-            reads: Reads::One,
-        },
-    ),
-    (
-        b"type",
-        Reader {
-            kind: Listed::Type,
-            reads: Reads::One,
-        },
-    ),
-    (
-        b"headers",
-        Reader {
-            kind: Listed::Header,
-            reads: Reads::List,
-        },
-    ),
-    (
-        b"functions",
-        Reader {
-            kind: Listed::Function,
-            reads: Reads::List,
-        },
-    ),
-    (
-        b"declarations",
-        Reader {
-            kind: Listed::Declaration,
-            reads: Reads::List,
-        },
-    ),
-    (
-        b"types",
-        Reader {
-            kind: Listed::Type,
-            reads: Reads::List,
-        },
-    ),
-    (
-        b"256_headers",
-        Reader {
-            kind: Listed::Header,
-            reads: Reads::Repeated(256),
-        },
-    ),
-    (
-        b"257_headers",
-        Reader {
-            kind: Listed::Header,
-            reads: Reads::Repeated(257),
-        },
-    ),
-    (
-        b"256_types",
-        Reader {
-            kind: Listed::Type,
-            reads: Reads::Repeated(256),
-        },
-    ),
-    (
-        b"257_types",
-        Reader {
-            kind: Listed::Type,
-            reads: Reads::Repeated(257),
-        },
-    ),
+    (b"header", Reader(Listed::Header, Reads::One)),
+    (b"function", Reader(Listed::Function, Reads::One)),
+    (b"declaration", Reader(Listed::Declaration, Reads::One)),
+    (b"type", Reader(Listed::Type, Reads::One)),
+    (b"headers", Reader(Listed::Header, Reads::List)),
+    (b"functions", Reader(Listed::Function, Reads::List)),
+    (b"declarations", Reader(Listed::Declaration, Reads::List)),
+    (b"types", Reader(Listed::Type, Reads::List)),
+    (b"256_headers", Reader(Listed::Header, Reads::Repeated(256))),
+    (b"257_headers", Reader(Listed::Header, Reads::Repeated(257))),
+    (b"256_types", Reader(Listed::Type, Reads::Repeated(256))),
+    (b"257_types", Reader(Listed::Type, Reads::Repeated(257))),
 ];
 
 /// Puts how many entries a list has.
@@ -127,7 +52,7 @@ impl Reader {
             text: text.text(),
             at: 0,
         };
-        put_next(page, entries(page.alloc(), self.kind, arg), self);
+        put_next(page, entries(page.alloc(), self.0, arg), self);
     }
 }
 
@@ -135,9 +60,9 @@ impl Call for Reader {
     fn put(&self, page: &mut Page, given: &[u8]) {
         let alloc = page.alloc();
         let arg = Arg { text: given, at: 0 };
-        match self.reads {
-            Reads::One => put_made(page, entry(alloc, self.kind, arg)),
-            Reads::List => put_made(page, entries(alloc, self.kind, arg)),
+        match self.1 {
+            Reads::One => put_made(page, entry(alloc, self.0, arg)),
+            Reads::List => put_made(page, entries(alloc, self.0, arg)),
             Reads::Repeated(count) => self.put_repeated(page, given, count),
         }
     }

@@ -2,9 +2,9 @@
 //! worked examples, and what no clause says, as the text of an error.
 //!
 //! Each test is a table of rows, in the form that the crate `testrows` reads. A row begins with the name of a call. There is a
-//! module for each crate: `shell_words` for shellword, `bare_texts` for baretext, `arguments` for acargs, `entry_lists` for entries,
-//! `macros` for acmacros, `sources` for acparse, and for options `command_lines` and `precious`. `told` has how answers are written. The
-//! crate `cases` has more sources and command lines, in files.
+//! module for each crate: `shell_words` for shellword, `bare_texts` for baretext, `arguments` for acargs, `entry_lists` for
+//! entries, `macros` for acmacros, `sources` for acparse, and for options `command_lines` and `precious`. `told` has how answers
+//! are written. The crate `cases` has more sources and command lines, in files.
 #![tactic(auto)]
 
 #[cfg(test)]
