@@ -1,15 +1,15 @@
 //! Tests at the limits: what is just allowed is answered, with ample memory, and one more is refused.
 //!
 //! No clause of the crates below forbids an answer of "out of memory" where memory is ample. So each limit has a test here
-//! at its full size. `texts` makes the texts, `reading` has the limits of configure.ac and its tree, `searching` those of a
+//! at its full size. `texts` makes the texts, `reading` has the limits of configure.ac and its tree, `path` those of a
 //! search along PATH, and `filtering` those of the input of the filter.
 #![tactic(auto)]
 
 #[cfg(test)]
 mod filtering;
 #[cfg(test)]
-mod reading;
+mod path;
 #[cfg(test)]
-mod searching;
+mod reading;
 #[cfg(test)]
 mod texts;

@@ -71,8 +71,14 @@ fn named(page: &mut Page, name: &[u8]) -> Stmt {
 fn put_jump(page: &mut Page, step: &Step) {
     page.put(b" ");
     match step {
-        Step::Do(_) | Step::Look { .. } | Step::Default { .. } | Step::Subject(_) => page.put(b"-"),
-        Step::SkipUnless { steps, .. } | Step::Skip { steps } => page.put_number(*steps),
+        Step::Do(_)
+        | Step::Look { .. }
+        | Step::Default { .. }
+        | Step::Subject(_)
+        | Step::Close { .. } => page.put(b"-"),
+        Step::SkipUnless { steps, .. } | Step::Skip { steps } | Step::Open { steps, .. } => {
+            page.put_number(*steps)
+        }
     }
 }
 
