@@ -36,7 +36,7 @@ abbrev pub flag_of : Option Bool → Bool
 flag_of None = true
 flag_of (Some b) = false
 
--- whether an entry is refused, by the value of its name, its job and its reply; and the variables behind it
+-- Whether an entry is refused, by the value of its name, its job and its reply, and the variables after it.
 abbrev pub one_flag : Option (List ℕ) → Option Job → Reply → Bool
 one_flag (Some v) job reply = false
 one_flag None None reply = true
@@ -91,7 +91,7 @@ have_vars Header entry found st = defined_vars found (codes "HAVE_" ++ symbol_pa
 have_vars Function entry found st = defined_vars found (codes "HAVE_" ++ symbol_part entry) st
 have_vars Declaration entry found st = refl
 
--- the children in the log behind pieces and a child
+-- The children in the log after pieces and a child.
 abbrev begins : Batch → List ℕ → State → State
 begins batch entry now = checking (entry_message batch.listed entry) now
 
@@ -118,7 +118,7 @@ set_kids batch entry v now =
     ap children_of (have_log batch.listed entry (is_yes (Some v)) (with_result (codes "(cached) " ++ v) (begins batch entry now)))
     ∙ told_kids ((codes "(cached) " ++ v) ++ codes "\n") (begins batch entry now) ∙ begins_kids batch entry now
 
--- what an unset test does, where it may begin
+-- The run of a test whose name is unset, if it may begin.
 unset_run : (r : Row) (st : State) → IsUnset r.test.name st.vars → r.ready ≡ true
     → tested r st ≡ then_run (then_run (guarded r.test.name (r.test.body (checking r.test.message st))) (λ now. Ends Goes_on (with_result (r.test.shown (value_of now.vars r.test.name)) now))) (λ now. Ends Goes_on (r.after (value_of now.vars r.test.name) now))
 unset_run r st e ready =
@@ -155,7 +155,8 @@ abbrev pub refused_in : List Reply → Bool
 refused_in [] = false
 refused_in (r ∷ rs) = flag_of (success r) || refused_in rs
 
--- what is known at an entry: the names of earlier ones are set, or one was refused; the others are as on entry
+-- What is known at an entry: the names of earlier entries are set, or one was refused, and other names are as they were when
+-- the batch began.
 pub record Stands (earlier : List (List ℕ)) (refused : Bool) (first now : State) : Type 0 where
   pub early : (n : List ℕ) → list_any (bytes_eq n) earlier ≡ true → value_of now.vars n ≡ None → refused ≡ true
   pub kept : (n v : List ℕ) → value_of first.vars n ≡ Some v → value_of now.vars n ≡ Some v
@@ -196,7 +197,7 @@ pub all_committed : (batch : Batch) (first : State) (replies : List Reply) (refu
 all_committed batch first replies true now = refl
 all_committed batch first replies false now = refl
 
--- an entry that asks nothing: its name is set, or was refused before
+-- An entry that asks for nothing: its name is set, or was refused before.
 none_flag : (o : Option (List ℕ)) (reply : Reply) (refused : Bool) → (o ≡ None → refused ≡ true) → one_flag o None reply || refused ≡ refused
 none_flag None reply refused h = sym (h refl)
 none_flag (Some v) reply refused h = refl
@@ -227,7 +228,7 @@ quiet batch entry tail replies refused first now ready known rest =
       logged = go.logged ∙ ap (λ l. l ++ paired (jobs_in tail) replies) one.logged;
     }
 
--- an entry that asked
+-- An entry that asked for a child.
 pub set_here : (s : Option Bool) (vars : List (List ℕ × List ℕ)) (name : List ℕ) → value_of vars name ≡ None → value_of (set_by s name vars) name ≡ option_map yes_or_no s
 set_here None vars name e = e
 set_here (Some b) vars name e = value_here vars name (yes_or_no b)

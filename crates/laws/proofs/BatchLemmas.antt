@@ -44,7 +44,7 @@ job_false batch entry place earlier st c f =
     let own = has_job batch.listed entry batch.includes place st c in
     (own.0, cond_false (is_known (entry_name batch.listed entry) earlier st) None (entry_job batch.listed entry batch.includes place st) f ∙ own.1)
 
--- An entry that is not the name's, or asks nothing.
+-- An entry of another name, or one that asks for nothing.
 skipped : (n entry : List ℕ) (batch : Batch) (job : Option Job) (tail : List (List ℕ × Option Job)) (replies : List Reply) → (bytes_eq n (entry_name batch.listed entry) ≡ false) ⊎ (job ≡ None)
     → answer_to n batch ((entry, job) ∷ tail) replies ≡ answer_to n batch tail (replies_after job replies)
 skipped n entry batch None tail replies h = refl
@@ -60,7 +60,7 @@ or_here_too : (a b c : Bool) → b ≡ true → a || (b || c) ≡ true
 or_here_too true b c e = refl
 or_here_too false b c e = ap (λ x. x || c) e
 
--- A name that was set on entry, or is that of an earlier entry, asks for nothing.
+-- A name that was set when the batch began, or is that of an earlier entry, asks for nothing.
 pub unasked : (batch : Batch) (entries : List (List ℕ)) (place : ℕ) (earlier : List (List ℕ)) (st : State) (n : List ℕ) (replies : List Reply) → is_some (value_of st.vars n) || list_any (bytes_eq n) earlier ≡ true
     → answer_to n batch (asking batch place earlier entries st) replies ≡ None
 unasked batch [] place earlier st n replies h = refl
@@ -151,7 +151,7 @@ Whole batch first entry job earlier place more replies refused now =
     → Comes batch ((entry, job) ∷ asking batch (suc place) (entry_name batch.listed entry ∷ earlier) more first) replies refused now
     (committed batch first ((entry, job) ∷ asking batch (suc place) (entry_name batch.listed entry ∷ earlier) more first) replies refused now)
 
--- Its name was set on entry, or stood earlier.
+-- Its name was set when the batch began, or is that of an earlier entry.
 no_job : (batch : Batch) (first : State) (entry : List ℕ) (earlier : List (List ℕ)) (place : ℕ) (more : List (List ℕ)) (replies : List Reply) (refused : Bool) (now : State) → lacks_compiler first ≡ false → Stands earlier refused first now → Later batch first entry earlier place more
     → is_some (value_of first.vars (entry_name batch.listed entry)) || list_any (bytes_eq (entry_name batch.listed entry)) earlier ≡ true
     → Whole batch first entry (job_for batch place earlier entry first) earlier place more replies refused now
@@ -175,7 +175,7 @@ no_job batch first entry earlier place more replies refused now c s later t =
     (λ len. quiet batch entry (asking batch (suc place) (name ∷ earlier) more first) replies refused first now (ready_is batch entry None (only_reply replies) first c) known
     (λ x same. later replies refused x (stands x same) len))
 
--- Its name is unset, and stands here first.
+-- Its name is unset, and this is the first entry of it.
 own_job : (batch : Batch) (first : State) (entry : List ℕ) (earlier : List (List ℕ)) (place : ℕ) (more : List (List ℕ)) (replies : List Reply) (refused : Bool) (now : State) → lacks_compiler first ≡ false → Stands earlier refused first now → Later batch first entry earlier place more
     → is_some (value_of first.vars (entry_name batch.listed entry)) || list_any (bytes_eq (entry_name batch.listed entry)) earlier ≡ false
     → (job : Job) → Whole batch first entry (Some job) earlier place more replies refused now
