@@ -1,5 +1,5 @@
 -- The outputs of fields, one after another.
-use Rattle.std.proofs.Common.{◌≡◌, ℕ, ◌+◌, ◌<◌, ◌≤◌, List, Bor, length, drop, get_or, map, Bool, true, false, not, nat_lt, [], ◌∷◌, ◌++◌, Result, Ok, refl, ap, ◌∙◌, sym, subst}
+use Rattle.std.proofs.Common.{◌≡◌, ℕ, ◌+◌, ◌<◌, ◌≤◌, List, Bor, length, drop, get_or, map, [], ◌∷◌, ◌++◌, Result, Ok, ap, ◌∙◌, sym, subst}
 use Rattle.std.proofs.lemmas.List.{drop_more}
 use Rattle.std.proofs.Math.ListN.{drop_of_length-le}
 use Rattle.acstatement.specs.declared.fault.ParseFault.{ParseFault}

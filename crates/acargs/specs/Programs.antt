@@ -1,6 +1,6 @@
 -- Arguments of checks: names of programs, and the texts of programs that are compiled (Autoconf's manual, "Generic
 -- Programs" and "Generating Sources"; which bytes a program's name may have is own).
-use Rattle.std.specs.Prelude.{ℕ, Bool, not, ◌&&◌, ◌||◌, ◌==◌, List, [], ◌∷◌, ◌++◌, length, Result, Ok, nat_lt, codes, if◌then◌else◌}
+use Rattle.std.specs.Prelude.{ℕ, Bool, not, ◌&&◌, ◌||◌, ◌==◌, List, [], ◌∷◌, ◌++◌, length, Option, Some, None, Result, Ok, nat_lt, codes, if◌then◌else◌}
 use Rattle.std.specs.List.{list_all}
 use Rattle.std.specs.Str.{bytes_eq}
 use Rattle.csource.specs.Sources.{default_includes}
@@ -65,6 +65,26 @@ lines_with_includes (line ∷ more) = line_or_includes (length more == 0) line +
 unfoldable pub with_includes : List ℕ → List ℕ
 with_includes t = lines_with_includes (parts 10 t)
 
+-- A text at this offset as here text, with the default includes in it. (Autoconf's manual, "Generating Sources")
+unfoldable pub source_in : ℕ → List ℕ → Result (List Part) ParseFault
+source_in at t = shell_at at (here_of (with_includes t))
+
 -- The used text as here text, with the default includes in it. (Autoconf's manual, "Generating Sources")
 unfoldable pub source_text : Span → Result (List Part) ParseFault
-source_text arg = text arg >>= λ t. shell_at arg.at (here_of (with_includes t))
+source_text arg = text arg >>= source_in arg.at
+
+-- The text is `-` alone, with blanks around it or none. (own)
+abbrev pub is_dash : List ℕ → Bool
+is_dash t = bytes_eq (trimmed t) (codes "-")
+
+-- The includes that a text at this offset gives, which are not the default ones. (own)
+abbrev pub includes_in : ℕ → List ℕ → Result (Option (List Part)) ParseFault
+includes_in at t = do
+  _ ← wants (not (is_dash t)) (BadName at)
+  h ← source_in at t
+  Ok (Some h)
+
+-- The includes that an argument gives; none if its used text is empty, which means the default ones. (Autoconf's manual,
+-- "Generic Headers"; that `-` is an error is own)
+unfoldable pub includes : Span → Result (Option (List Part)) ParseFault
+includes arg = text arg >>= λ t. if is_empty t then Ok None else includes_in arg.at t

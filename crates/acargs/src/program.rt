@@ -144,6 +144,18 @@ fn with_includes(alloc: Global, text: &[u8]) -> Result<Vec<u8>, AllocError>
     Ok(out)
 }
 
+/// Returns a text at `at` as here text, with the default includes in it.
+#[tactic(auto, unfolding(crate::specs::Programs::source_in))]
+fn source_in(alloc: Global, at: usize, text: &[u8]) -> Result<HereText, ParseFault>
+    ensures { Gives (λ h. h) result (words.source_in at text.now) }
+{
+    let text = with_includes(alloc, text)?;
+    match read_here(alloc, text.as_slice()) {
+        Ok(here) => Ok(here),
+        Err(fault) => Err(shell_fault(at, fault)),
+    }
+}
+
 /// Returns the text of a program that is compiled, or a fragment of one, as here text. A line that is
 /// AC_INCLUDES_DEFAULT alone becomes the default includes (Autoconf's manual, "Generating Sources").
 ///
@@ -155,9 +167,41 @@ pub fn source_text(alloc: Global, arg: Arg<'_>) -> Result<HereText, ParseFault>
     ensures { Gives (λ h. h) result (words.source_text (span arg.entry)) }
 {
     let text = text(alloc, arg)?;
-    let text = with_includes(alloc, text.as_slice())?;
-    match read_here(alloc, text.as_slice()) {
-        Ok(here) => Ok(here),
-        Err(fault) => Err(shell_fault(arg.at, fault)),
+    source_in(alloc, arg.at, text.as_slice())
+}
+
+/// Returns whether a text is `-` alone, with blanks around it or none.
+fn is_dash(text: &[u8]) -> bool
+    ensures { result ≡ words.is_dash text.now }
+{
+    trim(text) == b"-".as_slice()
+}
+
+/// Returns the includes that a text at `at` gives.
+fn includes_in(alloc: Global, at: usize, text: &[u8]) -> Result<Option<HereText>, ParseFault>
+    ensures { Gives (λ h. h) result (words.includes_in at text.now) }
+{
+    if is_dash(text) {
+        return Err(ParseFault::BadName(at));
     }
+    let here = source_in(alloc, at, text)?;
+    Ok(Some(here))
+}
+
+/// Returns the includes that an argument gives, as here text, or `None` if its text is empty, which means the default
+/// includes. A line that is AC_INCLUDES_DEFAULT alone becomes the default includes (Autoconf's manual, "Generic Headers").
+///
+/// # Errors
+///
+/// - `BadName` at the argument, if the text without the blanks at its ends is `-` (own).
+/// - `Shell` at the argument, if the text can't be read as here text.
+#[tactic(auto, unfolding(crate::specs::Programs::includes))]
+pub fn includes(alloc: Global, arg: Arg<'_>) -> Result<Option<HereText>, ParseFault>
+    ensures { Gives (λ h. h) result (words.includes (span arg.entry)) }
+{
+    let text = text(alloc, arg)?;
+    if text.is_empty() {
+        return Ok(None);
+    }
+    includes_in(alloc, arg.at, text.as_slice())
 }

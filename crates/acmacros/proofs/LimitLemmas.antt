@@ -44,6 +44,9 @@ use Rattle.acmacros.specs.Rows.{plain_of, init, tarname, prereq, lang, config_fi
 use Rattle.syntax.specs.Lists.{start, after, after_question, with_tool}
 use Rattle.acmacros.specs.Searches.{growth, output_variable, optional_text, compilers, check_prog, check_progs, path_prog, prog_cc}
 use Rattle.acmacros.specs.Tries.{tried_program, tries}
+use Rattle.acmacros.specs.Checks.{checks, checks_each}
+use Rattle.entries.specs.Readers.{entry_of, entries_of}
+use Rattle.syntax.specs.declared.listed.Sought.{Sought}
 
 -- ---- lists of names
 
@@ -356,9 +359,19 @@ tries_keep : (c : declarations.Declarations) (kind : Try) (args : List Span) (q 
 unfolding tries after_question
 tries_keep c kind args q e h = let p = bind_ok (tried_program (arg_at args 0)) _ _ e in subst (KeepsAsked c) (ok_is _ q p.2) h
 
+checks_keep : (c : declarations.Declarations) (sought : Sought) (args : List Span) (q : Question) → checks sought args ≡ Ok q → IsWithinLimits c → KeepsAsked c q
+unfolding checks after_question
+checks_keep c sought args q e h = let p = bind_ok (entry_of sought (arg_at args 0)) _ _ e in subst (KeepsAsked c) (ok_is _ q p.2) h
+
+checks_each_keep : (c : declarations.Declarations) (sought : Sought) (args : List Span) (q : Question) → checks_each sought args ≡ Ok q → IsWithinLimits c → KeepsAsked c q
+unfolding checks_each after_question
+checks_each_keep c sought args q e h = let p = bind_ok (entries_of sought (arg_at args 0)) _ _ e in subst (KeepsAsked c) (ok_is _ q p.2) h
+
 pub question_keeps : (c : declarations.Declarations) (m : QuestionMacro) (args : List Span) (q : Question) → question_of c m args ≡ Ok q → IsWithinLimits c → KeepsAsked c q
 question_keeps c (questions.Given kind) args q e h = given_keeps c kind args q e h
 question_keeps c (questions.Tries kind) args q e h = tries_keep c kind args q e h
+question_keeps c (questions.Checks sought) args q e h = checks_keep c sought args q e h
+question_keeps c (questions.ChecksEach sought) args q e h = checks_each_keep c sought args q e h
 
 pub start_fits : IsWithinLimits start
 start_fits = record { substituted = omega arith; distinct = AreDistinct-[]; precious = λ n e. e; features = omega arith; packages = omega arith; files = omega arith; headers = omega arith }

@@ -3,6 +3,7 @@ pub mod PackageName
 pub mod Room
 pub mod Searches
 pub mod Tries
+pub mod Checks
 pub mod Rows
 pub mod Placement
 pub mod Scene

@@ -11,9 +11,11 @@ use Rattle.acmacros.specs.declared.macros.Macro.TheVariants.{Plain, Choice, Ques
 use Rattle.acmacros.specs.declared.macros.Named.{Named}
 use Rattle.acmacros.specs.declared.macros.Named.TheVariants.{Statement, Argument}
 use Rattle.acmacros.specs.declared.macros.PlainMacro.TheVariants.{Init, Prereq, Ignored, Lang, ConfigFiles, Subst, Define, DefineUnquoted, MsgError, ArgVar, ProgCc, CheckProg, CheckProgs, PathProg, Output}
-use Rattle.acmacros.specs.declared.macros.QuestionMacro.TheVariants.{Given, Tries}
+use Rattle.acmacros.specs.declared.macros.QuestionMacro.TheVariants.{Given, Tries, Checks, ChecksEach}
 use Rattle.acmacros.specs.declared.table.Row.{Row}
 use Rattle.syntax.specs.declared.feature.OptionKind.TheVariants.{Feature, Package}
+use Rattle.syntax.specs.declared.listed.Listed.TheVariants.{Header, Function, Declaration}
+use Rattle.syntax.specs.declared.listed.Sought.TheVariants.{Entry, «Type»}
 use Rattle.syntax.specs.declared.program.Try.TheVariants.{Compile, Link, Preproc, Run}
 
 -- Any number of arguments: the size in bytes of the largest source, so more than any call has. (own)
@@ -47,6 +49,14 @@ rows =
     ∷ (codes "AC_CHECK_PROG", Statement (Plain CheckProg), 3, 4, false)
     ∷ (codes "AC_CHECK_PROGS", Statement (Plain CheckProgs), 2, 3, false)
     ∷ (codes "AC_PATH_PROG", Statement (Plain PathProg), 2, 3, false)
+    ∷ (codes "AC_CHECK_HEADER", Statement (Question (Checks (Entry Header))), 1, 4, false)
+    ∷ (codes "AC_CHECK_FUNC", Statement (Question (Checks (Entry Function))), 1, 3, false)
+    ∷ (codes "AC_CHECK_DECL", Statement (Question (Checks (Entry Declaration))), 1, 4, false)
+    ∷ (codes "AC_CHECK_TYPE", Statement (Question (Checks «Type»)), 1, 4, false)
+    ∷ (codes "AC_CHECK_HEADERS", Statement (Question (ChecksEach (Entry Header))), 1, 4, false)
+    ∷ (codes "AC_CHECK_FUNCS", Statement (Question (ChecksEach (Entry Function))), 1, 3, false)
+    ∷ (codes "AC_CHECK_DECLS", Statement (Question (ChecksEach (Entry Declaration))), 1, 4, false)
+    ∷ (codes "AC_CHECK_TYPES", Statement (Question (ChecksEach «Type»)), 1, 4, false)
     ∷ (codes "AC_COMPILE_IFELSE", Statement (Question (Tries Compile)), 1, 3, false)
     ∷ (codes "AC_LINK_IFELSE", Statement (Question (Tries Link)), 1, 3, false)
     ∷ (codes "AC_PREPROC_IFELSE", Statement (Question (Tries Preproc)), 1, 3, false)

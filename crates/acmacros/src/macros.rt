@@ -1,6 +1,6 @@
 //! What the name of a macro means.
 
-use syntax::{OptionKind, Try};
+use syntax::{OptionKind, Sought, Try};
 
 /// A macro with no statements in its arguments.
 #[derive(Clone, Copy)]
@@ -53,6 +53,10 @@ pub enum QuestionMacro {
     Given(OptionKind),
     /// AC_COMPILE_IFELSE, AC_LINK_IFELSE, AC_PREPROC_IFELSE and AC_RUN_IFELSE: whether a program passes.
     Tries(Try),
+    /// AC_CHECK_HEADER, AC_CHECK_FUNC, AC_CHECK_DECL and AC_CHECK_TYPE: whether an entry is found.
+    Checks(Sought),
+    /// AC_CHECK_HEADERS, AC_CHECK_FUNCS, AC_CHECK_DECLS and AC_CHECK_TYPES: whether each entry of a list is found.
+    ChecksEach(Sought),
 }
 
 /// A macro whose calls are statements. Macros are grouped by which of their arguments hold statements.
@@ -62,7 +66,8 @@ pub enum Macro {
     Plain(PlainMacro),
     /// Every second argument holds statements, and the last if it is left over. The word of AS_CASE comes before them.
     Choice(ChoiceMacro),
-    /// The two arguments after those of the question hold statements: the first for yes, the second for no.
+    /// The two arguments after those of the question hold statements: the first for yes, the second for no. Includes come
+    /// after them.
     Question(QuestionMacro),
     /// AC_CACHE_CHECK: the third argument holds the commands (Autoconf's manual, "Caching Results").
     Check,

@@ -6,6 +6,7 @@ ghost use Rattle.acstatement.specs.Reading.{Gives};
 ghost use Rattle.acmacros.specs.PackageName as package_names;
 ghost use Rattle.acmacros.specs.Rows as rows;
 
+use crate::checks::{checks, checks_each};
 use crate::macros::{PlainMacro, QuestionMacro};
 use crate::searches::{check_prog, check_progs, has_room, path_prog, prog_cc};
 use crate::tries::tries;
@@ -293,7 +294,8 @@ fn given(
     })
 }
 
-/// Returns the question of a call with these arguments, given what the statements before it declare.
+/// Returns the question of a call with these arguments, given what the statements before it declare. Its includes are not read
+/// yet: `checks::complete` reads them.
 ///
 /// # Errors
 ///
@@ -310,5 +312,7 @@ pub fn question(
     match m {
         QuestionMacro::Given(kind) => given(alloc, known, kind, args),
         QuestionMacro::Tries(kind) => tries(alloc, kind, args),
+        QuestionMacro::Checks(sought) => checks(alloc, sought, args),
+        QuestionMacro::ChecksEach(sought) => checks_each(alloc, sought, args),
     }
 }

@@ -11,7 +11,7 @@ use acargs::arguments::is_given;
 use acstatement::texts::arg_at;
 use m4quote::Arg;
 use std::alloc::{AllocError, Global};
-use syntax::{OptionKind, Try};
+use syntax::{Listed, OptionKind, Sought, Try};
 
 /// A row of the table, without the name.
 #[derive(Clone, Copy)]
@@ -32,7 +32,7 @@ const ANY: usize = 1_048_576;
 /// The table: a name, what it means, the least and the most arguments, and whether its calls are allowed only at top
 /// level.
 #[rattlefmt::skip]
-const TABLE: [(&[u8], Named, usize, usize, bool); 30] = [
+const TABLE: [(&[u8], Named, usize, usize, bool); 38] = [
     (b"AC_INIT", Statement(Plain(PlainMacro::Init)), 2, 5, true),
     (b"AC_PREREQ", Statement(Plain(PlainMacro::Prereq)), 1, 1, true),
     (b"AC_CONFIG_SRCDIR", Statement(Plain(PlainMacro::Ignored)), 1, 1, true),
@@ -56,6 +56,14 @@ const TABLE: [(&[u8], Named, usize, usize, bool); 30] = [
     (b"AC_CHECK_PROG", Statement(Plain(PlainMacro::CheckProg)), 3, 4, false),
     (b"AC_CHECK_PROGS", Statement(Plain(PlainMacro::CheckProgs)), 2, 3, false),
     (b"AC_PATH_PROG", Statement(Plain(PlainMacro::PathProg)), 2, 3, false),
+    (b"AC_CHECK_HEADER", Statement(Question(QuestionMacro::Checks(Sought::Entry(Listed::Header)))), 1, 4, false),
+    (b"AC_CHECK_FUNC", Statement(Question(QuestionMacro::Checks(Sought::Entry(Listed::Function)))), 1, 3, false),
+    (b"AC_CHECK_DECL", Statement(Question(QuestionMacro::Checks(Sought::Entry(Listed::Declaration)))), 1, 4, false),
+    (b"AC_CHECK_TYPE", Statement(Question(QuestionMacro::Checks(Sought::Type))), 1, 4, false),
+    (b"AC_CHECK_HEADERS", Statement(Question(QuestionMacro::ChecksEach(Sought::Entry(Listed::Header)))), 1, 4, false),
+    (b"AC_CHECK_FUNCS", Statement(Question(QuestionMacro::ChecksEach(Sought::Entry(Listed::Function)))), 1, 3, false),
+    (b"AC_CHECK_DECLS", Statement(Question(QuestionMacro::ChecksEach(Sought::Entry(Listed::Declaration)))), 1, 4, false),
+    (b"AC_CHECK_TYPES", Statement(Question(QuestionMacro::ChecksEach(Sought::Type))), 1, 4, false),
     (b"AC_COMPILE_IFELSE", Statement(Question(QuestionMacro::Tries(Try::Compile))), 1, 3, false),
     (b"AC_LINK_IFELSE", Statement(Question(QuestionMacro::Tries(Try::Link))), 1, 3, false),
     (b"AC_PREPROC_IFELSE", Statement(Question(QuestionMacro::Tries(Try::Preproc))), 1, 3, false),

@@ -19,6 +19,7 @@ use Rattle.acmacros.specs.declared.macros.Named.{Named}
 use Rattle.acmacros.specs.declared.macros.Named.TheVariants.{Statement, Argument}
 use Rattle.acmacros.specs.declared.macros.QuestionMacro.{QuestionMacro}
 use Rattle.syntax.specs.Lists.{after_question}
+use Rattle.acmacros.specs.Checks.{completed_of}
 use Rattle.acmacros.specs.Placement.{as_statement, bare_fault}
 use Rattle.syntax.specs.declared.tree.When.{When}
 use Rattle.syntax.specs.declared.tree.When.TheVariants.{Yes, No, Always}
@@ -31,7 +32,8 @@ use Rattle.m4quote.proofs.Laws.{outcome_is_spelling, outcome_is_fault}
 use Rattle.m4quote.specs.Scan.{outcome}
 use Rattle.syntax.specs.Lists.{after_all, after_cases}
 use Rattle.syntax.specs.Script.{Script, Cases}
-use Rattle.acparse.specs.Breaks.{WithinBreaks, MayNotStand, unknown, other_arguments, in_arguments_alone, not_here, in_text, not_held, CasesBreak, in_condition, in_body, after_case, in_default, ActionBreaks, in_action, ItemBreaks, other_text, may_not_stand, argument, in_subject, in_cases, in_question, in_yes, in_no, in_message, in_name, in_commands, Breaks, here, following, TextBreaks, no_items, in_items, IsBroken}
+use Rattle.acparse.specs.Breaks.{WithinBreaks, MayNotStand, unknown, other_arguments, in_arguments_alone, not_here, in_text, not_held, CasesBreak, in_condition, in_body, after_case, in_default, ActionBreaks, in_action, ItemBreaks, other_text, may_not_stand, argument, in_subject, in_cases, in_question, in_yes, in_no, in_includes, in_message, in_name, in_commands, Breaks, here, following, TextBreaks, no_items, in_items, IsBroken}
+use Rattle.acparse.specs.Asked.{asked_with}
 use Rattle.acparse.specs.Profile.{Bodies, body_of, items_of, item_of, call_of, checked, known, case_args, case_if, cases_in, choice_of, action_in, action_args, asked_of, check_of}
 use Rattle.acparse.specs.Statements.{Within, MayStand, IsBody}
 use Rattle.acparse.proofs.Found.{Reads, known_some, is_of_statement, may_stand, action_found, item_found, body_found, quoted_ok}
@@ -121,7 +123,7 @@ action_breaks bodies Broken bad when (a ∷ more) c f e =
 
 item_breaks : (scene : Scene) (bodies : Scene → Bodies) (Inside : Scene → Within) (Broken : Scene → WithinBreaks) (ok : (x : Scene) → Reads (bodies x) (Inside x)) (bad : (x : Scene) → Faults (bodies x) (Broken x)) (c : declarations.Declarations) (edge : Edge) (item : Entry) (next : List Entry) (f : ParseFault)
     → item_of scene bodies c edge item next ≡ Err f → ItemBreaks scene Inside Broken c edge item next f
-unfolding choice_of asked_of check_of
+unfolding choice_of asked_of asked_with check_of
 item_breaks scene bodies Inside Broken ok bad c edge (bare text at) next f e = other_text e
 item_breaks scene bodies Inside Broken ok bad c edge (call name args at) next f e =
     elim (bind_err _ _ _ e) [
@@ -149,7 +151,12 @@ item_breaks scene bodies Inside Broken ok bad c edge (call name args at) next f 
               | inl h ↦
                   in_no stands x.1 (action_found (bodies (of_case scene)) (Inside (of_case scene)) (ok (of_case scene)) Yes (action_args m args) (after_question c x.0) y.0 y.1)
                   (action_breaks (bodies (of_case scene)) (Broken (of_case scene)) (bad (of_case scene)) No (drop 1 (action_args m args)) (after_cases (after_question c x.0) y.0) f h)
-              | inr z ↦ absurd (no_end _ f z.2)
+              | inr z ↦ elim (bind_err (completed_of x.0 args) _ _ z.2) [
+                | inl h ↦
+                    in_includes stands x.1 (action_found (bodies (of_case scene)) (Inside (of_case scene)) (ok (of_case scene)) Yes (action_args m args) (after_question c x.0) y.0 y.1)
+                    (action_found (bodies (of_case scene)) (Inside (of_case scene)) (ok (of_case scene)) No (drop 1 (action_args m args)) (after_cases (after_question c x.0) y.0) z.0 z.1) h
+                | inr w ↦ absurd (no_end _ f w.2)
+              ]
             ]
           ]
         ]

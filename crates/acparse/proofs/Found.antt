@@ -14,6 +14,7 @@ use Rattle.acmacros.specs.declared.macros.Named.{Named}
 use Rattle.acmacros.specs.declared.macros.Named.TheVariants.{Statement, Argument}
 use Rattle.acmacros.specs.declared.macros.QuestionMacro.{QuestionMacro}
 use Rattle.syntax.specs.Lists.{after_question}
+use Rattle.acmacros.specs.Checks.{completed_of}
 use Rattle.acmacros.specs.Placement.{as_statement}
 use Rattle.acmacros.specs.Scene.{Scene, Commands, of_case}
 use Rattle.acmacros.specs.Table.{row_named}
@@ -35,6 +36,7 @@ use Rattle.acstatement.specs.Texts.{arg_at}
 use Rattle.baretext.specs.declared.assignments.Assignment.{Assignment}
 use Rattle.syntax.specs.Lists.{after_all, after_cases}
 use Rattle.syntax.specs.Script.{Script, Done, Cases, No_case}
+use Rattle.acparse.specs.Asked.{asked_with}
 use Rattle.acparse.specs.Bare.{bare_at, assigned, may_assign, of_value, assigned_in, idle_or, bare_of}
 use Rattle.acparse.specs.Profile.{action_in, asked_of, action_args, Bodies, body_of, items_of, item_of, call_of, checked, known, case_args, case_if, cases_in, choice_of, check_of}
 use Rattle.acparse.specs.Statements.{Within, MayStand, IsBare, before, ended, assignments, AreCases, no_more, default, pair, IsAction, absent, there, IsItem, bare_text, plain_call, choice, question, check, AreStatements, none, one, IsBody}
@@ -123,7 +125,7 @@ action_found bodies Inside ok when (a ∷ more) c cases e =
 
 pub item_found : (scene : Scene) (bodies : Scene → Bodies) (Inside : Scene → Within) (ok : (x : Scene) → Reads (bodies x) (Inside x)) (c : declarations.Declarations) (edge : Edge) (item : Entry) (next : List Entry) (s : Script)
     → item_of scene bodies c edge item next ≡ Ok s → IsItem scene Inside c edge item next s
-unfolding choice_of asked_of check_of
+unfolding choice_of asked_of asked_with check_of
 item_found scene bodies Inside ok c edge (bare text at) next s e = bare_text (bare_found scene c.stage at text s e)
 item_found scene bodies Inside ok c edge (call name args at) next s e =
     let m = bind_ok _ _ _ e in call_found m.0 (may_stand scene c.stage edge name args at next m.0 m.1) m.2
@@ -139,9 +141,10 @@ item_found scene bodies Inside ok c edge (call name args at) next s e =
         let x = bind_ok _ _ _ e in
         let y = bind_ok _ _ _ x.2 in
         let z = bind_ok _ _ _ y.2 in
-        subst (IsItem scene Inside c edge (call name args at) next) (ok_is _ s z.2)
+        let w = bind_ok (completed_of x.0 args) _ _ z.2 in
+        subst (IsItem scene Inside c edge (call name args at) next) (ok_is _ s w.2)
         (question stands x.1 (action_found (bodies (of_case scene)) (Inside (of_case scene)) (ok (of_case scene)) Yes (action_args m args) (after_question c x.0) y.0 y.1)
-        (action_found (bodies (of_case scene)) (Inside (of_case scene)) (ok (of_case scene)) No (drop 1 (action_args m args)) (after_cases (after_question c x.0) y.0) z.0 z.1))
+        (action_found (bodies (of_case scene)) (Inside (of_case scene)) (ok (of_case scene)) No (drop 1 (action_args m args)) (after_cases (after_question c x.0) y.0) z.0 z.1) w.1)
 
     check_found : MayStand scene c.stage edge name args at next A_check → check_of bodies c args ≡ Ok s → IsItem scene Inside c edge (call name args at) next s
     check_found stands e =

@@ -1,4 +1,5 @@
 pub mod Texts
+pub mod Questions
 pub mod Steps
 pub mod Found
 pub mod Only

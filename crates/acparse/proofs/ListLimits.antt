@@ -1,5 +1,5 @@
 -- Statements leave the lists of a source within their limits.
-use Rattle.std.proofs.Common.{◌≡◌, ℕ, zero, suc, Bool, true, false, List, Result, Ok, Err, refl, sym, subst}
+use Rattle.std.proofs.Common.{◌≡◌, ℕ, zero, suc, Bool, true, false, List, Result, Ok, Err, refl, ap, sym, ◌∙◌, subst}
 use Rattle.std.specs.Prelude.{IfOk}
 use Rattle.m4quote.specs.Entry.{Span, Entry}
 use Rattle.acstatement.specs.declared.fault.ParseFault.{ParseFault}
@@ -16,6 +16,7 @@ use Rattle.syntax.specs.declared.declarations.Stage.{Stage}
 use Rattle.syntax.specs.Limits.{IsWithinLimits, HasShortLists}
 use Rattle.syntax.specs.Lists.{start, after_question}
 use Rattle.acmacros.specs.Scene.{Scene, Top, of_case}
+use Rattle.acmacros.proofs.CheckLemmas.{completed_known}
 use Rattle.acmacros.proofs.LimitLemmas.{plain_keeps, question_keeps, precious_count, start_fits}
 use Rattle.syntax.specs.declared.tree.Subject.{Subject}
 use Rattle.syntax.specs.declared.tree.Subject.TheVariants.{Nothing, Word}
@@ -23,11 +24,12 @@ use Rattle.syntax.specs.declared.tree.When.{When}
 use Rattle.syntax.specs.declared.tree.When.TheVariants.{Always}
 use Rattle.syntax.specs.Lists.{after_all, after_cases, after_subject, lists_of}
 use Rattle.syntax.specs.declared.tree.Stmt.{Stmt}
-use Rattle.syntax.specs.Script.{Script, Done, Then, Choice, Check, Cases, script_of}
+use Rattle.syntax.specs.Script.{Script, Done, Then, Choice, Check, Cases, followed, script_of}
 use Rattle.syntax.proofs.ScriptLemmas.{after_joined, after_followed}
 use Rattle.acparse.specs.Profile.{source_of, subject_of, case_if}
 use Rattle.acparse.specs.Source.{IsSource}
 use Rattle.acparse.specs.Statements.{Within, IsBare, before, ended, assignments, AreCases, no_more, default, pair, IsAction, absent, there, IsItem, bare_text, plain_call, choice, question, check, AreStatements, none, one, IsBody}
+use Rattle.acparse.proofs.Questions.{asked_known}
 use Rattle.acparse.proofs.Texts.{assigned_known}
 use Rattle.acparse.proofs.Whole.{source_found}
 
@@ -69,8 +71,9 @@ item_keeps scene Inside keeps c edge (bare_text i) h = bare_keeps c i h
 item_keeps scene Inside keeps c edge (plain_call stands p) h = plain_keeps c _ _ _ _ p h
 item_keeps scene Inside keeps c edge (choice {m = m} {subject = subject} {cases = cases} stands p i) h =
     subst (λ (d : declarations.Declarations). IsWithinLimits (after_cases d cases)) (sym (subject_known m _ subject c p)) (cases_keep (Inside (of_case scene)) (keeps (of_case scene)) m i h)
-item_keeps scene Inside keeps c edge (question {q = q} {first = first} {other = other} stands p f o) h =
-    subst IsWithinLimits (sym (after_followed first other (after_question c q)))
+item_keeps scene Inside keeps c edge (question {args = args} {q = q} {whole = whole} {first = first} {other = other} stands p f o w) h =
+    let both = followed first other in
+    subst IsWithinLimits (sym (asked_known c whole both ∙ ap (λ d. after_cases d both) (completed_known c q whole args w) ∙ after_followed first other (after_question c q)))
     (action_keeps (Inside (of_case scene)) (keeps (of_case scene)) _ o (action_keeps (Inside (of_case scene)) (keeps (of_case scene)) _ f (question_keeps c _ _ q p h)))
 item_keeps scene Inside keeps c edge (check stands m n i) h = keeps _ c _ _ i h
 

@@ -16,6 +16,7 @@ use Rattle.acmacros.specs.Scene.{Scene, of_case}
 use Rattle.syntax.specs.declared.tree.When.{When}
 use Rattle.syntax.specs.Script.{Script, Cases}
 use Rattle.m4quote.specs.Scan.{bare_value_of}
+use Rattle.acparse.specs.Asked.{asked_with}
 use Rattle.acparse.specs.Bare.{bare_at, of_value, assigned_in, idle_or, bare_of}
 use Rattle.acparse.specs.Profile.{Bodies, body_of, items_of, item_of, checked, known, cases_in, choice_of, action_in, asked_of, check_of}
 use Rattle.acparse.specs.Statements.{Within, MayStand, IsBare, before, ended, assignments, AreCases, no_more, default, pair, IsAction, absent, there, IsItem, bare_text, plain_call, choice, question, check, AreStatements, none, one, IsBody}
@@ -53,14 +54,14 @@ action_only bodies Inside ok when (there h) = then_ok _ _ _ _ (ok _ _ _ h) refl
 
 item_only : (scene : Scene) (bodies : Scene → Bodies) (Inside : Scene → Within) (ok : (x : Scene) → Gets (bodies x) (Inside x)) (c : declarations.Declarations) (edge : Edge) {item : Entry} {next : List Entry} {s : Script}
     → IsItem scene Inside c edge item next s → item_of scene bodies c edge item next ≡ Ok s
-unfolding choice_of asked_of check_of
+unfolding choice_of asked_of asked_with check_of
 item_only scene bodies Inside ok c edge (bare_text h) = bare_only _ h
 item_only scene bodies Inside ok c edge (plain_call stands p) = then_ok _ _ _ _ (is_checked _ _ _ _ _ _ _ _ stands) (then_ok _ _ _ _ p refl)
 item_only scene bodies Inside ok c edge (choice stands p h) =
     then_ok _ _ _ _ (is_checked _ _ _ _ _ _ _ _ stands) (then_ok _ _ _ _ p (then_ok _ _ _ _ (cases_only (bodies (of_case scene)) (Inside (of_case scene)) (ok (of_case scene)) _ h) refl))
-item_only scene bodies Inside ok c edge (question stands p f o) =
+item_only scene bodies Inside ok c edge (question stands p f o w) =
     then_ok _ _ _ _ (is_checked _ _ _ _ _ _ _ _ stands)
-    (then_ok _ _ _ _ p (then_ok _ _ _ _ (action_only (bodies (of_case scene)) (Inside (of_case scene)) (ok (of_case scene)) _ f) (then_ok _ _ _ _ (action_only (bodies (of_case scene)) (Inside (of_case scene)) (ok (of_case scene)) _ o) refl)))
+    (then_ok _ _ _ _ p (then_ok _ _ _ _ (action_only (bodies (of_case scene)) (Inside (of_case scene)) (ok (of_case scene)) _ f) (then_ok _ _ _ _ (action_only (bodies (of_case scene)) (Inside (of_case scene)) (ok (of_case scene)) _ o) (then_ok _ _ _ _ w refl))))
 item_only scene bodies Inside ok c edge (check stands m n h) =
     then_ok _ _ _ _ (is_checked _ _ _ _ _ _ _ _ stands) (then_ok _ _ _ _ m (then_ok _ _ _ _ n (then_ok _ _ _ _ (ok _ _ _ _ h) refl)))
 

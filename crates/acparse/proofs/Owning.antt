@@ -5,7 +5,8 @@ use Rattle.std.specs.Str.{bytes_eq}
 use Rattle.std.proofs.lemmas.Slice.Eq.{bytes_eq-Decides}
 use Rattle.shellword.specs.declared.part.Part.{Part}
 use Rattle.baretext.specs.declared.assignments.Assignment.{Assignment}
-use Rattle.m4quote.specs.Entry.{Span, Entry}
+use Rattle.m4quote.specs.Entry.{Span}
+use Rattle.m4quote.specs.Entry as items
 use Rattle.deftable.specs.CacheName.{is_cache_name}
 use Rattle.acstatement.specs.declared.fault.ParseFault.{ParseFault}
 use Rattle.acstatement.specs.declared.stand.Edge.{Edge}
@@ -19,14 +20,17 @@ use Rattle.acmacros.specs.declared.macros.ChoiceMacro.TheVariants.{If, Case as A
 use Rattle.acmacros.specs.declared.macros.Macro.TheVariants.{Plain as A_plain, Question as A_question, Check as A_check}
 use Rattle.acmacros.specs.declared.macros.PlainMacro.{PlainMacro}
 use Rattle.acmacros.specs.declared.macros.QuestionMacro.{QuestionMacro}
-use Rattle.acmacros.specs.declared.macros.QuestionMacro.TheVariants.{Given, Tries}
+use Rattle.acmacros.specs.declared.macros.QuestionMacro.TheVariants.{Given, Tries, Checks, ChecksEach}
+use Rattle.acmacros.specs.Checks.{completed_of}
 use Rattle.acmacros.specs.Rows.{question_of}
 use Rattle.acmacros.specs.Scene.{Scene, Top, Nested, Commands, of_case, may_hold}
 use Rattle.acmacros.specs.Tries.{tries, tried_program}
 use Rattle.syntax.specs.declared.declarations.Declarations as declarations
 use Rattle.syntax.specs.declared.declarations.Stage.{Stage}
 use Rattle.syntax.specs.declared.statement.Plain as plain
+use Rattle.syntax.specs.declared.listed.Sought.TheVariants.{Entry, «Type»}
 use Rattle.syntax.specs.declared.statement.Question as question_of_tree
+use Rattle.syntax.specs.declared.statement.Question.TheVariants as asks
 use Rattle.syntax.specs.declared.tree.Stmt.{Stmt}
 use Rattle.syntax.specs.declared.tree.Subject.{Subject}
 use Rattle.syntax.specs.declared.tree.Subject.TheVariants.{Nothing, Word, Asked}
@@ -34,6 +38,7 @@ use Rattle.syntax.specs.declared.tree.When.{When}
 use Rattle.syntax.specs.declared.tree.When.TheVariants.{Always}
 use Rattle.syntax.specs.Commands.{TriesAlone, AreCommands, AreCommandsIn, HasCommands, HasCommandsIn}
 use Rattle.syntax.specs.Script.{Script, Done, Then, Choice, Check, Cases, No_case, Case, joined, followed, script_of}
+use Rattle.acparse.specs.Asked.{asked_by}
 use Rattle.acparse.specs.Bare.{assigned, may_assign, set_alone}
 use Rattle.acparse.specs.Profile.{source_of, subject_of, case_if}
 use Rattle.acparse.specs.Source.{IsSource}
@@ -178,12 +183,36 @@ tried c (Given kind) args q n at e f = absurd cc
 tried c (Tries kind) args q n at e f =
     let p = bind_ok (tried_program (arg_at args 0)) _ _ f in
     subst (λ (q : question_of_tree.Question). TriesAlone (Asked q)) (ok_is _ q p.2) tt
+tried c (Checks sought) args q n at e f = absurd cc
+tried c (ChecksEach sought) args q n at e f = absurd cc
 
-held_question : (scene : Scene) (c : declarations.Declarations) (m : QuestionMacro) (args : List Span) (q : question_of_tree.Question) (cases : Cases) → may_hold scene (A_question m) ≡ Ok tt → question_of c m args ≡ Ok q → HeldIn scene cases
-    → Held scene (Choice (Asked q) cases Done)
-held_question Top c m args q cases e f h = (h, tt)
-held_question Nested c m args q cases e f h = (h, tt)
-held_question (Commands n at) c m args q cases e f h = (tried c m args q n at e f, (h, tt))
+tried_whole : (q whole : question_of_tree.Question) (args : List Span) → TriesAlone (Asked q) → completed_of q args ≡ Ok whole → TriesAlone (Asked whole)
+unfolding completed_of
+tried_whole (asks.Given kind variable help) whole args t e = absurd t
+tried_whole (asks.Tries kind program) whole args t e = subst (λ (q : question_of_tree.Question). TriesAlone (Asked q)) (ok_is _ whole e) tt
+tried_whole (asks.Checks sought entry includes) whole args t e = absurd t
+tried_whole (asks.ChecksEach sought entries includes) whole args t e = absurd t
+
+has_asked : (q : question_of_tree.Question) (cases : Cases) → HasCommandsIn cases → HasCommands (asked_by q cases)
+has_asked q (Case when body more) h = (h, tt)
+has_asked (asks.Given kind variable help) No_case h = (h, tt)
+has_asked (asks.Tries kind program) No_case h = (h, tt)
+has_asked (asks.Checks sought entry includes) No_case h = (h, tt)
+has_asked (asks.ChecksEach (Entry listed) entries includes) No_case h = tt
+has_asked (asks.ChecksEach «Type» entries includes) No_case h = (h, tt)
+
+commands_asked : (n : List ℕ) (q : question_of_tree.Question) (cases : Cases) → TriesAlone (Asked q) → AreCommandsIn n cases → AreCommands n (asked_by q cases)
+commands_asked n q (Case when body more) t h = (t, (h, tt))
+commands_asked n (asks.Given kind variable help) No_case t h = absurd t
+commands_asked n (asks.Tries kind program) No_case t h = (t, (h, tt))
+commands_asked n (asks.Checks sought entry includes) No_case t h = absurd t
+commands_asked n (asks.ChecksEach sought entries includes) No_case t h = absurd t
+
+held_question : (scene : Scene) (c : declarations.Declarations) (m : QuestionMacro) (args : List Span) (q whole : question_of_tree.Question) (cases : Cases) → may_hold scene (A_question m) ≡ Ok tt → question_of c m args ≡ Ok q
+    → completed_of q args ≡ Ok whole → HeldIn scene cases → Held scene (asked_by whole cases)
+held_question Top c m args q whole cases e f w h = has_asked whole cases h
+held_question Nested c m args q whole cases e f w h = has_asked whole cases h
+held_question (Commands n at) c m args q whole cases e f w h = commands_asked n whole cases (tried_whole q whole args (tried c m args q n at e f) w) h
 
 named : (arg : Span) (n : List ℕ) → cache_name arg ≡ Ok n → is_cache_name n ≡ true
 unfolding cache_name
@@ -200,21 +229,21 @@ held_check (Commands other to) arg message n at commands e f h = absurd cc
 
 -- ---- items
 
-item_held : (scene : Scene) (Inside : Scene → Within) (holds : (x : Scene) → Holds x (Inside x)) (c : declarations.Declarations) (edge : Edge) {item : Entry} {next : List Entry} {s : Script}
+item_held : (scene : Scene) (Inside : Scene → Within) (holds : (x : Scene) → Holds x (Inside x)) (c : declarations.Declarations) (edge : Edge) {item : items.Entry} {next : List items.Entry} {s : Script}
     → IsItem scene Inside c edge item next s → Held scene s
 item_held scene Inside holds c edge (bare_text i) = bare_held scene i
 item_held scene Inside holds c edge (plain_call {m = m} {s = s} stands p) = plain_held scene m s stands.held
 item_held scene Inside holds c edge (choice {args = args} {m = m} {subject = subject} {cases = cases} stands p i) =
     held_choice scene subject cases (subject_tries m args subject p) (cases_held scene (Inside (of_case scene)) (λ c arg s x. of_case_held scene s (holds (of_case scene) c arg s x)) m i)
-item_held scene Inside holds c edge (question {args = args} {m = m} {q = q} {first = first} {other = other} stands p f o) =
+item_held scene Inside holds c edge (question {args = args} {m = m} {q = q} {whole = whole} {first = first} {other = other} stands p f o w) =
     let inner : Holds scene (Inside (of_case scene)) = λ c arg s x. of_case_held scene s (holds (of_case scene) c arg s x) in
-    held_question scene c m args q (followed first other) stands.held p
+    held_question scene c m args q whole (followed first other) stands.held p w
     (held_followed scene first other (action_held scene (Inside (of_case scene)) inner _ f) (action_held scene (Inside (of_case scene)) inner _ o))
 item_held scene Inside holds c edge (check {args = args} {message = message} {variable = variable} {commands = commands} stands m n i) =
     let at = (arg_at args 2).at in
     held_check scene (arg_at args 1) message variable at commands stands.held n (holds (Commands variable at) c (arg_at args 2) commands i)
 
-items_held : (scene : Scene) (Inside : Scene → Within) (holds : (x : Scene) → Holds x (Inside x)) {c : declarations.Declarations} {edge : Edge} {items : List Entry} {s : Script}
+items_held : (scene : Scene) (Inside : Scene → Within) (holds : (x : Scene) → Holds x (Inside x)) {c : declarations.Declarations} {edge : Edge} {items : List items.Entry} {s : Script}
     → AreStatements scene Inside c edge items s → Held scene s
 items_held scene Inside holds none = held_done scene
 items_held scene Inside holds (one {c = c} {first = first} {rest = rest} i more) = held_joined scene first rest (item_held scene Inside holds c _ i) (items_held scene Inside holds more)

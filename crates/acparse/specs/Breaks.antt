@@ -26,6 +26,7 @@ use Rattle.acmacros.specs.declared.macros.PlainMacro.{PlainMacro}
 use Rattle.syntax.specs.declared.declarations.Declarations as declarations
 use Rattle.syntax.specs.declared.declarations.Stage.{Stage}
 use Rattle.syntax.specs.declared.statement.Question.{Question}
+use Rattle.acmacros.specs.Checks.{completed_of}
 use Rattle.acmacros.specs.Rows.{plain_of, question_of}
 use Rattle.syntax.specs.Lists.{after_question}
 use Rattle.acmacros.specs.Placement.{bare_fault, placed}
@@ -33,7 +34,7 @@ use Rattle.acmacros.specs.Scene.{Scene, Commands, is_top, of_case, may_hold}
 use Rattle.acmacros.specs.Table.{row_named, takes}
 use Rattle.syntax.specs.declared.tree.Subject.{Subject}
 use Rattle.syntax.specs.declared.tree.When.{When}
-use Rattle.syntax.specs.declared.tree.When.TheVariants.{Yes}
+use Rattle.syntax.specs.declared.tree.When.TheVariants.{Yes, No}
 use Rattle.syntax.specs.Lists.{after_all, after_cases}
 use Rattle.syntax.specs.Script.{Script, Cases}
 use Rattle.acparse.specs.Bare.{bare_of}
@@ -91,6 +92,12 @@ pub data ItemBreaks (scene : Scene) (Inside : Scene → Within) (Broken : Scene 
       → MayStand scene c.stage edge name args at following (A_question m) → question_of c m args ≡ Ok q
       → IsAction (Inside (of_case scene)) Yes (after_question c q) (action_args m args) first
       → ActionBreaks (Broken (of_case scene)) (after_cases (after_question c q) first) (drop 1 (action_args m args)) f
+      → ItemBreaks scene Inside Broken c edge (call name args at) following f
+  in_includes : {name : List ℕ} {args : List Span} {at : ℕ} {following : List Entry} {m : QuestionMacro} {q : Question} {first other : Cases} {f : ParseFault}
+      → MayStand scene c.stage edge name args at following (A_question m) → question_of c m args ≡ Ok q
+      → IsAction (Inside (of_case scene)) Yes (after_question c q) (action_args m args) first
+      → IsAction (Inside (of_case scene)) No (after_cases (after_question c q) first) (drop 1 (action_args m args)) other
+      → completed_of q args ≡ Err f
       → ItemBreaks scene Inside Broken c edge (call name args at) following f
   in_message : {name : List ℕ} {args : List Span} {at : ℕ} {following : List Entry} {f : ParseFault}
       → MayStand scene c.stage edge name args at following A_check → here_text (arg_at args 0) ≡ Err f → ItemBreaks scene Inside Broken c edge (call name args at) following f

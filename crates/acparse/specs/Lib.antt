@@ -1,4 +1,5 @@
 pub mod Bare
+pub mod Asked
 pub mod Profile
 pub mod Statements
 pub mod Breaks

@@ -18,7 +18,7 @@ use Rattle.acmacros.specs.declared.macros.Macro.{Macro}
 use Rattle.acmacros.specs.declared.macros.Macro.TheVariants.{Plain, Choice as A_choice, Question as A_question, Check as A_check}
 use Rattle.acmacros.specs.declared.table.Row.{Row}
 use Rattle.acmacros.specs.declared.macros.QuestionMacro.{QuestionMacro}
-use Rattle.acmacros.specs.declared.macros.QuestionMacro.TheVariants.{Given, Tries}
+use Rattle.acmacros.specs.declared.macros.QuestionMacro.TheVariants.{Given, Tries, Checks, ChecksEach}
 use Rattle.syntax.specs.declared.declarations.Stage.{Stage}
 use Rattle.syntax.specs.declared.declarations.Stage.TheVariants.{Before, Open, Ended}
 use Rattle.syntax.specs.declared.declarations.Declarations as declarations
@@ -28,11 +28,12 @@ use Rattle.acmacros.specs.Placement.{as_statement, placed}
 use Rattle.acmacros.specs.Scene.{Scene, Top, Commands, is_top, of_case, may_hold}
 use Rattle.acmacros.specs.Table.{row_named, takes}
 use Rattle.syntax.specs.declared.tree.Subject.{Subject}
-use Rattle.syntax.specs.declared.tree.Subject.TheVariants.{Nothing, Word, Asked}
+use Rattle.syntax.specs.declared.tree.Subject.TheVariants.{Nothing, Word}
 use Rattle.syntax.specs.declared.tree.When.{When}
 use Rattle.syntax.specs.declared.tree.When.TheVariants.{Holds, Matches, Yes, No, Always}
 use Rattle.syntax.specs.Lists.{after_all, after_cases}
 use Rattle.syntax.specs.Script.{Script, Done, Then, Choice, Check, Cases, No_case, Case, joined, followed}
+use Rattle.acparse.specs.Asked.{asked_with}
 use Rattle.acparse.specs.Bare.{bare_of}
 
 -- A reader of statement arguments: what has been declared before one, the argument, and its statements. (own)
@@ -110,6 +111,8 @@ choice_of bodies m c args = do
 abbrev pub action_args : QuestionMacro → List Span → List Span
 action_args (Given kind) args = drop 2 args
 action_args (Tries kind) args = drop 1 args
+action_args (Checks sought) args = drop 1 args
+action_args (ChecksEach sought) args = drop 1 args
 
 -- The case of the first of these arguments, if there is one. (own)
 unfoldable pub action_in : Bodies → When → declarations.Declarations → List Span → Result Cases ParseFault
@@ -129,14 +132,15 @@ answers_in bodies c args = do
   Ok (followed first other)
 
 -- AC_ARG_ENABLE(feature, help, [for yes], [for no]) and AC_ARG_WITH; AC_COMPILE_IFELSE(program, [for yes], [for no]),
--- AC_LINK_IFELSE, AC_PREPROC_IFELSE and AC_RUN_IFELSE. (Autoconf's manual, "Choosing Package Options" and "Running the
--- Compiler")
+-- AC_LINK_IFELSE, AC_PREPROC_IFELSE and AC_RUN_IFELSE; AC_CHECK_HEADER(header, [for yes], [for no], [includes]) and its kin,
+-- and AC_CHECK_HEADERS(headers, ..) and its kin. (Autoconf's manual, "Choosing Package Options", "Running the Compiler" and
+-- "Existing Tests")
 unfoldable pub asked_of : Bodies → QuestionMacro → declarations.Declarations → List Span → Result Script ParseFault
 asked_of bodies m c args = do
   q ← question_of c m args
   first ← action_in bodies Yes (after_question c q) (action_args m args)
   other ← action_in bodies No (after_cases (after_question c q) first) (drop 1 (action_args m args))
-  Ok (Choice (Asked q) (followed first other) Done)
+  asked_with q (followed first other) args
 
 -- ---- checks
 

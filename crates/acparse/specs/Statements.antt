@@ -25,17 +25,18 @@ use Rattle.syntax.specs.declared.declarations.Stage.TheVariants.{Before, Open, E
 use Rattle.shellword.specs.declared.part.Part.{Part}
 use Rattle.syntax.specs.declared.statement.Plain as plain
 use Rattle.syntax.specs.declared.statement.Question.{Question}
+use Rattle.acmacros.specs.Checks.{completed_of}
 use Rattle.acmacros.specs.Rows.{plain_of, question_of}
 use Rattle.syntax.specs.Lists.{after_question}
 use Rattle.acmacros.specs.Placement.{placed}
 use Rattle.acmacros.specs.Scene.{Scene, Commands, is_top, of_case, may_hold}
 use Rattle.acmacros.specs.Table.{row_named, takes}
 use Rattle.syntax.specs.declared.tree.Subject.{Subject}
-use Rattle.syntax.specs.declared.tree.Subject.TheVariants.{Asked}
 use Rattle.syntax.specs.declared.tree.When.{When}
 use Rattle.syntax.specs.declared.tree.When.TheVariants.{Yes, No, Always}
 use Rattle.syntax.specs.Lists.{after_all, after_cases}
 use Rattle.syntax.specs.Script.{Script, Done, Then, Choice, Check, Cases, No_case, Case, joined, followed}
+use Rattle.acparse.specs.Asked.{asked_by}
 use Rattle.acparse.specs.Bare.{assigned, may_assign}
 use Rattle.acparse.specs.Profile.{when_of, subject_of, case_args, case_if, action_args}
 
@@ -84,11 +85,12 @@ pub data IsItem (scene : Scene) (Inside : Scene → Within) (c : declarations.De
   choice : {name : List ℕ} {args : List Span} {at : ℕ} {following : List Entry} {m : ChoiceMacro} {subject : Subject} {cases : Cases}
       → MayStand scene c.stage edge name args at following (A_choice m) → subject_of m args ≡ Ok subject → AreCases (Inside (of_case scene)) m c (case_args m args) cases
       → IsItem scene Inside c edge (call name args at) following (Choice subject cases Done)
-  question : {name : List ℕ} {args : List Span} {at : ℕ} {following : List Entry} {m : QuestionMacro} {q : Question} {first other : Cases}
+  question : {name : List ℕ} {args : List Span} {at : ℕ} {following : List Entry} {m : QuestionMacro} {q whole : Question} {first other : Cases}
       → MayStand scene c.stage edge name args at following (A_question m) → question_of c m args ≡ Ok q
       → IsAction (Inside (of_case scene)) Yes (after_question c q) (action_args m args) first
       → IsAction (Inside (of_case scene)) No (after_cases (after_question c q) first) (drop 1 (action_args m args)) other
-      → IsItem scene Inside c edge (call name args at) following (Choice (Asked q) (followed first other) Done)
+      → completed_of q args ≡ Ok whole
+      → IsItem scene Inside c edge (call name args at) following (asked_by whole (followed first other))
   check : {name : List ℕ} {args : List Span} {at : ℕ} {following : List Entry} {message : List Part} {variable : List ℕ} {commands : Script}
       → MayStand scene c.stage edge name args at following A_check → here_text (arg_at args 0) ≡ Ok message → cache_name (arg_at args 1) ≡ Ok variable
       → Inside (Commands variable (arg_at args 2).at) c (arg_at args 2) commands

@@ -3,7 +3,7 @@
 //! `parse` reads a whole source: its items (`m4quote`), and from them one statement after another: calls by the table
 //! of macros (`acmacros`), the text between them as assignments (`baretext`). The tree is that of the crate `syntax`.
 //!
-//! Read `bare` (text), then `read` (calls and lists of statements), then `source`, which has the theorem: unless memory
+//! Read `bare` (text), then `asked` (questions and their cases), `read` (calls and lists of statements), and `source`, which has the theorem: unless memory
 //! runs out, `parse` returns a tree exactly if the source has one by `specs/Source.antt` and, item by item,
 //! `specs/Statements.antt`. A list of statements is read with its scene (`acmacros::scene`): the file's own list and the
 //! commands of AC_CACHE_CHECK differ from other lists in what they may hold.
@@ -13,6 +13,7 @@
 //! Every function fails with `OutOfMemory` if memory runs out.
 #![tactic(auto)]
 
+mod asked;
 pub mod bare;
 pub mod read;
 pub mod source;

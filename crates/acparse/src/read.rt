@@ -15,6 +15,7 @@ ghost use Rattle.syntax.specs.Lists.{after_question};
 ghost use Rattle.syntax.specs.Lists.{after_all, after_cases, after_subject};
 ghost use Rattle.syntax.specs.Script.{script_of, cases_of, followed, Done};
 
+use crate::asked::asked_with;
 use crate::bare::read_bare;
 use acargs::ParseFault;
 use acargs::arguments::{cache_name, is_given};
@@ -126,7 +127,9 @@ fn action_args<'a, 'b>(m: QuestionMacro, args: &'b [Arg<'a>]) -> &'b [Arg<'a>]
 {
     match m {
         QuestionMacro::Given(_) => &args[args.len().min(2)..],
-        QuestionMacro::Tries(_) => &args[args.len().min(1)..],
+        QuestionMacro::Tries(_) | QuestionMacro::Checks(_) | QuestionMacro::ChecksEach(_) => {
+            &args[args.len().min(1)..]
+        }
     }
 }
 
@@ -334,7 +337,7 @@ fn ask(
     Ok(declare_question(alloc, known, &question).map(|()| question)?)
 }
 
-/// Reads AC_ARG_ENABLE, AC_COMPILE_IFELSE, or another macro that asks a question.
+/// Reads AC_ARG_ENABLE, AC_CHECK_HEADER, AC_COMPILE_IFELSE, or another macro that asks a question.
 #[cycle(list)]
 #[tactic(auto, unfolding(crate::specs::Profile::asked_of))]
 fn read_question(
@@ -349,10 +352,8 @@ fn read_question(
     ensures after { IfOk result (λ s. known.new ≡ after_all known.old (script_of (s ∷ []))) }
 {
     let question = ask(alloc, known, m, args)?;
-    read_answers(alloc, room, scene, known, action_args(m, args)).map(|cases| choose(
-        Subject::Asked(question),
-        cases,
-    ))
+    let cases = read_answers(alloc, room, scene, known, action_args(m, args))?;
+    asked_with(alloc, question, cases, args)
 }
 
 /// Returns the scene of the commands in an argument, which set this name.

@@ -3,7 +3,7 @@
 use crate::engine::{help_of, put_fault_line, read_source, run_filter, srcdir_in};
 use crate::given::{Given, arguments_of, lines_of, put_source_of};
 use crate::pages::{note_cut, put_error, put_fault, put_text};
-use crate::runs::{put_logged, put_new_lines, put_opening, put_run, put_variables};
+use crate::runs::{put_conftests, put_logged, put_new_lines, put_opening, put_run, put_variables};
 use crate::tree_words::{put_counts, put_lists, put_statements};
 use acparse::{Source, Stmt};
 use runner::{FilterFault, Filtered};
@@ -36,10 +36,12 @@ pub enum Kind {
     RanWhole,
     /// The log of a run.
     Logged,
+    /// The conftests of a run.
+    Conftests,
 }
 
 /// The sections that are answers.
-const ANSWERS: [(&[u8], Kind); 11] = [
+const ANSWERS: [(&[u8], Kind); 12] = [
     (b"parsed", Kind::Parsed),
     (b"counted", Kind::Counted),
     (b"fronts", Kind::Fronts),
@@ -51,6 +53,7 @@ const ANSWERS: [(&[u8], Kind); 11] = [
     (b"srcdir", Kind::Srcdir),
     (b"ran", Kind::Ran),
     (b"logged", Kind::Logged),
+    (b"conftests", Kind::Conftests),
 ];
 
 /// Returns the answer that a section of this name is.
@@ -97,6 +100,7 @@ fn put_read(page: &mut Page, kind: Kind, given: &Given, source: &Source) {
         Kind::Ran => put_run(page, given, source, false),
         Kind::RanWhole => put_run(page, given, source, true),
         Kind::Logged => put_logged(page, given, source),
+        Kind::Conftests => put_conftests(page, given, source),
         Kind::Help => put_help(page, source),
         Kind::Fronts | Kind::Sources => {
             page.put_number(source.statements().len());

@@ -59,9 +59,10 @@ fn run_plan(
     plan: &Plan,
     vars: Vars,
     replies: Vec<Reply>,
+    order: Order,
     window: usize,
 ) -> Result<Ran, AllocError> {
-    let crew = MemoryCrew::new(alloc, replies, Order::Oldest)?;
+    let crew = MemoryCrew::new(alloc, replies, order)?;
     let lines = Page::new(alloc);
     let mut recorder = Recorder { crew, lines };
     let end = run(alloc, plan, vars, &mut recorder, window.max(1).min(16))?;
@@ -71,14 +72,15 @@ fn run_plan(
     })
 }
 
-/// Runs a source from these variables over a crew of these replies.
+/// Runs a source from these variables over a crew of these replies, whose children end in this order.
 pub fn run_source(
     alloc: Global,
     source: &Source,
     vars: Vars,
     replies: Vec<Reply>,
+    order: Order,
     window: usize,
 ) -> Result<Ran, PlanFault> {
     let plan = compile(alloc, source)?;
-    Ok(run_plan(alloc, &plan, vars, replies, window)?)
+    Ok(run_plan(alloc, &plan, vars, replies, order, window)?)
 }

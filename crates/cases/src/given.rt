@@ -3,7 +3,7 @@
 use crate::casefile::Case;
 use crate::pages::note_cut;
 use crate::texts::number_of;
-use crew::Reply;
+use crew::{Order, Reply, SlotList};
 use deftable::Bytes;
 use testrows::{Page, cut};
 use textcut::{fields, parts};
@@ -194,4 +194,25 @@ pub fn replies_of(page: &mut Page, case: &Case<'_>) -> Vec<Reply> {
 pub fn window_of(page: &mut Page, case: &Case<'_>) -> usize {
     let text = text_of(page, case, b"window");
     number_of(text.text())
+}
+
+/// Returns the order in which children end: the oldest first if a case gives none.
+pub fn order_of(page: &mut Page, case: &Case<'_>) -> Order {
+    let alloc = page.alloc();
+    let text = text_of(page, case, b"order");
+    if text.text() == b"youngest".as_slice() {
+        return Order::Youngest;
+    }
+    let mut slots = Vec::new(alloc);
+    if let Some(words) = page.given(fields(alloc, text.text())) {
+        for word in words.as_slice() {
+            if slots.push(number_of(word)).is_err() {
+                page.cut();
+            }
+        }
+    }
+    if slots.is_empty() {
+        return Order::Oldest;
+    }
+    Order::Slots(SlotList::from_vec(slots))
 }

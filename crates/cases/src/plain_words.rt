@@ -4,7 +4,7 @@ use crate::pages::{put_bracketed, put_text};
 use crate::shell_words::{put_here, put_word};
 use acparse::{Help, Outputs};
 use shellword::HereText;
-use syntax::{Plain, ProgramNames};
+use syntax::{Entries, Listed, Plain, ProgramNames};
 use testrows::Page;
 
 /// Puts each file with its template.
@@ -32,6 +32,32 @@ fn put_programs(page: &mut Page, programs: &ProgramNames) {
     for program in programs.as_slice() {
         put_bracketed(page, program.as_slice());
     }
+}
+
+/// Puts each entry of a list.
+pub fn put_entries(page: &mut Page, entries: &Entries) {
+    for entry in entries.as_slice() {
+        put_bracketed(page, entry.as_slice());
+    }
+}
+
+/// Puts includes, if they are not the default ones.
+pub fn put_includes(page: &mut Page, includes: &Option<HereText>) {
+    if let Some(text) = includes {
+        page.put(b" includes");
+        put_here(page, text);
+    }
+}
+
+/// Puts a list whose entries are asked for at once.
+fn put_batch(page: &mut Page, listed: Listed, entries: &Entries, includes: &Option<HereText>) {
+    page.put(match listed {
+        Listed::Header => b"headers",
+        Listed::Function => b"functions",
+        Listed::Declaration => b"declarations",
+    });
+    put_entries(page, entries);
+    put_includes(page, includes);
 }
 
 fn put_otherwise(page: &mut Page, otherwise: &Option<HereText>) {
@@ -160,5 +186,10 @@ pub fn put_plain(page: &mut Page, statement: &Plain) {
         | Plain::CheckProg { .. }
         | Plain::CheckProgs { .. }
         | Plain::PathProg { .. } => put_search(page, statement),
+        Plain::Batch {
+            listed,
+            entries,
+            includes,
+        } => put_batch(page, *listed, entries, includes),
     }
 }

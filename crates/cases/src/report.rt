@@ -14,7 +14,7 @@ pub struct Report {
 }
 
 /// The sections that say what a case gives.
-const GIVEN: [&[u8]; 8] = [
+const GIVEN: [&[u8]; 9] = [
     b"source",
     b"lines",
     b"template",
@@ -23,6 +23,7 @@ const GIVEN: [&[u8]; 8] = [
     b"environment",
     b"replies",
     b"window",
+    b"order",
 ];
 
 /// Returns whether an answer of the case has a mark.

@@ -1,7 +1,9 @@
 //! What a run begins with, what it does, and what it leaves.
 
 use crate::engine::{Ran, read_settings, run_source};
-use crate::given::{Given, arguments_of, environment_of, lines_of, replies_of, window_of};
+use crate::given::{
+    Given, arguments_of, environment_of, lines_of, order_of, replies_of, window_of,
+};
 use crate::pages::{has, note_cut, put_bracketed, put_fault, put_text, put_value};
 use crate::recorder::put_command;
 use acparse::Source;
@@ -155,7 +157,8 @@ fn put_definitions(page: &mut Page, defs: &Defs) {
 fn ran(page: &mut Page, given: &Given, source: &Source, vars: Vars) -> Result<Ran, PlanFault> {
     let replies = replies_of(page, &given.case);
     let window = window_of(page, &given.case);
-    run_source(page.alloc(), source, vars, replies, window)
+    let order = order_of(page, &given.case);
+    run_source(page.alloc(), source, vars, replies, order, window)
 }
 
 fn put_ran(page: &mut Page, ran: &Ran, before: &[u8]) {
@@ -188,6 +191,43 @@ fn put_log(page: &mut Page, log: &Log) {
             Entry::Said(note) => put_note(page, note),
             Entry::Child { job, reply } => put_child(page, job, reply),
         }
+    }
+}
+
+/// Puts the name of a conftest, and then its lines.
+fn put_conftest(page: &mut Page, name: &[u8], text: &[u8]) {
+    put_text(page, name);
+    page.put(b"\n");
+    let lines = lines_of(page, text.strip_suffix(b"\n").unwrap_or(text));
+    for line in lines.as_slice() {
+        put_bracketed(page, line);
+        page.put(b"\n");
+    }
+}
+
+/// Puts the conftest of each child in a log that has one.
+fn put_log_conftests(page: &mut Page, log: &Log) {
+    for entry in log.as_slice() {
+        if let Entry::Child { job, .. } = entry {
+            if let Some((name, text)) = &job.file {
+                put_conftest(page, name.as_slice(), text.as_slice());
+            }
+        }
+    }
+}
+
+fn put_conftests_from(page: &mut Page, given: &Given, source: &Source, vars: Vars) {
+    match ran(page, given, source, vars) {
+        Ok(ran) => put_log_conftests(page, &ran.end.log),
+        Err(fault) => put_fault(page, b"plan ", &fault),
+    }
+}
+
+/// Puts the conftests of a run, or the fault of the arguments or of the plan.
+pub fn put_conftests(page: &mut Page, given: &Given, source: &Source) {
+    match settings_of(page, given, source) {
+        Ok(settings) => put_conftests_from(page, given, source, settings.vars),
+        Err(fault) => put_fault(page, b"option ", &fault),
     }
 }
 

@@ -1,12 +1,12 @@
 //! A source in words: a line for each statement, with those in it indented, and then its lists that are not empty.
 
-use crate::pages::{put_count, put_indent};
-use crate::plain_words::{put_files, put_help, put_plain};
+use crate::pages::{put_bracketed, put_count, put_indent};
+use crate::plain_words::{put_entries, put_files, put_help, put_includes, put_plain};
 use crate::shell_words::{put_here, put_patterns, put_test, put_word};
 use acparse::{Case, Help, Source, Stmt, Subject, When};
 use deftable::SubstList;
 use shellword::HereText;
-use syntax::{OptionKind, Program, Question, Try};
+use syntax::{Listed, OptionKind, Program, Question, Sought, Try};
 use testrows::Page;
 
 fn put_program(page: &mut Page, program: &Program) {
@@ -21,6 +21,15 @@ fn put_program(page: &mut Page, program: &Program) {
             put_here(page, text);
         }
     }
+}
+
+fn put_sought(page: &mut Page, sought: Sought) {
+    page.put(match sought {
+        Sought::Entry(Listed::Header) => b"header",
+        Sought::Entry(Listed::Function) => b"function",
+        Sought::Entry(Listed::Declaration) => b"declaration",
+        Sought::Type => b"type",
+    });
 }
 
 fn put_question(page: &mut Page, question: &Question) {
@@ -45,6 +54,25 @@ fn put_question(page: &mut Page, question: &Question) {
                 Try::Run => b"run",
             });
             put_program(page, program);
+        }
+        Question::Checks {
+            sought,
+            entry,
+            includes,
+        } => {
+            put_sought(page, *sought);
+            put_bracketed(page, entry.as_slice());
+            put_includes(page, includes);
+        }
+        Question::ChecksEach {
+            sought,
+            entries,
+            includes,
+        } => {
+            page.put(b"each ");
+            put_sought(page, *sought);
+            put_entries(page, entries);
+            put_includes(page, includes);
         }
     }
 }

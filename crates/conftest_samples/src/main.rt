@@ -23,8 +23,12 @@ const DEFINITIONS: u32 = 2000;
 const SAMPLES: &[(&str, &str, &str)] = &[
     ("header", "compile", "yes"),
     ("header-missing", "compile", "no"),
+    ("header-given", "compile", "yes"),
+    ("header-broken", "compile", "no"),
     ("function", "link", "yes"),
     ("function-missing", "link", "no"),
+    ("function-exit", "link", "yes"),
+    ("function-printf", "link", "yes"),
     ("declaration", "compile", "yes"),
     ("declaration-macro", "compile", "yes"),
     ("declaration-missing", "compile", "no"),
@@ -35,10 +39,18 @@ const SAMPLES: &[(&str, &str, &str)] = &[
     ("value", "compile", "yes"),
     ("value-again", "compile", "yes"),
     ("type-missing", "compile", "no"),
+    ("type-given", "compile", "yes"),
+    ("type-given-again", "compile", "no"),
+    ("type-not-given", "compile", "no"),
+    ("type-of-words", "compile", "yes"),
+    ("type-of-words-again", "compile", "no"),
     ("program", "run", "yes"),
     ("definitions", "run", "yes"),
     ("definitions-missing", "compile", "no"),
 ];
+
+/// Includes that a macro gives.
+const GIVEN_INCLUDES: &[u8] = b"#include <sys/types.h>\n#include <sys/stat.h>\n";
 
 /// The source of a sample.
 fn source_of(alloc: Global, name: &str) -> Result<Option<Bytes>, AllocError> {
@@ -46,8 +58,12 @@ fn source_of(alloc: Global, name: &str) -> Result<Option<Bytes>, AllocError> {
     let source = match name {
         "header" => header_source(alloc, includes, b"sys/stat.h")?,
         "header-missing" => header_source(alloc, includes, b"no/such/header.h")?,
+        "header-given" => header_source(alloc, b"#include <sys/types.h>", b"sys/stat.h")?,
+        "header-broken" => header_source(alloc, b"int int;", b"sys/stat.h")?,
         "function" => function_source(alloc, b"getpid")?,
         "function-missing" => function_source(alloc, b"no_such_function")?,
+        "function-exit" => function_source(alloc, b"exit")?,
+        "function-printf" => function_source(alloc, b"printf")?,
         "declaration" => declaration_source(alloc, includes, b"strlen")?,
         "declaration-macro" => declaration_source(alloc, includes, b"offsetof")?,
         "declaration-missing" => declaration_source(alloc, includes, b"no_such_name")?,
@@ -58,6 +74,13 @@ fn source_of(alloc: Global, name: &str) -> Result<Option<Bytes>, AllocError> {
         "value" => type_source(alloc, includes, b"stdout")?,
         "value-again" => second_type_source(alloc, includes, b"stdout")?,
         "type-missing" => type_source(alloc, includes, b"no_such_type")?,
+        "type-given" => type_source(alloc, GIVEN_INCLUDES, b"struct stat")?,
+        "type-given-again" => second_type_source(alloc, GIVEN_INCLUDES, b"struct stat")?,
+        "type-not-given" => type_source(alloc, b"", b"struct stat")?,
+        "type-of-words" => type_source(alloc, includes, b"unsigned long int * const *")?,
+        "type-of-words-again" => {
+            second_type_source(alloc, includes, b"unsigned long int * const *")?
+        }
         "program" => program_source(alloc, b"", b"")?,
         "definitions" | "definitions-missing" => program_source(alloc, b"", LAST_DEFINITION)?,
         _ => return Ok(None),

@@ -4,8 +4,9 @@ use Rattle.std.specs.Prelude.{ℕ, Bool, not, ◌&&◌, ◌||◌, ◌==◌, nat_
 use Rattle.std.specs.List.{list_all}
 use Rattle.deftable.specs.ShellName.{is_shell_name_of}
 use Rattle.textcut.specs.Cuts.{is_blank, fields}
-use Rattle.entries.specs.declared.forms.Listed.{Listed}
-use Rattle.entries.specs.declared.forms.Listed.TheVariants.{Header, Function, Declaration, «Type»}
+use Rattle.syntax.specs.declared.listed.Sought.{Sought}
+use Rattle.syntax.specs.declared.listed.Listed.TheVariants.{Header, Function, Declaration}
+use Rattle.syntax.specs.declared.listed.Sought.TheVariants.{Entry, «Type»}
 use Rattle.entries.specs.Commas.{comma_entries}
 
 -- No blank, `$`, `<`, `>`, `"`, backslash or backquote. (own)
@@ -18,16 +19,16 @@ is_type_byte b = not (b == 10 || b == 36 || b == 92 || b == 96)
 
 -- The text has the form of an entry of its kind. A function and a declaration are C identifiers, which have the form of shell
 -- names. (own)
-abbrev pub has_form : Listed → List ℕ → Bool
-has_form Header text = nat_lt 0 (length text) && list_all is_header_byte text
-has_form Function text = is_shell_name_of text
-has_form Declaration text = is_shell_name_of text
+abbrev pub has_form : Sought → List ℕ → Bool
+has_form (Entry Header) text = nat_lt 0 (length text) && list_all is_header_byte text
+has_form (Entry Function) text = is_shell_name_of text
+has_form (Entry Declaration) text = is_shell_name_of text
 has_form «Type» text = nat_lt 0 (length text) && list_all is_type_byte text
 
 -- The entries that a text lists, whatever their form: those between blanks, or those between commas outside parentheses.
 -- (Autoconf's manual, the sections of the macros; that parentheses hold commas is own)
-abbrev pub split : Listed → List ℕ → List (List ℕ)
-split Header text = fields text
-split Function text = fields text
-split Declaration text = comma_entries text
+abbrev pub split : Sought → List ℕ → List (List ℕ)
+split (Entry Header) text = fields text
+split (Entry Function) text = fields text
+split (Entry Declaration) text = comma_entries text
 split «Type» text = comma_entries text

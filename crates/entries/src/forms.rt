@@ -1,4 +1,4 @@
-//! The kinds of entries, and the form of each.
+//! The form of each kind of entry.
 
 ghost use Rattle.std.specs.Prelude.{◌≡◌, map, IfOk};
 ghost use Rattle.std.specs.List.{list_all};
@@ -7,20 +7,8 @@ ghost use Rattle.entries.specs.Forms as specs;
 use crate::commas::comma_entries;
 use deftable::is_shell_name;
 use std::alloc::{AllocError, Global};
+use syntax::{Listed, Sought};
 use textcut::{fields, is_blank};
-
-/// What a list names.
-#[derive(Clone, Copy)]
-pub enum Listed {
-    /// Headers, separated by blanks (Autoconf's manual, "Generic Headers").
-    Header,
-    /// Functions, separated by blanks (Autoconf's manual, "Generic Functions").
-    Function,
-    /// Declarations, separated by commas (Autoconf's manual, "Generic Declarations").
-    Declaration,
-    /// Types, separated by commas (Autoconf's manual, "Generic Types").
-    Type,
-}
 
 fn is_header_byte(byte: u8) -> bool
     ensures { result ≡ specs.is_header_byte byte }
@@ -50,18 +38,18 @@ fn are_type_bytes(text: &[u8]) -> bool
 ///
 /// A header is not empty, and has no blank, `$`, `<`, `>`, `"`, backslash or backquote. A function and a declaration are C
 /// identifiers. A type is not empty, and has no newline, `$`, backslash or backquote.
-pub(crate) fn has_form(kind: Listed, text: &[u8]) -> bool
+pub(crate) fn has_form(kind: Sought, text: &[u8]) -> bool
     ensures { result ≡ specs.has_form kind text.now }
 {
     match kind {
-        Listed::Header => !text.is_empty() && are_header_bytes(text),
-        Listed::Function | Listed::Declaration => is_shell_name(text),
-        Listed::Type => !text.is_empty() && are_type_bytes(text),
+        Sought::Entry(Listed::Header) => !text.is_empty() && are_header_bytes(text),
+        Sought::Entry(Listed::Function | Listed::Declaration) => is_shell_name(text),
+        Sought::Type => !text.is_empty() && are_type_bytes(text),
     }
 }
 
 /// Returns whether every text has the form of an entry of its kind.
-pub(crate) fn have_form(kind: Listed, texts: &[&[u8]]) -> bool
+pub(crate) fn have_form(kind: Sought, texts: &[&[u8]]) -> bool
     ensures { result ≡ list_all (λ t. specs.has_form kind t.now) texts.now }
 {
     texts.iter().all(|text| has_form(kind, text))
@@ -69,11 +57,11 @@ pub(crate) fn have_form(kind: Listed, texts: &[&[u8]]) -> bool
 
 /// Splits a text at blanks or at commas outside parentheses, as lists of the kind are separated. No entry is empty, and each
 /// may have any form.
-pub(crate) fn split(alloc: Global, kind: Listed, text: &[u8]) -> Result<Vec<&[u8]>, AllocError>
+pub(crate) fn split(alloc: Global, kind: Sought, text: &[u8]) -> Result<Vec<&[u8]>, AllocError>
     ensures { IfOk result (λ v. map (λ e. e.now) v.items ≡ specs.split kind text.now) }
 {
     match kind {
-        Listed::Header | Listed::Function => fields(alloc, text),
-        Listed::Declaration | Listed::Type => comma_entries(alloc, text),
+        Sought::Entry(Listed::Header | Listed::Function) => fields(alloc, text),
+        Sought::Entry(Listed::Declaration) | Sought::Type => comma_entries(alloc, text),
     }
 }

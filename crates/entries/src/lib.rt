@@ -2,11 +2,11 @@
 //! "Existing Tests").
 //!
 //! A macro names what it looks for in one argument. Headers and functions are separated by blanks, declarations and types by
-//! commas outside parentheses. Each entry has the form of its kind ([`Listed`]), and a list has 1 to 256 entries
-//! ([`Entries`]).
+//! commas outside parentheses. Each entry has the form of its kind ([`Sought`](syntax::Sought)), and a list has 1 to 256 entries
+//! ([`Entries`](syntax::Entries)).
 //!
-//! Read `commas` first (texts separated by commas), then `forms` (the kinds and their forms), `list` (a list that was read)
-//! and `reading` (the readers of arguments). `facts` has a law of texts separated by commas.
+//! Read `commas` first (texts separated by commas), then `forms` (the form of each kind) and `reading` (the readers of
+//! arguments). `facts` has a law of texts separated by commas.
 //!
 //! ```text
 //! stdio.h unistd.h          headers: stdio.h, unistd.h
@@ -21,9 +21,6 @@
 mod commas;
 mod facts;
 mod forms;
-mod list;
 pub mod reading;
 
 pub use facts::comma_laws;
-pub use forms::Listed;
-pub use list::Entries;

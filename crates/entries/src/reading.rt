@@ -7,13 +7,16 @@ ghost use Rattle.acstatement.specs.Reading.{Gives};
 ghost use Rattle.entries.specs.Forms.{has_form};
 ghost use Rattle.entries.specs.Readers as readers;
 
-use crate::forms::{Listed, has_form, have_form, split};
-use crate::list::{Entries, MAX_ENTRIES};
+use crate::forms::{has_form, have_form, split};
 use acstatement::fault::{ParseFault, moved_by, quote_fault};
 use deftable::Bytes;
 use m4quote::{Arg, used_text};
 use std::alloc::{AllocError, Global};
+use syntax::{Entries, Sought};
 use textcut::trim;
+
+/// The largest number of entries of a list (own).
+const MAX_ENTRIES: usize = 256;
 
 /// Returns the used text of an argument.
 fn text(alloc: Global, arg: Arg<'_>) -> Result<Bytes, ParseFault>
@@ -31,7 +34,7 @@ fn text(alloc: Global, arg: Arg<'_>) -> Result<Bytes, ParseFault>
 ///
 /// - `BadName` at the argument, if the text does not have the form of an entry of its kind.
 #[tactic(auto, unfolding(crate::specs::Readers::entry_of))]
-pub fn entry(alloc: Global, kind: Listed, arg: Arg<'_>) -> Result<Bytes, ParseFault>
+pub fn entry(alloc: Global, kind: Sought, arg: Arg<'_>) -> Result<Bytes, ParseFault>
     ensures function { Gives (λ t. t) result (readers.entry_of kind (span arg.entry)) }
     ensures form { IfOk result (λ t. IsTrue (has_form kind t)) }
 {
@@ -45,7 +48,7 @@ pub fn entry(alloc: Global, kind: Listed, arg: Arg<'_>) -> Result<Bytes, ParseFa
 
 /// Checks the entries of an argument at `at`: their number first, and then their form.
 #[tactic(auto, using(crate::proofs::Lists::mapped_and_counted))]
-fn check(kind: Listed, at: usize, entries: &[&[u8]]) -> Result<(), ParseFault>
+fn check(kind: Sought, at: usize, entries: &[&[u8]]) -> Result<(), ParseFault>
     ensures { Gives (λ _. tt) result (readers.wanted kind at (map (λ e. e.now) entries.now)) }
 {
     if entries.is_empty() {
@@ -72,7 +75,7 @@ fn copies(alloc: Global, texts: &[&[u8]]) -> Result<Vec<Bytes>, AllocError>
 }
 
 /// Returns the entries that a text at `at` lists.
-fn entries_in(alloc: Global, kind: Listed, at: usize, text: &[u8]) -> Result<Vec<Bytes>, ParseFault>
+fn entries_in(alloc: Global, kind: Sought, at: usize, text: &[u8]) -> Result<Vec<Bytes>, ParseFault>
     ensures { Gives (λ v. v.items) result (readers.entries_in kind at text.now) }
 {
     let entries = split(alloc, kind, text)?;
@@ -89,7 +92,7 @@ fn entries_in(alloc: Global, kind: Listed, at: usize, text: &[u8]) -> Result<Vec
 /// - `TooMany` at the argument, if it lists more than 256 entries, whatever their form.
 /// - `BadName` at the argument, if an entry does not have the form of its kind.
 #[tactic(auto, unfolding(crate::specs::Readers::entries_of))]
-pub fn entries(alloc: Global, kind: Listed, arg: Arg<'_>) -> Result<Entries, ParseFault>
+pub fn entries(alloc: Global, kind: Sought, arg: Arg<'_>) -> Result<Entries, ParseFault>
     ensures function { Gives (λ e. e) result (readers.entries_of kind (span arg.entry)) }
     ensures form { IfOk result (λ e. IsTrue (list_all (has_form kind) e)) }
 {

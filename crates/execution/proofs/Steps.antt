@@ -1,17 +1,31 @@
 -- Steps, as what they are made of continues.
-use Rattle.std.proofs.Common.{◌≡◌, ℕ, Bool, true, cond, List, Option, None, Result, Ok, Err, IfOk, sym, ap, ◌∙◌}
+use Rattle.std.proofs.Common.{◌≡◌, ℕ, ◌<◌, ◌≤◌, Bool, true, false, cond, List, [], ◌∷◌, length, get_or, arith, Option, None, Some, Result, Ok, Err, IfOk, Vec, Global, refl, sym, ap, subst, ◌∙◌}
 use Rattle.std.specs.Prelude.{not, ◌||◌, option_map}
 use Rattle.std.specs.declared.alloc.AllocError.{AllocError}
 use Rattle.shellword.specs.declared.part.Part.{Part}
 use Rattle.shellword.specs.Value.{word_value}
+use Rattle.syntax.specs.declared.listed.Listed.{Listed}
+use Rattle.syntax.specs.declared.listed.Sought.{Sought}
+use Rattle.conftest.specs.declared.job.Job.{Job}
 use Rattle.syntax.specs.declared.statement.Plain as plain
-use Rattle.syntax.specs.declared.statement.Plain.TheVariants.{CheckProg, PathProg}
-use Rattle.meaning.specs.State.{State, Scope, Run, Ends, Goes_on}
-use Rattle.meaning.specs.Meaning.{effect, check_prog, path_prog, program_test, has_value, is_full_name, looks}
+use Rattle.syntax.specs.declared.statement.Plain.TheVariants.{CheckProg, PathProg, Batch}
+use Rattle.meaning.specs.State.{State, Scope, How, Run, Ends, Goes_on}
+use Rattle.meaning.specs.Meaning.{effect, check_prog, path_prog, program_test, has_value, is_full_name, looks, found_by, first_found}
+use Rattle.conftest.specs.Probe.{job_of, run_of}
+use Rattle.syntax.specs.declared.program.Try as kinds
+use Rattle.syntax.specs.declared.program.Try.TheVariants as tries
+use Rattle.meaning.specs.Asking.{child, compiled}
+use Rattle.meaning.specs.Tries.{first_probe, tried}
+use Rattle.plan.specs.Inside.{asks_to_try}
+use Rattle.meaning.specs.Batches.{batched}
+use Rattle.searching.specs.Waits.{Suits, at_once, is_single}
+use Rattle.searching.specs.declared.trial.Waiting as waiting
+use Rattle.searching.specs.declared.wait.Wait.{Wait}
+use Rattle.searching.specs.declared.wait.Wait.TheVariants as waits
 use Rattle.plan.specs.Walk.{Mind, minded, own_effect}
 use Rattle.searching.specs.declared.flow.Flow.{Flow}
 use Rattle.searching.specs.Flows.{Leads, Continues}
-use Rattle.meaning.specs.Rows.{value_or_empty}
+use Rattle.meaning.specs.Rows.{kind_for, value_or_empty}
 use Rattle.searching.proofs.Searches.{continued}
 
 -- A program of a list that is looked for.
@@ -52,3 +66,48 @@ path_effect statement variable program o seen otherwise st is s d =
     ap (λ v. program_test (path_prog v program otherwise) (is_full_name (value_or_empty st v)) st) s
     ∙ ap (λ v. program_test (path_prog variable program v) (is_full_name (value_or_empty st variable)) st) d
     ∙ sym (ap (λ x. own_effect x st) is)
+
+-- The first entry of a list.
+pub first_entry : (early : How → State → State) (sought : Sought) (entries : List (List ℕ)) (entry : List ℕ) (includes : Option (List Part)) (st : State) (go : Scope → State → Run) → 0 < length entries → entry ≡ get_or entries 0 entry
+    → found_by early (kind_for sought entry includes true) st go ≡ first_found early sought entries includes st go
+first_entry early sought [] entry includes st go some is = absurd (omega (arith, some))
+first_entry early sought (e ∷ more) entry includes st go some is = ap (λ x. found_by early (kind_for sought x includes true) st go) is
+
+-- A batch.
+pub batch_effect : (statement : plain.Plain) (listed : Listed) (entries : List (List ℕ)) (includes : Option (List Part)) (st : State) → statement ≡ Batch listed entries includes
+    → batched (record { listed = listed; entries = entries; includes = includes }) st ≡ own_effect statement st
+unfolding effect
+batch_effect statement listed entries includes st is = sym (ap (λ x. own_effect x st) is)
+
+pub batch_fits : (entries : Vec waiting.Waiting Global) (w : Wait) (jobs : List Job) → w ≡ waits.Batch entries → Suits w jobs → length jobs ≡ at_once entries.items
+unfolding Suits
+batch_fits entries w jobs is fit = subst (λ x. Suits x jobs) is fit
+
+pub single_of : (w : Wait) → ((entries : Vec waiting.Waiting Global) → w ≡ waits.Batch entries → ⊥) → is_single w ≡ true
+single_of waits.Nothing h = refl
+single_of waits.Answer h = refl
+single_of waits.Link h = refl
+single_of (waits.Directory search file left) h = refl
+single_of (waits.Found trial found_on) h = refl
+single_of (waits.Size trial second) h = refl
+single_of (waits.Batch entries) h = absurd (h entries refl)
+
+-- A program that is tried.
+pub one_asks : (kind : kinds.Try) → 1 ≤ asks_to_try kind
+one_asks tries.Compile = omega arith
+one_asks tries.Link = omega arith
+one_asks tries.Preproc = omega arith
+one_asks tries.Run = omega arith
+
+pub tried_answers : (kind : kinds.Try) (text : List ℕ) (early : How → State → State) (st : State) (go : Bool → State → Run) (job : Job) → (kind ≡ tries.Run → ⊥) → job_of (first_probe kind text) 0 st.vars st.defs ≡ Some job
+    → child early job st go ≡ tried early kind text st go
+tried_answers tries.Compile text early st go job no_run e = sym (ap (λ j. compiled early j st go) e)
+tried_answers tries.Link text early st go job no_run e = sym (ap (λ j. compiled early j st go) e)
+tried_answers tries.Preproc text early st go job no_run e = sym (ap (λ j. compiled early j st go) e)
+tried_answers tries.Run text early st go job no_run e = absurd (no_run refl)
+
+pub tried_links : (kind : kinds.Try) (text : List ℕ) (early : How → State → State) (st : State) (go : Bool → State → Run) (job : Job) → kind ≡ tries.Run → job_of (first_probe kind text) 0 st.vars st.defs ≡ Some job
+    → child early job st (λ linked now. cond linked (child early (run_of 0) now go) (go false now)) ≡ tried early kind text st go
+tried_links kind text early st go job run e =
+    sym (ap (λ k. tried early k text st go) run
+    ∙ ap (λ j. compiled early j st (λ linked now. cond linked (child early (run_of 0) now go) (go false now))) (ap (λ k. job_of (first_probe k text) 0 st.vars st.defs) (sym run) ∙ e))

@@ -1,38 +1,38 @@
-//! One step, and what follows the replies to its jobs.
+//! One step.
 
-ghost use Rattle.std.specs.Prelude.{◌≡◌, unwrap_or, ◌≤◌, ◌<◌, ◌+◌, ◌^◌, ◌++◌, ◌∷◌, ◌||◌, not, [], IfOk, IsOk, OnOk, None, Some, if◌then◌else◌, length, option_map, option_to_list};
+ghost use Rattle.std.specs.Prelude.{◌≡◌, ◌≤◌, ◌++◌, ◌∷◌, ◌||◌, not, [], IfOk, IsOk, OnOk, None, Some, if◌then◌else◌, option_map};
 ghost use Rattle.deftable.specs.ShellName.{IsShellName};
 ghost use Rattle.deftable.specs.Table as tables;
 ghost use Rattle.deftable.specs.declared.note.Stream.TheVariants as streams;
-ghost use Rattle.meaning.specs.Asking.{child, no_compiler, success};
-ghost use Rattle.meaning.specs.Asking as meant;
-ghost use Rattle.meaning.specs.Meaning.{asked, begun, check_prog, defaulted, error_line, has_value, is_full_name, is_taken, looks, path_prog, program_test, value_name, with_prefixes};
+ghost use Rattle.meaning.specs.Meaning.{asked, begun, check_prog, defaulted, error_line, first_found, has_value, is_full_name, is_taken, looks, path_prog, program_test, value_name, with_prefixes};
 ghost use Rattle.meaning.specs.Meaning as meanings;
-ghost use Rattle.meaning.specs.Play.{refused_after, refused_here};
 ghost use Rattle.meaning.specs.Rows.{value_or_empty};
-ghost use Rattle.meaning.specs.State.{Scope, State, answered, then_run, told, with_child, with_definition, with_variable};
-ghost use Rattle.conftest.specs.Probe.{job_of, run_of};
+ghost use Rattle.meaning.specs.State.{Scope, State, answered, then_run, told, with_definition, with_variable};
+ghost use Rattle.conftest.specs.Probe.{job_of};
 ghost use Rattle.meaning.specs.Tests.{broken_all, guarded_all};
 ghost use Rattle.meaning.specs.Tries.{first_probe, text_of, tried};
 ghost use Rattle.shellword.specs.Value.{word_value};
-ghost use Rattle.plan.specs.Inside.{asks_about, asks_by, asks_of, asks_to_try, reach};
+ghost use Rattle.syntax.specs.declared.statement.Question.TheVariants.{ChecksEach};
+ghost use Rattle.plan.specs.Inside.{asks_about, asks_by, asks_of, asks_to_find, asks_to_try, reach};
 ghost use Rattle.plan.specs.Walk.{act, minded, own_effect, shown};
 ghost use Rattle.searching.specs.Flows.{Continues, Heeds, IsGroup, Leads, asks_now, passed};
-ghost use Rattle.searching.specs.declared.flow.Flow.TheVariants.{Complete, Cut, Pass, Stop};
-ghost use Rattle.searching.specs.Waits.{Awaits, broken_off, finished, given, resumed, searched, told_to, tests_in, waits_for, with_asked};
+ghost use Rattle.searching.specs.declared.flow.Flow.TheVariants.{Complete, Pass, Stop};
 
 use crate::checks::{close_check, open_check};
-use conftest::{Job, run_job};
-use crew::Reply;
+use crate::hearing::{ask_answer, ask_link};
+use batching::begin_batch;
+use conftest::Job;
 use deftable::Bytes;
 use plan::Step;
-use runstate::pieces::{break_test, report_error, report_no_compiler};
+use probing::check_entry;
+use runstate::pieces::report_error;
 use runstate::{About, OpenTests, Store, initialise};
-use searching::search::{alone, look_for, look_on, pass_search};
-use searching::{Directories, Flow, Search, Wait};
+use searching::programs::stop_without_compiler;
+use searching::search::look_for;
+use searching::{Flow, Search};
 use shellword::{HereText, Word};
 use std::alloc::{AllocError, Global};
-use syntax::{OptionKind, Plain, Program, Question, Subject, Try, When};
+use syntax::{Entries, OptionKind, Plain, Program, Question, Sought, Subject, Try, When};
 
 /// Returns the value of a here text, if there is one.
 fn value_of(
@@ -297,6 +297,15 @@ fn execute(alloc: Global, store: &mut Store, statement: &Plain) -> Result<Flow, 
             program,
             otherwise,
         } => find_for(alloc, store, variable.as_slice(), program, otherwise),
+        Plain::Batch {
+            listed,
+            entries,
+            includes,
+        } => {
+            // for the proof only: the flow has a name
+            let flow = begin_batch(alloc, store, *listed, entries, includes)?;
+            Ok(flow)
+        }
         Plain::Output => complete(store),
     }
 }
@@ -360,15 +369,6 @@ fn value_name(kind: OptionKind) -> &'static [u8]
     }
 }
 
-/// Stops the run because there is no compiler.
-fn stop_without_compiler(alloc: Global, store: &mut Store) -> Result<Flow, AllocError>
-    ensures stops { IfOk result (λ flow. flow ≡ Stop 1) }
-    ensures prints { OnOk result (store.new ≡ told streams.Err no_compiler store.old) }
-{
-    report_no_compiler(alloc, store)?;
-    Ok(Flow::Stop { status: 1 })
-}
-
 /// Returns the first job of a program, or `None` if there is no compiler.
 fn first_job(
     alloc: Global,
@@ -379,7 +379,7 @@ fn first_job(
     ensures { IfOk result (λ job. job ≡ job_of (first_probe kind (text_of program.now store.now.vars)) 0 store.now.vars store.now.defs) }
 {
     let text = store.program_text(alloc, program)?;
-    store.job_to_try(alloc, kind, text.as_slice())
+    store.job_to_try(alloc, kind, text.as_slice(), 0)
 }
 
 /// Tries a program.
@@ -398,12 +398,13 @@ fn try_program(
     let Some(job) = first_job(alloc, store, kind, program)? else {
         return stop_without_compiler(alloc, store);
     };
-    let jobs = alone(alloc, job)?;
-    let wait = match kind {
-        Try::Compile | Try::Link | Try::Preproc => Wait::Answer,
-        Try::Run => Wait::Link,
-    };
-    Ok(Flow::Ask { jobs, wait })
+    if let Try::Run = kind {
+        // for the proof only: the flow has a name
+        let flow = ask_link(alloc, job)?;
+        return Ok(flow);
+    }
+    let flow = ask_answer(alloc, job)?;
+    Ok(flow)
 }
 
 /// Answers whether an option is given: whether its variable is set. If it is, its value is kept.
@@ -420,6 +421,27 @@ fn ask_given(
     let is_given = store.copy_value(alloc, variable, value_name(kind))?;
     *about = About::answer(alloc, is_given);
     Ok(Flow::Pass { more: 0 })
+}
+
+/// Tests the first entry of a list.
+fn check_first(
+    alloc: Global,
+    store: &mut Store,
+    about: &mut About,
+    sought: Sought,
+    entries: &Entries,
+    includes: &Option<HereText>,
+) -> Result<Flow, AllocError>
+    ensures within { IfOk result (λ flow. passed flow ≤ 0) }
+    ensures asks { IfOk result (λ flow. asks_now flow ≤ asks_to_find sought) }
+    ensures group { IfOk result IsGroup }
+    ensures heeds { IfOk result (λ flow. Heeds flow None) }
+    ensures leads { IfOk result (λ flow. Leads flow (λ tests next. first_found (broken_all tests) sought entries.now includes.now store.old (next 0)) about.new store.new) }
+{
+    let list = entries.as_slice();
+    let entry = &list[0];
+    let flow = check_entry(alloc, store, about, sought, entry, includes, true)?;
+    Ok(flow)
 }
 
 /// Asks the question of a choice.
@@ -444,7 +466,45 @@ fn ask(
             let flow = try_program(alloc, store, *kind, program)?;
             Ok(flow)
         }
+        Question::Checks {
+            sought,
+            entry,
+            includes,
+        } => {
+            // for the proof only: the flow has a name
+            let flow = check_entry(alloc, store, about, *sought, entry, includes, false)?;
+            Ok(flow)
+        }
+        Question::ChecksEach {
+            sought,
+            entries,
+            includes,
+        } => {
+            // for the proof only: the flow has a name
+            let flow = check_first(alloc, store, about, *sought, entries, includes)?;
+            Ok(flow)
+        }
     }
+}
+
+/// Begins a round of a list: the test of its entry.
+#[tactic(auto, unfolding(meaning::specs::Meaning::begun))]
+fn begin_round(
+    alloc: Global,
+    store: &mut Store,
+    about: &mut About,
+    sought: Sought,
+    entry: &Bytes,
+    includes: &Option<HereText>,
+) -> Result<Flow, AllocError>
+    ensures within { IfOk result (λ flow. passed flow ≤ 0) }
+    ensures asks { IfOk result (λ flow. asks_now flow ≤ asks_to_find sought) }
+    ensures group { IfOk result IsGroup }
+    ensures heeds { IfOk result (λ flow. Heeds flow None) }
+    ensures leads { IfOk result (λ flow. Leads flow (λ tests next. begun (broken_all tests) (Subject.Asked (ChecksEach sought (entry.now ∷ []) includes.now)) store.old (next 0)) about.new store.new) }
+{
+    let flow = check_entry(alloc, store, about, sought, entry, includes, true)?;
+    Ok(flow)
 }
 
 /// Begins a choice.
@@ -525,6 +585,11 @@ pub fn do_step(
         } => look(alloc, store, variable, program, *always),
         Step::Default { variable, value } => pass(set_default(alloc, store, variable, value)),
         Step::Subject(subject) => begin(alloc, store, about, subject),
+        Step::Round {
+            sought,
+            entry,
+            includes,
+        } => begin_round(alloc, store, about, *sought, entry, includes),
         Step::SkipUnless { when, steps } => skip_unless(alloc, store, when, about, *steps),
         Step::Skip { steps } => Ok(Flow::Pass { more: *steps }),
         Step::Open {
@@ -534,210 +599,4 @@ pub fn do_step(
         } => open_check(alloc, store, tests, message, name, *steps),
         Step::Close { name } => close_check(alloc, store, tests, name),
     }
-}
-
-/// Returns whether the child with this reply succeeded, or `None` if it didn't answer.
-fn success(reply: &Reply) -> Option<bool>
-    ensures { result ≡ success reply.now }
-{
-    match reply {
-        Reply::Answer { status, .. } => Some(*status == 0),
-        Reply::StartRefused | Reply::EndRefused => None,
-    }
-}
-
-/// Continues with whether a directory has the program that is looked for.
-fn tell_search(
-    alloc: Global,
-    store: &mut Store,
-    search: Search,
-    file: Bytes,
-    left: Directories,
-    found: bool,
-) -> Result<Flow, AllocError>
-    ensures within { IfOk result (λ flow. passed flow ≤ 0) }
-    ensures asks { IfOk result (λ flow. asks_now flow ≤ length left) }
-    ensures group { IfOk result IsGroup }
-    ensures heeds { IfOk result (λ flow. Heeds flow None) }
-    ensures leads { IfOk result (λ flow. (about : Scope) → Leads flow (λ tests next. if found then next 0 about (finished search (Some (unwrap_or search.found file)) store.old) else searched tests search left store.old (next 0 about)) about store.new) }
-{
-    if !found {
-        return look_on(alloc, store, search, left);
-    }
-    let value = search.found.as_ref().unwrap_or(&file);
-    pass_search(alloc, store, &search, Some(value))
-}
-
-/// Asks to run the program that was linked.
-fn ask_to_run(alloc: Global) -> Result<Flow, AllocError>
-    ensures within { IfOk result (λ flow. passed flow ≤ 0) }
-    ensures asks { IfOk result (λ flow. asks_now flow ≤ 1) }
-    ensures group { IfOk result IsGroup }
-    ensures heeds { IfOk result (λ flow. Heeds flow None) }
-    ensures leads { IfOk result (λ flow. (about : Scope) (st : State) → Leads flow (λ tests next. child (broken_all tests) (run_of 0) st (λ passed. next 0 (answered passed))) about st) }
-{
-    let job = run_job(alloc, 0)?;
-    let jobs = alone(alloc, job)?;
-    Ok(Flow::Ask {
-        jobs,
-        wait: Wait::Answer,
-    })
-}
-
-/// Continues with whether the child succeeded.
-fn tell(
-    alloc: Global,
-    store: &mut Store,
-    about: &mut About,
-    wait: Wait,
-    succeeded: bool,
-) -> Result<Flow, AllocError>
-    ensures within { IfOk result (λ flow. passed flow ≤ 0) }
-    ensures asks { IfOk result (λ flow. asks_now flow ≤ waits_for wait) }
-    ensures group { IfOk result IsGroup }
-    ensures heeds { IfOk result (λ flow. Heeds flow None) }
-    ensures leads { IfOk result (λ flow. Leads flow (λ tests next. told_to tests wait succeeded (next 0) about.old store.old) about.new store.new) }
-{
-    match wait {
-        Wait::Nothing => Ok(Flow::Pass { more: 0 }),
-        Wait::Answer => {
-            *about = About::answer(alloc, succeeded);
-            Ok(Flow::Pass { more: 0 })
-        }
-        Wait::Link => {
-            if !succeeded {
-                *about = About::answer(alloc, false);
-                return Ok(Flow::Pass { more: 0 });
-            }
-            let flow = ask_to_run(alloc)?;
-            Ok(flow)
-        }
-        Wait::Directory { search, file, left } => {
-            // for the proof only: the flow has a name
-            let flow = tell_search(alloc, store, search, file, left, succeeded)?;
-            Ok(flow)
-        }
-    }
-}
-
-/// Ends what is waited for, because the reply is refused.
-fn break_off(alloc: Global, store: &mut Store, wait: &Wait) -> Result<(), AllocError>
-    ensures { OnOk result (store.new ≡ broken_off wait.now store.old) }
-{
-    match wait {
-        Wait::Directory { search, .. } => break_test(alloc, store, search.name.as_slice()),
-        Wait::Nothing | Wait::Answer | Wait::Link => Ok(()),
-    }
-}
-
-/// Cuts the run short at the child of this number.
-fn cut(alloc: Global, store: &mut Store, wait: &Wait, number: u64) -> Result<Flow, AllocError>
-    ensures cuts { IfOk result (λ flow. flow ≡ Cut number) }
-    ensures breaks { OnOk result (store.new ≡ broken_off wait.now store.old) }
-{
-    break_off(alloc, store, wait)?;
-    Ok(Flow::Cut { number })
-}
-
-/// Continues with the reply to a job that was asked for, after `before` other children.
-fn hear_reply(
-    alloc: Global,
-    store: &mut Store,
-    about: &mut About,
-    wait: Wait,
-    heard: Option<bool>,
-    before: u64,
-) -> Result<Flow, AllocError>
-    requires { before + 1 < 2 ^ 64 }
-    ensures within { IfOk result (λ flow. passed flow ≤ 0) }
-    ensures asks { IfOk result (λ flow. asks_now flow ≤ waits_for wait) }
-    ensures group { IfOk result IsGroup }
-    ensures heeds { IfOk result (λ flow. Heeds flow (option_map (λ k. before + k) (refused_here heard None))) }
-    ensures leads { IfOk result (λ flow. Leads flow (λ tests next. meant.heard (broken_all (tests_in wait tests)) heard store.old (λ b now. told_to tests wait b (next 0) about.old now)) about.new store.new) }
-{
-    match heard {
-        Some(succeeded) => tell(alloc, store, about, wait, succeeded),
-        None => cut(alloc, store, &wait, before + 1),
-    }
-}
-
-/// Adds the job that was asked for to the log, with its reply.
-fn log_asked(store: &mut Store, job: Option<Job>, reply: Reply) -> Result<(), AllocError>
-    ensures { OnOk result (store.new ≡ with_asked (option_to_list job) (reply ∷ []) store.old) }
-{
-    match job {
-        Some(job) => store.log_child(job, reply),
-        None => Ok(()),
-    }
-}
-
-/// Continues with the reply to the only job that was asked for, after `before` other children.
-fn hear_one(
-    alloc: Global,
-    store: &mut Store,
-    about: &mut About,
-    wait: Wait,
-    job: Option<Job>,
-    reply: Reply,
-    before: u64,
-) -> Result<Flow, AllocError>
-    requires { before + 1 < 2 ^ 64 }
-    ensures within { IfOk result (λ flow. passed flow ≤ 0) }
-    ensures asks { IfOk result (λ flow. asks_now flow ≤ waits_for wait) }
-    ensures group { IfOk result IsGroup }
-    ensures heeds { IfOk result (λ flow. Heeds flow (refused_after before (reply ∷ []))) }
-    ensures leads { IfOk result (λ flow. Leads flow (λ tests next. resumed tests wait (option_to_list job) (reply ∷ []) (next 0) about.old store.old) about.new store.new) }
-{
-    let heard = success(&reply);
-    log_asked(store, job, reply)?;
-    hear_reply(alloc, store, about, wait, heard, before)
-}
-
-/// Returns the only job.
-fn only_job(mut jobs: Vec<Job>) -> Option<Job>
-    requires { length jobs.items ≡ 1 }
-    ensures { option_to_list result ≡ jobs.items }
-{
-    jobs.pop()
-}
-
-/// Returns the only reply. A missing one is a refused start.
-fn only_reply(mut replies: Vec<Option<Reply>>) -> Reply
-    requires { length replies.items ≡ 1 }
-    ensures { result ∷ [] ≡ given replies.items }
-{
-    match replies.pop() {
-        Some(Some(reply)) => reply,
-        Some(None) | None => Reply::StartRefused,
-    }
-}
-
-/// Continues with the replies to the jobs that were asked for, after `before` other children. A missing reply counts as a
-/// refused start.
-///
-/// # Errors
-///
-/// Fails only if memory runs out.
-#[tactic(auto, unfolding(searching::specs::Waits::Suits))]
-pub fn hear(
-    alloc: Global,
-    store: &mut Store,
-    about: &mut About,
-    wait: Wait,
-    jobs: Vec<Job>,
-    replies: Vec<Option<Reply>>,
-    before: u64,
-) -> Result<Flow, AllocError>
-    requires awaits { Awaits wait jobs.items }
-    requires replies { length replies.items ≡ length jobs.items }
-    requires room { before + length jobs.items < 2 ^ 64 }
-    ensures within { IfOk result (λ flow. passed flow ≤ 0) }
-    ensures asks { IfOk result (λ flow. asks_now flow ≤ waits_for wait) }
-    ensures group { IfOk result IsGroup }
-    ensures heeds { IfOk result (λ flow. Heeds flow (refused_after before (given replies.items))) }
-    ensures leads { IfOk result (λ flow. Leads flow (λ tests next. resumed tests wait jobs.items (given replies.items) (next 0) about.old store.old) about.new store.new) }
-{
-    let job = only_job(jobs);
-    let reply = only_reply(replies);
-    hear_one(alloc, store, about, wait, job, reply, before)
 }

@@ -1,7 +1,6 @@
 -- One entry of a batch, and those after it.
-use Rattle.std.proofs.Common.{◌≡◌, ℕ, Option, Some, None, List, [], ◌∷◌, ◌++◌, codes, Bool, true, false, cond, ◌⊎◌, inl, inr, refl, sym, ap, ◌∙◌, subst, ⊎_elim, append_assoc}
+use Rattle.std.proofs.Common.{◌≡◌, ℕ, Option, Some, None, List, [], ◌∷◌, ◌++◌, codes, Bool, true, false, ◌⊎◌, inl, inr, refl, sym, ap, ◌∙◌, subst, ⊎_elim, append_assoc}
 use Rattle.std.specs.Prelude.{◌||◌, ◌==◌, option_map, bytes_eq, unwrap_or}
-use Rattle.std.specs.List.{list_any}
 use Rattle.std.proofs.lemmas.Bool.{cases_Bool}
 use Rattle.std.proofs.lemmas.List.{append-nil}
 use Rattle.conftest.specs.declared.job.Job.{Job}
@@ -12,16 +11,19 @@ use Rattle.crew.specs.declared.reply.Reply.TheVariants.{Answer, StartRefused, En
 use Rattle.deftable.specs.Table.{value_of, with_entry}
 use Rattle.deftable.specs.declared.note.Note.{Note}
 use Rattle.deftable.specs.declared.note.Stream.TheVariants.{Out}
+use Rattle.syntax.specs.declared.listed.Listed.{Listed}
+use Rattle.syntax.specs.declared.listed.Listed.TheVariants.{Header, Function, Declaration}
 use Rattle.meaning.specs.State.{piece, told, with_child, with_variable, State, How, Goes_on, Cut, Run, Ends, then_run, as_is}
 use Rattle.meaning.specs.Asking.{success, only_reply, without_compiler}
 use Rattle.meaning.specs.Tests.{guarded, checking, with_result, Row, tested_by, may_begin, tested}
-use Rattle.meaning.specs.Rows.{Listed, Header, Function, Declaration, Single, entry_name, entry_message, symbol_part, defined_if, with_entry_defined, is_yes, row_of}
+use Rattle.meaning.specs.Rows.{Single, entry_name, entry_message, symbol_part, defined_if, with_entry_defined, is_yes, row_of}
 use Rattle.meaning.specs.Batches.{Batch, jobs_in, with_body, yes_or_no, replied, commits, committed}
-use Rattle.meaning.specs.Laws.{children_of, paired}
+use Rattle.laws.specs.Logged.{children_of, paired}
 use Rattle.laws.specs.Cached.{IsUnset}
 use Rattle.laws.specs.Batched.{answer_to, value_by}
 use Rattle.laws.proofs.Values.{same_text, cond_true, cond_false, cases_value, value_here, value_there, without_unset}
 use Rattle.laws.proofs.CachedTests.{set_row, unset_cached}
+use Rattle.std.specs.List.{list_any}
 
 -- ---- one entry
 

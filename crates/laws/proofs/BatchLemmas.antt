@@ -1,7 +1,6 @@
 -- All entries of a batch.
-use Rattle.std.proofs.Common.{◌≡◌, ℕ, suc, ◌≤◌, Option, Some, None, List, [], ◌∷◌, length, drop, codes, Bool, true, false, cond, ◌⊎◌, inl, inr, refl, sym, ap, ◌∙◌, subst, ⊎_elim, arith}
+use Rattle.std.proofs.Common.{◌≡◌, ℕ, suc, ◌≤◌, Option, Some, None, List, [], ◌∷◌, length, drop, Bool, true, false, cond, ◌⊎◌, inl, inr, refl, sym, ap, ◌∙◌, subst, ⊎_elim, arith}
 use Rattle.std.specs.Prelude.{◌||◌, option_map, bytes_eq, is_some}
-use Rattle.std.specs.List.{list_any}
 use Rattle.std.proofs.lemmas.Bool.{cases_Bool}
 use Rattle.std.proofs.lemmas.List.{append-nil}
 use Rattle.conftest.specs.declared.job.Job.{Job}
@@ -10,15 +9,18 @@ use Rattle.crew.specs.declared.reply.Reply.{Reply}
 use Rattle.deftable.specs.Table.{value_of}
 use Rattle.deftable.specs.declared.note.Stream.TheVariants.{Err}
 use Rattle.shellword.specs.declared.part.Part.{Part}
+use Rattle.syntax.specs.declared.listed.Listed.{Listed}
+use Rattle.syntax.specs.declared.listed.Listed.TheVariants.{Header, Function, Declaration}
 use Rattle.meaning.specs.State.{piece, told, State, Goes_on, Stopped, Ends}
 use Rattle.meaning.specs.Asking.{success, only_reply, no_compiler}
-use Rattle.meaning.specs.Rows.{Listed, Header, Function, Declaration, entry_name, entry_job}
-use Rattle.meaning.specs.Batches.{Batch, is_known, job_for, asks_all, asking, jobs_in, replies_after, commits, committed, yes_or_no}
+use Rattle.meaning.specs.Rows.{entry_name, entry_job}
+use Rattle.meaning.specs.Batches.{Batch, is_known, job_for, asks_all, asking, jobs_in, replies_after, commits, committed}
 use Rattle.meaning.specs.Play.{first_refused, refused_here}
-use Rattle.meaning.specs.Laws.{children_of}
+use Rattle.laws.specs.Logged.{children_of}
 use Rattle.laws.specs.Batched.{lacks_compiler, answer_to, cut_by, BatchCommits, IsEntry, BatchAsksUnset, all_set, StopsUnless, BatchStops, BatchAsksFew}
 use Rattle.laws.proofs.Values.{same_text, same_self, not_same, apart, cond_true, cond_false, cases_value}
 use Rattle.laws.proofs.BatchEntries.{row_at, how_if, flag_of, set_by, refused_in, Stands, Comes, quiet, asked, or_cases, or_false, by_none, all_committed, set_here, set_there, said, unset_flag, unset_stops, one_set}
+use Rattle.std.specs.List.{list_any}
 
 -- ---- what is asked for
 

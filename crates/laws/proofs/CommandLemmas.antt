@@ -1,11 +1,11 @@
 -- Tests that write no name but their own.
-use Rattle.std.proofs.Common.{◌≡◌, ℕ, Option, Some, None, List, Bool, true, false, inl, inr, refl, sym, ap, ◌∙◌, subst, ⊎_elim}
+use Rattle.std.proofs.Common.{◌≡◌, ℕ, Option, Some, None, List, Bool, true, false, inl, inr, refl, sym, ap, ◌∙◌, subst, ⊎_elim, [], ◌∷◌}
 use Rattle.conftest.specs.Probe.{job_of}
 use Rattle.deftable.specs.Table.{value_of, with_entry, without_entry}
 use Rattle.shellword.specs.Value.{word_value}
 use Rattle.syntax.specs.declared.statement.Plain as plain
 use Rattle.syntax.specs.declared.statement.Plain.TheVariants.{Assign}
-use Rattle.syntax.specs.declared.statement.Question.TheVariants.{Given, Tries}
+use Rattle.syntax.specs.declared.statement.Question.TheVariants.{Given, Tries, Checks, ChecksEach}
 use Rattle.syntax.specs.declared.tree.Subject.{Subject}
 use Rattle.syntax.specs.declared.tree.Subject.TheVariants.{Nothing, Word, Asked}
 use Rattle.syntax.specs.Commands.{AssignsAlone, TriesAlone, AreCommands, AreCommandsIn}
@@ -14,7 +14,7 @@ use Rattle.meaning.specs.State.{State, Scope, answered, How, Goes_on, Completed,
 use Rattle.meaning.specs.Tests.{Test, broken, checking, cached_test, with_value, tested_by, may_begin}
 use Rattle.meaning.specs.Rows.{Kind, name_of, attempts_of, otherwise_of, row_of}
 use Rattle.meaning.specs.Tries.{first_probe, text_of}
-use Rattle.meaning.specs.Meaning.{effect, begun, is_taken, check, meaning, chosen}
+use Rattle.meaning.specs.Meaning.{effect, begun, rounds_of, in_turn, is_taken, check, meaning, chosen}
 use Rattle.laws.specs.Ends.{AtEnds, Breaks}
 use Rattle.laws.specs.Cached.{IsUnset}
 use Rattle.laws.specs.Commands.{WritesOwn, SameIfBroken, BrokenLeavesVariables, BrokenRowLeavesVariables, CommandsWriteAlone, BrokenCheckLeavesVariables}
@@ -102,9 +102,26 @@ unfolding begun
 begun_writes name first Nothing st go a k h = k _ st h
 begun_writes name first (Word word) st go a k h = k _ st h
 begun_writes name first (Asked (Given kind variable help)) st go a k h = absurd a
+begun_writes name first (Asked (Checks sought entry includes)) st go a k h = absurd a
+begun_writes name first (Asked (ChecksEach sought entries includes)) st go a k h = absurd a
 begun_writes name first (Asked (Tries kind program)) st go a k h =
     ends_compiled (OwnOnly name first) (λ how now. OwnOnly name first now) (λ job reply now x. x) (job_of (first_probe kind (text_of program st.vars)) 0 st.vars st.defs) st _ (λ now x. x) (λ now x. x)
     (first_ends (OwnOnly name first) (λ how now. OwnOnly name first now) (λ job reply now x. x) (λ now x. x) kind (λ b. go (answered b)) (λ b now x. k (answered b) now x)) h
+
+-- Each of their choices has one round.
+pub one_round : (subject : Subject) → TriesAlone subject → rounds_of subject ≡ subject ∷ []
+one_round Nothing a = refl
+one_round (Word word) a = refl
+one_round (Asked (Tries kind program)) a = refl
+one_round (Asked (Given kind variable help)) a = absurd a
+one_round (Asked (Checks sought entry includes)) a = absurd a
+one_round (Asked (ChecksEach sought entries includes)) a = absurd a
+
+turn_writes : (name : List ℕ) (first : State) (subject : Subject) (st : State) (go : Scope → State → Run) → TriesAlone subject → ((scope : Scope) (now : State) → OwnOnly name first now → Keeps (OwnOnly name first) (go scope now)) → OwnOnly name first st
+    → Keeps (OwnOnly name first) (in_turn (rounds_of subject) go st)
+turn_writes name first subject st go a k h =
+    subst (λ rounds. Keeps (OwnOnly name first) (in_turn rounds go st)) (sym (one_round subject a))
+    (then_keeps (OwnOnly name first) (begun as_is subject st go) (in_turn [] go) (begun_writes name first subject st go a k h) (λ now x. x))
 
 mutual
   unfolding meaning chosen
@@ -114,8 +131,8 @@ mutual
   commands_write name first (Then s rest) st a h =
       then_keeps (OwnOnly name first) (effect s st) (meaning rest) (effect_writes name first s st a.0 h) (λ now k. commands_write name first rest now a.1 k)
   commands_write name first (Choice subject cases rest) st a h =
-      begun_writes name first subject st _ a.0
-      (λ scope now k. then_keeps (OwnOnly name first) (chosen cases scope now) (meaning rest) (cases_write name first cases scope now a.1.0 k) (λ later l. commands_write name first rest later a.1.1 l)) h
+      then_keeps (OwnOnly name first) (in_turn (rounds_of subject) (chosen cases) st) (meaning rest)
+      (turn_writes name first subject st (chosen cases) a.0 (λ scope now k. cases_write name first cases scope now a.1.0 k) h) (λ now k. commands_write name first rest now a.1.1 k)
   commands_write name first (Check message other commands rest) st a h = absurd a
 
   cases_write : (name : List ℕ) (first : State) (cases : Cases) (scope : Scope) (st : State) → AreCommandsIn name cases → OwnOnly name first st → Keeps (OwnOnly name first) (chosen cases scope st)

@@ -4,6 +4,7 @@ use Rattle.conftest.specs.declared.job.Job.{Job}
 use Rattle.crew.specs.declared.reply.Reply.{Reply}
 use Rattle.meaning.specs.State.{State, How, Goes_on, Completed, Stopped, Cut, Run, Ends, Asks, then_run, ended, as_is, with_child}
 use Rattle.meaning.specs.Asking.{success, only_reply, heard, child, compiled, without_compiler, same, Attempt, attempted}
+use Rattle.meaning.specs.Batches.{asks_all, commits}
 use Rattle.laws.specs.Ends.{AtEnds, Breaks}
 
 pub ends_then : (P Q : How → State → Type 0) (r : Run) (f : State → Run) → AtEnds P r → ((st : State) → P Goes_on st → AtEnds Q (f st)) → ((how : How) (st : State) → Breaks how → P how st → Q how st) → AtEnds Q (then_run r f)
@@ -25,11 +26,24 @@ pub ends_either : (P : How → State → Type 0) (b : Bool) (x y : Run) → AtEn
 ends_either P true x y h k = h
 ends_either P false x y h k = k
 
+-- An entry of a batch, and those after it.
+pub ends_commits : (P Q : How → State → Type 0) (r : Run) (refused : Bool) (rest : Bool → State → Run) → AtEnds P r → ((how : How) (b : Bool) (st : State) → P how st → AtEnds Q (rest b st)) → ((how : How) (st : State) → P how st → Q how st)
+    → AtEnds Q (commits r refused rest)
+ends_commits P Q (Ends Goes_on st) refused rest h on off = on Goes_on refused st h
+ends_commits P Q (Ends Completed st) refused rest h on off = off Completed st h
+ends_commits P Q (Ends (Stopped s) st) refused rest h on off = off (Stopped s) st h
+ends_commits P Q (Ends Cut st) refused rest h on off = on Cut true st h
+ends_commits P Q (Asks jobs ask) refused rest h on off = λ replies. ends_commits P Q (ask replies) refused rest (h replies) on off
+
+pub ends_asks_all : (P : How → State → Type 0) (jobs : List Job) (next : List Reply → Run) → ((replies : List Reply) → AtEnds P (next replies)) → AtEnds P (asks_all jobs next)
+ends_asks_all P [] next h = h []
+ends_asks_all P (job ∷ jobs) next h = h
+
 -- Something of states that a child's reply doesn't change.
 abbrev pub Spares : (State → Type 0) → Type 0
 Spares I = (job : Job) (reply : Reply) (st : State) → I st → I (with_child job reply st)
 
-ends_heard : (I : State → Type 0) (P : How → State → Type 0) (answer : Option Bool) (st : State) (go : Bool → State → Run) → ((now : State) → I now → P Cut now) → ((b : Bool) (now : State) → I now → AtEnds P (go b now)) → I st → AtEnds P (heard as_is answer st go)
+pub ends_heard : (I : State → Type 0) (P : How → State → Type 0) (answer : Option Bool) (st : State) (go : Bool → State → Run) → ((now : State) → I now → P Cut now) → ((b : Bool) (now : State) → I now → AtEnds P (go b now)) → I st → AtEnds P (heard as_is answer st go)
 ends_heard I P None st go cut goes h = cut st h
 ends_heard I P (Some b) st go cut goes h = goes b st h
 

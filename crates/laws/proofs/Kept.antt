@@ -8,28 +8,34 @@ use Rattle.deftable.specs.declared.note.Stream.{Stream}
 use Rattle.deftable.specs.declared.note.Stream.TheVariants.{Out, Err}
 use Rattle.deftable.specs.Table.{value_of}
 use Rattle.shellword.specs.Value.{word_value}
+use Rattle.shellword.specs.declared.part.Part.{Part}
 use Rattle.syntax.specs.declared.feature.OptionKind.{OptionKind}
 use Rattle.syntax.specs.declared.program.Try as kinds
 use Rattle.syntax.specs.declared.program.Try.TheVariants as kinds_are
 use Rattle.syntax.specs.declared.statement.Plain as plain
 use Rattle.syntax.specs.declared.statement.Plain.TheVariants.{Init, Accepted, ConfigFiles, Assign, Subst, SubstValue, Define, DefineUnquoted, Error, ArgVar, CheckProg, CheckProgs, PathProg, ProgCc, Output}
+use Rattle.syntax.specs.declared.statement.Plain.TheVariants as plain_is
 use Rattle.syntax.specs.declared.statement.Question as asks
-use Rattle.syntax.specs.declared.statement.Question.TheVariants.{Given, Tries}
+use Rattle.syntax.specs.declared.statement.Question.TheVariants.{Given, Tries, Checks, ChecksEach}
 use Rattle.syntax.specs.declared.tree.Subject.{Subject}
 use Rattle.syntax.specs.declared.tree.Subject.TheVariants.{Nothing, Word, Asked}
 use Rattle.syntax.specs.Script.{Script, Done, Then, Choice, Check, Cases, No_case, Case}
-use Rattle.meaning.specs.State.{State, told, with_child, with_variable, with_definition, without_variable, Scope, answered, How, Goes_on, Completed, Stopped, Cut, Run, Ends, then_run, as_is}
-use Rattle.meaning.specs.Asking.{no_compiler}
-use Rattle.meaning.specs.Tests.{Test, broken, guarded, checking, cached_test, with_value, tested_by, may_begin, tested}
-use Rattle.meaning.specs.Rows.{Listed, Header, Function, Declaration, Kind, Program, Single, Sized, symbol_part, is_yes, defined_if, name_of, attempts_of, otherwise_of, after_of, row_of}
+use Rattle.syntax.specs.declared.listed.Sought.{Sought}
+use Rattle.syntax.specs.declared.listed.Listed.TheVariants.{Header, Function, Declaration}
+use Rattle.meaning.specs.State.{State, told, with_child, with_variable, with_definition, without_variable, Scope, answered, How, Goes_on, Completed, Stopped, Cut, Run, Ends, then_run, as_is, ended}
+use Rattle.meaning.specs.Asking.{no_compiler, success, only_reply}
+use Rattle.meaning.specs.Tests.{Test, broken, guarded, checking, cached_test, with_value, tested_by, may_begin, tested, Row}
+use Rattle.meaning.specs.Rows.{Kind, Program, Single, Sized, kind_for, entry_name, symbol_part, is_yes, defined_if, name_of, attempts_of, otherwise_of, after_of, row_of}
 use Rattle.meaning.specs.Package.{with_package, package_string, literal, initialised}
 use Rattle.meaning.specs.Tries.{first_probe, after_first, text_of}
-use Rattle.meaning.specs.Meaning.{settled, is_unsettled, has_value, check_prog, looks, looks_all, defaulted, error_line, effect, value_name, given, asked, begun, is_taken, check, meaning, chosen}
+use Rattle.meaning.specs.Meaning.{settled, is_unsettled, has_value, check_prog, looks, looks_all, defaulted, error_line, effect, value_name, given, found_by, first_found, asked, begun, rounds_of, in_turn, is_taken, check, meaning, chosen}
+use Rattle.meaning.specs.Batches.{Batch, asking, jobs_in, yes_or_no, replied, replies_after, committed, batched}
 use Rattle.laws.specs.Ends.{AtEnds, Breaks}
 use Rattle.laws.specs.Cached.{IsSet, IsUnset, StandsOnce, UnsetIfBroken, NamesStandOnce, BrokenRowIsUnset, BrokenCheckIsUnset, SetStaysSet}
 use Rattle.laws.proofs.Values.{not_same, cases_value, set_write, value_without, once_with, once_without}
-use Rattle.laws.proofs.Endings.{ends_then, ends_ended, ends_either, ends_child, ends_compiled, ends_attempted}
+use Rattle.laws.proofs.Endings.{ends_then, ends_ended, ends_either, ends_commits, ends_asks_all, ends_heard, ends_child, ends_compiled, ends_attempted}
 use Rattle.laws.proofs.CachedTests.{set_cached, unset_cached, broken_is_unset}
+use Rattle.laws.proofs.BatchEntries.{row_at}
 
 -- Every change of a state keeps this. A test that unsets a name began with the name unset.
 pub record Closed (I : State → Type 0) : Type 0 where
@@ -86,14 +92,37 @@ after_keeps I c (Single Declaration entry includes true) value st h =
 after_keeps I c (Sized name includes false) value st h = h
 after_keeps I c (Sized name includes true) value st h = defined_keeps I c (is_yes value) (codes "HAVE_" ++ symbol_part name) st h
 
-kind_keeps_by : (I : State → Type 0) → Closed I → (b : Bool) (kind : Kind) (first st : State) → I st → Keeps I (tested_by b (row_of kind first) st)
-kind_keeps_by I c true kind first st h =
-    then_keeps I (cached_test (row_of kind first).test st) _ (cached_keeps I c (row_of kind first).test st (λ now k. body_keeps I c kind first now k) h)
-    (λ now k. after_keeps I c kind (value_of now.vars (name_of kind)) now k)
-kind_keeps_by I c false kind first st h = c.tells Err no_compiler st h
+row_keeps : (I : State → Type 0) → Closed I → (b : Bool) (r : Row) (st : State) → ((now : State) → I now → Keeps I (r.test.body now)) → ((value : Option (List ℕ)) (now : State) → I now → I (r.after value now)) → I st → Keeps I (tested_by b r st)
+row_keeps I c true r st body after h = then_keeps I (cached_test r.test st) _ (cached_keeps I c r.test st body h) (λ now k. after (value_of now.vars r.test.name) now k)
+row_keeps I c false r st body after h = c.tells Err no_compiler st h
 
 pub kind_keeps : (I : State → Type 0) → Closed I → (kind : Kind) (st : State) → I st → Keeps I (tested (row_of kind st) st)
-kind_keeps I c kind st h = kind_keeps_by I c (may_begin (value_of st.vars (name_of kind)) (row_of kind st).ready) kind st st h
+kind_keeps I c kind st h =
+    row_keeps I c (may_begin (value_of st.vars (name_of kind)) (row_of kind st).ready) (row_of kind st) st
+    (λ now k. body_keeps I c kind st now k) (λ value now k. after_keeps I c kind value now k) h
+
+-- A batch.
+replied_keeps : (I : State → Type 0) → Closed I → (name : List ℕ) (job : Option Job) (reply : Reply) (st : State) → I st → Keeps I (replied name job reply st)
+replied_keeps I c name None reply st h = h
+replied_keeps I c name (Some job) reply st h =
+    ends_heard I (λ how now. I now) (success reply) (with_child job reply st) (λ found now. Ends Goes_on (with_variable name (yes_or_no found) now)) (λ now k. k)
+    (λ found now k. c.variables name (yes_or_no found) now k) (c.children job reply st h)
+
+committed_keeps : (I : State → Type 0) → Closed I → (batch : Batch) (first : State) (asks : List (List ℕ × Option Job)) (replies : List Reply) (refused : Bool) (st : State) → I st → Keeps I (committed batch first asks replies refused st)
+committed_keeps I c batch first [] replies true st h = h
+committed_keeps I c batch first [] replies false st h = h
+committed_keeps I c batch first ((entry, job) ∷ more) replies refused st h =
+    let kind = Single batch.listed entry batch.includes true in
+    let row = row_at batch entry job (only_reply replies) first in
+    ends_commits (λ how now. I now) (λ how now. I now) (tested row st) refused (committed batch first more (replies_after job replies))
+    (row_keeps I c (may_begin (value_of st.vars (entry_name batch.listed entry)) row.ready) row st
+    (λ now k. replied_keeps I c (entry_name batch.listed entry) job (only_reply replies) now k) (λ value now k. after_keeps I c kind value now k) h)
+    (λ how b now k. committed_keeps I c batch first more (replies_after job replies) b now k) (λ how now k. k)
+
+batched_keeps : (I : State → Type 0) → Closed I → (batch : Batch) (st : State) → I st → Keeps I (batched batch st)
+batched_keeps I c batch st h =
+    let asks = asking batch 1 [] batch.entries st in
+    ends_asks_all (λ how now. I now) (jobs_in asks) (λ replies. committed batch st asks replies false st) (λ replies. committed_keeps I c batch st asks replies false st h)
 
 -- Statements.
 pub looks_keeps : (I : State → Type 0) → Closed I → (variable program : List ℕ) (always : Bool) (st : State) → I st → Keeps I (looks variable program always st)
@@ -142,6 +171,7 @@ effect_keeps I c (CheckProgs variable programs otherwise) st h =
     then_keeps I (looks_all variable programs true st) _ (looks_all_keeps I c variable programs true st h) (λ now k. defaulted_keeps I c variable (option_map (λ t. word_value t now.vars) otherwise) now k)
 effect_keeps I c (PathProg variable program otherwise) st h = kind_keeps I c (Program _ _) st h
 effect_keeps I c (ProgCc programs) st h = looks_all_keeps I c (codes "CC") programs true st h
+effect_keeps I c (plain_is.Batch listed entries includes) st h = batched_keeps I c (record { listed = listed; entries = entries; includes = includes }) st h
 effect_keeps I c Output st h = settled_keeps I c (codes "exec_prefix") (codes "${prefix}") (settled (codes "prefix") (codes "/usr/local") st) (settled_keeps I c (codes "prefix") (codes "/usr/local") st h)
 
 -- Choices.
@@ -158,18 +188,35 @@ first_ends I P spares cut kinds_are.Compile go k b st h = k b st h
 first_ends I P spares cut kinds_are.Link go k b st h = k b st h
 first_ends I P spares cut kinds_are.Preproc go k b st h = k b st h
 
+-- The question of a test.
+found_keeps : (I : State → Type 0) → Closed I → (kind : Kind) (st : State) (go : Scope → State → Run) → ((scope : Scope) (now : State) → I now → Keeps I (go scope now)) → I st → Keeps I (found_by as_is kind st go)
+found_keeps I c kind st go k h =
+    then_keeps I (ended as_is (tested (row_of kind st) st)) _ (ends_ended (λ how now. I now) (λ how now. I now) as_is (tested (row_of kind st) st) (kind_keeps I c kind st h) (λ how now x. x))
+    (λ now x. k (answered (is_yes (value_of now.vars (name_of kind)))) now x)
+
+first_found_keeps : (I : State → Type 0) → Closed I → (sought : Sought) (entries : List (List ℕ)) (includes : Option (List Part)) (st : State) (go : Scope → State → Run) → ((scope : Scope) (now : State) → I now → Keeps I (go scope now))
+    → I st → Keeps I (first_found as_is sought entries includes st go)
+first_found_keeps I c sought [] includes st go k h = k (answered false) st h
+first_found_keeps I c sought (entry ∷ more) includes st go k h = found_keeps I c (kind_for sought entry includes true) st go k h
+
 pub asked_keeps : (I : State → Type 0) → Closed I → (question : asks.Question) (st : State) (go : Scope → State → Run) → ((scope : Scope) (now : State) → I now → Keeps I (go scope now)) → I st → Keeps I (asked as_is question st go)
 asked_keeps I c (Given kind variable help) st go k h = given_keeps I c (value_of st.vars variable) kind st go k h
 asked_keeps I c (Tries kind program) st go k h =
     ends_compiled I (λ how now. I now) c.children (job_of (first_probe kind (text_of program st.vars)) 0 st.vars st.defs) st _
     (λ now x. c.tells Err no_compiler now x) (λ now x. x)
     (first_ends I (λ how now. I now) c.children (λ now x. x) kind (λ b. go (answered b)) (λ b now x. k (answered b) now x)) h
+asked_keeps I c (Checks sought entry includes) st go k h = found_keeps I c (kind_for sought entry includes false) st go k h
+asked_keeps I c (ChecksEach sought entries includes) st go k h = first_found_keeps I c sought entries includes st go k h
 
 pub begun_keeps : (I : State → Type 0) → Closed I → (subject : Subject) (st : State) (go : Scope → State → Run) → ((scope : Scope) (now : State) → I now → Keeps I (go scope now)) → I st → Keeps I (begun as_is subject st go)
 unfolding begun
 begun_keeps I c Nothing st go k h = k _ st h
 begun_keeps I c (Word word) st go k h = k _ st h
 begun_keeps I c (Asked question) st go k h = asked_keeps I c question st go k h
+
+turns_keep : (I : State → Type 0) → Closed I → (rounds : List Subject) (st : State) (go : Scope → State → Run) → ((scope : Scope) (now : State) → I now → Keeps I (go scope now)) → I st → Keeps I (in_turn rounds go st)
+turns_keep I c [] st go k h = h
+turns_keep I c (subject ∷ more) st go k h = then_keeps I (begun as_is subject st go) (in_turn more go) (begun_keeps I c subject st go k h) (λ now x. turns_keep I c more now go k x)
 
 mutual
   unfolding meaning chosen
@@ -178,7 +225,8 @@ mutual
   meaning_keeps I c Done st h = h
   meaning_keeps I c (Then s rest) st h = then_keeps I (effect s st) (meaning rest) (effect_keeps I c s st h) (λ now k. meaning_keeps I c rest now k)
   meaning_keeps I c (Choice subject cases rest) st h =
-      begun_keeps I c subject st _ (λ scope now k. then_keeps I (chosen cases scope now) (meaning rest) (chosen_keeps I c cases scope now k) (λ later l. meaning_keeps I c rest later l)) h
+      then_keeps I (in_turn (rounds_of subject) (chosen cases) st) (meaning rest) (turns_keep I c (rounds_of subject) st (chosen cases) (λ scope now k. chosen_keeps I c cases scope now k) h)
+      (λ now k. meaning_keeps I c rest now k)
   meaning_keeps I c (Check message name commands rest) st h =
       let t = check message name (meaning commands) st in
       then_keeps I (cached_test t st) (meaning rest) (cached_keeps I c t st (λ now k. meaning_keeps I c commands now k) h) (λ now k. meaning_keeps I c rest now k)

@@ -3,7 +3,13 @@ pub mod Endings
 pub mod CachedTests
 pub mod Kept
 pub mod CommandLemmas
+pub mod Questions
+pub mod DeedLemmas
+pub mod TestDeeds
+pub mod BatchDeeds
+pub mod CheckDeeds
 pub mod Accounting
 pub mod OtherDeeds
 pub mod BatchEntries
 pub mod BatchLemmas
+pub mod Logged

@@ -1,19 +1,21 @@
 -- Commands do nothing to names other than their test's.
-use Rattle.std.proofs.Common.{◌≡◌, ℕ, List, [], ◌∷◌, ◌++◌, length, take, drop, Bool, true, false, cond, refl, sym, ap, ◌∙◌, ⊎_elim}
+use Rattle.std.proofs.Common.{◌≡◌, ℕ, List, [], ◌∷◌, ◌++◌, length, take, drop, Bool, true, false, cond, refl, sym, ap, ◌∙◌, subst, ⊎_elim}
 use Rattle.std.specs.Prelude.{bytes_eq}
 use Rattle.std.proofs.lemmas.Bool.{cases_Bool}
 use Rattle.crew.specs.declared.reply.Reply.{Reply}
 use Rattle.shellword.specs.Value.{word_value}
 use Rattle.syntax.specs.declared.statement.Plain as plain
 use Rattle.syntax.specs.declared.statement.Plain.TheVariants.{Assign}
-use Rattle.syntax.specs.declared.statement.Question.TheVariants.{Given, Tries}
+use Rattle.syntax.specs.declared.statement.Question.TheVariants.{Given, Tries, Checks, ChecksEach}
 use Rattle.syntax.specs.declared.tree.Subject.{Subject}
 use Rattle.syntax.specs.declared.tree.Subject.TheVariants.{Nothing, Word, Asked}
 use Rattle.syntax.specs.Commands.{AssignsAlone, TriesAlone, AreCommands, AreCommandsIn}
 use Rattle.syntax.specs.Script.{Script, Done, Then, Choice, Check, Cases, No_case, Case}
 use Rattle.meaning.specs.State.{State, Scope, no_choice, about, answered, Goes_on, Completed, Stopped, Cut, Run, Ends, Asks, as_is}
-use Rattle.meaning.specs.Meaning.{effect, asked, is_taken, chosen}
-use Rattle.laws.specs.Deeds.{Deed, Assigned, deeds_after, effect_deeds, yes_or_no, deeds_answered, subject_deeds, name_in, others_than, deeds, case_deeds, CommandsHaveNoDeeds}
+use Rattle.meaning.specs.Meaning.{effect, asked, begun, rounds_of, in_turn, is_taken, chosen}
+use Rattle.laws.specs.Deeds.{Deed, Assigned, deeds_after, effect_deeds, deeds_answered, subject_deeds, turn_deeds, name_in, others_than, deeds, case_deeds, CommandsHaveNoDeeds}
+use Rattle.laws.specs.Questions.{yes_or_no}
+use Rattle.laws.proofs.CommandLemmas.{one_round}
 use Rattle.laws.proofs.Values.{same_self, cond_true, cond_false}
 
 -- All of the deeds are about this name.
@@ -59,7 +61,16 @@ subject_none : (name : List ℕ) (subject : Subject) (st : State) (rs : List Rep
 subject_none name Nothing st rs rest a h = h no_choice st rs
 subject_none name (Word word) st rs rest a h = h (about (word_value word st.vars)) st rs
 subject_none name (Asked (Given kind variable help)) st rs rest a h = absurd a
+subject_none name (Asked (Checks sought entry includes)) st rs rest a h = absurd a
+subject_none name (Asked (ChecksEach sought entries includes)) st rs rest a h = absurd a
 subject_none name (Asked (Tries kind program)) st rs rest a h = none_answered name (asked as_is (Tries kind program) st yes_or_no) rs rest h
+
+turn_none : (name : List ℕ) (subject : Subject) (st : State) (rs : List Reply) (go : Scope → State → Run) (did : Scope → State → List Reply → List Deed) → TriesAlone subject
+    → ((scope : Scope) (now : State) (left : List Reply) → NoOthers name (did scope now left)) → NoOthers name (turn_deeds (rounds_of subject) go did st rs)
+turn_none name subject st rs go did a h =
+    subst (λ rounds. NoOthers name (turn_deeds rounds go did st rs)) (sym (one_round subject a))
+    (none_both name (subject_deeds subject st rs did) (deeds_after (begun as_is subject st go) rs (turn_deeds [] go did)) (subject_none name subject st rs did a h)
+    (none_after name (begun as_is subject st go) rs (turn_deeds [] go did) (λ now left. refl)))
 
 mutual
   unfolding deeds case_deeds
@@ -69,9 +80,9 @@ mutual
   commands_none name (Then s rest) st rs a =
       none_both name (effect_deeds s st rs) (deeds_after (effect s st) rs (deeds rest)) (effect_none name s st rs a.0) (none_after name (effect s st) rs (deeds rest) (λ now left. commands_none name rest now left a.1))
   commands_none name (Choice subject cases rest) st rs a =
-      subject_none name subject st rs _ a.0
-      (λ scope now left. none_both name (case_deeds cases scope now left) (deeds_after (chosen cases scope now) left (deeds rest)) (cases_none name cases scope now left a.1.0)
-      (none_after name (chosen cases scope now) left (deeds rest) (λ later l. commands_none name rest later l a.1.1)))
+      none_both name (turn_deeds (rounds_of subject) (chosen cases) (case_deeds cases) st rs) (deeds_after (in_turn (rounds_of subject) (chosen cases) st) rs (deeds rest))
+      (turn_none name subject st rs (chosen cases) (case_deeds cases) a.0 (λ scope now left. cases_none name cases scope now left a.1.0))
+      (none_after name (in_turn (rounds_of subject) (chosen cases) st) rs (deeds rest) (λ now left. commands_none name rest now left a.1.1))
   commands_none name (Check message other commands rest) st rs a = absurd a
 
   cases_none : (name : List ℕ) (cases : Cases) (scope : Scope) (st : State) (rs : List Reply) → AreCommandsIn name cases → NoOthers name (case_deeds cases scope st rs)

@@ -9,7 +9,7 @@ use Rattle.meaning.specs.Asking.{success, only_reply}
 use Rattle.meaning.specs.Rows.{entry_name}
 use Rattle.meaning.specs.Batches.{Batch, asking, jobs_in, committed, batched, yes_or_no}
 use Rattle.meaning.specs.Play.{first_refused}
-use Rattle.meaning.specs.Laws.{children_of, paired}
+use Rattle.laws.specs.Logged.{children_of, paired}
 
 -- The variable CC has no word, so there is no compiler. (Autoconf's manual, "Running the Compiler")
 abbrev pub lacks_compiler : State → Bool

@@ -5,20 +5,24 @@ use Rattle.deftable.specs.Table.{value_of}
 use Rattle.shellword.specs.declared.part.Part.{Part}
 use Rattle.shellword.specs.Value.{word_value}
 use Rattle.syntax.specs.declared.feature.OptionKind.{OptionKind}
+use Rattle.syntax.specs.declared.listed.Listed.{Listed}
+use Rattle.syntax.specs.declared.listed.Sought.{Sought}
 use Rattle.syntax.specs.declared.statement.Plain as plain
-use Rattle.syntax.specs.declared.statement.Plain.TheVariants.{Init, Accepted, ConfigFiles, Assign, Subst, SubstValue, Define, DefineUnquoted, Error, ArgVar, CheckProg, CheckProgs, PathProg, ProgCc, Output}
+use Rattle.syntax.specs.declared.statement.Plain.TheVariants.{Init, Accepted, ConfigFiles, Assign, Subst, SubstValue, Define, DefineUnquoted, Error, ArgVar, CheckProg, CheckProgs, PathProg, ProgCc, Batch, Output}
 use Rattle.syntax.specs.declared.statement.Question as asks
-use Rattle.syntax.specs.declared.statement.Question.TheVariants.{Given, Tries}
+use Rattle.syntax.specs.declared.statement.Question.TheVariants.{Given, Tries, Checks, ChecksEach}
 use Rattle.syntax.specs.declared.tree.Subject.{Subject}
 use Rattle.syntax.specs.declared.tree.Subject.TheVariants.{Nothing, Word, Asked}
 use Rattle.syntax.specs.Commands.{AreCommands}
 use Rattle.syntax.specs.Script.{Script, Done, Then, Choice, Check, Cases, No_case, Case}
 use Rattle.meaning.specs.State.{State, Scope, no_choice, about, answered, Goes_on, Completed, Stopped, Cut, Run, Ends, Asks, as_is}
 use Rattle.meaning.specs.Tests.{checking, cached_test, tested}
-use Rattle.meaning.specs.Rows.{Kind, Program, Single, Sized, Search, name_of, value_or_empty, value_if, row_of}
+use Rattle.meaning.specs.Rows.{Kind, Program, Single, Sized, Search, kind_for, entry_name, name_of, value_or_empty, value_if, row_of}
+use Rattle.meaning.specs.Batches.{is_known, batched}
 use Rattle.meaning.specs.Play.{play, whole}
-use Rattle.meaning.specs.Meaning.{settled, is_unsettled, check_prog, path_prog, has_value, is_full_name, looks, looks_all, effect, value_name, asked, is_taken, check, meaning, chosen}
+use Rattle.meaning.specs.Meaning.{settled, is_unsettled, check_prog, path_prog, has_value, is_full_name, looks, looks_all, effect, value_name, asked, begun, rounds_of, in_turn, is_taken, check, meaning, chosen}
 use Rattle.laws.specs.Cached.{IsSet, IsUnset}
+use Rattle.laws.specs.Questions.{yes_or_no}
 
 -- What a run did to a name: a statement assigned it, or a test that was run to its end left it set. (own)
 pub data Deed : Type 0 where
@@ -80,6 +84,16 @@ default_deeds variable (Some word) st = if has_value st variable then [] else As
 abbrev pub prefix_deeds : List ℕ → State → List Deed
 prefix_deeds name st = if is_unsettled (value_of st.vars name) then Assigned name ∷ [] else []
 
+-- The deeds of a batch, by the states before and after it: the names that were unset and are set, each at its first entry.
+-- A batch that is cut has them too. (own)
+abbrev pub batch_deeds : Listed → List (List ℕ) → List (List ℕ) → State → State → List Deed
+batch_deeds listed earlier [] st now = []
+batch_deeds listed earlier (entry ∷ more) st now =
+    (if is_known (entry_name listed entry) earlier st
+    then []
+    else left_set (entry_name listed entry) None (value_of now.vars (entry_name listed entry)))
+    ++ batch_deeds listed (entry_name listed entry ∷ earlier) more st now
+
 -- The deeds of a statement. (own)
 unfoldable pub effect_deeds : plain.Plain → State → List Reply → List Deed
 effect_deeds (Init title version bug tarname url) st replies =
@@ -104,6 +118,9 @@ effect_deeds (PathProg variable program otherwise) st replies =
     program_deeds (path_prog variable program (option_map (λ t. word_value t st.vars) otherwise))
     (is_full_name (value_or_empty st variable)) st replies
 effect_deeds (ProgCc programs) st replies = looks_deeds (codes "CC") programs true st replies
+effect_deeds (Batch listed entries includes) st replies =
+    batch_deeds listed [] entries st
+    (play (batched (record { listed = listed; entries = entries; includes = includes }) st) replies).state
 effect_deeds Output st replies =
     prefix_deeds (codes "prefix") st
     ++ prefix_deeds (codes "exec_prefix") (settled (codes "prefix") (codes "/usr/local") st)
@@ -113,16 +130,19 @@ abbrev pub given_deeds : Option (List ℕ) → OptionKind → List Deed
 given_deeds None kind = []
 given_deeds (Some value) kind = Assigned (value_name kind) ∷ []
 
--- The deeds of a question itself. (own)
-abbrev pub question_deeds : asks.Question → State → List Deed
-question_deeds (Given kind variable help) st = given_deeds (value_of st.vars variable) kind
-question_deeds (Tries kind program) st = []
+-- The deeds of the test of the first entry of a list. (own)
+abbrev pub first_deeds : Sought → List (List ℕ) → Option (List Part) → State → List Reply → List Deed
+first_deeds sought [] includes st replies = []
+first_deeds sought (entry ∷ more) includes st replies = kind_deeds (kind_for sought entry includes true) st replies
 
--- What a question is asked with here: the run continues if the answer is yes, and completes if it is no. (own)
-abbrev pub yes_or_no : Scope → State → Run
-yes_or_no scope st = Ends (if scope.answer then Goes_on else Completed) st
+-- The deeds of a question itself: an option that is given, or a test. (own)
+abbrev pub question_deeds : asks.Question → State → List Reply → List Deed
+question_deeds (Given kind variable help) st replies = given_deeds (value_of st.vars variable) kind
+question_deeds (Tries kind program) st replies = []
+question_deeds (Checks sought entry includes) st replies = kind_deeds (kind_for sought entry includes false) st replies
+question_deeds (ChecksEach sought entries includes) st replies = first_deeds sought entries includes st replies
 
--- The deeds after the answer of such a run, if there is one. (own)
+-- The deeds after the answer of a question that is asked with `yes_or_no`, if there is one. (own)
 abbrev pub deeds_answered : Run → List Reply → (Scope → State → List Reply → List Deed) → List Deed
 deeds_answered (Ends Goes_on st) replies rest = rest (answered true) st replies
 deeds_answered (Ends Completed st) replies rest = rest (answered false) st replies
@@ -131,12 +151,18 @@ deeds_answered (Ends Cut st) replies rest = []
 deeds_answered (Asks jobs next) replies rest =
     deeds_answered (next (take (length jobs) replies)) (drop (length jobs) replies) rest
 
--- The deeds of a choice, from the beginning of its subject. (own)
+-- The deeds of a round, from the beginning of its subject. (own)
 abbrev pub subject_deeds : Subject → State → List Reply → (Scope → State → List Reply → List Deed) → List Deed
 subject_deeds Nothing st replies rest = rest no_choice st replies
 subject_deeds (Word word) st replies rest = rest (about (word_value word st.vars)) st replies
 subject_deeds (Asked question) st replies rest =
-    question_deeds question st ++ deeds_answered (asked as_is question st yes_or_no) replies rest
+    question_deeds question st replies ++ deeds_answered (asked as_is question st yes_or_no) replies rest
+
+-- The deeds of rounds, one after the other. (own)
+abbrev pub turn_deeds : List Subject → (Scope → State → Run) → (Scope → State → List Reply → List Deed) → State → List Reply → List Deed
+turn_deeds [] go did st replies = []
+turn_deeds (subject ∷ more) go did st replies =
+    subject_deeds subject st replies did ++ deeds_after (begun as_is subject st go) replies (turn_deeds more go did)
 
 -- The name of a deed. (own)
 abbrev pub name_in : Deed → List ℕ
@@ -162,8 +188,8 @@ unfoldable mutual
   deeds Done st replies = []
   deeds (Then s rest) st replies = effect_deeds s st replies ++ deeds_after (effect s st) replies (deeds rest)
   deeds (Choice subject cases rest) st replies =
-      subject_deeds subject st replies
-      (λ scope now left. case_deeds cases scope now left ++ deeds_after (chosen cases scope now) left (deeds rest))
+      turn_deeds (rounds_of subject) (chosen cases) (case_deeds cases) st replies
+      ++ deeds_after (in_turn (rounds_of subject) (chosen cases) st) replies (deeds rest)
   deeds (Check message name commands rest) st replies =
       check_deeds (value_of st.vars name) name (deeds commands (checking (word_value message st.vars) st) replies)
       (cached_test (check message name (meaning commands) st) st) replies

@@ -1,5 +1,7 @@
 pub mod Ends
 pub mod Cached
+pub mod Logged
+pub mod Questions
 pub mod Commands
 pub mod Deeds
 pub mod Batched

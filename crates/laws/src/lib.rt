@@ -1,9 +1,10 @@
-//! Laws of the meaning: theorems on what a run of statements leaves in its variables.
+//! Laws of the meaning: theorems on what a run of statements leaves in its variables and its log.
 //!
 //! There is no code here. Each function does nothing, and its contract is a theorem on the definitions of `meaning`.
 //! Read `specs/Ends.antt` (what holds at the ends of a run), `specs/Cached.antt` (cached tests: their names),
-//! `specs/Commands.antt` (tests that set their name alone), then `specs/Deeds.antt` (what each name that is set at the end
-//! comes from). `specs/Batched.antt` is about batches, which no statement has yet.
+//! `specs/Commands.antt` (tests that set their name alone), `specs/Questions.antt` (questions that test: their answer),
+//! `specs/Deeds.antt` (what each name that is set at the end comes from), `specs/Logged.antt` (the children in the log),
+//! then `specs/Batched.antt` (batches: lists of tests whose children are asked for at once).
 //!
 //! For example, say that AC_CACHE_CHECK of the name `v_cv_x` has the commands `v_cv_x=no` and then a program that is
 //! compiled, and that the compiler can't be started. By `broken_check_is_unset` the name is unset at the end, and by
@@ -14,6 +15,8 @@ ghost use Rattle.laws.specs.Batched.{BatchCommits, BatchAsksUnset, BatchStops, B
 ghost use Rattle.laws.specs.Cached.{NamesStandOnce, BrokenIsUnset, BrokenRowIsUnset, BrokenCheckIsUnset, SetStaysSet, SetRowAsksNothing};
 ghost use Rattle.laws.specs.Commands.{BrokenLeavesVariables, BrokenRowLeavesVariables, CommandsWriteAlone, BrokenCheckLeavesVariables};
 ghost use Rattle.laws.specs.Deeds.{DeedsAccount, CommandsHaveNoDeeds};
+ghost use Rattle.laws.specs.Logged.{ChildrenAreLogged};
+ghost use Rattle.laws.specs.Questions.{FoundByValue, FoundByCached};
 
 /// Statements never give a name a second entry in the variables.
 pub fn names_stand_once()
@@ -67,9 +70,9 @@ pub fn broken_check_leaves_variables()
 {}
 
 /// The names that are set at the end of a run are exactly those that were set at its beginning, those that a statement
-/// assigned, and those that a completed test left set. Such a test was of a name that was unset at the beginning. A
-/// name that was set and that no statement assigned keeps its value. What the commands of AC_CACHE_CHECK do to its own name
-/// does not count.
+/// assigned, and those that a completed test left set: a test of a statement, of an entry of a batch, or of a question in one
+/// of its rounds. Such a test was of a name that was unset at the beginning. A name that was set and that no statement
+/// assigned keeps its value. What the commands of AC_CACHE_CHECK do to its own name does not count.
 pub fn deeds_account()
     ensures account { DeedsAccount }
 {}
@@ -77,6 +80,18 @@ pub fn deeds_account()
 /// The commands that AC_CACHE_CHECK may have do nothing to other names.
 pub fn commands_have_no_deeds()
     ensures others { CommandsHaveNoDeeds }
+{}
+
+/// A question of a test is answered by the cached value when the test is over: yes if it is `yes`, and no if it isn't. If
+/// the name is set, the question asks for nothing, and the value that the name has decides.
+pub fn found_by_value()
+    ensures value { FoundByValue }
+    ensures cached { FoundByCached }
+{}
+
+/// The children in the log of a run are the jobs that it asked for with their replies, in order.
+pub fn children_are_logged()
+    ensures logged { ChildrenAreLogged }
 {}
 
 /// If there is a compiler, a batch is cut exactly if one of its children is refused. Each name has its value from before, or

@@ -99,12 +99,13 @@ fn texts_at_their_limits(rt: HostRuntime) -> Result<(), Fail> {
 
 // ---- sources
 
-/// Puts how many cases, programs or bytes of a value a statement has.
+/// Puts how many cases, programs, entries or bytes of a value a statement has.
 fn put_statement(page: &mut Page, statement: &Stmt) {
     page.put_number(match statement {
         Stmt::Choose { cases, .. } => cases.len(),
         Stmt::CacheCheck { commands, .. } => commands.len(),
         Stmt::Plain(Plain::CheckProgs { programs, .. }) => programs.as_slice().len(),
+        Stmt::Plain(Plain::Batch { entries, .. }) => entries.as_slice().len(),
         Stmt::Plain(Plain::Define { value, .. }) => value.len(),
         _ => 0,
     });
@@ -183,13 +184,14 @@ tree|AC_CHECK_PROGS([P],[|256* %|]) => 3, 256
 tree|AC_CHECK_PROGS([P],[|257* %|]) => 3, 257
 tree|AC_CHECK_PROGS([P],[|300* %|]) => 3, 300
 tree|AC_CHECK_PROGS([P],[|10000* %|]) => 3, 10000
+// entries of one list, those that come again included
+tree|AC_CHECK_HEADERS([|256* %.h|]) => 3, 256
+tree|AC_CHECK_HEADERS([|256* a.h|]) => 3, 256
+tree|AC_CHECK_HEADERS([|257* a.h|]) => 13 at 34
 // Lists in one another: the file's own list is the first. The second source has 17 bytes, 31 choices of 11 up to the next, and
 // 10 up to the last one's bracket.
 tree|31*AS_IF([:],[|a=1|31*]) => 3, 1
 tree|32*AS_IF([:],[|a=1|32*]) => 12 at 368
-// the weight of a source, of which AC_INIT and AC_OUTPUT weigh 1 each
-plan|65533*a=1^J => yes
-plan|65534*a=1^J => 1
 // Each list has room for 1,024 names, also where the first comes again. One more is refused at its argument, which begins at
 // the bracket before the name.
 lists|1024*AC_SUBST([%])^J|1*AC_SUBST([%])^J =>  1024 0 0 0 0
@@ -216,4 +218,21 @@ lists|AC_CONFIG_FILES([|1024* %|])AC_CONFIG_FILES([a]) => 13 at 6196
 #[test]
 fn sources_at_their_limits(rt: HostRuntime) -> Result<(), Fail> {
     try_rows(rt.alloc(), &Sources, SOURCES)
+}
+
+const WEIGHTS: &[u8] = b"\
+// the weight of a source, of which AC_INIT and AC_OUTPUT weigh 1 each
+plan|65533*a=1^J => yes
+plan|65534*a=1^J => 1
+// A list of 256 entries weighs 257, and with an action, which is made 256 times and weighs 2 with its case, 769. It then has more
+// steps than one.
+plan|65276*a=1^J|AC_CHECK_HEADERS([|256* %.h|]) => yes
+plan|65277*a=1^J|AC_CHECK_HEADERS([|256* %.h|]) => 1
+plan|64764*a=1^J|AC_CHECK_HEADERS([|256* %.h|],[a=1]) => no
+plan|64765*a=1^J|AC_CHECK_HEADERS([|256* %.h|],[a=1]) => 1
+";
+
+#[test]
+fn weights_at_their_limit(rt: HostRuntime) -> Result<(), Fail> {
+    try_rows(rt.alloc(), &Sources, WEIGHTS)
 }

@@ -1,1 +1,2 @@
-pub mod Logged
+pub mod Values
+pub mod Laws

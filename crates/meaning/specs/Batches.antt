@@ -8,7 +8,8 @@ use Rattle.deftable.specs.Table.{value_of}
 use Rattle.shellword.specs.declared.part.Part.{Part}
 use Rattle.meaning.specs.State.{State, with_child, with_variable, Goes_on, Completed, Stopped, Cut, Run, Ends, Asks, as_is}
 use Rattle.meaning.specs.Asking.{success, only_reply, heard}
-use Rattle.meaning.specs.Rows.{Listed, Single, entry_name, entry_job, row_of}
+use Rattle.syntax.specs.declared.listed.Listed.{Listed}
+use Rattle.meaning.specs.Rows.{Single, entry_name, entry_job, row_of}
 use Rattle.meaning.specs.Tests.{Row, tested}
 
 -- The entries of a list, with the includes of their programs. (own)

@@ -6,6 +6,6 @@ pub mod Rows
 pub mod Play
 pub mod Package
 pub mod Tries
+pub mod Batches
 pub mod Meaning
 pub mod Laws
-pub mod Batches

@@ -1,5 +1,5 @@
 -- The meaning of statements.
-use Rattle.std.specs.Prelude.{ℕ, ◌==◌, ◌&&◌, ◌||◌, length, [], ◌∷◌, ◌++◌, option_map, Bool, true, false, not, List, Option, Some, None, bytes_eq, codes, if◌then◌else◌, unwrap_or}
+use Rattle.std.specs.Prelude.{ℕ, ◌==◌, ◌&&◌, ◌||◌, length, [], ◌∷◌, ◌++◌, option_map, Bool, true, false, not, List, Option, Some, None, bytes_eq, codes, if◌then◌else◌, map, unwrap_or}
 use Rattle.deftable.specs.declared.note.Stream.TheVariants as streams
 use Rattle.deftable.specs.Table.{value_of}
 use Rattle.shellword.specs.declared.part.Part.{Part}
@@ -8,18 +8,20 @@ use Rattle.shellword.specs.Truth.{truth}
 use Rattle.shellword.specs.Value.{word_value}
 use Rattle.syntax.specs.declared.feature.OptionKind.{OptionKind}
 use Rattle.syntax.specs.declared.feature.OptionKind.TheVariants.{Feature, Package}
+use Rattle.syntax.specs.declared.listed.Sought.{Sought}
 use Rattle.syntax.specs.declared.statement.Plain as plain
-use Rattle.syntax.specs.declared.statement.Plain.TheVariants.{Init, Accepted, ConfigFiles, Assign, Subst, SubstValue, Define, DefineUnquoted, Error, ArgVar, CheckProg, CheckProgs, PathProg, ProgCc, Output}
+use Rattle.syntax.specs.declared.statement.Plain.TheVariants.{Init, Accepted, ConfigFiles, Assign, Subst, SubstValue, Define, DefineUnquoted, Error, ArgVar, CheckProg, CheckProgs, PathProg, ProgCc, Batch, Output}
 use Rattle.syntax.specs.declared.statement.Question as asks
-use Rattle.syntax.specs.declared.statement.Question.TheVariants.{Given, Tries}
+use Rattle.syntax.specs.declared.statement.Question.TheVariants.{Given, Tries, Checks, ChecksEach}
 use Rattle.syntax.specs.declared.tree.Subject.{Subject}
 use Rattle.syntax.specs.declared.tree.Subject.TheVariants.{Nothing, Word, Asked}
 use Rattle.syntax.specs.declared.tree.When.{When}
 use Rattle.syntax.specs.declared.tree.When.TheVariants.{Holds, Matches, Yes, No, Always}
 use Rattle.syntax.specs.Script.{Script, Done, Then, Choice, Check, Cases, No_case, Case}
 use Rattle.meaning.specs.Package.{initialised}
-use Rattle.meaning.specs.State.{State, Scope, no_choice, about, answered, told, with_variable, with_definition, How, as_is, Run, Ends, Goes_on, Completed, Stopped, then_run}
-use Rattle.meaning.specs.Rows.{Search, Program, value_or_empty, value_if, row_of}
+use Rattle.meaning.specs.State.{State, Scope, no_choice, about, answered, told, with_variable, with_definition, How, as_is, Run, Ends, Goes_on, Completed, Stopped, then_run, ended}
+use Rattle.meaning.specs.Rows.{Search, Kind, Program, kind_for, name_of, is_yes, value_or_empty, value_if, row_of}
+use Rattle.meaning.specs.Batches.{batched}
 use Rattle.meaning.specs.Tests.{Test, cached_test, tested}
 use Rattle.meaning.specs.Tries.{text_of, tried}
 
@@ -95,8 +97,8 @@ abbrev pub error_line : List ℕ → List ℕ
 error_line message = codes "configure: error: " ++ message ++ codes "\n"
 
 -- A statement: AC_INIT sets the package's variables and definitions; an assignment and AC_SUBST with a value set a
--- variable to the value of a word; the macros of programs look for them; AC_DEFINE defines a name as a text,
--- AC_DEFINE_UNQUOTED as the value of one; AC_MSG_ERROR prints its line and stops the run; AC_OUTPUT gives prefix and
+-- variable to the value of a word; the macros of programs look for them; the macros of lists test all entries at once;
+-- AC_DEFINE defines a name as a text, AC_DEFINE_UNQUOTED as the value of one; AC_MSG_ERROR prints its line and stops the run; AC_OUTPUT gives prefix and
 -- exec_prefix their values and completes the run; and the others have no effect. (Autoconf's manual, the sections of the macros)
 unfoldable pub effect : plain.Plain → State → Run
 effect (Init title version bug tarname url) st = Ends Goes_on (initialised title version bug tarname url st)
@@ -116,6 +118,7 @@ effect (CheckProgs variable programs otherwise) st =
 effect (PathProg variable program otherwise) st =
     program_test (path_prog variable program (option_map (λ t. word_value t st.vars) otherwise)) (is_full_name (value_or_empty st variable)) st
 effect (ProgCc programs) st = looks_all (codes "CC") programs true st
+effect (Batch listed entries includes) st = batched (record { listed = listed; entries = entries; includes = includes }) st
 effect Output st = Ends Completed (with_prefixes st)
 
 -- The variable that gets the value of an option if the option is given. (Autoconf's manual, "Choosing Package Options"
@@ -129,11 +132,25 @@ abbrev pub given : Option (List ℕ) → OptionKind → State → (Scope → Sta
 given None kind st go = go (answered false) st
 given (Some value) kind st go = go (answered true) (with_variable (value_name kind) value st)
 
--- A question, and how the run continues with the answer: an option is given if its variable is set, and a program that
--- is tried passes if its children succeed. (Autoconf's manual, "Running the Compiler")
+-- A test as a question: it has found what it looks for if its value is `yes`. (Autoconf's manual, "Existing Tests")
+abbrev pub found_by : (How → State → State) → Kind → State → (Scope → State → Run) → Run
+found_by early kind st go =
+    then_run (ended early (tested (row_of kind st) st)) (λ now. go (answered (is_yes (value_of now.vars (name_of kind)))) now)
+
+-- The first entry of a list is tested, and what is found is defined. (Autoconf's manual, "Generic Headers" to "Generic
+-- Types")
+abbrev pub first_found : (How → State → State) → Sought → List (List ℕ) → Option (List Part) → State → (Scope → State → Run) → Run
+first_found early sought [] includes st go = go (answered false) st
+first_found early sought (entry ∷ more) includes st go = found_by early (kind_for sought entry includes true) st go
+
+-- A question, and how the run continues with the answer: an option is given if its variable is set, a program that is
+-- tried passes if its children succeed, and an entry is found by its test. (Autoconf's manual, "Running the Compiler" and
+-- "Existing Tests")
 abbrev pub asked : (How → State → State) → asks.Question → State → (Scope → State → Run) → Run
 asked early (Tries kind program) st go = tried early kind (text_of program st.vars) st (λ passed. go (answered passed))
 asked early (Given kind variable help) st go = given (value_of st.vars variable) kind st go
+asked early (Checks sought entry includes) st go = found_by early (kind_for sought entry includes false) st go
+asked early (ChecksEach sought entries includes) st go = first_found early sought entries includes st go
 
 -- A choice begins with its subject: nothing, the value of a word, or the answer to a question; `early` changes the state
 -- of a run that ends here. (own)
@@ -141,6 +158,22 @@ unfoldable pub begun : (How → State → State) → Subject → State → (Scop
 begun early Nothing st go = go no_choice st
 begun early (Word word) st go = go (about (word_value word st.vars)) st
 begun early (Asked question) st go = asked early question st go
+
+-- The rounds of a question, each a question of its own: a list has one for each entry. (Autoconf's manual, "Generic
+-- Headers" to "Generic Types")
+abbrev pub rounds_asked : asks.Question → List Subject
+rounds_asked (ChecksEach sought entries includes) = map (λ entry. Asked (ChecksEach sought (entry ∷ []) includes)) entries
+rounds_asked question = Asked question ∷ []
+
+-- The rounds of a choice, each with a subject of its own. (own)
+abbrev pub rounds_of : Subject → List Subject
+rounds_of (Asked question) = rounds_asked question
+rounds_of subject = subject ∷ []
+
+-- Rounds, one after the other, each with what follows its beginning. (own)
+abbrev pub in_turn : List Subject → (Scope → State → Run) → State → Run
+in_turn [] go st = Ends Goes_on st
+in_turn (subject ∷ more) go st = then_run (begun as_is subject st go) (in_turn more go)
 
 -- A case is taken if its test holds, if one of its patterns matches the value of the subject, if it is for the answer,
 -- or if it is the default. (Autoconf's manual, "Common Shell Constructs")
@@ -158,11 +191,12 @@ check message name body st =
     record { name = name; message = word_value message st.vars; body = body; shown = λ value. unwrap_or value [] }
 
 unfoldable mutual
-  -- A list of statements: the first and, if the run continues, those that follow. (own)
+  -- A list of statements: the first and, if the run continues, those that follow. A choice runs its cases once in each
+  -- round. (own)
   pub meaning : Script → State → Run
   meaning Done st = Ends Goes_on st
   meaning (Then s rest) st = then_run (effect s st) (meaning rest)
-  meaning (Choice subject cases rest) st = begun as_is subject st (λ scope now. then_run (chosen cases scope now) (meaning rest))
+  meaning (Choice subject cases rest) st = then_run (in_turn (rounds_of subject) (chosen cases) st) (meaning rest)
   meaning (Check message name commands rest) st = then_run (cached_test (check message name (meaning commands) st) st) (meaning rest)
 
   -- The statements of the first case that is taken, if any. (own)

@@ -7,6 +7,10 @@ use Rattle.deftable.specs.Table.{value_of}
 use Rattle.m4quote.specs.Names.{sh_byte, cpp_byte}
 use Rattle.shellword.specs.declared.part.Part.{Part}
 use Rattle.shellword.specs.Value.{word_value}
+use Rattle.syntax.specs.declared.listed.Listed.{Listed}
+use Rattle.syntax.specs.declared.listed.Listed.TheVariants.{Header, Function, Declaration}
+use Rattle.syntax.specs.declared.listed.Sought.{Sought}
+use Rattle.syntax.specs.declared.listed.Sought.TheVariants.{Entry, «Type»}
 use Rattle.meaning.specs.State.{State, with_variable, with_definition}
 use Rattle.meaning.specs.Asking.{Attempt}
 use Rattle.meaning.specs.Tests.{Row, by_attempts}
@@ -21,19 +25,17 @@ pub record Search : Type 0 where
   pub found : Option (List ℕ)
   pub otherwise : Option (List ℕ)
 
--- What one child decides: whether a header can be included, a function linked, or a name is declared. (Autoconf's manual,
--- "Generic Headers", "Generic Functions" and "Generic Declarations")
-pub data Listed : Type 0 where
-  Header : Listed
-  Function : Listed
-  Declaration : Listed
-
 -- The kinds of tests: a program, what one child decides, and a type. `own` is the variable's own value, if it counts.
 -- `defines` says whether the result is defined, as the macros of lists do. (own)
 pub data Kind : Type 0 where
   Program : (search : Search) (own : Option (List ℕ)) → Kind
   Single : (listed : Listed) (entry : List ℕ) (includes : Option (List Part)) (defines : Bool) → Kind
   Sized : (name : List ℕ) (includes : Option (List Part)) (defines : Bool) → Kind
+
+-- The kind of test that a macro makes of an entry. (Autoconf's manual, "Generic Headers" to "Generic Types")
+abbrev pub kind_for : Sought → List ℕ → Option (List Part) → Bool → Kind
+kind_for (Entry listed) entry includes defines = Single listed entry includes defines
+kind_for «Type» entry includes defines = Sized entry includes defines
 
 -- A variable's value, or the empty text if it isn't set. (POSIX shell, "Parameter Expansion")
 abbrev pub value_or_empty : State → List ℕ → List ℕ

@@ -1,20 +1,24 @@
 -- Code that is written from the last step to the first.
-use Rattle.std.proofs.Common.{◌≡◌, ℕ, Bool, false, ◌==◌, ◌+◌, ◌-◌, ◌<◌, ◌≤◌, arith, List, ◌∷◌, ◌++◌, Vec, Global, length, drop, get_or, sym, ap, ◌∙◌, append_assoc}
+use Rattle.std.proofs.Common.{◌≡◌, ℕ, Bool, false, ◌==◌, ◌+◌, ◌-◌, ◌<◌, ◌≤◌, arith, List, [], ◌∷◌, Option, ◌++◌, Vec, Global, length, drop, get_or, sym, ap, ◌∙◌, append_assoc}
 use Rattle.std.proofs.lemmas.List.{drop_more, append-nil}
 use Rattle.std.proofs.lemmas.Bool.Decides.{nat_tests}
 use Rattle.shellword.specs.declared.part.Part.{Part}
+use Rattle.syntax.specs.declared.listed.Sought.{Sought}
+use Rattle.syntax.specs.declared.statement.Question.TheVariants.{ChecksEach}
 use Rattle.syntax.specs.declared.tree.Case as case
 use Rattle.syntax.specs.declared.tree.Stmt.{Stmt, Choose, CacheCheck}
 use Rattle.syntax.specs.declared.tree.Subject as what
+use Rattle.syntax.specs.declared.tree.Subject.TheVariants.{Asked}
 use Rattle.syntax.specs.declared.tree.Stmt.TheVariants.{Plain, Choose', CacheCheck'}
 use Rattle.syntax.specs.Script.{Script, Done, stmt_then, row_script, row_cases, script_of, cases_of}
 use Rattle.syntax.proofs.ScriptLemmas.{choice_is, check_is}
+use Rattle.meaning.specs.Meaning.{rounds_asked, rounds_of}
 use Rattle.plan.specs.Walk.{Instruction, Does, Looks, Begins}
-use Rattle.plan.specs.Code.{case_code, check_code, code_after, code_of, code_of_cases, code_of_programs}
+use Rattle.plan.specs.Code.{case_code, check_code, code_after, code_each, code_of, code_of_cases, code_of_programs}
 
 code_more : (s : Stmt) (rest : Script) → code_of (stmt_then s rest) ≡ code_of (stmt_then s Done) ++ code_of rest
 code_more (Plain s) rest = ap (λ l. Does s ∷ (l ++ code_of rest)) (sym (append-nil (code_after s)))
-code_more (Choose' subject m cases) rest = ap (λ l. Begins subject ∷ (l ++ code_of rest)) (sym (append-nil (code_of_cases (row_cases cases))))
+code_more (Choose' subject m cases) rest = ap (λ l. l ++ code_of rest) (sym (append-nil (code_each (rounds_of subject) (code_of_cases (row_cases cases)))))
 code_more (CacheCheck' message name m commands) rest = ap (λ l. l ++ code_of rest) (sym (append-nil (check_code message name (code_of (row_script commands)))))
 
 -- One more statement at the front.
@@ -45,10 +49,10 @@ code_at_case old new base list i d after lt far is h =
 
 -- A choice.
 pub code_choice : (s : Stmt) (subject : what.Subject) (cases : Vec case.Case Global) → s ≡ Choose subject cases
-    → code_of (stmt_then s Done) ≡ Begins subject ∷ code_of_cases (cases_of cases.items)
+    → code_of (stmt_then s Done) ≡ code_each (rounds_of subject) (code_of_cases (cases_of cases.items))
 code_choice s subject cases is =
     ap (λ x. code_of (stmt_then x Done)) is ∙ ap code_of (choice_is subject cases Done)
-    ∙ ap (λ l. Begins subject ∷ l) (append-nil (code_of_cases (cases_of cases.items)))
+    ∙ append-nil (code_each (rounds_of subject) (code_of_cases (cases_of cases.items)))
 
 -- A check.
 pub code_check : (s : Stmt) (message : List Part) (name : List ℕ) (commands : Vec Stmt Global) → s ≡ CacheCheck message name commands
@@ -56,6 +60,22 @@ pub code_check : (s : Stmt) (message : List Part) (name : List ℕ) (commands : 
 code_check s message name commands is =
     ap (λ x. code_of (stmt_then x Done)) is ∙ ap code_of (check_is message name commands Done)
     ∙ append-nil (check_code message name (code_of (script_of commands.items)))
+
+-- One more round at the front.
+pub code_at_round : (old new base cases : List Instruction) (sought : Sought) (includes : Option (List Part)) (entries : List (List ℕ)) (i j : ℕ) (e : List ℕ) → 0 < i → i ≤ length entries → j ≡ i - 1 → e ≡ get_or entries j e
+    → new ≡ Begins (Asked (ChecksEach sought (e ∷ []) includes)) ∷ (cases ++ old)
+    → old ≡ code_each (rounds_asked (ChecksEach sought (drop i entries) includes)) cases ++ base
+    → new ≡ code_each (rounds_asked (ChecksEach sought (drop j entries) includes)) cases ++ base
+code_at_round old new base cases sought includes entries i j e some within next at is h =
+    let lt : j < length entries = omega arith in
+    let up : i ≡ j + 1 = omega arith in
+    let each = λ (list : List (List ℕ)). code_each (rounds_asked (ChecksEach sought list includes)) cases in
+    let rest = drop (j + 1) entries in
+    is
+    ∙ ap (λ l. Begins (Asked (ChecksEach sought (e ∷ []) includes)) ∷ (cases ++ l)) (h ∙ ap (λ k. each (drop k entries) ++ base) up)
+    ∙ ap (λ l. Begins (Asked (ChecksEach sought (e ∷ []) includes)) ∷ l) (sym (append_assoc cases (each rest) base))
+    ∙ ap (λ x. each (x ∷ rest) ++ base) at
+    ∙ ap (λ l. each l ++ base) (sym (drop_more entries j e lt))
 
 -- One more program at the front.
 pub code_at_program : (old new base : List Instruction) (variable : List ℕ) (programs : List (List ℕ)) (i j : ℕ) (p : List ℕ) (first : Bool) → 0 < i → i ≤ length programs → j ≡ i - 1 → p ≡ get_or programs j p

@@ -6,18 +6,21 @@ use Rattle.conftest.specs.Probe.{run_of, job_of}
 use Rattle.crew.specs.declared.reply.Reply.{Reply}
 use Rattle.deftable.specs.Table.{value_of}
 use Rattle.deftable.specs.declared.note.Stream.TheVariants.{Err}
+use Rattle.shellword.specs.declared.part.Part.{Part}
 use Rattle.syntax.specs.declared.feature.OptionKind.{OptionKind}
 use Rattle.syntax.specs.declared.statement.Question as asks
-use Rattle.syntax.specs.declared.statement.Question.TheVariants.{Given, Tries}
+use Rattle.syntax.specs.declared.statement.Question.TheVariants.{Given, Tries, Checks, ChecksEach}
+use Rattle.syntax.specs.declared.listed.Sought.{Sought}
 use Rattle.syntax.specs.declared.program.Try as kinds
 use Rattle.syntax.specs.declared.program.Try.TheVariants as kinds_are
 use Rattle.syntax.specs.declared.tree.Subject as what
 use Rattle.syntax.specs.declared.tree.Subject.TheVariants.{Nothing, Word, Asked}
 use Rattle.meaning.specs.State.{State, Scope, answered, told, with_child, How, Goes_on, Completed, Stopped, Cut, Run, Ends, Asks, then_run, ended}
-use Rattle.meaning.specs.Meaning.{given, asked, begun}
+use Rattle.meaning.specs.Meaning.{given, found_by, first_found, asked, begun}
+use Rattle.meaning.specs.Rows.{Kind, kind_for, name_of, is_yes, row_of}
 use Rattle.meaning.specs.Asking.{success, only_reply, heard, child, no_compiler, compiled}
 use Rattle.meaning.specs.Tries.{first_probe, after_first, text_of}
-use Rattle.meaning.specs.Tests.{broken, guarded, broken_all, guarded_all}
+use Rattle.meaning.specs.Tests.{broken, guarded, broken_all, guarded_all, tested}
 
 -- What follows what follows.
 pub then_then : (r : Run) (f g : State → Run) → then_run (then_run r f) g ≡ then_run r (λ st. then_run (f st) g)
@@ -67,17 +70,19 @@ guarded_none (Ends (Stopped s) st) = refl
 guarded_none (Ends Cut st) = refl
 guarded_none (Asks jobs ask) = ap (Asks jobs) (fun_ext (λ replies. guarded_none (ask replies)))
 
--- Something is done to a run at its ends: where it is cut short or stops early, the state changes otherwise.
+-- Something is done to a run at its ends: if it doesn't continue, the state changes otherwise.
 pub record Carries (f : Run → Run) (early other : How → State → State) : Type 0 where
+  pub goes : (st : State) → early Goes_on st ≡ other Goes_on st
+  pub completed : (st : State) → f (Ends Completed (early Completed st)) ≡ Ends Completed (other Completed st)
   pub asks : (jobs : List Job) (ask : List Reply → Run) → f (Asks jobs ask) ≡ Asks jobs (λ replies. f (ask replies))
   pub cut : (st : State) → f (Ends Cut (early Cut st)) ≡ Ends Cut (other Cut st)
   pub stopped : (s : ℕ) (st : State) → f (Ends (Stopped s) (early (Stopped s) st)) ≡ Ends (Stopped s) (other (Stopped s) st)
 
 pub then_carries : (early : How → State → State) (next : State → Run) → Carries (λ r. then_run r next) early early
-then_carries early next = record { asks = λ jobs ask. refl; cut = λ st. refl; stopped = λ s st. refl }
+then_carries early next = record { goes = λ st. refl; completed = λ st. refl; asks = λ jobs ask. refl; cut = λ st. refl; stopped = λ s st. refl }
 
-pub ended_carries : (outer early : How → State → State) → Carries (ended outer) early (λ how st. outer how (early how st))
-ended_carries outer early = record { asks = λ jobs ask. refl; cut = λ st. refl; stopped = λ s st. refl }
+pub ended_carries : (tests : List (List ℕ)) (early : How → State → State) → Carries (guarded_all tests) early (λ how st. broken_all tests how (early how st))
+ended_carries tests early = record { goes = λ st. refl; completed = λ st. refl; asks = λ jobs ask. refl; cut = λ st. refl; stopped = λ s st. refl }
 
 heard_carried : (f : Run → Run) (early other : How → State → State) → Carries f early other → (answer : Option Bool) (st : State) (go : Bool → State → Run)
     → f (heard early answer st go) ≡ heard other answer st (λ b now. f (go b now))
@@ -105,12 +110,35 @@ given_carried : (f : Run → Run) (value : Option (List ℕ)) (kind : OptionKind
 given_carried f None kind st go = refl
 given_carried f (Some value) kind st go = refl
 
+-- A run that comes before what follows.
+run_carried : (f : Run → Run) (early other : How → State → State) → Carries f early other → (r : Run) (go : State → Run)
+    → f (then_run (ended early r) go) ≡ then_run (ended other r) (λ now. f (go now))
+run_carried f early other c (Ends Goes_on st) go = ap (λ s. f (go s)) (c.goes st)
+run_carried f early other c (Ends Completed st) go = c.completed st
+run_carried f early other c (Ends (Stopped s) st) go = c.stopped s st
+run_carried f early other c (Ends Cut st) go = c.cut st
+run_carried f early other c (Asks jobs ask) go =
+    c.asks jobs (λ replies. then_run (ended early (ask replies)) go) ∙ ap (Asks jobs) (fun_ext (λ replies. run_carried f early other c (ask replies) go))
+
+found_carried : (f : Run → Run) (early other : How → State → State) → Carries f early other → (kind : Kind) (st : State) (go : Scope → State → Run)
+    → f (found_by early kind st go) ≡ found_by other kind st (λ scope now. f (go scope now))
+found_carried f early other c kind st go =
+    run_carried f early other c (tested (row_of kind st) st) (λ now. go (answered (is_yes (value_of now.vars (name_of kind)))) now)
+
+first_found_carried : (f : Run → Run) (early other : How → State → State) → Carries f early other
+    → (sought : Sought) (entries : List (List ℕ)) (includes : Option (List Part)) (st : State) (go : Scope → State → Run)
+    → f (first_found early sought entries includes st go) ≡ first_found other sought entries includes st (λ scope now. f (go scope now))
+first_found_carried f early other c sought [] includes st go = refl
+first_found_carried f early other c sought (entry ∷ more) includes st go = found_carried f early other c (kind_for sought entry includes true) st go
+
 asked_carried : (f : Run → Run) (early other : How → State → State) → Carries f early other → (question : asks.Question) (st : State) (go : Scope → State → Run)
     → f (asked early question st go) ≡ asked other question st (λ scope now. f (go scope now))
 asked_carried f early other c (Given kind variable help) st go = given_carried f (value_of st.vars variable) kind st go
 asked_carried f early other c (Tries kind program) st go =
     let job = job_of (first_probe kind (text_of program st.vars)) 0 st.vars st.defs in
     compiled_carried f early other c job st _ ∙ ap (compiled other job st) (fun_ext (λ b. fun_ext (λ now. first_carried f early other c kind (λ passed. go (answered passed)) b now)))
+asked_carried f early other c (Checks sought entry includes) st go = found_carried f early other c (kind_for sought entry includes false) st go
+asked_carried f early other c (ChecksEach sought entries includes) st go = first_found_carried f early other c sought entries includes st go
 
 -- The beginning of a choice.
 pub begun_carried : (f : Run → Run) (early other : How → State → State) → Carries f early other → (subject : what.Subject) (st : State) (go : Scope → State → Run)

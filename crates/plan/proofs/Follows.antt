@@ -6,14 +6,15 @@ use Rattle.deftable.specs.Table.{value_of}
 use Rattle.shellword.specs.declared.part.Part.{Part}
 use Rattle.shellword.specs.Value.{word_value}
 use Rattle.syntax.specs.declared.statement.Plain as plain
-use Rattle.syntax.specs.declared.statement.Plain.TheVariants.{Init, Accepted, ConfigFiles, Assign, Subst, SubstValue, Define, DefineUnquoted, Error, ArgVar, CheckProg, PathProg, Output, CheckProgs, ProgCc}
+use Rattle.syntax.specs.declared.statement.Plain.TheVariants.{Init, Accepted, ConfigFiles, Assign, Subst, SubstValue, Define, DefineUnquoted, Error, ArgVar, CheckProg, PathProg, Output, CheckProgs, ProgCc, Batch}
+use Rattle.syntax.specs.declared.tree.Subject as what
 use Rattle.syntax.specs.declared.tree.When.{When}
 use Rattle.syntax.specs.Script.{Script, Done, Then, Choice, Check, Cases, No_case, Case}
-use Rattle.meaning.specs.State.{State, Scope, no_choice, as_is, Goes_on, Run, Ends, then_run, ended}
+use Rattle.meaning.specs.State.{State, Scope, no_choice, as_is, Goes_on, Run, Ends, then_run}
 use Rattle.meaning.specs.Tests.{guarded, broken_all, guarded_all, checking, with_result, test_by, cached_test}
-use Rattle.meaning.specs.Meaning.{effect, looks, looks_all, defaulted, begun, is_taken, check, meaning, chosen}
+use Rattle.meaning.specs.Meaning.{effect, looks, looks_all, defaulted, begun, is_taken, check, rounds_of, in_turn, meaning, chosen}
 use Rattle.plan.specs.Walk.{Instruction, Does, Defaults, Skips_unless, Skips, Opens, Closes, Mind, minded, empty_mind, opened, own_effect, walk, DoesWhat}
-use Rattle.plan.specs.Code.{case_code, check_code, code_after, code_of, code_of_cases, code_of_programs}
+use Rattle.plan.specs.Code.{case_code, check_code, code_after, code_each, code_of, code_of_cases, code_of_programs}
 use Rattle.plan.proofs.Endings.{then_then, then_ends, guarded_then, guarded_inner, guarded_none, then_carries, ended_carries, begun_carried}
 
 -- The steps of one part of the code are passed.
@@ -104,6 +105,7 @@ does_follow (Error message status) rest tests next h scope st = ordinary (Error 
 does_follow (ArgVar name help) rest tests next h scope st = ordinary (ArgVar name help) rest tests next refl refl h scope st
 does_follow (CheckProg variable program found otherwise) rest tests next h scope st = ordinary (CheckProg variable program found otherwise) rest tests next refl refl h scope st
 does_follow (PathProg variable program otherwise) rest tests next h scope st = ordinary (PathProg variable program otherwise) rest tests next refl refl h scope st
+does_follow (Batch listed entries includes) rest tests next h scope st = ordinary (Batch listed entries includes) rest tests next refl refl h scope st
 does_follow Output rest tests next h scope st = ordinary Output rest tests next refl refl h scope st
 
 -- A check, given the effect of its commands.
@@ -123,6 +125,22 @@ checks None message name body rest tests m next does h scope st =
     ∙ ap (λ x. then_run x (λ now. next (closed now))) (sym (guarded_inner tests name (m s)))
     ∙ in_order tests (guarded name (m s)) (λ now. Ends Goes_on (closed now)) next
 
+-- Rounds, one after the other, given the effect of the cases.
+rounds_follow : (rounds : List what.Subject) (cases rest : List Instruction) (tests : List (List ℕ)) (go : Scope → State → Run) (next : State → Run)
+    → ((more : List Instruction) (f : State → Run) → GoesOn more tests f → (scope : Scope) (st : State) → walk (cases ++ more) 0 (minded scope tests) st ≡ then_run (guarded_all tests (go scope st)) f)
+    → GoesOn rest tests next → GoesOn (code_each rounds cases ++ rest) tests (λ st. then_run (guarded_all tests (in_turn rounds go st)) next)
+rounds_follow [] cases rest tests go next does h scope st = h scope st
+rounds_follow (round ∷ rounds) cases rest tests go next does h scope st =
+    let all = broken_all tests in
+    let each = code_each rounds cases in
+    let later = λ (now : State). then_run (guarded_all tests (in_turn rounds go now)) next in
+    ap (begun all round st) (fun_ext (λ about. fun_ext (λ now.
+    ap (λ l. walk l 0 (minded about tests) now) (append_assoc cases each rest)
+    ∙ does (each ++ rest) later (rounds_follow rounds cases rest tests go next does h) about now)))
+    ∙ sym (begun_carried (λ r. then_run r later) all all (then_carries all later) round st (λ about now. guarded_all tests (go about now)))
+    ∙ ap (λ x. then_run x later) (sym (begun_carried (guarded_all tests) as_is all (ended_carries tests as_is) round st go))
+    ∙ in_order tests (begun as_is round st go) (in_turn rounds go) next
+
 mutual
   unfolding meaning chosen
 
@@ -135,14 +153,10 @@ mutual
       ∙ in_order tests (effect s st) (meaning script) next
   follows (Choice subject cases script) rest tests next h scope st =
       let c = code_of_cases cases in let r = code_of script in
-      let all = broken_all tests in
-      let go = λ (about : Scope) (now : State). then_run (chosen cases about now) (meaning script) in
-      ap (begun all subject st) (fun_ext (λ about. fun_ext (λ now.
-      ap (λ l. walk l 0 (minded about tests) now) (append_assoc c r rest)
-      ∙ chooses cases (r ++ rest) tests (λ s. then_run (guarded_all tests (meaning script s)) next) (follows script rest tests next h) about now
-      ∙ in_order tests (chosen cases about now) (meaning script) next)))
-      ∙ sym (begun_carried (λ r. then_run r next) all all (then_carries all next) subject st (λ about now. ended all (go about now)))
-      ∙ ap (λ x. then_run x next) (sym (begun_carried (ended all) as_is all (ended_carries all as_is) subject st go))
+      ap (λ l. walk l 0 (minded scope tests) st) (append_assoc (code_each (rounds_of subject) c) r rest)
+      ∙ rounds_follow (rounds_of subject) c (r ++ rest) tests (chosen cases) (λ s. then_run (guarded_all tests (meaning script s)) next)
+      (λ more f. chooses cases more tests f) (follows script rest tests next h) scope st
+      ∙ in_order tests (in_turn (rounds_of subject) (chosen cases) st) (meaning script) next
   follows (Check message name commands script) rest tests next h scope st =
       let b = code_of commands in let r = code_of script in
       ap (λ l. walk l 0 (minded scope tests) st) (flat_check message name b r rest)

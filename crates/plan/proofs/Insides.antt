@@ -1,17 +1,20 @@
 -- Every jump of a plan stays inside, and how many jobs a plan asks for.
 use Rattle.std.proofs.Common.{◌≡◌, codes, ◌*◌, ◌+◌, ℕ, ◌≤◌, List, [], ◌∷◌, ◌++◌, length, Bool, true, false, sym, arith, append_assoc, length-append, subst}
-use Rattle.std.proofs.lemmas.List.{append-nil}
-use Rattle.syntax.specs.declared.statement.Question.TheVariants.{Given, Tries}
+use Rattle.std.proofs.lemmas.List.{append-nil, length-map}
+use Rattle.syntax.specs.declared.listed.Sought.{Sought}
+use Rattle.syntax.specs.declared.listed.Sought.TheVariants.{Entry, «Type»}
+use Rattle.syntax.specs.declared.statement.Question.TheVariants.{Given, Tries, Checks, ChecksEach}
 use Rattle.syntax.specs.declared.program.Try.TheVariants as kinds_are
 use Rattle.syntax.specs.declared.statement.Plain as plain
-use Rattle.syntax.specs.declared.statement.Plain.TheVariants.{Init, Accepted, ConfigFiles, Assign, Subst, SubstValue, Define, DefineUnquoted, Error, ArgVar, CheckProg, PathProg, Output, CheckProgs, ProgCc}
+use Rattle.syntax.specs.declared.statement.Plain.TheVariants.{Init, Accepted, ConfigFiles, Assign, Subst, SubstValue, Define, DefineUnquoted, Error, ArgVar, CheckProg, PathProg, Output, CheckProgs, ProgCc, Batch}
 use Rattle.syntax.specs.declared.tree.Subject as what
 use Rattle.syntax.specs.declared.tree.Subject.TheVariants.{Nothing, Word, Asked}
 use Rattle.syntax.specs.Script.{Script, Done, Then, Choice, Check, Cases, No_case, Case}
+use Rattle.meaning.specs.Meaning.{rounds_of}
 use Rattle.plan.specs.Walk.{Instruction, Does, Looks, Defaults, Begins, Skips_unless, Skips, Opens, Closes}
-use Rattle.plan.specs.Code.{case_code, check_code, code_after, code_of, code_of_cases, code_of_programs}
-use Rattle.plan.specs.Inside.{StaysInside, asks_by, asks_about, asks_of, asks_after}
-use Rattle.plan.specs.Weight.{entries_of, weight, weight_of_cases}
+use Rattle.plan.specs.Code.{case_code, check_code, code_after, code_each, code_of, code_of_cases, code_of_programs}
+use Rattle.plan.specs.Inside.{StaysInside, AskFew, IsShort, AreShort, asks_by, asks_to_find, asks_about, asks_of, asks_after}
+use Rattle.plan.specs.Weight.{entries_of, entries_asked, times, weight, weight_of_cases}
 use Rattle.plan.proofs.Follows.{flat, flat_check}
 
 programs_inside : (variable : List ℕ) (programs : List (List ℕ)) (always : Bool) (rest : List Instruction) → StaysInside rest → StaysInside (code_of_programs variable programs always ++ rest)
@@ -35,7 +38,13 @@ after_inside (Error message status) rest h = h
 after_inside (ArgVar name help) rest h = h
 after_inside (CheckProg variable program found otherwise) rest h = h
 after_inside (PathProg variable program otherwise) rest h = h
+after_inside (Batch listed entries includes) rest h = h
 after_inside Output rest h = h
+
+each_inside : (rounds : List what.Subject) (cases rest : List Instruction) → ((more : List Instruction) → StaysInside more → StaysInside (cases ++ more)) → StaysInside rest → StaysInside (code_each rounds cases ++ rest)
+each_inside [] cases rest does h = h
+each_inside (round ∷ rounds) cases rest does h =
+    (omega arith, subst StaysInside (sym (append_assoc cases (code_each rounds cases) rest)) (does (code_each rounds cases ++ rest) (each_inside rounds cases rest does h)))
 
 mutual
   -- The jumps of code stay inside, whatever follows it.
@@ -44,7 +53,9 @@ mutual
   code_inside (Then s script) rest h =
       (omega arith, subst StaysInside (sym (append_assoc (code_after s) (code_of script) rest)) (after_inside s (code_of script ++ rest) (code_inside script rest h)))
   code_inside (Choice subject cases script) rest h =
-      (omega arith, subst StaysInside (sym (append_assoc (code_of_cases cases) (code_of script) rest)) (cases_inside cases (code_of script ++ rest) (code_inside script rest h)))
+      let c = code_of_cases cases in let r = code_of script in
+      subst StaysInside (sym (append_assoc (code_each (rounds_of subject) c) r rest))
+      (each_inside (rounds_of subject) c (r ++ rest) (λ more inside. cases_inside cases more inside) (code_inside script rest h))
   code_inside (Check message name commands script) rest h =
       let b = code_of commands in let r = code_of script in
       let end = Closes name ∷ (r ++ rest) in
@@ -63,40 +74,55 @@ mutual
 pub code_stays : (script : Script) → StaysInside (code_of script)
 code_stays script = subst StaysInside (append-nil (code_of script)) (code_inside script [] tt)
 
--- A step asks for no more jobs than there are directories.
-pub asks_few : (i : Instruction) → asks_of i ≤ 65536
-asks_few (Does (Init a b d e f)) = omega arith
-asks_few (Does Accepted) = omega arith
-asks_few (Does (ConfigFiles outputs)) = omega arith
-asks_few (Does (Assign name value)) = omega arith
-asks_few (Does (Subst name)) = omega arith
-asks_few (Does (SubstValue name value)) = omega arith
-asks_few (Does (Define name value)) = omega arith
-asks_few (Does (DefineUnquoted name value)) = omega arith
-asks_few (Does (Error message status)) = omega arith
-asks_few (Does (ArgVar name help)) = omega arith
-asks_few (Does (CheckProg variable program found otherwise)) = omega arith
-asks_few (Does (PathProg variable program otherwise)) = omega arith
-asks_few (Does Output) = omega arith
-asks_few (Does (CheckProgs variable programs otherwise)) = omega arith
-asks_few (Does (ProgCc programs)) = omega arith
-asks_few (Looks variable program always) = omega arith
-asks_few (Defaults variable value) = omega arith
-asks_few (Begins Nothing) = omega arith
-asks_few (Begins (Word word)) = omega arith
-asks_few (Begins (Asked (Given kind variable help))) = omega arith
-asks_few (Begins (Asked (Tries kinds_are.Compile program))) = omega arith
-asks_few (Begins (Asked (Tries kinds_are.Link program))) = omega arith
-asks_few (Begins (Asked (Tries kinds_are.Preproc program))) = omega arith
-asks_few (Begins (Asked (Tries kinds_are.Run program))) = omega arith
-asks_few (Skips_unless when steps) = omega arith
-asks_few (Skips steps) = omega arith
-asks_few (Opens message name steps) = omega arith
-asks_few (Closes name) = omega arith
+find_asks : (sought : Sought) → asks_to_find sought ≤ 2
+find_asks (Entry listed) = omega arith
+find_asks «Type» = omega arith
 
-pub asks_bound : (steps : List Instruction) → asks_after steps 0 ≤ 65536 * length steps
-asks_bound [] = omega arith
-asks_bound (i ∷ rest) = omega (arith, asks_few i, asks_bound rest)
+-- The beginning of a choice.
+about_asks : (subject : what.Subject) → asks_about subject ≤ 65536
+about_asks Nothing = omega arith
+about_asks (Word word) = omega arith
+about_asks (Asked (Given kind variable help)) = omega arith
+about_asks (Asked (Tries kinds_are.Compile program)) = omega arith
+about_asks (Asked (Tries kinds_are.Link program)) = omega arith
+about_asks (Asked (Tries kinds_are.Preproc program)) = omega arith
+about_asks (Asked (Tries kinds_are.Run program)) = omega arith
+about_asks (Asked (Checks sought entry includes)) = omega (arith, find_asks sought)
+about_asks (Asked (ChecksEach sought entries includes)) = omega (arith, find_asks sought)
+
+-- A step asks for no more jobs than there are directories.
+asks_few : (i : Instruction) → IsShort i → asks_of i ≤ 65536
+asks_few (Does (Init a b d e f)) h = omega arith
+asks_few (Does Accepted) h = omega arith
+asks_few (Does (ConfigFiles outputs)) h = omega arith
+asks_few (Does (Assign name value)) h = omega arith
+asks_few (Does (Subst name)) h = omega arith
+asks_few (Does (SubstValue name value)) h = omega arith
+asks_few (Does (Define name value)) h = omega arith
+asks_few (Does (DefineUnquoted name value)) h = omega arith
+asks_few (Does (Error message status)) h = omega arith
+asks_few (Does (ArgVar name help)) h = omega arith
+asks_few (Does (CheckProg variable program found otherwise)) h = omega arith
+asks_few (Does (PathProg variable program otherwise)) h = omega arith
+asks_few (Does Output) h = omega arith
+asks_few (Does (CheckProgs variable programs otherwise)) h = omega arith
+asks_few (Does (ProgCc programs)) h = omega arith
+asks_few (Does (Batch listed entries includes)) h = omega arith
+asks_few (Looks variable program always) h = omega arith
+asks_few (Defaults variable value) h = omega arith
+asks_few (Begins subject) h = about_asks subject
+asks_few (Skips_unless when steps) h = omega arith
+asks_few (Skips steps) h = omega arith
+asks_few (Opens message name steps) h = omega arith
+asks_few (Closes name) h = omega arith
+
+pub all_ask_few : (steps : List Instruction) → AreShort steps → AskFew steps
+all_ask_few [] h = tt
+all_ask_few (i ∷ rest) h = (asks_few i h.0, all_ask_few rest h.1)
+
+pub asks_bound : (steps : List Instruction) → AreShort steps → asks_after steps 0 ≤ 65536 * length steps
+asks_bound [] h = omega arith
+asks_bound (i ∷ rest) h = omega (arith, asks_few i h.0, asks_bound rest h.1)
 
 asks_both : (a b : List Instruction) → asks_after (a ++ b) 0 ≡ asks_after a 0 + asks_after b 0
 asks_both [] b = omega arith
@@ -123,10 +149,24 @@ statement_asks (Error message status) = omega arith
 statement_asks (ArgVar name help) = omega arith
 statement_asks (CheckProg variable program found otherwise) = omega arith
 statement_asks (PathProg variable program otherwise) = omega arith
+statement_asks (Batch listed entries includes) = omega arith
 statement_asks Output = omega arith
 
-about_asks : (subject : what.Subject) → asks_about subject ≤ 65536
-about_asks subject = asks_few (Begins subject)
+each_ask : (rounds : List what.Subject) (cases : List Instruction) (w : ℕ) → asks_after cases 0 ≤ 65536 * w
+    → asks_after (code_each rounds cases) 0 ≤ 65536 * (length rounds + times (length rounds) w)
+each_ask [] cases w h = omega arith
+each_ask (round ∷ rounds) cases w h =
+    omega (arith, about_asks round, asks_both cases (code_each rounds cases), h, each_ask rounds cases w h)
+
+-- A choice has no more rounds than its statement, and the entries of its list, weigh.
+pub rounds_bound : (subject : what.Subject) → length (rounds_of subject) ≤ 1 + entries_asked subject
+rounds_bound Nothing = omega arith
+rounds_bound (Word word) = omega arith
+rounds_bound (Asked (Given kind variable help)) = omega arith
+rounds_bound (Asked (Tries kind program)) = omega arith
+rounds_bound (Asked (Checks sought entry includes)) = omega arith
+rounds_bound (Asked (ChecksEach sought entries includes)) =
+    omega (arith, length-map entries (λ (entry : List ℕ). Asked (ChecksEach sought (entry ∷ []) includes)))
 
 mutual
   -- Code asks for 65,536 jobs at most for each unit of weight.
@@ -134,7 +174,8 @@ mutual
   code_asks Done = omega arith
   code_asks (Then s script) = omega (arith, statement_asks s, asks_both (code_after s) (code_of script), code_asks script)
   code_asks (Choice subject cases script) =
-      omega (arith, about_asks subject, asks_both (code_of_cases cases) (code_of script), cases_ask cases, code_asks script)
+      let rounds = rounds_of subject in let c = code_of_cases cases in
+      omega (arith, asks_both (code_each rounds c) (code_of script), each_ask rounds c (weight_of_cases cases) (cases_ask cases), rounds_bound subject, code_asks script)
   code_asks (Check message name commands script) =
       let b = code_of commands in
       omega (arith, asks_both (check_code message name b) (code_of script), asks_both b (Closes name ∷ []), code_asks commands, code_asks script)

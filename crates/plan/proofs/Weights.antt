@@ -1,19 +1,22 @@
 -- The weight of a list, statement after statement and case after case, and how long its code is.
-use Rattle.std.proofs.Common.{◌≡◌, codes, ℕ, ◌+◌, ◌*◌, ◌<◌, ◌≤◌, Option, Some, None, IfSome, IfNone, is_some, Bool, true, false, refl, List, [], ◌∷◌, Vec, Global, length, drop, get_or, ap, ◌∙◌, arith, length-append}
+use Rattle.std.proofs.Common.{◌≡◌, codes, ℕ, zero, suc, ◌+◌, ◌-◌, ◌*◌, ◌<◌, ◌≤◌, Option, Some, None, IfSome, IfNone, SomeIff, is_some, Bool, true, false, refl, List, [], ◌∷◌, Vec, Global, length, drop, get_or, ap, ◌∙◌, arith, length-append}
+use Rattle.std.proofs.Math.Nat.{mul-zero, mul-suc}
 use Rattle.std.proofs.lemmas.List.{drop_more}
 use Rattle.std.proofs.lemmas.Bool.{true≢false}
 use Rattle.shellword.specs.declared.part.Part.{Part}
 use Rattle.syntax.specs.declared.statement.Plain as plain
-use Rattle.syntax.specs.declared.statement.Plain.TheVariants.{Init, Accepted, ConfigFiles, Assign, Subst, SubstValue, Define, DefineUnquoted, Error, ArgVar, CheckProg, PathProg, Output, CheckProgs, ProgCc}
+use Rattle.syntax.specs.declared.statement.Plain.TheVariants.{Init, Accepted, ConfigFiles, Assign, Subst, SubstValue, Define, DefineUnquoted, Error, ArgVar, CheckProg, PathProg, Output, CheckProgs, ProgCc, Batch}
 use Rattle.syntax.specs.declared.tree.Case as case
 use Rattle.syntax.specs.declared.tree.Stmt.{Stmt, Choose, CacheCheck}
 use Rattle.syntax.specs.declared.tree.Subject as what
 use Rattle.syntax.specs.declared.tree.Stmt.TheVariants as stmt
 use Rattle.syntax.specs.Script.{Script, Done, Then, Choice, Check, Cases, No_case, Case, stmt_then, script_of, cases_of}
 use Rattle.syntax.proofs.ScriptLemmas.{choice_is, check_is}
-use Rattle.plan.specs.Walk.{Defaults, Skips, Closes}
-use Rattle.plan.specs.Weight.{entries_of, weight, weight_of_cases}
-use Rattle.plan.specs.Code.{case_code, check_code, code_after, code_of, code_of_cases, code_of_programs}
+use Rattle.meaning.specs.Meaning.{rounds_of}
+use Rattle.plan.specs.Walk.{Instruction, Defaults, Skips, Closes}
+use Rattle.plan.specs.Weight.{entries_of, entries_asked, times, weight, weight_of_cases}
+use Rattle.plan.specs.Code.{case_code, check_code, code_after, code_each, code_of, code_of_cases, code_of_programs}
+use Rattle.plan.proofs.Insides.{rounds_bound}
 
 weight_more : (s : Stmt) (rest : Script) → weight (stmt_then s rest) ≡ weight (stmt_then s Done) + weight rest
 weight_more (stmt.Plain s) rest = omega arith
@@ -32,7 +35,7 @@ weight_at_case list i d lt = ap (λ l. weight_of_cases (cases_of l)) (drop_more 
 
 -- A choice.
 pub weight_choice : (s : Stmt) (subject : what.Subject) (cases : Vec case.Case Global) → s ≡ Choose subject cases
-    → weight (stmt_then s Done) ≡ 1 + weight_of_cases (cases_of cases.items)
+    → weight (stmt_then s Done) ≡ 1 + (entries_asked subject + times (length (rounds_of subject)) (weight_of_cases (cases_of cases.items)))
 weight_choice s subject cases is = ap (λ x. weight (stmt_then x Done)) is ∙ ap weight (choice_is subject cases Done) ∙ omega arith
 
 pub weighs_something : (s : Stmt) → 1 ≤ weight (stmt_then s Done)
@@ -61,17 +64,17 @@ weigh_over list i s left room lt is e h =
     omega (arith, weight_at list i s lt, ap (λ x. weight (stmt_then x Done)) is)
 
 pub choose_some : (r : Option ℕ) (s : Stmt) (subject : what.Subject) (cases : Vec case.Case Global) (seen : List case.Case) (left room : ℕ) → s ≡ Choose subject cases
-    → seen ≡ cases.items → left + 1 ≡ room → IfSome r (λ l. l + weight_of_cases (cases_of seen) ≡ left)
+    → seen ≡ cases.items → left + 1 ≡ room → IfSome r (λ l. l + (entries_asked subject + times (length (rounds_of subject)) (weight_of_cases (cases_of seen))) ≡ left)
     → IfSome r (λ l. l + weight (stmt_then s Done) ≡ room)
 choose_some None s subject cases seen left room is same one h = h
 choose_some (Some l) s subject cases seen left room is same one h =
-    omega (arith, weight_choice s subject cases is, ap (λ x. weight_of_cases (cases_of x)) same)
+    omega (arith, weight_choice s subject cases is, ap (λ x. times (length (rounds_of subject)) (weight_of_cases (cases_of x))) same)
 
 pub choose_none : (r : Option ℕ) (s : Stmt) (subject : what.Subject) (cases : Vec case.Case Global) (seen : List case.Case) (left room : ℕ) → s ≡ Choose subject cases
-    → seen ≡ cases.items → left + 1 ≡ room → IfNone r (left < weight_of_cases (cases_of seen))
+    → seen ≡ cases.items → left + 1 ≡ room → IfNone r (left < entries_asked subject + times (length (rounds_of subject)) (weight_of_cases (cases_of seen)))
     → IfNone r (room < weight (stmt_then s Done))
 choose_none None s subject cases seen left room is same one h =
-    omega (arith, weight_choice s subject cases is, ap (λ x. weight_of_cases (cases_of x)) same)
+    omega (arith, weight_choice s subject cases is, ap (λ x. times (length (rounds_of subject)) (weight_of_cases (cases_of x))) same)
 choose_none (Some l) s subject cases seen left room is same one h = h
 
 pub check_some : (r : Option ℕ) (s : Stmt) (message : List Part) (name : List ℕ) (commands : Vec Stmt Global) (seen : List Stmt) (left room : ℕ) → s ≡ CacheCheck message name commands
@@ -108,7 +111,13 @@ after_bound (Error message status) = omega arith
 after_bound (ArgVar name help) = omega arith
 after_bound (CheckProg variable program found otherwise) = omega arith
 after_bound (PathProg variable program otherwise) = omega arith
+after_bound (Batch listed entries includes) = omega arith
 after_bound Output = omega arith
+
+each_bound : (rounds : List what.Subject) (cases : List Instruction) (w : ℕ) → length cases ≤ 2 * w
+    → length (code_each rounds cases) ≤ length rounds + 2 * times (length rounds) w
+each_bound [] cases w h = omega arith
+each_bound (round ∷ rounds) cases w h = omega (arith, length-append cases (code_each rounds cases), h, each_bound rounds cases w h)
 
 mutual
   -- Code has two steps at most for each unit of weight.
@@ -116,7 +125,8 @@ mutual
   code_bound Done = omega arith
   code_bound (Then s rest) = omega (arith, after_bound s, length-append (code_after s) (code_of rest), code_bound rest)
   code_bound (Choice subject cases rest) =
-      omega (arith, length-append (code_of_cases cases) (code_of rest), cases_bound cases, code_bound rest)
+      let rounds = rounds_of subject in let c = code_of_cases cases in
+      omega (arith, length-append (code_each rounds c) (code_of rest), each_bound rounds c (weight_of_cases cases) (cases_bound cases), rounds_bound subject, code_bound rest)
   code_bound (Check message name commands rest) =
       let b = code_of commands in
       omega (arith, length-append (check_code message name b) (code_of rest), length-append b (Closes name ∷ []), code_bound commands, code_bound rest)
@@ -126,6 +136,29 @@ mutual
   cases_bound (Case when body more) =
       let b = code_of body in let m = code_of_cases more in
       omega (arith, length-append (case_code when b (length m)) m, length-append b (Skips (length m) ∷ []), code_bound body, cases_bound more)
+
+-- So many times is a product.
+pub times_is : (w n : ℕ) → w * n ≡ times n w
+times_is w zero = mul-zero w
+times_is w (suc n) = mul-suc w n ∙ omega (arith, times_is w n)
+
+-- At least once.
+times_some : (w n : ℕ) → 0 < n → w ≤ times n w
+times_some w zero h = omega arith
+times_some w (suc n) h = omega arith
+
+-- There is no room for the cases, and so none for all rounds.
+pub rounds_over : (w n m entries left room : ℕ) → 0 < n → n ≡ m → left + entries ≡ room → left < w → room < entries + times m w
+rounds_over w n m entries left room some same is over = omega (arith, times_some w m (omega (arith, some, same)), is, over)
+
+-- What is left after so many times the weight.
+pub spent_some : (r : Option ℕ) (all total room : ℕ) → all ≡ total → SomeIff r (all ≤ room) (room - all) → IfSome r (λ rest. rest + total ≡ room)
+spent_some None all total room is h = tt
+spent_some (Some rest) all total room is h = omega (arith, is, h)
+
+pub spent_none : (r : Option ℕ) (all total room : ℕ) → all ≡ total → SomeIff r (all ≤ room) (room - all) → IfNone r (room < total)
+spent_none None all total room is h = omega (arith, is, h)
+spent_none (Some rest) all total room is h = tt
 
 -- If there is room for all, the weight is no more than the room.
 pub within : (r : Option ℕ) (w room : ℕ) → true ≡ is_some r → IfSome r (λ left. left + w ≡ room) → w ≤ room

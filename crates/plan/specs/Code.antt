@@ -4,7 +4,9 @@ use Rattle.shellword.specs.declared.part.Part.{Part}
 use Rattle.syntax.specs.declared.statement.Plain as plain
 use Rattle.syntax.specs.declared.statement.Plain.TheVariants.{CheckProgs, ProgCc}
 use Rattle.syntax.specs.declared.tree.When.{When}
+use Rattle.syntax.specs.declared.tree.Subject as subject
 use Rattle.syntax.specs.Script.{Script, Done, Then, Choice, Check, Cases, No_case, Case}
+use Rattle.meaning.specs.Meaning.{rounds_of}
 use Rattle.plan.specs.Walk.{Instruction, Does, Looks, Defaults, Begins, Skips_unless, Skips, Opens, Closes}
 
 -- A case: a jump past it, its statements, and a jump past the cases after it. (own)
@@ -26,12 +28,17 @@ code_after (CheckProgs variable programs otherwise) = code_of_programs variable 
 code_after (ProgCc programs) = code_of_programs (codes "CC") programs true
 code_after statement = []
 
+-- Rounds, one after the other: each begins with its subject, and has the steps of the cases. (own)
+abbrev pub code_each : List subject.Subject → List Instruction → List Instruction
+code_each [] cases = []
+code_each (round ∷ more) cases = Begins round ∷ (cases ++ code_each more cases)
+
 abbrev mutual
   -- The steps of a list of statements. (own)
   pub code_of : Script → List Instruction
   code_of Done = []
   code_of (Then s rest) = Does s ∷ (code_after s ++ code_of rest)
-  code_of (Choice subject cases rest) = Begins subject ∷ (code_of_cases cases ++ code_of rest)
+  code_of (Choice subject cases rest) = code_each (rounds_of subject) (code_of_cases cases) ++ code_of rest
   code_of (Check message name commands rest) = check_code message name (code_of commands) ++ code_of rest
 
   -- The steps of the cases of a choice. (own)

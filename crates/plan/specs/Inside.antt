@@ -1,8 +1,10 @@
 -- Every jump of a plan goes forward and stays inside, and how many jobs a plan may ask for.
 use Rattle.std.specs.Prelude.{ℕ, zero, suc, ◌+◌, ◌≤◌, List, [], ◌∷◌, length}
+use Rattle.syntax.specs.declared.listed.Sought as sought
+use Rattle.syntax.specs.declared.listed.Sought.TheVariants.{Entry, «Type»}
 use Rattle.syntax.specs.declared.statement.Plain as plain
-use Rattle.syntax.specs.declared.statement.Plain.TheVariants.{CheckProg, PathProg}
-use Rattle.syntax.specs.declared.statement.Question.TheVariants.{Given, Tries}
+use Rattle.syntax.specs.declared.statement.Plain.TheVariants.{CheckProg, PathProg, Batch}
+use Rattle.syntax.specs.declared.statement.Question.TheVariants.{Given, Tries, Checks, ChecksEach}
 use Rattle.syntax.specs.declared.program.Try as kinds
 use Rattle.syntax.specs.declared.program.Try.TheVariants.{Compile, Link, Preproc, Run}
 use Rattle.syntax.specs.declared.tree.Subject as subject
@@ -33,6 +35,7 @@ most_directories = 65536
 abbrev pub asks_by : plain.Plain → ℕ
 asks_by (CheckProg variable program found otherwise) = most_directories
 asks_by (PathProg variable program otherwise) = most_directories
+asks_by (Batch listed entries includes) = length entries
 asks_by statement = 0
 
 -- How many jobs a try may ask for. (own)
@@ -42,12 +45,19 @@ asks_to_try Link = 1
 asks_to_try Preproc = 1
 asks_to_try Run = 2
 
--- How many jobs the beginning of a choice may ask for. (own)
+-- How many jobs the test of an entry may ask for. (own)
+abbrev pub asks_to_find : sought.Sought → ℕ
+asks_to_find (Entry listed) = 1
+asks_to_find «Type» = 2
+
+-- How many jobs the beginning of a choice may ask for; of a list, the first entry alone is tested. (own)
 abbrev pub asks_about : subject.Subject → ℕ
 asks_about Nothing = 0
 asks_about (Word word) = 0
 asks_about (Asked (Given kind variable help)) = 0
 asks_about (Asked (Tries kind program)) = asks_to_try kind
+asks_about (Asked (Checks sought entry includes)) = asks_to_find sought
+asks_about (Asked (ChecksEach sought entries includes)) = asks_to_find sought
 
 -- How many jobs a step may ask for. (own)
 abbrev pub asks_of : Instruction → ℕ
@@ -65,3 +75,18 @@ abbrev pub asks_after : List Instruction → ℕ → ℕ
 asks_after [] n = 0
 asks_after (i ∷ rest) (suc n) = asks_after rest n
 asks_after (i ∷ rest) zero = asks_of i + asks_after rest 0
+
+-- Each step of a plan asks for at most 65,536 jobs. (own)
+abbrev pub AskFew : List Instruction → Type 0
+AskFew [] = Unit {0}
+AskFew (i ∷ rest) = (asks_of i ≤ 65536) × AskFew rest
+
+-- A step that tests the entries of a list at once has at most 256. (own)
+abbrev pub IsShort : Instruction → Type 0
+IsShort (Does (Batch listed entries includes)) = length entries ≤ 256
+IsShort _ = Unit {0}
+
+-- So has each step of a plan. (own)
+abbrev pub AreShort : List Instruction → Type 0
+AreShort [] = Unit {0}
+AreShort (i ∷ rest) = IsShort i × AreShort rest

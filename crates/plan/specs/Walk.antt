@@ -5,14 +5,16 @@ use Rattle.shellword.specs.declared.part.Part.{Part}
 use Rattle.shellword.specs.Value.{word_value}
 use Rattle.syntax.specs.declared.statement.Plain as plain
 use Rattle.syntax.specs.declared.statement.Plain.TheVariants.{CheckProgs, ProgCc}
+use Rattle.syntax.specs.declared.statement.Question.TheVariants.{ChecksEach}
 use Rattle.syntax.specs.declared.tree.Subject as subject
+use Rattle.syntax.specs.declared.tree.Subject.TheVariants.{Asked}
 use Rattle.syntax.specs.declared.tree.When.{When}
 use Rattle.syntax.specs.Script.{Script}
 use Rattle.meaning.specs.State.{State, Scope, no_choice, Goes_on, Run, Ends, then_run}
 use Rattle.meaning.specs.Tests.{broken_all, guarded_all, checking, with_result}
 use Rattle.meaning.specs.Meaning.{effect, begun, is_taken, looks, defaulted, meaning}
 use Rattle.plan.specs.declared.step.Step.{Step}
-use Rattle.plan.specs.declared.step.Step.TheVariants.{Do, Look, Default, Subject, SkipUnless, Skip, Open, Close}
+use Rattle.plan.specs.declared.step.Step.TheVariants.{Do, Look, Default, Subject, Round, SkipUnless, Skip, Open, Close}
 
 -- A step, as contracts see it. (own)
 pub data Instruction : Type 0 where
@@ -25,12 +27,13 @@ pub data Instruction : Type 0 where
   Opens : (message : List Part) (name : List ℕ) (steps : ℕ) → Instruction
   Closes : (name : List ℕ) → Instruction
 
--- A step of the code. (own)
+-- A step of the code. A round begins a choice about one entry of a list. (own)
 abbrev pub shown : Step → Instruction
 shown (Do statement) = Does statement.now
 shown (Look variable program always) = Looks variable.now program.now always
 shown (Default variable value) = Defaults variable.now value.now
 shown (Subject subject) = Begins subject.now
+shown (Round sought entry includes) = Begins (Asked (ChecksEach sought (entry.now ∷ []) includes.now))
 shown (SkipUnless when steps) = Skips_unless when.now steps
 shown (Skip steps) = Skips steps
 shown (Open message name steps) = Opens message.now name.now steps

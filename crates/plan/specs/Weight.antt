@@ -1,21 +1,41 @@
 -- The weight of a list of statements.
-use Rattle.std.specs.Prelude.{ℕ, ◌+◌, length}
+use Rattle.std.specs.Prelude.{ℕ, zero, suc, ◌+◌, length}
 use Rattle.syntax.specs.declared.statement.Plain as plain
-use Rattle.syntax.specs.declared.statement.Plain.TheVariants.{CheckProgs, ProgCc}
+use Rattle.syntax.specs.declared.statement.Plain.TheVariants.{CheckProgs, ProgCc, Batch}
+use Rattle.syntax.specs.declared.statement.Question.TheVariants.{Given, Tries, Checks, ChecksEach}
+use Rattle.syntax.specs.declared.tree.Subject as subject
+use Rattle.syntax.specs.declared.tree.Subject.TheVariants.{Nothing, Word, Asked}
 use Rattle.syntax.specs.Script.{Script, Done, Then, Choice, Check, Cases, No_case, Case}
+use Rattle.meaning.specs.Meaning.{rounds_of}
 
--- The number of programs in a statement's list. (own)
+-- The number of entries of a statement's list: programs, or what is tested at once. (own)
 abbrev pub entries_of : plain.Plain → ℕ
 entries_of (CheckProgs variable programs otherwise) = length programs
 entries_of (ProgCc programs) = length programs
+entries_of (Batch listed entries includes) = length entries
 entries_of statement = 0
 
+-- The number of entries of a choice's list. (own)
+abbrev pub entries_asked : subject.Subject → ℕ
+entries_asked Nothing = 0
+entries_asked (Word word) = 0
+entries_asked (Asked (Given kind variable help)) = 0
+entries_asked (Asked (Tries kind program)) = 0
+entries_asked (Asked (Checks sought entry includes)) = 0
+entries_asked (Asked (ChecksEach sought entries includes)) = length entries
+
+-- A weight so many times. (own)
+abbrev pub times : ℕ → ℕ → ℕ
+times zero w = 0
+times (suc n) w = w + times n w
+
 abbrev mutual
-  -- Each statement weighs 1, inside a case too, and each program of a list 1 more. (own)
+  -- Each statement weighs 1, inside a case too, and each entry of a list 1 more. The cases of a choice weigh as much in
+  -- each round. (own)
   pub weight : Script → ℕ
   weight Done = 0
   weight (Then s rest) = 1 + (entries_of s + weight rest)
-  weight (Choice subject cases rest) = 1 + (weight_of_cases cases + weight rest)
+  weight (Choice subject cases rest) = 1 + (entries_asked subject + (times (length (rounds_of subject)) (weight_of_cases cases) + weight rest))
   weight (Check message name commands rest) = 1 + (weight commands + weight rest)
 
   -- Each case of a choice weighs 1 more than its statements, a default too. (own)

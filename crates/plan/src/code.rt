@@ -1,6 +1,7 @@
 //! Steps that are written from the last to the first.
 
 ghost use Rattle.std.specs.Prelude.{◌≡◌, [], ◌∷◌, OnOk, length, map};
+ghost use Rattle.plan.specs.Inside.{IsShort, AreShort};
 ghost use Rattle.plan.specs.Names.{DefinesNames};
 ghost use Rattle.plan.specs.Walk.{Does, shown};
 
@@ -22,6 +23,7 @@ impl<'a> Model for Code<'a> {
     ghost use Rattle.syntax.specs.contracts.statement.Plain as plain;
     ghost use Rattle.syntax.specs.contracts.tree.Subject as subject;
     ghost use Rattle.syntax.specs.contracts.tree.When as when;
+    ghost use Rattle.plan.specs.Inside.{AreShort};
     ghost use Rattle.plan.specs.Names.{DefinesNames};
     ghost use Rattle.plan.specs.Walk.{Instruction, shown};
 
@@ -31,7 +33,7 @@ impl<'a> Model for Code<'a> {
 
     ghost view = { λ c. map shown (reverse c.steps.items) };
 
-    ghost invariant = { λ c. DefinesNames (map shown (reverse c.steps.items)) };
+    ghost invariant = { λ c. DefinesNames (map shown (reverse c.steps.items)) × AreShort (map shown (reverse c.steps.items)) };
 }
 
 impl<'a> Code<'a> {
@@ -44,9 +46,11 @@ impl<'a> Code<'a> {
         }
     }
 
-    /// Puts a step at the front. It defines nothing, or a name that has the form of one.
+    /// Puts a step at the front. It defines nothing, or a name that has the form of one, and a list whose entries it tests
+    /// at once has at most 256.
     pub(crate) fn put(&mut self, step: Step<'a>) -> Result<(), AllocError>
-        requires { DefinesNames (shown step ∷ []) }
+        requires names { DefinesNames (shown step ∷ []) }
+        requires short { IsShort (shown step) }
         ensures { OnOk result (self.new ≡ shown step.entry ∷ self.old) }
     {
         self.steps.push(step)?;
@@ -57,11 +61,18 @@ impl<'a> Code<'a> {
     pub(crate) fn put_statement(&mut self, statement: &'a Plain) -> Result<(), AllocError>
         ensures { OnOk result (self.new ≡ Does statement.now ∷ self.old) }
     {
-        if let Plain::Define { name, .. } | Plain::DefineUnquoted { name, .. } = statement {
-            // For the proof only: a name has the form of one.
-            let _ = name.as_slice();
+        // Each `as_slice` is for the proof only: a name has the form of one, and a list is short.
+        match statement {
+            Plain::Define { name, .. } | Plain::DefineUnquoted { name, .. } => {
+                let _ = name.as_slice();
+                self.put(Step::Do(statement))
+            }
+            Plain::Batch { entries, .. } => {
+                let _ = entries.as_slice();
+                self.put(Step::Do(statement))
+            }
+            _ => self.put(Step::Do(statement)),
         }
-        self.put(Step::Do(statement))
     }
 
     /// Returns the number of steps.
@@ -75,6 +86,7 @@ impl<'a> Code<'a> {
     pub(crate) fn into_steps(self) -> Vec<Step<'a>>
         ensures steps { map shown result.items ≡ self.entry }
         ensures names { DefinesNames self.entry }
+        ensures short { AreShort self.entry }
     {
         let Code { mut steps } = self;
         steps.reverse();

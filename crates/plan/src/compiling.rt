@@ -2,7 +2,7 @@
 
 ghost use Rattle.std.specs.Prelude.{◌≡◌, ◌<◌, ◌≤◌, ◌*◌, ◌^◌, ◌↔◌, Err, IfOk, length};
 ghost use Rattle.syntax.specs.Script.{script_of};
-ghost use Rattle.plan.specs.Inside.{asks_after};
+ghost use Rattle.plan.specs.Inside.{AreShort, asks_after};
 ghost use Rattle.plan.specs.Names.{DefinesNames};
 ghost use Rattle.plan.specs.Walk.{DoesWhat};
 ghost use Rattle.plan.specs.Weight.{heaviest, weight};
@@ -29,6 +29,7 @@ pub fn compile_statements<'a>(alloc: Global, statements: &'a [Stmt]) -> Result<P
     ensures fits { IfOk result (λ _. weight (script_of statements.now) ≤ heaviest) }
     ensures steps { IfOk result (λ plan. length plan ≤ 2 ^ 20) }
     ensures names { IfOk result (λ plan. DefinesNames plan) }
+    ensures short { IfOk result (λ plan. AreShort plan) }
     // A run asks for at most 65,536 jobs for each unit of weight.
     ensures asks { IfOk result (λ plan. asks_after plan 0 ≤ 65536 * weight (script_of statements.now)) }
 {
@@ -52,6 +53,7 @@ pub fn compile<'a>(alloc: Global, source: &'a Source) -> Result<Plan<'a>, PlanFa
     ensures fits { IfOk result (λ _. weight (script_of source.now) ≤ heaviest) }
     ensures steps { IfOk result (λ plan. length plan ≤ 2 ^ 20) }
     ensures names { IfOk result (λ plan. DefinesNames plan) }
+    ensures short { IfOk result (λ plan. AreShort plan) }
     // A run asks for at most 65,536 jobs for each unit of weight.
     ensures asks { IfOk result (λ plan. asks_after plan 0 ≤ 65536 * weight (script_of source.now)) }
 {

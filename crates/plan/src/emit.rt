@@ -1,15 +1,21 @@
 //! The steps of statements, written from the last to the first, so that the length of each jump is known.
 
-ghost use Rattle.std.specs.Prelude.{◌≡◌, ◌++◌, IfOk, OnOk, true};
+ghost use Rattle.std.specs.Prelude.{◌≡◌, ◌∷◌, ◌++◌, [], IfOk, OnOk, true};
+ghost use Rattle.meaning.specs.Meaning.{rounds_asked, rounds_of};
+ghost use Rattle.syntax.specs.declared.statement.Question.TheVariants.{ChecksEach};
+ghost use Rattle.syntax.specs.declared.tree.Subject.TheVariants.{Asked};
 ghost use Rattle.syntax.specs.Script.{Done, script_of, cases_of, stmt_then};
-ghost use Rattle.plan.specs.Code.{case_code, check_code, code_after, code_of, code_of_cases, code_of_programs};
+ghost use Rattle.plan.specs.Code.{case_code, check_code, code_after, code_each, code_of, code_of_cases, code_of_programs};
+ghost use Rattle.plan.specs.Inside.{IsShort};
+ghost use Rattle.plan.specs.Names.{DefinesNames};
+ghost use Rattle.plan.specs.Walk.{shown};
 
 use crate::code::Code;
 use crate::step::Step;
 use deftable::Bytes;
 use shellword::HereText;
 use std::alloc::{AllocError, Global};
-use syntax::{Case, Plain, Stmt};
+use syntax::{Case, Plain, Question, Sought, Stmt, Subject};
 
 /// Puts the steps of the programs that are looked for at the front.
 fn emit_programs<'a>(
@@ -71,17 +77,93 @@ fn emit_statement<'a>(code: &mut Code<'a>, statement: &'a Stmt) -> Result<(), Al
             code.put_statement(plain)?;
             Ok(())
         }
-        Stmt::Choose { subject, cases } => {
-            emit_cases(code, cases.as_slice())?;
-            code.put(Step::Subject(subject))?;
-            Ok(())
-        }
+        Stmt::Choose { subject, cases } => emit_choice(code, subject, cases.as_slice()),
         Stmt::CacheCheck {
             message,
             name,
             commands,
         } => emit_check(code, message, name.as_slice(), commands.as_slice()),
     }
+}
+
+/// Puts the steps of a choice at the front.
+#[cycle(emit)]
+fn emit_choice<'a>(
+    code: &mut Code<'a>,
+    subject: &'a Subject,
+    cases: &'a [Case],
+) -> Result<(), AllocError>
+    ensures { OnOk result (code.new ≡ code_each (rounds_of subject.now) (code_of_cases (cases_of cases.now)) ++ code.old) }
+{
+    match subject {
+        Subject::Nothing => emit_round(code, Step::Subject(subject), cases),
+        Subject::Word(_) => emit_round(code, Step::Subject(subject), cases),
+        Subject::Asked(question) => emit_asked(code, subject, question, cases),
+    }
+}
+
+/// Puts the steps of a choice about a question at the front.
+#[cycle(emit)]
+fn emit_asked<'a>(
+    code: &mut Code<'a>,
+    subject: &'a Subject,
+    question: &'a Question,
+    cases: &'a [Case],
+) -> Result<(), AllocError>
+    requires { subject.now ≡ Asked question.now }
+    ensures { OnOk result (code.new ≡ code_each (rounds_asked question.now) (code_of_cases (cases_of cases.now)) ++ code.old) }
+{
+    match question {
+        Question::ChecksEach {
+            sought,
+            entries,
+            includes,
+        } => emit_each(code, *sought, entries.as_slice(), includes, cases),
+        Question::Checks { .. } => emit_round(code, Step::Subject(subject), cases),
+        Question::Tries { .. } => emit_round(code, Step::Subject(subject), cases),
+        Question::Given { .. } => emit_round(code, Step::Subject(subject), cases),
+    }
+}
+
+/// Puts the steps of the rounds of a list at the front.
+#[cycle(emit)]
+fn emit_each<'a>(
+    code: &mut Code<'a>,
+    sought: Sought,
+    entries: &'a [Bytes],
+    includes: &'a Option<HereText>,
+    cases: &'a [Case],
+) -> Result<(), AllocError>
+    ensures { OnOk result (code.new ≡ code_each (rounds_asked (ChecksEach sought entries.now includes.now)) (code_of_cases (cases_of cases.now)) ++ code.old) }
+{
+    for i in (0..entries.len()).rev() {
+        emit_round(
+            code,
+            Step::Round {
+                sought,
+                entry: &entries[i],
+                includes,
+            },
+            cases,
+        )?;
+    }
+    Ok(())
+}
+
+/// Puts the steps of one round at the front: its beginning, and the cases.
+#[cycle(emit)]
+fn emit_round<'a>(
+    code: &mut Code<'a>,
+    begins: Step<'a>,
+    cases: &'a [Case],
+) -> Result<(), AllocError>
+    requires names { DefinesNames (shown begins ∷ []) }
+    requires short { IsShort (shown begins) }
+    ensures { OnOk result (code.new ≡ shown begins.entry ∷ (code_of_cases (cases_of cases.now) ++ code.old)) }
+{
+    emit_cases(code, cases)?;
+    code.put(begins)?;
+    Ok(())
 }
 
 /// Puts the steps of a check at the front.

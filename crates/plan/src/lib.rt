@@ -12,6 +12,20 @@
 //!                                                         Do AC_OUTPUT
 //! ```
 //!
+//! A choice about each entry of a list is made in rounds, one for each entry. A `Round` begins one: its entry is tested, and
+//! the steps of the cases follow. Since jumps are relative, they are the same in each round.
+//!
+//! ```text
+//! AC_CHECK_HEADERS([a.h b.h], [found=yes])                Round a.h
+//!                                                         SkipUnless yes, 2
+//!                                                         Do found=yes
+//!                                                         Skip 0
+//!                                                         Round b.h
+//!                                                         SkipUnless yes, 2
+//!                                                         Do found=yes
+//!                                                         Skip 0
+//! ```
+//!
 //! Read `step` (the steps, and the plan, whose jumps all stay inside), then `specs/Walk` (the effect of a step, and of
 //! a plan), then `compiling`. `weight` counts the weight of a source, and `emit` writes the steps from the last to the
 //! first, into `code`. `specs/Weight` and `specs/Code` define both, and `specs/Inside` and `specs/Names` what holds of

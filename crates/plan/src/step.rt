@@ -4,7 +4,7 @@ use crate::code::Code;
 use deftable::Bytes;
 use shellword::HereText;
 use std::marker::Model;
-use syntax::{Plain, Subject, When};
+use syntax::{Plain, Sought, Subject, When};
 
 /// A step of a plan. It borrows from the tree, and a jump has the number of steps that it passes.
 #[derive(Clone, Copy)]
@@ -24,6 +24,13 @@ pub enum Step<'a> {
     },
     /// Begins a choice. Its subject is the subject until the next choice begins.
     Subject(&'a Subject),
+    /// Begins a round of a choice about each entry of a list. The entry is tested, and the cases that follow are decided by
+    /// whether it is found.
+    Round {
+        sought: Sought,
+        entry: &'a Bytes,
+        includes: &'a Option<HereText>,
+    },
     /// Passes steps, unless the case is taken.
     SkipUnless {
         when: &'a When,
@@ -46,8 +53,8 @@ pub enum Step<'a> {
 }
 
 /// The steps of a source, which borrow from its statements. Contracts see the list of their effects: every jump goes
-/// forward and stays inside, every name that a step defines has the form of one, each step asks for at most 65,536 jobs, and
-/// all together for at most 2^36.
+/// forward and stays inside, every name that a step defines has the form of one, a list whose entries are tested at once has
+/// at most 256, each step asks for at most 65,536 jobs, and all together for at most 2^36.
 pub struct Plan<'a> {
     steps: Vec<Step<'a>>,
 }
@@ -65,7 +72,7 @@ impl<'a> Model for Plan<'a> {
     ghost use Rattle.syntax.specs.contracts.tree.Subject as subject;
     ghost use Rattle.syntax.specs.contracts.tree.When as when;
     ghost use Rattle.plan.specs.Walk.{Instruction, shown};
-    ghost use Rattle.plan.specs.Inside.{StaysInside, asks_after};
+    ghost use Rattle.plan.specs.Inside.{StaysInside, AreShort, asks_after};
     ghost use Rattle.plan.specs.Names.{DefinesNames};
 
     ghost Value = { List Instruction };
@@ -74,13 +81,13 @@ impl<'a> Model for Plan<'a> {
 
     ghost view = { λ p. map shown p.steps.items };
 
-    ghost invariant = { λ p. StaysInside (map shown p.steps.items) × DefinesNames (map shown p.steps.items) × (asks_after (map shown p.steps.items) 0 ≤ 2 ^ 36) };
+    ghost invariant = { λ p. StaysInside (map shown p.steps.items) × DefinesNames (map shown p.steps.items) × AreShort (map shown p.steps.items) × (asks_after (map shown p.steps.items) 0 ≤ 2 ^ 36) };
 }
 
 impl<'a> Plan<'a> {
     ghost use Rattle.std.specs.Prelude.{◌≡◌, ◌≤◌, ◌^◌, length, map};
-    ghost use Rattle.plan.specs.Walk.{Instruction, shown};
-    ghost use Rattle.plan.specs.Inside.{StaysInside, asks_after, asks_of};
+    ghost use Rattle.plan.specs.Walk.{shown};
+    ghost use Rattle.plan.specs.Inside.{StaysInside, AreShort, AskFew, asks_after};
     ghost use Rattle.plan.specs.Names.{DefinesNames};
 
     /// Makes a plan from the steps.
@@ -100,7 +107,8 @@ impl<'a> Plan<'a> {
         ensures inside { StaysInside self.now }
         ensures names { DefinesNames self.now }
         ensures asks { asks_after self.now 0 ≤ 2 ^ 36 }
-        ensures each { (step : Instruction) → asks_of step ≤ 65536 }
+        ensures short { AreShort self.now }
+        ensures each { AskFew self.now }
     {
         self.steps.as_slice()
     }

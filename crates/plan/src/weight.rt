@@ -1,10 +1,11 @@
 //! The weight of statements.
 
-ghost use Rattle.std.specs.Prelude.{◌≡◌, ◌+◌, ◌<◌, ◌∷◌, [], IfSome, IfNone};
+ghost use Rattle.std.specs.Prelude.{◌≡◌, ◌+◌, ◌-◌, ◌<◌, ◌≤◌, ◌∷◌, [], IfSome, IfNone, length};
 ghost use Rattle.syntax.specs.Script.{Done, script_of, cases_of, stmt_then};
-ghost use Rattle.plan.specs.Weight.{entries_of, weight, weight_of_cases};
+ghost use Rattle.meaning.specs.Meaning.{rounds_of};
+ghost use Rattle.plan.specs.Weight.{entries_asked, entries_of, times, weight, weight_of_cases};
 
-use syntax::{Case, Plain, Stmt};
+use syntax::{Case, Plain, Question, Stmt, Subject};
 
 /// Returns what is left of `room` after the weight of the statements, or `None` if they weigh more.
 #[cycle(weigh)]
@@ -22,7 +23,7 @@ pub(crate) fn weigh(room: usize, statements: &[Stmt]) -> Option<usize>
     Some(left)
 }
 
-/// Returns the number of programs in a statement's list.
+/// Returns the number of entries of a statement's list.
 fn entries_of(statement: &Plain) -> usize
     ensures { result ≡ entries_of statement.now }
 {
@@ -30,8 +31,42 @@ fn entries_of(statement: &Plain) -> usize
         Plain::CheckProgs { programs, .. } | Plain::ProgCc { programs } => {
             programs.as_slice().len()
         }
+        Plain::Batch { entries, .. } => entries.as_slice().len(),
         _ => 0,
     }
+}
+
+/// Returns the number of entries of a choice's list.
+fn entries_asked(subject: &Subject) -> usize
+    ensures { result ≡ entries_asked subject.now }
+{
+    match subject {
+        Subject::Asked(Question::ChecksEach { entries, .. }) => entries.as_slice().len(),
+        _ => 0,
+    }
+}
+
+/// Returns the number of rounds of a choice.
+fn rounds(subject: &Subject) -> usize
+    ensures number { result ≡ length (rounds_of subject.now) }
+    ensures some { 0 < result }
+{
+    match subject {
+        Subject::Asked(Question::ChecksEach { entries, .. }) => entries.as_slice().len(),
+        _ => 1,
+    }
+}
+
+/// Returns what is left of `room` after so many times the difference between `room` and `left`.
+fn spend(room: usize, left: usize, rounds: usize) -> Option<usize>
+    requires { left ≤ room }
+    ensures some { IfSome result (λ rest. rest + times rounds (room - left) ≡ room) }
+    ensures none { IfNone result (room < times rounds (room - left)) }
+{
+    let Some(all) = (room - left).checked_mul(rounds) else {
+        return None;
+    };
+    room.checked_sub(all)
 }
 
 #[cycle(weigh)]
@@ -44,9 +79,25 @@ fn weigh_statement(room: usize, statement: &Stmt) -> Option<usize>
     };
     match statement {
         Stmt::Plain(plain) => left.checked_sub(entries_of(plain)),
-        Stmt::Choose { cases, .. } => weigh_cases(left, cases.as_slice()),
+        Stmt::Choose { subject, cases } => weigh_choice(left, subject, cases.as_slice()),
         Stmt::CacheCheck { commands, .. } => weigh(left, commands.as_slice()),
     }
+}
+
+/// A choice, without the 1 of its statement. Its cases weigh as much in each round.
+#[cycle(weigh)]
+fn weigh_choice(room: usize, subject: &Subject, cases: &[Case]) -> Option<usize>
+    ensures some { IfSome result (λ left. left + (entries_asked subject.now + times (length (rounds_of subject.now)) (weight_of_cases (cases_of cases.now))) ≡ room) }
+    ensures none { IfNone result (room < entries_asked subject.now + times (length (rounds_of subject.now)) (weight_of_cases (cases_of cases.now))) }
+{
+    let rounds = rounds(subject);
+    let Some(room) = room.checked_sub(entries_asked(subject)) else {
+        return None;
+    };
+    let Some(left) = weigh_cases(room, cases) else {
+        return None;
+    };
+    spend(room, left, rounds)
 }
 
 #[cycle(weigh)]

@@ -2,6 +2,7 @@
 
 ghost use Rattle.std.specs.Prelude.{◌≡◌, ◌≤◌, []};
 
+use crate::batches::put_whole_over;
 use crate::directories::try_rows_in;
 use crate::runs::put_run_over;
 use crate::texts::{add, bytes_of, number_of, parts_of, put_cut, words_of};
@@ -15,7 +16,7 @@ use std::test::Fail;
 use testrows::{Call, Page, cut, try_rows};
 
 /// Puts `STATUS:TEXT`, or `S` for a start that is refused and `E` for an end that is.
-fn put_reply(page: &mut Page, reply: &Reply) {
+pub fn put_reply(page: &mut Page, reply: &Reply) {
     match reply {
         Reply::Answer { status, text } => {
             page.put_shown(status);
@@ -73,6 +74,12 @@ pub enum Work<'a> {
         compiler: &'a [u8],
         window: usize,
     },
+    /// The same, and all that the run leaves.
+    Whole {
+        plan: &'a Plan<'a>,
+        compiler: &'a [u8],
+        window: usize,
+    },
 }
 
 /// Puts what a crew that has done nothing does.
@@ -86,6 +93,11 @@ fn put_work<C: Crew>(page: &mut Page, crew: &mut C, work: &Work)
             compiler,
             window,
         } => put_run_over(page, crew, plan, compiler, (*window).max(1).min(16)),
+        Work::Whole {
+            plan,
+            compiler,
+            window,
+        } => put_whole_over(page, crew, plan, compiler, (*window).max(1).min(16)),
     }
 }
 
@@ -147,17 +159,29 @@ fn put_events(page: &mut Page, events: &[Event]) {
     }
 }
 
-/// Puts the work of a crew in memory with these replies in this order, and the calls that it lists.
-pub fn put_in_memory(page: &mut Page, replies: &[u8], order: &[u8], work: &Work) {
+/// Puts the work of a crew in memory with these replies in this order, and the calls that it lists if they are wanted.
+fn put_memory_work(page: &mut Page, replies: &[u8], order: &[u8], work: &Work, has_calls: bool) {
     let replies = replies_of(page, replies);
     let order = order_of(page, order);
     match &mut MemoryCrew::new(page.alloc(), replies, order) {
         Ok(crew) => {
             put_work(page, crew, work);
-            put_events(page, crew.events());
+            if has_calls {
+                put_events(page, crew.events());
+            }
         }
         Err(_) => page.cut(),
     }
+}
+
+/// Puts the work of a crew in memory with these replies in this order, and the calls that it lists.
+pub fn put_in_memory(page: &mut Page, replies: &[u8], order: &[u8], work: &Work) {
+    put_memory_work(page, replies, order, work, true);
+}
+
+/// Puts the work of a crew in memory with these replies in this order.
+pub fn put_without_calls(page: &mut Page, replies: &[u8], order: &[u8], work: &Work) {
+    put_memory_work(page, replies, order, work, false);
 }
 
 /// A crew in memory: how many children it starts, its replies and its order.

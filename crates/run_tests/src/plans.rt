@@ -75,6 +75,7 @@ fn put_jump(page: &mut Page, step: &Step) {
         | Step::Look { .. }
         | Step::Default { .. }
         | Step::Subject(_)
+        | Step::Round { .. }
         | Step::Close { .. } => page.put(b"-"),
         Step::SkipUnless { steps, .. } | Step::Skip { steps } | Step::Open { steps, .. } => {
             page.put_number(*steps)

@@ -3,6 +3,7 @@
 
 ghost use Rattle.std.specs.Prelude.{◌≡◌, ◌≤◌, []};
 
+use crate::batches::{put_at_windows, put_definitions, put_variables};
 use crate::crews::{Work, put_in_memory, put_real_children};
 use crate::directories::try_rows_in;
 use crate::machines::put_walked;
@@ -15,9 +16,9 @@ use proberun::{Outcome, RunEnd, run};
 use std::test::Fail;
 use testrows::{Call, Page, cut};
 
-/// Puts what a run leaves: its outcome, and those of these variables that are set.
-pub fn put_run_end(page: &mut Page, end: &RunEnd) {
-    match end.outcome {
+/// Puts how a run ended.
+pub fn put_outcome(page: &mut Page, outcome: Outcome) {
+    match outcome {
         Outcome::Completed => page.put(b"completed"),
         Outcome::Stopped(status) => {
             page.put(b"stopped ");
@@ -28,6 +29,12 @@ pub fn put_run_end(page: &mut Page, end: &RunEnd) {
             page.put_shown(&number);
         }
     }
+}
+
+/// Puts what a run leaves: its outcome, those of these variables that are set, and of the tests of lists the variables and
+/// the definitions.
+pub fn put_run_end(page: &mut Page, end: &RunEnd) {
+    put_outcome(page, end.outcome);
     for name in [b"r".as_slice(), b"s", b"x", b"prefix", b"exec_prefix"] {
         if let Some(value) = end.vars.get(name) {
             page.put(b" ");
@@ -36,6 +43,8 @@ pub fn put_run_end(page: &mut Page, end: &RunEnd) {
             page.put(value.as_slice());
         }
     }
+    put_variables(page, &end.vars, b"ac_cv_");
+    put_definitions(page, &end.defs, b"HAVE_");
 }
 
 /// Returns the variable `CC`, if its value isn't empty.
@@ -66,10 +75,12 @@ pub fn put_run_over<C: Crew>(
     }
 }
 
-/// Puts what the run of a plan leaves: its window, or `children` or `machine`, the value of `CC`, and the replies.
+/// Puts what the run of a plan leaves: its window, or `windows`, `children` or `machine`, the value of `CC`, the replies, and the
+/// order of ends: the oldest child first if it is left out.
 fn put_run(page: &mut Page, rt: &HostRuntime, plan: &Plan, how: &[u8]) {
     let (way, rest) = cut(how, b"|");
-    let (compiler, replies) = cut(rest, b"|");
+    let (compiler, rest) = cut(rest, b"|");
+    let (replies, order) = cut(rest, b"|");
     let work = Work::Run {
         plan,
         compiler,
@@ -78,7 +89,8 @@ fn put_run(page: &mut Page, rt: &HostRuntime, plan: &Plan, how: &[u8]) {
     match way {
         b"children" => put_real_children(page, rt, &work),
         b"machine" => put_walked(page, plan, compiler, replies),
-        _ => put_in_memory(page, replies, b"oldest", &work),
+        b"windows" => put_at_windows(page, plan, compiler, replies),
+        _ => put_in_memory(page, replies, order, &work),
     }
 }
 
@@ -98,8 +110,8 @@ fn put_run_of_text(page: &mut Page, rt: &HostRuntime, text: &[u8], how: &[u8]) {
 
 /// The run of a source: its lines between AC_INIT and AC_OUTPUT, if they are not [`TWO`], and how it runs.
 #[derive(Drop)]
-struct Runs<'a> {
-    rt: &'a HostRuntime,
+pub struct Runs<'a> {
+    pub rt: &'a HostRuntime,
 }
 
 impl Call for Runs<'_> {
@@ -127,7 +139,7 @@ const RUNS: &[u8] = b"\
 |1||0 => stopped 1
 // A compiler that can't be started cuts the run. A shell is found in the second directory of PATH.
 CC=/nowhere/cc^JAC_COMPILE_IFELSE([AC_LANG_PROGRAM([],[])],[r=1],[r=2])|children => cut 1
-PATH=/nowhere:/bin^JAC_PATH_PROG([r],[sh])|children => completed r=/bin/sh
+PATH=/nowhere:/bin^JAC_PATH_PROG([r],[sh])|children => completed r=/bin/sh ac_cv_path_r=/bin/sh
 // a machine whose only job is answered, and is cut
 AC_LINK_IFELSE([AC_LANG_PROGRAM([],[])],[r=1],[r=2])|machine|cc|0 => 1 asked, completed r=1
 AC_LINK_IFELSE([AC_LANG_PROGRAM([],[])],[r=1],[r=2])|machine|cc| => 1 asked, cut 1

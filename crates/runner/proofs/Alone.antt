@@ -1,12 +1,14 @@
 -- A run with each start refused.
-use Rattle.std.proofs.Common.{◌≡◌, ℕ, zero, suc, ◌<◌, List, [], ◌∷◌, length, take, drop, Option, Some, None, refl, sym, ap, ◌∙◌, subst, arith}
-use Rattle.std.specs.Prelude.{IfSome, replicate}
+use Rattle.std.proofs.Common.{◌≡◌, ℕ, zero, suc, ◌+◌, ◌<◌, Bool, true, false, cond, List, [], ◌∷◌, length, take, drop, Option, Some, None, refl, sym, ap, ◌∙◌, subst, arith}
+use Rattle.std.specs.Prelude.{◌||◌, IfSome, replicate}
 use Rattle.std.proofs.lemmas.List.{append-nil, length-replicate, take_all}
 use Rattle.conftest.specs.declared.job.Job.{Job}
 use Rattle.crew.specs.declared.reply.Reply.{Reply}
 use Rattle.crew.specs.declared.reply.Reply.TheVariants.{StartRefused}
-use Rattle.machine.specs.Standing.{Standing, run_under, run_in, run_at, left_in, run_left, Shows, CutsAt, Refusals, Holds, Fits, fits_in, Turned, outcome_of, outcome_by}
-use Rattle.searching.specs.Waits.{given, refused_rest, tests_in, with_asked}
+use Rattle.machine.specs.Standing.{Standing, walk_inside, run_under, run_in, run_at, left_in, run_left, Shows, CutsAt, Refusals, Holds, Fits, fits_in, Turned, outcome_of, outcome_by}
+use Rattle.searching.specs.Waits.{Suits, after_entries, at_once, batch_end, entry_refused, given, is_refused, refused_rest, rest_after, resumed, tests_in, with_asked}
+use Rattle.searching.specs.declared.trial.Waiting as waiting
+use Rattle.searching.specs.declared.wait.Wait.{Wait}
 use Rattle.machine.specs.declared.machine.Outcome.{Outcome}
 use Rattle.machine.specs.declared.machine.Outcome.TheVariants as outcome
 use Rattle.machine.specs.declared.machine.Phase.{Phase}
@@ -16,8 +18,8 @@ use Rattle.machine.specs.declared.machine.Turn.{Turn}
 use Rattle.machine.specs.declared.machine.Turn.TheVariants as turn
 use Rattle.searching.specs.declared.wait.Wait.TheVariants as waits
 use Rattle.meaning.specs.Tests.{refused_all}
-use Rattle.meaning.specs.Play.{play, after, first_refused, refused_after, with_cut_line, whole}
-use Rattle.meaning.specs.State.{State, How, Goes_on, Completed, Stopped, Cut, Run, Ends, Asks}
+use Rattle.meaning.specs.Play.{play, after, first_refused, refused_after, last_words, with_cut_line, whole}
+use Rattle.meaning.specs.State.{State, Scope, How, Goes_on, Completed, Stopped, Cut, Run, Ends, Asks}
 use Rattle.plan.specs.Walk.{empty_mind, Instruction, walk}
 use Rattle.proberun.specs.Ran.{outcome_from, state_of}
 use Rattle.runner.specs.Ran.{RanAlone, refusals}
@@ -31,8 +33,8 @@ left_by : (o : Option Outcome) (p : Outcome) (m : Standing) (end : RunEnd) → o
 left_by o p m end e h = let q : IfSome (Some p) (λ o. end ≡ record { outcome = o; vars = m.state.vars; defs = m.state.defs; messages = m.state.messages; log = m.state.log }) = subst (λ x. IfSome x (λ o. end ≡ record { outcome = o; vars = m.state.vars; defs = m.state.defs; messages = m.state.messages; log = m.state.log })) e h in q
 
 -- A run that asks for nothing.
-at_once : (r : Run) (how : How) (m : Standing) (o : Outcome) (end : RunEnd) → r ≡ Ends how m.state → outcome_from how None ≡ Some o → end ≡ record { outcome = o; vars = m.state.vars; defs = m.state.defs; messages = m.state.messages; log = m.state.log } → RanAlone r end
-at_once r how m o end is out left = record {
+asks_nothing : (r : Run) (how : How) (m : Standing) (o : Outcome) (end : RunEnd) → r ≡ Ends how m.state → outcome_from how None ≡ Some o → end ≡ record { outcome = o; vars = m.state.vars; defs = m.state.defs; messages = m.state.messages; log = m.state.log } → RanAlone r end
+asks_nothing r how m o end is out left = record {
   groups = [];
   how = how;
   meaning = ap (λ x. play x []) is ∙ ap (λ (e : RunEnd). record { how = how; state = state_of e; groups = [] }) (sym left);
@@ -42,14 +44,14 @@ at_once r how m o end is out left = record {
 ends_by : (t : Turn) (r : Run) (old m : Standing) (end : RunEnd) → Shows t r m → outcome_of m.phase ≡ outcome_by t → Refusals t old → old.phase ≡ phase.Going → old.replies ≡ [] → (t ≡ turn.Ask → ⊥) → Leaves m end → RanAlone r end
 ends_by turn.Ask r old m end s o h going none not_ask left = absurd (not_ask refl)
 ends_by turn.Done (Ends Goes_on st) old m end s o h going none not_ask left =
-    at_once (Ends Goes_on st) Goes_on m outcome.Completed end (ap (Ends Goes_on) (sym s.2)) refl (left_by _ _ m end o left)
+    asks_nothing (Ends Goes_on st) Goes_on m outcome.Completed end (ap (Ends Goes_on) (sym s.2)) refl (left_by _ _ m end o left)
 ends_by turn.Done (Ends Completed st) old m end s o h going none not_ask left =
-    at_once (Ends Completed st) Completed m outcome.Completed end (ap (Ends Completed) (sym s.2)) refl (left_by _ _ m end o left)
+    asks_nothing (Ends Completed st) Completed m outcome.Completed end (ap (Ends Completed) (sym s.2)) refl (left_by _ _ m end o left)
 ends_by turn.Done (Ends (Stopped status) st) old m end s o h going none not_ask left = absurd s
 ends_by turn.Done (Ends Cut st) old m end s o h going none not_ask left = absurd s
 ends_by turn.Done (Asks jobs next) old m end s o h going none not_ask left = absurd s
 ends_by (turn.Stopped n) (Ends (Stopped status) st) old m end s o h going none not_ask left =
-    at_once (Ends (Stopped status) st) (Stopped n) m (outcome.Stopped n) end (ap (λ k. Ends (Stopped k) st) (sym s.3) ∙ ap (Ends (Stopped n)) (sym s.2)) refl (left_by _ _ m end o left)
+    asks_nothing (Ends (Stopped status) st) (Stopped n) m (outcome.Stopped n) end (ap (λ k. Ends (Stopped k) st) (sym s.3) ∙ ap (Ends (Stopped n)) (sym s.2)) refl (left_by _ _ m end o left)
 ends_by (turn.Stopped n) (Ends Goes_on st) old m end s o h going none not_ask left = absurd s
 ends_by (turn.Stopped n) (Ends Completed st) old m end s o h going none not_ask left = absurd s
 ends_by (turn.Stopped n) (Ends Cut st) old m end s o h going none not_ask left = absurd s
@@ -75,9 +77,41 @@ alone_at_once plan t old m st end is turned not_ask left =
 abbrev next_of : List Instruction → Standing → List Reply → Run
 next_of plan m replies = run_under replies plan m
 
+-- The state in which a run is cut short because the starts of its jobs are refused.
+abbrev cut_of : Wait → List (List ℕ) → List Job → List Reply → State → State
+cut_of (waits.Batch entries) tests jobs replies st = refused_all tests (after_entries entries.items jobs replies st)
+cut_of w tests jobs replies st = refused_all (tests_in w tests) (with_asked jobs replies st)
+
 -- The state of a machine that is cut short because the starts of its jobs, one more than n, are refused.
 abbrev last_of : ℕ → Standing → State
-last_of n m = with_cut_line (refused_after m.before (StartRefused ∷ replicate n StartRefused)) (refused_all (tests_in m.wait m.mind.open_tests) (with_asked m.jobs (StartRefused ∷ replicate n StartRefused) m.state))
+last_of n m =
+    with_cut_line (refused_after m.before (StartRefused ∷ replicate n StartRefused)) (cut_of m.wait m.mind.open_tests m.jobs (StartRefused ∷ replicate n StartRefused) m.state)
+
+entries_refused : (entries : List waiting.Waiting) (n : ℕ) → at_once entries ≡ suc n → is_refused entries (StartRefused ∷ replicate n StartRefused) ≡ true
+entries_refused [] n e = absurd (omega (arith, e))
+entries_refused (w ∷ more) n e = by w.asks (entries_refused more n) e
+  where
+    by : (asks : Bool) → (at_once more ≡ suc n → is_refused more (StartRefused ∷ replicate n StartRefused) ≡ true) → cond asks (suc (at_once more)) (at_once more) ≡ suc n
+        → entry_refused asks (StartRefused ∷ replicate n StartRefused) || is_refused more (rest_after asks (StartRefused ∷ replicate n StartRefused)) ≡ true
+    by true rec e = refl
+    by false rec e = rec e
+
+refused_run : (w : Wait) (tests : List (List ℕ)) (jobs : List Job) (n : ℕ) (next : Scope → State → Run) (scope : Scope) (st : State) → Suits w jobs → length jobs ≡ suc n
+    → resumed tests w jobs (StartRefused ∷ replicate n StartRefused) next scope st ≡ Ends Cut (cut_of w tests jobs (StartRefused ∷ replicate n StartRefused) st)
+unfolding Suits
+refused_run waits.Nothing tests jobs n next scope st fit many = refl
+refused_run waits.Answer tests jobs n next scope st fit many = refl
+refused_run waits.Link tests jobs n next scope st fit many = refl
+refused_run (waits.Directory search file left) tests jobs n next scope st fit many = refl
+refused_run (waits.Found trial found_on) tests jobs n next scope st fit many = refl
+refused_run (waits.Size trial second) tests jobs n next scope st fit many = refl
+refused_run (waits.Batch entries) tests jobs n next scope st fit many =
+    ap (λ b. batch_end tests b (next scope) (after_entries entries.items jobs (StartRefused ∷ replicate n StartRefused) st)) (entries_refused entries.items n (sym fit ∙ many))
+
+run_refused : (plan : List Instruction) (m : Standing) (n : ℕ) → Suits m.wait m.jobs → length m.jobs ≡ suc n → run_under (StartRefused ∷ replicate n StartRefused) plan m ≡ Ends Cut (last_of n m)
+run_refused plan m n fit many =
+    ap (last_words (m.before + length m.jobs) (refused_after m.before (StartRefused ∷ replicate n StartRefused)))
+    (refused_run m.wait m.mind.open_tests m.jobs n (walk_inside plan (m.place + 1) m.mind) m.mind.scope m.state fit many)
 
 fits_at : (p : Phase) (plan : List Instruction) (m : Standing) → p ≡ phase.Asking → fits_in p plan m → Holds plan m
 fits_at p plan m e h = let q : fits_in phase.Asking plan m = subst (λ x. fits_in x plan m) e h in q
@@ -120,7 +154,8 @@ alone_refused plan t m cut new end asking fits first fresh is turned left =
     ap (λ (x : Standing). given x.replies) is ∙ ap (λ l. given (refused_rest l)) fresh ∙ given_refused (length m.jobs) ∙ ap (λ k. replicate k StartRefused) more.1 in
     let phase_is : cut.phase ≡ phase.Asking = ap (λ (x : Standing). x.phase) is ∙ asking in
     let rest : run_left plan cut ≡ Ends Cut (last_of n m) =
-    ap (λ p. left_in p plan cut) phase_is ∙ ap (λ l. run_under l plan cut) given_is ∙ ap (λ (x : Standing). Ends Cut (last_of n x)) is in
+    ap (λ p. left_in p plan cut) phase_is ∙ ap (λ l. run_under l plan cut) given_is ∙ ap (run_under (StartRefused ∷ replicate n StartRefused) plan) is
+    ∙ run_refused plan (record m { replies = refused_rest m.replies }) n at.awaits.fit more.1 in
     let c = cut_by t (last_of n m) new (subst (λ r. Shows t r new) (turned.same ∙ rest) turned.shows) in
     let number = c.0 in
     let o : outcome_of new.phase ≡ Some (outcome.CutShort number) = turned.outcome ∙ ap outcome_by c.1 in
@@ -136,7 +171,7 @@ alone_refused plan t m cut new end asking fits first fresh is turned left =
       groups = m.jobs ∷ [];
       how = Cut;
       meaning = ap (play (run_at plan m)) refused ∙ ap (λ p. play (run_in p plan m) (StartRefused ∷ replicate n StartRefused)) asking
-          ∙ played m.jobs (next_of plan m) (StartRefused ∷ replicate n StartRefused) (last_of n m) (omega (arith, more.1, length-replicate n StartRefused)) refl
+          ∙ played m.jobs (next_of plan m) (StartRefused ∷ replicate n StartRefused) (last_of n m) (omega (arith, more.1, length-replicate n StartRefused)) (run_refused plan m n at.awaits.fit more.1)
           ∙ ap (λ s. record { how = Cut; state = s; groups = m.jobs ∷ [] }) (sym state_is);
       outcome = ap (λ l. outcome_from Cut (first_refused l)) refused ∙ ap (λ n. Some (outcome.CutShort n)) (sym is_one) ∙ ap (λ (x : RunEnd). Some x.outcome) (sym e);
     }
@@ -152,6 +187,7 @@ cut_has_end plan t m cut new asking fits fresh is turned =
     ap (λ (x : Standing). given x.replies) is ∙ ap (λ l. given (refused_rest l)) fresh ∙ given_refused (length m.jobs) ∙ ap (λ k. replicate k StartRefused) more.1 in
     let phase_is : cut.phase ≡ phase.Asking = ap (λ (x : Standing). x.phase) is ∙ asking in
     let rest : run_left plan cut ≡ Ends Cut (last_of n m) =
-    ap (λ p. left_in p plan cut) phase_is ∙ ap (λ l. run_under l plan cut) given_is ∙ ap (λ (x : Standing). Ends Cut (last_of n x)) is in
+    ap (λ p. left_in p plan cut) phase_is ∙ ap (λ l. run_under l plan cut) given_is ∙ ap (run_under (StartRefused ∷ replicate n StartRefused) plan) is
+    ∙ run_refused plan (record m { replies = refused_rest m.replies }) n at.awaits.fit more.1 in
     let c = cut_by t (last_of n m) new (subst (λ r. Shows t r new) (turned.same ∙ rest) turned.shows) in
     (c.0, turned.outcome ∙ ap outcome_by c.1)

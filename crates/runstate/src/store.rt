@@ -171,19 +171,20 @@ impl Store {
         }
     }
 
-    /// Returns the first job of a program that is tried, or `None` if there is no compiler.
+    /// Returns the first job of a program that is tried, with this number, or `None` if there is no compiler.
     pub fn job_to_try(
         &self,
         alloc: Global,
         kind: Try,
         source: &[u8],
+        number: u64,
     ) -> Result<Option<Job>, AllocError>
-        ensures { IfOk result (λ job. job ≡ job_of (first_probe kind source.now) 0 self.now.vars self.now.defs) }
+        ensures { IfOk result (λ job. job ≡ job_of (first_probe kind source.now) number self.now.vars self.now.defs) }
     {
         let job = match kind {
-            Try::Compile => compile_job(alloc, &self.vars, &self.defs, source, 0),
-            Try::Link | Try::Run => link_job(alloc, &self.vars, &self.defs, source, 0),
-            Try::Preproc => preproc_job(alloc, &self.vars, &self.defs, source, 0),
+            Try::Compile => compile_job(alloc, &self.vars, &self.defs, source, number),
+            Try::Link | Try::Run => link_job(alloc, &self.vars, &self.defs, source, number),
+            Try::Preproc => preproc_job(alloc, &self.vars, &self.defs, source, number),
         };
         match job {
             Ok(job) => Ok(Some(job)),

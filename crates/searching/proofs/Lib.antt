@@ -1,2 +1,5 @@
+pub mod Symbols
+pub mod TypeJobs
 pub mod Searches
 pub mod Tested
+pub mod Found

@@ -3,6 +3,7 @@ use Rattle.std.proofs.Common.{◌≡◌, ℕ, zero, suc, ◌+◌, ◌-◌, ◌�
 use Rattle.std.proofs.lemmas.List.{length-map, take-map}
 use Rattle.std.specs.declared.alloc.AllocError.{AllocError}
 use Rattle.conftest.specs.declared.job.Job.{Job}
+use Rattle.crew.specs.declared.reply.Reply.{Reply}
 use Rattle.textcut.specs.Cuts.{parts}
 use Rattle.meaning.specs.State.{State, Scope, Run}
 use Rattle.plan.specs.Walk.{Mind, minded}
@@ -12,7 +13,8 @@ use Rattle.searching.specs.Flows.{Leads, Continues, asks_now}
 use Rattle.meaning.specs.Directories.{ends_empty, without_last_empty, directory_of, directories_of}
 use Rattle.meaning.specs.Rows.{Search}
 use Rattle.searching.specs.declared.wait.Wait.{Wait}
-use Rattle.searching.specs.Waits.{Awaits, Suits, searched}
+use Rattle.searching.specs.declared.wait.Wait.TheVariants as wait
+use Rattle.searching.specs.Waits.{Awaits, Suits, is_single, resumed, resumed_one, searched}
 
 -- The last part.
 pub last_at : (xs : List (Bor (List ℕ))) (d : Bor (List ℕ)) (i : ℕ) → i + 1 ≡ length xs → (length (get_or xs i d).now == 0) ≡ ends_empty (map (λ part. part.now) xs)
@@ -47,10 +49,39 @@ few_directories path =
     let l = without_last_empty (parts 58 path) in
     subst (λ k. k ≤ 65536) (sym (length-map (take 65536 l) directory_of)) (take_few 65536 l)
 
--- One job suits whatever is waited for.
-pub one_awaits : (wait : Wait) (jobs : List Job) (job : Job) → jobs ≡ job ∷ [] → Awaits wait jobs
+-- One job suits whatever is waited for, but a batch.
+one_fits : (w : Wait) (jobs : List Job) → is_single w ≡ true → length jobs ≡ 1 → Suits w jobs
 unfolding Suits
-one_awaits wait jobs job is = record { some = omega (arith, ap length is); few = omega (arith, ap length is); fit = ap length is }
+one_fits wait.Nothing jobs single one = one
+one_fits wait.Answer jobs single one = one
+one_fits wait.Link jobs single one = one
+one_fits (wait.Directory search file left) jobs single one = one
+one_fits (wait.Found trial found_on) jobs single one = one
+one_fits (wait.Size trial second) jobs single one = one
+one_fits (wait.Batch entries) jobs single one = absurd cc
+
+pub one_awaits : (w : Wait) (jobs : List Job) (job : Job) → is_single w ≡ true → jobs ≡ job ∷ [] → Awaits w jobs
+one_awaits w jobs job single is = record { some = omega (arith, ap length is); few = omega (arith, ap length is); fit = one_fits w jobs single (ap length is) }
+
+pub single_fits : (w : Wait) (jobs : List Job) → is_single w ≡ true → Suits w jobs → length jobs ≡ 1
+unfolding Suits
+single_fits wait.Nothing jobs single one = one
+single_fits wait.Answer jobs single one = one
+single_fits wait.Link jobs single one = one
+single_fits (wait.Directory search file left) jobs single one = one
+single_fits (wait.Found trial found_on) jobs single one = one
+single_fits (wait.Size trial second) jobs single one = one
+single_fits (wait.Batch entries) jobs single one = absurd cc
+
+pub resumed_single : (tests : List (List ℕ)) (w : Wait) (jobs : List Job) (replies : List Reply) (next : Scope → State → Run) (c : Scope) (st : State) → is_single w ≡ true
+    → resumed tests w jobs replies next c st ≡ resumed_one tests w jobs replies next c st
+resumed_single tests wait.Nothing jobs replies next c st single = refl
+resumed_single tests wait.Answer jobs replies next c st single = refl
+resumed_single tests wait.Link jobs replies next c st single = refl
+resumed_single tests (wait.Directory search file left) jobs replies next c st single = refl
+resumed_single tests (wait.Found trial found_on) jobs replies next c st single = refl
+resumed_single tests (wait.Size trial second) jobs replies next c st single = refl
+resumed_single tests (wait.Batch entries) jobs replies next c st single = absurd cc
 
 -- A flow that continues a run continues an equal one.
 pub led : (f : Flow) (c : Scope) (st : State) (run run' : List (List ℕ) → (ℕ → Scope → State → Run) → Run) → ((tests : List (List ℕ)) (next : ℕ → Scope → State → Run) → run tests next ≡ run' tests next) → Leads f run c st → Leads f run' c st

@@ -29,7 +29,7 @@ attempted_carried f early other c (a ∷ more) otherwise st go =
 
 -- The body of a test, and what follows it: if the test breaks off, its name is unset, and then those of the tests around
 -- it; otherwise its value is printed and used.
-attempts_complete : (tests : List (List ℕ)) (name : List ℕ) (print keep : State → State) (next : State → Run) (attempts : List Attempt) (otherwise : Option (List ℕ)) (st : State)
+pub attempts_complete : (tests : List (List ℕ)) (name : List ℕ) (print keep : State → State) (next : State → Run) (attempts : List Attempt) (otherwise : Option (List ℕ)) (st : State)
     → then_run (guarded_all tests (then_run (then_run (guarded name (by_attempts name attempts otherwise st)) (λ now. Ends Goes_on (print now))) (λ now. Ends Goes_on (keep now)))) next
     ≡ attempted (broken_all (name ∷ tests)) attempts otherwise st (λ value now. next (keep (print (with_value name value now))))
 attempts_complete tests name print keep next attempts otherwise st =
@@ -40,11 +40,11 @@ attempts_complete tests name print keep next attempts otherwise st =
     ∙ ap (λ r. then_run r next) (guarded_then tests (guarded name body) last ∙ ap (λ r. then_run r (λ now. guarded_all tests (last now))) (guarded_inner tests name body))
     ∙ then_then (guarded_all (name ∷ tests) body) (λ now. guarded_all tests (last now)) next
     ∙ ap (λ r. then_run r (λ now. next (keep (print now))))
-    (attempted_carried (guarded_all (name ∷ tests)) as_is (broken_all (name ∷ tests)) (ended_carries (broken_all (name ∷ tests)) as_is) attempts otherwise st go)
+    (attempted_carried (guarded_all (name ∷ tests)) as_is (broken_all (name ∷ tests)) (ended_carries (name ∷ tests) as_is) attempts otherwise st go)
     ∙ attempted_carried (λ r. then_run r (λ now. next (keep (print now)))) (broken_all (name ∷ tests)) (broken_all (name ∷ tests)) (then_carries (broken_all (name ∷ tests)) (λ now. next (keep (print now))))
     attempts otherwise st go
 
-begins : (value : Option (List ℕ)) → may_begin value true ≡ true
+pub begins : (value : Option (List ℕ)) → may_begin value true ≡ true
 begins None = refl
 begins (Some value) = refl
 

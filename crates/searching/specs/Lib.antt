@@ -1,3 +1,4 @@
+pub mod Trials
 pub mod Waits
 pub mod Known
 pub mod Flows

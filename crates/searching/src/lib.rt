@@ -1,16 +1,24 @@
-//! What follows a step of a plan, what a machine waits for, and searches for programs.
+//! What follows a step of a plan, what a machine waits for, searches for programs, and the ends of entries' tests.
 //!
 //! Read `specs/Waits` and `specs/Flows` first: what replies decide, and what it means that a run continues as a flow says. `flow`
 //! and `wait` have their types. `search` looks for programs along PATH: it asks for one directory after the other, unless the
-//! search is known (`specs/Known`). The crate `execution` does the steps, and takes the replies.
+//! search is known (`specs/Known`). `trial` has the tests of headers, functions, declarations and types that have begun,
+//! `programs` their programs and jobs, and `deciding` what they print, keep and define (`specs/Trials`). `replies` has what a
+//! reply means. The crates `probing` and `batching` ask for the children of such tests, and `execution` does the steps, and takes
+//! the replies.
 //!
 //! The theorem is that the test of a program, with what follows it, continues as the flow says, whatever the tests around it.
 #![tactic(auto)]
 
+pub mod deciding;
 pub mod flow;
+pub mod programs;
+pub mod replies;
 pub mod search;
+pub mod trial;
 pub mod wait;
 
 pub use flow::Flow;
 pub use search::{Directories, Search};
+pub use trial::{Trial, Waiting};
 pub use wait::Wait;

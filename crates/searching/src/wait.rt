@@ -1,6 +1,8 @@
 //! What a machine waits for.
 
 use crate::search::{Directories, Search};
+use crate::trial::{Trial, Waiting};
+use conftest::Job;
 use deftable::Bytes;
 
 /// What the replies to the jobs that are asked for decide.
@@ -17,5 +19,19 @@ pub enum Wait {
         search: Search,
         file: Bytes,
         left: Directories,
+    },
+    /// Whether an entry is found: it is if the child's success is `found_on`.
+    Found {
+        trial: Trial,
+        found_on: bool,
+    },
+    /// Whether a type has a size. If it has, the second program is compiled.
+    Size {
+        trial: Trial,
+        second: Job,
+    },
+    /// Which entries of a batch are found.
+    Batch {
+        entries: Vec<Waiting>,
     },
 }

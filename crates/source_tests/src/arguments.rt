@@ -7,7 +7,7 @@ use acargs::feature::feature_variable;
 use acargs::helping::{help, sole_call};
 use acargs::numbers::{language, status, version};
 use acargs::outputs::outputs;
-use acargs::program::{program, programs, source_text};
+use acargs::program::{includes, program, programs, source_text};
 use acargs::shell::{here_text, patterns, test, word};
 use acstatement::fault::{quote_fault, shell_fault};
 use acstatement::idle::is_idle;
@@ -39,13 +39,14 @@ enum Reader {
     Word,
     Here,
     Source,
+    Includes,
     Test,
     Patterns,
     Inside,
     Help,
 }
 
-const READERS: [(&[u8], Reader); 19] = [
+const READERS: [(&[u8], Reader); 20] = [
     (b"text", Reader::Text),
     (b"line", Reader::Line),
     (b"title", Reader::Title),
@@ -61,6 +62,7 @@ const READERS: [(&[u8], Reader); 19] = [
     (b"word", Reader::Word),
     (b"here", Reader::Here),
     (b"source", Reader::Source),
+    (b"includes", Reader::Includes),
     (b"test", Reader::Test),
     (b"patterns", Reader::Patterns),
     (b"inside", Reader::Inside),
@@ -95,6 +97,7 @@ impl Reader {
             Reader::Word => put_made(page, word(alloc, arg)),
             Reader::Here => put_made(page, here_text(alloc, arg)),
             Reader::Source => put_made(page, source_text(alloc, arg)),
+            Reader::Includes => put_made(page, includes(alloc, arg)),
             Reader::Test => put_made(page, test(alloc, arg)),
             Reader::Patterns => put_made(page, patterns(alloc, arg)),
             Reader::Inside => put_made(page, inside(alloc, arg)),
@@ -149,6 +152,18 @@ here [`] => 6.1 at 0
 source [int x = $n;] => int x = $[n];
 source [a^J AC_INCLUDES_DEFAULT^Jb] => a^J#include <stddef.h>^J#include <stdio.h>^J#include <stdlib.h>^J#include <string.h>^J#include <sys/types.h>^Jb
 source [`] => 6.1 at 0
+// includes; none are the default ones
+includes  =>
+includes [[]] =>
+includes [@&t@] =>
+includes [ ^J] =>  with  ^J
+includes [ $a^J] =>  with  $[a]^J
+includes [AC_INCLUDES_DEFAULT] =>  with #include <stddef.h>^J#include <stdio.h>^J#include <stdlib.h>^J#include <string.h>^J#include <sys/types.h>^J
+includes [-] => 5 at 0
+includes [ -^J] => 5 at 0
+includes [--] =>  with --
+includes [`] => 6.1 at 0
+includes [a => 1.1 at 0
 test [test a != b] => yes
 test [a = b] => 6.2 at 0
 patterns [a|b*] => 2 [a] [b]*

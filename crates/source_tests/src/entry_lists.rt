@@ -2,9 +2,9 @@
 
 use crate::told::{Next, put_made, put_next};
 use entries::reading::{entries, entry};
-use entries::{Entries, Listed};
 use m4quote::Arg;
 use std::test::Fail;
+use syntax::{Entries, Listed, Sought};
 use testrows::{Call, Named, Page, try_rows};
 
 /// What is read.
@@ -18,21 +18,39 @@ enum Reads {
 }
 
 /// A reader of entries of a kind.
-struct Reader(Listed, Reads);
+struct Reader(Sought, Reads);
 
-const READERS: [(&[u8], Reader); 12] = [
-    (b"header", Reader(Listed::Header, Reads::One)),
-    (b"function", Reader(Listed::Function, Reads::One)),
-    (b"declaration", Reader(Listed::Declaration, Reads::One)),
-    (b"type", Reader(Listed::Type, Reads::One)),
-    (b"headers", Reader(Listed::Header, Reads::List)),
-    (b"functions", Reader(Listed::Function, Reads::List)),
-    (b"declarations", Reader(Listed::Declaration, Reads::List)),
-    (b"types", Reader(Listed::Type, Reads::List)),
-    (b"256_headers", Reader(Listed::Header, Reads::Repeated(256))),
-    (b"257_headers", Reader(Listed::Header, Reads::Repeated(257))),
-    (b"256_types", Reader(Listed::Type, Reads::Repeated(256))),
-    (b"257_types", Reader(Listed::Type, Reads::Repeated(257))),
+const HEADER: Sought = Sought::Entry(Listed::Header);
+
+const FUNCTION: Sought = Sought::Entry(Listed::Function);
+
+const DECLARATION: Sought = Sought::Entry(Listed::Declaration);
+
+const TYPE: Sought = Sought::Type;
+
+const READERS: [(&[u8], Reader); 16] = [
+    (b"header", Reader(HEADER, Reads::One)),
+    (b"function", Reader(FUNCTION, Reads::One)),
+    (b"declaration", Reader(DECLARATION, Reads::One)),
+    (b"type", Reader(TYPE, Reads::One)),
+    (b"headers", Reader(HEADER, Reads::List)),
+    (b"functions", Reader(FUNCTION, Reads::List)),
+    (b"declarations", Reader(DECLARATION, Reads::List)),
+    (b"types", Reader(TYPE, Reads::List)),
+    (b"256_headers", Reader(HEADER, Reads::Repeated(256))),
+    (b"257_headers", Reader(HEADER, Reads::Repeated(257))),
+    (b"256_functions", Reader(FUNCTION, Reads::Repeated(256))),
+    (b"257_functions", Reader(FUNCTION, Reads::Repeated(257))),
+    (
+        b"256_declarations",
+        Reader(DECLARATION, Reads::Repeated(256)),
+    ),
+    (
+        b"257_declarations",
+        Reader(DECLARATION, Reads::Repeated(257)),
+    ),
+    (b"256_types", Reader(TYPE, Reads::Repeated(256))),
+    (b"257_types", Reader(TYPE, Reads::Repeated(257))),
 ];
 
 /// Puts how many entries a list has.
@@ -136,6 +154,10 @@ type a] => 1.3 at 1
 257_headers a.h^J => 13 at 0
 256_headers <^J => 5 at 0
 257_headers <^J => 13 at 0
+256_functions _f^I => 256
+257_functions _f^I => 13 at 0
+256_declarations a,, => 256
+257_declarations a,, => 13 at 0
 256_types int, => 256
 257_types int, => 13 at 0
 257_types , => 5 at 0

@@ -1,17 +1,22 @@
 //! The table of macros and their readers. What statements declare, `declare` and `declare_question`, shows in the lists
 //! of a source (`sources`): their contracts would make each function that calls them slow to prove.
 
-use crate::told::{Next, Told, add, put_each, put_if, put_made, put_next, put_of};
+use crate::told::{Next, Told, add, put_each, put_if, put_made, put_next, put_of, put_sought};
 use acargs::ParseFault;
+use acmacros::checks::complete;
 use acmacros::placement::{as_statement, bare_fault, check_place};
 use acmacros::rows::{plain, question};
 use acmacros::scene::{Scene, check_scene};
 use acmacros::table::{row_named, takes};
 use acmacros::{ArgumentMacro, ChoiceMacro, Macro, Named, PlainMacro, QuestionMacro};
+use deftable::Bytes;
 use m4quote::{Arg, Item, read_items};
+use shellword::HereText;
 use std::alloc::Global;
 use std::test::Fail;
-use syntax::{Declarations, OptionKind, Plain, Program, ProgramNames, Question, Stage, Try};
+use syntax::{
+    Declarations, Entries, OptionKind, Plain, Program, ProgramNames, Question, Sought, Stage, Try,
+};
 use testrows::{Call, Page, try_rows};
 
 // ---- the table
@@ -37,12 +42,29 @@ fn meaning(named: Named) -> &'static [u8] {
     }
 }
 
+/// Puts the word for what a name names.
+fn put_meaning(page: &mut Page, named: Named) {
+    match named {
+        Named::Statement(Macro::Question(QuestionMacro::Checks(sought))) => {
+            page.put(b"one ");
+            put_sought(page, sought);
+            page.put(b" ");
+        }
+        Named::Statement(Macro::Question(QuestionMacro::ChecksEach(sought))) => {
+            page.put(b"each ");
+            put_sought(page, sought);
+            page.put(b" ");
+        }
+        _ => page.put(meaning(named)),
+    }
+}
+
 /// Puts what a name names, how many arguments it takes, and whether it is the file's own list's alone.
 fn put_row_named(page: &mut Page, name: &[u8]) {
     let Some(row) = row_named(name) else {
         return;
     };
-    page.put(meaning(row.named));
+    put_meaning(page, row.named);
     page.put_number(row.least);
     page.put(b" to ");
     if row.most >= LONGEST_SOURCE {
@@ -96,6 +118,7 @@ fn word_of(statement: &Plain) -> &'static [u8] {
         Plain::CheckProgs { .. } => b"CheckProgs",
         Plain::PathProg { .. } => b"PathProg",
         Plain::ProgCc { .. } => b"ProgCc",
+        Plain::Batch { .. } => b"Batch",
         Plain::Output => b"Output",
     }
 }
@@ -110,23 +133,51 @@ impl Told for Plain {
     }
 }
 
+/// Puts a question about entries.
+fn put_entries(page: &mut Page, sought: Sought, entries: &Entries, includes: &Option<HereText>) {
+    page.put(b"each ");
+    put_sought(page, sought);
+    put_each(page, entries.as_slice());
+    includes.tell(page);
+}
+
+/// Puts a question about an entry.
+fn put_entry(page: &mut Page, sought: Sought, entry: &Bytes, includes: &Option<HereText>) {
+    put_sought(page, sought);
+    entry.tell(page);
+    includes.tell(page);
+}
+
+/// Puts a question about a program.
+fn put_tries(page: &mut Page, kind: Try, program: &Program) {
+    page.put(match kind {
+        Try::Compile => b"compile",
+        Try::Link => b"link",
+        Try::Preproc => b"preprocess",
+        Try::Run => b"run",
+    });
+    page.put(match program {
+        Program::Program { .. } => b" a program",
+        Program::Source { .. } => b" a source",
+    });
+}
+
 /// What a question asks.
 impl Told for Question {
     fn tell(&self, page: &mut Page) {
         match self {
             Question::Given { variable, .. } => page.put_text(variable.as_slice()),
-            Question::Tries { kind, program } => {
-                page.put(match kind {
-                    Try::Compile => b"compile",
-                    Try::Link => b"link",
-                    Try::Preproc => b"preprocess",
-                    Try::Run => b"run",
-                });
-                page.put(match program {
-                    Program::Program { .. } => b" a program",
-                    Program::Source { .. } => b" a source",
-                });
-            }
+            Question::Tries { kind, program } => put_tries(page, *kind, program),
+            Question::Checks {
+                sought,
+                entry,
+                includes,
+            } => put_entry(page, *sought, entry, includes),
+            Question::ChecksEach {
+                sought,
+                entries,
+                includes,
+            } => put_entries(page, *sought, entries, includes),
         }
     }
 }
@@ -149,7 +200,7 @@ fn read_question(
     m: QuestionMacro,
     args: &[Arg<'_>],
 ) -> Result<Question, ParseFault> {
-    question(alloc, known, m, args)
+    complete(alloc, question(alloc, known, m, args)?, args)
 }
 
 /// A call of a macro.
@@ -285,7 +336,17 @@ row AC_LINK_IFELSE => question Link 1 to 3
 row AC_RUN_IFELSE => question Run 1 to 4
 row AC_CACHE_CHECK => check 3 to 3
 row AC_LANG_SOURCE => argument LangSource 1 to 1
+row AC_CHECK_HEADER => one header 1 to 4
+row AC_CHECK_FUNC => one function 1 to 3
+row AC_CHECK_DECL => one declaration 1 to 4
+row AC_CHECK_TYPE => one type 1 to 4
+row AC_CHECK_HEADERS => each header 1 to 4
+row AC_CHECK_FUNCS => each function 1 to 3
+row AC_CHECK_DECLS => each declaration 1 to 4
+row AC_CHECK_TYPES => each type 1 to 4
 row AC_NOPE =>
+row AC_CHECK_LIB =>
+row AC_SEARCH_LIBS =>
 // arguments that are taken
 takes AC_OUTPUT => yes
 takes AC_OUTPUT() => yes
@@ -299,6 +360,12 @@ takes AC_OUTPUT([#[^J]]) => no
 takes AC_OUTPUT(,) => no
 takes AS_HELP_STRING(,) => yes
 takes AS_HELP_STRING => no
+takes AC_CHECK_FUNC([f],,) => yes
+takes AC_CHECK_FUNC([f],,,) => no
+takes AC_CHECK_FUNCS([f],,,[]) => no
+takes AC_CHECK_HEADER([f],,,) => yes
+takes AC_CHECK_HEADER([f],,,,) => no
+takes AC_CHECK_TYPES => no
 // in the file's own list
 top AC_CONFIG_FILES => accepted
 top AC_INIT => 7 at 3
@@ -308,6 +375,8 @@ top a => 3 at 3
 inside AC_CONFIG_FILES => 7 at 3
 inside AC_SUBST => accepted
 inside AC_CACHE_CHECK => accepted
+inside AC_CHECK_HEADERS => accepted
+inside AC_CHECK_TYPE => accepted
 // in the commands of AC_CACHE_CHECK
 commands AC_COMPILE_IFELSE => accepted
 commands AC_RUN_IFELSE => accepted
@@ -318,6 +387,8 @@ commands AC_ARG_WITH => 11 at 9
 commands AC_DEFINE => 11 at 9
 commands AC_MSG_ERROR => 11 at 9
 commands AC_LANG => 11 at 9
+commands AC_CHECK_HEADER => 11 at 9
+commands AC_CHECK_FUNCS => 11 at 9
 // before AC_INIT
 before AC_CONFIG_FILES => 8
 before AC_INIT => accepted
@@ -346,6 +417,29 @@ reads AC_ARG_ENABLE([a-b],[AS_HELP_STRING([--enable-a-b],[c])]) => [enable_a_b]
 reads AC_ARG_WITH([x],[as it is]) => [with_x]
 reads AC_RUN_IFELSE([AC_LANG_SOURCE([x])]) => run a source
 reads AC_LINK_IFELSE([AC_LANG_PROGRAM]) => link a program
+// one entry, and its includes
+reads AC_CHECK_HEADER([ sys/stat.h ]) => header[sys/stat.h]
+reads AC_CHECK_FUNC(strdup,[x=1]) => function[strdup]
+reads AC_CHECK_DECL([errno],,,[#include <errno.h>]) => declaration[errno] with #include <errno.h>
+reads AC_CHECK_TYPE([struct stat],,,[]) => type[struct stat]
+reads AC_CHECK_TYPE([f (int, char)]) => type[f (int, char)]
+reads AC_CHECK_HEADER([a.h b.h]) => 5 at 16
+reads AC_CHECK_FUNC([9p]) => 5 at 14
+reads AC_CHECK_DECL([f (int)]) => 5 at 14
+reads AC_CHECK_TYPE([a^Jb]) => 5 at 14
+reads AC_CHECK_TYPE() => 5 at 14
+reads AC_CHECK_DECL([a],,,[-]) => 5 at 20
+// lists of entries
+reads AC_CHECK_HEADERS([stdio.h^Junistd.h]) => each header[stdio.h][unistd.h]
+reads AC_CHECK_HEADERS([a.h],,,[$i]) => each header[a.h] with $[i]
+reads AC_CHECK_FUNCS(f g f) => each function[f][g][f]
+reads AC_CHECK_DECLS([a, b,]) => each declaration[a][b]
+reads AC_CHECK_TYPES([char *, f (int, char)]) => each type[char *][f (int, char)]
+reads AC_CHECK_HEADERS([ ]) => 5 at 17
+reads AC_CHECK_FUNCS([f,g]) => 5 at 15
+reads AC_CHECK_DECLS([a b]) => 5 at 15
+reads AC_CHECK_TYPES([a, $b]) => 5 at 15
+reads AC_CHECK_TYPES([a],,,[`]) => 6.1 at 21
 // calls with errors
 reads AC_SUBST([a-b]) => 5 at 9
 reads AC_ARG_WITH([]) => 5 at 12

@@ -1,9 +1,10 @@
 //! Whole sources. The crate `cases` has them macro by macro and error by error.
 
-use crate::told::{Told, put_each, put_made};
-use acparse::{ParseFault, Source, Stmt, parse};
+use crate::told::{Told, put_each, put_made, put_sought};
+use acparse::{ParseFault, Plain, Question, Source, Stmt, Subject, parse};
 use std::alloc::Global;
 use std::test::Fail;
+use syntax::Sought;
 use testrows::{Call, Page, try_rows};
 
 /// Puts the message of AC_CACHE_CHECK, its name, and how many commands it has.
@@ -21,8 +22,45 @@ fn put_check(page: &mut Page, statement: &Stmt) {
     }
 }
 
+/// Puts a batch.
+fn put_batch(page: &mut Page, statement: &Plain) {
+    if let Plain::Batch {
+        listed,
+        entries,
+        includes,
+    } = statement
+    {
+        page.put(b";batch ");
+        put_sought(page, Sought::Entry(*listed));
+        put_each(page, entries.as_slice());
+        includes.tell(page);
+    }
+}
+
+/// Puts a question about entries, and how many cases it has.
+fn put_asked(page: &mut Page, question: &Question, cases: usize) {
+    if let Question::Checks { .. } | Question::ChecksEach { .. } = question {
+        page.put(b";");
+        question.tell(page);
+        page.put(b" ");
+        page.put_number(cases);
+    }
+}
+
+/// Puts a statement that looks for entries.
+fn put_entries(page: &mut Page, statement: &Stmt) {
+    match statement {
+        Stmt::Plain(plain) => put_batch(page, plain),
+        Stmt::Choose {
+            subject: Subject::Asked(question),
+            cases,
+        } => put_asked(page, question, cases.len()),
+        _ => {}
+    }
+}
+
 /// How many statements there are, the output variables, the precious ones, the features, the packages, the help and the
-/// files, and each AC_CACHE_CHECK.
+/// files, each AC_CACHE_CHECK, and each statement that looks for entries.
 impl Told for Source {
     fn tell(&self, page: &mut Page) {
         page.put_number(self.statements().len());
@@ -43,6 +81,7 @@ impl Told for Source {
         self.files().tell(page);
         for statement in self.statements() {
             put_check(page, statement);
+            put_entries(page, statement);
         }
     }
 }
@@ -109,6 +148,42 @@ AC_INIT([x],[1])^JAC_CACHE_CHECK([x],[v_cv_x],[a] b)^JAC_OUTPUT^J => 3 at 45
 AC_INIT([x],[1])^JAS_IF([:],[AS_IF([:],[AS_IF([:],[AS_IF([:],[AS_IF([:],[AS_IF([:],[AS_IF([:],[AS_IF([:],[AS_IF([:],[AS_IF([:],[AS_IF([:],[AS_IF([:],[AS_IF([:],[AS_IF([:],[AS_IF([:],[AS_IF([:],[AS_IF([:],[AS_IF([:],[AS_IF([:],[AS_IF([:],[AS_IF([:],[AS_IF([:],[AS_IF([:],[AS_IF([:],[AS_IF([:],[AS_IF([:],[AS_IF([:],[AS_IF([:],[AS_IF([:],[AS_IF([:],[AC_CACHE_CHECK([x],[v_cv_x],[v_cv_x=1])])])])])])])])])])])])])])])])])])])])])])])])])])])])])])])^JAC_OUTPUT^J => 3;;;;;;0
 AC_INIT([x],[1])^JAS_IF([:],[AS_IF([:],[AS_IF([:],[AS_IF([:],[AS_IF([:],[AS_IF([:],[AS_IF([:],[AS_IF([:],[AS_IF([:],[AS_IF([:],[AS_IF([:],[AS_IF([:],[AS_IF([:],[AS_IF([:],[AS_IF([:],[AS_IF([:],[AS_IF([:],[AS_IF([:],[AS_IF([:],[AS_IF([:],[AS_IF([:],[AS_IF([:],[AS_IF([:],[AS_IF([:],[AS_IF([:],[AS_IF([:],[AS_IF([:],[AS_IF([:],[AS_IF([:],[AS_IF([:],[AC_CACHE_CHECK([x],[v_cv_x],[AS_IF([:],[v_cv_x=1])])])])])])])])])])])])])])])])])])])])])])])])])])])])])])])])^JAC_OUTPUT^J => 12 at 386
 AC_INIT([x],[1])^JAS_IF([:],[AS_IF([:],[AS_IF([:],[AS_IF([:],[AS_IF([:],[AS_IF([:],[AS_IF([:],[AS_IF([:],[AS_IF([:],[AS_IF([:],[AS_IF([:],[AS_IF([:],[AS_IF([:],[AS_IF([:],[AS_IF([:],[AS_IF([:],[AS_IF([:],[AS_IF([:],[AS_IF([:],[AS_IF([:],[AS_IF([:],[AS_IF([:],[AS_IF([:],[AS_IF([:],[AS_IF([:],[AS_IF([:],[AS_IF([:],[AS_IF([:],[AS_IF([:],[AS_IF([:],[AS_IF([:],[AC_CACHE_CHECK([x],[v_cv_x],[y=1])])])])])])])])])])])])])])])])])])])])])])])])])])])])])])])])^JAC_OUTPUT^J => 12 at 386
+// AC_CHECK_HEADER and its kin: a choice, with cases and without
+AC_INIT([x],[1])^JAC_CHECK_HEADER([a.h])^JAC_OUTPUT^J => 3;;;;;;0;header[a.h] 0
+AC_INIT([x],[1])^JAC_CHECK_FUNC([f],[x=1],[x=2])^JAC_OUTPUT^J => 3;;;;;;0;function[f] 2
+AC_INIT([x],[1])^JAC_CHECK_DECL([d],,[x=2],[i])^JAC_OUTPUT^J => 3;;;;;;0;declaration[d] with i 1
+AC_INIT([x],[1])^JAC_CHECK_TYPE([t],[AC_SUBST([v])])^JAC_OUTPUT^J => 3;[v];;;;;0;type[t] 1
+// lists: a batch without cases, else a choice
+AC_INIT([x],[1])^JAC_CHECK_HEADERS([a.h b.h])^JAC_OUTPUT^J => 3;;;;;;0;batch header[a.h][b.h]
+AC_INIT([x],[1])^JAC_CHECK_HEADERS([a.h b.h],[],[[]],[i])^JAC_OUTPUT^J => 3;;;;;;0;batch header[a.h][b.h] with i
+AC_INIT([x],[1])^JAC_CHECK_HEADERS([a.h b.h],[ ],,[i])^JAC_OUTPUT^J => 3;;;;;;0;each header[a.h][b.h] with i 1
+AC_INIT([x],[1])^JAC_CHECK_FUNCS([f g],dnl x^J)^JAC_OUTPUT^J => 3;;;;;;0;batch function[f][g]
+AC_INIT([x],[1])^JAC_CHECK_FUNCS([f g],,[AC_SUBST([v])])^JAC_OUTPUT^J => 3;[v];;;;;0;each function[f][g] 1
+AC_INIT([x],[1])^JAC_CHECK_DECLS([a, b])^JAC_OUTPUT^J => 3;;;;;;0;batch declaration[a][b]
+AC_INIT([x],[1])^JAC_CHECK_DECLS([a],[:],[:])^JAC_OUTPUT^J => 3;;;;;;0;each declaration[a] 2
+AC_INIT([x],[1])^JAC_CHECK_TYPES([t])^JAC_OUTPUT^J => 3;;;;;;0;each type[t] 0
+AC_INIT([x],[1])^JAS_IF([:],[AC_CHECK_TYPES([t],[AC_CHECK_HEADERS([a.h])])])^JAC_OUTPUT^J => 3;;;;;;0
+// the first argument that has an error: the entry, the statements for yes, those for no, the includes
+AC_INIT([x],[1])^JAC_CHECK_HEADER([a b],[AC_NOPE],[AC_NOPE],[-])^JAC_OUTPUT^J => 5 at 33
+AC_INIT([x],[1])^JAC_CHECK_HEADER([a.h],[AC_NOPE],[AC_NOPE],[-])^JAC_OUTPUT^J => 2 at 40
+AC_INIT([x],[1])^JAC_CHECK_HEADER([a.h],[],[AC_NOPE],[-])^JAC_OUTPUT^J => 2 at 43
+AC_INIT([x],[1])^JAC_CHECK_HEADER([a.h],[],[],[-])^JAC_OUTPUT^J => 5 at 45
+AC_INIT([x],[1])^JAC_CHECK_DECLS([a,9],[AC_NOPE],[AC_NOPE],[`])^JAC_OUTPUT^J => 5 at 32
+AC_INIT([x],[1])^JAC_CHECK_DECLS([a,b],[AC_NOPE],[AC_NOPE],[`])^JAC_OUTPUT^J => 2 at 39
+AC_INIT([x],[1])^JAC_CHECK_DECLS([a,b],,[AC_NOPE],[`])^JAC_OUTPUT^J => 2 at 40
+AC_INIT([x],[1])^JAC_CHECK_DECLS([a,b],,,[`])^JAC_OUTPUT^J => 6.1 at 40
+AC_INIT([x],[1])^JAC_CHECK_HEADERS([<a.h>])^JAC_OUTPUT^J => 5 at 34
+AC_INIT([x],[1])^JAC_CHECK_HEADER([a.h],,,[-])^JAC_OUTPUT^J => 5 at 41
+// too few arguments and too many, before the entry
+AC_INIT([x],[1])^JAC_CHECK_HEADER^JAC_OUTPUT^J => 4 at 17
+AC_INIT([x],[1])^JAC_CHECK_FUNC([9],,,[-])^JAC_OUTPUT^J => 4 at 17
+AC_INIT([x],[1])^JAC_CHECK_TYPES([$],,,,)^JAC_OUTPUT^J => 4 at 17
+// in the commands of AC_CACHE_CHECK
+AC_INIT([x],[1])^JAC_CACHE_CHECK([x],[v_cv_x],[AC_CHECK_HEADER([a b])])^JAC_OUTPUT^J => 11 at 45
+AC_INIT([x],[1])^JAC_CACHE_CHECK([x],[v_cv_x],[AS_IF([:],[AC_CHECK_FUNCS([f])])])^JAC_OUTPUT^J => 11 at 45
+// not read yet
+AC_INIT([x],[1])^JAC_CHECK_LIB([m],[sin])^JAC_OUTPUT^J => 2 at 17
+AC_INIT([x],[1])^JAC_SEARCH_LIBS([sin],[m])^JAC_OUTPUT^J => 2 at 17
 // before AC_INIT, and after AC_OUTPUT
 AC_CACHE_CHECK([x],[v_cv_x],[v_cv_x=1]) => 8
 AC_INIT([x],[1])^JAC_OUTPUT^JAC_CACHE_CHECK([x],[v_cv_x],[v_cv_x=1])^J => 10 at 27

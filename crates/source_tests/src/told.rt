@@ -1,11 +1,10 @@
 //! How answers are written.
 
 use deftable::{Bytes, Name, Vars};
-use entries::Entries;
 use m4quote::Arg;
 use shellword::{HereText, Part, Pattern, Patterns, Piece, Test, Word};
 use std::fmt::Display;
-use syntax::{Help, Outputs};
+use syntax::{Entries, Help, Listed, Outputs, Sought};
 use testrows::Page;
 
 /// What a call makes.
@@ -156,6 +155,26 @@ impl Told for Entries {
     fn tell(&self, page: &mut Page) {
         put_each(page, self.as_slice());
     }
+}
+
+/// The includes, if they are not the default ones.
+impl Told for Option<HereText> {
+    fn tell(&self, page: &mut Page) {
+        if let Some(text) = self {
+            page.put(b" with ");
+            text.tell(page);
+        }
+    }
+}
+
+/// Puts the word for what a macro looks for.
+pub fn put_sought(page: &mut Page, sought: Sought) {
+    page.put(match sought {
+        Sought::Entry(Listed::Header) => b"header",
+        Sought::Entry(Listed::Function) => b"function",
+        Sought::Entry(Listed::Declaration) => b"declaration",
+        Sought::Type => b"type",
+    });
 }
 
 /// Puts a blank and each piece: `*`, `?`, or a byte in brackets.

@@ -4,7 +4,7 @@ use Rattle.std.specs.Prelude.{◌≡◌, ℕ, true, List}
 use Rattle.deftable.specs.CacheName.{is_cache_name}
 use Rattle.syntax.specs.declared.statement.Plain as plain
 use Rattle.syntax.specs.declared.statement.Plain.TheVariants.{Assign}
-use Rattle.syntax.specs.declared.statement.Question.TheVariants.{Given, Tries}
+use Rattle.syntax.specs.declared.statement.Question.TheVariants.{Given, Tries, Checks, ChecksEach}
 use Rattle.syntax.specs.declared.tree.Subject.{Subject}
 use Rattle.syntax.specs.declared.tree.Subject.TheVariants.{Nothing, Word, Asked}
 use Rattle.syntax.specs.Script.{Script, Done, Then, Choice, Check, Cases, No_case, Case}
@@ -20,6 +20,8 @@ TriesAlone Nothing = Unit {0}
 TriesAlone (Word word) = Unit {0}
 TriesAlone (Asked (Tries kind program)) = Unit {0}
 TriesAlone (Asked (Given kind variable help)) = ⊥
+TriesAlone (Asked (Checks sought entry includes)) = ⊥
+TriesAlone (Asked (ChecksEach sought entries includes)) = ⊥
 
 abbrev mutual
   -- The statements are commands that set this name: assignments to it, and choices that hold such commands.

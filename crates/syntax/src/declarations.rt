@@ -163,6 +163,6 @@ pub fn declare_question(
             known.packages.add(variable.as_slice())?;
             known.help.push(help.copy(alloc)?)
         }
-        Question::Tries { .. } => Ok(()),
+        Question::Tries { .. } | Question::Checks { .. } | Question::ChecksEach { .. } => Ok(()),
     }
 }

@@ -2,6 +2,7 @@
 
 use crate::feature::OptionKind;
 use crate::help::Help;
+use crate::listed::{Entries, Listed, Sought};
 use crate::output::Outputs;
 use crate::program::{Program, ProgramNames, Try};
 use deftable::{Bytes, Name};
@@ -83,6 +84,13 @@ pub enum Plain {
     ProgCc {
         programs: ProgramNames,
     },
+    /// AC_CHECK_HEADERS, AC_CHECK_FUNCS and AC_CHECK_DECLS without actions: the entries, for which all children are asked at
+    /// once, and the includes of their programs, if they are not the default ones.
+    Batch {
+        listed: Listed,
+        entries: Entries,
+        includes: Option<HereText>,
+    },
     /// AC_OUTPUT: the end of the run.
     Output,
 }
@@ -101,5 +109,19 @@ pub enum Question {
     Tries {
         kind: Try,
         program: Program,
+    },
+    /// AC_CHECK_HEADER, AC_CHECK_FUNC, AC_CHECK_DECL and AC_CHECK_TYPE: whether the entry is found. The includes are those
+    /// of its programs, if they are not the default ones.
+    Checks {
+        sought: Sought,
+        entry: Bytes,
+        includes: Option<HereText>,
+    },
+    /// AC_CHECK_HEADERS, AC_CHECK_FUNCS and AC_CHECK_DECLS with actions, and AC_CHECK_TYPES: whether each entry is found, one
+    /// after the other. What is found is defined.
+    ChecksEach {
+        sought: Sought,
+        entries: Entries,
+        includes: Option<HereText>,
     },
 }

@@ -1,11 +1,13 @@
-use Rattle.std.proofs.Common.{rules, map, ◌+◌, arith, ap, sym, ◌∙◌, Ok}
+use Rattle.std.proofs.Common.{[], ◌∷◌, map, subst, ◌+◌, arith, ap, sym, ◌∙◌, Ok}
 use Rattle.syntax.specs.Lists.{after_cases}
-use Rattle.syntax.specs.Script.{Cases}
+use Rattle.syntax.specs.Script.{Cases, script_of}
+use Rattle.acstatement.specs.Reading.{Gives}
+use Rattle.acmacros.specs.Scene.{scene_of}
 use Rattle.std.proofs.lemmas.Result.{err_from_is_err_and}
 use Rattle.std.proofs.Math.ListN.{drop_of_length-le}
 use Rattle.m4quote.specs.Entry.{span, view, views}
 use Rattle.acparse.specs.Profile.{body_of}
-use Rattle.acparse.proofs.Steps.{views_drop, slice_from, call_adds, bare_adds, spans_drop, items_step, items_stop, items_done, cases_step, cases_fail, case_is, case_fails, cases_done, default_known, asked_is}
+use Rattle.acparse.proofs.Steps.{views_drop, slice_from, call_adds, bare_adds, spans_drop, items_step, items_stop, items_done, cases_step, cases_fail, case_is, case_fails, cases_done, default_known, asked_rest, asked_fails, asked_with_known}
 use Rattle.acparse.proofs.read.+list.Goals as goal
 
 -- ---- items
@@ -61,5 +63,19 @@ read_cases-returns-clause-after t c =
 
 -- ---- questions
 
+pub read_question-returns-in_err-cases : goal.read_question-returns-in_err-cases
+read_question-returns-in_err-cases t c =
+    let p = err_from_is_err_and c.from_residual-in_err-cases.result c.from_residual-in_err-cases.ensures.1 in
+    record {
+      value = rw (p.1, p.2) (asked_fails c.in_err-cases.field-0.0 (body_of c.args.room (scene_of c.args.scene)) c.args.m _ _ _ _ _ c.in_ok-question.ensures.value c.in_ok-question.ensures.after c.action_args.ensures c.in_err-cases.ensures.value);
+      after = rw p.1 tt;
+    }
+
 pub read_question-returns-clause-value : goal.read_question-returns-clause-value
-read_question-returns-clause-value t c = rw (asked_is _ _ _ _ _ c.in_ok-question.ensures.value) (search rules)
+read_question-returns-clause-value t c =
+    subst (Gives (λ s. script_of (s ∷ [])) c.asked_with.result)
+    (sym (asked_rest (body_of c.args.room (scene_of c.args.scene)) c.args.m _ _ _ _ _ _ c.in_ok-question.ensures.value c.in_ok-question.ensures.after c.action_args.ensures c.in_ok-cases.ensures.value))
+    c.asked_with.ensures
+
+pub read_question-returns-clause-after : goal.read_question-returns-clause-after
+read_question-returns-clause-after t c = asked_with_known _ _ _ _ _ _ c.asked_with.result c.in_ok-question.ensures.after c.in_ok-cases.ensures.after c.asked_with.ensures

@@ -1,4 +1,6 @@
-use Rattle.std.proofs.Common.{IfOk, refl, subst, sym}
+use Rattle.std.proofs.Common.{IfOk, refl, subst, sym, [], ◌∷◌}
+use Rattle.syntax.specs.declared.statement.Question.TheVariants.{ChecksEach}
+use Rattle.syntax.specs.declared.tree.Subject.TheVariants.{Asked}
 use Rattle.meaning.specs.Meaning.{begun, looks}
 use Rattle.meaning.specs.State.{then_run}
 use Rattle.meaning.specs.Tests.{broken_all, guarded_all}
@@ -24,3 +26,10 @@ returns-in-Subject-clause-leads c =
     let before = minded c.args.about.now c.args.tests.now in
     subst (λ s. IfOk c.begin.result (λ flow. Continues flow (λ next. act (shown s) next before c.args.store.now) (minded c.begin.new.about c.args.tests.now) c.begin.new.store)) (sym c.in-Subject.is)
     (continued_ok c.begin.result c.begin.new.about c.args.tests.now c.begin.new.store (λ tests next. begun (broken_all tests) c.in-Subject.subject.now c.args.store.now (next 0)) _ (λ next. refl) c.begin.ensures.leads)
+
+pub returns-in-Round-clause-leads : goal.returns-in-Round-clause-leads
+returns-in-Round-clause-leads c =
+    let before = minded c.args.about.now c.args.tests.now in
+    subst (λ s. IfOk c.begin_round.result (λ flow. Continues flow (λ next. act (shown s) next before c.args.store.now) (minded c.begin_round.new.about c.args.tests.now) c.begin_round.new.store)) (sym c.in-Round.is)
+    (continued_ok c.begin_round.result c.begin_round.new.about c.args.tests.now c.begin_round.new.store
+    (λ tests next. begun (broken_all tests) (Asked (ChecksEach c.in-Round.sought (c.in-Round.entry.now ∷ []) c.in-Round.includes.now)) c.args.store.now (next 0)) _ (λ next. refl) c.begin_round.ensures.leads)

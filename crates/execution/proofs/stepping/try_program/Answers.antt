@@ -1,5 +1,24 @@
-use Rattle.searching.proofs.Searches.{one_awaits}
+use Rattle.std.proofs.Common.{◌∙◌, arith, sym}
+use Rattle.meaning.specs.State.{answered}
+use Rattle.meaning.specs.Tests.{broken_all}
+use Rattle.meaning.specs.Tries.{text_of}
+use Rattle.searching.proofs.Searches.{led}
+use Rattle.execution.proofs.Steps.{one_asks, tried_answers, tried_links}
 use Rattle.execution.proofs.stepping.try_program.Goals as goal
 
-pub returns-clause-group : goal.returns-clause-group
-returns-clause-group c = one_awaits _ _ _ c.in_ok-jobs.ensures
+pub returns-in-Run-clause-leads : goal.returns-in-Run-clause-leads
+returns-in-Run-clause-leads c = λ about.
+    let st = c.args.store.now in
+    led c.in_ok-flow.flow about st _ _
+    (λ tests next. tried_links c.args.kind (text_of c.args.program.now st.vars) (broken_all tests) st (λ passed. next 0 (answered passed)) c.in-Some.job c.in-Run.is (sym c.in_ok-job.ensures ∙ c.in-Some.is))
+    (c.in_ok-flow.ensures.leads about st)
+
+pub returns-clause-asks : goal.returns-clause-asks
+returns-clause-asks c = omega (arith, one_asks c.args.kind, c.in_ok-flow-2.ensures.asks)
+
+pub returns-clause-leads : goal.returns-clause-leads
+returns-clause-leads c = λ about.
+    let st = c.args.store.now in
+    led c.in_ok-flow-2.flow about st _ _
+    (λ tests next. tried_answers c.args.kind (text_of c.args.program.now st.vars) (broken_all tests) st (λ passed. next 0 (answered passed)) c.in-Some.job c.in_default-kind.not-Run (sym c.in_ok-job.ensures ∙ c.in-Some.is))
+    (c.in_ok-flow-2.ensures.leads about st)

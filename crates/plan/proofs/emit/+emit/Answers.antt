@@ -1,7 +1,7 @@
-use Rattle.std.proofs.Common.{◌≡◌, ◌++◌, ◌∷◌, OnOk, ap, ◌∙◌, sym, refl, subst}
+use Rattle.std.proofs.Common.{◌≡◌, ◌++◌, OnOk, ap, ◌∙◌, sym, refl, subst}
+use Rattle.meaning.specs.Meaning.{rounds_of}
 use Rattle.syntax.specs.Script.{cases_of, script_of}
-use Rattle.plan.specs.Code.{check_code, code_of, code_of_cases}
-use Rattle.plan.specs.Walk.{Begins}
+use Rattle.plan.specs.Code.{check_code, code_each, code_of, code_of_cases}
 use Rattle.plan.proofs.Codes.{code_at, code_choice, code_check}
 use Rattle.plan.proofs.emit.+emit.Goals as goal
 
@@ -9,12 +9,13 @@ pub emit-loop-i-preserved : goal.emit-loop-i-preserved
 emit-loop-i-preserved t c =
     code_at _ _ _ _ c.loop-i.i _ _ c.loop-i-test.true c.loop-i.auto.i refl c.index-statements-i.is c.in_ok-emit_statement.ensures c.loop-i.invariant
 
-pub emit_statement-returns-in_ok-put-in-Choose : goal.emit_statement-returns-in_ok-put-in-Choose
-emit_statement-returns-in_ok-put-in-Choose t c =
-    let before = c.args.code.now in
-    c.in_ok-put-in-Choose.ensures
-    ∙ ap (λ l. Begins c.in-Choose.subject ∷ l) (c.in_ok-emit_cases-in-Choose.ensures ∙ ap (λ l. code_of_cases (cases_of l) ++ before) c.as_slice.ensures.value)
-    ∙ sym (ap (λ l. l ++ before) (code_choice c.args.statement.now c.in-Choose.subject c.in-Choose.cases c.in-Choose.is))
+pub emit_statement-returns-in-Choose : goal.emit_statement-returns-in-Choose
+emit_statement-returns-in-Choose t c =
+    let s = c.in-Choose in
+    subst (λ l. OnOk c.emit_choice.result (c.emit_choice.new.code ≡ l ++ c.args.code.now))
+    (ap (λ l. code_each (rounds_of s.subject) (code_of_cases (cases_of l))) c.as_slice.ensures.value
+    ∙ sym (code_choice c.args.statement.now s.subject s.cases s.is))
+    c.emit_choice.ensures
 
 pub emit_statement-returns-in-CacheCheck : goal.emit_statement-returns-in-CacheCheck
 emit_statement-returns-in-CacheCheck t c =

@@ -1,5 +1,5 @@
 use Rattle.std.proofs.Common.{arith}
-use Rattle.plan.proofs.Weights.{weigh_on, weigh_over, weighs_something, choose_some, choose_none, check_some, check_none}
+use Rattle.plan.proofs.Weights.{weigh_on, weigh_over, weighs_something, rounds_over, choose_some, choose_none, check_some, check_none}
 use Rattle.plan.proofs.weight.+weigh.Goals as goal
 
 pub weigh-returns-in_default-clause-none : goal.weigh-returns-in_default-clause-none
@@ -16,11 +16,11 @@ weigh_statement-returns-in_default-clause-none t c =
 
 pub weigh_statement-returns-in-Choose-clause-some : goal.weigh_statement-returns-in-Choose-clause-some
 weigh_statement-returns-in-Choose-clause-some t c =
-    choose_some _ _ _ _ _ _ _ c.in-Choose.is c.as_slice.ensures.value (omega (arith, c.in-Some.ensures)) c.weigh_cases.ensures.some
+    choose_some _ _ _ _ _ _ _ c.in-Choose.is c.as_slice.ensures.value (omega (arith, c.in-Some.ensures)) c.weigh_choice.ensures.some
 
 pub weigh_statement-returns-in-Choose-clause-none : goal.weigh_statement-returns-in-Choose-clause-none
 weigh_statement-returns-in-Choose-clause-none t c =
-    choose_none _ _ _ _ _ _ _ c.in-Choose.is c.as_slice.ensures.value (omega (arith, c.in-Some.ensures)) c.weigh_cases.ensures.none
+    choose_none _ _ _ _ _ _ _ c.in-Choose.is c.as_slice.ensures.value (omega (arith, c.in-Some.ensures)) c.weigh_choice.ensures.none
 
 pub weigh_statement-returns-in-CacheCheck-clause-some : goal.weigh_statement-returns-in-CacheCheck-clause-some
 weigh_statement-returns-in-CacheCheck-clause-some t c =
@@ -29,3 +29,7 @@ weigh_statement-returns-in-CacheCheck-clause-some t c =
 pub weigh_statement-returns-in-CacheCheck-clause-none : goal.weigh_statement-returns-in-CacheCheck-clause-none
 weigh_statement-returns-in-CacheCheck-clause-none t c =
     check_none _ _ _ _ _ _ _ _ c.in-CacheCheck.is c.as_slice-in-CacheCheck.ensures.value (omega (arith, c.in-Some.ensures)) c.weigh.ensures.none
+
+pub weigh_choice-returns-in_default-weigh_cases-clause-none : goal.weigh_choice-returns-in_default-weigh_cases-clause-none
+weigh_choice-returns-in_default-weigh_cases-clause-none t c =
+    rounds_over _ _ _ _ _ _ c.rounds-rounds.ensures.some c.rounds-rounds.ensures.number (omega (arith, c.in-Some.ensures, c.entries_asked.ensures)) c.in_default-weigh_cases.ensures.none

@@ -1,5 +1,6 @@
+use Rattle.std.proofs.Common.{refl}
 use Rattle.searching.proofs.Searches.{one_awaits}
 use Rattle.searching.proofs.search.ask_in.Goals as goal
 
 pub returns-clause-group : goal.returns-clause-group
-returns-clause-group c = one_awaits _ _ _ c.in_ok-file.ensures.1
+returns-clause-group c = one_awaits _ _ _ refl c.in_ok-file.ensures.1

@@ -1,0 +1,37 @@
+-- Readers of macros that look for headers, functions, declarations and types (Autoconf's manual, "Generic Headers", "Generic
+-- Functions", "Generic Declarations" and "Generic Types").
+--
+-- The includes are a call's fourth argument, after the statements for yes and for no. They are read after those, so that the
+-- error that is reported is that of the first argument that has one.
+use Rattle.std.specs.Prelude.{List, None, Result, Ok}
+use Rattle.m4quote.specs.Entry.{Span}
+use Rattle.acstatement.specs.declared.fault.ParseFault.{ParseFault}
+use Rattle.acstatement.specs.Reading.{◌>>=◌}
+use Rattle.acstatement.specs.Texts.{arg_at}
+use Rattle.acargs.specs.Programs.{includes}
+use Rattle.entries.specs.Readers.{entry_of, entries_of}
+use Rattle.syntax.specs.declared.listed.Sought.{Sought}
+use Rattle.syntax.specs.declared.statement.Question.{Question}
+use Rattle.syntax.specs.declared.statement.Question.TheVariants.{Given, Tries, Checks, ChecksEach}
+
+-- AC_CHECK_HEADER(header, ..), AC_CHECK_FUNC, AC_CHECK_DECL and AC_CHECK_TYPE, before their includes are read. (Autoconf's
+-- manual, the sections of the macros)
+unfoldable pub checks : Sought → List Span → Result Question ParseFault
+checks sought args = do
+  entry ← entry_of sought (arg_at args 0)
+  Ok (Checks sought entry None)
+
+-- AC_CHECK_HEADERS(headers, ..), AC_CHECK_FUNCS, AC_CHECK_DECLS and AC_CHECK_TYPES, before their includes are read.
+-- (Autoconf's manual, the sections of the macros)
+unfoldable pub checks_each : Sought → List Span → Result Question ParseFault
+checks_each sought args = do
+  entries ← entries_of sought (arg_at args 0)
+  Ok (ChecksEach sought entries None)
+
+-- The question of a call, with its includes. AC_CHECK_FUNC and AC_CHECK_FUNCS take no fourth argument, and so have none.
+-- (Autoconf's manual, the sections of the macros)
+unfoldable pub completed_of : Question → List Span → Result Question ParseFault
+completed_of (Given kind variable help) args = Ok (Given kind variable help)
+completed_of (Tries kind program) args = Ok (Tries kind program)
+completed_of (Checks sought entry earlier) args = includes (arg_at args 3) >>= λ i. Ok (Checks sought entry i)
+completed_of (ChecksEach sought entries earlier) args = includes (arg_at args 3) >>= λ i. Ok (ChecksEach sought entries i)

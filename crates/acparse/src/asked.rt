@@ -1,0 +1,87 @@
+//! The statement of a macro that asks a question.
+
+ghost use Rattle.std.specs.Prelude.{◌≡◌, [], ◌∷◌, map};
+ghost use Rattle.m4quote.specs.Entry.{span};
+ghost use Rattle.acstatement.specs.Reading.{Gives};
+ghost use Rattle.acparse.specs.Asked as asked;
+ghost use Rattle.syntax.specs.declared.statement.Question.TheVariants.{ChecksEach};
+ghost use Rattle.syntax.specs.declared.tree.Subject.TheVariants.{Asked};
+ghost use Rattle.syntax.specs.Script.{script_of, cases_of, Choice, Done};
+
+use acargs::ParseFault;
+use acmacros::checks::complete;
+use m4quote::Arg;
+use shellword::HereText;
+use std::alloc::Global;
+use syntax::{Case, Entries, Plain, Question, Sought, Stmt, Subject, choose};
+
+/// Returns the statement of a question about each entry of a list: a batch, if there are no cases and one child decides an
+/// entry.
+fn asked_each(
+    sought: Sought,
+    entries: Entries,
+    includes: Option<HereText>,
+    cases: Vec<Case>,
+) -> Stmt
+    ensures { script_of (result ∷ []) ≡ asked.asked_by (ChecksEach sought entries includes) (cases_of cases.items) }
+{
+    match sought {
+        Sought::Entry(listed) => {
+            if cases.is_empty() {
+                return Stmt::Plain(Plain::Batch {
+                    listed,
+                    entries,
+                    includes,
+                });
+            }
+            choose_each(sought, entries, includes, cases)
+        }
+        Sought::Type => choose_each(sought, entries, includes, cases),
+    }
+}
+
+/// Returns the choice of a question about each entry of a list.
+fn choose_each(
+    sought: Sought,
+    entries: Entries,
+    includes: Option<HereText>,
+    cases: Vec<Case>,
+) -> Stmt
+    ensures { script_of (result ∷ []) ≡ Choice (Asked (ChecksEach sought entries includes)) (cases_of cases.items) Done }
+{
+    let question = Question::ChecksEach {
+        sought,
+        entries,
+        includes,
+    };
+    choose(Subject::Asked(question), cases)
+}
+
+/// Returns the statement of a question and its cases.
+fn asked_by(question: Question, cases: Vec<Case>) -> Stmt
+    ensures { script_of (result ∷ []) ≡ asked.asked_by question (cases_of cases.items) }
+{
+    match question {
+        Question::ChecksEach {
+            sought,
+            entries,
+            includes,
+        } => asked_each(sought, entries, includes, cases),
+        Question::Given { .. } => choose(Subject::Asked(question), cases),
+        Question::Tries { .. } => choose(Subject::Asked(question), cases),
+        Question::Checks { .. } => choose(Subject::Asked(question), cases),
+    }
+}
+
+/// Reads the includes of a question, and returns its statement.
+#[tactic(auto, unfolding(crate::specs::Asked::asked_with))]
+pub(crate) fn asked_with(
+    alloc: Global,
+    question: Question,
+    cases: Vec<Case>,
+    args: &[Arg<'_>],
+) -> Result<Stmt, ParseFault>
+    ensures { Gives (λ s. script_of (s ∷ [])) result (asked.asked_with question (cases_of cases.items) (map span args.now)) }
+{
+    complete(alloc, question, args).map(|question| asked_by(question, cases))
+}

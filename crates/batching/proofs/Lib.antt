@@ -1,0 +1,3 @@
+pub mod Committing
+pub mod Turns
+pub mod Beginnings

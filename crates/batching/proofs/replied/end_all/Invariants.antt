@@ -1,0 +1,9 @@
+use Rattle.std.proofs.Common.{◌≡◌, drop}
+use Rattle.std.specs.Prelude.{reverse}
+use Rattle.searching.specs.Waits.{after_entries, given}
+use Rattle.batching.proofs.replied.end_all.Given as goal
+
+abbrev pub invariant-loop-i : goal.invariant-loop-i
+invariant-loop-i l =
+    after_entries (drop l.i l.entries) (reverse l.jobs.items) (given (reverse l.replies.items)) l.store
+    ≡ after_entries l.entries l.fn.jobs.items (given l.fn.replies.items) l.fn.store

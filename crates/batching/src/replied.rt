@@ -1,0 +1,145 @@
+//! The end of a batch, with the replies to its jobs.
+
+ghost use Rattle.std.specs.Prelude.{◌≡◌, ◌≤◌, ◌<◌, ◌+◌, ◌^◌, ◌∷◌, [], IfOk, OnOk, None, Some, length, option_to_list, reverse, true, unwrap_or};
+ghost use Rattle.meaning.specs.Asking.{success};
+ghost use Rattle.meaning.specs.Play.{first_refused, refused_after};
+ghost use Rattle.meaning.specs.State.{Run, Scope, State};
+ghost use Rattle.crew.specs.declared.reply.Reply.TheVariants.{StartRefused};
+ghost use Rattle.batching.specs.Taking.{Takes, TakesReply};
+ghost use Rattle.searching.specs.Flows.{Heeds, IsGroup, Leads, asks_now, passed};
+ghost use Rattle.searching.specs.Waits.{after_entries, at_once, entry_end, given, resumed};
+ghost use Rattle.searching.specs.declared.wait.Wait.TheVariants as wait;
+
+use crate::beginning::end_quiet;
+use conftest::Job;
+use crew::Reply;
+use runstate::Store;
+use searching::deciding::{begin_trial, end_heard};
+use searching::replies::{log_asked, success};
+use searching::{Flow, Trial, Waiting};
+use std::alloc::{AllocError, Global};
+
+/// Takes the next job, if the entry asked for one. The next one is last.
+fn take_job(jobs: &mut Vec<Job>, asks: bool) -> Option<Job>
+    ensures { Takes asks (reverse jobs.old.items) (reverse jobs.new.items) (option_to_list result) }
+{
+    if asks { jobs.pop() } else { None }
+}
+
+/// Takes the next reply, if the entry asked for a child. The next one is last, and a missing one is a refused start.
+fn take_reply(replies: &mut Vec<Option<Reply>>, asks: bool) -> Reply
+    ensures { TakesReply asks (given (reverse replies.old.items)) (given (reverse replies.new.items)) result }
+{
+    if !asks {
+        return Reply::StartRefused;
+    }
+    match replies.pop() {
+        Some(Some(reply)) => reply,
+        Some(None) | None => Reply::StartRefused,
+    }
+}
+
+/// Ends the test of an entry that asked for a child.
+fn end_asked(
+    alloc: Global,
+    store: &mut Store,
+    trial: &Trial,
+    job: Option<Job>,
+    reply: Reply,
+) -> Result<(), AllocError>
+    ensures { OnOk result (store.new ≡ entry_end true trial.now (option_to_list job) (reply ∷ []) store.old) }
+{
+    let heard = success(&reply);
+    begin_trial(alloc, store, trial)?;
+    log_asked(store, job, reply)?;
+    end_heard(alloc, store, trial, heard)
+}
+
+/// Ends the test of an entry.
+fn end_entry(
+    alloc: Global,
+    store: &mut Store,
+    entry: &Waiting,
+    job: Option<Job>,
+    reply: Reply,
+) -> Result<(), AllocError>
+    ensures { OnOk result (store.new ≡ entry_end entry.now.asks entry.now.trial (option_to_list job) (reply ∷ []) store.old) }
+{
+    if !entry.asks {
+        return end_quiet(alloc, store, &entry.trial);
+    }
+    end_asked(alloc, store, &entry.trial, job, reply)
+}
+
+/// Ends the tests of all entries, in the order of the list.
+fn end_all(
+    alloc: Global,
+    store: &mut Store,
+    entries: &[Waiting],
+    mut jobs: Vec<Job>,
+    mut replies: Vec<Option<Reply>>,
+) -> Result<(), AllocError>
+    ensures { OnOk result (store.new ≡ after_entries entries.now jobs.items (given replies.items) store.old) }
+{
+    jobs.reverse();
+    replies.reverse();
+    for i in 0..entries.len() {
+        let entry = &entries[i];
+        let job = take_job(&mut jobs, entry.asks);
+        let reply = take_reply(&mut replies, entry.asks);
+        end_entry(alloc, store, entry, job, reply)?;
+    }
+    Ok(())
+}
+
+/// Returns whether the child with this reply succeeded. A missing reply is no answer.
+fn heard(reply: &Option<Reply>) -> Option<bool>
+    ensures { result ≡ success (unwrap_or reply.now StartRefused) }
+{
+    match reply {
+        Some(reply) => success(reply),
+        None => None,
+    }
+}
+
+/// Returns the number of the first refused reply, from 1.
+fn first_refused(replies: &[Option<Reply>]) -> Option<u64>
+    requires { length replies.now < 2 ^ 64 }
+    ensures { result ≡ first_refused (given replies.now) }
+{
+    for i in 0..replies.len() {
+        if heard(&replies[i]).is_none() {
+            return Some(i as u64 + 1);
+        }
+    }
+    None
+}
+
+/// Ends a batch with the replies to its jobs, after `before` other children. A missing reply is a refused start. If one is
+/// refused, the run is cut at the first of them, after all entries have ended.
+pub fn hear_batch(
+    alloc: Global,
+    store: &mut Store,
+    entries: &Vec<Waiting>,
+    jobs: Vec<Job>,
+    replies: Vec<Option<Reply>>,
+    before: u64,
+) -> Result<Flow, AllocError>
+    requires asked { length jobs.items ≡ at_once entries.now.items }
+    requires replies { length replies.items ≡ length jobs.items }
+    requires room { before + length jobs.items < 2 ^ 64 }
+    ensures within { IfOk result (λ flow. passed flow ≤ 0) }
+    ensures asks { IfOk result (λ flow. asks_now flow ≤ 0) }
+    ensures group { IfOk result IsGroup }
+    ensures heeds { IfOk result (λ flow. Heeds flow (refused_after before (given replies.items))) }
+    ensures leads { IfOk result (λ flow. (about : Scope) → Leads flow (λ tests next. resumed tests (wait.Batch entries.now) jobs.items (given replies.items) (next 0) about store.old) about store.new) }
+{
+    let refused = first_refused(replies.as_slice());
+    end_all(alloc, store, entries.as_slice(), jobs, replies)?;
+    match refused {
+        Some(number) => Ok(Flow::Cut {
+            number: before + number,
+        }),
+        None => Ok(Flow::Pass { more: 0 }),
+    }
+}

@@ -1,0 +1,14 @@
+//! Tests of entries as questions: whether a header, a function, a declaration or a type is found.
+//!
+//! Read `specs/Waits` of `searching` first: what a reply decides. `asking` begins a test: if its name is set, the value
+//! counts; otherwise its first child is asked for. `hearing` continues with the answer of a child. A type has a second child
+//! if the first one succeeds.
+//!
+//! The theorem is that the test, with what follows it, continues as the flow says, whatever the tests around it.
+#![tactic(auto)]
+
+mod asking;
+mod hearing;
+
+pub use asking::check_entry;
+pub use hearing::{ask_again, conclude};
