@@ -1,0 +1,187 @@
+-- A text that ends too early: its whole lines are the first ones of a record, and more are wanted.
+use Rattle.std.proofs.Common.{◌≡◌, ℕ, ◌+◌, Bool, true, false, cond, List, [], ◌∷◌, ◌++◌, length, Option, Some, None, Result, Ok, Err, refl, ap, ◌∙◌, sym, subst, ◌⊎◌, inl, inr, ⊎_elim, append_assoc}
+use Rattle.std.specs.Prelude.{codes, ⊤, ◌==◌, bytes_eq}
+use Rattle.std.proofs.lemmas.List.{append-nil}
+use Rattle.status_record.proofs.Names.{AreDistinct-[]}
+use Rattle.textcut.specs.Cuts.{parts}
+use Rattle.status_record.specs.declared.fault.RecordFault.{RecordFault}
+use Rattle.status_record.specs.declared.fault.RecordFault.TheVariants.{BadMagic, BadLine, Truncated, UnknownVersion, DuplicateName}
+use Rattle.status_record.specs.declared.record.Record.{Record}
+use Rattle.status_record.specs.Escape.{escaped, unescaped}
+use Rattle.status_record.specs.Line.{after_prefix, entry_in, entry_fields, output_in, output_fields}
+use Rattle.status_record.specs.RecordText.{first_line, lines_of, args_lines, record_lines, output_names, IsRecord}
+use Rattle.status_record.specs.Reading.{◌>>=◌, either, or_bad, with_item, several, never, is_entry, is_output, is_magic, args_in, args_lines_in, entries_in, outputs_in, version_in, srcdir_in, ending, body_in, lines_in, last_of, front_of, record_in, Read, IsTruncated}
+use Rattle.status_record.proofs.Only.{version_line, version_only, srcdir_only, args_only, entries_only, outputs_only, body_lines}
+
+abbrev failed : {A : Type 0} → RecordFault → Result A RecordFault
+failed f = Err f
+
+err_is : {A : Type 0} (f g : RecordFault) → failed {A = A} f ≡ failed {A = A} g → f ≡ g
+err_is f g e = cc
+
+bind_err : {A B : Type 0} (r : Result A RecordFault) (f : A → Result B RecordFault) (d : RecordFault) → (r >>= f) ≡ Err d → (r ≡ Err d) ⊎ ((x : A) × (r ≡ Ok x) × (f x ≡ Err d))
+bind_err (Ok x) f d e = inr (x, refl, e)
+bind_err (Err g) f d e = inl (ap failed (err_is g d e))
+
+-- a fault of a line
+abbrev IsOfLine : RecordFault → Type 0
+IsOfLine (BadLine n) = ⊤
+IsOfLine (DuplicateName n) = ⊤
+IsOfLine f = ⊥
+
+or_bad_of_line : {A : Type 0} (n : ℕ) (o : Option A) (f : RecordFault) → or_bad n o ≡ Err f → IsOfLine f
+or_bad_of_line n None f e = subst IsOfLine (err_is (BadLine n) f e) tt
+or_bad_of_line n (Some x) f e = absurd cc
+
+module _ {A : Type 0} (keyword : List ℕ) (read : List ℕ → Option A) (given : List A → A → Bool) where
+  given_of_line : (items : List A) (n : ℕ) (x : A) (b : Bool) (f : RecordFault) → cond b (failed (DuplicateName n)) (Ok (items ++ x ∷ [])) ≡ Err f → IsOfLine f
+  given_of_line items n x true f e = subst IsOfLine (err_is (DuplicateName n) f e) tt
+  given_of_line items n x false f e = absurd cc
+
+  item_of_line : (items : List A) (n : ℕ) (fields : List ℕ) (f : RecordFault) → with_item read given items n fields ≡ Err f → IsOfLine f
+  item_of_line items n fields f e =
+      ⊎_elim (λ h. or_bad_of_line n (read fields) f h) (λ p. given_of_line items n p.0 (given items p.0) f p.2)
+      (bind_err (or_bad n (read fields)) (λ x. cond (given items x) (Err (DuplicateName n)) (Ok (items ++ x ∷ []))) f e)
+
+  pub several_of_line : (items : List A) (n : ℕ) (lines : List (List ℕ)) (f : RecordFault) → several keyword read given items n lines ≡ Err f → IsOfLine f
+  unfolding several
+  several_of_line items n [] f e = absurd cc
+  several_of_line items n (line ∷ more) f e =
+      elim (after_prefix keyword line) as (λ o. either o (λ fields. with_item read given items (n + 1) fields >>= λ now. several keyword read given now (n + 1) more) (Ok (items, (n, line ∷ more))) ≡ Err f → IsOfLine f) [
+        | None ↦ λ h. absurd cc
+        | Some fields ↦ λ h. ⊎_elim (λ g. item_of_line items (n + 1) fields f g) (λ p. several_of_line p.0 (n + 1) more f p.2)
+            (bind_err (with_item read given items (n + 1) fields) (λ now. several keyword read given now (n + 1) more) f h)
+      ] e
+
+args_of_line : (b : Bool) (n : ℕ) (lines : List (List ℕ)) (f : RecordFault) → args_in b n lines ≡ Err f → IsOfLine f
+args_of_line false n lines f e = absurd cc
+args_of_line true n lines f e =
+    ⊎_elim (λ h. several_of_line (codes "arg ") unescaped never [] n lines f h) (λ p. absurd (never_err p.0 p.2)) (bind_err (args_lines_in n lines) (λ q. Ok (Some q.0, q.1)) f e)
+  where
+    never_err : (q : Read (List (List ℕ))) → Ok (Some q.0, q.1) ≡ failed {A = Read (Option (List (List ℕ)))} f → ⊥
+    never_err q h = cc
+
+abbrev over : Result (Unit {0}) RecordFault
+over = Ok tt
+
+-- only a text without more lines ends too early
+ending_truncated : (rest : List ℕ) (n : ℕ) (lines : List (List ℕ)) → ending rest n lines ≡ Err Truncated → lines ≡ []
+unfolding ending
+ending_truncated rest n [] e = refl
+ending_truncated rest n (line ∷ []) e = absurd (choice (bytes_eq line (codes "end")) (length rest == 0) e)
+  where
+    choice : (a b : Bool) → cond a (cond b over (failed (BadLine (n + 2)))) (Err (BadLine (n + 1))) ≡ Err Truncated → ⊥
+    choice true true h = cc
+    choice true false h = cc
+    choice false b h = cc
+ending_truncated rest n (line ∷ next ∷ more) e = absurd (choice (bytes_eq line (codes "end")) e)
+  where
+    choice : (a : Bool) → cond a (failed {A = Unit {0}} (BadLine (n + 2))) (Err (BadLine (n + 1))) ≡ Err Truncated → ⊥
+    choice true h = cc
+    choice false h = cc
+
+-- the record that has been read so far
+abbrev SoFar : Bool → List ℕ → List (List ℕ) → Type 0
+SoFar b srcdir lines = (r : Record) × (version_line b ≡ first_line r.args) × (srcdir ≡ r.srcdir) × (body_lines r ≡ lines ++ codes "end" ∷ []) × IsRecord r
+
+five : {X : Type 0} (a b c d e f : List X) → a ++ (b ++ (c ++ (d ++ (e ++ f)))) ≡ (a ++ (b ++ (c ++ (d ++ e)))) ++ f
+five a b c d e f =
+    ap (λ t. a ++ (b ++ (c ++ t))) (sym (append_assoc d e f)) ∙ ap (λ t. a ++ (b ++ t)) (sym (append_assoc c (d ++ e) f))
+    ∙ ap (λ t. a ++ t) (sym (append_assoc b (c ++ (d ++ e)) f)) ∙ sym (append_assoc a (b ++ (c ++ (d ++ e))) f)
+
+joined_up : {X : Type 0} (lines l1 l2 l3 l4 l5 a v d f h e : List X) → lines ≡ a ++ l1 → l1 ≡ v ++ l2 → l2 ≡ d ++ l3 → l3 ≡ f ++ l4 → l4 ≡ h ++ l5 → l5 ≡ []
+    → a ++ (v ++ (d ++ (f ++ (h ++ e)))) ≡ lines ++ e
+joined_up lines l1 l2 l3 l4 l5 a v d f h e e1 e2 e3 e4 e5 e6 =
+    let h5 : l4 ≡ h = e5 ∙ ap (λ t. h ++ t) e6 ∙ append-nil h in
+    let h4 : l3 ≡ f ++ h = e4 ∙ ap (λ t. f ++ t) h5 in
+    let h3 : l2 ≡ d ++ (f ++ h) = e3 ∙ ap (λ t. d ++ t) h4 in
+    let h2 : l1 ≡ v ++ (d ++ (f ++ h)) = e2 ∙ ap (λ t. v ++ t) h3 in
+    let h1 : lines ≡ a ++ (v ++ (d ++ (f ++ h))) = e1 ∙ ap (λ t. a ++ t) h2 in
+    five a v d f h e ∙ ap (λ t. t ++ e) (sym h1)
+
+body_truncated : (b : Bool) (rest srcdir : List ℕ) (lines : List (List ℕ)) → body_in b rest srcdir lines ≡ Err Truncated → SoFar b srcdir lines
+unfolding body_in
+body_truncated b rest srcdir lines e =
+    ⊎_elim (λ h. absurd (args_of_line b 2 lines Truncated h)) (λ p1.
+    ⊎_elim (λ h. absurd (several_of_line (codes "var ") entry_in is_entry [] p1.0.1.0 p1.0.1.1 Truncated h)) (λ p2.
+    ⊎_elim (λ h. absurd (several_of_line (codes "def ") entry_in is_entry [] p2.0.1.0 p2.0.1.1 Truncated h)) (λ p3.
+    ⊎_elim (λ h. absurd (several_of_line (codes "file ") output_in (is_output []) [] p3.0.1.0 p3.0.1.1 Truncated h)) (λ p4.
+    ⊎_elim (λ h. absurd (several_of_line (codes "header ") output_in (is_output (output_names p4.0.0)) [] p4.0.1.0 p4.0.1.1 Truncated h)) (λ p5.
+    ⊎_elim (λ h.
+    let made : Record = record { srcdir = srcdir; args = p1.0.0; vars = p2.0.0; defs = p3.0.0; files = p4.0.0; headers = p5.0.0 } in
+    let a = args_only b 2 lines p1.0 p1.1 in
+    let v = entries_only (codes "var ") p1.0.1.0 p1.0.1.1 p2.0 p2.1 in
+    let d = entries_only (codes "def ") p2.0.1.0 p2.0.1.1 p3.0 p3.1 in
+    let f = outputs_only (codes "file ") [] p3.0.1.0 p3.0.1.1 p4.0 p4.1 AreDistinct-[] in
+    let k = outputs_only (codes "header ") p4.0.0 p4.0.1.0 p4.0.1.1 p5.0 p5.1 f.2 in
+    let z = ending_truncated rest p5.0.1.0 p5.0.1.1 h in
+    let ha = args_lines p1.0.0 in
+    let hv = lines_of (codes "var ") entry_fields p2.0.0 in
+    let hd = lines_of (codes "def ") entry_fields p3.0.0 in
+    let hf = lines_of (codes "file ") output_fields p4.0.0 in
+    let hh = lines_of (codes "header ") output_fields p5.0.0 in
+    let is : IsRecord made = record { vars = v.1; defs = d.1; files = f.1; headers = k.1; outputs = k.2 } in
+    (made, a.0, refl, joined_up lines _ _ _ _ _ ha hv hd hf hh (codes "end" ∷ []) a.1 v.0 d.0 f.0 k.0 z, is))
+    (λ p6. absurd (done_err p6.2))
+    (bind_err (ending rest p5.0.1.0 p5.0.1.1) _ Truncated p5.2))
+    (bind_err (outputs_in (codes "header ") p4.0.0 p4.0.1.0 p4.0.1.1) _ Truncated p4.2))
+    (bind_err (outputs_in (codes "file ") [] p3.0.1.0 p3.0.1.1) _ Truncated p3.2))
+    (bind_err (entries_in (codes "def ") p2.0.1.0 p2.0.1.1) _ Truncated p2.2))
+    (bind_err (entries_in (codes "var ") p1.0.1.0 p1.0.1.1) _ Truncated p1.2))
+    (bind_err (args_in b 2 lines) _ Truncated e)
+  where
+    done_err : {r : Record} → Ok r ≡ failed {A = Record} Truncated → ⊥
+    done_err h = cc
+
+version_truncated : (line : List ℕ) → version_in line ≡ Err Truncated → ⊥
+unfolding version_in
+version_truncated line e = choice (bytes_eq line (codes "acrun-record 1")) (bytes_eq line (codes "acrun-record 2")) (is_magic line) e
+  where
+    choice : (a b c : Bool) → cond a (Ok false) (cond b (Ok true) (cond c (Err UnknownVersion) (failed {A = Bool} BadMagic))) ≡ Err Truncated → ⊥
+    choice true b c h = cc
+    choice false true c h = cc
+    choice false false true h = cc
+    choice false false false h = cc
+
+srcdir_truncated : (line : List ℕ) → srcdir_in line ≡ Err Truncated → ⊥
+unfolding srcdir_in
+srcdir_truncated line e = choice (after_prefix (codes "srcdir ") line) e
+  where
+    choice : (o : Option (List ℕ)) → either o (λ value. or_bad 2 (unescaped value)) (Err (BadLine 2)) ≡ Err Truncated → ⊥
+    choice None h = cc
+    choice (Some t) h = or_bad_of_line 2 (unescaped t) Truncated h
+
+-- a record of nothing
+bare : (b : Bool) → (r : Record) × (version_line b ≡ first_line r.args) × IsRecord r × (record_lines r ≡ first_line r.args ∷ (codes "srcdir ") ∷ codes "end" ∷ [])
+bare false = (record { srcdir = []; args = None; vars = []; defs = []; files = []; headers = [] }, refl, record { vars = (tt, AreDistinct-[]); defs = (tt, AreDistinct-[]); files = tt; headers = tt; outputs = AreDistinct-[] }, refl)
+bare true = (record { srcdir = []; args = Some []; vars = []; defs = []; files = []; headers = [] }, refl, record { vars = (tt, AreDistinct-[]); defs = (tt, AreDistinct-[]); files = tt; headers = tt; outputs = AreDistinct-[] }, refl)
+
+lines_truncated : (rest : List ℕ) (lines : List (List ℕ)) → lines_in rest lines ≡ Err Truncated → IsTruncated lines
+unfolding lines_in
+lines_truncated rest [] e = absurd cc
+lines_truncated rest (first ∷ []) e =
+    ⊎_elim (λ h. absurd (version_truncated first h)) (λ p.
+    let r = bare p.0 in
+    record { whole = r.0; next = codes "srcdir "; more = codes "end" ∷ []; holds = r.2; begins = r.3 ∙ ap (λ l. l ∷ codes "srcdir " ∷ codes "end" ∷ []) (sym (version_only first p.0 p.1 ∙ r.1)) })
+    (bind_err (version_in first) (λ _. Err Truncated) Truncated e)
+lines_truncated rest (first ∷ second ∷ more) e =
+    ⊎_elim (λ h. absurd (version_truncated first h)) (λ p.
+    ⊎_elim (λ h. absurd (srcdir_truncated second h)) (λ q.
+    let s = body_truncated p.0 rest q.0 more q.2 in
+    let r = s.0 in
+    let one : first ≡ first_line r.args = version_only first p.0 p.1 ∙ s.1 in
+    let two : second ≡ codes "srcdir " ++ escaped r.srcdir = srcdir_only second q.0 q.1 ∙ ap (λ v. codes "srcdir " ++ escaped v) s.2 in
+    record {
+      whole = r;
+      next = codes "end";
+      more = [];
+      holds = s.4;
+      begins = ap (λ l. first_line r.args ∷ (codes "srcdir " ++ escaped r.srcdir) ∷ l) s.3 ∙ ap (λ l. l ∷ (codes "srcdir " ++ escaped r.srcdir) ∷ (more ++ codes "end" ∷ [])) (sym one)
+          ∙ ap (λ l. first ∷ l ∷ (more ++ codes "end" ∷ [])) (sym two);
+    })
+    (bind_err (srcdir_in second) _ Truncated p.2))
+    (bind_err (version_in first) _ Truncated e)
+
+pub truncated_texts : (text : List ℕ) → record_in text ≡ Err Truncated → IsTruncated (front_of (parts 10 text))
+unfolding record_in
+truncated_texts text e = lines_truncated (last_of (parts 10 text)) (front_of (parts 10 text)) e

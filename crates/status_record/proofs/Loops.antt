@@ -1,0 +1,135 @@
+-- Loops over the lines of a text, and over the items of a record.
+use Rattle.std.proofs.Common.{◌≡◌, ℕ, ◌+◌, ◌<◌, ◌≤◌, Bool, List, [], ◌∷◌, ◌++◌, Bor, length, drop, take, get_or, map, Option, Some, None, Result, Ok, refl, ap, ◌∙◌, sym, append_assoc, arith}
+use Rattle.std.specs.List.{slice_get}
+use Rattle.std.proofs.lemmas.List.{drop_more, take_more, map-append, length-map}
+use Rattle.std.proofs.lemmas.Grind.{flat_map-append}
+use Rattle.std.proofs.lemmas.Option.{slice_get_within, get_or_from_slice_get}
+use Rattle.std.proofs.Math.ListN.{drop_of_length-le, get_or-map}
+use Rattle.status_record.specs.declared.fault.RecordFault.{RecordFault}
+use Rattle.status_record.specs.declared.fault.RecordFault.TheVariants.{OutOfMemory}
+use Rattle.std.specs.Prelude.{codes}
+use Rattle.status_record.specs.declared.record.Record.{Record}
+use Rattle.status_record.specs.Escape.{escaped}
+use Rattle.status_record.specs.Line.{after_prefix, ended, entry_fields, output_fields}
+use Rattle.status_record.specs.RecordText.{lines_of, args_lines, first_line, record_text}
+use Rattle.status_record.specs.Reading.{several, with_item, either, Fails, Read, last_of, front_of, ◌>>=◌}
+
+pub fails_bind : {A B : Type 0} (e : RecordFault) (r : Result A RecordFault) (f : A → Result B RecordFault) → Fails e r → Fails e (r >>= f)
+fails_bind OutOfMemory r f h = tt
+fails_bind e r f h = ap (λ x. x >>= f) h
+
+pub fails_along : {A : Type 0} (e : RecordFault) (r s : Result A RecordFault) → r ≡ s → Fails e r → Fails e s
+fails_along OutOfMemory r s eq h = tt
+fails_along e r s eq h = sym eq ∙ h
+
+abbrev pub texts : List (Bor (List ℕ)) → List (List ℕ)
+texts lines = map (λ t. t.now) lines
+
+at_line : (i : ℕ) (lines : List (Bor (List ℕ))) (d : Bor (List ℕ)) → i < length lines → drop i (texts lines) ≡ (get_or lines i d).now ∷ drop (i + 1) (texts lines)
+at_line i lines d lt =
+    let e = length-map lines (λ (t : Bor (List ℕ)). t.now) in
+    let within : i < length (texts lines) = omega (arith, e) in
+    drop_more (texts lines) i d.now within ∙ ap (λ t. t ∷ drop (i + 1) (texts lines)) (get_or-map (λ (t : Bor (List ℕ)). t.now) lines i d)
+
+module _ {A : Type 0} (keyword : List ℕ) (read : List ℕ → Option A) (given : List A → A → Bool) where
+  -- the lines from index i on are that line and those after it
+  from_line : (items : List A) (i : ℕ) (lines : List (Bor (List ℕ))) (d : Bor (List ℕ)) (o : Option (List ℕ)) → i < length lines → after_prefix keyword (get_or lines i d).now ≡ o
+      → several keyword read given items i (drop i (texts lines))
+      ≡ either o (λ fields. with_item read given items (i + 1) fields >>= λ now. several keyword read given now (i + 1) (drop (i + 1) (texts lines))) (Ok (items, (i, drop i (texts lines))))
+  unfolding several
+  from_line items i lines d o lt e =
+      ap (several keyword read given items i) (at_line i lines d lt)
+      ∙ ap (λ o. either o (λ fields. with_item read given items (i + 1) fields >>= λ now. several keyword read given now (i + 1) (drop (i + 1) (texts lines))) (Ok (items, (i, (get_or lines i d).now ∷ drop (i + 1) (texts lines))))) e
+      ∙ ap (λ l. either o (λ fields. with_item read given items (i + 1) fields >>= λ now. several keyword read given now (i + 1) (drop (i + 1) (texts lines))) (Ok (items, (i, l)))) (sym (at_line i lines d lt))
+
+  pub several_more : (items now : List A) (i : ℕ) (lines : List (Bor (List ℕ))) (d : Bor (List ℕ)) (fields : List ℕ) (total : Result (Read (List A)) RecordFault) → i < length lines
+      → after_prefix keyword (get_or lines i d).now ≡ Some fields → with_item read given items (i + 1) fields ≡ Ok now
+      → several keyword read given items i (drop i (texts lines)) ≡ total
+      → several keyword read given now (i + 1) (drop (i + 1) (texts lines)) ≡ total
+  several_more items now i lines d fields total lt e one h =
+      sym (from_line items i lines d (Some fields) lt e ∙ ap (λ r. r >>= λ now. several keyword read given now (i + 1) (drop (i + 1) (texts lines))) one) ∙ h
+
+  pub several_fails : (f : RecordFault) (items : List A) (i : ℕ) (lines : List (Bor (List ℕ))) (d : Bor (List ℕ)) (fields : List ℕ) (total : Result (Read (List A)) RecordFault) → i < length lines
+      → after_prefix keyword (get_or lines i d).now ≡ Some fields → Fails f (with_item read given items (i + 1) fields)
+      → several keyword read given items i (drop i (texts lines)) ≡ total → Fails f total
+  several_fails f items i lines d fields total lt e bad h =
+      fails_along f _ _ (sym (from_line items i lines d (Some fields) lt e) ∙ h) (fails_bind f _ _ bad)
+
+  pub several_other : (items : List A) (i : ℕ) (lines : List (Bor (List ℕ))) (d : Bor (List ℕ)) → i < length lines
+      → after_prefix keyword (get_or lines i d).now ≡ None → several keyword read given items i (drop i (texts lines)) ≡ Ok (items, (i, drop i (texts lines)))
+  several_other items i lines d lt e = from_line items i lines d None lt e
+
+  pub several_end : (items : List A) (i : ℕ) (lines : List (Bor (List ℕ))) → i ≡ length lines
+      → several keyword read given items i (drop i (texts lines)) ≡ Ok (items, (length lines, drop (length lines) (texts lines)))
+  unfolding several
+  several_end items i lines is =
+      let e = length-map lines (λ (t : Bor (List ℕ)). t.now) in
+      let past : length (texts lines) ≤ i = omega (arith, e) in
+      let none : drop i (texts lines) ≡ [] = drop_of_length-le (texts lines) past in
+      ap (several keyword read given items i) none ∙ ap (λ l. Ok (items, (i, l))) (sym none) ∙ ap (λ n. Ok (items, (n, drop n (texts lines)))) is
+
+-- ---- writing
+
+-- one line more
+pub lines_more : {A : Type 0} (keyword : List ℕ) (fields : A → List ℕ) (start now next : List ℕ) (xs : List A) (i : ℕ) (x : A) → slice_get xs i ≡ Some x
+    → now ≡ start ++ ended (lines_of keyword fields (take i xs)) → next ≡ now ++ ended ((keyword ++ fields x) ∷ [])
+    → next ≡ start ++ ended (lines_of keyword fields (take (i + 1) xs))
+lines_more keyword fields start now next xs i x is so_far put =
+    let one : take (i + 1) xs ≡ take i xs ++ x ∷ [] = take_more xs i x (slice_get_within xs i x is) ∙ ap (λ y. take i xs ++ y ∷ []) (get_or_from_slice_get xs i x x is) in
+    let more : ended (lines_of keyword fields (take (i + 1) xs)) ≡ ended (lines_of keyword fields (take i xs)) ++ ended ((keyword ++ fields x) ∷ []) =
+    ap (λ l. ended (lines_of keyword fields l)) one ∙ ap ended (map-append (λ x. keyword ++ fields x) (take i xs) (x ∷ []))
+    ∙ flat_map-append (λ (l : List ℕ). l ++ 10 ∷ []) (lines_of keyword fields (take i xs)) ((keyword ++ fields x) ∷ []) in
+    put ∙ ap (λ t. t ++ ended ((keyword ++ fields x) ∷ [])) so_far ∙ append_assoc start (ended (lines_of keyword fields (take i xs))) (ended ((keyword ++ fields x) ∷ [])) ∙ ap (λ t. start ++ t) (sym more)
+
+-- ---- the last of the parts
+
+pub last_of-end : (front : List (List ℕ)) (x : List ℕ) → last_of (front ++ x ∷ []) ≡ x
+unfolding last_of
+last_of-end [] x = refl
+last_of-end (f ∷ []) x = refl
+last_of-end (f ∷ g ∷ front) x = last_of-end (g ∷ front) x
+
+pub front_of-end : (front : List (List ℕ)) (x : List ℕ) → front_of (front ++ x ∷ []) ≡ front
+unfolding front_of
+front_of-end [] x = refl
+front_of-end (f ∷ []) x = refl
+front_of-end (f ∷ g ∷ front) x = ap (λ t. f ∷ t) (front_of-end (g ∷ front) x)
+
+pub none_of : {X : Type 0} (xs : List X) → length xs ≡ 0 → xs ≡ []
+none_of [] e = refl
+none_of (x ∷ xs) e = absurd (omega arith)
+
+pub texts-end : (items front : List (Bor (List ℕ))) (x : Bor (List ℕ)) → items ≡ front ++ x ∷ [] → texts items ≡ texts front ++ x.now ∷ []
+texts-end items front x e = ap texts e ∙ map-append (λ (t : Bor (List ℕ)). t.now) front (x ∷ [])
+
+-- ---- a record's text, put line by line
+
+put_more : (l m : List (List ℕ)) (now next : List ℕ) → now ≡ ended l → next ≡ now ++ ended m → next ≡ ended (l ++ m)
+put_more l m now next is put = put ∙ ap (λ t. t ++ ended m) is ∙ sym (flat_map-append (λ (t : List ℕ). t ++ 10 ∷ []) l m)
+
+in_order : {X : Type 0} (a b c d e f : List X) → ((((a ++ b) ++ c) ++ d) ++ e) ++ f ≡ a ++ (b ++ (c ++ (d ++ (e ++ f))))
+in_order a b c d e f =
+    append_assoc (((a ++ b) ++ c) ++ d) e f ∙ append_assoc ((a ++ b) ++ c) d (e ++ f) ∙ append_assoc (a ++ b) c (d ++ (e ++ f)) ∙ append_assoc a b (c ++ (d ++ (e ++ f)))
+
+pub written : (r : Record) (o0 o1 o2 o3 o4 o5 o6 o7 o8 : List ℕ) → o0 ≡ []
+    → o1 ≡ o0 ++ ended (first_line r.args ∷ []) → o2 ≡ o1 ++ ended ((codes "srcdir " ++ escaped r.srcdir) ∷ []) → o3 ≡ o2 ++ ended (args_lines r.args)
+    → o4 ≡ o3 ++ ended (lines_of (codes "var ") entry_fields r.vars) → o5 ≡ o4 ++ ended (lines_of (codes "def ") entry_fields r.defs)
+    → o6 ≡ o5 ++ ended (lines_of (codes "file ") output_fields r.files) → o7 ≡ o6 ++ ended (lines_of (codes "header ") output_fields r.headers)
+    → o8 ≡ o7 ++ ended (codes "end" ∷ []) → o8 ≡ record_text r
+unfolding record_text
+written r o0 o1 o2 o3 o4 o5 o6 o7 o8 e0 e1 e2 e3 e4 e5 e6 e7 e8 =
+    let first = first_line r.args in
+    let second = codes "srcdir " ++ escaped r.srcdir in
+    let a = args_lines r.args in
+    let b = lines_of (codes "var ") entry_fields r.vars in
+    let c = lines_of (codes "def ") entry_fields r.defs in
+    let d = lines_of (codes "file ") output_fields r.files in
+    let e = lines_of (codes "header ") output_fields r.headers in
+    let f2 = put_more (first ∷ []) (second ∷ []) o1 o2 (e1 ∙ ap (λ t. t ++ ended (first ∷ [])) e0) e2 in
+    let f3 = put_more (first ∷ second ∷ []) a o2 o3 f2 e3 in
+    let f4 = put_more (first ∷ second ∷ a) b o3 o4 f3 e4 in
+    let f5 = put_more (first ∷ second ∷ (a ++ b)) c o4 o5 f4 e5 in
+    let f6 = put_more (first ∷ second ∷ ((a ++ b) ++ c)) d o5 o6 f5 e6 in
+    let f7 = put_more (first ∷ second ∷ (((a ++ b) ++ c) ++ d)) e o6 o7 f6 e7 in
+    let f8 = put_more (first ∷ second ∷ ((((a ++ b) ++ c) ++ d) ++ e)) (codes "end" ∷ []) o7 o8 f7 e8 in
+    f8 ∙ ap (λ t. ended (first ∷ second ∷ t)) (in_order a b c d e (codes "end" ∷ []))

@@ -1,0 +1,163 @@
+-- Reading a record: its lines from the first to the last, up to the first fault.
+use Rattle.std.specs.Prelude.{◌≡◌, ℕ, ◌+◌, ◌==◌, ◌&&◌, not, Bool, true, false, List, [], ◌∷◌, ◌++◌, length, Result, Ok, Err, Option, Some, None, codes, if◌then◌else◌}
+use Rattle.std.specs.List.{list_all}
+use Rattle.std.specs.Char.{is_ascii_digit}
+use Rattle.std.specs.Str.{bytes_eq}
+use Rattle.deftable.specs.NameList.{has_name}
+use Rattle.deftable.specs.Table.{names_of}
+use Rattle.textcut.specs.Cuts.{parts}
+use Rattle.status_record.specs.declared.fault.RecordFault.{RecordFault}
+use Rattle.status_record.specs.declared.fault.RecordFault.TheVariants.{BadMagic, BadLine, Truncated, UnknownVersion, DuplicateName, OutOfMemory}
+use Rattle.status_record.specs.declared.record.Record.{Record}
+use Rattle.status_record.specs.declared.output.Output.{Output}
+use Rattle.status_record.specs.Escape.{unescaped}
+use Rattle.status_record.specs.Line.{after_prefix, entry_in, output_in}
+use Rattle.status_record.specs.RecordText.{output_names, record_lines, IsRecord}
+
+infixl 10 ◌>>=◌
+-- a reading, and then one of its value, up to the first fault (own)
+abbrev pub ◌>>=◌ : {A B : Type 0} → Result A RecordFault → (A → Result B RecordFault) → Result B RecordFault
+(Ok x) >>= f = f x
+(Err e) >>= f = Err e
+
+-- The reading has this fault. Out of memory is no fault of a text, so it says nothing. (own)
+abbrev pub Fails : {Y : Type 0} → RecordFault → Result Y RecordFault → Type 0
+Fails OutOfMemory read = Unit {0}
+Fails f read = read ≡ Err f
+
+-- The function returned what the reading gives, by this view of it, or ran out of memory. (own)
+abbrev pub Gives : {X Y : Type 0} → (X → Y) → Result X RecordFault → Result Y RecordFault → Type 0
+Gives view (Ok x) read = read ≡ Ok (view x)
+Gives view (Err f) read = Fails f read
+
+-- the value, or a bad line of this number if there is none (own)
+abbrev pub or_bad : {A : Type 0} → ℕ → Option A → Result A RecordFault
+or_bad n None = Err (BadLine n)
+or_bad n (Some x) = Ok x
+
+-- the function of the text, or the other value if there is no text (own)
+abbrev pub either : {X : Type 0} → Option (List ℕ) → (List ℕ → X) → X → X
+either None f other = other
+either (Some t) f other = f t
+
+-- what was read, the number of lines before those that are left, and the lines that are left (own)
+abbrev pub Read : Type 0 → Type 0
+Read A = A × (ℕ × List (List ℕ))
+
+-- ---- lines of one kind
+
+-- the items and that of the fields of line n, unless it has the name of one before (own)
+abbrev pub with_item : {A : Type 0} → (List ℕ → Option A) → (List A → A → Bool) → List A → ℕ → List ℕ → Result (List A) RecordFault
+with_item read is_given items n fields =
+    or_bad n (read fields) >>= λ x. (if is_given items x then Err (DuplicateName n) else Ok (items ++ x ∷ []))
+
+-- the items and those of the lines at the front that begin with the keyword, after n lines (own)
+unfoldable pub several : {A : Type 0} → List ℕ → (List ℕ → Option A) → (List A → A → Bool) → List A → ℕ → List (List ℕ) → Result (Read (List A)) RecordFault
+several keyword read is_given items n [] = Ok (items, (n, []))
+several keyword read is_given items n (line ∷ more) =
+    either (after_prefix keyword line)
+    (λ fields. with_item read is_given items (n + 1) fields >>= λ now. several keyword read is_given now (n + 1) more)
+    (Ok (items, (n, line ∷ more)))
+
+-- no item has the name of one before (own)
+abbrev pub never : {A : Type 0} → List A → A → Bool
+never items x = false
+
+-- whether an entry has the name (own)
+abbrev pub is_entry : List (List ℕ × List ℕ) → (List ℕ × List ℕ) → Bool
+is_entry entries e = has_name (names_of entries) e.0
+
+-- whether an output has the name, or it is one of the names before (own)
+abbrev pub is_output : List (List ℕ) → List Output → Output → Bool
+is_output before outputs o = has_name (before ++ output_names outputs) o.name
+
+-- the arguments, after n lines (own)
+abbrev pub args_lines_in : ℕ → List (List ℕ) → Result (Read (List (List ℕ))) RecordFault
+args_lines_in n lines = several (codes "arg ") unescaped never [] n lines
+
+-- the arguments if the version has them, after n lines (own)
+abbrev pub args_in : Bool → ℕ → List (List ℕ) → Result (Read (Option (List (List ℕ)))) RecordFault
+args_in false n lines = Ok (None, (n, lines))
+args_in true n lines = args_lines_in n lines >>= λ r. Ok (Some r.0, r.1)
+
+-- the variables or the definitions, after n lines (own)
+abbrev pub entries_in : List ℕ → ℕ → List (List ℕ) → Result (Read (List (List ℕ × List ℕ))) RecordFault
+entries_in keyword n lines = several keyword entry_in is_entry [] n lines
+
+-- the files or the headers, after n lines and the outputs before (own)
+abbrev pub outputs_in : List ℕ → List Output → ℕ → List (List ℕ) → Result (Read (List Output)) RecordFault
+outputs_in keyword before n lines = several keyword output_in (is_output (output_names before)) [] n lines
+
+-- ---- a whole text
+
+-- whether the text is a decimal number without leading zeros (own)
+abbrev pub is_number : List ℕ → Bool
+is_number [] = false
+is_number (b ∷ []) = is_ascii_digit b
+is_number (b ∷ c ∷ more) = not (b == 48) && list_all is_ascii_digit (b ∷ c ∷ more)
+
+-- whether the line is `acrun-record` and a number, with one space between them (own)
+abbrev pub is_magic : List ℕ → Bool
+is_magic line = either (after_prefix (codes "acrun-record ") line) is_number false
+
+-- whether the version of the first line has arguments (own)
+unfoldable pub version_in : List ℕ → Result Bool RecordFault
+version_in line =
+    if bytes_eq line (codes "acrun-record 1") then Ok false
+    else (if bytes_eq line (codes "acrun-record 2") then Ok true
+    else (if is_magic line then Err UnknownVersion else Err BadMagic))
+
+-- the source directory of the second line (own)
+unfoldable pub srcdir_in : List ℕ → Result (List ℕ) RecordFault
+srcdir_in line = either (after_prefix (codes "srcdir ") line) (λ value. or_bad 2 (unescaped value)) (Err (BadLine 2))
+
+-- The lines after the first n, and the text after the last newline: `end`, and then no line and no part of one. (own)
+unfoldable pub ending : List ℕ → ℕ → List (List ℕ) → Result (Unit {0}) RecordFault
+ending rest n [] = Err Truncated
+ending rest n (line ∷ []) =
+    if bytes_eq line (codes "end") then (if length rest == 0 then Ok tt else Err (BadLine (n + 2))) else Err (BadLine (n + 1))
+ending rest n (line ∷ next ∷ more) = if bytes_eq line (codes "end") then Err (BadLine (n + 2)) else Err (BadLine (n + 1))
+
+-- the lines after the second, and the text after the last newline (own)
+unfoldable pub body_in : Bool → List ℕ → List ℕ → List (List ℕ) → Result Record RecordFault
+body_in has_args rest srcdir lines = do
+  args ← args_in has_args 2 lines
+  vars ← entries_in (codes "var ") args.1.0 args.1.1
+  defs ← entries_in (codes "def ") vars.1.0 vars.1.1
+  files ← outputs_in (codes "file ") [] defs.1.0 defs.1.1
+  headers ← outputs_in (codes "header ") files.0 files.1.0 files.1.1
+  _ ← ending rest headers.1.0 headers.1.1
+  Ok (record { srcdir = srcdir; args = args.0; vars = vars.0; defs = defs.0; files = files.0; headers = headers.0 })
+
+-- the lines that a newline ends, and the text after the last newline (own)
+unfoldable pub lines_in : List ℕ → List (List ℕ) → Result Record RecordFault
+lines_in rest [] = Err BadMagic
+lines_in rest (first ∷ []) = version_in first >>= λ _. Err Truncated
+lines_in rest (first ∷ second ∷ more) = do
+  has_args ← version_in first
+  srcdir ← srcdir_in second
+  body_in has_args rest srcdir more
+
+-- the last of several texts (own)
+unfoldable pub last_of : List (List ℕ) → List ℕ
+last_of [] = []
+last_of (x ∷ []) = x
+last_of (x ∷ y ∷ more) = last_of (y ∷ more)
+
+-- the texts before the last (own)
+unfoldable pub front_of : List (List ℕ) → List (List ℕ)
+front_of [] = []
+front_of (x ∷ []) = []
+front_of (x ∷ y ∷ more) = x ∷ front_of (y ∷ more)
+
+-- the record of a text, or the text's first fault (own)
+unfoldable pub record_in : List ℕ → Result Record RecordFault
+record_in text = lines_in (last_of (parts 10 text)) (front_of (parts 10 text))
+
+-- the lines are the first of a record that has more (own)
+pub record IsTruncated (lines : List (List ℕ)) : Type 0 where
+  pub whole : Record
+  pub next : List ℕ
+  pub more : List (List ℕ)
+  pub holds : IsRecord whole
+  pub begins : record_lines whole ≡ lines ++ next ∷ more

@@ -1,0 +1,250 @@
+//! status_record: records that are read and written again, and the faults of other texts.
+
+use deftable::Defs;
+use status_record::{Args, Outputs, Record, RecordFault, read_record, write_record};
+use std::test::Fail;
+use testrows::{Call, Page, cut, try_rows};
+
+/// `read` and a text: what the record holds, or its fault. `v1` and lines: the same of a record of version 1 whose source
+/// directory is `.`, with these lines before `end`. What isn't written again with the same bytes is marked.
+const READ: &[u8] = b"
+read acrun-record 1^Jsrcdir .^Jvar A x\\ny^Jend^J => .;A[x^Jy];
+read acrun-record 1^Jsrcdir .^Jvar A x\\ny^J => 3
+read acrun-record 1^Jsrcdir .^Jvar A x\\ny^Jvar A x\\ny^Jend^J => 5 at 4
+read acrun-record 9^Jsrcdir .^Jvar A x\\ny^Jend^J => 4
+read  => 1
+
+read acrun-record 1^Jsrcdir ^Jend^J => ;
+read acrun-record 1^Jsrcdir a b\\\\c\\nd^Jend^J => a b\\c^Jd;
+read acrun-record 2^Jsrcdir .^Jend^J => .;args;
+read acrun-record 2^Jsrcdir .^Jarg --enable-x^Jarg ^Jarg --enable-x^Jvar A x^Jend^J => .;args[--enable-x][][--enable-x];A[x];
+v1 var A ^Jdef A x  y^Jfile a/b c\\\\d^Jfile a c^Jheader b a => .;A[];A[x  y];a/b[c\\d];a[c];b[a];
+v1 file ...a/-b \xff\0\r => .;...a/-b[\xff\0\r];
+
+// First lines.
+read acrun-record 1 => 1
+read ^J => 1
+read acrun-record 01^J => 1
+read acrun-record ^J => 1
+read acrun-record  1^J => 1
+read acrun-record 1 ^J => 1
+read acrun-record +1^J => 1
+read acrun-record 1x^J => 1
+read Acrun-record 1^J => 1
+read acrun-record 0^J => 4
+read acrun-record 3^J => 4
+read acrun-record 10^Jx => 4
+read acrun-record 99999999999999999999999^J => 4
+
+// Lines at fault.
+read acrun-record 1^Jend^J => 2 at 2
+read acrun-record 1^Jvar A x^Jend^J => 2 at 2
+read acrun-record 1^Jsrcdir^Jend^J => 2 at 2
+read acrun-record 1^Jsrcdir \\x^Jend^J => 2 at 2
+v1 arg --enable-x => 2 at 3
+v1 x => 2 at 3
+v1 ^J => 2 at 3
+v1 var A => 2 at 3
+v1 var  A x => 2 at 3
+v1 var 9 x => 2 at 3
+v1 var A-B x => 2 at 3
+v1 var A \\x => 2 at 3
+v1 var A \\ => 2 at 3
+v1 def A x^Jvar A x => 2 at 4
+v1 file a b^Jdef A x => 2 at 4
+v1 header a b^Jfile c d => 2 at 4
+v1 file a => 2 at 3
+v1 file a  => 2 at 3
+v1 file a b c => 2 at 3
+v1 file a b^Ic => 2 at 3
+v1 file a\\nb c => 2 at 3
+v1 file ../a b => 2 at 3
+v1 file a ./b => 2 at 3
+v1 file a /b => 2 at 3
+v1 file a/ b => 2 at 3
+v1 file a//b c => 2 at 3
+v1 file a$b c => 2 at 3
+v1 header a b:c => 2 at 3
+read acrun-record 2^Jsrcdir .^Jvar A x^Jarg y^Jend^J => 2 at 4
+
+// After `end`.
+read acrun-record 1^Jsrcdir .^Jend^J^J => 2 at 4
+read acrun-record 1^Jsrcdir .^Jend^Jx => 2 at 4
+read acrun-record 1^Jsrcdir .^Jend^Jend^J => 2 at 4
+
+// Names that are given before. The form of a line is checked before its name.
+v1 var A x^Jvar B x^Jvar A y => 5 at 5
+v1 def A x^Jdef A y => 5 at 4
+v1 file a b^Jfile a c => 5 at 4
+v1 file a b^Jheader a c => 5 at 4
+v1 header a b^Jheader a b => 5 at 4
+v1 var A x^Jvar A \\x => 2 at 4
+v1 var A x^Jvar A x^Jx => 5 at 4
+";
+
+/// `fronts` and a text: from which length on a front of the text is read, or has a fault.
+const FRONTS: &[u8] = b"
+fronts acrun-record 1^Jsrcdir .^Jvar A x\\ny^Jend^J => 0 1;15 3;39 read;
+fronts acrun-record 2^Jsrcdir .^Jarg x^Jdef A x^Jfile a b^Jheader c d^Jend^J => 0 1;15 3;62 read;
+";
+
+/// `value` alone: the bytes that aren't written as themselves in a value, or can't be at its end. `path` alone: the same of the
+/// name of a file.
+const BYTES: &[u8] = b"
+value => 10 92
+path => 9 10 32 36 47 58 92
+";
+
+fn put_defs(page: &mut Page, defs: &Defs) {
+    for i in 0..defs.len() {
+        let (name, value) = defs.at(i);
+        page.put(name);
+        page.put_text(value);
+        page.put(b";");
+    }
+}
+
+fn put_outputs(page: &mut Page, outputs: &Outputs) {
+    for output in outputs.as_slice() {
+        page.put(output.name.as_slice());
+        page.put_text(output.template.as_slice());
+        page.put(b";");
+    }
+}
+
+fn put_args(page: &mut Page, args: &Args) {
+    page.put(b"args");
+    for arg in args.as_slice() {
+        page.put_text(arg.as_slice());
+    }
+    page.put(b";");
+}
+
+fn put_record(page: &mut Page, status: &Record) {
+    page.put(status.srcdir.as_slice());
+    page.put(b";");
+    if let Some(args) = &status.args {
+        put_args(page, args);
+    }
+    put_defs(page, &status.vars);
+    put_defs(page, &status.defs);
+    put_outputs(page, &status.files);
+    put_outputs(page, &status.headers);
+}
+
+/// Returns the record, or puts its fault.
+fn read(page: &mut Page, text: &[u8]) -> Option<Record> {
+    match read_record(page.alloc(), text) {
+        Ok(status) => Some(status),
+        Err(RecordFault::OutOfMemory) => {
+            page.cut();
+            None
+        }
+        Err(fault) => {
+            page.put_shown(&fault);
+            None
+        }
+    }
+}
+
+/// Puts that the record isn't written with these bytes, if it isn't.
+fn put_written(page: &mut Page, status: &Record, text: &[u8]) {
+    let written = write_record(page.alloc(), status);
+    if let Some(written) = page.given(written) {
+        if written.as_slice() != text {
+            page.put(b" but written ");
+            page.put(written.as_slice());
+        }
+    }
+}
+
+fn put_read(page: &mut Page, text: &[u8]) {
+    if let Some(status) = read(page, text) {
+        put_record(page, &status);
+        put_written(page, &status, text);
+    }
+}
+
+/// Puts whether the text is read and written again, or its fault.
+fn put_outcome(page: &mut Page, text: &[u8]) {
+    if let Some(status) = read(page, text) {
+        page.put(b"read");
+        put_written(page, &status, text);
+    }
+}
+
+/// Puts what is read of a record with these lines.
+fn put_lines(page: &mut Page, lines: &[u8]) {
+    let mut text = Page::new(page.alloc());
+    text.put(b"acrun-record 1\nsrcdir .\n");
+    text.put(lines);
+    text.put(b"\nend\n");
+    put_read(page, text.text());
+}
+
+fn put_fronts(page: &mut Page, text: &[u8]) {
+    let mut last = Page::new(page.alloc());
+    for len in 0..=text.len() {
+        let mut outcome = Page::new(page.alloc());
+        put_outcome(&mut outcome, &text[..len]);
+        if outcome.text() != last.text() {
+            page.put_number(len);
+            page.put(b" ");
+            page.put(outcome.text());
+            page.put(b";");
+        }
+        last = outcome;
+    }
+}
+
+/// Puts the byte if the text that has it between these two isn't read and written again.
+fn put_byte(page: &mut Page, before: &[u8], byte: u8, after: &[u8]) {
+    let mut text = Page::new(page.alloc());
+    text.put(before);
+    text.put_byte(byte);
+    text.put(after);
+    let mut outcome = Page::new(page.alloc());
+    put_outcome(&mut outcome, text.text());
+    if outcome.text() != b"read".as_slice() {
+        if !page.text().is_empty() {
+            page.put(b" ");
+        }
+        page.put_shown(&byte);
+    }
+}
+
+fn put_bytes(page: &mut Page, before: &[u8], after: &[u8]) {
+    for byte in 0..=255 {
+        put_byte(page, before, byte, after);
+    }
+}
+
+struct Records;
+
+impl Call for Records {
+    fn put(&self, page: &mut Page, given: &[u8]) {
+        let (call, text) = cut(given, b" ");
+        match call {
+            [b'r', ..] => put_read(page, text),
+            [b'f', ..] => put_fronts(page, text),
+            [b'p', ..] => put_bytes(page, b"acrun-record 1\nsrcdir .\nfile a/b", b" b\nend\n"),
+            [b'v', b'a', ..] => put_bytes(page, b"acrun-record 1\nsrcdir .\nvar A ", b"\nend\n"),
+            _ => put_lines(page, text),
+        }
+    }
+}
+
+#[test]
+fn records_are_read(rt: HostRuntime) -> Result<(), Fail> {
+    try_rows(rt.alloc(), &Records, READ)
+}
+
+#[test]
+fn fronts_of_records(rt: HostRuntime) -> Result<(), Fail> {
+    try_rows(rt.alloc(), &Records, FRONTS)
+}
+
+#[test]
+fn records_of_each_byte(rt: HostRuntime) -> Result<(), Fail> {
+    try_rows(rt.alloc(), &Records, BYTES)
+}
