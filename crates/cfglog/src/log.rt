@@ -86,7 +86,8 @@ fn put_program(text: &mut Vec<u8>, program: &[u8]) -> Result<(), AllocError>
     ensures { OnOk result (text.new.items ≡ text.old.items ++ texts.failed_program program.now) }
 {
     text.extend_from_slice(b"failed program was:\n")?;
-    put_lines(text, program)
+    put_lines(text, program)?;
+    Ok(())
 }
 
 /// Appends the program of a child that failed, if it had one.
@@ -153,12 +154,7 @@ fn put_reply(
 }
 
 /// Appends the lines of a child.
-fn put_child(
-    alloc: Global,
-    text: &mut Vec<u8>,
-    job: &Job,
-    reply: &Reply,
-) -> Result<(), AllocError>
+fn put_child(alloc: Global, text: &mut Vec<u8>, job: &Job, reply: &Reply) -> Result<(), AllocError>
     ensures { OnOk result (text.new.items ≡ text.old.items ++ (texts.command_line job.now.words ++ texts.reply_text job.now.file reply.now)) }
 {
     put_command(alloc, text, job.words.as_slice())?;

@@ -14,6 +14,8 @@ mod cuts;
 #[cfg(test)]
 mod jobs;
 #[cfg(test)]
+mod logs;
+#[cfg(test)]
 mod quoting;
 #[cfg(test)]
 mod records;

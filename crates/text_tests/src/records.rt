@@ -1,7 +1,8 @@
 //! status_record: records that are read and written again, and the faults of other texts.
 
-use deftable::Defs;
+use deftable::{Bytes, Defs};
 use status_record::{Args, Outputs, Record, RecordFault, read_record, write_record};
+use std::alloc::Global;
 use std::test::Fail;
 use testrows::{Call, Page, cut, try_rows};
 
@@ -147,13 +148,23 @@ fn read(page: &mut Page, text: &[u8]) -> Option<Record> {
     }
 }
 
-/// Puts that the record isn't written with these bytes, if it isn't.
-fn put_written(page: &mut Page, status: &Record, text: &[u8]) {
-    let written = write_record(page.alloc(), status);
-    if let Some(written) = page.given(written) {
-        if written.as_slice() != text {
-            page.put(b" but written ");
-            page.put(written.as_slice());
+/// Returns the text that is read as a record, written again.
+fn rewritten(alloc: Global, text: &[u8]) -> Option<Bytes> {
+    let Ok(status) = read_record(alloc, text) else {
+        return None;
+    };
+    write_record(alloc, &status).ok()
+}
+
+/// Puts that the record of a text isn't written with the same bytes, if it isn't.
+fn put_written(page: &mut Page, text: &[u8]) {
+    match rewritten(page.alloc(), text) {
+        None => page.cut(),
+        Some(written) => {
+            if written.as_slice() != text {
+                page.put(b" but written ");
+                page.put(written.as_slice());
+            }
         }
     }
 }
@@ -161,15 +172,15 @@ fn put_written(page: &mut Page, status: &Record, text: &[u8]) {
 fn put_read(page: &mut Page, text: &[u8]) {
     if let Some(status) = read(page, text) {
         put_record(page, &status);
-        put_written(page, &status, text);
+        put_written(page, text);
     }
 }
 
 /// Puts whether the text is read and written again, or its fault.
 fn put_outcome(page: &mut Page, text: &[u8]) {
-    if let Some(status) = read(page, text) {
+    if read(page, text).is_some() {
         page.put(b"read");
-        put_written(page, &status, text);
+        put_written(page, text);
     }
 }
 
