@@ -101,7 +101,13 @@ const WAYS: &[u8] =
     b"1 oldest,2 oldest,2 youngest,2 1 0 1,3 oldest,3 youngest,3 1 2 0,3 2 0 1,16 youngest";
 
 /// Puts all that a run leaves at a window, with ends in an order.
-fn put_way(page: &mut Page, plan: &Plan, compiler: &[u8], replies: &[u8], way: &[u8]) {
+fn put_way<'a>(
+    page: &mut Page,
+    plan: &'a Plan<'a>,
+    compiler: &'a [u8],
+    replies: &[u8],
+    way: &[u8],
+) {
     let (window, order) = cut(way, b" ");
     let work = Work::Whole {
         plan,
@@ -112,7 +118,12 @@ fn put_way(page: &mut Page, plan: &Plan, compiler: &[u8], replies: &[u8], way: &
 }
 
 /// Puts what a run leaves with one child at a time, its calls, and each of [`WAYS`] that leaves something else.
-pub fn put_at_windows(page: &mut Page, plan: &Plan, compiler: &[u8], replies: &[u8]) {
+pub fn put_at_windows<'a>(
+    page: &mut Page,
+    plan: &'a Plan<'a>,
+    compiler: &'a [u8],
+    replies: &[u8],
+) {
     let work = Work::Run {
         plan,
         compiler,
