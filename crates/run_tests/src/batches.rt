@@ -118,12 +118,7 @@ fn put_way<'a>(
 }
 
 /// Puts what a run leaves with one child at a time, its calls, and each of [`WAYS`] that leaves something else.
-pub fn put_at_windows<'a>(
-    page: &mut Page,
-    plan: &'a Plan<'a>,
-    compiler: &'a [u8],
-    replies: &[u8],
-) {
+pub fn put_at_windows<'a>(page: &mut Page, plan: &'a Plan<'a>, compiler: &'a [u8], replies: &[u8]) {
     let work = Work::Run {
         plan,
         compiler,

@@ -1,5 +1,5 @@
-//! Tests of the crates that hold and cut texts: deftable, textcut, m4quote, cachefile, status_record,
-//! csource, conftest and template.
+//! Tests of the crates that hold, cut and make texts: deftable, textcut, m4quote, cachefile, status_record, csource, conftest,
+//! cfglog and template.
 //!
 //! They have what no clause says: an ordinary answer of each call, with ample memory; worked examples, each answer found by
 //! hand from the rules; and printed text. An example is a row of a table that `testrows` reads, and a row begins with a word
