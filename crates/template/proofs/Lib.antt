@@ -4,3 +4,4 @@ pub mod Places
 pub mod Sieves
 pub mod Steps
 pub mod Windows
+pub mod Headers

@@ -1,4 +1,5 @@
 pub mod Fill
+pub mod Header
 pub mod Hops
 pub mod Keys
 pub mod Marks

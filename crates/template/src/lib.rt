@@ -20,11 +20,13 @@
 #![tactic(auto)]
 
 pub mod filling;
+pub mod header;
 pub mod placing;
 mod sieve;
 mod signs;
 pub mod table;
 
 pub use filling::{fill, has_one_filled_text};
+pub use header::fill_header;
 pub use placing::{Place, configure_input, place_vars};
 pub use table::Table;
