@@ -63,3 +63,7 @@ place_of file srcdir = record {
 unfoldable pub configure_input_of : List ℕ → List ℕ → List ℕ
 configure_input_of file template =
     file ++ codes ".  Generated from " ++ base_name template ++ codes " by configure."
+
+-- the first line of a header, a comment that says what it was made from (Autoconf's manual, "Configuration Header Files")
+unfoldable pub header_note_of : List ℕ → List ℕ → List ℕ
+header_note_of file template = codes "/* " ++ (configure_input_of file template ++ codes "  */\n")

@@ -1,6 +1,6 @@
 //! Makes a header of its template, line by line.
 
-ghost use Rattle.std.specs.Prelude.{◌≡◌, ◌++◌, ◌≤◌, IfOk, OnOk, length, option_map, option_and_then, codes, flat_map, false};
+ghost use Rattle.std.specs.Prelude.{◌≡◌, ℕ, List, ◌++◌, ◌≤◌, IfOk, OnOk, length, option_map, option_and_then, codes, flat_map, false};
 ghost use Rattle.std.specs.List.{prefix_len};
 ghost use Rattle.bstr.specs.Text.{lines_of};
 ghost use Rattle.deftable.specs.ShellName.{continues_name};
@@ -47,7 +47,9 @@ fn word_len(text: &[u8]) -> usize
     ensures value { result ≡ prefix_len continues_name text.now }
     ensures within { result ≤ length text.now }
 {
-    text.iter().take_while(|byte| continues_name(**byte)).count()
+    text.iter()
+        .take_while(|byte| continues_name(**byte))
+        .count()
 }
 
 /// Returns the text after the front, or `None` if it doesn't begin with it.
@@ -237,11 +239,26 @@ fn put_line(made: &mut Vec<u8>, definitions: &Defs, line: &[u8]) -> Result<(), A
 /// `#undef` of another symbol becomes a comment. Each other line stays as it is. So does a line in which a carriage return comes
 /// right after the name. The result reserves as many bytes as the text has, and grows if it becomes longer.
 pub fn fill_header(alloc: Global, text: &[u8], definitions: &Defs) -> Result<Vec<u8>, AllocError>
+    // Each line of it is made of the template's line in its place.
+    ensures sound { IfOk result (λ made. header.AreMadeOf definitions.now (lines_of text.now) made.items) }
+    // The same as a function.
     ensures exact { IfOk result (λ made. made.items ≡ header.headed definitions.now text.now) }
 {
     let mut made = Vec::with_capacity(alloc, text.len())?;
     for line in text.lines_with_terminator() {
         put_line(&mut made, definitions, line)?;
     }
+    // for the proof only
+    has_one_header(text, definitions);
     Ok(made)
+}
+
+/// States that a header template makes exactly one header: the one that the function `headed` gives.
+pub fn has_one_header(text: &[u8], definitions: &Defs)
+    ensures some { header.AreMadeOf definitions.now (lines_of text.now) (header.headed definitions.now text.now) }
+    ensures unique { (made : List ℕ) → header.AreMadeOf definitions.now (lines_of text.now) made → made ≡ header.headed definitions.now text.now }
+{
+    // for the proof only
+    let _ = text;
+    let _ = definitions;
 }

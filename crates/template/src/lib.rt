@@ -1,7 +1,8 @@
-//! Fills templates: texts in which `@KEY@` is replaced by the value of an output variable.
+//! Fills templates: texts in which `@KEY@` is replaced by the value of an output variable, and headers in which lines with
+//! `#undef` and `#define` are replaced by definitions.
 //!
 //! [`fill`] writes the value of a key for each `@KEY@`, and copies everything else. A value isn't read again, so it may
-//! contain an `@` or the name of another key.
+//! contain an `@` or the name of another key. [`fill_header`] makes a header, line by line.
 //!
 //! ```text
 //! let mut table = Table::new(alloc);
@@ -14,9 +15,9 @@
 //!
 //! Read `specs/Fill.antt` first. It defines the filled text of a template twice: as a relation, by cases on the
 //! template's front, and as a function. Then read `table` and `filling`; its [`has_one_filled_text`] says that the two
-//! definitions agree. `signs` finds each `@` of a text, and `sieve` rules out most texts that aren't keys before they
-//! are looked up. `placing` has the variables that differ between output files: the names of directories, and the name
-//! of the template. `specs/Place.antt` defines them.
+//! definitions agree. `specs/Header.antt` and `header` do the same for headers. `signs` finds each `@` of a text, and
+//! `sieve` rules out most texts that aren't keys before they are looked up. `placing` has what differs between output
+//! files: the names of directories, and the name of the template. `specs/Place.antt` defines them.
 #![tactic(auto)]
 
 pub mod filling;
@@ -27,6 +28,6 @@ mod signs;
 pub mod table;
 
 pub use filling::{fill, has_one_filled_text};
-pub use header::fill_header;
-pub use placing::{Place, configure_input, place_vars};
+pub use header::{fill_header, has_one_header};
+pub use placing::{Place, configure_input, header_note, place_vars};
 pub use table::Table;

@@ -2,7 +2,7 @@
 
 ghost use Rattle.std.specs.Prelude.{◌≡◌, ◌++◌, ◌<◌, IfOk, codes};
 ghost use Rattle.template.specs.Place as words;
-ghost use Rattle.template.specs.Place.{place_of, configure_input_of};
+ghost use Rattle.template.specs.Place.{place_of, configure_input_of, header_note_of};
 
 use deftable::Bytes;
 use memchr::memrchr;
@@ -54,6 +54,19 @@ pub fn configure_input(alloc: Global, file: &[u8], template: &[u8]) -> Result<By
     text.extend_from_slice(b".  Generated from ")?;
     text.extend_from_slice(base_name(template))?;
     text.extend_from_slice(b" by configure.")?;
+    Ok(Bytes::from_vec(text))
+}
+
+/// Returns the first line of a header, with its newline: `/* FILE.  Generated from TEMPLATE by configure.  */`, with the template's
+/// name without its directories (Autoconf's manual, "Configuration Header Files").
+#[tactic(auto, unfolding(crate::specs::Place::header_note_of))]
+pub fn header_note(alloc: Global, file: &[u8], template: &[u8]) -> Result<Bytes, AllocError>
+    ensures { IfOk result (λ text. text ≡ header_note_of file.now template.now) }
+{
+    let input = configure_input(alloc, file, template)?;
+    let mut text = Vec::from_slice(alloc, b"/* ")?;
+    text.extend_from_slice(input.as_slice())?;
+    text.extend_from_slice(b"  */\n")?;
     Ok(Bytes::from_vec(text))
 }
 

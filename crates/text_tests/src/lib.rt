@@ -12,6 +12,8 @@ mod caches;
 #[cfg(test)]
 mod cuts;
 #[cfg(test)]
+mod headers;
+#[cfg(test)]
 mod jobs;
 #[cfg(test)]
 mod logs;
