@@ -90,8 +90,9 @@ fronts acrun-record 2^Jsrcdir .^Jarg x^Jdef A x^Jfile a b^Jheader c d^Jend^J => 
 ";
 
 /// `value` alone: the bytes that aren't written as themselves in a value, or can't be at its end. `path` alone: the same of the
-/// name of a file.
+/// name of a file. `many` alone: how a record with 1,024 variables is read.
 const BYTES: &[u8] = b"
+many => read
 value => 10 92
 path => 9 10 32 36 47 58 92
 ";
@@ -208,6 +209,19 @@ fn put_fronts(page: &mut Page, text: &[u8]) {
     }
 }
 
+/// Puts how a record with so many variables is read.
+fn put_many(page: &mut Page, count: usize) {
+    let mut text = Page::new(page.alloc());
+    text.put(b"acrun-record 1\nsrcdir .\n");
+    for i in 0..count {
+        text.put(b"var V");
+        text.put_number(i);
+        text.put(b" x\n");
+    }
+    text.put(b"end\n");
+    put_outcome(page, text.text());
+}
+
 /// Puts the byte if the text that has it between these two isn't read and written again.
 fn put_byte(page: &mut Page, before: &[u8], byte: u8, after: &[u8]) {
     let mut text = Page::new(page.alloc());
@@ -238,6 +252,7 @@ impl Call for Records {
         match call {
             [b'r', ..] => put_read(page, text),
             [b'f', ..] => put_fronts(page, text),
+            [b'm', ..] => put_many(page, 1024),
             [b'p', ..] => put_bytes(page, b"acrun-record 1\nsrcdir .\nfile a/b", b" b\nend\n"),
             [b'v', b'a', ..] => put_bytes(page, b"acrun-record 1\nsrcdir .\nvar A ", b"\nend\n"),
             _ => put_lines(page, text),
