@@ -3,7 +3,7 @@ use Rattle.std.proofs.Common.{◌≡◌, ℕ, ◌+◌, ◌<◌, ◌≤◌, List,
 use Rattle.std.proofs.lemmas.List.{drop_more}
 use Rattle.std.proofs.Math.ListN.{drop_of_length-le}
 use Rattle.acstatement.specs.declared.fault.ParseFault.{ParseFault}
-use Rattle.syntax.specs.declared.output.Output.{Output}
+use Rattle.outputlist.specs.declared.output.Output.{Output}
 use Rattle.acargs.specs.Path.{output_in}
 use Rattle.acargs.specs.Outputs.{one_more, wanted, with_fields}
 use Rattle.acstatement.specs.Reading.{◌>>=◌, Fails}

@@ -4,10 +4,11 @@ use Rattle.m4quote.specs.Entry.{Span}
 use Rattle.textcut.specs.Cuts.{fields}
 use Rattle.acstatement.specs.declared.fault.ParseFault.{ParseFault}
 use Rattle.acstatement.specs.declared.fault.ParseFault.TheVariants.{BadName, TooMany}
-use Rattle.syntax.specs.declared.output.Output.{Output}
+use Rattle.outputlist.specs.declared.output.Output.{Output}
 use Rattle.acargs.specs.Arguments.{text}
-use Rattle.syntax.specs.Output.{has_output}
-use Rattle.acargs.specs.Path.{is_path, output_in}
+use Rattle.outputlist.specs.Output.{has_output}
+use Rattle.outputlist.specs.Path.{is_path}
+use Rattle.acargs.specs.Path.{output_in}
 use Rattle.acstatement.specs.Reading.{◌>>=◌, wants}
 
 -- What an output must be to be one more of an argument, in the order of the faults: its name and its template are paths, and

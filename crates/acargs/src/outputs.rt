@@ -6,14 +6,14 @@ ghost use Rattle.acargs.specs.Outputs as specs;
 ghost use Rattle.acstatement.specs.Reading.{Gives};
 
 use crate::arguments::text;
-use crate::path::{is_path, output_in};
+use crate::path::output_in;
 use acstatement::fault::ParseFault;
 use m4quote::Arg;
+use outputlist::{Output, Outputs, is_path};
 use std::alloc::Global;
-use syntax::{Output, Outputs};
 use textcut::fields;
 
-/// The largest number of outputs of a source (own).
+/// The largest number of files of a source, and of headers (own).
 const MAX_OUTPUTS: usize = 1024;
 
 /// Checks that an output can follow `before`, the earlier ones of the source, and `outputs`, the earlier ones of the

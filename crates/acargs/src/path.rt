@@ -1,46 +1,11 @@
-//! Paths of outputs, and what a field of a list of outputs names.
+//! What a field of a list of outputs names.
 
 ghost use Rattle.std.specs.Prelude.{◌≡◌, ℕ, List, length, IfOk, IfSome, ◌++◌, ◌<◌, ◌==◌, position, codes};
-ghost use Rattle.std.specs.List.{list_all};
 ghost use Rattle.acargs.specs.Path as specs;
 
 use deftable::Bytes;
+use outputlist::Output;
 use std::alloc::{AllocError, Global};
-use syntax::Output;
-use textcut::parts;
-
-fn is_path_byte(byte: u8) -> bool
-    ensures { result ≡ specs.is_path_byte byte }
-{
-    byte != b'$' && byte != b':'
-}
-
-fn is_path_text(path: &[u8]) -> bool
-    ensures { result ≡ list_all specs.is_path_byte path.now }
-{
-    path.iter().all(|byte| is_path_byte(*byte))
-}
-
-fn is_step(part: &[u8]) -> bool
-    ensures { result ≡ specs.is_step part.now }
-{
-    !part.is_empty() && part != b".".as_slice() && part != b"..".as_slice()
-}
-
-fn are_steps(parts: &[&[u8]]) -> bool
-    ensures { result ≡ list_all (λ p. specs.is_step p.now) parts.now }
-{
-    parts.iter().all(|part| is_step(part))
-}
-
-#[tactic(auto, using(crate::proofs::Lists::mapped))]
-/// Returns whether a text is the path of a file below the current directory.
-pub(crate) fn is_path(alloc: Global, path: &[u8]) -> Result<bool, AllocError>
-    ensures { IfOk result (λ b. b ≡ specs.is_path path.now) }
-{
-    let steps = parts(alloc, path, b'/')?;
-    Ok(is_path_text(path) && are_steps(steps.as_slice()))
-}
 
 /// Returns the offset of the first colon.
 fn colon(field: &[u8]) -> Option<usize>

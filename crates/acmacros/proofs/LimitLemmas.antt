@@ -11,7 +11,7 @@ use Rattle.deftable.proofs.Names.{has_name-with_name, with_name-known, with_name
 use Rattle.textcut.specs.Cuts.{fields}
 use Rattle.m4quote.specs.Entry.{Span}
 use Rattle.acstatement.specs.declared.fault.ParseFault.TheVariants.{BadName}
-use Rattle.syntax.specs.declared.output.Output.{Output}
+use Rattle.outputlist.specs.declared.output.Output.{Output}
 use Rattle.syntax.specs.declared.feature.OptionKind.{OptionKind}
 use Rattle.syntax.specs.declared.feature.OptionKind.TheVariants.{Feature, Package}
 use Rattle.acargs.specs.Arguments.{is_given, line, name, text, title}
@@ -19,8 +19,11 @@ use Rattle.acstatement.specs.Texts.{arg_at}
 use Rattle.acargs.specs.Feature.{feature_variable}
 use Rattle.acargs.specs.Help.{help}
 use Rattle.acargs.specs.Numbers.{language, status, version}
-use Rattle.syntax.specs.Output.{has_output}
-use Rattle.acargs.specs.Path.{is_path, output_in}
+use Rattle.outputlist.specs.Output.{has_output}
+use Rattle.outputlist.specs.Path.{is_path}
+use Rattle.outputlist.specs.Output.{IsOutput, AreOutputs}
+use Rattle.outputlist.proofs.Adding.{AreOutputs-none, AreOutputs-more_files, AreOutputs-more_headers}
+use Rattle.acargs.specs.Path.{output_in}
 use Rattle.acargs.specs.Programs.{program, programs}
 use Rattle.acstatement.specs.Reading.{◌>>=◌, wants}
 use Rattle.acargs.specs.Shell.{word, here_text}
@@ -34,13 +37,14 @@ use Rattle.acmacros.specs.declared.macros.QuestionMacro.TheVariants as questions
 use Rattle.syntax.specs.declared.help.Help.{Help}
 use Rattle.syntax.specs.declared.program.Try.{Try}
 use Rattle.syntax.specs.declared.declarations.Declarations as declarations
+use Rattle.syntax.specs.declared.statement.MessageKind.{MessageKind}
 use Rattle.syntax.specs.declared.statement.Plain.{Plain}
 use Rattle.syntax.specs.declared.statement.Plain.TheVariants.{Subst, SubstValue, Define, DefineUnquoted}
 use Rattle.syntax.specs.declared.statement.Question.{Question}
 use Rattle.syntax.specs.declared.statement.Question.TheVariants.{Given}
 use Rattle.syntax.specs.Limits.{IsWithinLimits}
 use Rattle.acmacros.specs.Room.{has_room}
-use Rattle.acmacros.specs.Rows.{plain_of, init, tarname, prereq, lang, config_files, subst as subst_row, subst_of, defined, define, unquoted_of, unquoted, define_unquoted, msg_error, arg_var, question_of, given, options_of}
+use Rattle.acmacros.specs.Rows.{plain_of, init, tarname, prereq, lang, config_files, config_headers, subst as subst_row, subst_of, defined, define, unquoted_of, unquoted, define_unquoted, msg_error, message_of, arg_var, question_of, given, options_of}
 use Rattle.syntax.specs.Lists.{start, after, after_question, with_tool}
 use Rattle.acmacros.specs.Searches.{growth, output_variable, optional_text, compilers, check_prog, check_progs, path_prog, prog_cc}
 use Rattle.acmacros.specs.Tries.{tried_program, tries}
@@ -127,9 +131,14 @@ precious_count c h =
 
 -- ---- files
 
-one_more_fits : (at : ℕ) (own other outs o : List Output) (field : List ℕ) → one_more at own other outs field ≡ Ok o → length own + length o ≤ 1024
+-- A property of the outputs of an argument that each new one keeps, given the outputs of its kind and the other ones.
+abbrev KeptBy : List Output → List Output → (List Output → Type 0) → Type 0
+KeptBy own other P = (outs : List Output) (o : Output) → IsOutput o → has_output own o.name ≡ false → has_output other o.name ≡ false → has_output outs o.name ≡ false
+    → length own + length outs < 1024 → P outs → P (outs ++ o ∷ [])
+
+one_more_keeps : (P : List Output → Type 0) (at : ℕ) (own other outs o : List Output) (field : List ℕ) → KeptBy own other P → one_more at own other outs field ≡ Ok o → P outs → P o
 unfolding one_more wanted
-one_more_fits at own other outs o field e =
+one_more_keeps P at own other outs o field kept e h =
     let one = output_in field in
     let w = bind_ok (wanted at own other outs one) _ _ e in
     let a = bind_ok (wants (is_path one.name) (BadName at)) _ _ w.1 in
@@ -137,23 +146,34 @@ one_more_fits at own other outs o field e =
     let c = bind_ok (wants (not (has_output own one.name)) (BadName at)) _ _ b.2 in
     let d = bind_ok (wants (not (has_output other one.name)) (BadName at)) _ _ c.2 in
     let f = bind_ok (wants (not (has_output outs one.name)) (BadName at)) _ _ d.2 in
-    let room : length own + length outs < 1024 = ltb-true _ _ (wants_ok _ _ _ f.2) in
-    let longer : length own + length (outs ++ output_in field ∷ []) ≤ 1024 = rw length-append (omega (arith, room)) in
-    subst (λ (o : List Output). length own + length o ≤ 1024) (ok_is _ o w.2) longer
+    subst P (ok_is _ o w.2)
+    (kept outs one (wants_ok _ _ _ a.1, wants_ok _ _ _ b.1) (is_not _ (wants_ok _ _ _ c.1)) (is_not _ (wants_ok _ _ _ d.1)) (is_not _ (wants_ok _ _ _ f.1))
+    (ltb-true _ _ (wants_ok _ _ _ f.2)) h)
+  where
+    is_not : (b : Bool) → not b ≡ true → b ≡ false
+    is_not true e = absurd cc
+    is_not false e = refl
 
-fields_fit : (at : ℕ) (own other outs o : List Output) (list : List (List ℕ)) → length own + length outs ≤ 1024 → with_fields at own other outs list ≡ Ok o → length own + length o ≤ 1024
+fields_keep : (P : List Output → Type 0) (at : ℕ) (own other outs o : List Output) (list : List (List ℕ)) → KeptBy own other P → with_fields at own other outs list ≡ Ok o → P outs → P o
 unfolding with_fields
-fields_fit at own other outs o [] h e = subst (λ (o : List Output). length own + length o ≤ 1024) (ok_is _ o e) h
-fields_fit at own other outs o (field ∷ more) h e =
+fields_keep P at own other outs o [] kept e h = subst P (ok_is _ o e) h
+fields_keep P at own other outs o (field ∷ more) kept e h =
     let a = bind_ok _ _ _ e in
-    fields_fit at own other a.0 o more (one_more_fits at own other outs a.0 field a.1) a.2
+    fields_keep P at own other a.0 o more kept a.2 (one_more_keeps P at own other outs a.0 field kept a.1 h)
 
-outputs_fit : (own other o : List Output) (arg : Span) → length own ≤ 1024 → outputs own other arg ≡ Ok o → length own + length o ≤ 1024
+outputs_keep : (P : List Output → Type 0) (own other o : List Output) (arg : Span) → KeptBy own other P → outputs own other arg ≡ Ok o → P [] → P o
 unfolding outputs
-outputs_fit own other o arg h e =
+outputs_keep P own other o arg kept e h =
     let a = bind_ok (text arg) _ _ e in
     let b = bind_ok (wants (nat_lt 0 (length (fields a.0))) (BadName arg.at)) _ _ a.2 in
-    fields_fit arg.at own other [] o (fields a.0) (omega (arith, h)) b.2
+    fields_keep P arg.at own other [] o (fields a.0) kept b.2 h
+
+-- There are at most 1,024 outputs of a kind, with these.
+abbrev IsShort : List Output → List Output → Type 0
+IsShort own outs = length own + length outs ≤ 1024
+
+short_kept : (own other : List Output) → KeptBy own other (IsShort own)
+short_kept own other outs o is a b c room h = rw length-append (omega (arith, room))
 
 -- ---- statements
 
@@ -170,6 +190,7 @@ variable_fits c n room h = record {
   packages = h.packages;
   files = h.files;
   headers = h.headers;
+  outputs = h.outputs;
 }
 
 init_keeps : (c : declarations.Declarations) (args : List Span) (s : Plain) → init args ≡ Ok s → IsWithinLimits c → Keeps c s
@@ -181,7 +202,7 @@ init_keeps c args s e h =
     let f = bind_ok (tarname (arg_at args 3) a.0) _ _ d.2 in
     let g = bind_ok (title (arg_at args 4)) _ _ f.2 in
     subst (Keeps c) (ok_is _ s g.2)
-    (record { substituted = h.substituted; distinct = h.distinct; precious = h.precious; features = h.features; packages = h.packages; files = h.files; headers = h.headers })
+    (record { substituted = h.substituted; distinct = h.distinct; precious = h.precious; features = h.features; packages = h.packages; files = h.files; headers = h.headers; outputs = h.outputs })
 
 prereq_keeps : (c : declarations.Declarations) (args : List Span) (s : Plain) → prereq args ≡ Ok s → IsWithinLimits c → Keeps c s
 unfolding prereq after
@@ -195,9 +216,21 @@ files_keep : (c : declarations.Declarations) (args : List Span) (s : Plain) → 
 unfolding config_files after
 files_keep c args s e h =
     let a = bind_ok (outputs c.files c.headers (arg_at args 0)) _ _ e in
-    let fit : length c.files + length a.0 ≤ 1024 = outputs_fit c.files c.headers a.0 (arg_at args 0) h.files a.1 in
+    let fit : IsShort c.files a.0 = outputs_keep (IsShort c.files) c.files c.headers a.0 (arg_at args 0) (short_kept c.files c.headers) a.1 (omega (arith, h.files)) in
+    let are = outputs_keep (λ outs. AreOutputs (c.files ++ outs) c.headers) c.files c.headers a.0 (arg_at args 0)
+    (λ outs o is own other new room k. AreOutputs-more_files c.files outs c.headers o is own new other k) a.1 (AreOutputs-none c.files c.headers h.outputs).0 in
     subst (Keeps c) (ok_is _ s a.2)
-    (record { substituted = h.substituted; distinct = h.distinct; precious = h.precious; features = h.features; packages = h.packages; files = rw (length-append c.files a.0) fit; headers = h.headers })
+    (record { substituted = h.substituted; distinct = h.distinct; precious = h.precious; features = h.features; packages = h.packages; files = rw (length-append c.files a.0) fit; headers = h.headers; outputs = are })
+
+headers_keep : (c : declarations.Declarations) (args : List Span) (s : Plain) → config_headers c args ≡ Ok s → IsWithinLimits c → Keeps c s
+unfolding config_headers after
+headers_keep c args s e h =
+    let a = bind_ok (outputs c.headers c.files (arg_at args 0)) _ _ e in
+    let fit : IsShort c.headers a.0 = outputs_keep (IsShort c.headers) c.headers c.files a.0 (arg_at args 0) (short_kept c.headers c.files) a.1 (omega (arith, h.headers)) in
+    let are = outputs_keep (λ outs. AreOutputs c.files (c.headers ++ outs)) c.headers c.files a.0 (arg_at args 0)
+    (λ outs o is own other new room k. AreOutputs-more_headers c.files c.headers outs o is other own new k) a.1 (AreOutputs-none c.files c.headers h.outputs).1 in
+    subst (Keeps c) (ok_is _ s a.2)
+    (record { substituted = h.substituted; distinct = h.distinct; precious = h.precious; features = h.features; packages = h.packages; files = h.files; headers = rw (length-append c.headers a.0) fit; outputs = are })
 
 subst_of_keeps : (c : declarations.Declarations) (n : List ℕ) (arg : Span) (s : Plain) → has_room c.substituted n ≡ true → subst_of n arg ≡ Ok s → IsWithinLimits c → Keeps c s
 unfolding subst_of after
@@ -248,6 +281,10 @@ error_keeps c args s e h =
     let v = bind_ok (status (arg_at args 1)) _ _ n.2 in
     subst (Keeps c) (ok_is _ s v.2) h
 
+message_keeps : (c : declarations.Declarations) (kind : MessageKind) (args : List Span) (s : Plain) → message_of kind args ≡ Ok s → IsWithinLimits c → Keeps c s
+unfolding message_of after
+message_keeps c kind args s e h = let n = bind_ok (here_text (arg_at args 0)) _ _ e in subst (Keeps c) (ok_is _ s n.2) h
+
 arg_var_keeps : (c : declarations.Declarations) (args : List Span) (s : Plain) → arg_var c args ≡ Ok s → IsWithinLimits c → Keeps c s
 unfolding arg_var after
 arg_var_keeps c args s e h =
@@ -263,6 +300,7 @@ arg_var_keeps c args s e h =
       packages = h.packages;
       files = h.files;
       headers = h.headers;
+      outputs = h.outputs;
     })
 
 -- The output variable that a search names.
@@ -316,6 +354,7 @@ prog_cc_keeps c at args s e h =
       packages = h.packages;
       files = h.files;
       headers = h.headers;
+      outputs = h.outputs;
     }
 
 pub plain_keeps : (c : declarations.Declarations) (m : PlainMacro) (at : ℕ) (args : List Span) (s : Plain) → plain_of c m at args ≡ Ok s → IsWithinLimits c → Keeps c s
@@ -325,10 +364,12 @@ plain_keeps c macro.Prereq at args s e h = prereq_keeps c args s e h
 plain_keeps c macro.Ignored at args s e h = subst (Keeps c) (ok_is _ s e) h
 plain_keeps c macro.Lang at args s e h = lang_keeps c args s e h
 plain_keeps c macro.ConfigFiles at args s e h = files_keep c args s e h
+plain_keeps c macro.ConfigHeaders at args s e h = headers_keep c args s e h
 plain_keeps c macro.Subst at args s e h = subst_keeps c args s e h
 plain_keeps c macro.Define at args s e h = define_keeps c args s e h
 plain_keeps c macro.DefineUnquoted at args s e h = define_unquoted_keeps c args s e h
 plain_keeps c macro.MsgError at args s e h = error_keeps c args s e h
+plain_keeps c (macro.Message kind) at args s e h = message_keeps c kind args s e h
 plain_keeps c macro.ArgVar at args s e h = arg_var_keeps c args s e h
 plain_keeps c macro.ProgCc at args s e h = prog_cc_keeps c at args s e h
 plain_keeps c macro.CheckProg at args s e h = check_prog_keeps c args s e h
@@ -336,7 +377,7 @@ plain_keeps c macro.CheckProgs at args s e h = check_progs_keeps c args s e h
 plain_keeps c macro.PathProg at args s e h = path_prog_keeps c args s e h
 plain_keeps c macro.Output at args s e h =
     subst (Keeps c) (ok_is _ s e)
-    (record { substituted = h.substituted; distinct = h.distinct; precious = h.precious; features = h.features; packages = h.packages; files = h.files; headers = h.headers })
+    (record { substituted = h.substituted; distinct = h.distinct; precious = h.precious; features = h.features; packages = h.packages; files = h.files; headers = h.headers; outputs = h.outputs })
 
 -- ---- questions
 
@@ -352,8 +393,8 @@ given_keeps c kind args q e h =
     subst (KeepsAsked c) (ok_is _ q p.2) (by kind v.0 p.0 (wants_ok _ _ _ w.1))
   where
     by : (kind : OptionKind) (v : List ℕ) (p : Help) → has_room (options_of c kind) v ≡ true → KeepsAsked c (Given kind v p)
-    by Feature v p room = record { substituted = h.substituted; distinct = h.distinct; precious = h.precious; features = room_for c.features v room h.features; packages = h.packages; files = h.files; headers = h.headers }
-    by Package v p room = record { substituted = h.substituted; distinct = h.distinct; precious = h.precious; features = h.features; packages = room_for c.packages v room h.packages; files = h.files; headers = h.headers }
+    by Feature v p room = record { substituted = h.substituted; distinct = h.distinct; precious = h.precious; features = room_for c.features v room h.features; packages = h.packages; files = h.files; headers = h.headers; outputs = h.outputs }
+    by Package v p room = record { substituted = h.substituted; distinct = h.distinct; precious = h.precious; features = h.features; packages = room_for c.packages v room h.packages; files = h.files; headers = h.headers; outputs = h.outputs }
 
 tries_keep : (c : declarations.Declarations) (kind : Try) (args : List Span) (q : Question) → tries kind args ≡ Ok q → IsWithinLimits c → KeepsAsked c q
 unfolding tries after_question
@@ -374,4 +415,4 @@ question_keeps c (questions.Checks sought) args q e h = checks_keep c sought arg
 question_keeps c (questions.ChecksEach sought) args q e h = checks_each_keep c sought args q e h
 
 pub start_fits : IsWithinLimits start
-start_fits = record { substituted = omega arith; distinct = AreDistinct-[]; precious = λ n e. e; features = omega arith; packages = omega arith; files = omega arith; headers = omega arith }
+start_fits = record { substituted = omega arith; distinct = AreDistinct-[]; precious = λ n e. e; features = omega arith; packages = omega arith; files = omega arith; headers = omega arith; outputs = record { file_paths = tt; header_paths = tt; names = AreDistinct-[] } }

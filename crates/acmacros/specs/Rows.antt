@@ -21,8 +21,9 @@ use Rattle.acmacros.specs.declared.macros.PlainMacro.TheVariants as macro
 use Rattle.acmacros.specs.declared.macros.QuestionMacro.{QuestionMacro}
 use Rattle.acmacros.specs.declared.macros.QuestionMacro.TheVariants as questions
 use Rattle.syntax.specs.declared.declarations.Declarations as declarations
+use Rattle.syntax.specs.declared.statement.MessageKind.{MessageKind}
 use Rattle.syntax.specs.declared.statement.Plain.{Plain}
-use Rattle.syntax.specs.declared.statement.Plain.TheVariants.{Init, Accepted, ConfigFiles, Subst, SubstValue, Define, DefineUnquoted, Error, ArgVar, Output}
+use Rattle.syntax.specs.declared.statement.Plain.TheVariants.{Init, Accepted, ConfigFiles, ConfigHeaders, Subst, SubstValue, Define, DefineUnquoted, Error, Message, ArgVar, Output}
 use Rattle.syntax.specs.declared.statement.Question.{Question}
 use Rattle.syntax.specs.declared.statement.Question.TheVariants.{Given}
 use Rattle.acmacros.specs.Checks.{checks, checks_each}
@@ -64,6 +65,12 @@ unfoldable pub config_files : declarations.Declarations → List Span → Result
 config_files c args = do
   o ← outputs c.files c.headers (arg_at args 0)
   Ok (ConfigFiles o)
+
+-- AC_CONFIG_HEADERS(list), given the earlier headers of the source. (Autoconf's manual, "Configuration Headers")
+unfoldable pub config_headers : declarations.Declarations → List Span → Result Plain ParseFault
+config_headers c args = do
+  o ← outputs c.headers c.files (arg_at args 0)
+  Ok (ConfigHeaders o)
 
 -- An output variable, with a value if the argument is given. (Autoconf's manual, "Setting Output Variables")
 unfoldable pub subst_of : List ℕ → Span → Result Plain ParseFault
@@ -116,6 +123,13 @@ msg_error args = do
   exit ← status (arg_at args 1)
   Ok (Error message exit)
 
+-- AC_MSG_CHECKING(feature), AC_MSG_RESULT(results), AC_MSG_NOTICE(message) and AC_MSG_WARN(problem). (Autoconf's manual,
+-- "Printing Messages")
+unfoldable pub message_of : MessageKind → List Span → Result Plain ParseFault
+message_of kind args = do
+  message ← here_text (arg_at args 0)
+  Ok (Message kind message)
+
 -- AC_ARG_VAR(variable, help), given the earlier variables of the source. (Autoconf's manual, "Setting Output
 -- Variables")
 unfoldable pub arg_var : declarations.Declarations → List Span → Result Plain ParseFault
@@ -132,10 +146,12 @@ plain_of c macro.Prereq at args = prereq args
 plain_of c macro.Ignored at args = Ok Accepted
 plain_of c macro.Lang at args = lang args
 plain_of c macro.ConfigFiles at args = config_files c args
+plain_of c macro.ConfigHeaders at args = config_headers c args
 plain_of c macro.Subst at args = subst c args
 plain_of c macro.Define at args = define args
 plain_of c macro.DefineUnquoted at args = define_unquoted args
 plain_of c macro.MsgError at args = msg_error args
+plain_of c (macro.Message kind) at args = message_of kind args
 plain_of c macro.ArgVar at args = arg_var c args
 plain_of c macro.ProgCc at args = prog_cc c at args
 plain_of c macro.CheckProg at args = check_prog c args

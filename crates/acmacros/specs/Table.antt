@@ -10,12 +10,13 @@ use Rattle.acmacros.specs.declared.macros.ChoiceMacro.TheVariants.{If, Case}
 use Rattle.acmacros.specs.declared.macros.Macro.TheVariants.{Plain, Choice, Question, Check}
 use Rattle.acmacros.specs.declared.macros.Named.{Named}
 use Rattle.acmacros.specs.declared.macros.Named.TheVariants.{Statement, Argument}
-use Rattle.acmacros.specs.declared.macros.PlainMacro.TheVariants.{Init, Prereq, Ignored, Lang, ConfigFiles, Subst, Define, DefineUnquoted, MsgError, ArgVar, ProgCc, CheckProg, CheckProgs, PathProg, Output}
+use Rattle.acmacros.specs.declared.macros.PlainMacro.TheVariants.{Init, Prereq, Ignored, Lang, ConfigFiles, ConfigHeaders, Subst, Define, DefineUnquoted, MsgError, Message, ArgVar, ProgCc, CheckProg, CheckProgs, PathProg, Output}
 use Rattle.acmacros.specs.declared.macros.QuestionMacro.TheVariants.{Given, Tries, Checks, ChecksEach}
 use Rattle.acmacros.specs.declared.table.Row.{Row}
 use Rattle.syntax.specs.declared.feature.OptionKind.TheVariants.{Feature, Package}
 use Rattle.syntax.specs.declared.listed.Listed.TheVariants.{Header, Function, Declaration}
 use Rattle.syntax.specs.declared.listed.Sought.TheVariants.{Entry, «Type»}
+use Rattle.syntax.specs.declared.statement.MessageKind.TheVariants.{Checking, Results, Notice, Warning}
 use Rattle.syntax.specs.declared.program.Try.TheVariants.{Compile, Link, Preproc, Run}
 
 -- Any number of arguments: the size in bytes of the largest source, so more than any call has. (own)
@@ -34,6 +35,7 @@ rows =
     ∷ (codes "AC_CONFIG_MACRO_DIRS", Statement (Plain Ignored), 1, 1, true)
     ∷ (codes "AC_LANG", Statement (Plain Lang), 1, 1, false)
     ∷ (codes "AC_CONFIG_FILES", Statement (Plain ConfigFiles), 1, 1, true)
+    ∷ (codes "AC_CONFIG_HEADERS", Statement (Plain ConfigHeaders), 1, 1, true)
     ∷ (codes "AC_OUTPUT", Statement (Plain Output), 0, 1, true)
     ∷ (codes "AC_ARG_ENABLE", Statement (Question (Given Feature)), 1, 4, false)
     ∷ (codes "AC_ARG_WITH", Statement (Question (Given Package)), 1, 4, false)
@@ -42,6 +44,10 @@ rows =
     ∷ (codes "AC_DEFINE", Statement (Plain Define), 1, 3, false)
     ∷ (codes "AC_DEFINE_UNQUOTED", Statement (Plain DefineUnquoted), 1, 3, false)
     ∷ (codes "AC_MSG_ERROR", Statement (Plain MsgError), 1, 2, false)
+    ∷ (codes "AC_MSG_CHECKING", Statement (Plain (Message Checking)), 1, 1, false)
+    ∷ (codes "AC_MSG_RESULT", Statement (Plain (Message Results)), 1, 1, false)
+    ∷ (codes "AC_MSG_NOTICE", Statement (Plain (Message Notice)), 1, 1, false)
+    ∷ (codes "AC_MSG_WARN", Statement (Plain (Message Warning)), 1, 1, false)
     ∷ (codes "AS_IF", Statement (Choice If), 2, any, false)
     ∷ (codes "AS_CASE", Statement (Choice Case), 2, any, false)
     ∷ (codes "AC_CACHE_CHECK", Statement Check, 3, 3, false)

@@ -1,6 +1,6 @@
 //! What the name of a macro means.
 
-use syntax::{OptionKind, Sought, Try};
+use syntax::{MessageKind, OptionKind, Sought, Try};
 
 /// A macro with no statements in its arguments.
 #[derive(Clone, Copy)]
@@ -15,6 +15,8 @@ pub enum PlainMacro {
     Lang,
     /// AC_CONFIG_FILES.
     ConfigFiles,
+    /// AC_CONFIG_HEADERS.
+    ConfigHeaders,
     /// AC_SUBST.
     Subst,
     /// AC_DEFINE.
@@ -23,6 +25,8 @@ pub enum PlainMacro {
     DefineUnquoted,
     /// AC_MSG_ERROR.
     MsgError,
+    /// AC_MSG_CHECKING, AC_MSG_RESULT, AC_MSG_NOTICE and AC_MSG_WARN.
+    Message(MessageKind),
     /// AC_ARG_VAR.
     ArgVar,
     /// AC_PROG_CC.

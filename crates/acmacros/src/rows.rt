@@ -21,7 +21,7 @@ use acstatement::texts::arg_at;
 use deftable::{Bytes, Name, SubstList};
 use m4quote::Arg;
 use std::alloc::{AllocError, Global};
-use syntax::{Declarations, OptionKind, Plain, Question};
+use syntax::{Declarations, MessageKind, OptionKind, Plain, Question};
 
 fn tar_byte(byte: u8) -> u8
     ensures { result ≡ package_names.tar_byte byte }
@@ -112,6 +112,19 @@ fn config_files(alloc: Global, known: &Declarations, args: &[Arg<'_>]) -> Result
 {
     let outputs = outputs(alloc, &known.files, &known.headers, arg_at(args, 0))?;
     Ok(Plain::ConfigFiles { outputs })
+}
+
+/// AC_CONFIG_HEADERS(list)
+#[tactic(auto, unfolding(crate::specs::Rows::config_headers))]
+fn config_headers(
+    alloc: Global,
+    known: &Declarations,
+    args: &[Arg<'_>],
+) -> Result<Plain, ParseFault>
+    ensures { Gives (λ s. s) result (rows.config_headers known.now (map span args.now)) }
+{
+    let outputs = outputs(alloc, &known.headers, &known.files, arg_at(args, 0))?;
+    Ok(Plain::ConfigHeaders { outputs })
 }
 
 /// Reads the value of a variable that AC_SUBST names, if the argument is given.
@@ -210,6 +223,15 @@ fn msg_error(alloc: Global, args: &[Arg<'_>]) -> Result<Plain, ParseFault>
     Ok(Plain::Error { message, status })
 }
 
+/// AC_MSG_CHECKING(feature), AC_MSG_RESULT(results), AC_MSG_NOTICE(message) and AC_MSG_WARN(problem)
+#[tactic(auto, unfolding(crate::specs::Rows::message_of))]
+fn message_of(alloc: Global, kind: MessageKind, args: &[Arg<'_>]) -> Result<Plain, ParseFault>
+    ensures { Gives (λ s. s) result (rows.message_of kind (map span args.now)) }
+{
+    let message = here_text(alloc, arg_at(args, 0))?;
+    Ok(Plain::Message { kind, message })
+}
+
 /// AC_ARG_VAR(variable, help)
 #[tactic(auto, unfolding(crate::specs::Rows::arg_var))]
 fn arg_var(alloc: Global, known: &Declarations, args: &[Arg<'_>]) -> Result<Plain, ParseFault>
@@ -248,10 +270,12 @@ pub fn plain(
         PlainMacro::Ignored => Ok(Plain::Accepted),
         PlainMacro::Lang => lang(alloc, args),
         PlainMacro::ConfigFiles => config_files(alloc, known, args),
+        PlainMacro::ConfigHeaders => config_headers(alloc, known, args),
         PlainMacro::Subst => subst(alloc, known, args),
         PlainMacro::Define => define(alloc, args),
         PlainMacro::DefineUnquoted => define_unquoted(alloc, args),
         PlainMacro::MsgError => msg_error(alloc, args),
+        PlainMacro::Message(kind) => message_of(alloc, kind, args),
         PlainMacro::ArgVar => arg_var(alloc, known, args),
         PlainMacro::ProgCc => prog_cc(alloc, known, at, args),
         PlainMacro::CheckProg => check_prog(alloc, known, args),

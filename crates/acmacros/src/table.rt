@@ -11,7 +11,7 @@ use acargs::arguments::is_given;
 use acstatement::texts::arg_at;
 use m4quote::Arg;
 use std::alloc::{AllocError, Global};
-use syntax::{Listed, OptionKind, Sought, Try};
+use syntax::{Listed, MessageKind, OptionKind, Sought, Try};
 
 /// A row of the table, without the name.
 #[derive(Clone, Copy)]
@@ -32,7 +32,7 @@ const ANY: usize = 1_048_576;
 /// The table: a name, what it means, the least and the most arguments, and whether its calls are allowed only at top
 /// level.
 #[rattlefmt::skip]
-const TABLE: [(&[u8], Named, usize, usize, bool); 38] = [
+const TABLE: [(&[u8], Named, usize, usize, bool); 43] = [
     (b"AC_INIT", Statement(Plain(PlainMacro::Init)), 2, 5, true),
     (b"AC_PREREQ", Statement(Plain(PlainMacro::Prereq)), 1, 1, true),
     (b"AC_CONFIG_SRCDIR", Statement(Plain(PlainMacro::Ignored)), 1, 1, true),
@@ -41,6 +41,7 @@ const TABLE: [(&[u8], Named, usize, usize, bool); 38] = [
     (b"AC_CONFIG_MACRO_DIRS", Statement(Plain(PlainMacro::Ignored)), 1, 1, true),
     (b"AC_LANG", Statement(Plain(PlainMacro::Lang)), 1, 1, false),
     (b"AC_CONFIG_FILES", Statement(Plain(PlainMacro::ConfigFiles)), 1, 1, true),
+    (b"AC_CONFIG_HEADERS", Statement(Plain(PlainMacro::ConfigHeaders)), 1, 1, true),
     (b"AC_OUTPUT", Statement(Plain(PlainMacro::Output)), 0, 1, true),
     (b"AC_ARG_ENABLE", Statement(Question(QuestionMacro::Given(OptionKind::Feature))), 1, 4, false),
     (b"AC_ARG_WITH", Statement(Question(QuestionMacro::Given(OptionKind::Package))), 1, 4, false),
@@ -49,6 +50,10 @@ const TABLE: [(&[u8], Named, usize, usize, bool); 38] = [
     (b"AC_DEFINE", Statement(Plain(PlainMacro::Define)), 1, 3, false),
     (b"AC_DEFINE_UNQUOTED", Statement(Plain(PlainMacro::DefineUnquoted)), 1, 3, false),
     (b"AC_MSG_ERROR", Statement(Plain(PlainMacro::MsgError)), 1, 2, false),
+    (b"AC_MSG_CHECKING", Statement(Plain(PlainMacro::Message(MessageKind::Checking))), 1, 1, false),
+    (b"AC_MSG_RESULT", Statement(Plain(PlainMacro::Message(MessageKind::Results))), 1, 1, false),
+    (b"AC_MSG_NOTICE", Statement(Plain(PlainMacro::Message(MessageKind::Notice))), 1, 1, false),
+    (b"AC_MSG_WARN", Statement(Plain(PlainMacro::Message(MessageKind::Warning))), 1, 1, false),
     (b"AS_IF", Statement(Choice(ChoiceMacro::If)), 2, ANY, false),
     (b"AS_CASE", Statement(Choice(ChoiceMacro::Case)), 2, ANY, false),
     (b"AC_CACHE_CHECK", Statement(Check), 3, 3, false),

@@ -15,6 +15,7 @@ use Rattle.syntax.specs.declared.declarations.Declarations as declarations
 use Rattle.syntax.specs.declared.declarations.Stage.{Stage}
 use Rattle.syntax.specs.Limits.{IsWithinLimits, HasShortLists}
 use Rattle.syntax.specs.Lists.{start, after_question}
+use Rattle.outputlist.specs.Output.{AreOutputs}
 use Rattle.acmacros.specs.Scene.{Scene, Top, of_case}
 use Rattle.acmacros.proofs.CheckLemmas.{completed_known}
 use Rattle.acmacros.proofs.LimitLemmas.{plain_keeps, question_keeps, precious_count, start_fits}
@@ -103,3 +104,8 @@ lists_fit text (Ok s) is =
       headers = h.headers;
     }
 lists_fit text (Err f) is = tt
+
+-- Its files and headers.
+pub outputs_fit : (text : List ℕ) (r : Result (List Stmt) ParseFault) → Gives script_of r (source_of text) → IfOk r (λ s. AreOutputs (lists_of (script_of s)).files (lists_of (script_of s)).headers)
+outputs_fit text (Ok s) is = (source_fits text (script_of s) (source_found text (script_of s) is)).outputs
+outputs_fit text (Err f) is = tt

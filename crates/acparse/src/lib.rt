@@ -19,7 +19,6 @@ pub mod read;
 pub mod source;
 
 pub use acargs::ParseFault;
+pub use outputlist::{Output, Outputs};
 pub use source::parse;
-pub use syntax::{
-    Case, Help, HelpList, Output, Outputs, Plain, Question, Source, Stmt, Subject, When,
-};
+pub use syntax::{Case, Help, HelpList, Plain, Question, Source, Stmt, Subject, When};

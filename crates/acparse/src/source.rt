@@ -9,6 +9,7 @@ ghost use Rattle.syntax.specs.Script.{Script, script_of};
 ghost use Rattle.acparse.specs.Source.{IsSource, IsSourceFault};
 ghost use Rattle.syntax.specs.Commands.{HasCommands};
 ghost use Rattle.syntax.specs.Limits.{HasShortLists};
+ghost use Rattle.outputlist.specs.Output.{AreOutputs};
 
 use crate::read::read_statements;
 use acargs::ParseFault;
@@ -64,6 +65,8 @@ pub fn parse(alloc: Global, text: &[u8]) -> Result<Source, ParseFault>
     ensures sound { IfOk result (λ s. IsSource text.now (script_of s)) }
     // Its lists are within their limits.
     ensures limits { IfOk result (λ s. HasShortLists (lists_of (script_of s))) }
+    // The names and templates of its files and headers are paths, and no name occurs twice.
+    ensures outputs { IfOk result (λ s. AreOutputs (lists_of (script_of s)).files (lists_of (script_of s)).headers) }
     // Each AC_CACHE_CHECK has a cache name, and commands that set it and do nothing else.
     ensures commands { IfOk result (λ s. HasCommands (script_of s)) }
     // If a source has statements, they are returned, unless memory runs out.

@@ -4,10 +4,10 @@ use crate::pages::{put_bracketed, put_text};
 use crate::shell_words::{put_here, put_word};
 use acparse::{Help, Outputs};
 use shellword::HereText;
-use syntax::{Entries, Listed, Plain, ProgramNames};
+use syntax::{Entries, Listed, MessageKind, Plain, ProgramNames};
 use testrows::Page;
 
-/// Puts each file with its template.
+/// Puts each file or header with its template.
 pub fn put_files(page: &mut Page, files: &Outputs) {
     for file in files.as_slice() {
         page.put(b" ");
@@ -148,6 +148,16 @@ fn put_setting(page: &mut Page, statement: &Plain) {
     }
 }
 
+/// Returns the word for a kind of message.
+fn word_of(kind: MessageKind) -> &'static [u8] {
+    match kind {
+        MessageKind::Checking => b"checking",
+        MessageKind::Results => b"results",
+        MessageKind::Notice => b"notice",
+        MessageKind::Warning => b"warning",
+    }
+}
+
 /// Puts a statement on one line, without its newline.
 pub fn put_plain(page: &mut Page, statement: &Plain) {
     match statement {
@@ -170,6 +180,14 @@ pub fn put_plain(page: &mut Page, statement: &Plain) {
         Plain::ConfigFiles { outputs } => {
             page.put(b"files");
             put_files(page, outputs);
+        }
+        Plain::ConfigHeaders { outputs } => {
+            page.put(b"config headers");
+            put_files(page, outputs);
+        }
+        Plain::Message { kind, message } => {
+            page.put(word_of(*kind));
+            put_here(page, message);
         }
         Plain::Error { message, status } => {
             page.put(b"error ");

@@ -180,6 +180,11 @@ pub fn put_lists(page: &mut Page, source: &Source) {
         put_files(page, source.files());
         page.put(b"\n");
     }
+    if !source.headers().is_empty() {
+        page.put(b"headers:");
+        put_files(page, source.headers());
+        page.put(b"\n");
+    }
 }
 
 fn case_count(statements: &[Stmt]) -> usize {
@@ -209,4 +214,5 @@ pub fn put_counts(page: &mut Page, statements: &[Stmt], source: &Source) {
     put_count_of(page, b"packages ", source.packages().names().len());
     put_count_of(page, b"help ", source.help().as_slice().len());
     put_count_of(page, b"files ", source.files().len());
+    put_count_of(page, b"headers ", source.headers().len());
 }

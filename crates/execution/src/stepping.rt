@@ -4,7 +4,7 @@ ghost use Rattle.std.specs.Prelude.{◌≡◌, ◌≤◌, ◌++◌, ◌∷◌, �
 ghost use Rattle.deftable.specs.ShellName.{IsShellName};
 ghost use Rattle.deftable.specs.Table as tables;
 ghost use Rattle.deftable.specs.declared.note.Stream.TheVariants as streams;
-ghost use Rattle.meaning.specs.Meaning.{asked, begun, check_prog, defaulted, error_line, first_found, has_value, is_full_name, is_taken, looks, path_prog, program_test, value_name, with_prefixes};
+ghost use Rattle.meaning.specs.Meaning.{asked, begun, check_prog, defaulted, error_line, first_found, has_value, is_full_name, is_taken, looks, path_prog, program_test, said, value_name, with_prefixes};
 ghost use Rattle.meaning.specs.Meaning as meanings;
 ghost use Rattle.meaning.specs.Rows.{value_or_empty};
 ghost use Rattle.meaning.specs.State.{Scope, State, answered, then_run, told, with_definition, with_variable};
@@ -25,14 +25,16 @@ use conftest::Job;
 use deftable::Bytes;
 use plan::Step;
 use probing::check_entry;
-use runstate::pieces::report_error;
+use runstate::pieces::{report_error, say};
 use runstate::{About, OpenTests, Store, initialise};
 use searching::programs::stop_without_compiler;
 use searching::search::look_for;
 use searching::{Flow, Search};
 use shellword::{HereText, Word};
 use std::alloc::{AllocError, Global};
-use syntax::{Entries, OptionKind, Plain, Program, Question, Sought, Subject, Try, When};
+use syntax::{
+    Entries, MessageKind, OptionKind, Plain, Program, Question, Sought, Subject, Try, When,
+};
 
 /// Returns the value of a here text, if there is one.
 fn value_of(
@@ -238,6 +240,19 @@ fn stop(
     Ok(Flow::Stop { status })
 }
 
+/// Prints a message.
+fn print(
+    alloc: Global,
+    store: &mut Store,
+    kind: MessageKind,
+    message: &HereText,
+) -> Result<(), AllocError>
+    ensures { OnOk result (store.new ≡ said kind (word_value message.now store.old.vars) store.old) }
+{
+    let text = store.here_text(alloc, message)?;
+    say(alloc, store, kind, text.as_slice())
+}
+
 /// Continues with the next step, if `done` is no error.
 fn pass(done: Result<(), AllocError>) -> Result<Flow, AllocError>
     ensures passes { IfOk result (λ flow. flow ≡ Pass 0) }
@@ -274,6 +289,7 @@ fn execute(alloc: Global, store: &mut Store, statement: &Plain) -> Result<Flow, 
         )),
         Plain::Accepted
         | Plain::ConfigFiles { .. }
+        | Plain::ConfigHeaders { .. }
         | Plain::Subst { .. }
         | Plain::ArgVar { .. }
         | Plain::CheckProgs { .. }
@@ -286,6 +302,7 @@ fn execute(alloc: Global, store: &mut Store, statement: &Plain) -> Result<Flow, 
             pass(define_value(alloc, store, name.as_slice(), value))
         }
         Plain::Error { message, status } => stop(alloc, store, message, *status),
+        Plain::Message { kind, message } => pass(print(alloc, store, *kind, message)),
         Plain::CheckProg {
             variable,
             program,

@@ -12,7 +12,9 @@ use Rattle.syntax.specs.declared.listed.Sought.{Sought}
 use Rattle.syntax.specs.declared.program.Try as kinds
 use Rattle.syntax.specs.declared.program.Try.TheVariants as kinds_are
 use Rattle.syntax.specs.declared.statement.Plain as plain
-use Rattle.syntax.specs.declared.statement.Plain.TheVariants.{Init, Accepted, ConfigFiles, Assign, Subst, SubstValue, Define, DefineUnquoted, Error, ArgVar, CheckProg, CheckProgs, PathProg, ProgCc, Output}
+use Rattle.syntax.specs.declared.statement.MessageKind.{MessageKind}
+use Rattle.syntax.specs.declared.statement.MessageKind.TheVariants as messages
+use Rattle.syntax.specs.declared.statement.Plain.TheVariants.{Init, Accepted, ConfigFiles, ConfigHeaders, Assign, Subst, SubstValue, Define, DefineUnquoted, Error, Message, ArgVar, CheckProg, CheckProgs, PathProg, ProgCc, Output}
 use Rattle.syntax.specs.declared.statement.Plain.TheVariants as plain_is
 use Rattle.syntax.specs.declared.statement.Question.TheVariants.{Given, Tries, Checks, ChecksEach}
 use Rattle.syntax.specs.declared.tree.Subject.{Subject}
@@ -25,7 +27,7 @@ use Rattle.meaning.specs.Rows.{Kind, Program, kind_for, is_yes, name_of, value_o
 use Rattle.meaning.specs.Package.{package_string, initialised}
 use Rattle.meaning.specs.Play.{play, first_number, refused_after, with_cut_line, last_words}
 use Rattle.meaning.specs.Tries.{first_probe, after_first, text_of}
-use Rattle.meaning.specs.Meaning.{settled, is_unsettled, has_value, check_prog, looks, looks_all, defaulted, effect, value_name, given, found_by, first_found, begun, rounds_of, in_turn, is_taken, check, meaning, chosen}
+use Rattle.meaning.specs.Meaning.{settled, is_unsettled, has_value, check_prog, looks, looks_all, defaulted, said, effect, value_name, given, found_by, first_found, begun, rounds_of, in_turn, is_taken, check, meaning, chosen}
 use Rattle.laws.specs.Ends.{AtEnds}
 use Rattle.laws.specs.Questions.{yes_or_no}
 use Rattle.laws.specs.Deeds.{Deed, Assigned, kind_deeds, look_deeds, looks_deeds, default_deeds, prefix_deeds, effect_deeds, given_deeds, first_deeds, deeds_answered, subject_deeds, turn_deeds, deeds, case_deeds, Accounts, DeedsAccount}
@@ -66,6 +68,13 @@ prefix_by false name value st = nothing st.vars
 prefix_accounts : (name value : List ℕ) (st : State) → Accounts st.vars (prefix_deeds name st) (settled name value st).vars
 prefix_accounts name value st = prefix_by (is_unsettled (value_of st.vars name)) name value st
 
+said_accounts : (kind : MessageKind) (message : List ℕ) (st : State) → Accounts st.vars [] (said kind message st).vars
+unfolding said
+said_accounts messages.Checking message st = nothing st.vars
+said_accounts messages.Results message st = nothing st.vars
+said_accounts messages.Notice message st = nothing st.vars
+said_accounts messages.Warning message st = nothing st.vars
+
 effect_accounts : (s : plain.Plain) (st : State) (rs : List Reply) → Accounts st.vars (effect_deeds s st rs) (play (effect s st) rs).state.vars
 unfolding effect effect_deeds initialised
 effect_accounts (Init title version bug tarname url) st rs =
@@ -73,12 +82,14 @@ effect_accounts (Init title version bug tarname url) st rs =
     (writes_more st.vars _ _ (codes "PACKAGE_VERSION") version (writes_more st.vars _ _ (codes "PACKAGE_TARNAME") tarname (writes st.vars (codes "PACKAGE_NAME") title)))))
 effect_accounts Accepted st rs = nothing st.vars
 effect_accounts (ConfigFiles outputs) st rs = nothing st.vars
+effect_accounts (ConfigHeaders outputs) st rs = nothing st.vars
 effect_accounts (Assign name value) st rs = writes st.vars name (word_value value st.vars)
 effect_accounts (Subst name) st rs = nothing st.vars
 effect_accounts (SubstValue name value) st rs = writes st.vars name (word_value value st.vars)
 effect_accounts (Define name value) st rs = nothing st.vars
 effect_accounts (DefineUnquoted name value) st rs = nothing st.vars
 effect_accounts (Error message status) st rs = nothing st.vars
+effect_accounts (Message kind message) st rs = said_accounts kind (word_value message st.vars) st
 effect_accounts (ArgVar name help) st rs = nothing st.vars
 effect_accounts (CheckProg variable program found otherwise) st rs = kind_accounts (Program _ _) st rs
 effect_accounts (CheckProgs variable programs otherwise) st rs =

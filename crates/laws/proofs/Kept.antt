@@ -13,7 +13,9 @@ use Rattle.syntax.specs.declared.feature.OptionKind.{OptionKind}
 use Rattle.syntax.specs.declared.program.Try as kinds
 use Rattle.syntax.specs.declared.program.Try.TheVariants as kinds_are
 use Rattle.syntax.specs.declared.statement.Plain as plain
-use Rattle.syntax.specs.declared.statement.Plain.TheVariants.{Init, Accepted, ConfigFiles, Assign, Subst, SubstValue, Define, DefineUnquoted, Error, ArgVar, CheckProg, CheckProgs, PathProg, ProgCc, Output}
+use Rattle.syntax.specs.declared.statement.MessageKind.{MessageKind}
+use Rattle.syntax.specs.declared.statement.MessageKind.TheVariants as messages
+use Rattle.syntax.specs.declared.statement.Plain.TheVariants.{Init, Accepted, ConfigFiles, ConfigHeaders, Assign, Subst, SubstValue, Define, DefineUnquoted, Error, Message, ArgVar, CheckProg, CheckProgs, PathProg, ProgCc, Output}
 use Rattle.syntax.specs.declared.statement.Plain.TheVariants as plain_is
 use Rattle.syntax.specs.declared.statement.Question as asks
 use Rattle.syntax.specs.declared.statement.Question.TheVariants.{Given, Tries, Checks, ChecksEach}
@@ -28,7 +30,7 @@ use Rattle.meaning.specs.Tests.{Test, broken, guarded, checking, cached_test, wi
 use Rattle.meaning.specs.Rows.{Kind, Program, Single, Sized, kind_for, entry_name, symbol_part, is_yes, defined_if, name_of, attempts_of, otherwise_of, after_of, row_of}
 use Rattle.meaning.specs.Package.{with_package, package_string, literal, initialised}
 use Rattle.meaning.specs.Tries.{first_probe, after_first, text_of}
-use Rattle.meaning.specs.Meaning.{settled, is_unsettled, has_value, check_prog, looks, looks_all, defaulted, error_line, effect, value_name, given, found_by, first_found, asked, begun, rounds_of, in_turn, is_taken, check, meaning, chosen}
+use Rattle.meaning.specs.Meaning.{settled, is_unsettled, has_value, check_prog, looks, looks_all, defaulted, error_line, said, effect, value_name, given, found_by, first_found, asked, begun, rounds_of, in_turn, is_taken, check, meaning, chosen}
 use Rattle.meaning.specs.Batches.{Batch, asking, jobs_in, yes_or_no, replied, replies_after, committed, batched}
 use Rattle.laws.specs.Ends.{AtEnds, Breaks}
 use Rattle.laws.specs.Cached.{IsSet, IsUnset, StandsOnce, UnsetIfBroken, NamesStandOnce, BrokenRowIsUnset, BrokenCheckIsUnset, SetStaysSet}
@@ -154,17 +156,26 @@ initialised_keeps I c title version bug tarname url st h =
     package_keeps I c (codes "PACKAGE_URL") url _ (package_keeps I c (codes "PACKAGE_BUGREPORT") bug _ (package_keeps I c (codes "PACKAGE_STRING") (package_string title version) _
     (package_keeps I c (codes "PACKAGE_VERSION") version _ (package_keeps I c (codes "PACKAGE_TARNAME") tarname _ (package_keeps I c (codes "PACKAGE_NAME") title st h)))))
 
+said_keeps : (I : State → Type 0) → Closed I → (kind : MessageKind) (message : List ℕ) (st : State) → I st → I (said kind message st)
+unfolding said
+said_keeps I c messages.Checking message st h = c.tells Out _ st h
+said_keeps I c messages.Results message st h = c.tells Out _ st h
+said_keeps I c messages.Notice message st h = c.tells Out _ st h
+said_keeps I c messages.Warning message st h = c.tells Err _ st h
+
 pub effect_keeps : (I : State → Type 0) → Closed I → (s : plain.Plain) (st : State) → I st → Keeps I (effect s st)
 unfolding effect
 effect_keeps I c (Init title version bug tarname url) st h = initialised_keeps I c title version bug tarname url st h
 effect_keeps I c Accepted st h = h
 effect_keeps I c (ConfigFiles outputs) st h = h
+effect_keeps I c (ConfigHeaders outputs) st h = h
 effect_keeps I c (Assign name value) st h = c.variables name (word_value value st.vars) st h
 effect_keeps I c (Subst name) st h = h
 effect_keeps I c (SubstValue name value) st h = c.variables name (word_value value st.vars) st h
 effect_keeps I c (Define name value) st h = c.definitions name value st h
 effect_keeps I c (DefineUnquoted name value) st h = c.definitions name (word_value value st.vars) st h
 effect_keeps I c (Error message status) st h = c.tells Err (error_line (word_value message st.vars)) st h
+effect_keeps I c (Message kind message) st h = said_keeps I c kind (word_value message st.vars) st h
 effect_keeps I c (ArgVar name help) st h = h
 effect_keeps I c (CheckProg variable program found otherwise) st h = kind_keeps I c (Program _ _) st h
 effect_keeps I c (CheckProgs variable programs otherwise) st h =

@@ -15,7 +15,9 @@ use Rattle.syntax.specs.declared.feature.OptionKind.{OptionKind}
 use Rattle.syntax.specs.declared.program.Try as kinds
 use Rattle.syntax.specs.declared.program.Try.TheVariants as kinds_are
 use Rattle.syntax.specs.declared.statement.Plain as plain
-use Rattle.syntax.specs.declared.statement.Plain.TheVariants.{Init, Accepted, ConfigFiles, Assign, Subst, SubstValue, Define, DefineUnquoted, Error, ArgVar, CheckProg, CheckProgs, PathProg, ProgCc, Output}
+use Rattle.syntax.specs.declared.statement.MessageKind.{MessageKind}
+use Rattle.syntax.specs.declared.statement.MessageKind.TheVariants as messages
+use Rattle.syntax.specs.declared.statement.Plain.TheVariants.{Init, Accepted, ConfigFiles, ConfigHeaders, Assign, Subst, SubstValue, Define, DefineUnquoted, Error, Message, ArgVar, CheckProg, CheckProgs, PathProg, ProgCc, Output}
 use Rattle.syntax.specs.declared.statement.Plain.TheVariants as plain_is
 use Rattle.syntax.specs.declared.statement.Question as asks
 use Rattle.syntax.specs.declared.statement.Question.TheVariants.{Given, Tries, Checks, ChecksEach}
@@ -30,7 +32,7 @@ use Rattle.meaning.specs.Rows.{Kind, Program, Single, Sized, kind_for, symbol_pa
 use Rattle.meaning.specs.Package.{initialised}
 use Rattle.meaning.specs.Play.{first_number, refused_after, with_cut_line, cut_line, last_words}
 use Rattle.meaning.specs.Tries.{first_probe, after_first, text_of}
-use Rattle.meaning.specs.Meaning.{settled, is_unsettled, has_value, check_prog, looks, looks_all, defaulted, error_line, effect, value_name, given, found_by, first_found, asked, begun, rounds_of, in_turn, is_taken, check, meaning, chosen}
+use Rattle.meaning.specs.Meaning.{settled, is_unsettled, has_value, check_prog, looks, looks_all, defaulted, error_line, said as print, effect, value_name, given, found_by, first_found, asked, begun, rounds_of, in_turn, is_taken, check, meaning, chosen}
 use Rattle.meaning.specs.Batches.{Batch, asking, jobs_in, asks_all, committed, batched}
 use Rattle.laws.specs.Logged.{children_of, paired, Logs, ChildrenAreLogged}
 use Rattle.laws.specs.Batched.{lacks_compiler}
@@ -152,17 +154,26 @@ batch_logs batch st =
     (λ replies len. let c = batch_commits batch st replies has len in subst (Logs (kids st ++ paired (jobs_in asks) replies)) (sym c.is) c.logged))
     (cases_Bool (lacks_compiler st))
 
+said_kids : (kind : MessageKind) (message : List ℕ) (st : State) → kids (print kind message st) ≡ kids st
+unfolding print
+said_kids messages.Checking message st = told_kids Out _ st
+said_kids messages.Results message st = told_kids Out _ st
+said_kids messages.Notice message st = told_kids Out _ st
+said_kids messages.Warning message st = told_kids Err _ st
+
 effect_logs : (s : plain.Plain) (st : State) → Logs (kids st) (effect s st)
 unfolding effect initialised
 effect_logs (Init title version bug tarname url) st = refl
 effect_logs Accepted st = refl
 effect_logs (ConfigFiles outputs) st = refl
+effect_logs (ConfigHeaders outputs) st = refl
 effect_logs (Assign name value) st = refl
 effect_logs (Subst name) st = refl
 effect_logs (SubstValue name value) st = refl
 effect_logs (Define name value) st = refl
 effect_logs (DefineUnquoted name value) st = refl
 effect_logs (Error message status) st = told_kids Err (error_line (word_value message st.vars)) st
+effect_logs (Message kind message) st = said_kids kind (word_value message st.vars) st
 effect_logs (ArgVar name help) st = refl
 effect_logs (CheckProg variable program found otherwise) st = kind_logs (Program _ _) st
 effect_logs (CheckProgs variable programs otherwise) st =

@@ -8,7 +8,7 @@ use Rattle.syntax.specs.declared.feature.OptionKind.{OptionKind}
 use Rattle.syntax.specs.declared.listed.Listed.{Listed}
 use Rattle.syntax.specs.declared.listed.Sought.{Sought}
 use Rattle.syntax.specs.declared.statement.Plain as plain
-use Rattle.syntax.specs.declared.statement.Plain.TheVariants.{Init, Accepted, ConfigFiles, Assign, Subst, SubstValue, Define, DefineUnquoted, Error, ArgVar, CheckProg, CheckProgs, PathProg, ProgCc, Batch, Output}
+use Rattle.syntax.specs.declared.statement.Plain.TheVariants.{Init, Accepted, ConfigFiles, ConfigHeaders, Assign, Subst, SubstValue, Define, DefineUnquoted, Error, Message, ArgVar, CheckProg, CheckProgs, PathProg, ProgCc, Batch, Output}
 use Rattle.syntax.specs.declared.statement.Question as asks
 use Rattle.syntax.specs.declared.statement.Question.TheVariants.{Given, Tries, Checks, ChecksEach}
 use Rattle.syntax.specs.declared.tree.Subject.{Subject}
@@ -101,12 +101,14 @@ effect_deeds (Init title version bug tarname url) st replies =
     ∷ Assigned (codes "PACKAGE_STRING") ∷ Assigned (codes "PACKAGE_BUGREPORT") ∷ Assigned (codes "PACKAGE_URL") ∷ []
 effect_deeds Accepted st replies = []
 effect_deeds (ConfigFiles outputs) st replies = []
+effect_deeds (ConfigHeaders outputs) st replies = []
 effect_deeds (Assign name value) st replies = Assigned name ∷ []
 effect_deeds (Subst name) st replies = []
 effect_deeds (SubstValue name value) st replies = Assigned name ∷ []
 effect_deeds (Define name value) st replies = []
 effect_deeds (DefineUnquoted name value) st replies = []
 effect_deeds (Error message status) st replies = []
+effect_deeds (Message kind message) st replies = []
 effect_deeds (ArgVar name help) st replies = []
 effect_deeds (CheckProg variable program found otherwise) st replies =
     program_deeds (check_prog variable program (word_value found st.vars) (option_map (λ t. word_value t st.vars) otherwise))

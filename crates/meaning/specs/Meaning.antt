@@ -9,8 +9,10 @@ use Rattle.shellword.specs.Value.{word_value}
 use Rattle.syntax.specs.declared.feature.OptionKind.{OptionKind}
 use Rattle.syntax.specs.declared.feature.OptionKind.TheVariants.{Feature, Package}
 use Rattle.syntax.specs.declared.listed.Sought.{Sought}
+use Rattle.syntax.specs.declared.statement.MessageKind.{MessageKind}
+use Rattle.syntax.specs.declared.statement.MessageKind.TheVariants as messages
 use Rattle.syntax.specs.declared.statement.Plain as plain
-use Rattle.syntax.specs.declared.statement.Plain.TheVariants.{Init, Accepted, ConfigFiles, Assign, Subst, SubstValue, Define, DefineUnquoted, Error, ArgVar, CheckProg, CheckProgs, PathProg, ProgCc, Batch, Output}
+use Rattle.syntax.specs.declared.statement.Plain.TheVariants.{Init, Accepted, ConfigFiles, ConfigHeaders, Assign, Subst, SubstValue, Define, DefineUnquoted, Error, Message, ArgVar, CheckProg, CheckProgs, PathProg, ProgCc, Batch, Output}
 use Rattle.syntax.specs.declared.statement.Question as asks
 use Rattle.syntax.specs.declared.statement.Question.TheVariants.{Given, Tries, Checks, ChecksEach}
 use Rattle.syntax.specs.declared.tree.Subject.{Subject}
@@ -22,7 +24,7 @@ use Rattle.meaning.specs.Package.{initialised}
 use Rattle.meaning.specs.State.{State, Scope, no_choice, about, answered, told, with_variable, with_definition, How, as_is, Run, Ends, Goes_on, Completed, Stopped, then_run, ended}
 use Rattle.meaning.specs.Rows.{Search, Kind, Program, kind_for, name_of, is_yes, value_or_empty, value_if, row_of}
 use Rattle.meaning.specs.Batches.{batched}
-use Rattle.meaning.specs.Tests.{Test, cached_test, tested}
+use Rattle.meaning.specs.Tests.{Test, cached_test, checking, with_result, tested}
 use Rattle.meaning.specs.Tries.{text_of, tried}
 
 -- The prefix is set, and is still `NONE`. (own)
@@ -96,20 +98,30 @@ defaulted variable (Some value) st = if has_value st variable then st else with_
 abbrev pub error_line : List ℕ → List ℕ
 error_line message = codes "configure: error: " ++ message ++ codes "\n"
 
+-- A message: what is checked, and the results of a check; a notice; and a warning, on standard error. (Autoconf's manual,
+-- "Printing Messages")
+unfoldable pub said : MessageKind → List ℕ → State → State
+said messages.Checking message st = checking message st
+said messages.Results message st = with_result message st
+said messages.Notice message st = told streams.Out (codes "configure: " ++ message ++ codes "\n") st
+said messages.Warning message st = told streams.Err (codes "configure: WARNING: " ++ message ++ codes "\n") st
+
 -- A statement: AC_INIT sets the package's variables and definitions; an assignment and AC_SUBST with a value set a
 -- variable to the value of a word; the macros of programs look for them; the macros of lists test all entries at once;
--- AC_DEFINE defines a name as a text, AC_DEFINE_UNQUOTED as the value of one; AC_MSG_ERROR prints its line and stops the run; AC_OUTPUT gives prefix and
--- exec_prefix their values and completes the run; and the others have no effect. (Autoconf's manual, the sections of the macros)
+-- AC_DEFINE defines a name as a text, AC_DEFINE_UNQUOTED as the value of one; AC_MSG_ERROR prints its line and stops the
+-- run; the macros of other messages print them; AC_OUTPUT gives prefix and exec_prefix their values and completes the run; and the others have no effect. (Autoconf's manual, the sections of the macros)
 unfoldable pub effect : plain.Plain → State → Run
 effect (Init title version bug tarname url) st = Ends Goes_on (initialised title version bug tarname url st)
 effect Accepted st = Ends Goes_on st
 effect (ConfigFiles outputs) st = Ends Goes_on st
+effect (ConfigHeaders outputs) st = Ends Goes_on st
 effect (Assign name value) st = Ends Goes_on (with_variable name (word_value value st.vars) st)
 effect (Subst name) st = Ends Goes_on st
 effect (SubstValue name value) st = Ends Goes_on (with_variable name (word_value value st.vars) st)
 effect (Define name value) st = Ends Goes_on (with_definition name value st)
 effect (DefineUnquoted name value) st = Ends Goes_on (with_definition name (word_value value st.vars) st)
 effect (Error message status) st = Ends (Stopped status) (told streams.Err (error_line (word_value message st.vars)) st)
+effect (Message kind message) st = Ends Goes_on (said kind (word_value message st.vars) st)
 effect (ArgVar name help) st = Ends Goes_on st
 effect (CheckProg variable program found otherwise) st =
     program_test (check_prog variable program (word_value found st.vars) (option_map (λ t. word_value t st.vars) otherwise)) (has_value st variable) st

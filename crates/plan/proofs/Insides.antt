@@ -6,7 +6,7 @@ use Rattle.syntax.specs.declared.listed.Sought.TheVariants.{Entry, «Type»}
 use Rattle.syntax.specs.declared.statement.Question.TheVariants.{Given, Tries, Checks, ChecksEach}
 use Rattle.syntax.specs.declared.program.Try.TheVariants as kinds_are
 use Rattle.syntax.specs.declared.statement.Plain as plain
-use Rattle.syntax.specs.declared.statement.Plain.TheVariants.{Init, Accepted, ConfigFiles, Assign, Subst, SubstValue, Define, DefineUnquoted, Error, ArgVar, CheckProg, PathProg, Output, CheckProgs, ProgCc, Batch}
+use Rattle.syntax.specs.declared.statement.Plain.TheVariants.{Init, Accepted, ConfigFiles, ConfigHeaders, Assign, Subst, SubstValue, Define, DefineUnquoted, Error, Message, ArgVar, CheckProg, PathProg, Output, CheckProgs, ProgCc, Batch}
 use Rattle.syntax.specs.declared.tree.Subject as what
 use Rattle.syntax.specs.declared.tree.Subject.TheVariants.{Nothing, Word, Asked}
 use Rattle.syntax.specs.Script.{Script, Done, Then, Choice, Check, Cases, No_case, Case}
@@ -29,12 +29,14 @@ after_inside (ProgCc programs) rest h = programs_inside (codes "CC") programs tr
 after_inside (Init a b d e f) rest h = h
 after_inside Accepted rest h = h
 after_inside (ConfigFiles outputs) rest h = h
+after_inside (ConfigHeaders outputs) rest h = h
 after_inside (Assign name value) rest h = h
 after_inside (Subst name) rest h = h
 after_inside (SubstValue name value) rest h = h
 after_inside (Define name value) rest h = h
 after_inside (DefineUnquoted name value) rest h = h
 after_inside (Error message status) rest h = h
+after_inside (Message kind message) rest h = h
 after_inside (ArgVar name help) rest h = h
 after_inside (CheckProg variable program found otherwise) rest h = h
 after_inside (PathProg variable program otherwise) rest h = h
@@ -95,12 +97,14 @@ asks_few : (i : Instruction) → IsShort i → asks_of i ≤ 65536
 asks_few (Does (Init a b d e f)) h = omega arith
 asks_few (Does Accepted) h = omega arith
 asks_few (Does (ConfigFiles outputs)) h = omega arith
+asks_few (Does (ConfigHeaders outputs)) h = omega arith
 asks_few (Does (Assign name value)) h = omega arith
 asks_few (Does (Subst name)) h = omega arith
 asks_few (Does (SubstValue name value)) h = omega arith
 asks_few (Does (Define name value)) h = omega arith
 asks_few (Does (DefineUnquoted name value)) h = omega arith
 asks_few (Does (Error message status)) h = omega arith
+asks_few (Does (Message kind message)) h = omega arith
 asks_few (Does (ArgVar name help)) h = omega arith
 asks_few (Does (CheckProg variable program found otherwise)) h = omega arith
 asks_few (Does (PathProg variable program otherwise)) h = omega arith
@@ -140,12 +144,14 @@ statement_asks (ProgCc programs) = omega (arith, programs_ask (codes "CC") progr
 statement_asks (Init a b d e f) = omega arith
 statement_asks Accepted = omega arith
 statement_asks (ConfigFiles outputs) = omega arith
+statement_asks (ConfigHeaders outputs) = omega arith
 statement_asks (Assign name value) = omega arith
 statement_asks (Subst name) = omega arith
 statement_asks (SubstValue name value) = omega arith
 statement_asks (Define name value) = omega arith
 statement_asks (DefineUnquoted name value) = omega arith
 statement_asks (Error message status) = omega arith
+statement_asks (Message kind message) = omega arith
 statement_asks (ArgVar name help) = omega arith
 statement_asks (CheckProg variable program found otherwise) = omega arith
 statement_asks (PathProg variable program otherwise) = omega arith

@@ -3,7 +3,7 @@
 ghost use Rattle.std.specs.Prelude.{◌≡◌, ◌++◌, IfOk, OnOk, codes, decimal};
 ghost use Rattle.deftable.specs.declared.note.Stream.TheVariants.{Err};
 ghost use Rattle.meaning.specs.Asking.{no_compiler};
-ghost use Rattle.meaning.specs.Meaning.{error_line};
+ghost use Rattle.meaning.specs.Meaning.{error_line, said};
 ghost use Rattle.meaning.specs.Play.{cut_line};
 ghost use Rattle.meaning.specs.Rows.{text_or_no};
 ghost use Rattle.meaning.specs.State.{Cut, told};
@@ -12,6 +12,7 @@ ghost use Rattle.meaning.specs.Tests.{broken, checking, with_result};
 use crate::store::Store;
 use deftable::{Bytes, Stream};
 use std::alloc::{AllocError, Global};
+use syntax::MessageKind;
 
 /// Prints that a program is looked for.
 pub fn begin_search(alloc: Global, store: &mut Store, program: &[u8]) -> Result<(), AllocError>
@@ -91,6 +92,26 @@ pub fn report_error(alloc: Global, store: &mut Store, message: &[u8]) -> Result<
     ensures { OnOk result (store.new ≡ told Err (error_line message.now) store.old) }
 {
     store.tell(alloc, Stream::Err, b"configure: error: ", message, b"\n")
+}
+
+/// Prints a message of the source.
+#[tactic(auto, unfolding(meaning::specs::Meaning::said))]
+pub fn say(
+    alloc: Global,
+    store: &mut Store,
+    kind: MessageKind,
+    message: &[u8],
+) -> Result<(), AllocError>
+    ensures { OnOk result (store.new ≡ said kind message.now store.old) }
+{
+    match kind {
+        MessageKind::Checking => begin_check(alloc, store, message),
+        MessageKind::Results => end_check(alloc, store, message),
+        MessageKind::Notice => store.tell(alloc, Stream::Out, b"configure: ", message, b"\n"),
+        MessageKind::Warning => {
+            store.tell(alloc, Stream::Err, b"configure: WARNING: ", message, b"\n")
+        }
+    }
 }
 
 /// Prints that there is no compiler.

@@ -15,9 +15,10 @@ use acstatement::inside::{call_items, inside};
 use acstatement::stand::{NO_EDGE, edge_of, is_statement};
 use acstatement::texts::arg_at;
 use m4quote::{Arg, Item, QuoteFault, read_items};
+use outputlist::{Output, Outputs};
 use shellword::ShellFault;
 use std::test::Fail;
-use syntax::{Help, HelpList, OptionKind, Output, Outputs, is_feature, option_variable};
+use syntax::{Help, HelpList, OptionKind, is_feature, option_variable};
 use testrows::{Call, Named, Page, try_rows};
 
 // ---- texts, names and numbers

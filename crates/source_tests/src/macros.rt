@@ -15,7 +15,8 @@ use shellword::HereText;
 use std::alloc::Global;
 use std::test::Fail;
 use syntax::{
-    Declarations, Entries, OptionKind, Plain, Program, ProgramNames, Question, Sought, Stage, Try,
+    Declarations, Entries, MessageKind, OptionKind, Plain, Program, ProgramNames, Question, Sought,
+    Stage, Try,
 };
 use testrows::{Call, Page, try_rows};
 
@@ -101,18 +102,30 @@ fn allowed_in_commands(name: &[u8]) -> Result<(), ParseFault> {
 
 // ---- readers
 
+/// Returns the word for a kind of message.
+fn kind_of(kind: MessageKind) -> &'static [u8] {
+    match kind {
+        MessageKind::Checking => b"Checking",
+        MessageKind::Results => b"Results",
+        MessageKind::Notice => b"Notice",
+        MessageKind::Warning => b"Warning",
+    }
+}
+
 /// Returns the word for a statement, as its variant is called.
 fn word_of(statement: &Plain) -> &'static [u8] {
     match statement {
         Plain::Init { .. } => b"Init",
         Plain::Accepted => b"Accepted",
         Plain::ConfigFiles { .. } => b"ConfigFiles",
+        Plain::ConfigHeaders { .. } => b"ConfigHeaders",
         Plain::Assign { .. } => b"Assign",
         Plain::Subst { .. } => b"Subst",
         Plain::SubstValue { .. } => b"SubstValue",
         Plain::Define { .. } => b"Define",
         Plain::DefineUnquoted { .. } => b"DefineUnquoted",
         Plain::Error { .. } => b"Error",
+        Plain::Message { kind, .. } => kind_of(*kind),
         Plain::ArgVar { .. } => b"ArgVar",
         Plain::CheckProg { .. } => b"CheckProg",
         Plain::CheckProgs { .. } => b"CheckProgs",
@@ -329,6 +342,12 @@ const ROWS: &[u8] = br#"
 // the table, by docs/language.md
 row AC_SUBST => statement Subst 1 to 2
 row AC_CONFIG_FILES => statement ConfigFiles 1 to 1 at top
+row AC_CONFIG_HEADERS => another 1 to 1 at top
+row AC_MSG_CHECKING => another 1 to 1
+row AC_MSG_RESULT => another 1 to 1
+row AC_MSG_NOTICE => another 1 to 1
+row AC_MSG_WARN => another 1 to 1
+row AC_MSG_FAILURE =>
 row AC_INIT => statement Init 2 to 5 at top
 row AS_CASE => choice Case 2 to any number
 row AC_ARG_WITH => question Package 1 to 4
@@ -373,6 +392,8 @@ top AS_HELP_STRING => 3 at 3
 top a => 3 at 3
 // in another list
 inside AC_CONFIG_FILES => 7 at 3
+inside AC_CONFIG_HEADERS => 7 at 3
+inside AC_MSG_WARN => accepted
 inside AC_SUBST => accepted
 inside AC_CACHE_CHECK => accepted
 inside AC_CHECK_HEADERS => accepted
@@ -386,6 +407,7 @@ commands AC_CACHE_CHECK => 11 at 9
 commands AC_ARG_WITH => 11 at 9
 commands AC_DEFINE => 11 at 9
 commands AC_MSG_ERROR => 11 at 9
+commands AC_MSG_RESULT => 11 at 9
 commands AC_LANG => 11 at 9
 commands AC_CHECK_HEADER => 11 at 9
 commands AC_CHECK_FUNCS => 11 at 9
@@ -402,6 +424,15 @@ after a => 10 at 3
 reads AC_INIT([x],[1]) => Init
 reads AC_LANG([C]) => Accepted
 reads AC_CONFIG_FILES([a b:c]) => ConfigFiles
+reads AC_CONFIG_HEADERS([config.h]) => ConfigHeaders
+reads AC_CONFIG_HEADERS([ ]) => 5 at 18
+reads AC_CONFIG_HEADERS([/config.h]) => 5 at 18
+reads AC_CONFIG_HEADERS([a:b:c]) => 5 at 18
+reads AC_MSG_CHECKING([for x]) => Checking
+reads AC_MSG_RESULT([$x]) => Results
+reads AC_MSG_NOTICE([here]) => Notice
+reads AC_MSG_WARN([there]) => Warning
+reads AC_MSG_WARN([`a`]) => 6.1 at 12
 reads AC_SUBST([a]) => Subst
 reads AC_SUBST([a],[b]) => SubstValue
 reads AC_DEFINE([A]) => Define

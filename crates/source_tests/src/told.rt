@@ -2,9 +2,10 @@
 
 use deftable::{Bytes, Name, Vars};
 use m4quote::Arg;
+use outputlist::Outputs;
 use shellword::{HereText, Part, Pattern, Patterns, Piece, Test, Word};
 use std::fmt::Display;
-use syntax::{Entries, Help, Listed, Outputs, Sought};
+use syntax::{Entries, Help, Listed, Sought};
 use testrows::Page;
 
 /// What a call makes.

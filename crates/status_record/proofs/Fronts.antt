@@ -4,14 +4,15 @@ use Rattle.std.specs.Prelude.{codes, ⊤, ◌==◌, bytes_eq}
 use Rattle.std.proofs.lemmas.List.{append-nil}
 use Rattle.status_record.proofs.Names.{AreDistinct-[]}
 use Rattle.textcut.specs.Cuts.{parts}
+use Rattle.outputlist.specs.Output.{output_names}
 use Rattle.status_record.specs.declared.fault.RecordFault.{RecordFault}
 use Rattle.status_record.specs.declared.fault.RecordFault.TheVariants.{BadMagic, BadLine, Truncated, UnknownVersion, DuplicateName}
 use Rattle.status_record.specs.declared.record.Record.{Record}
 use Rattle.status_record.specs.Escape.{escaped, unescaped}
 use Rattle.status_record.specs.Line.{after_prefix, entry_in, entry_fields, output_in, output_fields}
-use Rattle.status_record.specs.RecordText.{first_line, lines_of, args_lines, record_lines, output_names, IsRecord}
-use Rattle.status_record.specs.Reading.{◌>>=◌, either, or_bad, with_item, several, never, is_entry, is_output, is_magic, args_in, args_lines_in, entries_in, outputs_in, version_in, srcdir_in, ending, body_in, lines_in, last_of, front_of, record_in, Read, IsTruncated}
-use Rattle.status_record.proofs.Only.{version_line, version_only, srcdir_only, args_only, entries_only, outputs_only, body_lines}
+use Rattle.status_record.specs.RecordText.{first_line, lines_of, IsRecord}
+use Rattle.status_record.specs.Reading.{◌>>=◌, either, or_bad, with_item, several, is_entry, is_output, is_magic, entries_in, outputs_in, version_in, srcdir_in, ending, body_in, lines_in, last_of, front_of, record_in, IsTruncated}
+use Rattle.status_record.proofs.Only.{version_only, srcdir_only, entries_only, outputs_only, body_lines}
 
 abbrev failed : {A : Type 0} → RecordFault → Result A RecordFault
 failed f = Err f
@@ -53,14 +54,6 @@ module _ {A : Type 0} (keyword : List ℕ) (read : List ℕ → Option A) (given
             (bind_err (with_item read given items (n + 1) fields) (λ now. several keyword read given now (n + 1) more) f h)
       ] e
 
-args_of_line : (b : Bool) (n : ℕ) (lines : List (List ℕ)) (f : RecordFault) → args_in b n lines ≡ Err f → IsOfLine f
-args_of_line false n lines f e = absurd cc
-args_of_line true n lines f e =
-    ⊎_elim (λ h. several_of_line (codes "arg ") unescaped never [] n lines f h) (λ p. absurd (never_err p.0 p.2)) (bind_err (args_lines_in n lines) (λ q. Ok (Some q.0, q.1)) f e)
-  where
-    never_err : (q : Read (List (List ℕ))) → Ok (Some q.0, q.1) ≡ failed {A = Read (Option (List (List ℕ)))} f → ⊥
-    never_err q h = cc
-
 abbrev over : Result (Unit {0}) RecordFault
 over = Ok tt
 
@@ -81,67 +74,59 @@ ending_truncated rest n (line ∷ next ∷ more) e = absurd (choice (bytes_eq li
     choice false h = cc
 
 -- the record that has been read so far
-abbrev SoFar : Bool → List ℕ → List (List ℕ) → Type 0
-SoFar b srcdir lines = (r : Record) × (version_line b ≡ first_line r.args) × (srcdir ≡ r.srcdir) × (body_lines r ≡ lines ++ codes "end" ∷ []) × IsRecord r
+abbrev SoFar : List ℕ → List (List ℕ) → Type 0
+SoFar srcdir lines = (r : Record) × (srcdir ≡ r.srcdir) × (body_lines r ≡ lines ++ codes "end" ∷ []) × IsRecord r
 
-five : {X : Type 0} (a b c d e f : List X) → a ++ (b ++ (c ++ (d ++ (e ++ f)))) ≡ (a ++ (b ++ (c ++ (d ++ e)))) ++ f
-five a b c d e f =
-    ap (λ t. a ++ (b ++ (c ++ t))) (sym (append_assoc d e f)) ∙ ap (λ t. a ++ (b ++ t)) (sym (append_assoc c (d ++ e) f))
-    ∙ ap (λ t. a ++ t) (sym (append_assoc b (c ++ (d ++ e)) f)) ∙ sym (append_assoc a (b ++ (c ++ (d ++ e))) f)
+four : {X : Type 0} (a b c d e : List X) → a ++ (b ++ (c ++ (d ++ e))) ≡ (a ++ (b ++ (c ++ d))) ++ e
+four a b c d e =
+    ap (λ t. a ++ (b ++ t)) (sym (append_assoc c d e)) ∙ ap (λ t. a ++ t) (sym (append_assoc b (c ++ d) e)) ∙ sym (append_assoc a (b ++ (c ++ d)) e)
 
-joined_up : {X : Type 0} (lines l1 l2 l3 l4 l5 a v d f h e : List X) → lines ≡ a ++ l1 → l1 ≡ v ++ l2 → l2 ≡ d ++ l3 → l3 ≡ f ++ l4 → l4 ≡ h ++ l5 → l5 ≡ []
-    → a ++ (v ++ (d ++ (f ++ (h ++ e)))) ≡ lines ++ e
-joined_up lines l1 l2 l3 l4 l5 a v d f h e e1 e2 e3 e4 e5 e6 =
-    let h5 : l4 ≡ h = e5 ∙ ap (λ t. h ++ t) e6 ∙ append-nil h in
-    let h4 : l3 ≡ f ++ h = e4 ∙ ap (λ t. f ++ t) h5 in
-    let h3 : l2 ≡ d ++ (f ++ h) = e3 ∙ ap (λ t. d ++ t) h4 in
-    let h2 : l1 ≡ v ++ (d ++ (f ++ h)) = e2 ∙ ap (λ t. v ++ t) h3 in
-    let h1 : lines ≡ a ++ (v ++ (d ++ (f ++ h))) = e1 ∙ ap (λ t. a ++ t) h2 in
-    five a v d f h e ∙ ap (λ t. t ++ e) (sym h1)
+joined_up : {X : Type 0} (lines l1 l2 l3 l4 v d f h e : List X) → lines ≡ v ++ l1 → l1 ≡ d ++ l2 → l2 ≡ f ++ l3 → l3 ≡ h ++ l4 → l4 ≡ [] → v ++ (d ++ (f ++ (h ++ e))) ≡ lines ++ e
+joined_up lines l1 l2 l3 l4 v d f h e e1 e2 e3 e4 e5 =
+    let h4 : l3 ≡ h = e4 ∙ ap (λ t. h ++ t) e5 ∙ append-nil h in
+    let h3 : l2 ≡ f ++ h = e3 ∙ ap (λ t. f ++ t) h4 in
+    let h2 : l1 ≡ d ++ (f ++ h) = e2 ∙ ap (λ t. d ++ t) h3 in
+    let h1 : lines ≡ v ++ (d ++ (f ++ h)) = e1 ∙ ap (λ t. v ++ t) h2 in
+    four v d f h e ∙ ap (λ t. t ++ e) (sym h1)
 
-body_truncated : (b : Bool) (rest srcdir : List ℕ) (lines : List (List ℕ)) → body_in b rest srcdir lines ≡ Err Truncated → SoFar b srcdir lines
+body_truncated : (rest srcdir : List ℕ) (lines : List (List ℕ)) → body_in rest srcdir lines ≡ Err Truncated → SoFar srcdir lines
 unfolding body_in
-body_truncated b rest srcdir lines e =
-    ⊎_elim (λ h. absurd (args_of_line b 2 lines Truncated h)) (λ p1.
-    ⊎_elim (λ h. absurd (several_of_line (codes "var ") entry_in is_entry [] p1.0.1.0 p1.0.1.1 Truncated h)) (λ p2.
-    ⊎_elim (λ h. absurd (several_of_line (codes "def ") entry_in is_entry [] p2.0.1.0 p2.0.1.1 Truncated h)) (λ p3.
-    ⊎_elim (λ h. absurd (several_of_line (codes "file ") output_in (is_output []) [] p3.0.1.0 p3.0.1.1 Truncated h)) (λ p4.
-    ⊎_elim (λ h. absurd (several_of_line (codes "header ") output_in (is_output (output_names p4.0.0)) [] p4.0.1.0 p4.0.1.1 Truncated h)) (λ p5.
+body_truncated rest srcdir lines e =
+    ⊎_elim (λ h. absurd (several_of_line (codes "var ") entry_in is_entry [] 2 lines Truncated h)) (λ p1.
+    ⊎_elim (λ h. absurd (several_of_line (codes "def ") entry_in is_entry [] p1.0.1.0 p1.0.1.1 Truncated h)) (λ p2.
+    ⊎_elim (λ h. absurd (several_of_line (codes "file ") output_in (is_output []) [] p2.0.1.0 p2.0.1.1 Truncated h)) (λ p3.
+    ⊎_elim (λ h. absurd (several_of_line (codes "header ") output_in (is_output (output_names p3.0.0)) [] p3.0.1.0 p3.0.1.1 Truncated h)) (λ p4.
     ⊎_elim (λ h.
-    let made : Record = record { srcdir = srcdir; args = p1.0.0; vars = p2.0.0; defs = p3.0.0; files = p4.0.0; headers = p5.0.0 } in
-    let a = args_only b 2 lines p1.0 p1.1 in
-    let v = entries_only (codes "var ") p1.0.1.0 p1.0.1.1 p2.0 p2.1 in
-    let d = entries_only (codes "def ") p2.0.1.0 p2.0.1.1 p3.0 p3.1 in
-    let f = outputs_only (codes "file ") [] p3.0.1.0 p3.0.1.1 p4.0 p4.1 AreDistinct-[] in
-    let k = outputs_only (codes "header ") p4.0.0 p4.0.1.0 p4.0.1.1 p5.0 p5.1 f.2 in
-    let z = ending_truncated rest p5.0.1.0 p5.0.1.1 h in
-    let ha = args_lines p1.0.0 in
-    let hv = lines_of (codes "var ") entry_fields p2.0.0 in
-    let hd = lines_of (codes "def ") entry_fields p3.0.0 in
-    let hf = lines_of (codes "file ") output_fields p4.0.0 in
-    let hh = lines_of (codes "header ") output_fields p5.0.0 in
-    let is : IsRecord made = record { vars = v.1; defs = d.1; files = f.1; headers = k.1; outputs = k.2 } in
-    (made, a.0, refl, joined_up lines _ _ _ _ _ ha hv hd hf hh (codes "end" ∷ []) a.1 v.0 d.0 f.0 k.0 z, is))
-    (λ p6. absurd (done_err p6.2))
-    (bind_err (ending rest p5.0.1.0 p5.0.1.1) _ Truncated p5.2))
-    (bind_err (outputs_in (codes "header ") p4.0.0 p4.0.1.0 p4.0.1.1) _ Truncated p4.2))
-    (bind_err (outputs_in (codes "file ") [] p3.0.1.0 p3.0.1.1) _ Truncated p3.2))
-    (bind_err (entries_in (codes "def ") p2.0.1.0 p2.0.1.1) _ Truncated p2.2))
-    (bind_err (entries_in (codes "var ") p1.0.1.0 p1.0.1.1) _ Truncated p1.2))
-    (bind_err (args_in b 2 lines) _ Truncated e)
+    let made : Record = record { srcdir = srcdir; vars = p1.0.0; defs = p2.0.0; files = p3.0.0; headers = p4.0.0 } in
+    let v = entries_only (codes "var ") 2 lines p1.0 p1.1 in
+    let d = entries_only (codes "def ") p1.0.1.0 p1.0.1.1 p2.0 p2.1 in
+    let f = outputs_only (codes "file ") [] p2.0.1.0 p2.0.1.1 p3.0 p3.1 AreDistinct-[] in
+    let k = outputs_only (codes "header ") (output_names p3.0.0) p3.0.1.0 p3.0.1.1 p4.0 p4.1 f.2 in
+    let z = ending_truncated rest p4.0.1.0 p4.0.1.1 h in
+    let hv = lines_of (codes "var ") entry_fields p1.0.0 in
+    let hd = lines_of (codes "def ") entry_fields p2.0.0 in
+    let hf = lines_of (codes "file ") output_fields p3.0.0 in
+    let hh = lines_of (codes "header ") output_fields p4.0.0 in
+    let is : IsRecord made = record { vars = v.1; defs = d.1; outputs = record { file_paths = f.1; header_paths = k.1; names = k.2 } } in
+    (made, refl, joined_up lines _ _ _ _ hv hd hf hh (codes "end" ∷ []) v.0 d.0 f.0 k.0 z, is))
+    (λ p5. absurd (done_err p5.2))
+    (bind_err (ending rest p4.0.1.0 p4.0.1.1) _ Truncated p4.2))
+    (bind_err (outputs_in (codes "header ") (output_names p3.0.0) p3.0.1.0 p3.0.1.1) _ Truncated p3.2))
+    (bind_err (outputs_in (codes "file ") [] p2.0.1.0 p2.0.1.1) _ Truncated p2.2))
+    (bind_err (entries_in (codes "def ") p1.0.1.0 p1.0.1.1) _ Truncated p1.2))
+    (bind_err (entries_in (codes "var ") 2 lines) _ Truncated e)
   where
     done_err : {r : Record} → Ok r ≡ failed {A = Record} Truncated → ⊥
     done_err h = cc
 
 version_truncated : (line : List ℕ) → version_in line ≡ Err Truncated → ⊥
 unfolding version_in
-version_truncated line e = choice (bytes_eq line (codes "acrun-record 1")) (bytes_eq line (codes "acrun-record 2")) (is_magic line) e
+version_truncated line e = choice (bytes_eq line first_line) (is_magic line) e
   where
-    choice : (a b c : Bool) → cond a (Ok false) (cond b (Ok true) (cond c (Err UnknownVersion) (failed {A = Bool} BadMagic))) ≡ Err Truncated → ⊥
-    choice true b c h = cc
-    choice false true c h = cc
-    choice false false true h = cc
-    choice false false false h = cc
+    choice : (a b : Bool) → cond a over (cond b (Err UnknownVersion) (failed BadMagic)) ≡ Err Truncated → ⊥
+    choice true b h = cc
+    choice false true h = cc
+    choice false false h = cc
 
 srcdir_truncated : (line : List ℕ) → srcdir_in line ≡ Err Truncated → ⊥
 unfolding srcdir_in
@@ -152,31 +137,32 @@ srcdir_truncated line e = choice (after_prefix (codes "srcdir ") line) e
     choice (Some t) h = or_bad_of_line 2 (unescaped t) Truncated h
 
 -- a record of nothing
-bare : (b : Bool) → (r : Record) × (version_line b ≡ first_line r.args) × IsRecord r × (record_lines r ≡ first_line r.args ∷ (codes "srcdir ") ∷ codes "end" ∷ [])
-bare false = (record { srcdir = []; args = None; vars = []; defs = []; files = []; headers = [] }, refl, record { vars = (tt, AreDistinct-[]); defs = (tt, AreDistinct-[]); files = tt; headers = tt; outputs = AreDistinct-[] }, refl)
-bare true = (record { srcdir = []; args = Some []; vars = []; defs = []; files = []; headers = [] }, refl, record { vars = (tt, AreDistinct-[]); defs = (tt, AreDistinct-[]); files = tt; headers = tt; outputs = AreDistinct-[] }, refl)
+abbrev bare : Record
+bare = record { srcdir = []; vars = []; defs = []; files = []; headers = [] }
+
+bare_is : IsRecord bare
+bare_is = record { vars = (tt, AreDistinct-[]); defs = (tt, AreDistinct-[]); outputs = record { file_paths = tt; header_paths = tt; names = AreDistinct-[] } }
 
 lines_truncated : (rest : List ℕ) (lines : List (List ℕ)) → lines_in rest lines ≡ Err Truncated → IsTruncated lines
 unfolding lines_in
 lines_truncated rest [] e = absurd cc
 lines_truncated rest (first ∷ []) e =
-    ⊎_elim (λ h. absurd (version_truncated first h)) (λ p.
-    let r = bare p.0 in
-    record { whole = r.0; next = codes "srcdir "; more = codes "end" ∷ []; holds = r.2; begins = r.3 ∙ ap (λ l. l ∷ codes "srcdir " ∷ codes "end" ∷ []) (sym (version_only first p.0 p.1 ∙ r.1)) })
+    ⊎_elim (λ h. absurd (version_truncated first h))
+    (λ p. record { whole = bare; next = codes "srcdir "; more = codes "end" ∷ []; holds = bare_is; begins = ap (λ l. l ∷ codes "srcdir " ∷ codes "end" ∷ []) (sym (version_only first p.0 p.1)) })
     (bind_err (version_in first) (λ _. Err Truncated) Truncated e)
 lines_truncated rest (first ∷ second ∷ more) e =
     ⊎_elim (λ h. absurd (version_truncated first h)) (λ p.
     ⊎_elim (λ h. absurd (srcdir_truncated second h)) (λ q.
-    let s = body_truncated p.0 rest q.0 more q.2 in
+    let s = body_truncated rest q.0 more q.2 in
     let r = s.0 in
-    let one : first ≡ first_line r.args = version_only first p.0 p.1 ∙ s.1 in
-    let two : second ≡ codes "srcdir " ++ escaped r.srcdir = srcdir_only second q.0 q.1 ∙ ap (λ v. codes "srcdir " ++ escaped v) s.2 in
+    let one : first ≡ first_line = version_only first p.0 p.1 in
+    let two : second ≡ codes "srcdir " ++ escaped r.srcdir = srcdir_only second q.0 q.1 ∙ ap (λ v. codes "srcdir " ++ escaped v) s.1 in
     record {
       whole = r;
       next = codes "end";
       more = [];
-      holds = s.4;
-      begins = ap (λ l. first_line r.args ∷ (codes "srcdir " ++ escaped r.srcdir) ∷ l) s.3 ∙ ap (λ l. l ∷ (codes "srcdir " ++ escaped r.srcdir) ∷ (more ++ codes "end" ∷ [])) (sym one)
+      holds = s.3;
+      begins = ap (λ l. first_line ∷ (codes "srcdir " ++ escaped r.srcdir) ∷ l) s.2 ∙ ap (λ l. l ∷ (codes "srcdir " ++ escaped r.srcdir) ∷ (more ++ codes "end" ∷ [])) (sym one)
           ∙ ap (λ l. first ∷ l ∷ (more ++ codes "end" ∷ [])) (sym two);
     })
     (bind_err (srcdir_in second) _ Truncated p.2))

@@ -1,6 +1,6 @@
 -- What is read is a record's text.
 use Rattle.std.proofs.Common.{◌≡◌, ℕ, ◌+◌, Bool, true, false, cond, List, [], ◌∷◌, ◌++◌, length, Option, Some, None, Result, Ok, Err, refl, ap, ◌∙◌, sym, subst}
-use Rattle.std.specs.Prelude.{codes, ⊤, bytes_eq, ◌==◌, IfOk}
+use Rattle.std.specs.Prelude.{codes, bytes_eq, ◌==◌, IfOk}
 use Rattle.std.specs.List.{AllByRecursion}
 use Rattle.std.proofs.lemmas.List.{append-nil}
 use Rattle.std.proofs.lemmas.Bool.Decides.{Decides-eqb}
@@ -13,11 +13,12 @@ use Rattle.textcut.specs.Cuts.{parts}
 use Rattle.status_record.specs.declared.fault.RecordFault.{RecordFault}
 use Rattle.status_record.specs.declared.fault.RecordFault.TheVariants.{BadMagic, BadLine, Truncated, UnknownVersion}
 use Rattle.status_record.specs.declared.record.Record.{Record}
-use Rattle.status_record.specs.declared.output.Output.{Output}
+use Rattle.outputlist.specs.declared.output.Output.{Output}
+use Rattle.outputlist.specs.Output.{output_names, IsOutput}
 use Rattle.status_record.specs.Escape.{escaped, unescaped}
 use Rattle.status_record.specs.Line.{ended, after_prefix, entry_in, entry_fields, output_in, output_fields}
-use Rattle.status_record.specs.RecordText.{first_line, lines_of, args_lines, record_lines, record_text, output_names, IsOutput, IsRecord, IsRecordText}
-use Rattle.status_record.specs.Reading.{either, or_bad, never, is_entry, is_output, is_magic, args_in, args_lines_in, entries_in, outputs_in, version_in, srcdir_in, ending, body_in, lines_in, last_of, front_of, record_in, Read, Gives}
+use Rattle.status_record.specs.RecordText.{first_line, lines_of, record_lines, record_text, IsRecord, IsRecordText}
+use Rattle.status_record.specs.Reading.{either, or_bad, is_entry, is_output, is_magic, entries_in, outputs_in, version_in, srcdir_in, ending, body_in, lines_in, last_of, front_of, record_in, Read, Gives}
 use Rattle.status_record.proofs.Escapes.{escaped-unescaped}
 use Rattle.status_record.proofs.Fields.{entry_only, output_only}
 use Rattle.status_record.proofs.Lines.{after_prefix-some}
@@ -29,25 +30,15 @@ use Rattle.status_record.proofs.Whole.{all_named, reads_back}
 abbrev read_ok : {A : Type 0} → A → Result A RecordFault
 read_ok x = Ok x
 
--- the first line of each version
-abbrev pub version_line : Bool → List ℕ
-version_line false = codes "acrun-record 1"
-version_line true = codes "acrun-record 2"
-
-pub version_only : (line : List ℕ) (b : Bool) → version_in line ≡ Ok b → line ≡ version_line b
+pub version_only : (line : List ℕ) (u : Unit {0}) → version_in line ≡ Ok u → line ≡ first_line
 unfolding version_in
-version_only line b e =
-    elim (bytes_eq line (codes "acrun-record 1")) as (λ t. bytes_eq line (codes "acrun-record 1") ≡ t
-    → cond t (Ok false) (cond (bytes_eq line (codes "acrun-record 2")) (Ok true) (cond (is_magic line) (Err UnknownVersion) (Err BadMagic))) ≡ Ok b → line ≡ version_line b) [
-      | true ↦ λ is h. (bytes_eq-Decides line (codes "acrun-record 1")).0 is ∙ ap version_line (ok_is false b h)
-      | false ↦ λ _ g. elim (bytes_eq line (codes "acrun-record 2")) as (λ t. bytes_eq line (codes "acrun-record 2") ≡ t
-          → cond t (Ok true) (cond (is_magic line) (Err UnknownVersion) (Err BadMagic)) ≡ Ok b → line ≡ version_line b) [
-            | true ↦ λ is h. (bytes_eq-Decides line (codes "acrun-record 2")).0 is ∙ ap version_line (ok_is true b h)
-            | false ↦ λ _ h. absurd (neither (is_magic line) h)
-          ] refl g
+version_only line u e =
+    elim (bytes_eq line first_line) as (λ t. bytes_eq line first_line ≡ t → cond t (Ok tt) (cond (is_magic line) (Err UnknownVersion) (Err BadMagic)) ≡ Ok u → line ≡ first_line) [
+      | true ↦ λ is _. (bytes_eq-Decides line first_line).0 is
+      | false ↦ λ _ h. absurd (neither (is_magic line) h)
     ] refl e
   where
-    neither : (m : Bool) → cond m (Err UnknownVersion) (Err BadMagic) ≡ read_ok b → ⊥
+    neither : (m : Bool) → cond m (Err UnknownVersion) (Err BadMagic) ≡ read_ok u → ⊥
     neither true h = cc
     neither false h = cc
 
@@ -61,19 +52,6 @@ srcdir_only line v e =
     let p = either_ok (after_prefix (codes "srcdir ") line) (λ value. or_bad 2 (unescaped value)) (BadLine 2) v e in
     after_prefix-some (codes "srcdir ") line p.0 p.1 ∙ ap (λ t. codes "srcdir " ++ t) (escaped-unescaped p.0 v (or_bad_ok 2 (unescaped p.0) v p.2))
 
-pub args_only : (b : Bool) (n : ℕ) (lines : List (List ℕ)) (r : Read (Option (List (List ℕ)))) → args_in b n lines ≡ Ok r
-    → (version_line b ≡ first_line r.0) × (lines ≡ args_lines r.0 ++ r.1.1)
-args_only false n lines r e =
-    let same = ok_is (None, (n, lines)) r e in
-    (ap (λ q. first_line q.0) same, ap (λ q. args_lines q.0 ++ q.1.1) same)
-args_only true n lines r e =
-    let p = bind_ok (args_lines_in n lines) (λ q. Ok (Some q.0, q.1)) r e in
-    let same = ok_is (Some p.0.0, p.0.1) r p.2 in
-    let got = several_only (codes "arg ") escaped unescaped never (λ _. ⊤) (λ f x h. (tt, escaped-unescaped f x h)) [] n lines p.0 p.1 in (
-      ap (λ q. first_line q.0) same,
-      got.2 ∙ ap (λ a. lines_of (codes "arg ") escaped a ++ p.0.1.1) (sym got.1) ∙ ap (λ q. args_lines q.0 ++ q.1.1) same,
-    )
-
 pub entries_only : (keyword : List ℕ) (n : ℕ) (lines : List (List ℕ)) (r : Read (List (List ℕ × List ℕ))) → entries_in keyword n lines ≡ Ok r
     → (lines ≡ lines_of keyword entry_fields r.0 ++ r.1.1) × (HasShellNames r.0 × HasDistinctNames r.0)
 entries_only keyword n lines r e =
@@ -82,15 +60,15 @@ entries_only keyword n lines r e =
     let distinct = May-distinct keyword entry_fields entry_in (λ e. e.0) [] (λ e. IsShellName e.0) [] got.0 AreDistinct-[] got.3 in
     (got.2 ∙ ap (λ a. lines_of keyword entry_fields a ++ r.1.1) (sym got.1), subst (λ a. HasShellNames a × HasDistinctNames a) (sym got.1) (all_named got.0 all, distinct))
 
-pub outputs_only : (keyword : List ℕ) (before : List Output) (n : ℕ) (lines : List (List ℕ)) (r : Read (List Output)) → outputs_in keyword before n lines ≡ Ok r
-    → AreDistinct (output_names before) → (lines ≡ lines_of keyword output_fields r.0 ++ r.1.1) × AllByRecursion IsOutput r.0 × AreDistinct (output_names before ++ output_names r.0)
+pub outputs_only : (keyword : List ℕ) (before : List (List ℕ)) (n : ℕ) (lines : List (List ℕ)) (r : Read (List Output)) → outputs_in keyword before n lines ≡ Ok r
+    → AreDistinct before → (lines ≡ lines_of keyword output_fields r.0 ++ r.1.1) × AllByRecursion IsOutput r.0 × AreDistinct (before ++ output_names r.0)
 outputs_only keyword before n lines r e distinct =
-    let got = several_only keyword output_fields output_in (is_output (output_names before)) IsOutput output_only [] n lines r e in
-    let all = May-all keyword output_fields output_in (λ o. o.name) (output_names before) IsOutput [] got.0 got.3 in
-    let names = May-distinct keyword output_fields output_in (λ o. o.name) (output_names before) IsOutput [] got.0 (subst AreDistinct (sym (append-nil (output_names before))) distinct) got.3 in (
+    let got = several_only keyword output_fields output_in (is_output before) IsOutput output_only [] n lines r e in
+    let all = May-all keyword output_fields output_in (λ o. o.name) before IsOutput [] got.0 got.3 in
+    let names = May-distinct keyword output_fields output_in (λ o. o.name) before IsOutput [] got.0 (subst AreDistinct (sym (append-nil before)) distinct) got.3 in (
       got.2 ∙ ap (λ a. lines_of keyword output_fields a ++ r.1.1) (sym got.1),
       subst (AllByRecursion IsOutput) (sym got.1) all,
-      subst (λ a. AreDistinct (output_names before ++ output_names a)) (sym got.1) names,
+      subst (λ a. AreDistinct (before ++ output_names a)) (sym got.1) names,
     )
 
 end_only : (rest line : List ℕ) (n : ℕ) (u : Unit {0}) (more : List (List ℕ)) → ending rest n (line ∷ more) ≡ Ok u → (rest ≡ []) × (line ∷ more ≡ codes "end" ∷ [])
@@ -120,34 +98,32 @@ ending_only rest n u (line ∷ more) e = end_only rest line n u more e
 
 abbrev pub body_lines : Record → List (List ℕ)
 body_lines r =
-    args_lines r.args ++ (lines_of (codes "var ") entry_fields r.vars ++ (lines_of (codes "def ") entry_fields r.defs
-    ++ (lines_of (codes "file ") output_fields r.files ++ (lines_of (codes "header ") output_fields r.headers ++ codes "end" ∷ []))))
+    lines_of (codes "var ") entry_fields r.vars ++ (lines_of (codes "def ") entry_fields r.defs
+    ++ (lines_of (codes "file ") output_fields r.files ++ (lines_of (codes "header ") output_fields r.headers ++ codes "end" ∷ [])))
 
-abbrev Body : Bool → List ℕ → List ℕ → List (List ℕ) → Record → Type 0
-Body b rest srcdir lines r = (rest ≡ []) × (version_line b ≡ first_line r.args) × (srcdir ≡ r.srcdir) × (lines ≡ body_lines r) × IsRecord r
+abbrev Body : List ℕ → List ℕ → List (List ℕ) → Record → Type 0
+Body rest srcdir lines r = (rest ≡ []) × (srcdir ≡ r.srcdir) × (lines ≡ body_lines r) × IsRecord r
 
-body_only : (b : Bool) (rest srcdir : List ℕ) (lines : List (List ℕ)) (r : Record) → body_in b rest srcdir lines ≡ Ok r → Body b rest srcdir lines r
+body_only : (rest srcdir : List ℕ) (lines : List (List ℕ)) (r : Record) → body_in rest srcdir lines ≡ Ok r → Body rest srcdir lines r
 unfolding body_in
-body_only b rest srcdir lines r e =
-    let p1 = bind_ok (args_in b 2 lines) _ r e in
-    let p2 = bind_ok (entries_in (codes "var ") p1.0.1.0 p1.0.1.1) _ r p1.2 in
-    let p3 = bind_ok (entries_in (codes "def ") p2.0.1.0 p2.0.1.1) _ r p2.2 in
-    let p4 = bind_ok (outputs_in (codes "file ") [] p3.0.1.0 p3.0.1.1) _ r p3.2 in
-    let p5 = bind_ok (outputs_in (codes "header ") p4.0.0 p4.0.1.0 p4.0.1.1) _ r p4.2 in
-    let p6 = bind_ok (ending rest p5.0.1.0 p5.0.1.1) _ r p5.2 in
-    let made : Record = record { srcdir = srcdir; args = p1.0.0; vars = p2.0.0; defs = p3.0.0; files = p4.0.0; headers = p5.0.0 } in
-    let same : made ≡ r = ok_is made r p6.2 in
-    let a = args_only b 2 lines p1.0 p1.1 in
-    let v = entries_only (codes "var ") p1.0.1.0 p1.0.1.1 p2.0 p2.1 in
-    let d = entries_only (codes "def ") p2.0.1.0 p2.0.1.1 p3.0 p3.1 in
-    let f = outputs_only (codes "file ") [] p3.0.1.0 p3.0.1.1 p4.0 p4.1 AreDistinct-[] in
-    let h = outputs_only (codes "header ") p4.0.0 p4.0.1.0 p4.0.1.1 p5.0 p5.1 f.2 in
-    let z = ending_only rest p5.0.1.0 p6.0 p5.0.1.1 p6.1 in
+body_only rest srcdir lines r e =
+    let p1 = bind_ok (entries_in (codes "var ") 2 lines) _ r e in
+    let p2 = bind_ok (entries_in (codes "def ") p1.0.1.0 p1.0.1.1) _ r p1.2 in
+    let p3 = bind_ok (outputs_in (codes "file ") [] p2.0.1.0 p2.0.1.1) _ r p2.2 in
+    let p4 = bind_ok (outputs_in (codes "header ") (output_names p3.0.0) p3.0.1.0 p3.0.1.1) _ r p3.2 in
+    let p5 = bind_ok (ending rest p4.0.1.0 p4.0.1.1) _ r p4.2 in
+    let made : Record = record { srcdir = srcdir; vars = p1.0.0; defs = p2.0.0; files = p3.0.0; headers = p4.0.0 } in
+    let same : made ≡ r = ok_is made r p5.2 in
+    let v = entries_only (codes "var ") 2 lines p1.0 p1.1 in
+    let d = entries_only (codes "def ") p1.0.1.0 p1.0.1.1 p2.0 p2.1 in
+    let f = outputs_only (codes "file ") [] p2.0.1.0 p2.0.1.1 p3.0 p3.1 AreDistinct-[] in
+    let h = outputs_only (codes "header ") (output_names p3.0.0) p3.0.1.0 p3.0.1.1 p4.0 p4.1 f.2 in
+    let z = ending_only rest p4.0.1.0 p5.0 p4.0.1.1 p5.1 in
     let text : lines ≡ body_lines made =
-    a.1 ∙ ap (λ t. args_lines p1.0.0 ++ t) (v.0 ∙ ap (λ t. lines_of (codes "var ") entry_fields p2.0.0 ++ t) (d.0 ∙ ap (λ t. lines_of (codes "def ") entry_fields p3.0.0 ++ t)
-    (f.0 ∙ ap (λ t. lines_of (codes "file ") output_fields p4.0.0 ++ t) (h.0 ∙ ap (λ t. lines_of (codes "header ") output_fields p5.0.0 ++ t) z.1)))) in
-    let is : IsRecord made = record { vars = v.1; defs = d.1; files = f.1; headers = h.1; outputs = h.2 } in
-    subst (λ q. Body b rest srcdir lines q) same (z.0, a.0, refl, text, is)
+    v.0 ∙ ap (λ t. lines_of (codes "var ") entry_fields p1.0.0 ++ t) (d.0 ∙ ap (λ t. lines_of (codes "def ") entry_fields p2.0.0 ++ t)
+    (f.0 ∙ ap (λ t. lines_of (codes "file ") output_fields p3.0.0 ++ t) (h.0 ∙ ap (λ t. lines_of (codes "header ") output_fields p4.0.0 ++ t) z.1))) in
+    let is : IsRecord made = record { vars = v.1; defs = d.1; outputs = record { file_paths = f.1; header_paths = h.1; names = h.2 } } in
+    subst (λ q. Body rest srcdir lines q) same (z.0, refl, text, is)
 
 lines_only : (rest : List ℕ) (lines : List (List ℕ)) (r : Record) → lines_in rest lines ≡ Ok r → (rest ≡ []) × (lines ≡ record_lines r) × IsRecord r
 unfolding lines_in
@@ -156,12 +132,12 @@ lines_only rest (first ∷ []) r e = let p = bind_ok (version_in first) (λ _. E
 lines_only rest (first ∷ second ∷ more) r e =
     let p = bind_ok (version_in first) _ r e in
     let q = bind_ok (srcdir_in second) _ r p.2 in
-    let b = body_only p.0 rest q.0 more r q.2 in (
+    let b = body_only rest q.0 more r q.2 in (
       b.0,
-      ap (λ l. l ∷ second ∷ more) (version_only first p.0 p.1 ∙ b.1)
-          ∙ ap (λ l. first_line r.args ∷ l ∷ more) (srcdir_only second q.0 q.1 ∙ ap (λ s. codes "srcdir " ++ escaped s) b.2)
-          ∙ ap (λ l. first_line r.args ∷ (codes "srcdir " ++ escaped r.srcdir) ∷ l) b.3,
-      b.4,
+      ap (λ l. l ∷ second ∷ more) (version_only first p.0 p.1)
+          ∙ ap (λ l. first_line ∷ l ∷ more) (srcdir_only second q.0 q.1 ∙ ap (λ s. codes "srcdir " ++ escaped s) b.1)
+          ∙ ap (λ l. first_line ∷ (codes "srcdir " ++ escaped r.srcdir) ∷ l) b.2,
+      b.3,
     )
 
 -- A text that is read is the record's.

@@ -12,7 +12,7 @@ use Rattle.textcut.specs.Cuts.{parts, parts_by}
 use Rattle.textcut.proofs.Laws.{parts-some}
 use Rattle.status_record.specs.Escape.{escaped_byte, escaped}
 use Rattle.status_record.specs.Line.{ended, cut}
-use Rattle.status_record.specs.Path.{is_path, is_path_byte}
+use Rattle.outputlist.specs.Path.{is_path, is_path_byte}
 use Rattle.status_record.specs.Reading.{last_of, front_of}
 
 -- the byte doesn't occur in the text

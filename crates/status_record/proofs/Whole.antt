@@ -1,22 +1,23 @@
 -- Whole texts: a record's text is read as the record, and what is read is a record's text.
-use Rattle.std.proofs.Common.{◌≡◌, ℕ, ◌+◌, Bool, true, false, List, [], ◌∷◌, ◌++◌, length, Option, Some, None, Ok, Err, refl, ap, ◌∙◌, sym}
-use Rattle.std.specs.Prelude.{codes, ⊤, bytes_eq}
+use Rattle.std.proofs.Common.{◌≡◌, ℕ, ◌+◌, true, false, List, [], ◌∷◌, ◌++◌, length, None, Ok, Err, refl, ap, ◌∙◌}
+use Rattle.std.specs.Prelude.{codes, bytes_eq}
 use Rattle.std.specs.List.{AllByRecursion, IsDistinct}
 use Rattle.deftable.specs.ShellName.{IsShellName}
 use Rattle.deftable.specs.NameList.{AreDistinct}
 use Rattle.deftable.specs.Table.{HasShellNames, HasDistinctNames}
 use Rattle.status_record.specs.declared.fault.RecordFault.TheVariants.{BadLine}
 use Rattle.status_record.specs.declared.record.Record.{Record}
-use Rattle.status_record.specs.declared.output.Output.{Output}
+use Rattle.outputlist.specs.declared.output.Output.{Output}
+use Rattle.outputlist.specs.Output.{output_names, IsOutput}
 use Rattle.status_record.specs.Escape.{escaped, unescaped}
 use Rattle.status_record.specs.Line.{after_prefix, entry_in, entry_fields, output_in, output_fields, two_fields}
-use Rattle.status_record.specs.RecordText.{first_line, lines_of, args_lines, record_lines, record_text, output_names, IsOutput, IsRecord}
-use Rattle.status_record.specs.Reading.{◌>>=◌, either, or_bad, never, is_entry, is_output, args_in, entries_in, outputs_in, version_in, srcdir_in, ending, body_in, lines_in, last_of, front_of, record_in}
+use Rattle.status_record.specs.RecordText.{first_line, lines_of, record_lines, record_text, IsRecord}
+use Rattle.status_record.specs.Reading.{either, or_bad, is_entry, is_output, entries_in, outputs_in, version_in, srcdir_in, ending, body_in, lines_in, last_of, front_of, record_in}
 use Rattle.status_record.proofs.Escapes.{unescaped-escaped}
 use Rattle.status_record.proofs.Fields.{entry_back, output_back}
 use Rattle.status_record.proofs.Lines.{after_prefix-append}
 use Rattle.status_record.proofs.Loops.{last_of-end, front_of-end}
-use Rattle.status_record.proofs.Sections.{then_ok, ok_is, Apart, May, several_back, May-from}
+use Rattle.status_record.proofs.Sections.{then_ok, Apart, several_back, May-from}
 use Rattle.status_record.proofs.Texts.{lacks, lacks-append, shell_lacks_newline, escaped_lacks_newline, AreLines, parts_ended}
 
 -- ---- the sections of a record
@@ -29,33 +30,17 @@ pub all_named : (es : List (List ℕ × List ℕ)) → AllByRecursion (λ e. IsS
 all_named [] h = tt
 all_named (e ∷ es) h = (h.0, all_named es h.1)
 
-any_args : (before args : List (List ℕ)) → May (codes "arg ") escaped unescaped never (λ _. ⊤) before args
-any_args before [] = tt
-any_args before (a ∷ args) = (tt, refl, any_args (before ++ a ∷ []) args)
-
-args_back : (args : Option (List (List ℕ))) (has_args : Bool) (n : ℕ) (rest : List (List ℕ)) → version_in (first_line args) ≡ Ok has_args → Apart (codes "arg ") rest
-    → (m : ℕ) × (args_in has_args n (args_lines args ++ rest) ≡ Ok (args, (m, rest)))
-unfolding version_in
-args_back None has_args n rest e apart =
-    (n, ap (λ b. args_in b n rest) (sym (ok_is false has_args e)))
-args_back (Some args) has_args n rest e apart = (
-  n + length args,
-  ap (λ b. args_in b n (args_lines (Some args) ++ rest)) (sym (ok_is true has_args e))
-      ∙ ap (λ r. r >>= λ q. Ok (Some q.0, q.1))
-      (several_back (codes "arg ") escaped unescaped never (λ _. ⊤) (λ x _. unescaped-escaped x) [] args n rest (any_args [] args) apart),
-)
-
 entries_back : (keyword : List ℕ) (es : List (List ℕ × List ℕ)) (n : ℕ) (rest : List (List ℕ)) → HasShellNames es × HasDistinctNames es → Apart keyword rest
     → entries_in keyword n (lines_of keyword entry_fields es ++ rest) ≡ Ok (es, (n + length es, rest))
 entries_back keyword es n rest h apart =
     several_back keyword entry_fields entry_in is_entry (λ e. IsShellName e.0) entry_back [] es n rest
     (May-from keyword entry_fields entry_in (λ e. e.0) [] (λ e. IsShellName e.0) [] es (named_all es h.0) h.1) apart
 
-outputs_back : (keyword : List ℕ) (before os : List Output) (n : ℕ) (rest : List (List ℕ)) → AllByRecursion IsOutput os → AreDistinct (output_names before ++ output_names os)
+outputs_back : (keyword : List ℕ) (before : List (List ℕ)) (os : List Output) (n : ℕ) (rest : List (List ℕ)) → AllByRecursion IsOutput os → AreDistinct (before ++ output_names os)
     → Apart keyword rest → outputs_in keyword before n (lines_of keyword output_fields os ++ rest) ≡ Ok (os, (n + length os, rest))
 outputs_back keyword before os n rest all distinct apart =
-    several_back keyword output_fields output_in (is_output (output_names before)) IsOutput output_back [] os n rest
-    (May-from keyword output_fields output_in (λ o. o.name) (output_names before) IsOutput [] os all distinct) apart
+    several_back keyword output_fields output_in (is_output before) IsOutput output_back [] os n rest
+    (May-from keyword output_fields output_in (λ o. o.name) before IsOutput [] os all distinct) apart
 
 -- lines of another kind
 apart_lines : {A : Type 0} (keyword other : List ℕ) (fields : A → List ℕ) (items : List A) (rest : List (List ℕ)) → ((t : List ℕ) → after_prefix keyword (other ++ t) ≡ None)
@@ -77,11 +62,11 @@ unfolding ending
 end_back n = refl
 
 -- the lines after the second are read
-body_back : (r : Record) (has_args : Bool) → version_in (first_line r.args) ≡ Ok has_args → IsRecord r
-    → body_in has_args [] r.srcdir (args_lines r.args ++ (lines_of (codes "var ") entry_fields r.vars ++ (lines_of (codes "def ") entry_fields r.defs
-    ++ (lines_of (codes "file ") output_fields r.files ++ (lines_of (codes "header ") output_fields r.headers ++ codes "end" ∷ []))))) ≡ Ok r
+body_back : (r : Record) → IsRecord r
+    → body_in [] r.srcdir (lines_of (codes "var ") entry_fields r.vars ++ (lines_of (codes "def ") entry_fields r.defs
+    ++ (lines_of (codes "file ") output_fields r.files ++ (lines_of (codes "header ") output_fields r.headers ++ codes "end" ∷ [])))) ≡ Ok r
 unfolding body_in after_prefix
-body_back r has_args version is =
+body_back r is =
     let l5 = codes "end" ∷ [] in
     let l4 = lines_of (codes "header ") output_fields r.headers ++ l5 in
     let l3 = lines_of (codes "file ") output_fields r.files ++ l4 in
@@ -89,27 +74,22 @@ body_back r has_args version is =
     let l1 = lines_of (codes "var ") entry_fields r.vars ++ l2 in
     let headers_apart : (keyword : List ℕ) → after_prefix keyword (codes "end") ≡ None → ((t : List ℕ) → after_prefix keyword (codes "header " ++ t) ≡ None) → Apart keyword l4 = λ keyword e h.
     apart_lines keyword (codes "header ") output_fields r.headers l5 h e in
-    let apart_args : Apart (codes "arg ") l1 =
-    apart_lines (codes "arg ") (codes "var ") entry_fields r.vars l2 (λ t. refl) (apart_lines (codes "arg ") (codes "def ") entry_fields r.defs l3 (λ t. refl)
-    (apart_lines (codes "arg ") (codes "file ") output_fields r.files l4 (λ t. refl) (headers_apart (codes "arg ") refl (λ t. refl)))) in
     let apart_vars : Apart (codes "var ") l2 =
     apart_lines (codes "var ") (codes "def ") entry_fields r.defs l3 (λ t. refl)
     (apart_lines (codes "var ") (codes "file ") output_fields r.files l4 (λ t. refl) (headers_apart (codes "var ") refl (λ t. refl))) in
     let apart_defs : Apart (codes "def ") l3 =
     apart_lines (codes "def ") (codes "file ") output_fields r.files l4 (λ t. refl) (headers_apart (codes "def ") refl (λ t. refl)) in
     let apart_files : Apart (codes "file ") l4 = headers_apart (codes "file ") refl (λ t. refl) in
-    let args = args_back r.args has_args 2 l1 version apart_args in
-    let m1 = args.0 in
-    let m2 = m1 + length r.vars in
+    let m2 = 2 + length r.vars in
     let m3 = m2 + length r.defs in
     let m4 = m3 + length r.files in
     let m5 = m4 + length r.headers in
-    then_ok _ _ (r.args, (m1, l1)) _ args.1
-    (then_ok _ _ (r.vars, (m2, l2)) _ (entries_back (codes "var ") r.vars m1 l2 is.vars apart_vars)
+    let o = is.outputs in
+    then_ok _ _ (r.vars, (m2, l2)) _ (entries_back (codes "var ") r.vars 2 l2 is.vars apart_vars)
     (then_ok _ _ (r.defs, (m3, l3)) _ (entries_back (codes "def ") r.defs m2 l3 is.defs apart_defs)
-    (then_ok _ _ (r.files, (m4, l4)) _ (outputs_back (codes "file ") [] r.files m3 l4 is.files (distinct-front (output_names r.files) (output_names r.headers) is.outputs) apart_files)
-    (then_ok _ _ (r.headers, (m5, l5)) _ (outputs_back (codes "header ") r.files r.headers m4 l5 is.headers is.outputs refl)
-    (then_ok _ _ tt _ (end_back m5) refl)))))
+    (then_ok _ _ (r.files, (m4, l4)) _ (outputs_back (codes "file ") [] r.files m3 l4 o.file_paths (distinct-front (output_names r.files) (output_names r.headers) o.names) apart_files)
+    (then_ok _ _ (r.headers, (m5, l5)) _ (outputs_back (codes "header ") (output_names r.files) r.headers m4 l5 o.header_paths o.names refl)
+    (then_ok _ _ tt _ (end_back m5) refl))))
 
 -- the second line
 srcdir_back : (v : List ℕ) → srcdir_in (codes "srcdir " ++ escaped v) ≡ Ok v
@@ -117,16 +97,14 @@ unfolding srcdir_in
 srcdir_back v =
     ap (λ o. either o (λ value. or_bad 2 (unescaped value)) (Err (BadLine 2))) (after_prefix-append (codes "srcdir ") (escaped v)) ∙ ap (or_bad 2) (unescaped-escaped v)
 
-version_back : (args : Option (List (List ℕ))) → (b : Bool) × (version_in (first_line args) ≡ Ok b)
+version_back : version_in first_line ≡ Ok tt
 unfolding version_in
-version_back None = (false, refl)
-version_back (Some args) = (true, refl)
+version_back = refl
 
 lines_back : (r : Record) → IsRecord r → lines_in [] (record_lines r) ≡ Ok r
 unfolding lines_in
 lines_back r is =
-    let v = version_back r.args in
-    then_ok _ _ v.0 _ v.1 (then_ok _ _ r.srcdir _ (srcdir_back r.srcdir) (body_back r v.0 v.1 is))
+    then_ok _ _ tt _ version_back (then_ok _ _ r.srcdir _ (srcdir_back r.srcdir) (body_back r is))
 
 -- ---- no line of a record has a newline
 
@@ -148,29 +126,16 @@ output_lacks o is = two_lack (escaped o.name) (escaped o.template) (escaped_lack
 entry_lacks : (e : List ℕ × List ℕ) → IsShellName e.0 → lacks 10 (entry_fields e) ≡ true
 entry_lacks e is = two_lack e.0 (escaped e.1) (shell_lacks_newline e.0 is) (escaped_lacks_newline e.1)
 
-all_args : (args : List (List ℕ)) → AreLines (lines_of (codes "arg ") escaped args)
-all_args [] = tt
-all_args (a ∷ args) = (lacks-append 10 (codes "arg ") (escaped a) refl (escaped_lacks_newline a), all_args args)
-
-args_are_lines : (args : Option (List (List ℕ))) → AreLines (args_lines args)
-args_are_lines None = tt
-args_are_lines (Some args) = all_args args
-
-first_lacks : (args : Option (List (List ℕ))) → lacks 10 (first_line args) ≡ true
-first_lacks None = refl
-first_lacks (Some args) = refl
-
 are_lines : (r : Record) → IsRecord r → AreLines (record_lines r)
 are_lines r is = (
-  first_lacks r.args,
+  refl,
   (
     lacks-append 10 (codes "srcdir ") (escaped r.srcdir) refl (escaped_lacks_newline r.srcdir),
-    all_append (args_lines r.args) _ (args_are_lines r.args)
-        (all_append (lines_of (codes "var ") entry_fields r.vars) _ (all_lines (codes "var ") entry_fields (λ e. IsShellName e.0) refl entry_lacks r.vars (named_all r.vars is.vars.0))
+    all_append (lines_of (codes "var ") entry_fields r.vars) _ (all_lines (codes "var ") entry_fields (λ e. IsShellName e.0) refl entry_lacks r.vars (named_all r.vars is.vars.0))
         (all_append (lines_of (codes "def ") entry_fields r.defs) _ (all_lines (codes "def ") entry_fields (λ e. IsShellName e.0) refl entry_lacks r.defs (named_all r.defs is.defs.0))
-        (all_append (lines_of (codes "file ") output_fields r.files) _ (all_lines (codes "file ") output_fields IsOutput refl output_lacks r.files is.files)
-        (all_append (lines_of (codes "header ") output_fields r.headers) _ (all_lines (codes "header ") output_fields IsOutput refl output_lacks r.headers is.headers)
-        (refl, tt))))),
+        (all_append (lines_of (codes "file ") output_fields r.files) _ (all_lines (codes "file ") output_fields IsOutput refl output_lacks r.files is.outputs.file_paths)
+        (all_append (lines_of (codes "header ") output_fields r.headers) _ (all_lines (codes "header ") output_fields IsOutput refl output_lacks r.headers is.outputs.header_paths)
+        (refl, tt)))),
   ),
 )
 

@@ -1,5 +1,5 @@
 -- Reading a record: its lines from the first to the last, up to the first fault.
-use Rattle.std.specs.Prelude.{◌≡◌, ℕ, ◌+◌, ◌==◌, ◌&&◌, not, Bool, true, false, List, [], ◌∷◌, ◌++◌, length, Result, Ok, Err, Option, Some, None, codes, if◌then◌else◌}
+use Rattle.std.specs.Prelude.{◌≡◌, ℕ, ◌+◌, ◌==◌, ◌&&◌, not, Bool, false, List, [], ◌∷◌, ◌++◌, length, Result, Ok, Err, Option, Some, None, codes, if◌then◌else◌}
 use Rattle.std.specs.List.{list_all}
 use Rattle.std.specs.Char.{is_ascii_digit}
 use Rattle.std.specs.Str.{bytes_eq}
@@ -9,10 +9,11 @@ use Rattle.textcut.specs.Cuts.{parts}
 use Rattle.status_record.specs.declared.fault.RecordFault.{RecordFault}
 use Rattle.status_record.specs.declared.fault.RecordFault.TheVariants.{BadMagic, BadLine, Truncated, UnknownVersion, DuplicateName, OutOfMemory}
 use Rattle.status_record.specs.declared.record.Record.{Record}
-use Rattle.status_record.specs.declared.output.Output.{Output}
+use Rattle.outputlist.specs.declared.output.Output.{Output}
+use Rattle.outputlist.specs.Output.{output_names}
 use Rattle.status_record.specs.Escape.{unescaped}
 use Rattle.status_record.specs.Line.{after_prefix, entry_in, output_in}
-use Rattle.status_record.specs.RecordText.{output_names, record_lines, IsRecord}
+use Rattle.status_record.specs.RecordText.{first_line, record_lines, IsRecord}
 
 infixl 10 ◌>>=◌
 -- a reading, and then one of its value, up to the first fault (own)
@@ -59,10 +60,6 @@ several keyword read is_given items n (line ∷ more) =
     (λ fields. with_item read is_given items (n + 1) fields >>= λ now. several keyword read is_given now (n + 1) more)
     (Ok (items, (n, line ∷ more)))
 
--- no item has the name of one before (own)
-abbrev pub never : {A : Type 0} → List A → A → Bool
-never items x = false
-
 -- whether an entry has the name (own)
 abbrev pub is_entry : List (List ℕ × List ℕ) → (List ℕ × List ℕ) → Bool
 is_entry entries e = has_name (names_of entries) e.0
@@ -71,22 +68,13 @@ is_entry entries e = has_name (names_of entries) e.0
 abbrev pub is_output : List (List ℕ) → List Output → Output → Bool
 is_output before outputs o = has_name (before ++ output_names outputs) o.name
 
--- the arguments, after n lines (own)
-abbrev pub args_lines_in : ℕ → List (List ℕ) → Result (Read (List (List ℕ))) RecordFault
-args_lines_in n lines = several (codes "arg ") unescaped never [] n lines
-
--- the arguments if the version has them, after n lines (own)
-abbrev pub args_in : Bool → ℕ → List (List ℕ) → Result (Read (Option (List (List ℕ)))) RecordFault
-args_in false n lines = Ok (None, (n, lines))
-args_in true n lines = args_lines_in n lines >>= λ r. Ok (Some r.0, r.1)
-
 -- the variables or the definitions, after n lines (own)
 abbrev pub entries_in : List ℕ → ℕ → List (List ℕ) → Result (Read (List (List ℕ × List ℕ))) RecordFault
 entries_in keyword n lines = several keyword entry_in is_entry [] n lines
 
--- the files or the headers, after n lines and the outputs before (own)
-abbrev pub outputs_in : List ℕ → List Output → ℕ → List (List ℕ) → Result (Read (List Output)) RecordFault
-outputs_in keyword before n lines = several keyword output_in (is_output (output_names before)) [] n lines
+-- the files or the headers, after n lines and outputs with the names before (own)
+abbrev pub outputs_in : List ℕ → List (List ℕ) → ℕ → List (List ℕ) → Result (Read (List Output)) RecordFault
+outputs_in keyword before n lines = several keyword output_in (is_output before) [] n lines
 
 -- ---- a whole text
 
@@ -100,12 +88,10 @@ is_number (b ∷ c ∷ more) = not (b == 48) && list_all is_ascii_digit (b ∷ c
 abbrev pub is_magic : List ℕ → Bool
 is_magic line = either (after_prefix (codes "acrun-record ") line) is_number false
 
--- whether the version of the first line has arguments (own)
-unfoldable pub version_in : List ℕ → Result Bool RecordFault
+-- the first line is that of the version (own)
+unfoldable pub version_in : List ℕ → Result (Unit {0}) RecordFault
 version_in line =
-    if bytes_eq line (codes "acrun-record 1") then Ok false
-    else (if bytes_eq line (codes "acrun-record 2") then Ok true
-    else (if is_magic line then Err UnknownVersion else Err BadMagic))
+    if bytes_eq line first_line then Ok tt else (if is_magic line then Err UnknownVersion else Err BadMagic)
 
 -- the source directory of the second line (own)
 unfoldable pub srcdir_in : List ℕ → Result (List ℕ) RecordFault
@@ -119,24 +105,23 @@ ending rest n (line ∷ []) =
 ending rest n (line ∷ next ∷ more) = if bytes_eq line (codes "end") then Err (BadLine (n + 2)) else Err (BadLine (n + 1))
 
 -- the lines after the second, and the text after the last newline (own)
-unfoldable pub body_in : Bool → List ℕ → List ℕ → List (List ℕ) → Result Record RecordFault
-body_in has_args rest srcdir lines = do
-  args ← args_in has_args 2 lines
-  vars ← entries_in (codes "var ") args.1.0 args.1.1
+unfoldable pub body_in : List ℕ → List ℕ → List (List ℕ) → Result Record RecordFault
+body_in rest srcdir lines = do
+  vars ← entries_in (codes "var ") 2 lines
   defs ← entries_in (codes "def ") vars.1.0 vars.1.1
   files ← outputs_in (codes "file ") [] defs.1.0 defs.1.1
-  headers ← outputs_in (codes "header ") files.0 files.1.0 files.1.1
+  headers ← outputs_in (codes "header ") (output_names files.0) files.1.0 files.1.1
   _ ← ending rest headers.1.0 headers.1.1
-  Ok (record { srcdir = srcdir; args = args.0; vars = vars.0; defs = defs.0; files = files.0; headers = headers.0 })
+  Ok (record { srcdir = srcdir; vars = vars.0; defs = defs.0; files = files.0; headers = headers.0 })
 
 -- the lines that a newline ends, and the text after the last newline (own)
 unfoldable pub lines_in : List ℕ → List (List ℕ) → Result Record RecordFault
 lines_in rest [] = Err BadMagic
 lines_in rest (first ∷ []) = version_in first >>= λ _. Err Truncated
 lines_in rest (first ∷ second ∷ more) = do
-  has_args ← version_in first
+  _ ← version_in first
   srcdir ← srcdir_in second
-  body_in has_args rest srcdir more
+  body_in rest srcdir more
 
 -- the last of several texts (own)
 unfoldable pub last_of : List (List ℕ) → List ℕ

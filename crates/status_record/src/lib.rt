@@ -2,7 +2,7 @@
 //!
 //! [`write_record`] returns the text of a [`Record`], and [`read_record`] the record of a text, or the first fault of a text
 //! that is no record's. A record that is written is read back, and a text that is read is written again with the same
-//! bytes. The format has two versions, and only the second has the arguments of the run.
+//! bytes. The format has one version.
 //!
 //! In a contract, a record is its fields: texts as lists of bytes, tables as lists of entries, and outputs as a list. A call
 //! that returns a `Result` runs out of memory or fails as it says, and no other call allocates. "own" marks a rule that no
@@ -15,23 +15,20 @@
 //! ```
 //!
 //! In `specs`, read `RecordText` for the text and for what a record may hold, `Line` and `Escape` for its lines and their
-//! values, `Path` for the names of files, and `Reading` for the order of the faults. In `src`, read `output` and `record`,
-//! then `write` and `read`. `laws` has no code.
+//! values, and `Reading` for the order of the faults. What outputs a record may hold is `AreOutputs` of `outputlist`. In `src`,
+//! read `record`, then `write` and `read`. `laws` has no code.
 #![tactic(auto)]
 
 mod escape;
 mod fault;
 pub mod laws;
 mod line;
-mod output;
-mod path;
 mod read;
 mod record;
 mod write;
 
 pub use fault::RecordFault;
-pub use output::{Args, Output, Outputs};
-pub use path::is_path;
+pub use outputlist::{Output, Outputs, is_path};
 pub use read::read_record;
 pub use record::Record;
 pub use write::write_record;

@@ -4,9 +4,8 @@ ghost use Rattle.std.specs.Prelude.{◌≡◌, ◌<◌, IfOk, IfSome, length, op
 ghost use Rattle.status_record.specs.Line as specs;
 
 use crate::escape::unescaped;
-use crate::output::Output;
-use crate::path::is_path;
 use deftable::{Bytes, is_shell_name};
+use outputlist::{Output, is_path};
 use std::alloc::{AllocError, Global};
 
 /// Returns the text after the keyword, or `None` if the line doesn't begin with it.

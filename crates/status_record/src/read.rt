@@ -1,36 +1,25 @@
 //! Records that are read.
 
-ghost use Rattle.std.specs.Prelude.{◌≡◌, ◌≤◌, ◌<◌, ◌+◌, IfOk, Ok, Err, length, drop, map, codes, ◌≢◌, ◌^◌, ◌++◌, List, [], ◌∷◌, ◌-◌};
+ghost use Rattle.std.specs.Prelude.{◌≡◌, ◌≤◌, ◌<◌, ◌+◌, ℕ, IfOk, OnOk, Ok, Err, length, drop, map, codes, ◌≢◌, ◌^◌, ◌++◌, List, [], ◌∷◌, ◌-◌, false};
 ghost use Rattle.std.specs.List.{list_all};
 ghost use Rattle.std.specs.Char.{is_ascii_digit};
 ghost use Rattle.status_record.specs.declared.fault.RecordFault.TheVariants.{OutOfMemory};
 ghost use Rattle.deftable.specs.NameList.{has_name};
-ghost use Rattle.status_record.specs.Escape.{unescaped};
+ghost use Rattle.deftable.specs.Table.{names_of};
+ghost use Rattle.outputlist.specs.Output.{output_names};
 ghost use Rattle.status_record.specs.Line.{entry_in, output_in};
-ghost use Rattle.status_record.specs.RecordText.{output_names, IsRecordText};
+ghost use Rattle.status_record.specs.RecordText.{IsRecordText};
 ghost use Rattle.status_record.specs.declared.record.Record.{Record as RecordValue};
 ghost use Rattle.status_record.specs.Reading as specs;
 
 use crate::escape::unescaped;
 use crate::fault::RecordFault;
 use crate::line::{after_prefix, entry_in, output_in};
-use crate::output::{Args, Outputs};
-use crate::path::has_output;
 use crate::record::Record;
-use deftable::{Bytes, Defs};
-use std::alloc::Global;
+use deftable::{Bytes, Defs, Vars};
+use outputlist::Outputs;
+use std::alloc::{AllocError, Global};
 use textcut::parts;
-
-/// Appends the argument of line `number`.
-fn add_arg(alloc: Global, args: &mut Args, number: u64, fields: &[u8]) -> Result<(), RecordFault>
-    ensures { specs.Gives (λ _. args.new) result (specs.with_item unescaped specs.never args.old number fields.now) }
-{
-    let Some(arg) = unescaped(alloc, fields)? else {
-        return Err(RecordFault::BadLine(number));
-    };
-    args.push(arg)?;
-    Ok(())
-}
 
 /// Appends the name and the value of line `number`.
 #[tactic(auto, using(crate::proofs::Tables::at_end))]
@@ -47,66 +36,43 @@ fn add_entry(alloc: Global, table: &mut Defs, number: u64, fields: &[u8]) -> Res
     Ok(())
 }
 
-/// Returns whether one of the outputs, or of those before, has the name.
-#[tactic(auto, using(crate::proofs::Names::joined_names))]
-fn is_taken(before: &Outputs, outputs: &Outputs, name: &[u8]) -> bool
-    ensures { result ≡ has_name (output_names before.now ++ output_names outputs.now) name.now }
+/// Returns whether the table has the name.
+#[tactic(auto, using(crate::proofs::Tables::at_end))]
+fn has(names: &Vars, name: &[u8]) -> bool
+    ensures { result ≡ has_name (names_of names.now) name.now }
 {
-    has_output(before.as_slice(), name) || has_output(outputs.as_slice(), name)
+    names.get(name).is_some()
 }
 
-/// Appends the output of line `number`.
+/// Adds a name that the table does not have. Its value is empty.
+#[tactic(auto, using(crate::proofs::Tables::name_at_end))]
+fn add_name(names: &mut Vars, name: &[u8]) -> Result<(), AllocError>
+    requires { has_name (names_of names.now) name.now ≡ false }
+    ensures { OnOk result (names_of names.new ≡ names_of names.old ++ name.now ∷ []) }
+{
+    names.set(name, b"")
+}
+
+/// Appends the output of line `number`, and adds its name to those of the outputs before.
 fn add_output(
     alloc: Global,
-    before: &Outputs,
+    names: &mut Vars,
     outputs: &mut Outputs,
     number: u64,
     fields: &[u8],
 ) -> Result<(), RecordFault>
-    ensures { specs.Gives (λ _. outputs.new) result (specs.with_item output_in (specs.is_output (output_names before.now)) outputs.old number fields.now) }
+    ensures reads { (before : List (List ℕ)) → names_of names.old ≡ before ++ output_names outputs.old → specs.Gives (λ _. outputs.new) result (specs.with_item output_in (specs.is_output before) outputs.old number fields.now) }
+    ensures named { (before : List (List ℕ)) → names_of names.old ≡ before ++ output_names outputs.old → OnOk result (names_of names.new ≡ before ++ output_names outputs.new) }
 {
     let Some(output) = output_in(alloc, fields)? else {
         return Err(RecordFault::BadLine(number));
     };
-    if is_taken(before, outputs, output.name.as_slice()) {
+    if has(names, output.name.as_slice()) {
         return Err(RecordFault::DuplicateName(number));
     }
+    add_name(names, output.name.as_slice())?;
     outputs.push(output)?;
     Ok(())
-}
-
-/// Reads the arguments from index `from` on. Returns also the index of the first line after them.
-fn read_arg_lines(alloc: Global, lines: &[&[u8]], from: usize) -> Result<(Args, usize), RecordFault>
-    requires { from ≤ length lines.now }
-    ensures reads { specs.Gives (λ r. (r.0, (r.1, drop r.1 (map (λ t. t.now) lines.now)))) result (specs.args_lines_in from (drop from (map (λ t. t.now) lines.now))) }
-    ensures within { IfOk result (λ r. r.1 ≤ length lines.now) }
-{
-    let mut args = Args::new(alloc);
-    for i in from..lines.len() {
-        let Some(fields) = after_prefix(b"arg ", lines[i]) else {
-            return Ok((args, i));
-        };
-        add_arg(alloc, &mut args, i as u64 + 1, fields)?;
-    }
-    Ok((args, lines.len()))
-}
-
-/// Reads the arguments, if the version has them.
-fn read_args(
-    alloc: Global,
-    has_args: bool,
-    lines: &[&[u8]],
-    from: usize,
-) -> Result<(Option<Args>, usize), RecordFault>
-    requires { from ≤ length lines.now }
-    ensures reads { specs.Gives (λ r. (r.0, (r.1, drop r.1 (map (λ t. t.now) lines.now)))) result (specs.args_in has_args from (drop from (map (λ t. t.now) lines.now))) }
-    ensures within { IfOk result (λ r. r.1 ≤ length lines.now) }
-{
-    if !has_args {
-        return Ok((None, from));
-    }
-    let (args, next) = read_arg_lines(alloc, lines, from)?;
-    Ok((Some(args), next))
 }
 
 /// Reads the variables or the definitions from index `from` on.
@@ -130,24 +96,25 @@ fn read_entries(
     Ok((table, lines.len()))
 }
 
-/// Reads the files or the headers from index `from` on, none of which has the name of an output before.
+/// Reads the files or the headers from index `from` on, and adds their names to those of the outputs before.
 fn read_outputs(
     alloc: Global,
     keyword: &[u8],
-    before: &Outputs,
+    names: &mut Vars,
     lines: &[&[u8]],
     from: usize,
 ) -> Result<(Outputs, usize), RecordFault>
     requires { from ≤ length lines.now }
-    ensures reads { specs.Gives (λ r. (r.0, (r.1, drop r.1 (map (λ t. t.now) lines.now)))) result (specs.outputs_in keyword.now before.now from (drop from (map (λ t. t.now) lines.now))) }
+    ensures reads { specs.Gives (λ r. (r.0, (r.1, drop r.1 (map (λ t. t.now) lines.now)))) result (specs.outputs_in keyword.now (names_of names.old) from (drop from (map (λ t. t.now) lines.now))) }
     ensures within { IfOk result (λ r. r.1 ≤ length lines.now) }
+    ensures named { IfOk result (λ r. names_of names.new ≡ names_of names.old ++ output_names r.0) }
 {
     let mut outputs = Outputs::new(alloc);
     for i in from..lines.len() {
         let Some(fields) = after_prefix(keyword, lines[i]) else {
             return Ok((outputs, i));
         };
-        add_output(alloc, before, &mut outputs, i as u64 + 1, fields)?;
+        add_output(alloc, names, &mut outputs, i as u64 + 1, fields)?;
     }
     Ok((outputs, lines.len()))
 }
@@ -178,16 +145,13 @@ fn is_magic(line: &[u8]) -> bool
     }
 }
 
-/// Reads the first line. Returns whether the version has arguments.
+/// Reads the first line, the version.
 #[tactic(auto, unfolding(crate::specs::Reading::version_in))]
-fn read_version(line: &[u8]) -> Result<bool, RecordFault>
-    ensures { specs.Gives (λ b. b) result (specs.version_in line.now) }
+fn read_version(line: &[u8]) -> Result<(), RecordFault>
+    ensures { specs.Gives (λ u. u) result (specs.version_in line.now) }
 {
     if line == b"acrun-record 1".as_slice() {
-        return Ok(false);
-    }
-    if line == b"acrun-record 2".as_slice() {
-        return Ok(true);
+        return Ok(());
     }
     if is_magic(line) {
         return Err(RecordFault::UnknownVersion);
@@ -255,23 +219,21 @@ fn read_rest(rest: &[u8], lines: &[&[u8]], at: usize) -> Result<(), RecordFault>
 #[tactic(auto, unfolding(crate::specs::Reading::body_in))]
 fn read_body(
     alloc: Global,
-    has_args: bool,
     rest: &[u8],
     srcdir: Bytes,
     lines: &[&[u8]],
 ) -> Result<Record, RecordFault>
     requires { 2 ≤ length lines.now }
-    ensures { specs.Gives (λ r. r) result (specs.body_in has_args rest.now srcdir (drop 2 (map (λ t. t.now) lines.now))) }
+    ensures { specs.Gives (λ r. r) result (specs.body_in rest.now srcdir (drop 2 (map (λ t. t.now) lines.now))) }
 {
-    let (args, at) = read_args(alloc, has_args, lines, 2)?;
-    let (vars, at) = read_entries(alloc, b"var ", lines, at)?;
+    let (vars, at) = read_entries(alloc, b"var ", lines, 2)?;
     let (defs, at) = read_entries(alloc, b"def ", lines, at)?;
-    let (files, at) = read_outputs(alloc, b"file ", &Outputs::new(alloc), lines, at)?;
-    let (headers, at) = read_outputs(alloc, b"header ", &files, lines, at)?;
+    let mut names = Vars::new(alloc);
+    let (files, at) = read_outputs(alloc, b"file ", &mut names, lines, at)?;
+    let (headers, at) = read_outputs(alloc, b"header ", &mut names, lines, at)?;
     read_rest(rest, lines, at)?;
     Ok(Record {
         srcdir,
-        args,
         vars,
         defs,
         files,
@@ -291,9 +253,9 @@ fn read_lines(alloc: Global, rest: &[u8], lines: &[&[u8]]) -> Result<Record, Rec
             Err(RecordFault::Truncated)
         }
         [first, second, ..] => {
-            let has_args = read_version(first)?;
+            read_version(first)?;
             let srcdir = read_srcdir(alloc, second)?;
-            read_body(alloc, has_args, rest, srcdir, lines)
+            read_body(alloc, rest, srcdir, lines)
         }
     }
 }
@@ -315,7 +277,7 @@ fn read_text(alloc: Global, text: &[u8]) -> Result<Record, RecordFault>
 /// The errors come in this order:
 ///
 /// - `BadMagic`, if the text has no newline or its first line isn't `acrun-record` and a number;
-/// - `UnknownVersion`, if that number is neither 1 nor 2;
+/// - `UnknownVersion`, if that number is not 1;
 /// - `BadLine` or `DuplicateName`, for the first line that has none of the forms or gives a name again;
 /// - `Truncated`, if the text ends before the line `end` and its newline.
 pub fn read_record(alloc: Global, text: &[u8]) -> Result<Record, RecordFault>

@@ -3,13 +3,13 @@
 ghost use Rattle.std.specs.Prelude.{◌≡◌, ◌++◌, ◌∷◌, [], List, ℕ, OnOk, IfOk, Ok, codes, map};
 ghost use Rattle.status_record.specs.Escape.{escaped};
 ghost use Rattle.status_record.specs.Line.{ended, two_fields, entry_fields, output_fields};
-ghost use Rattle.status_record.specs.RecordText.{lines_of, args_lines, first_line, record_text, IsRecord, IsRecordText};
+ghost use Rattle.status_record.specs.RecordText.{lines_of, record_text, IsRecord, IsRecordText};
 ghost use Rattle.status_record.specs.Reading.{record_in};
 
 use crate::escape::put_escaped;
-use crate::output::{Args, Output};
 use crate::record::Record;
 use deftable::{Bytes, Defs};
+use outputlist::Output;
 use std::alloc::{AllocError, Global};
 
 /// Appends a line: a keyword and a value.
@@ -46,16 +46,6 @@ fn put_output(out: &mut Vec<u8>, keyword: &[u8], output: &Output) -> Result<(), 
     Ok(())
 }
 
-/// Appends a line for each argument.
-fn put_args(out: &mut Vec<u8>, args: &[Bytes]) -> Result<(), AllocError>
-    ensures { OnOk result (out.new.items ≡ out.old.items ++ ended (lines_of (codes "arg ") escaped args.now)) }
-{
-    for arg in args {
-        put_value(out, b"arg ", arg.as_slice())?;
-    }
-    Ok(())
-}
-
 /// Appends a line for each entry of a table.
 fn put_entries(out: &mut Vec<u8>, keyword: &[u8], table: &Defs) -> Result<(), AllocError>
     ensures { OnOk result (out.new.items ≡ out.old.items ++ ended (lines_of keyword.now entry_fields table.now)) }
@@ -77,34 +67,13 @@ fn put_outputs(out: &mut Vec<u8>, keyword: &[u8], outputs: &[Output]) -> Result<
     Ok(())
 }
 
-/// Appends the first line.
-fn put_first(out: &mut Vec<u8>, args: &Option<Args>) -> Result<(), AllocError>
-    ensures { OnOk result (out.new.items ≡ out.old.items ++ ended (first_line args.now ∷ [])) }
-{
-    match args {
-        None => out.extend_from_slice(b"acrun-record 1\n"),
-        Some(_) => out.extend_from_slice(b"acrun-record 2\n"),
-    }
-}
-
-/// Appends the lines of the arguments, if the record has them.
-fn put_all_args(out: &mut Vec<u8>, args: &Option<Args>) -> Result<(), AllocError>
-    ensures { OnOk result (out.new.items ≡ out.old.items ++ ended (args_lines args.now)) }
-{
-    match args {
-        None => Ok(()),
-        Some(args) => put_args(out, args.as_slice()),
-    }
-}
-
 #[tactic(auto, unfolding(crate::specs::RecordText::record_text))]
 fn text_of(alloc: Global, status: &Record) -> Result<Bytes, AllocError>
     ensures { IfOk result (λ t. t ≡ record_text status.now) }
 {
     let mut out = Vec::new(alloc);
-    put_first(&mut out, &status.args)?;
+    out.extend_from_slice(b"acrun-record 1\n")?;
     put_value(&mut out, b"srcdir ", status.srcdir.as_slice())?;
-    put_all_args(&mut out, &status.args)?;
     put_entries(&mut out, b"var ", &status.vars)?;
     put_entries(&mut out, b"def ", &status.defs)?;
     put_outputs(&mut out, b"file ", status.files.as_slice())?;
@@ -122,6 +91,7 @@ pub fn write_record(alloc: Global, status: &Record) -> Result<Bytes, AllocError>
     requires { IsRecord status.now }
     // What is written is the record's text.
     ensures text { IfOk result (λ t. IsRecordText t status.now) }
+    ensures exact { IfOk result (λ t. t ≡ record_text status.now) }
     // This text is read as the record.
     ensures reads_back { IfOk result (λ t. record_in t ≡ Ok status.now) }
 {

@@ -1,6 +1,5 @@
 pub mod Texts
 pub mod Feature
-pub mod Output
 pub mod Script
 pub mod Lists
 pub mod Limits

@@ -7,7 +7,7 @@ use Rattle.syntax.specs.declared.declarations.Stage.TheVariants.{Before, Open, E
 use Rattle.syntax.specs.declared.feature.OptionKind.TheVariants.{Feature, Package}
 use Rattle.syntax.specs.declared.help.Help.TheVariants.{Entry}
 use Rattle.syntax.specs.declared.statement.Plain as plain
-use Rattle.syntax.specs.declared.statement.Plain.TheVariants.{Init, ConfigFiles, Subst, SubstValue, ArgVar, CheckProg, CheckProgs, PathProg, ProgCc, Output}
+use Rattle.syntax.specs.declared.statement.Plain.TheVariants.{Init, ConfigFiles, ConfigHeaders, Subst, SubstValue, ArgVar, CheckProg, CheckProgs, PathProg, ProgCc, Output}
 use Rattle.syntax.specs.declared.statement.Question as question
 use Rattle.syntax.specs.declared.statement.Question.TheVariants.{Given, Tries, Checks, ChecksEach}
 use Rattle.syntax.specs.declared.tree.Subject.{Subject}
@@ -36,6 +36,7 @@ with_tools c =
 unfoldable pub after : declarations.Declarations → plain.Plain → declarations.Declarations
 after c (Init a b d e f) = record c { stage = Open }
 after c (ConfigFiles outputs) = record c { files = c.files ++ outputs }
+after c (ConfigHeaders outputs) = record c { headers = c.headers ++ outputs }
 after c (Subst name) = record c { substituted = with_name c.substituted name }
 after c (SubstValue name value) = record c { substituted = with_name c.substituted name }
 after c (ArgVar name help) = with_precious c name help

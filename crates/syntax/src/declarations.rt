@@ -6,9 +6,9 @@ ghost use Rattle.syntax.specs.Lists as lists;
 
 use crate::feature::OptionKind;
 use crate::help::{Help, HelpList};
-use crate::output::Outputs;
 use crate::statement::{Plain, Question};
 use deftable::{Bytes, Name, SubstList};
+use outputlist::Outputs;
 use std::alloc::{AllocError, Global};
 
 /// How far a source is: which of AC_INIT and AC_OUTPUT it has passed.
@@ -38,7 +38,7 @@ pub struct Declarations {
     pub help: HelpList,
     /// The files to be made, in the order in which they are named.
     pub files: Outputs,
-    /// The headers to be made, in the same way. No macro that is read yet names one.
+    /// The headers to be made, in the same way.
     pub headers: Outputs,
 }
 
@@ -84,6 +84,9 @@ pub fn declare(alloc: Global, known: &mut Declarations, statement: &Plain) -> Re
         Plain::Init { .. } => known.stage = Stage::Open,
         Plain::ConfigFiles { outputs } => {
             return known.files.push_copies(alloc, outputs.as_slice());
+        }
+        Plain::ConfigHeaders { outputs } => {
+            return known.headers.push_copies(alloc, outputs.as_slice());
         }
         Plain::Subst { name } | Plain::SubstValue { name, .. } => {
             return known.substituted.add(name.as_slice());

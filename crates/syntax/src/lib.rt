@@ -2,7 +2,7 @@
 //!
 //! The parser makes this tree. The crates that give it a meaning, compile it and run it use it, so that neither half
 //! depends on the other. `tree` has the types of statements that hold statements, `statement` those of all others, with
-//! `feature`, `help`, `listed`, `output` and `program` for their parts. `declarations` has the lists, and how each statement adds
+//! `feature`, `help`, `listed` and `program` for their parts. `declarations` has the lists, and how each statement adds
 //! to them. `source` puts both together. Read them in this order.
 //!
 //! Contracts see a list of statements as its first statement and what follows: `specs/Script.antt`. `specs/Lists.antt`
@@ -19,7 +19,6 @@ pub mod declarations;
 pub mod feature;
 pub mod help;
 pub mod listed;
-pub mod output;
 pub mod program;
 pub mod source;
 pub mod statement;
@@ -29,8 +28,7 @@ pub use declarations::{Declarations, Stage};
 pub use feature::{OptionKind, is_feature, option_variable};
 pub use help::{Help, HelpList};
 pub use listed::{Entries, Listed, Sought};
-pub use output::{Output, Outputs};
 pub use program::{Program, ProgramNames, Try};
 pub use source::Source;
-pub use statement::{Plain, Question};
+pub use statement::{MessageKind, Plain, Question};
 pub use tree::{Case, Stmt, Subject, When, cache_check, choose};

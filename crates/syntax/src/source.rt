@@ -6,9 +6,9 @@ ghost use Rattle.syntax.specs.Script.{script_of};
 
 use crate::declarations::Declarations;
 use crate::help::HelpList;
-use crate::output::Outputs;
 use crate::tree::Stmt;
 use deftable::SubstList;
+use outputlist::Outputs;
 use std::marker::Model;
 
 /// A configure.ac that was read. Contracts see its statements; its lists are those that the statements declare.
@@ -103,7 +103,7 @@ impl Source {
         &self.lists.files
     }
 
-    /// Returns the headers to be made, in order, each name once. No macro that is read yet names one.
+    /// Returns the headers that AC_CONFIG_HEADERS names, in order, each name once.
     pub fn headers(&self) -> &Outputs
         ensures { result.now ≡ (lists_of (script_of self.now)).headers }
     {

@@ -3,10 +3,23 @@
 use crate::feature::OptionKind;
 use crate::help::Help;
 use crate::listed::{Entries, Listed, Sought};
-use crate::output::Outputs;
 use crate::program::{Program, ProgramNames, Try};
 use deftable::{Bytes, Name};
+use outputlist::Outputs;
 use shellword::{HereText, Word};
+
+/// What a message is (Autoconf's manual, "Printing Messages").
+#[derive(Clone, Copy)]
+pub enum MessageKind {
+    /// AC_MSG_CHECKING: what is checked.
+    Checking,
+    /// AC_MSG_RESULT: the results of a check.
+    Results,
+    /// AC_MSG_NOTICE: what the run does.
+    Notice,
+    /// AC_MSG_WARN: what may be wrong.
+    Warning,
+}
 
 /// A statement with no statements in it. Texts are used texts: unquoted, with quadrigraphs replaced.
 #[derive(Drop)]
@@ -24,6 +37,10 @@ pub enum Plain {
     Accepted,
     /// AC_CONFIG_FILES: files to be made.
     ConfigFiles {
+        outputs: Outputs,
+    },
+    /// AC_CONFIG_HEADERS: headers to be made.
+    ConfigHeaders {
         outputs: Outputs,
     },
     /// `NAME=WORD`: a shell variable and the word that gives its value.
@@ -54,6 +71,11 @@ pub enum Plain {
     Error {
         message: HereText,
         status: u8,
+    },
+    /// AC_MSG_CHECKING, AC_MSG_RESULT, AC_MSG_NOTICE and AC_MSG_WARN: a message.
+    Message {
+        kind: MessageKind,
+        message: HereText,
     },
     /// AC_ARG_VAR: a precious variable, which is an output variable too, and its purpose.
     ArgVar {

@@ -1,7 +1,7 @@
 use Rattle.std.proofs.Common.{subst}
 use Rattle.acstatement.specs.Reading.{Gives}
 use Rattle.syntax.specs.Script.{script_of}
-use Rattle.acparse.proofs.ListLimits.{lists_fit}
+use Rattle.acparse.proofs.ListLimits.{lists_fit, outputs_fit}
 use Rattle.acparse.proofs.Owning.{commands_held}
 use Rattle.acparse.proofs.Whole.{is_found, is_fault, source_only}
 use Rattle.acparse.proofs.source.parse.Goals as goal
@@ -11,6 +11,9 @@ returns-clause-sound c = is_found c.args.text.now c.read_source.result c.read_so
 
 pub returns-clause-limits : goal.returns-clause-limits
 returns-clause-limits c = lists_fit c.args.text.now c.read_source.result c.read_source.ensures
+
+pub returns-clause-outputs : goal.returns-clause-outputs
+returns-clause-outputs c = outputs_fit c.args.text.now c.read_source.result c.read_source.ensures
 
 pub returns-clause-commands : goal.returns-clause-commands
 returns-clause-commands c = commands_held c.args.text.now c.read_source.result c.read_source.ensures

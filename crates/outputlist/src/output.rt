@@ -1,15 +1,15 @@
-//! Outputs of a source, and lists of them.
+//! Files and headers to be made, and lists of them.
 
-ghost use Rattle.std.specs.Prelude.{◌≡◌, ℕ, List, [], length, IfOk, OnOk, OnErr, ◌++◌, ◌∷◌, ◌==◌};
-ghost use Rattle.syntax.specs.declared.output.Output.{Output};
-ghost use Rattle.syntax.specs.Output as specs;
+ghost use Rattle.std.specs.Prelude.{◌≡◌, ℕ, List, [], length, IfOk, OnOk, OnErr, ◌++◌, ◌∷◌, ◌==◌, bytes_eq};
+ghost use Rattle.std.specs.List.{list_any};
+ghost use Rattle.outputlist.specs.declared.output.Output.{Output};
+ghost use Rattle.outputlist.specs.Output as specs;
 
 use deftable::Bytes;
 use std::alloc::{AllocError, AllocFailed, Global};
 use std::marker::Model;
 
-/// A file to be made, and its template. `parse` accepts only paths below the build directory and the source directory:
-/// not absolute, without `$` and `:`, and with no part that is empty, `.` or `..`.
+/// A file or a header to be made, and its template (Autoconf's manual, "Configuration Files" and "Configuration Headers").
 #[derive(Drop)]
 pub struct Output {
     pub name: Bytes,
@@ -76,10 +76,11 @@ impl Outputs {
     }
 
     /// Returns whether an output has this name.
+    #[tactic(auto, using(crate::proofs::Names::named))]
     pub fn has(&self, name: &[u8]) -> bool
         ensures { result ≡ specs.has_output self.now name.now }
     {
-        self.outputs.iter().any(|o| o.name.as_slice() == name)
+        is_any(self.outputs.as_slice(), name)
     }
 
     /// Appends an output. If memory runs out, the output is dropped.
@@ -100,4 +101,10 @@ impl Outputs {
         }
         Ok(())
     }
+}
+
+fn is_any(outputs: &[Output], name: &[u8]) -> bool
+    ensures { result ≡ list_any (λ o. bytes_eq name.now o.name) outputs.now }
+{
+    outputs.iter().any(|o| name == o.name.as_slice())
 }

@@ -1,28 +1,11 @@
-//! Names of outputs.
+//! Names of outputs and of templates.
 
-ghost use Rattle.std.specs.Prelude.{◌≡◌, IfOk, bytes_eq};
-ghost use Rattle.std.specs.List.{list_all, list_any};
-ghost use Rattle.deftable.specs.NameList.{has_name};
-ghost use Rattle.status_record.specs.RecordText.{output_names};
-ghost use Rattle.status_record.specs.Path as specs;
+ghost use Rattle.std.specs.Prelude.{◌≡◌, IfOk};
+ghost use Rattle.std.specs.List.{list_all};
+ghost use Rattle.outputlist.specs.Path as specs;
 
-use crate::output::Output;
 use std::alloc::{AllocError, Global};
 use textcut::{is_blank, parts};
-
-/// Returns whether an output has the name.
-#[tactic(auto, using(crate::proofs::Names::named))]
-pub(crate) fn has_output(outputs: &[Output], name: &[u8]) -> bool
-    ensures { result ≡ has_name (output_names outputs.now) name.now }
-{
-    is_any(outputs, name)
-}
-
-fn is_any(outputs: &[Output], name: &[u8]) -> bool
-    ensures { result ≡ list_any (λ o. bytes_eq name.now o.name) outputs.now }
-{
-    outputs.iter().any(|o| name == o.name.as_slice())
-}
 
 fn is_path_byte(byte: u8) -> bool
     ensures { result ≡ specs.is_path_byte byte }
