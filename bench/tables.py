@@ -6,40 +6,14 @@ program there with rt, and measures it. It needs rt and no network. Run `make` f
 """
 import os
 import pathlib
-import shutil
-import subprocess
 import tempfile
 
-ROOT = pathlib.Path(__file__).resolve().parent.parent
+from building import build
+
 RUNS = 12
 # Names of which a table is made ten times over, or arguments that are read ten times over.
 ROWS = (("definitions", 45_000), ("variables", 60_000), ("names", 60_000), ("arguments", 300_000))
-
-
 USED = ["template", "options", "deftable"]
-
-
-def build(folder):
-    """Proves and builds the program in the folder, and returns its path."""
-    lines = [line for line in (ROOT / "crates.txt").read_text().splitlines() if ":" in line and not line.startswith("#")]
-    uses = {line.partition(":")[0]: line.partition(":")[2].split() for line in lines}
-    wanted = set(USED)
-    while any(name not in wanted for it in wanted for name in uses[it] if name in uses):
-        wanted |= {name for it in wanted for name in uses[it] if name in uses}
-    crates = folder / "crates"
-    for name in wanted:
-        shutil.copytree(ROOT / "crates" / name, crates / name, ignore=shutil.ignore_patterns("must-fail"))
-    (crates / "tables_bench" / "src").mkdir(parents=True)
-    shutil.copyfile(ROOT / "bench" / "tables.rt.txt", crates / "tables_bench" / "src" / "main.rt")
-    kept = [line for line in lines if line.partition(":")[0] in wanted]
-    (folder / "crates.txt").write_text("\n".join([*kept, f"tables_bench: {' '.join(USED)}", ""]))
-    (folder / "HANDLES").write_text("Handles allowed: Processes.\n")
-    here = crates / "tables_bench"
-    done = subprocess.run(["rt", "run", "--", "work", "definitions", "1"], cwd=here, stdin=subprocess.DEVNULL, capture_output=True, text=True)
-    program = here / "out" / "tables_bench"
-    if done.returncode or not program.exists():
-        raise SystemExit(done.stdout + done.stderr)
-    return program
 
 
 def measured(*command):
@@ -57,7 +31,7 @@ def measured(*command):
 
 def main():
     with tempfile.TemporaryDirectory() as folder:
-        program = build(pathlib.Path(folder))
+        program = build(pathlib.Path(folder), "tables", USED, "work", "definitions", "1")
         print("user time of ten tables of twice as many names, as a multiple of that of once as many:")
         for name, count in ROWS:
             pairs = [[measured(program, "work", name, size)[1] for size in (count, 2 * count)] for _ in range(RUNS)]

@@ -1,5 +1,5 @@
 -- Lemmas for the functions that make headers.
-use Rattle.std.proofs.Common.{◌≡◌, ℕ, ◌+◌, Bool, true, false, List, length, take, drop, Option, Some, None, Bor, sym, ap, refl}
+use Rattle.std.proofs.Common.{◌≡◌, ℕ, ◌+◌, true, false, List, length, take, drop, Option, Some, None, Bor, ap, refl}
 use Rattle.std.specs.Prelude.{option_map, bytes_eq}
 use Rattle.std.specs.Option.{MatchOption}
 use Rattle.template.specs.Header.{rest_after}

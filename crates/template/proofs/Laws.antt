@@ -81,6 +81,26 @@ module _ (es : List (List ℕ × List ℕ)) where
   pub filled-end : (s : List ℕ) → HasNoAt s → filled es s ≡ s
   filled-end s h = ap (filled es) (sym (append-nil s)) ∙ filled-plain s [] h ∙ ap (λ x. s ++ x) filled-[] ∙ append-nil s
 
+  before_at-after : (s t : List ℕ) → HasNoAt s → before_at (s ++ t) ≡ option_map (λ k. s ++ k) (before_at t)
+  unfolding before_at
+  before_at-after [] t h = elim (before_at t) as (λ o. o ≡ option_map (λ k. k) o) [ None ↦ refl | Some k ↦ refl ]
+  before_at-after (b ∷ bs) t h =
+      ap (λ x. cond x (Some []) (option_map (λ k. b ∷ k) (before_at (bs ++ t)))) h.0 ∙ ap (option_map (λ k. b ∷ k)) (before_at-after bs t h.1)
+      ∙ elim (before_at t) as (λ o. option_map (λ k. b ∷ k) (option_map (λ k. bs ++ k) o) ≡ option_map (λ k. b ∷ (bs ++ k)) o) [ None ↦ refl | Some k ↦ refl ]
+
+  key_at_front-no_front : (s t : List ℕ) → HasNoAt s → ((k : List ℕ) → value_of es (s ++ k) ≡ None) → key_at_front es (at_sign ∷ (s ++ t)) ≡ None
+  unfolding key_at_front
+  key_at_front-no_front s t h none =
+      ap (option_and_then (entry_of es)) (before_at-after s t h)
+      ∙ elim (before_at t) as (λ o. option_and_then (entry_of es) (option_map (λ k. s ++ k) o) ≡ None) [
+        | None ↦ refl
+        | Some k ↦ ap (option_map (λ v. let pair : List ℕ × List ℕ = (s ++ k, v) in pair)) (none k)
+      ]
+
+  -- an `@`, and no key begins with the text after it
+  pub filled-no_front : (s t : List ℕ) → HasNoAt s → ((k : List ℕ) → value_of es (s ++ k) ≡ None) → filled es (at_sign ∷ (s ++ t)) ≡ at_sign ∷ (s ++ filled es t)
+  filled-no_front s t h none = filled-byte at_sign (s ++ t) (key_at_front-no_front s t h none) ∙ ap (λ x. at_sign ∷ x) (filled-plain s t h)
+
   -- ---- the relation
 
   -- the result of a search for the first `@` ends before one

@@ -1,4 +1,6 @@
 pub mod Directives
+pub mod Fronts
+pub mod Joins
 pub mod Headers
 pub mod Keys
 pub mod Laws

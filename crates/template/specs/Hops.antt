@@ -1,5 +1,5 @@
 -- The state of a filling between one `@` of a template and the next.
-use Rattle.std.specs.Prelude.{◌≡◌, ℕ, ◌+◌, ◌<◌, ◌≤◌, Bool, true, false, ◌==◌, List, ◌∷◌, ◌++◌, length, drop, slice_range, if◌then◌else◌}
+use Rattle.std.specs.Prelude.{◌≡◌, ℕ, ◌+◌, ◌<◌, ◌≤◌, Bool, true, false, ◌==◌, List, [], ◌∷◌, ◌++◌, length, take, drop, slice_range, if◌then◌else◌}
 use Rattle.std.specs.List.{AllByRecursion}
 use Rattle.template.specs.Fill.{at_sign, filled}
 
@@ -22,10 +22,16 @@ pub record HasNextAt (text : List ℕ) (from at : ℕ) : Type 0 where
 abbrev pub read_to : ℕ → Bool → ℕ
 read_to last opened = if opened then last + 1 else last
 
--- A filling has come to the offset `last`, at which there may be an open `@`. The written text, then the text from
--- `start` to `last` unchanged, and then the rest filled, are together the filled text. (own)
+-- what may follow an open `@` and the text after it: nothing, or a text that begins with `@` (own)
+abbrev pub MayFollow : List ℕ → Type 0
+MayFollow [] = Unit {0}
+MayFollow (b ∷ bs) = b ≡ at_sign
+
+-- A filling has come to the offset `last`, at which there may be an open `@`. The text up to there with any rest, filled, is what
+-- is written, then the text from `start` to `last` unchanged, and then that rest filled. If an `@` is open, the rest is empty or
+-- begins with `@`. (own)
 pub record HasComeTo (es : List (List ℕ × List ℕ)) (text made : List ℕ) (start last : ℕ) (opened : Bool) : Type 0 where
   pub ordered : start ≤ last
   pub within : read_to last opened ≤ length text
   pub at_open : opened ≡ true → HasAt text last
-  pub whole : made ++ (slice_range text start last ++ filled es (drop last text)) ≡ filled es text
+  pub whole : (rest : List ℕ) → (opened ≡ true → MayFollow rest) → filled es (take last text ++ rest) ≡ (made ++ slice_range text start last) ++ filled es rest

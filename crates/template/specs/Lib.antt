@@ -3,4 +3,5 @@ pub mod Header
 pub mod Hops
 pub mod Keys
 pub mod Marks
+pub mod Pieces
 pub mod Place

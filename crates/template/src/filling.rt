@@ -1,9 +1,9 @@
 //! Fills a template, from one `@` to the next. Adjacent pieces that are copied are written together.
 
-ghost use Rattle.std.specs.Prelude.{◌≡◌, ℕ, ◌+◌, ◌-◌, ◌^◌, ◌<◌, ◌≤◌, Some, None, true, List, length, slice_range, IfSome, IfNone, IfOk};
+ghost use Rattle.std.specs.Prelude.{◌≡◌, ℕ, ◌+◌, ◌-◌, ◌^◌, ◌<◌, ◌≤◌, Some, None, true, List, length, slice_range, IfSome, IfNone, IfOk, drop};
 ghost use Rattle.deftable.specs.Table.{value_of};
 ghost use Rattle.template.specs.Fill.{Fills, filled};
-ghost use Rattle.template.specs.Hops.{HasNextAt, HasComeTo, read_to};
+ghost use Rattle.template.specs.Hops.{HasNoAt, HasNextAt, HasComeTo, read_to};
 
 use crate::signs::{Window, next_sign};
 use crate::table::Table;
@@ -16,24 +16,10 @@ const MOST_HELD: usize = 512;
 /// The progress of a filling. The text before `start` is written, and the text from `start` to `last` is pending: it
 /// will be copied. If `opened` is set, an `@` is at `last` and may begin a key.
 #[derive(Clone, Copy)]
-struct Held {
-    start: usize,
-    last: usize,
-    opened: bool,
-}
-
-impl Held {
-    /// Returns the offset up to which the text has been read.
-    fn read_to(self) -> usize
-        requires { self.last < 2 ^ 64 - 1 }
-        ensures { result ≡ read_to self.last self.opened }
-    {
-        if self.opened {
-            self.last + 1
-        } else {
-            self.last
-        }
-    }
+pub(crate) struct Held {
+    pub(crate) start: usize,
+    pub(crate) last: usize,
+    pub(crate) opened: bool,
 }
 
 /// Returns the template `text` with the keys of `table` filled in (Autoconf's manual, "Setting Output Variables").
@@ -45,6 +31,24 @@ pub fn fill(alloc: Global, text: &[u8], table: &Table) -> Result<Vec<u8>, AllocE
     ensures sound { IfOk result (λ v. Fills table.now text.now v.items) }
     ensures exact { IfOk result (λ v. v.items ≡ filled table.now text.now) }
 {
+    let (mut made, held) = fill_closed(alloc, text, table)?;
+    made.extend_from_slice(&text[held.start..])?;
+    // for the proof only
+    has_one_filled_text(text, table);
+    Ok(made)
+}
+
+/// Fills the text up to its last `@` if that one is open, and otherwise up to the end of its last key.
+///
+/// [`fill`] and a filler share it. A filler owns its table, so `fill` can't go through one without a copy of the table.
+pub(crate) fn fill_closed(
+    alloc: Global,
+    text: &[u8],
+    table: &Table,
+) -> Result<(Vec<u8>, Held), AllocError>
+    ensures come { IfOk result (λ p. HasComeTo table.now text.now p.0.items p.1.start p.1.last p.1.opened) }
+    ensures end { IfOk result (λ p. HasNoAt (drop (read_to p.1.last p.1.opened) text.now)) }
+{
     let mut made = Vec::with_capacity(alloc, text.len())?;
     let mut held = Held {
         start: 0,
@@ -52,14 +56,13 @@ pub fn fill(alloc: Global, text: &[u8], table: &Table) -> Result<Vec<u8>, AllocE
         opened: false,
     };
     let mut window = Window::new();
-    while let Some((at, later)) = next_sign(text, window, held.read_to()) {
-        window = later;
+    let mut from = 0;
+    while let Some((at, later)) = next_sign(text, window, from) {
         held = step(&mut made, text, table, held, at)?;
+        window = later;
+        from = at + 1;
     }
-    made.extend_from_slice(&text[held.start..])?;
-    // for the proof only
-    has_one_filled_text(text, table);
-    Ok(made)
+    Ok((made, held))
 }
 
 /// States that a template has exactly one filled text: the one that the function `filled` gives.

@@ -2,7 +2,8 @@
 //! `#undef` and `#define` are replaced by definitions.
 //!
 //! [`fill`] writes the value of a key for each `@KEY@`, and copies everything else. A value isn't read again, so it may
-//! contain an `@` or the name of another key. [`fill_header`] makes a header, line by line.
+//! contain an `@` or the name of another key. A [`Filler`] does the same with a template in pieces. [`fill_header`] makes a header,
+//! line by line.
 //!
 //! ```text
 //! let mut table = Table::new(alloc);
@@ -15,13 +16,15 @@
 //!
 //! Read `specs/Fill.antt` first. It defines the filled text of a template twice: as a relation, by cases on the
 //! template's front, and as a function. Then read `table` and `filling`; its [`has_one_filled_text`] says that the two
-//! definitions agree. `specs/Header.antt` and `header` do the same for headers. `signs` finds each `@` of a text, and
+//! definitions agree. `specs/Pieces.antt` and `pieces` have templates in pieces, and [`pieces_join`] says what all pieces give
+//! together; [`fill`] and [`Filler::feed`] share one loop. `specs/Header.antt` and `header` do the same for headers. `signs` finds each `@` of a text, and
 //! `sieve` rules out most texts that aren't keys before they are looked up. `placing` has what differs between output
 //! files: the names of directories, and the name of the template. `specs/Place.antt` defines them.
 #![tactic(auto)]
 
 pub mod filling;
 pub mod header;
+pub mod pieces;
 pub mod placing;
 mod sieve;
 mod signs;
@@ -29,5 +32,6 @@ pub mod table;
 
 pub use filling::{fill, has_one_filled_text};
 pub use header::{fill_header, has_one_header};
+pub use pieces::{Filler, pieces_join};
 pub use placing::{Place, configure_input, header_note, place_vars};
 pub use table::Table;

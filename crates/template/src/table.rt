@@ -4,6 +4,7 @@ ghost use Rattle.std.specs.Prelude.{◌≡◌, ℕ, List, [], OnOk, OnErr, optio
 ghost use Rattle.deftable.specs.ShellName.{IsShellName};
 ghost use Rattle.deftable.specs.Table.{value_of, with_entry, HasShellNames};
 ghost use Rattle.template.specs.Keys.{AreUpTo, AllPass, longest_of};
+ghost use Rattle.template.specs.Pieces.{begins_key};
 
 use crate::sieve::Sieve;
 use deftable::{Bytes, Defs};
@@ -80,5 +81,18 @@ impl Table {
         ensures shell_names { HasShellNames self.now }
     {
         self.longest
+    }
+
+    /// Returns whether the text is the front of a key. The time is that of reading each key.
+    pub(crate) fn starts_key(&self, text: &[u8]) -> bool
+        ensures exact { result ≡ begins_key self.now text.now }
+        ensures shell_names { HasShellNames self.now }
+    {
+        for i in 0..self.entries.len() {
+            if self.entries.at(i).0.starts_with(text) {
+                return true;
+            }
+        }
+        false
     }
 }
