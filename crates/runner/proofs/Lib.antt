@@ -1,4 +1,2 @@
-pub mod Files
 pub mod Refusals
-pub mod VariableLemmas
 pub mod Alone

@@ -9,20 +9,26 @@ use Rattle.syntax.specs.Script.{Script}
 use Rattle.acparse.specs.Source.{IsSource, IsSourceFault}
 use Rattle.input.specs.declared.fault.ReadFault.{ReadFault}
 use Rattle.input.specs.declared.fault.ReadFault.TheVariants as reads
+use Rattle.outputlist.specs.declared.output.Output.{Output}
 use Rattle.plan.specs.Weight.{heaviest, weight}
 use Rattle.plan.specs.declared.fault.PlanFault.{PlanFault}
 use Rattle.plan.specs.declared.fault.PlanFault.TheVariants.{TooLong}
 use Rattle.plan.specs.declared.fault.PlanFault.TheVariants as plan_faults
-use Rattle.runner.specs.declared.fault.Fault.TheVariants.{Parse, Plan}
+use Rattle.runner.specs.declared.fault.Fault.TheVariants.{Parse, Plan, NoTemplate}
 use Rattle.runner.specs.declared.fault.FilterFault.{FilterFault}
 use Rattle.runner.specs.declared.fault.FilterFault.TheVariants.{Read, Write, Run, OutOfMemory}
 use Rattle.runner.specs.Filtered.{IsRun, IsFiltered, IsInputFault, IsRefused, fault, unread, unwritten, memory, parse, not_run, no_memory_to_parse, IsNotRun, too_long, missing, no_memory}
-use Rattle.runner.specs.Outputs.{IsTemplateFault, is_missing, out_of_memory}
+use Rattle.runner.specs.Outputs.{templates_for, first_missing, IsTemplateFault, is_missing, out_of_memory}
+use Rattle.syntax.specs.Lists.{lists_of}
 use Rattle.input.specs.Parted.{IsParted}
 
-pub memory_fault : {A : Type 0} (s : Script) (r : Result A FilterFault) → IsErrAnd r (λ e. e ≡ OutOfMemory) → IfErr r (IsTemplateFault s)
-memory_fault s (Ok x) h = absurd h
-memory_fault s (Err e) h = subst (IsTemplateFault s) (sym h) out_of_memory
+pub memory_fault : {A : Type 0} (s : Script) (templates : List (List ℕ × List ℕ)) (r : Result A FilterFault) → IsErrAnd r (λ e. e ≡ OutOfMemory) → IfErr r (IsTemplateFault s templates)
+memory_fault s templates (Ok x) h = absurd h
+memory_fault s templates (Err e) h = subst (IsTemplateFault s templates) (sym h) out_of_memory
+
+pub missing_fault : (s : Script) (templates : List (List ℕ × List ℕ)) (output : Output) (name : List ℕ) → first_missing s templates ≡ Some output → name ≡ output.template
+    → IsTemplateFault s templates (Run (NoTemplate name))
+missing_fault s templates output name h is = subst (λ n. IsTemplateFault s templates (Run (NoTemplate n))) (sym is) (is_missing h)
 
 is_memory : (f : ParseFault) → (f ≡ parse_faults.OutOfMemory) ⊎ (f ≢ parse_faults.OutOfMemory)
 is_memory parse_faults.OutOfMemory = inl refl
@@ -42,26 +48,30 @@ parse_refused input source template f (Err e) parted exact bad h =
     ]
 
 -- Statements without a plan.
-pub plan_refused : {A B : Type 0} (s : Script) (f : PlanFault) (r : Result A FilterFault) → ((let c : Result B PlanFault = Err f in c) ≡ Err TooLong) ↔ (heaviest < weight s)
-    → IsErrAnd r (λ e. (f ≡ plan_faults.OutOfMemory → e ≡ OutOfMemory) × (f ≡ TooLong → e ≡ Run (Plan TooLong))) → IfErr r (IsNotRun s)
-plan_refused s f (Ok x) long h = absurd h
-plan_refused s TooLong (Err e) long h = subst (IsNotRun s) (sym (h.1 refl)) (too_long (long.0 refl))
-plan_refused s plan_faults.OutOfMemory (Err e) long h = subst (IsNotRun s) (sym (h.0 refl)) no_memory
+pub plan_refused : {A B : Type 0} (s : Script) (template : List ℕ) (f : PlanFault) (r : Result A FilterFault) → ((let c : Result B PlanFault = Err f in c) ≡ Err TooLong) ↔ (heaviest < weight s)
+    → IsErrAnd r (λ e. (f ≡ plan_faults.OutOfMemory → e ≡ OutOfMemory) × (f ≡ TooLong → e ≡ Run (Plan TooLong))) → IfErr r (IsNotRun s template)
+plan_refused s template f (Ok x) long h = absurd h
+plan_refused s template TooLong (Err e) long h = subst (IsNotRun s template) (sym (h.1 refl)) (too_long (long.0 refl))
+plan_refused s template plan_faults.OutOfMemory (Err e) long h = subst (IsNotRun s template) (sym (h.0 refl)) no_memory
 
-pub template_not_run : (s : Script) (e : FilterFault) → weight s ≤ heaviest → IsTemplateFault s e → IsNotRun s e
-template_not_run s e fits (is_missing h) = missing fits h
-template_not_run s e fits out_of_memory = no_memory
+pub template_not_run : (s : Script) (template : List ℕ) (e : FilterFault) → weight s ≤ heaviest → IsTemplateFault s (templates_for (lists_of s).files template) e → IsNotRun s template e
+template_not_run s template e fits (is_missing {output = output} h) = missing fits (output, h, refl)
+template_not_run s template e fits out_of_memory = no_memory
 
-pub memory_not_run : {A : Type 0} (s : Script) (r : Result A FilterFault) → IsErrAnd r (λ e. e ≡ OutOfMemory) → IfErr r (IsNotRun s)
-memory_not_run s (Ok x) h = absurd h
-memory_not_run s (Err e) h = subst (IsNotRun s) (sym h) no_memory
+pub template_refused : (s : Script) (template : List ℕ) (templates : List (List ℕ × List ℕ)) (e : FilterFault) → weight s ≤ heaviest → templates ≡ templates_for (lists_of s).files template → IsTemplateFault s templates e
+    → IsNotRun s template e
+template_refused s template templates e fits is h = template_not_run s template e fits (subst (λ (ts : List (List ℕ × List ℕ)). IsTemplateFault s ts e) is h)
+
+pub memory_not_run : {A : Type 0} (s : Script) (template : List ℕ) (r : Result A FilterFault) → IsErrAnd r (λ e. e ≡ OutOfMemory) → IfErr r (IsNotRun s template)
+memory_not_run s template (Ok x) h = absurd h
+memory_not_run s template (Err e) h = subst (IsNotRun s template) (sym h) no_memory
 
 pub run_found : {A : Type 0} (input source template : List ℕ) (s : Script) (r : Result A FilterFault) (text errors : A → List ℕ) (status : A → ℕ) → IsParted input source template → IsSource source s
     → IfOk r (λ a. IsRun s template (text a) (errors a) (status a)) → IfOk r (λ a. IsFiltered input (text a) (errors a) (status a))
 run_found input source template s (Ok a) text errors status parted is h = record { source = source; template = template; parted = parted; statements = s; is_source = is; run = h }
 run_found input source template s (Err e) text errors status parted is h = tt
 
-pub not_run_refused : {A : Type 0} (input source template : List ℕ) (s : Script) (r : Result A FilterFault) → IsParted input source template → IsSource source s → IfErr r (IsNotRun s) → IfErr r (IsInputFault input)
+pub not_run_refused : {A : Type 0} (input source template : List ℕ) (s : Script) (r : Result A FilterFault) → IsParted input source template → IsSource source s → IfErr r (IsNotRun s template) → IfErr r (IsInputFault input)
 not_run_refused input source template s (Ok x) parted is h = tt
 not_run_refused input source template s (Err e) parted is h = not_run parted is h
 

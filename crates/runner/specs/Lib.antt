@@ -1,4 +1,3 @@
-pub mod Errors
 pub mod Outputs
 pub mod Ran
 pub mod Commands

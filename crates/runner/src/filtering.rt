@@ -1,6 +1,6 @@
 //! The filter, which reads a source and a template, and writes the filled text.
 
-ghost use Rattle.std.specs.Prelude.{◌≡◌, ◌≢◌, ℕ, List, [], ◌+◌, ◌≤◌, length, drop, Ok, IfOk, IfErr, IfSome, find};
+ghost use Rattle.std.specs.Prelude.{◌≡◌, ◌≢◌, ℕ, List, [], ◌+◌, ◌≤◌, length, drop, Ok, None, IfOk, IfErr, IfSome};
 ghost use Rattle.std.specs.Option.{option_copied};
 ghost use Rattle.std.specs.Io.KnownBytes.{Appends};
 ghost use Rattle.options.specs.declared.settings.Settings as settings;
@@ -9,22 +9,24 @@ ghost use Rattle.plan.specs.Weight.{heaviest, weight};
 ghost use Rattle.syntax.specs.Script.{script_of};
 ghost use Rattle.runner.specs.declared.fault.FilterFault.{FilterFault};
 ghost use Rattle.runner.specs.Filtered.{IsRun, IsNotRun, IsFiltered, IsInputFault, IsRefused, settings_of};
-ghost use Rattle.runner.specs.Outputs.{ArePresent, IsFileText, IsWritten, IsTemplateFault, files_of, names_of, is_other};
+ghost use Rattle.runner.specs.Outputs as words;
+ghost use Rattle.runner.specs.Outputs.{IsTemplateFault};
 
-use crate::errors::errors_text;
 use crate::fault::{Fault, FilterFault};
-use crate::outputs::file_table;
 use crate::running::{run_alone, status_of as exit_status};
 use acparse::parse;
-use deftable::Vars;
+use cfglog::messages_text;
+use deftable::{Bytes, Stream, Vars};
 use input::{marker_place, read_input};
+use making::{find_missing, make_file, record_of};
 use options::read_args;
+use outputlist::Output;
 use plan::{Plan, compile};
 use proberun::{Outcome, RunEnd};
+use status_record::Record;
 use std::alloc::{AllocError, Global};
 use std::io::{Read, Write};
-use syntax::{Output, Source};
-use template::fill;
+use syntax::Source;
 
 /// The result of the filter, besides the text that it writes.
 #[derive(Drop)]
@@ -35,15 +37,6 @@ pub struct Filtered {
     pub errors: Vec<u8>,
 }
 
-/// Returns the first file with a template other than this one.
-fn find_other<'a>(files: &'a [Output], template: &[u8]) -> Option<&'a Output>
-    ensures { option_copied result ≡ find (is_other template.now) files.now }
-{
-    files
-        .iter()
-        .find(|file| file.template.as_slice() != template)
-}
-
 /// Returns the text after the marker that begins at `at`.
 fn after_marker(input: &[u8], at: usize) -> &[u8]
     requires { at ≤ length input.now }
@@ -52,58 +45,105 @@ fn after_marker(input: &[u8], at: usize) -> &[u8]
     &input[input.len().min(at.saturating_add(3))..]
 }
 
-/// Checks that every file has the template of the first one, which is the only one that exists.
-fn check_templates(alloc: Global, source: &Source) -> Result<(), FilterFault>
-    ensures present { IfOk result (λ _. ArePresent (script_of source.now)) }
-    ensures refused { IfErr result (IsTemplateFault (script_of source.now)) }
+/// Returns the templates of the filter: this text, under the name of the first file's template.
+fn templates_for(
+    alloc: Global,
+    files: &[Output],
+    template: &[u8],
+) -> Result<Vec<(Bytes, Bytes)>, AllocError>
+    ensures { IfOk result (λ v. v.items ≡ words.templates_for files.now template.now) }
 {
-    let files = source.files().as_slice();
-    if files.is_empty() {
-        return Ok(());
-    }
-    if let Some(file) = find_other(&files[1..], files[0].template.as_slice()) {
+    let mut templates = Vec::new(alloc);
+    if let Some(file) = files.first() {
         let name = file.template.copy(alloc)?;
-        return Err(FilterFault::Run(Fault::NoTemplate(name)));
+        let text = Bytes::from_slice(alloc, template)?;
+        templates.push((name, text))?;
     }
-    Ok(())
+    Ok(templates)
 }
 
-/// Returns the text of the first file under these variables, or an empty text if the source names no file.
-fn file_text(
+/// Returns the first file whose template is missing, or else the first such header.
+#[tactic(auto, unfolding(crate::specs::Outputs::first_missing))]
+fn first_missing<'a>(source: &'a Source, templates: &[(Bytes, Bytes)]) -> Option<&'a Output>
+    ensures { option_copied result ≡ words.first_missing (script_of source.now) templates.now }
+{
+    match find_missing(templates, source.files().as_slice(), &[]) {
+        Some(file) => Some(file),
+        None => find_missing(templates, source.headers().as_slice(), &[]),
+    }
+}
+
+/// Checks that no template is missing.
+fn check_templates(
     alloc: Global,
     source: &Source,
-    template: &[u8],
-    vars: &Vars,
-) -> Result<Vec<u8>, AllocError>
-    ensures { IfOk result (λ v. IsFileText (script_of source.now) template.now vars.now v.items) }
+    templates: &[(Bytes, Bytes)],
+) -> Result<(), FilterFault>
+    ensures present { IfOk result (λ _. words.first_missing (script_of source.now) templates.now ≡ None) }
+    ensures refused { IfErr result (IsTemplateFault (script_of source.now) templates.now) }
 {
-    let files = source.files().as_slice();
-    if files.is_empty() {
-        return Ok(Vec::new(alloc));
+    match first_missing(source, templates) {
+        None => Ok(()),
+        Some(output) => {
+            let name = output.template.copy(alloc)?;
+            Err(FilterFault::Run(Fault::NoTemplate(name)))
+        }
     }
-    let table = file_table(alloc, vars, source.substituted(), &files[0], b".")?;
-    fill(alloc, template, &table)
+}
+
+/// Returns the record of a run, with the source in the current directory.
+#[tactic(auto, unfolding(crate::specs::Outputs::run_record))]
+fn run_record(alloc: Global, source: &Source, end: &RunEnd) -> Result<Record, AllocError>
+    ensures { IfOk result (λ r. r ≡ words.run_record (script_of source.now) end.now) }
+{
+    record_of(
+        alloc,
+        &end.vars,
+        &end.defs,
+        source.substituted(),
+        b".",
+        source.files(),
+        source.headers(),
+    )
+}
+
+/// Returns the text of the first of these files.
+fn first_text(
+    alloc: Global,
+    record: &Record,
+    templates: &[(Bytes, Bytes)],
+    files: &[Output],
+) -> Result<Bytes, AllocError>
+    ensures { IfOk result (λ t. t ≡ words.first_text record.now templates.now files.now) }
+{
+    match files.first() {
+        None => Ok(Bytes::new(alloc)),
+        Some(file) => Ok(make_file(alloc, record, templates, file)?.text),
+    }
 }
 
 /// Returns the text that a run writes, given what it leaves.
 fn text_of(
     alloc: Global,
     source: &Source,
-    template: &[u8],
+    templates: &[(Bytes, Bytes)],
     end: &RunEnd,
-) -> Result<Vec<u8>, AllocError>
-    ensures { IfOk result (λ v. IsWritten (script_of source.now) template.now end.now.outcome end.now.vars v.items) }
+) -> Result<Bytes, AllocError>
+    ensures { IfOk result (λ t. t ≡ words.written_by end.now.outcome (script_of source.now) templates.now end.now) }
 {
     match end.outcome {
-        Outcome::Stopped(_) | Outcome::CutShort(_) => Ok(Vec::new(alloc)),
-        Outcome::Completed => file_text(alloc, source, template, &end.vars),
+        Outcome::Stopped(_) | Outcome::CutShort(_) => Ok(Bytes::new(alloc)),
+        Outcome::Completed => {
+            let record = run_record(alloc, source, end)?;
+            first_text(alloc, &record, templates, source.files().as_slice())
+        }
     }
 }
 
 /// The text that is written, the text for standard error, and the exit status.
 #[derive(Drop)]
 struct Written {
-    text: Vec<u8>,
+    text: Bytes,
     errors: Vec<u8>,
     status: u8,
 }
@@ -128,14 +168,18 @@ fn run_plan(
 ) -> Result<Written, FilterFault>
     requires fits { weight (script_of source.now) ≤ heaviest }
     requires meaning { DoesWhat plan.now (script_of source.now) }
-    ensures run { IfOk result (λ a. IsRun (script_of source.now) template.now a.text.items a.errors.items a.status) }
-    ensures refused { IfErr result (IsNotRun (script_of source.now)) }
+    ensures run { IfOk result (λ a. IsRun (script_of source.now) template.now a.text a.errors.items a.status) }
+    ensures refused { IfErr result (IsNotRun (script_of source.now) template.now) }
 {
-    check_templates(alloc, source)?;
+    let files = source.files().as_slice();
+    let templates = templates_for(alloc, files, template)?;
+    let given = templates.as_slice();
+    check_templates(alloc, source, given)?;
     let vars = opening(alloc, source)?;
     let end = run_alone(alloc, plan, vars)?;
-    let text = text_of(alloc, source, template, &end)?;
-    let errors = errors_text(alloc, end.messages.as_slice())?;
+    let text = text_of(alloc, source, given, &end)?;
+    let notes = end.messages.as_slice();
+    let errors = messages_text(alloc, notes, Stream::Err, false)?;
     Ok(Written {
         text,
         errors,
@@ -145,8 +189,8 @@ fn run_plan(
 
 /// Runs a source in this way.
 fn run_source(alloc: Global, source: &Source, template: &[u8]) -> Result<Written, FilterFault>
-    ensures run { IfOk result (λ a. IsRun (script_of source.now) template.now a.text.items a.errors.items a.status) }
-    ensures refused { IfErr result (IsNotRun (script_of source.now)) }
+    ensures run { IfOk result (λ a. IsRun (script_of source.now) template.now a.text a.errors.items a.status) }
+    ensures refused { IfErr result (IsNotRun (script_of source.now) template.now) }
 {
     let plan = compile(alloc, source)?;
     run_plan(alloc, source, template, &plan)
@@ -154,7 +198,7 @@ fn run_source(alloc: Global, source: &Source, template: &[u8]) -> Result<Written
 
 /// Returns what the run of the input writes, or why it isn't run.
 fn answer(alloc: Global, input: &[u8]) -> Result<Written, FilterFault>
-    ensures found { IfOk result (λ a. IsFiltered input.now a.text.items a.errors.items a.status) }
+    ensures found { IfOk result (λ a. IsFiltered input.now a.text a.errors.items a.status) }
     ensures refused { IfErr result (IsInputFault input.now) }
 {
     let Some(at) = marker_place(input) else {

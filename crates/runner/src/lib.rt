@@ -4,18 +4,15 @@
 //! filled template. `command` chooses between it and the stand-in for a compiler, the crate `standin`, by the program's
 //! arguments.
 //!
-//! Read `fault`, `running` (what the run of a plan leaves), `outputs` (the table that templates are filled from), `errors`
-//! (what goes to standard error) and `filtering`, then `command`.
+//! Read `fault`, `running` (what the run of a plan leaves) and `filtering`, then `command`. The crate `making` makes the file of what the run leaves.
 //!
 //! From the lines `AC_INIT([demo],[1.0])`, `AC_CONFIG_FILES([out])`, `AC_OUTPUT`, `%%` and `@PACKAGE_NAME@`, `filter`
 //! writes `demo` and a newline.
 #![tactic(auto)]
 
 pub mod command;
-pub mod errors;
 pub mod fault;
 pub mod filtering;
-pub mod outputs;
 pub mod running;
 
 pub use fault::{Fault, FilterFault};

@@ -17,11 +17,11 @@ pub returns-clause-refused : goal.returns-clause-refused
 returns-clause-refused c =
     let input = c.args.input.now in
     let at = c.in-Some.at in
-    not_run_refused input (take at input) (drop (at + 3) input) (script_of c.in_ok-source.source) c.run_source.result c.in-Some.ensures.some c.in_ok-source.ensures.sound c.run_source.ensures.refused
+    not_run_refused input (take at input) (drop (at + 3) input) (script_of c.in_ok-source.source) c.run_source.result c.in-Some.ensures.some c.in_ok-source.ensures.sound (rw c.after_marker.ensures at c.run_source.ensures.refused)
 
 pub returns-clause-found : goal.returns-clause-found
 returns-clause-found c =
     let input = c.args.input.now in
     let at = c.in-Some.at in
-    run_found input (take at input) (drop (at + 3) input) (script_of c.in_ok-source.source) c.run_source.result (λ a. a.text.items) (λ a. a.errors.items) (λ a. a.status) c.in-Some.ensures.some c.in_ok-source.ensures.sound
+    run_found input (take at input) (drop (at + 3) input) (script_of c.in_ok-source.source) c.run_source.result (λ a. a.text) (λ a. a.errors.items) (λ a. a.status) c.in-Some.ensures.some c.in_ok-source.ensures.sound
     (rw c.after_marker.ensures at c.run_source.ensures.run)

@@ -1,0 +1,4 @@
+mod Choices
+mod Copies
+mod Outputs
+mod Turns
