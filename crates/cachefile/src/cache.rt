@@ -1,6 +1,6 @@
 //! Cache texts that are read.
 
-ghost use Rattle.std.specs.Prelude.{◌≡◌, ◌≢◌, ◌++◌, ℕ, List, Ok, Err, OnOk, OnErr, IfOk, IfErr, take, map, option_map, option_to_list};
+ghost use Rattle.std.specs.Prelude.{◌≡◌, ◌≢◌, ◌++◌, ℕ, List, [], Ok, Err, OnOk, OnErr, IfOk, IfErr, take, map, option_map, option_to_list};
 ghost use Rattle.deftable.specs.Table as table;
 ghost use Rattle.cachefile.specs.Cache as words;
 ghost use Rattle.cachefile.specs.Line.{Setting};
@@ -115,6 +115,15 @@ pub fn read_cache(alloc: Global, text: &[u8]) -> Result<OldCache, CacheFault>
 }
 
 impl OldCache {
+    /// Returns a cache without settings. It doesn't allocate.
+    pub fn new(alloc: Global) -> OldCache
+        ensures { result ≡ [] }
+    {
+        OldCache {
+            entries: Vec::new(alloc),
+        }
+    }
+
     /// Makes the settings, in order. A value replaces what is set before, and a default doesn't.
     ///
     /// # Errors

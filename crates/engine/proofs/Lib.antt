@@ -1,0 +1,3 @@
+mod Versions
+pub mod Wholes
+pub mod Remakes

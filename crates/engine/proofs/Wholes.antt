@@ -1,0 +1,182 @@
+-- What follows from all of a call, clause by clause.
+use Rattle.std.proofs.Common.{◌≡◌, ℕ, Bool, List, Option, length, Result, Ok, Err, refl, sym, subst, ap, ◌∙◌}
+use Rattle.std.specs.Prelude.{IfOk, IsErrAnd, nat_le}
+use Rattle.outputs.specs.Receipt.{Receipt, with_things}
+use Rattle.acparse.specs.Profile.{source_of}
+use Rattle.crew.specs.Events.{Account}
+use Rattle.options.specs.declared.settings.Settings.{Settings}
+use Rattle.plan.specs.Weight.{heaviest, weight}
+use Rattle.plan.specs.declared.fault.PlanFault.TheVariants.{TooLong}
+use Rattle.syntax.specs.Script.{Script}
+use Rattle.engine.specs.Faults.{Fails, ◌>>=◌, named, wants, of_parse}
+use Rattle.engine.specs.Given.{Accepted, Shows, Starts, judged, accepted, seen}
+use Rattle.engine.specs.Configured.{IsWhole, refused, memory, shown, ran, IsAnswer, IsNotRun, IfStarts, IfReport, IfPutRefused, IsMeant, IsDone, IsCut, HasReport, things, record_after}
+use Rattle.engine.specs.Handing.{IfCompleted, ReadsBack}
+use Rattle.engine.specs.Shown.{shown_report}
+use Rattle.engine.specs.declared.accepting.Start.{Start}
+use Rattle.engine.specs.declared.accepting.Found.{Found}
+use Rattle.engine.specs.declared.accepting.Found.TheVariants as founds
+use Rattle.engine.specs.declared.fault.Fault.{Fault}
+use Rattle.engine.specs.declared.fault.Fault.TheVariants.{Plan, OutOfMemory, PutRefused}
+use Rattle.engine.specs.declared.report.Report.{Report}
+
+-- ---- what is judged, from its parts
+
+-- after the source
+abbrev pub after_source : List (List ℕ) → List (List ℕ × List ℕ) → Option (List ℕ) → List (List ℕ × List ℕ) → Script → Result Accepted Fault
+after_source a e c t script = wants (nat_le (weight script) heaviest) (Plan TooLong) >>= λ _. accepted a e c t script
+
+pub judged_first : (s : List ℕ) (a : List (List ℕ)) (e : List (List ℕ × List ℕ)) (c : Option (List ℕ)) (t : List (List ℕ × List ℕ)) → judged s a e c t ≡ (named of_parse (source_of s) >>= after_source a e c t)
+unfolding judged
+judged_first s a e c t = refl
+
+pub judged_second : (s : List ℕ) (a : List (List ℕ)) (e : List (List ℕ × List ℕ)) (c : Option (List ℕ)) (t : List (List ℕ × List ℕ)) (script : Script) → named of_parse (source_of s) ≡ Ok script → judged s a e c t ≡ after_source a e c t script
+judged_second s a e c t script is = judged_first s a e c t ∙ ap (λ r. r >>= after_source a e c t) is
+
+pub judged_third : (s : List ℕ) (a : List (List ℕ)) (e : List (List ℕ × List ℕ)) (c : Option (List ℕ)) (t : List (List ℕ × List ℕ)) (script : Script) → named of_parse (source_of s) ≡ Ok script
+    → wants (nat_le (weight script) heaviest) (Plan TooLong) ≡ Ok tt → judged s a e c t ≡ accepted a e c t script
+judged_third s a e c t script is fits = judged_second s a e c t script is ∙ ap (λ r. r >>= λ _. accepted a e c t script) fits
+
+-- ---- the exits
+
+-- a fault of a part, where the whole has the part first
+pub fails_first : {Y : Type 0} (f : Fault) (part : Result Y Fault) (same : Type 0) (window : ℕ) (j : Result Accepted Fault) (k : Y → Result Accepted Fault) (templates : List (List ℕ × List ℕ)) (before now : Account) (old new : Receipt) (result : Result Report Fault)
+    → j ≡ (part >>= k) → Fails f part → IsErrAnd result (λ e. e ≡ f) → same → IsWhole same window j templates before now old new result
+fails_first f part same window j k templates before now old new (Ok x) is gives h s = absurd h
+fails_first OutOfMemory part same window j k templates before now old new (Err e) is gives h s = subst (λ e. IsWhole same window j templates before now old new (Err e)) (sym h) (memory s)
+fails_first f part same window j k templates before now old new (Err e) is gives h s =
+    subst (λ e. IsWhole same window j templates before now old new (Err e)) (sym h) (refused (is ∙ ap (λ r. r >>= k) gives) s)
+
+-- a fault of the last part
+pub fails_last : (f : Fault) (part : Result Accepted Fault) (same : Type 0) (window : ℕ) (j : Result Accepted Fault) (templates : List (List ℕ × List ℕ)) (before now : Account) (old new : Receipt) (result : Result Report Fault)
+    → j ≡ part → Fails f part → IsErrAnd result (λ e. e ≡ f) → same → IsWhole same window j templates before now old new result
+fails_last f part same window j templates before now old new (Ok x) is gives h s = absurd h
+fails_last OutOfMemory part same window j templates before now old new (Err e) is gives h s = subst (λ e. IsWhole same window j templates before now old new (Err e)) (sym h) (memory s)
+fails_last f part same window j templates before now old new (Err e) is gives h s =
+    subst (λ e. IsWhole same window j templates before now old new (Err e)) (sym h) (refused (is ∙ gives) s)
+
+pub shows : (same : Type 0) (window : ℕ) (j : Result Accepted Fault) (templates : List (List ℕ × List ℕ)) (before now : Account) (old new : Receipt) (script : Script) (found : Found) (settings : Settings) (report : Report)
+    → j ≡ Ok (seen script found) → found ≡ founds.Shows settings → report ≡ shown_report script settings → same → IsWhole same window j templates before now old new (Ok report)
+shows same window j templates before now old new script found settings report is kind told s =
+    subst (λ r. IsWhole same window j templates before now old new (Ok r)) (sym told) (shown {script = script} {settings = settings} (is ∙ ap (λ f. Ok (seen script f)) kind) s)
+
+pub starts : (same : Type 0) (window : ℕ) (j : Result Accepted Fault) (templates : List (List ℕ × List ℕ)) (before now : Account) (old new : Receipt) (script : Script) (found : Found) (start : Start) (result : Result Report Fault)
+    → j ≡ Ok (seen script found) → found ≡ founds.Starts start → IsDone window script start templates before now old new result → IsWhole same window j templates before now old new result
+starts same window j templates before now old new script found start result is kind done =
+    ran {script = script} {start = start} (is ∙ ap (λ f. Ok (seen script f)) kind) done
+
+-- memory ran out
+pub fails_memory : (same : Type 0) (window : ℕ) (j : Result Accepted Fault) (templates : List (List ℕ × List ℕ)) (before now : Account) (old new : Receipt) (result : Result Report Fault)
+    → IsErrAnd result (λ e. e ≡ OutOfMemory) → same → IsWhole same window j templates before now old new result
+fails_memory same window j templates before now old new (Ok x) h s = absurd h
+fails_memory same window j templates before now old new (Err e) h s = subst (λ e. IsWhole same window j templates before now old new (Err e)) (sym h) (memory s)
+
+-- ---- the clauses
+
+all_starts : (Q : Script → Start → Type 0) (j : Result Accepted Fault) → ((script : Script) (start : Start) → Q script start) → IfStarts j Q
+all_starts Q (Err f) all = tt
+all_starts Q (Ok (Shows script settings)) all = tt
+all_starts Q (Ok (Starts script start)) all = all script start
+
+answer_refused : (f : Fault) → IsAnswer (Err f) (Err f)
+answer_refused OutOfMemory = tt
+answer_refused f = refl
+
+answer_memory : (j : Result Accepted Fault) → IsAnswer j (Err OutOfMemory)
+answer_memory (Err f) = tt
+answer_memory (Ok (Shows script settings)) = tt
+answer_memory (Ok (Starts script start)) = tt
+
+answer_done : (window : ℕ) (script : Script) (start : Start) (templates : List (List ℕ × List ℕ)) (before now : Account) (old new : Receipt) (result : Result Report Fault)
+    → IsDone window script start templates before now old new result → IsAnswer (Ok (Starts script start)) result
+answer_done window script start templates before now old new (Ok report) done = tt
+answer_done window script start templates before now old new (Err (PutRefused k report)) done = tt
+answer_done window script start templates before now old new (Err OutOfMemory) done = tt
+answer_done window script start templates before now old new (Err f) done = absurd cc
+
+pub is_answer : (same : Type 0) (window : ℕ) (j : Result Accepted Fault) (templates : List (List ℕ × List ℕ)) (before now : Account) (old new : Receipt) (result : Result Report Fault)
+    → IsWhole same window j templates before now old new result → IsAnswer j result
+is_answer same window j templates before now old new result (refused {f} is s) = subst (λ j. IsAnswer j (Err f)) (sym is) (answer_refused f)
+is_answer same window j templates before now old new result (memory s) = answer_memory j
+is_answer same window j templates before now old new result (shown {script} {settings} is s) = subst (λ j. IsAnswer j (Ok (shown_report script settings))) (sym is) refl
+is_answer same window j templates before now old new result (ran {script} {start} is done) =
+    subst (λ j. IsAnswer j result) (sym is) (answer_done window script start templates before now old new result done)
+
+pub is_untouched : (same : Type 0) (window : ℕ) (j : Result Accepted Fault) (templates : List (List ℕ × List ℕ)) (before now : Account) (old new : Receipt) (result : Result Report Fault)
+    → IsWhole same window j templates before now old new result → IsNotRun j → same
+is_untouched same window j templates before now old new result (refused is s) h = s
+is_untouched same window j templates before now old new result (memory s) h = s
+is_untouched same window j templates before now old new result (shown is s) h = s
+is_untouched same window j templates before now old new result (ran is done) h = absurd (subst IsNotRun is h)
+
+-- What holds of each run that was accepted, if it holds of what is done, and if memory runs out.
+pub when_starts : (Q : Script → Start → Type 0) (same : Type 0) (window : ℕ) (j : Result Accepted Fault) (templates : List (List ℕ × List ℕ)) (before now : Account) (old new : Receipt) (result : Result Report Fault)
+    → IsWhole same window j templates before now old new result → ((script : Script) (start : Start) → IsDone window script start templates before now old new result → Q script start)
+    → (result ≡ Err OutOfMemory → (script : Script) (start : Start) → Q script start) → IfStarts j Q
+when_starts Q same window j templates before now old new result (refused is s) done none = subst (λ j. IfStarts j Q) (sym is) tt
+when_starts Q same window j templates before now old new result (memory s) done none = all_starts Q j (none refl)
+when_starts Q same window j templates before now old new result (shown is s) done none = subst (λ j. IfStarts j Q) (sym is) tt
+when_starts Q same window j templates before now old new result (ran {script} {start} is d) done none = subst (λ j. IfStarts j Q) (sym is) (done script start d)
+
+meant_done : (window : ℕ) (script : Script) (start : Start) (templates : List (List ℕ × List ℕ)) (before now : Account) (old new : Receipt) (result : Result Report Fault)
+    → IsDone window script start templates before now old new result → IfReport result (IsMeant window script start before now)
+meant_done window script start templates before now old new (Ok report) done = done.0
+meant_done window script start templates before now old new (Err (PutRefused k report)) done = done.0
+meant_done window script start templates before now old new (Err f) done = tt
+
+handed_done : (window : ℕ) (script : Script) (start : Start) (templates : List (List ℕ × List ℕ)) (before now : Account) (old new : Receipt) (result : Result Report Fault)
+    → IsDone window script start templates before now old new result → IfOk result (λ report. new ≡ with_things old (things script start templates report))
+handed_done window script start templates before now old new (Ok report) done = done.1
+handed_done window script start templates before now old new (Err f) done = tt
+
+reported_done : (window : ℕ) (script : Script) (start : Start) (templates : List (List ℕ × List ℕ)) (before now : Account) (old new : Receipt) (result : Result Report Fault)
+    → IsDone window script start templates before now old new result → IfOk result (λ report. report.handed ≡ length (things script start templates report))
+reported_done window script start templates before now old new (Ok report) done = done.2
+reported_done window script start templates before now old new (Err f) done = tt
+
+remade_done : (window : ℕ) (script : Script) (start : Start) (templates : List (List ℕ × List ℕ)) (before now : Account) (old new : Receipt) (result : Result Report Fault)
+    → IsDone window script start templates before now old new result → IfReport result (λ report. IfCompleted report.outcome (ReadsBack (record_after script start report)))
+remade_done window script start templates before now old new (Ok report) done = done.3
+remade_done window script start templates before now old new (Err (PutRefused k report)) done = done.2
+remade_done window script start templates before now old new (Err f) done = tt
+
+cut_done : (window : ℕ) (script : Script) (start : Start) (templates : List (List ℕ × List ℕ)) (before now : Account) (old new : Receipt) (result : Result Report Fault)
+    → IsDone window script start templates before now old new result → IfPutRefused result (λ number report. IsCut (things script start templates report) old new number report)
+cut_done window script start templates before now old new (Ok report) done = tt
+cut_done window script start templates before now old new (Err (PutRefused k report)) done = done.1
+cut_done window script start templates before now old new (Err f) done = tt
+
+pub is_meant : (same : Type 0) (window : ℕ) (j : Result Accepted Fault) (templates : List (List ℕ × List ℕ)) (before now : Account) (old new : Receipt) (result : Result Report Fault)
+    → IsWhole same window j templates before now old new result → IfStarts j (λ script start. IfReport result (IsMeant window script start before now))
+is_meant same window j templates before now old new result whole =
+    when_starts (λ script start. IfReport result (IsMeant window script start before now)) same window j templates before now old new result whole
+    (λ script start d. meant_done window script start templates before now old new result d)
+    (λ e script start. subst (λ (r : Result Report Fault). IfReport r (IsMeant window script start before now)) (sym e) tt)
+
+pub is_handed : (same : Type 0) (window : ℕ) (j : Result Accepted Fault) (templates : List (List ℕ × List ℕ)) (before now : Account) (old new : Receipt) (result : Result Report Fault)
+    → IsWhole same window j templates before now old new result → IfStarts j (λ script start. IfOk result (λ report. new ≡ with_things old (things script start templates report)))
+is_handed same window j templates before now old new result whole =
+    when_starts (λ script start. IfOk result (λ report. new ≡ with_things old (things script start templates report))) same window j templates before now old new result whole
+    (λ script start d. handed_done window script start templates before now old new result d)
+    (λ e script start. subst (λ (r : Result Report Fault). IfOk r (λ report. new ≡ with_things old (things script start templates report))) (sym e) tt)
+
+pub is_reported : (same : Type 0) (window : ℕ) (j : Result Accepted Fault) (templates : List (List ℕ × List ℕ)) (before now : Account) (old new : Receipt) (result : Result Report Fault)
+    → IsWhole same window j templates before now old new result → IfStarts j (λ script start. IfOk result (λ report. report.handed ≡ length (things script start templates report)))
+is_reported same window j templates before now old new result whole =
+    when_starts (λ script start. IfOk result (λ report. report.handed ≡ length (things script start templates report))) same window j templates before now old new result whole
+    (λ script start d. reported_done window script start templates before now old new result d)
+    (λ e script start. subst (λ (r : Result Report Fault). IfOk r (λ report. report.handed ≡ length (things script start templates report))) (sym e) tt)
+
+pub is_remade : (same : Type 0) (window : ℕ) (j : Result Accepted Fault) (templates : List (List ℕ × List ℕ)) (before now : Account) (old new : Receipt) (result : Result Report Fault)
+    → IsWhole same window j templates before now old new result → IfStarts j (λ script start. IfReport result (λ report. IfCompleted report.outcome (ReadsBack (record_after script start report))))
+is_remade same window j templates before now old new result whole =
+    when_starts (λ script start. IfReport result (λ report. IfCompleted report.outcome (ReadsBack (record_after script start report)))) same window j templates before now old new result whole
+    (λ script start d. remade_done window script start templates before now old new result d)
+    (λ e script start. subst (λ (r : Result Report Fault). IfReport r (λ report. IfCompleted report.outcome (ReadsBack (record_after script start report)))) (sym e) tt)
+
+pub is_cut : (same : Type 0) (window : ℕ) (j : Result Accepted Fault) (templates : List (List ℕ × List ℕ)) (before now : Account) (old new : Receipt) (result : Result Report Fault)
+    → IsWhole same window j templates before now old new result → IfStarts j (λ script start. IfPutRefused result (λ number report. IsCut (things script start templates report) old new number report))
+is_cut same window j templates before now old new result whole =
+    when_starts (λ script start. IfPutRefused result (λ number report. IsCut (things script start templates report) old new number report)) same window j templates before now old new result whole
+    (λ script start d. cut_done window script start templates before now old new result d)
+    (λ e script start. subst (λ (r : Result Report Fault). IfPutRefused r (λ number report. IsCut (things script start templates report) old new number report)) (sym e) tt)

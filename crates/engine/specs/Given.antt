@@ -1,0 +1,77 @@
+-- What a run is given, and what follows from it before anything is run.
+use Rattle.std.specs.Prelude.{◌≡◌, ℕ, Bool, true, false, ◌||◌, nat_le, List, [], ◌∷◌, ◌++◌, Option, Some, None, Result, Ok, Err, option_map, if◌then◌else◌}
+use Rattle.acparse.specs.Profile.{source_of}
+use Rattle.cachefile.specs.Cache.{cache_of, vars_after}
+use Rattle.cachefile.specs.Line.{Setting}
+use Rattle.deftable.specs.declared.note.Note.{Note}
+use Rattle.making.specs.Choice.{missing}
+use Rattle.options.specs.Opening.{opening}
+use Rattle.options.specs.Precious.{checked}
+use Rattle.options.specs.declared.settings.Settings.{Settings}
+use Rattle.outputlist.specs.declared.output.Output.{Output}
+use Rattle.plan.specs.Weight.{heaviest, weight}
+use Rattle.plan.specs.declared.fault.PlanFault.TheVariants.{TooLong}
+use Rattle.syntax.specs.Lists.{lists_of}
+use Rattle.syntax.specs.Script.{Script}
+use Rattle.engine.specs.Faults.{of_parse, of_option, of_cache, of_precious, named, ◌>>=◌, wants}
+use Rattle.engine.specs.declared.accepting.Start.{Start}
+use Rattle.engine.specs.declared.accepting.Found as found
+use Rattle.engine.specs.declared.accepting.Found.TheVariants as founds
+use Rattle.engine.specs.declared.fault.Fault.{Fault}
+use Rattle.engine.specs.declared.fault.Fault.TheVariants.{Plan, NoTemplate}
+
+-- What is accepted: a text is to be shown, or the source is to be run from this start. (own)
+pub data Accepted : Type 0 where
+  Shows : (script : Script) → (settings : Settings) → Accepted
+  Starts : (script : Script) → (start : Start) → Accepted
+
+-- The template of an output isn't there. (own)
+abbrev pub none_missing : Option Output → Result (Unit {0}) Fault
+none_missing None = Ok tt
+none_missing (Some output) = Err (NoTemplate output.template)
+
+-- The templates of files and headers are there, or none is wanted. (own)
+unfoldable pub present : Bool → List (List ℕ × List ℕ) → List Output → List Output → Result (Unit {0}) Fault
+present no_create templates files headers =
+    if no_create then Ok tt
+    else (none_missing (missing templates files []) >>= λ _. none_missing (missing templates headers []))
+
+-- The settings of the cache, if one is named and given, and otherwise none. (Autoconf's manual, "Cache Files")
+abbrev pub old_of : Option (List ℕ) → Option (List ℕ) → Result (List Setting) Fault
+old_of (Some name) (Some text) = named of_cache (cache_of text)
+old_of name text = Ok []
+
+-- What a run begins with: the precious variables are checked against the cache, which is then poured over the variables.
+-- (Autoconf's manual, "Cache Files" and "Setting Output Variables")
+unfoldable pub started : Option (List ℕ) → List (List ℕ × List ℕ) → Script → Settings → Result Start Fault
+started cache templates script settings = do
+  old ← old_of settings.cache_name cache
+  result ← named of_precious (checked (lists_of script).precious settings.vars old)
+  _ ← present settings.no_create templates (lists_of script).files (lists_of script).headers
+  Ok (record {
+    cache_name = settings.cache_name;
+    srcdir = settings.srcdir;
+    no_create = settings.no_create;
+    vars = vars_after old result.0;
+    notes = settings.notes ++ result.1;
+  })
+
+-- What follows from all but the source, given its statements. (own)
+unfoldable pub accepted : List (List ℕ) → List (List ℕ × List ℕ) → Option (List ℕ) → List (List ℕ × List ℕ) → Script → Result Accepted Fault
+accepted arguments environment cache templates script = do
+  settings ← named of_option (opening (lists_of script).features (lists_of script).packages (lists_of script).precious arguments environment)
+  if settings.help || settings.version then Ok (Shows script settings)
+      else (started cache templates script settings >>= λ start. Ok (Starts script start))
+
+-- What follows from a source, arguments, an environment, a cache and templates: they are refused with their first fault, or
+-- accepted. Of two templates of one name the first counts. (own)
+unfoldable pub judged : List ℕ → List (List ℕ) → List (List ℕ × List ℕ) → Option (List ℕ) → List (List ℕ × List ℕ) → Result Accepted Fault
+judged source arguments environment cache templates = do
+  script ← named of_parse (source_of source)
+  _ ← wants (nat_le (weight script) heaviest) (Plan TooLong)
+  accepted arguments environment cache templates script
+
+-- What a function found, given the statements. (own)
+abbrev pub seen : Script → found.Found → Accepted
+seen script (founds.Shows settings) = Shows script settings
+seen script (founds.Starts start) = Starts script start

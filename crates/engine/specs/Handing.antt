@@ -1,0 +1,50 @@
+-- What a run hands over, in order.
+use Rattle.std.specs.Prelude.{◌≡◌, ℕ, Bool, List, [], ◌∷◌, ◌++◌, Option, Some, None, Ok, codes, if◌then◌else◌}
+use Rattle.cachefile.specs.Text.{cache_text_of}
+use Rattle.making.specs.Making.{made, record_of_run}
+use Rattle.outputs.specs.declared.thing.Thing.{Thing}
+use Rattle.outputs.specs.declared.thing.Kind.TheVariants.{Cache, Record as Recorded}
+use Rattle.status_record.specs.Reading.{record_in}
+use Rattle.status_record.specs.RecordText.{record_text}
+use Rattle.status_record.specs.declared.record.Record.{Record}
+use Rattle.syntax.specs.Lists.{lists_of}
+use Rattle.syntax.specs.Script.{Script}
+use Rattle.engine.specs.declared.report.Outcome.{Outcome}
+use Rattle.engine.specs.declared.report.Outcome.TheVariants.{Completed, Stopped, CutShort, Shown}
+
+-- The cache, if one is named. (Autoconf's manual, "Cache Files")
+abbrev pub cache_things : Option (List ℕ) → List (List ℕ × List ℕ) → List Thing
+cache_things None vars = []
+cache_things (Some name) vars = record { kind = Cache; name = name; text = cache_text_of vars } ∷ []
+
+-- The record of a run that leaves these variables and definitions. (own)
+abbrev pub run_record : Script → List ℕ → List (List ℕ × List ℕ) → List (List ℕ × List ℕ) → Record
+run_record script srcdir vars defs =
+    record_of_run vars defs (lists_of script).substituted srcdir (lists_of script).files (lists_of script).headers
+
+-- The record. (Autoconf's manual, "config.status Invocation")
+abbrev pub record_thing : Record → Thing
+record_thing r = record { kind = Recorded; name = codes "config.status"; text = record_text r }
+
+-- The files and headers that are made of a record, if they are wanted. (Autoconf's manual, "config.status Invocation")
+abbrev pub wanted_outputs : Bool → List (List ℕ × List ℕ) → Record → List Thing
+wanted_outputs no_create templates r = if no_create then [] else made r templates []
+
+-- What a completed run hands over after its cache: its record, and the files and headers that are made of it.
+-- (Autoconf's manual, "config.status Invocation")
+abbrev pub completed_things : Bool → List (List ℕ × List ℕ) → Record → List Thing
+completed_things no_create templates r = record_thing r ∷ wanted_outputs no_create templates r
+
+-- What a run with this outcome, these variables and this record hands over. (own)
+unfoldable pub things_of : Option (List ℕ) → Bool → List (List ℕ × List ℕ) → Outcome → List (List ℕ × List ℕ) → Record → List Thing
+things_of cache_name no_create templates Completed vars r = cache_things cache_name vars ++ completed_things no_create templates r
+things_of cache_name no_create templates outcome vars r = cache_things cache_name vars
+
+-- If the run is completed, this holds. (own)
+abbrev pub IfCompleted : Outcome → Type 0 → Type 0
+IfCompleted Completed goes_on = goes_on
+IfCompleted outcome goes_on = Unit {0}
+
+-- The text of the record is read as the record. (own)
+abbrev pub ReadsBack : Record → Type 0
+ReadsBack r = record_in (record_text r) ≡ Ok r

@@ -1,0 +1,47 @@
+-- Outputs that are made again from a record.
+use Rattle.std.specs.Prelude.{◌≡◌, ℕ, List, length, Option, Some, None, Result, Ok, Err}
+use Rattle.making.specs.Choice.{missing, unknown}
+use Rattle.making.specs.Making.{made}
+use Rattle.outputlist.specs.declared.output.Output.{Output}
+use Rattle.outputs.specs.Receipt.{Receipt, with_things, IsCutAt}
+use Rattle.outputs.specs.declared.thing.Thing.{Thing}
+use Rattle.status_record.specs.Reading.{record_in}
+use Rattle.status_record.specs.declared.record.Record.{Record}
+use Rattle.engine.specs.Faults.{of_record, named, ◌>>=◌}
+use Rattle.engine.specs.declared.fault.RemakeFault.{RemakeFault}
+use Rattle.engine.specs.declared.fault.RemakeFault.TheVariants.{UnknownTag, NoTemplate, PutRefused, OutOfMemory}
+
+-- A tag is the name of no output. (own)
+abbrev pub none_unknown : Option ℕ → Result (Unit {0}) RemakeFault
+none_unknown None = Ok tt
+none_unknown (Some place) = Err (UnknownTag place)
+
+-- The template of an output isn't there. (own)
+abbrev pub none_missing : Option Output → Result (Unit {0}) RemakeFault
+none_missing None = Ok tt
+none_missing (Some output) = Err (NoTemplate output.template)
+
+-- The templates of the files and headers of a record that these tags choose are there. (own)
+unfoldable pub present : Record → List (List ℕ × List ℕ) → List (List ℕ) → Result (Unit {0}) RemakeFault
+present r templates tags = none_missing (missing templates r.files tags) >>= λ _. none_missing (missing templates r.headers tags)
+
+-- What the text of a record gives with these templates, if these tags are chosen, or its first fault. (Autoconf's manual,
+-- "config.status Invocation")
+unfoldable pub remade : List ℕ → List (List ℕ × List ℕ) → List (List ℕ) → Result (List Thing) RemakeFault
+remade text templates tags = do
+  r ← named of_record (record_in text)
+  _ ← none_unknown (unknown r tags)
+  _ ← present r templates tags
+  Ok (made r templates tags)
+
+-- What is returned: a fault, and nothing is handed over; or everything is handed over; or a put was refused. (own)
+pub data IsRemade (wanted : Result (List Thing) RemakeFault) (same : Type 0) (old new : Receipt) : Result ℕ RemakeFault → Type 0 where
+  refused : {f : RemakeFault} → wanted ≡ Err f → same → IsRemade wanted same old new (Err f)
+  memory : same → IsRemade wanted same old new (Err OutOfMemory)
+  all : {things : List Thing} → wanted ≡ Ok things → new ≡ with_things old things → IsRemade wanted same old new (Ok (length things))
+  cut : {things : List Thing} {k : ℕ} → wanted ≡ Ok things → IsCutAt things old new k → IsRemade wanted same old new (Err (PutRefused k))
+
+-- All of these things were handed over, or put number k was refused. (own)
+abbrev pub IsPut : List Thing → Receipt → Receipt → Result ℕ RemakeFault → Type 0
+IsPut things old new (Ok n) = (n ≡ length things) × (new ≡ with_things old things)
+IsPut things old new (Err f) = (k : ℕ) × (f ≡ PutRefused k) × IsCutAt things old new k

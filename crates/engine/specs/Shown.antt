@@ -1,0 +1,51 @@
+-- What is shown in place of a run.
+use Rattle.std.specs.Prelude.{ℕ, List, [], ◌∷◌, ◌++◌, Option, Some, None, unwrap_or, codes, if◌then◌else◌}
+use Rattle.deftable.specs.declared.note.Note.{Note}
+use Rattle.deftable.specs.declared.note.Stream.TheVariants.{Out}
+use Rattle.options.specs.HelpText.{help_text}
+use Rattle.options.specs.declared.settings.Settings.{Settings}
+use Rattle.syntax.specs.declared.statement.Plain as plain
+use Rattle.syntax.specs.declared.statement.Plain.TheVariants.{Init}
+use Rattle.syntax.specs.declared.tree.Stmt.{Stmt}
+use Rattle.syntax.specs.declared.tree.Stmt.TheVariants.{Plain, Choose', CacheCheck'}
+use Rattle.syntax.specs.Lists.{lists_of}
+use Rattle.syntax.specs.Script.{Script, Done, Then, Choice, Check}
+use Rattle.engine.specs.declared.report.Report.{Report}
+use Rattle.engine.specs.declared.report.Outcome.TheVariants.{Shown}
+
+-- The line of the version of a package. (Autoconf's manual, "configure Invocation")
+abbrev pub line_of : List ℕ → List ℕ → List ℕ
+line_of title version = title ++ codes " configure " ++ version ++ codes "\n"
+
+-- The line of the version, if the statement is AC_INIT. (own)
+abbrev pub plain_line : plain.Plain → Option (List ℕ)
+plain_line (Init title version bug tarname url) = Some (line_of title version)
+plain_line statement = None
+
+-- The same of a statement of the code. (own)
+abbrev pub statement_line : Stmt → Option (List ℕ)
+statement_line (Plain statement) = plain_line statement
+statement_line (Choose' subject m cases) = None
+statement_line (CacheCheck' message name m commands) = None
+
+-- The line of the version: the package and its version, by the first AC_INIT. (Autoconf's manual, "configure Invocation")
+abbrev pub version_line : Script → List ℕ
+version_line Done = line_of [] []
+version_line (Then statement rest) = unwrap_or (plain_line statement) (version_line rest)
+version_line (Choice subject cases rest) = version_line rest
+version_line (Check message name commands rest) = version_line rest
+
+-- The text that is shown: the help text if it is wanted, and otherwise the line of the version. (own)
+abbrev pub shown_text : Script → Settings → List ℕ
+shown_text script settings = if settings.help then help_text (lists_of script).help else version_line script
+
+-- The report if a text is shown: nothing is run. (own)
+unfoldable pub shown_report : Script → Settings → Report
+shown_report script settings = record {
+  outcome = Shown;
+  vars = settings.vars;
+  defs = [];
+  messages = record { stream = Out; text = shown_text script settings } ∷ [];
+  log = [];
+  handed = 0;
+}

@@ -1,0 +1,226 @@
+//! A whole run.
+
+ghost use Rattle.std.specs.Prelude.{◌≡◌, ◌+◌, ◌^◌, ◌<◌, ◌≤◌, length, IfOk, IfErr, Ok, Err, option_map};
+ghost use Rattle.crew.specs.Events.{IsIdle};
+ghost use Rattle.outputlist.specs.Output.{AreOutputs};
+ghost use Rattle.outputs.specs.Receipt.{with_things};
+ghost use Rattle.plan.specs.Walk.{DoesWhat};
+ghost use Rattle.syntax.specs.Lists.{lists_of};
+ghost use Rattle.syntax.specs.Script.{script_of};
+ghost use Rattle.engine.specs.Given.{judged};
+ghost use Rattle.engine.specs.Handing.{IfCompleted, ReadsBack};
+ghost use Rattle.engine.specs.Configured.{IfStarts, IsNotRun, IfReport, IfPutRefused, IsAnswer, IsDone, IsWhole, IsRefusedPut, IsMeant, IsCut, things, record_after};
+ghost use Rattle.engine.specs.declared.fault.Fault.TheVariants.{OutOfMemory};
+
+use crate::accepting::{Found, Start, accepted, parsed, planned};
+use crate::fault::Fault;
+use crate::handing::things_of;
+use crate::noting::{joined, with_notes};
+use crate::report::{Report, outcome_of};
+use crate::shown::shown;
+use crew::Crew;
+use deftable::Bytes;
+use outputs::{Outputs, Things, put_all};
+use plan::Plan;
+use proberun::run;
+use std::alloc::{AllocError, Global};
+use syntax::Source;
+
+/// What a run hands over, and its report if all of it is taken.
+struct Ready {
+    report: Report,
+    things: Things,
+}
+
+/// Runs a plan, and makes all that it hands over.
+fn run_ready<C: Crew>(
+    alloc: Global,
+    source: &Source,
+    plan: &Plan,
+    start: Start,
+    templates: &[(Bytes, Bytes)],
+    crew: &mut C,
+    window: usize,
+) -> Result<Ready, AllocError>
+    requires outputs { AreOutputs (lists_of (script_of source.now)).files (lists_of (script_of source.now)).headers }
+    requires plan { DoesWhat plan.now (script_of source.now) }
+    requires some { 1 ≤ window }
+    requires few { window ≤ 16 }
+    requires idle { IsIdle (C.account crew.old).events }
+    requires attempts { (C.account crew.old).attempts + 2 ^ 36 ≤ 2 ^ 62 }
+    requires failures { (C.account crew.old).failures + 256 ≤ 2 ^ 62 }
+    ensures idle { IsIdle (C.account crew.new).events }
+    ensures meant { IfOk result (λ r. IsMeant window (script_of source.now) start (C.account crew.old) (C.account crew.new) r.report) }
+    ensures things { IfOk result (λ r. r.things ≡ things (script_of source.now) start templates.now r.report) }
+    ensures handed { IfOk result (λ r. r.report.handed ≡ length r.things) }
+    ensures reads_back { IfOk result (λ r. IfCompleted r.report.outcome (ReadsBack (record_after (script_of source.now) start r.report))) }
+{
+    let Start {
+        cache_name,
+        srcdir,
+        no_create,
+        vars,
+        notes,
+    } = start;
+    let end = run(alloc, plan, vars, crew, window)?;
+    let things = things_of(
+        alloc,
+        source,
+        cache_name.as_ref(),
+        srcdir.as_slice(),
+        no_create,
+        templates,
+        end.outcome,
+        &end.vars,
+        &end.defs,
+    )?;
+    let messages = joined(alloc, &notes, &end.messages)?;
+    let log = with_notes(alloc, &notes, end.log)?;
+    let handed = things.as_slice().len() as u64;
+    let report = Report {
+        outcome: outcome_of(end.outcome),
+        vars: end.vars,
+        defs: end.defs,
+        messages,
+        log,
+        handed,
+    };
+    Ok(Ready { report, things })
+}
+
+/// Hands over what a run left.
+fn hand_over<O: Outputs>(ready: Ready, outputs: &mut O) -> Result<Report, Fault>
+    requires puts { (O.receipt outputs.old).failures < 2 ^ 62 }
+    requires handed { ready.report.handed ≡ length ready.things }
+    ensures all { IfOk result (λ report. (report ≡ ready.report) × (O.receipt outputs.new ≡ with_things (O.receipt outputs.old) ready.things)) }
+    ensures cut { IfErr result (λ f. IsRefusedPut ready.report ready.things (O.receipt outputs.old) (O.receipt outputs.new) f) }
+{
+    let Ready { mut report, things } = ready;
+    match put_all(outputs, things.as_slice()) {
+        Ok(()) => Ok(report),
+        Err(number) => {
+            report.handed = number - 1;
+            Err(Fault::PutRefused(number, report))
+        }
+    }
+}
+
+/// Runs what was accepted, and hands over what it leaves.
+fn configured<C: Crew, O: Outputs>(
+    alloc: Global,
+    source: &Source,
+    plan: &Plan,
+    start: Start,
+    templates: &[(Bytes, Bytes)],
+    crew: &mut C,
+    outputs: &mut O,
+    window: usize,
+) -> Result<Report, Fault>
+    requires outputs { AreOutputs (lists_of (script_of source.now)).files (lists_of (script_of source.now)).headers }
+    requires plan { DoesWhat plan.now (script_of source.now) }
+    requires some { 1 ≤ window }
+    requires few { window ≤ 16 }
+    requires idle { IsIdle (C.account crew.old).events }
+    requires attempts { (C.account crew.old).attempts + 2 ^ 36 ≤ 2 ^ 62 }
+    requires failures { (C.account crew.old).failures + 256 ≤ 2 ^ 62 }
+    requires puts { (O.receipt outputs.old).failures + 256 ≤ 2 ^ 62 }
+    ensures idle { IsIdle (C.account crew.new).events }
+    ensures done { IsDone window (script_of source.now) start templates.now (C.account crew.old) (C.account crew.new) (O.receipt outputs.old) (O.receipt outputs.new) result }
+    ensures memory { result ≡ Err OutOfMemory → outputs.new ≡ outputs.old }
+{
+    let ready = run_ready(alloc, source, plan, start, templates, crew, window)?;
+    hand_over(ready, outputs)
+}
+
+/// All of a call, by cases.
+fn whole<C: Crew, O: Outputs>(
+    alloc: Global,
+    source: &[u8],
+    args: &[Bytes],
+    env: &[(Bytes, Bytes)],
+    cache: Option<&[u8]>,
+    templates: &[(Bytes, Bytes)],
+    crew: &mut C,
+    outputs: &mut O,
+    window: usize,
+) -> Result<Report, Fault>
+    requires some { 1 ≤ window }
+    requires few { window ≤ 16 }
+    requires idle { IsIdle (C.account crew.old).events }
+    requires attempts { (C.account crew.old).attempts + 2 ^ 36 ≤ 2 ^ 62 }
+    requires failures { (C.account crew.old).failures + 256 ≤ 2 ^ 62 }
+    requires puts { (O.receipt outputs.old).failures + 256 ≤ 2 ^ 62 }
+    ensures whole { IsWhole ((crew.new ≡ crew.old) × (outputs.new ≡ outputs.old)) window (judged source.now args.now env.now (option_map (λ c. c.now) cache.entry) templates.now)
+        templates.now (C.account crew.old) (C.account crew.new) (O.receipt outputs.old) (O.receipt outputs.new) result }
+    ensures memory { result ≡ Err OutOfMemory → outputs.new ≡ outputs.old }
+    ensures idle { IsIdle (C.account crew.new).events }
+{
+    let source = parsed(alloc, source)?;
+    let plan = planned(alloc, &source)?;
+    match accepted(alloc, &source, args, env, cache, templates)? {
+        Found::Shows(settings) => {
+            let report = shown(alloc, &source, settings)?;
+            Ok(report)
+        }
+        Found::Starts(start) => configured(
+            alloc, &source, &plan, start, templates, crew, outputs, window,
+        ),
+    }
+}
+
+/// Runs a configure.ac with at most `window` children at once, and hands over what the run leaves.
+///
+/// `args` are the arguments without the program's name, `env` the entries of the environment, `cache` is the text of the
+/// cache file if there is one, and `templates` has a name and a text for each template. Of two templates of one name the
+/// first counts. A completed run hands over the cache, if one is named, the record `config.status`, and then files and
+/// headers; any other run hands over the cache alone. All texts are made before the first is handed over. No child is left
+/// in flight, whatever the result.
+///
+/// # Errors
+///
+/// If what is given has a fault, returns the first one, in the order of [`Fault`]; nothing is then started or handed over.
+/// If a put is refused, returns `PutRefused` with its number and the report of the run. If memory runs out, nothing is
+/// handed over.
+pub fn configure<C: Crew, O: Outputs>(
+    alloc: Global,
+    source: &[u8],
+    args: &[Bytes],
+    env: &[(Bytes, Bytes)],
+    cache: Option<&[u8]>,
+    templates: &[(Bytes, Bytes)],
+    crew: &mut C,
+    outputs: &mut O,
+    window: usize,
+) -> Result<Report, Fault>
+    requires some { 1 ≤ window }
+    requires few { window ≤ 16 }
+    requires idle { IsIdle (C.account crew.old).events }
+    requires attempts { (C.account crew.old).attempts + 2 ^ 36 ≤ 2 ^ 62 }
+    requires failures { (C.account crew.old).failures + 256 ≤ 2 ^ 62 }
+    requires puts { (O.receipt outputs.old).failures + 256 ≤ 2 ^ 62 }
+    // What is given is refused with its first fault, or a text is shown, or the source is run. Unless it is run, nothing is
+    // started or handed over.
+    ensures accepted { IsAnswer (judged source.now args.now env.now (option_map (λ c. c.now) cache.entry) templates.now) result }
+    ensures untouched { IsNotRun (judged source.now args.now env.now (option_map (λ c. c.now) cache.entry) templates.now) → (crew.new ≡ crew.old) × (outputs.new ≡ outputs.old) }
+    // A run is the meaning of its source, from its opening, under the replies of the crew.
+    ensures meant { IfStarts (judged source.now args.now env.now (option_map (λ c. c.now) cache.entry) templates.now) (λ script start.
+        IfReport result (IsMeant window script start (C.account crew.old) (C.account crew.new))) }
+    // The cache is handed over, if one is named, and after it, if the run is completed, the record and the outputs.
+    ensures handed { IfStarts (judged source.now args.now env.now (option_map (λ c. c.now) cache.entry) templates.now) (λ script start.
+        IfOk result (λ report. O.receipt outputs.new ≡ with_things (O.receipt outputs.old) (things script start templates.now report))) }
+    // The text of the record of a completed run is read as the record that its outputs are made of.
+    ensures remade { IfStarts (judged source.now args.now env.now (option_map (λ c. c.now) cache.entry) templates.now) (λ script start.
+        IfReport result (λ report. IfCompleted report.outcome (ReadsBack (record_after script start report)))) }
+    // The report counts what was handed over.
+    ensures reported { IfStarts (judged source.now args.now env.now (option_map (λ c. c.now) cache.entry) templates.now) (λ script start.
+        IfOk result (λ report. report.handed ≡ length (things script start templates.now report))) }
+    // If a put was refused, the things before it were handed over, each whole, and nothing after them.
+    ensures cut { IfStarts (judged source.now args.now env.now (option_map (λ c. c.now) cache.entry) templates.now) (λ script start.
+        IfPutRefused result (λ number report. IsCut (things script start templates.now report) (O.receipt outputs.old) (O.receipt outputs.new) number report)) }
+    ensures memory { result ≡ Err OutOfMemory → outputs.new ≡ outputs.old }
+    ensures idle { IsIdle (C.account crew.new).events }
+{
+    whole(
+        alloc, source, args, env, cache, templates, crew, outputs, window,
+    )
+}

@@ -1,0 +1,149 @@
+//! Why a run has no report, or only that of a refused put.
+
+ghost use Rattle.std.specs.Prelude.{◌≡◌};
+ghost use Rattle.engine.specs.Faults as faults;
+ghost use Rattle.engine.specs.declared.fault.Fault.TheVariants.{OutOfMemory};
+ghost use Rattle.engine.specs.declared.fault.RemakeFault.TheVariants.{OutOfMemory as NoMemory};
+
+use crate::report::Report;
+use acparse::ParseFault;
+use cachefile::CacheFault;
+use deftable::Bytes;
+use options::{OptionFault, PreciousFault};
+use plan::PlanFault;
+use status_record::RecordFault;
+use std::alloc::{AllocError, AllocFailed};
+
+/// What is wrong with what a run is given, or with what it hands over: the first fault, in this order.
+#[derive(Drop)]
+pub enum Fault {
+    /// The configure.ac has an error.
+    Parse(ParseFault),
+    /// The configure.ac is too long to be run.
+    Plan(PlanFault),
+    /// An argument has an error.
+    Option(OptionFault),
+    /// The cache has an error.
+    Cache(CacheFault),
+    /// A precious variable isn't as it was in the run that made the cache.
+    Precious(PreciousFault),
+    /// The template of this name isn't given. If several are not, it is the first in the order of the puts.
+    NoTemplate(Bytes),
+    /// The put of this number, counted from 1, was refused. The report is that of the run.
+    PutRefused(u64, Report),
+    /// Memory ran out. Nothing was handed over.
+    OutOfMemory,
+}
+
+/// Why outputs are not made again, or not all of them: the first fault, in this order.
+#[derive(Drop)]
+pub enum RemakeFault {
+    /// The text is no record.
+    Record(RecordFault),
+    /// The tag at this place, which is 0 for the first, is the name of no output.
+    UnknownTag(usize),
+    /// The template of this name isn't given. If several are not, it is the first in the order of the puts.
+    NoTemplate(Bytes),
+    /// The put of this number, counted from 1, was refused.
+    PutRefused(u64),
+    /// Memory ran out. Nothing was handed over.
+    OutOfMemory,
+}
+
+impl From<AllocError> for Fault {
+    ghost from_gives = { λ _ e. e ≡ OutOfMemory };
+
+    fn from(_e: AllocError) -> Fault {
+        Fault::OutOfMemory
+    }
+}
+
+impl<T: Drop> From<AllocFailed<T>> for Fault {
+    ghost from_gives = { λ _ e. e ≡ OutOfMemory };
+
+    fn from(_e: AllocFailed<T>) -> Fault {
+        Fault::OutOfMemory
+    }
+}
+
+impl From<ParseFault> for Fault {
+    ghost from_gives = { λ f e. e ≡ faults.of_parse f };
+
+    fn from(fault: ParseFault) -> Fault {
+        match fault {
+            ParseFault::OutOfMemory => Fault::OutOfMemory,
+            other => Fault::Parse(other),
+        }
+    }
+}
+
+impl From<PlanFault> for Fault {
+    ghost from_gives = { λ f e. e ≡ faults.of_plan f };
+
+    fn from(fault: PlanFault) -> Fault {
+        match fault {
+            PlanFault::OutOfMemory => Fault::OutOfMemory,
+            other => Fault::Plan(other),
+        }
+    }
+}
+
+impl From<OptionFault> for Fault {
+    ghost from_gives = { λ f e. e ≡ faults.of_option f };
+
+    fn from(fault: OptionFault) -> Fault {
+        match fault {
+            OptionFault::OutOfMemory => Fault::OutOfMemory,
+            other => Fault::Option(other),
+        }
+    }
+}
+
+impl From<CacheFault> for Fault {
+    ghost from_gives = { λ f e. e ≡ faults.of_cache f };
+
+    fn from(fault: CacheFault) -> Fault {
+        match fault {
+            CacheFault::OutOfMemory => Fault::OutOfMemory,
+            other => Fault::Cache(other),
+        }
+    }
+}
+
+impl From<PreciousFault> for Fault {
+    ghost from_gives = { λ f e. e ≡ faults.of_precious f };
+
+    fn from(fault: PreciousFault) -> Fault {
+        match fault {
+            PreciousFault::OutOfMemory => Fault::OutOfMemory,
+            other => Fault::Precious(other),
+        }
+    }
+}
+
+impl From<AllocError> for RemakeFault {
+    ghost from_gives = { λ _ e. e ≡ NoMemory };
+
+    fn from(_e: AllocError) -> RemakeFault {
+        RemakeFault::OutOfMemory
+    }
+}
+
+impl<T: Drop> From<AllocFailed<T>> for RemakeFault {
+    ghost from_gives = { λ _ e. e ≡ NoMemory };
+
+    fn from(_e: AllocFailed<T>) -> RemakeFault {
+        RemakeFault::OutOfMemory
+    }
+}
+
+impl From<RecordFault> for RemakeFault {
+    ghost from_gives = { λ f e. e ≡ faults.of_record f };
+
+    fn from(fault: RecordFault) -> RemakeFault {
+        match fault {
+            RecordFault::OutOfMemory => RemakeFault::OutOfMemory,
+            other => RemakeFault::Record(other),
+        }
+    }
+}

@@ -1,0 +1,148 @@
+//! What a run hands over.
+
+ghost use Rattle.std.specs.Prelude.{◌≡◌, [], ◌∷◌, ◌++◌, IfOk, OnOk, option_map, Ok, codes};
+ghost use Rattle.outputlist.specs.Output.{AreOutputs};
+ghost use Rattle.outputs.specs.declared.thing.Kind.TheVariants.{Record as Recorded};
+ghost use Rattle.status_record.specs.RecordText.{IsRecord};
+ghost use Rattle.syntax.specs.Lists.{lists_of};
+ghost use Rattle.syntax.specs.Script.{script_of};
+ghost use Rattle.engine.specs.Handing as hands;
+ghost use Rattle.engine.specs.Told.{outcome_of};
+
+use cachefile::cache_text;
+use deftable::{Bytes, Defs, Vars};
+use making::{add_outputs, record_of};
+use outputs::{Kind, Thing, Things};
+use proberun::Outcome;
+use status_record::{Record, write_record};
+use std::alloc::{AllocError, Global};
+use syntax::Source;
+
+/// Appends the cache, if one is named.
+fn add_cache(
+    alloc: Global,
+    things: &mut Things,
+    name: Option<&Bytes>,
+    vars: &Vars,
+) -> Result<(), AllocError>
+    ensures { OnOk result (things.new ≡ things.old ++ hands.cache_things (option_map (λ n. n.now) name.entry) vars.now) }
+{
+    let Some(name) = name else {
+        return Ok(());
+    };
+    let text = cache_text(alloc, vars)?;
+    let name = name.copy(alloc)?;
+    things.push(Thing {
+        kind: Kind::Cache,
+        name,
+        text,
+    })
+}
+
+/// Returns a record as a thing, given its text.
+fn record_thing(alloc: Global, text: Bytes) -> Result<Thing, AllocError>
+    ensures { IfOk result (λ t. t ≡ record { kind = Recorded; name = codes "config.status"; text = text }) }
+{
+    let name = Bytes::from_slice(alloc, b"config.status")?;
+    Ok(Thing {
+        kind: Kind::Record,
+        name,
+        text,
+    })
+}
+
+/// Appends the record.
+fn add_record(alloc: Global, things: &mut Things, record: &Record) -> Result<(), AllocError>
+    requires { IsRecord record.now }
+    ensures added { OnOk result (things.new ≡ things.old ++ hands.record_thing record.now ∷ []) }
+    ensures reads_back { OnOk result (hands.ReadsBack record.now) }
+{
+    let text = write_record(alloc, record)?;
+    let thing = record_thing(alloc, text)?;
+    things.push(thing)
+}
+
+/// Appends the files and headers, if they are wanted.
+fn add_wanted(
+    alloc: Global,
+    things: &mut Things,
+    record: &Record,
+    no_create: bool,
+    templates: &[(Bytes, Bytes)],
+) -> Result<(), AllocError>
+    ensures { OnOk result (things.new ≡ things.old ++ hands.wanted_outputs no_create templates.now record.now) }
+{
+    if no_create {
+        return Ok(());
+    }
+    add_outputs(alloc, things, record, templates, &[])
+}
+
+/// Appends what a completed run hands over after its cache.
+fn add_completed(
+    alloc: Global,
+    things: &mut Things,
+    record: &Record,
+    no_create: bool,
+    templates: &[(Bytes, Bytes)],
+) -> Result<(), AllocError>
+    requires { IsRecord record.now }
+    ensures added { OnOk result (things.new ≡ things.old ++ hands.completed_things no_create templates.now record.now) }
+    ensures reads_back { OnOk result (hands.ReadsBack record.now) }
+{
+    add_record(alloc, things, record)?;
+    add_wanted(alloc, things, record, no_create, templates)
+}
+
+/// Returns the record of a run.
+fn run_record(
+    alloc: Global,
+    source: &Source,
+    srcdir: &[u8],
+    vars: &Vars,
+    defs: &Defs,
+) -> Result<Record, AllocError>
+    requires { AreOutputs (lists_of (script_of source.now)).files (lists_of (script_of source.now)).headers }
+    ensures is { IfOk result (λ r. r ≡ hands.run_record (script_of source.now) srcdir.now vars.now defs.now) }
+    ensures record { IfOk result IsRecord }
+{
+    record_of(
+        alloc,
+        vars,
+        defs,
+        source.substituted(),
+        srcdir,
+        source.files(),
+        source.headers(),
+    )
+}
+
+/// Returns what a run hands over that leaves this outcome, these variables and definitions.
+#[tactic(auto, unfolding(crate::specs::Handing::things_of))]
+pub(crate) fn things_of(
+    alloc: Global,
+    source: &Source,
+    cache_name: Option<&Bytes>,
+    srcdir: &[u8],
+    no_create: bool,
+    templates: &[(Bytes, Bytes)],
+    outcome: Outcome,
+    vars: &Vars,
+    defs: &Defs,
+) -> Result<Things, AllocError>
+    requires { AreOutputs (lists_of (script_of source.now)).files (lists_of (script_of source.now)).headers }
+    ensures all { IfOk result (λ t. t ≡ hands.things_of (option_map (λ n. n.now) cache_name.entry) no_create templates.now (outcome_of outcome) vars.now
+        (hands.run_record (script_of source.now) srcdir.now vars.now defs.now)) }
+    ensures reads_back { OnOk result (hands.IfCompleted (outcome_of outcome) (hands.ReadsBack (hands.run_record (script_of source.now) srcdir.now vars.now defs.now))) }
+{
+    let mut things = Things::new(alloc);
+    add_cache(alloc, &mut things, cache_name, vars)?;
+    match outcome {
+        Outcome::Completed => {
+            let record = run_record(alloc, source, srcdir, vars, defs)?;
+            add_completed(alloc, &mut things, &record, no_create, templates)?;
+            Ok(things)
+        }
+        _ => Ok(things),
+    }
+}

@@ -1,0 +1,129 @@
+//! Outputs that are made again, from a record.
+
+ghost use Rattle.std.specs.Prelude.{◌≡◌, ◌+◌, ◌^◌, ◌<◌, ◌≤◌, length, option_map};
+ghost use Rattle.std.specs.Option.{option_copied};
+ghost use Rattle.making.specs.Choice.{unknown};
+ghost use Rattle.making.specs.Making.{made};
+ghost use Rattle.status_record.specs.Reading.{record_in};
+ghost use Rattle.engine.specs.Faults.{GivesAgain, named, of_record};
+ghost use Rattle.engine.specs.Remade as words;
+
+use crate::fault::RemakeFault;
+use deftable::Bytes;
+use making::{find_missing, find_unknown, make_outputs};
+use outputlist::Output;
+use outputs::{Outputs, Thing, Things, put_all};
+use status_record::{Record, read_record};
+use std::alloc::Global;
+
+/// Reads a record.
+fn read(alloc: Global, text: &[u8]) -> Result<Record, RemakeFault>
+    ensures { GivesAgain (λ r. r) result (named of_record (record_in text.now)) }
+{
+    Ok(read_record(alloc, text)?)
+}
+
+/// Checks that each tag is the name of an output.
+fn check_tags(record: &Record, tags: &[Bytes]) -> Result<(), RemakeFault>
+    ensures { GivesAgain (λ _. tt) result (words.none_unknown (unknown record.now tags.now)) }
+{
+    match find_unknown(record, tags) {
+        None => Ok(()),
+        Some(place) => Err(RemakeFault::UnknownTag(place)),
+    }
+}
+
+/// Checks that nothing is missing.
+fn check_found(alloc: Global, missing: Option<&Output>) -> Result<(), RemakeFault>
+    ensures { GivesAgain (λ _. tt) result (words.none_missing (option_copied missing.entry)) }
+{
+    match missing {
+        None => Ok(()),
+        Some(output) => {
+            let name = output.template.copy(alloc)?;
+            Err(RemakeFault::NoTemplate(name))
+        }
+    }
+}
+
+/// Checks that the templates of the outputs that are chosen are there.
+#[tactic(auto, unfolding(crate::specs::Remade::present))]
+fn check_templates(
+    alloc: Global,
+    record: &Record,
+    templates: &[(Bytes, Bytes)],
+    tags: &[Bytes],
+) -> Result<(), RemakeFault>
+    ensures { GivesAgain (λ _. tt) result (words.present record.now templates.now tags.now) }
+{
+    check_found(
+        alloc,
+        find_missing(templates, record.files.as_slice(), tags),
+    )?;
+    check_found(
+        alloc,
+        find_missing(templates, record.headers.as_slice(), tags),
+    )
+}
+
+/// Returns the outputs of a record that are chosen.
+fn outputs_of(
+    alloc: Global,
+    record: &Record,
+    templates: &[(Bytes, Bytes)],
+    tags: &[Bytes],
+) -> Result<Things, RemakeFault>
+    ensures { GivesAgain (λ t. t) result (Ok (made record.now templates.now tags.now)) }
+{
+    Ok(make_outputs(alloc, record, templates, tags)?)
+}
+
+/// Returns what a record's text gives.
+#[tactic(auto, unfolding(crate::specs::Remade::remade))]
+fn things_in(
+    alloc: Global,
+    text: &[u8],
+    templates: &[(Bytes, Bytes)],
+    tags: &[Bytes],
+) -> Result<Things, RemakeFault>
+    ensures { GivesAgain (λ t. t) result (words.remade text.now templates.now tags.now) }
+{
+    let record = read(alloc, text)?;
+    check_tags(&record, tags)?;
+    check_templates(alloc, &record, templates, tags)?;
+    outputs_of(alloc, &record, templates, tags)
+}
+
+/// Hands over things.
+fn put_things<O: Outputs>(outputs: &mut O, things: &[Thing]) -> Result<usize, RemakeFault>
+    requires { (O.receipt outputs.old).failures < 2 ^ 62 }
+    ensures { words.IsPut things.now (O.receipt outputs.old) (O.receipt outputs.new) result }
+{
+    match put_all(outputs, things) {
+        Ok(()) => Ok(things.len()),
+        Err(number) => Err(RemakeFault::PutRefused(number)),
+    }
+}
+
+/// Makes the outputs of a record again, from the templates as they are now, and hands them over. Returns their number.
+///
+/// `text` is that of a record. Without tags, all outputs are made, and otherwise those whose names are tags, each once: files
+/// before headers, in the order of the record.
+///
+/// # Errors
+///
+/// Returns the first fault, in the order of [`RemakeFault`]. If a put is refused, the things before it were handed over,
+/// each whole; after any other fault nothing is handed over.
+pub fn remake<O: Outputs>(
+    alloc: Global,
+    text: &[u8],
+    templates: &[(Bytes, Bytes)],
+    tags: &[Bytes],
+    outputs: &mut O,
+) -> Result<usize, RemakeFault>
+    requires puts { (O.receipt outputs.old).failures + 256 ≤ 2 ^ 62 }
+    ensures remade { words.IsRemade (words.remade text.now templates.now tags.now) (outputs.new ≡ outputs.old) (O.receipt outputs.old) (O.receipt outputs.new) result }
+{
+    let things = things_in(alloc, text, templates, tags)?;
+    put_things(outputs, things.as_slice())
+}

@@ -1,0 +1,49 @@
+//! What a run did.
+
+ghost use Rattle.std.specs.Prelude.{◌≡◌};
+ghost use Rattle.engine.specs.Told as told;
+
+use crew::Log;
+use deftable::{Defs, Notes, Vars};
+
+/// How a run ended.
+#[derive(Clone, Copy, PartialEq, Eq)]
+pub enum Outcome {
+    /// AC_OUTPUT was reached.
+    Completed,
+    /// An error of the source, or the lack of a compiler, stopped the run with this status.
+    Stopped(u8),
+    /// The start or the end of the child of this number was refused. Children are numbered from 1, in the order in which
+    /// their starts were attempted.
+    CutShort(u64),
+    /// The help text or the version was shown, and nothing was run.
+    Shown,
+}
+
+/// What a run did.
+#[derive(Drop)]
+pub struct Report {
+    pub outcome: Outcome,
+    /// The variables at the end.
+    pub vars: Vars,
+    /// The definitions at the end.
+    pub defs: Defs,
+    /// What is printed: the notes about arguments and precious variables, then the pieces of the run. If a text is shown, it
+    /// is the only piece.
+    pub messages: Notes,
+    /// The same pieces, and the children that were asked for. If a text is shown, it is empty.
+    pub log: Log,
+    /// The number of things that were handed over.
+    pub handed: u64,
+}
+
+/// Returns the outcome of a run as the report has it.
+pub(crate) fn outcome_of(outcome: proberun::Outcome) -> Outcome
+    ensures { result ≡ told.outcome_of outcome }
+{
+    match outcome {
+        proberun::Outcome::Completed => Outcome::Completed,
+        proberun::Outcome::Stopped(status) => Outcome::Stopped(status),
+        proberun::Outcome::CutShort(number) => Outcome::CutShort(number),
+    }
+}
