@@ -1,7 +1,7 @@
 //! status_record: records that are read and written again, and the faults of other texts.
 
 use deftable::{Bytes, Defs};
-use status_record::{Args, Outputs, Record, RecordFault, read_record, write_record};
+use status_record::{Outputs, Record, RecordFault, read_record, write_record};
 use std::alloc::Global;
 use std::test::Fail;
 use testrows::{Call, Page, cut, try_rows};
@@ -12,13 +12,11 @@ const READ: &[u8] = b"
 read acrun-record 1^Jsrcdir .^Jvar A x\\ny^Jend^J => .;A[x^Jy];
 read acrun-record 1^Jsrcdir .^Jvar A x\\ny^J => 3
 read acrun-record 1^Jsrcdir .^Jvar A x\\ny^Jvar A x\\ny^Jend^J => 5 at 4
-read acrun-record 9^Jsrcdir .^Jvar A x\\ny^Jend^J => 4
+read acrun-record 2^Jsrcdir .^Jvar A x\\ny^Jend^J => 4
 read  => 1
 
 read acrun-record 1^Jsrcdir ^Jend^J => ;
 read acrun-record 1^Jsrcdir a b\\\\c\\nd^Jend^J => a b\\c^Jd;
-read acrun-record 2^Jsrcdir .^Jend^J => .;args;
-read acrun-record 2^Jsrcdir .^Jarg --enable-x^Jarg ^Jarg --enable-x^Jvar A x^Jend^J => .;args[--enable-x][][--enable-x];A[x];
 v1 var A ^Jdef A x  y^Jfile a/b c\\\\d^Jfile a c^Jheader b a => .;A[];A[x  y];a/b[c\\d];a[c];b[a];
 v1 file ...a/-b \xff\0\r => .;...a/-b[\xff\0\r];
 
@@ -33,7 +31,9 @@ read acrun-record +1^J => 1
 read acrun-record 1x^J => 1
 read Acrun-record 1^J => 1
 read acrun-record 0^J => 4
-read acrun-record 3^J => 4
+read acrun-record 2^J => 4
+read acrun-record 2^Jsrcdir .^Jarg --enable-x^Jend^J => 4
+read acrun-record 9^J => 4
 read acrun-record 10^Jx => 4
 read acrun-record 99999999999999999999999^J => 4
 
@@ -66,7 +66,6 @@ v1 file a/ b => 2 at 3
 v1 file a//b c => 2 at 3
 v1 file a$b c => 2 at 3
 v1 header a b:c => 2 at 3
-read acrun-record 2^Jsrcdir .^Jvar A x^Jarg y^Jend^J => 2 at 4
 
 // After `end`.
 read acrun-record 1^Jsrcdir .^Jend^J^J => 2 at 4
@@ -86,7 +85,7 @@ v1 var A x^Jvar A x^Jx => 5 at 4
 /// `fronts` and a text: from which length on a front of the text is read, or has a fault.
 const FRONTS: &[u8] = b"
 fronts acrun-record 1^Jsrcdir .^Jvar A x\\ny^Jend^J => 0 1;15 3;39 read;
-fronts acrun-record 2^Jsrcdir .^Jarg x^Jdef A x^Jfile a b^Jheader c d^Jend^J => 0 1;15 3;62 read;
+fronts acrun-record 1^Jsrcdir .^Jdef A x^Jfile a b^Jheader c d^Jend^J => 0 1;15 3;56 read;
 ";
 
 /// `value` alone: the bytes that aren't written as themselves in a value, or can't be at its end. `path` alone: the same of the
@@ -114,20 +113,9 @@ fn put_outputs(page: &mut Page, outputs: &Outputs) {
     }
 }
 
-fn put_args(page: &mut Page, args: &Args) {
-    page.put(b"args");
-    for arg in args.as_slice() {
-        page.put_text(arg.as_slice());
-    }
-    page.put(b";");
-}
-
 fn put_record(page: &mut Page, status: &Record) {
     page.put(status.srcdir.as_slice());
     page.put(b";");
-    if let Some(args) = &status.args {
-        put_args(page, args);
-    }
     put_defs(page, &status.vars);
     put_defs(page, &status.defs);
     put_outputs(page, &status.files);
