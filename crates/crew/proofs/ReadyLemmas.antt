@@ -67,17 +67,19 @@ ready_new rs cs es ls a b d cs_is es_is ls_is fa fb fd =
       children_fit = omega arith;
       events_fit = omega arith;
       listed_fit = omega arith;
+      all_listed = omega arith;
     }
 
 -- a refused start, listed or not
-pub ready_refused : {rs : List Reply} {cs : List Child} {es : List CrewEvent} {ls : List Event} {a b d : ℕ} → IsReady rs cs es ls a b d → (rs' : List Reply) (ls' : List Event) (d' : ℕ) → length rs' ≤ length rs → length ls' + 2 * length rs' ≤ length ls + 2 * length rs → d ≤ d' → IsReady rs' cs es ls' a b d'
-ready_refused h rs' ls' d' fewer fits grown =
+pub ready_refused : {rs : List Reply} {cs : List Child} {es : List CrewEvent} {ls : List Event} {a b d : ℕ} → IsReady rs cs es ls a b d → (rs' : List Reply) (ls' : List Event) (d' : ℕ) → length rs' ≤ length rs → length ls' + 2 * length rs' ≤ length ls + 2 * length rs → length ls ≤ length ls' → d ≤ d' → IsReady rs' cs es ls' a b d'
+ready_refused h rs' ls' d' fewer fits more grown =
     record {
       busy_slots = h.busy_slots;
       started = h.started;
       children_fit = omega (arith, h.children_fit);
       events_fit = omega (arith, h.events_fit);
       listed_fit = omega (arith, h.listed_fit);
+      all_listed = omega (arith, h.all_listed);
     }
 
 pub ready_start : {rs : List Reply} {cs : List Child} {es : List CrewEvent} {ls : List Event} {a b d : ℕ} → IsReady rs cs es ls a b d → (rs' : List Reply) (cs' : List Child) (es' : List CrewEvent) (ls' : List Event) (a' b' d' : ℕ) (c : Child) (e : Event) (job : Job) (number : ℕ) → busy c.slot es ≡ false → c.reply ≢ StartRefused → length rs ≡ length rs' + 1 → cs' ≡ cs ++ c ∷ [] → es' ≡ es ++ Started c.slot job number ∷ [] → ls' ≡ ls ++ e ∷ [] → a ≤ a' → b ≤ b' → d ≤ d' → IsReady rs' cs' es' ls' a' b' d'
@@ -91,6 +93,7 @@ ready_start {cs = cs} {es = es} {ls = ls} h rs' cs' es' ls' a' b' d' c e job num
       children_fit = omega (arith, h.children_fit, n);
       events_fit = omega (arith, h.events_fit, n, m);
       listed_fit = omega (arith, h.listed_fit, n, k);
+      all_listed = omega (arith, h.all_listed, m, k);
     }
 
 pub ready_next : {rs : List Reply} {cs : List Child} {es : List CrewEvent} {ls : List Event} {a b d : ℕ} → IsReady rs cs es ls a b d → (cs' : List Child) (es' : List CrewEvent) (ls' : List Event) (a' b' d' i : ℕ) (c : Child) (e : Event) (number : ℕ) → i < length cs → c ≡ get_or cs i c → cs' ≡ remove cs i → es' ≡ es ++ Ended c.slot c.reply number ∷ [] → ls' ≡ ls ++ e ∷ [] → a ≤ a' → b ≤ b' → d ≤ d' → IsReady rs cs' es' ls' a' b' d'
@@ -105,4 +108,5 @@ ready_next {cs = cs} {es = es} {ls = ls} h cs' es' ls' a' b' d' i c e number lt 
       children_fit = omega (arith, h.children_fit, n, less);
       events_fit = omega (arith, h.events_fit, n, m, less);
       listed_fit = omega (arith, h.listed_fit, n, k, less);
+      all_listed = omega (arith, h.all_listed, m, k);
     }

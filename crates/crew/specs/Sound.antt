@@ -21,11 +21,12 @@ abbrev pub AllStarted : List Child → Type 0
 AllStarted [] = Unit {0}
 AllStarted (c ∷ cs) = (c.reply ≢ StartRefused) × AllStarted cs
 
--- the invariant of a crew in memory: its children are in the busy slots, and there is room for every event that its
--- replies allow (own)
+-- the invariant of a crew in memory: its children are in the busy slots, there is room for every event that its replies
+-- allow, and no fewer calls are listed than there are events (own)
 pub record IsReady (replies : List Reply) (children : List Child) (events : List CrewEvent) (listed : List Event) (children_most events_most listed_most : ℕ) : Type 0 where
   pub busy_slots : ListsBusy (map (λ c. c.slot) children) events
   pub started : AllStarted children
   pub children_fit : length children + length replies ≤ children_most
   pub events_fit : length events + length children + 2 * length replies ≤ events_most
   pub listed_fit : length listed + length children + 2 * length replies ≤ listed_most
+  pub all_listed : length events ≤ length listed

@@ -83,7 +83,9 @@ impl MemoryCrew {
 
     /// Returns the calls so far, in order. Starts after the end of the list of replies are left out.
     pub fn events(&self) -> &[Event]
-        ensures { result.now ≡ self.now.listed }
+        ensures listed { result.now ≡ self.now.listed }
+        // If no call is listed, no start was taken.
+        ensures none { result.now ≡ [] → self.now.account.events ≡ [] }
     {
         self.listed.as_slice()
     }
