@@ -8,8 +8,10 @@
 //! errors, since each exit of a function makes its proof longer.
 #![tactic(auto)]
 
+pub mod directory;
 pub mod page;
 pub mod table;
 
+pub use directory::try_rows_in;
 pub use page::Page;
 pub use table::{Call, Named, cut, try_rows};

@@ -1,8 +1,8 @@
 //! A directory of a test's own, since all tests run in one directory that nothing empties.
 
+use crate::table::{Call, try_rows};
 use std::test::Fail;
 use std::{env, fs};
-use testrows::{Call, try_rows};
 
 /// Tries each row of a table in a new directory, and removes the directory if no row has another answer.
 pub fn try_rows_in<C: Call>(

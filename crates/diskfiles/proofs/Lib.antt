@@ -1,0 +1,2 @@
+mod Shorter
+mod Kept

@@ -1,0 +1,4 @@
+pub mod Keeping
+pub mod Lines
+pub mod Names
+pub mod Sayings

@@ -1,0 +1,27 @@
+-- The lines on what was handed over.
+use Rattle.std.specs.Prelude.{ℕ, List, [], ◌∷◌, ◌++◌, codes}
+use Rattle.outputs.specs.declared.thing.Thing.{Thing}
+use Rattle.outputs.specs.declared.thing.Kind.{Kind}
+use Rattle.outputs.specs.declared.thing.Kind.TheVariants.{Cache, Record, File, Header}
+
+-- the line on a file or a header that was written (Autoconf's message)
+abbrev pub creating_line : List ℕ → List ℕ
+creating_line name = codes "config.status: creating " ++ (name ++ 10 ∷ [])
+
+-- the line on a header that had its text before (Autoconf's message)
+abbrev pub unchanged_line : List ℕ → List ℕ
+unchanged_line name = codes "config.status: " ++ (name ++ (codes " is unchanged" ++ 10 ∷ []))
+
+-- The text is what is said of a thing of this kind and name. Nothing is said of a cache and of a record. (own)
+pub data IsSaid : Kind → List ℕ → List ℕ → Type 0 where
+  cache : {name : List ℕ} → IsSaid Cache name []
+  record_made : {name : List ℕ} → IsSaid Record name []
+  file : {name : List ℕ} → IsSaid File name (creating_line name)
+  header : {name : List ℕ} → IsSaid Header name (creating_line name)
+  unchanged : {name : List ℕ} → IsSaid Header name (unchanged_line name)
+
+-- The text is what is said of each thing, one after the other. (own)
+pub data AreLines : List Thing → List ℕ → Type 0 where
+  none : AreLines [] []
+  more : {thing : Thing} {things : List Thing} (line rest : List ℕ) → IsSaid thing.kind thing.name line → AreLines things rest
+      → AreLines (thing ∷ things) (line ++ rest)

@@ -1,0 +1,31 @@
+//! Whole texts that the program reads from files and writes to files, and the receiver that writes what a run hands over.
+//!
+//! A name of a file is a byte text. It is UTF-8 and has no NUL; under any other name nothing is read or written. A text that is
+//! written replaces the file whole, or the file stays as it was. This can't be done for what is no regular file, such as
+//! `/dev/stdout` or a link, which is written in place.
+//!
+//! ```text
+//! let name = path_in(alloc, srcdir, b"configure.ac")?;       // ./configure.ac, if srcdir is .
+//! let source = read_text(alloc, files, name.as_slice())?;    // None if it can't be read
+//! let mut outputs = FileOutputs::new(alloc, files);
+//! outputs.put(Kind::File, b"src/Makefile", text)?;           // makes the directory src
+//! outputs.lines()                                            // config.status: creating src/Makefile
+//! ```
+//!
+//! No contract of std says what a file holds. So contracts here say which names are refused, how long a text may be, what the
+//! receipt of a receiver is, and what its lines say; tests show what is read and written. "own" marks a rule that no manual
+//! gives.
+//!
+//! Read `specs/Names` and `specs/Lines`, then `names`, `reading`, `writing`, `saying`, which has the lines, and `receiver`.
+#![tactic(auto)]
+
+mod names;
+mod reading;
+mod receiver;
+mod saying;
+mod writing;
+
+pub use names::path_in;
+pub use reading::{LARGEST_TEXT, read_text};
+pub use receiver::FileOutputs;
+pub use writing::{WriteRefused, write_text};

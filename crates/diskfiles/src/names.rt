@@ -1,0 +1,51 @@
+//! Names of files.
+
+ghost use Rattle.std.specs.Prelude.{◌≡◌, ◌∷◌, ◌++◌, IfOk, IfSome};
+ghost use Rattle.diskfiles.specs.Names.{IsFileName, has_nul};
+
+use deftable::Bytes;
+use std::alloc::{AllocError, Global};
+use std::str;
+
+/// Returns the name of a file in a directory: `directory`, a slash, and `name`. If `directory` is empty, the name begins with
+/// the slash.
+///
+/// # Errors
+///
+/// Fails only if memory runs out.
+pub fn path_in(alloc: Global, directory: &[u8], name: &[u8]) -> Result<Bytes, AllocError>
+    ensures { IfOk result (λ path. path ≡ directory.now ++ 47 ∷ name.now) }
+{
+    let mut path = Vec::from_slice(alloc, directory)?;
+    path.push(b'/')?;
+    path.extend_from_slice(name)?;
+    Ok(Bytes::from_vec(path))
+}
+
+fn has_nul(name: &[u8]) -> bool
+    ensures { result ≡ has_nul name.now }
+{
+    name.iter().any(|byte| *byte == 0)
+}
+
+/// Returns the name as a text, or `None` if no file can have it.
+pub(crate) fn file_name(name: &[u8]) -> Option<&str>
+    ensures name { IfSome result (λ _. IsFileName name.now) }
+    ensures same { IfSome result (λ text. text.now ≡ name.now) }
+{
+    if has_nul(name) {
+        return None;
+    }
+    match str::from_utf8(name) {
+        Ok(text) => Some(text),
+        Err(_) => None,
+    }
+}
+
+/// Returns the directory of a file: what is before the last slash of its name. If the name has no slash, returns `None`.
+pub(crate) fn directory_of(name: &str) -> Option<&str> {
+    match name.rsplit_once('/') {
+        Some((directory, _)) => Some(directory),
+        None => None,
+    }
+}
