@@ -1,5 +1,5 @@
 -- Outputs that are made again from a record.
-use Rattle.std.specs.Prelude.{◌≡◌, ℕ, List, length, Option, Some, None, Result, Ok, Err}
+use Rattle.std.specs.Prelude.{◌≡◌, ℕ, ◌+◌, List, length, Option, Some, None, Result, Ok, Err}
 use Rattle.making.specs.Choice.{missing, unknown}
 use Rattle.making.specs.Making.{made}
 use Rattle.outputlist.specs.declared.output.Output.{Output}
@@ -11,10 +11,10 @@ use Rattle.engine.specs.Faults.{of_record, named, ◌>>=◌}
 use Rattle.engine.specs.declared.fault.RemakeFault.{RemakeFault}
 use Rattle.engine.specs.declared.fault.RemakeFault.TheVariants.{UnknownTag, NoTemplate, PutRefused, OutOfMemory}
 
--- A tag is the name of no output. (own)
+-- A tag is the name of no output: its number, from 1. (own)
 abbrev pub none_unknown : Option ℕ → Result (Unit {0}) RemakeFault
 none_unknown None = Ok tt
-none_unknown (Some place) = Err (UnknownTag place)
+none_unknown (Some place) = Err (UnknownTag (place + 1))
 
 -- The template of an output isn't there. (own)
 abbrev pub none_missing : Option Output → Result (Unit {0}) RemakeFault

@@ -13,40 +13,67 @@ use options::{OptionFault, PreciousFault};
 use plan::PlanFault;
 use status_record::RecordFault;
 use std::alloc::{AllocError, AllocFailed};
+use std::fmt;
+use thiserror::Error;
 
 /// What is wrong with what a run is given, or with what it hands over: the first fault, in this order.
-#[derive(Drop)]
+///
+/// It prints as its kind, with the numbers of the fault that it holds. The name of a template, which may be any bytes, is left
+/// out.
+#[derive(Drop, Error)]
 pub enum Fault {
     /// The configure.ac has an error.
+    #[error("parse {0}")]
     Parse(ParseFault),
     /// The configure.ac is too long to be run.
+    #[error("plan {0}")]
     Plan(PlanFault),
     /// An argument has an error.
+    #[error("option {0}")]
     Option(OptionFault),
     /// The cache has an error.
+    #[error("cache {0}")]
     Cache(CacheFault),
     /// A precious variable isn't as it was in the run that made the cache.
+    #[error("precious {0}")]
     Precious(PreciousFault),
     /// The template of this name isn't given. If several are not, it is the first in the order of the puts.
+    #[error("template")]
     NoTemplate(Bytes),
     /// The put of this number, counted from 1, was refused. The report is that of the run.
+    #[error("put {0}")]
     PutRefused(u64, Report),
     /// Memory ran out. Nothing was handed over.
+    #[error("memory")]
     OutOfMemory,
 }
 
+impl fmt::Debug for Fault {
+    fn fmt<W: fmt::Write>(&self, f: &mut fmt::Formatter<W>) -> fmt::Result {
+        fmt::Display::fmt(self, f)
+    }
+}
+
 /// Why outputs are not made again, or not all of them: the first fault, in this order.
-#[derive(Drop)]
+///
+/// It prints as its kind, with the numbers of the fault that it holds. The name of a template, which may be any bytes, is left
+/// out.
+#[derive(Debug, Drop, Error)]
 pub enum RemakeFault {
     /// The text is no record.
+    #[error("record {0}")]
     Record(RecordFault),
-    /// The tag at this place, which is 0 for the first, is the name of no output.
-    UnknownTag(usize),
+    /// The tag of this number, counted from 1, is the name of no output.
+    #[error("tag {0}")]
+    UnknownTag(u64),
     /// The template of this name isn't given. If several are not, it is the first in the order of the puts.
+    #[error("template")]
     NoTemplate(Bytes),
     /// The put of this number, counted from 1, was refused.
+    #[error("put {0}")]
     PutRefused(u64),
     /// Memory ran out. Nothing was handed over.
+    #[error("memory")]
     OutOfMemory,
 }
 

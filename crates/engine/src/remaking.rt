@@ -29,7 +29,7 @@ fn check_tags(record: &Record, tags: &[Bytes]) -> Result<(), RemakeFault>
 {
     match find_unknown(record, tags) {
         None => Ok(()),
-        Some(place) => Err(RemakeFault::UnknownTag(place)),
+        Some(place) => Err(RemakeFault::UnknownTag(place as u64 + 1)),
     }
 }
 

@@ -1,6 +1,6 @@
 //! Templates by name, and outputs by tags.
 
-ghost use Rattle.std.specs.Prelude.{◌≡◌, bytes_eq, option_map, find};
+ghost use Rattle.std.specs.Prelude.{◌≡◌, ◌<◌, bytes_eq, option_map, find, length, IfSome};
 ghost use Rattle.std.specs.List.{list_any};
 ghost use Rattle.std.specs.Option.{option_copied};
 ghost use Rattle.deftable.specs.Table.{value_of};
@@ -89,7 +89,8 @@ fn is_output(record: &Record, tag: &[u8]) -> bool
 /// Returns the index, counted from 0, of the first tag that is the name of no file and of no header of the record, or `None` if
 /// there is none (own).
 pub fn find_unknown(record: &Record, tags: &[Bytes]) -> Option<usize>
-    ensures { result ≡ words.unknown record.now tags.now }
+    ensures exact { result ≡ words.unknown record.now tags.now }
+    ensures bound { IfSome result (λ i. i < length tags.now) }
 {
     tags.iter()
         .position(|tag| !is_output(record, tag.as_slice()))
