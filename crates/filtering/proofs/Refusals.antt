@@ -1,0 +1,57 @@
+-- Errors of the filter and of its parts.
+use Rattle.std.proofs.Common.{◌≡◌, ◌≢◌, ℕ, List, Option, Some, None, Result, Ok, Err, refl, sym, subst, ◌∙◌}
+use Rattle.std.specs.Prelude.{IfOk, IfErr, IfSome, IsErrAnd}
+use Rattle.acstatement.specs.declared.fault.ParseFault.{ParseFault}
+use Rattle.acstatement.specs.declared.fault.ParseFault.TheVariants as parse_faults
+use Rattle.acstatement.specs.Reading.{Fails}
+use Rattle.acparse.specs.Profile.{source_of}
+use Rattle.acparse.specs.Source.{IsSource, IsSourceFault}
+use Rattle.engine.specs.Faults.{of_parse}
+use Rattle.engine.specs.Given.{Accepted}
+use Rattle.engine.specs.declared.fault.Fault.{Fault}
+use Rattle.input.specs.Parted.{IsParted}
+use Rattle.input.specs.declared.fault.ReadFault.{ReadFault}
+use Rattle.input.specs.declared.fault.ReadFault.TheVariants as reads
+use Rattle.syntax.specs.Script.{Script}
+use Rattle.filtering.specs.Faults.{of_run}
+use Rattle.filtering.specs.Filtered.{IsRun, IsFiltered, IsInputFault, IsRefused, fault, unread, unwritten, memory, parse, not_run, no_memory_to_parse}
+use Rattle.filtering.specs.Handed.{IsNotRun, judged_alone, templates_of, no_memory}
+use Rattle.filtering.specs.declared.fault.FilterFault.{FilterFault}
+use Rattle.filtering.specs.declared.fault.FilterFault.TheVariants.{Read, Write, OutOfMemory}
+
+-- Memory ran out.
+pub memory_not_run : {A : Type 0} (j : Result Accepted Fault) (r : Result A FilterFault) → IsErrAnd r (λ e. e ≡ OutOfMemory) → IfErr r (IsNotRun j)
+memory_not_run j (Ok x) h = absurd h
+memory_not_run j (Err e) h = subst (IsNotRun j) (sym h) no_memory
+
+pub parse_refused : {A : Type 0} (input source template : List ℕ) (f : ParseFault) (r : Result A FilterFault) → IsParted input source template → Fails f (source_of source) → (f ≢ parse_faults.OutOfMemory → IsSourceFault source f)
+    → IsErrAnd r (λ e. e ≡ of_run (of_parse f)) → IfErr r (IsInputFault input)
+parse_refused input source template f (Ok x) parted exact bad h = absurd h
+parse_refused input source template parse_faults.OutOfMemory (Err e) parted exact bad h = subst (IsInputFault input) (sym h) no_memory_to_parse
+parse_refused input source template f (Err e) parted exact bad h = subst (IsInputFault input) (sym h) (parse parted (λ e. cc) exact (bad (λ e. cc)))
+
+pub run_found : {A : Type 0} (input source template : List ℕ) (s : Script) (r : Result A FilterFault) (text errors : A → List ℕ) (status : A → ℕ) → IsParted input source template → IsSource source s
+    → IfOk r (λ a. IsRun source s template (text a) (errors a) (status a)) → IfOk r (λ a. IsFiltered input (text a) (errors a) (status a))
+run_found input source template s (Ok a) text errors status parted is h = record { source = source; template = template; parted = parted; statements = s; is_source = is; run = h }
+run_found input source template s (Err e) text errors status parted is h = tt
+
+pub not_run_refused : {A : Type 0} (input source template : List ℕ) (s : Script) (r : Result A FilterFault) → IsParted input source template → IsSource source s
+    → IfErr r (IsNotRun (judged_alone source (templates_of s template))) → IfErr r (IsInputFault input)
+not_run_refused input source template s (Ok x) parted is h = tt
+not_run_refused input source template s (Err e) parted is h = not_run parted is h
+
+-- The input is the text that was read.
+pub write_refused : (o : Option (List ℕ)) (text items out errors : List ℕ) (status : ℕ) → text ≡ items → IfSome o (λ input. items ≡ input) → IsFiltered text out errors status → IfSome o (λ input. IsRefused input Write)
+write_refused None text items out errors status whole same is = tt
+write_refused (Some input) text items out errors status whole same is = subst (λ t. IsRefused t Write) (whole ∙ same) (unwritten is)
+
+pub input_refused : (o : Option (List ℕ)) (text items : List ℕ) (e : FilterFault) → text ≡ items → IfSome o (λ input. items ≡ input) → IsInputFault text e → IfSome o (λ input. IsRefused input e)
+input_refused None text items e whole same is = tt
+input_refused (Some input) text items e whole same is = subst (λ t. IsRefused t e) (whole ∙ same) (fault is)
+
+pub read_refused : {A : Type 0} (o : Option (List ℕ)) (f : ReadFault) (r : Result A FilterFault) → IsErrAnd r (λ e. (f ≡ reads.Read → e ≡ Read) × (f ≡ reads.OutOfMemory → e ≡ OutOfMemory))
+    → IfErr r (λ e. IfSome o (λ input. IsRefused input e))
+read_refused o f (Ok x) h = absurd h
+read_refused None f (Err e) h = tt
+read_refused (Some input) reads.Read (Err e) h = subst (IsRefused input) (sym (h.0 refl)) unread
+read_refused (Some input) reads.OutOfMemory (Err e) h = subst (IsRefused input) (sym (h.1 refl)) memory

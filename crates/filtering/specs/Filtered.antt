@@ -1,0 +1,57 @@
+-- The result of the filter for its input.
+use Rattle.std.specs.Prelude.{◌≡◌, ◌≢◌, ℕ, false, List, Ok, Err}
+use Rattle.acstatement.specs.declared.fault.ParseFault as parse_fault
+use Rattle.acstatement.specs.declared.fault.ParseFault.TheVariants as parse_faults
+use Rattle.acparse.specs.Profile.{source_of}
+use Rattle.acparse.specs.Source.{IsSource, IsSourceFault}
+use Rattle.cfglog.specs.Texts.{messages_of}
+use Rattle.deftable.specs.declared.note.Stream.TheVariants as streams
+use Rattle.engine.specs.Configured.{things}
+use Rattle.engine.specs.Given.{Starts}
+use Rattle.engine.specs.declared.accepting.Start.{Start}
+use Rattle.engine.specs.declared.fault.Fault.TheVariants.{Parse}
+use Rattle.engine.specs.declared.report.Report.{Report}
+use Rattle.input.specs.Parted.{IsParted, HasNoMarker}
+use Rattle.syntax.specs.Script.{Script}
+use Rattle.filtering.specs.Handed.{templates_of, judged_alone, first_text, status_of, IsNotRun}
+use Rattle.filtering.specs.Ran.{IsAlone}
+use Rattle.filtering.specs.declared.fault.FilterFault.{FilterFault}
+use Rattle.filtering.specs.declared.fault.FilterFault.TheVariants.{Read, Usage, Run, Write, OutOfMemory}
+
+-- The source, which has these statements, is run without arguments, environment and cache, with this template under the name of
+-- the first file's, and with each start of a child refused. This is the text of the first file that the run hands over, what it
+-- prints on standard error, and its exit status. (own)
+pub record IsRun (source : List ℕ) (s : Script) (template out errors : List ℕ) (status : ℕ) : Type 0 where
+  pub start : Start
+  pub accepted : judged_alone source (templates_of s template) ≡ Ok (Starts s start)
+  pub report : Report
+  pub alone : IsAlone s start report
+  pub written : out ≡ first_text (things s start (templates_of s template) report)
+  pub told : errors ≡ messages_of streams.Err false report.messages
+  pub exits : status ≡ status_of report.outcome
+
+-- The input is a source and a template, and this is the text that its run writes, the text for standard error, and the
+-- exit status. (own)
+pub record IsFiltered (input out errors : List ℕ) (status : ℕ) : Type 0 where
+  pub source : List ℕ
+  pub template : List ℕ
+  pub parted : IsParted input source template
+  pub statements : Script
+  pub is_source : IsSource source statements
+  pub run : IsRun source statements template out errors status
+
+-- What is wrong with an input: it has no marker, or its source has this error, or the source is right, and is not run.
+-- (own)
+pub data IsInputFault (input : List ℕ) : FilterFault → Type 0 where
+  usage : HasNoMarker input → IsInputFault input Usage
+  parse : {source template : List ℕ} {f : parse_fault.ParseFault} → IsParted input source template → f ≢ parse_faults.OutOfMemory → source_of source ≡ Err f → IsSourceFault source f → IsInputFault input (Run (Parse f))
+  not_run : {source template : List ℕ} {s : Script} {e : FilterFault} → IsParted input source template → IsSource source s → IsNotRun (judged_alone source (templates_of s template)) e → IsInputFault input e
+  no_memory_to_parse : IsInputFault input OutOfMemory
+
+-- Why the filter writes no text: the input has an error, or the text for it can't be written, or the input can't be
+-- read, which the contract of a reader has no name for, or memory runs out. (own)
+pub data IsRefused (input : List ℕ) : FilterFault → Type 0 where
+  fault : {e : FilterFault} → IsInputFault input e → IsRefused input e
+  unwritten : {out errors : List ℕ} {status : ℕ} → IsFiltered input out errors status → IsRefused input Write
+  unread : IsRefused input Read
+  memory : IsRefused input OutOfMemory

@@ -1,0 +1,79 @@
+-- What the filter gives a run, and what it takes of what the run hands over.
+use Rattle.std.specs.Prelude.{◌≡◌, ℕ, Bool, true, false, List, [], ◌∷◌, Option, Some, None, Result, Ok, Err, find}
+use Rattle.cfglog.specs.Texts.{messages_of}
+use Rattle.deftable.specs.declared.note.Stream.TheVariants as streams
+use Rattle.engine.specs.Configured.{things}
+use Rattle.engine.specs.Given.{Accepted, Shows, Starts, judged}
+use Rattle.engine.specs.Shown.{shown_report}
+use Rattle.engine.specs.declared.fault.Fault.{Fault}
+use Rattle.engine.specs.declared.report.Outcome.{Outcome}
+use Rattle.engine.specs.declared.report.Outcome.TheVariants.{Completed, Stopped, CutShort, Shown}
+use Rattle.engine.specs.declared.report.Report.{Report}
+use Rattle.outputlist.specs.declared.output.Output.{Output}
+use Rattle.outputs.specs.declared.thing.Kind as kind
+use Rattle.outputs.specs.declared.thing.Kind.TheVariants as kinds
+use Rattle.outputs.specs.declared.thing.Thing.{Thing}
+use Rattle.syntax.specs.Lists.{lists_of}
+use Rattle.syntax.specs.Script.{Script}
+use Rattle.filtering.specs.Ran.{IsAlone}
+use Rattle.filtering.specs.declared.fault.FilterFault.{FilterFault}
+use Rattle.filtering.specs.declared.fault.FilterFault.TheVariants.{Run, OutOfMemory}
+
+-- The templates that the filter has: this text, under the name of the first file's template. (own)
+abbrev pub templates_for : List Output → List ℕ → List (List ℕ × List ℕ)
+templates_for [] template = []
+templates_for (file ∷ more) template = (file.template, template) ∷ []
+
+-- The templates that the filter has for these statements. (own)
+abbrev pub templates_of : Script → List ℕ → List (List ℕ × List ℕ)
+templates_of s template = templates_for (lists_of s).files template
+
+-- What follows from a source with these templates, without arguments, environment and cache. (own)
+abbrev pub judged_alone : List ℕ → List (List ℕ × List ℕ) → Result Accepted Fault
+judged_alone source templates = judged source [] [] None templates
+
+-- Why there is no report: what is given has a fault, or memory runs out. (own)
+pub data IsNotRun (judged : Result Accepted Fault) : FilterFault → Type 0 where
+  refused : {f : Fault} → judged ≡ Err f → IsNotRun judged (Run f)
+  no_memory : IsNotRun judged OutOfMemory
+
+-- The report of what is accepted, and what is handed over. (own)
+abbrev pub IsReported : Result Accepted Fault → List (List ℕ × List ℕ) → Report → List Thing → Type 0
+IsReported (Ok (Starts script start)) templates report handed = IsAlone script start report × (handed ≡ things script start templates report)
+IsReported (Ok (Shows script settings)) templates report handed = report ≡ shown_report script settings
+IsReported (Err f) templates report handed = ⊥
+
+-- The kind is that of a file. (own)
+abbrev pub is_file_kind : kind.Kind → Bool
+is_file_kind kinds.File = true
+is_file_kind other = false
+
+-- The thing is a file. (own)
+abbrev pub is_file : Thing → Bool
+is_file thing = is_file_kind thing.kind
+
+-- The text of a thing, and none if there is no thing. (own)
+abbrev pub text_of : Option Thing → List ℕ
+text_of None = []
+text_of (Some thing) = thing.text
+
+-- The text of the first file among these things, and none if there is no file. (own)
+abbrev pub first_text : List Thing → List ℕ
+first_text things = text_of (find is_file things)
+
+-- The exit status of a run: 0 if it is completed or a text is shown, 3 if it is cut short, and else the source's own. (own)
+abbrev pub status_of : Outcome → ℕ
+status_of Completed = 0
+status_of (Stopped status) = status
+status_of (CutShort number) = 3
+status_of Shown = 0
+
+-- What the filter takes of what follows from what is given: the text of the first file that is handed over, what the report has for
+-- standard error, and the exit status. (own)
+pub record IsTaken (judged : Result Accepted Fault) (templates : List (List ℕ × List ℕ)) (out errors : List ℕ) (status : ℕ) : Type 0 where
+  pub report : Report
+  pub handed : List Thing
+  pub reported : IsReported judged templates report handed
+  pub written : out ≡ first_text handed
+  pub told : errors ≡ messages_of streams.Err false report.messages
+  pub exits : status ≡ status_of report.outcome

@@ -1,0 +1,4 @@
+pub mod Faults
+pub mod Ran
+pub mod Handed
+pub mod Filtered

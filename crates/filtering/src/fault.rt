@@ -1,0 +1,82 @@
+//! Why the filter writes no text.
+
+ghost use Rattle.std.specs.Prelude.{◌≡◌};
+ghost use Rattle.input.specs.declared.fault.ReadFault.TheVariants.{Read as Unread, OutOfMemory as NoReadMemory};
+ghost use Rattle.engine.specs.Faults.{of_parse};
+ghost use Rattle.filtering.specs.Faults.{of_run};
+ghost use Rattle.filtering.specs.declared.fault.FilterFault.TheVariants.{OutOfMemory, Read};
+
+use acparse::ParseFault;
+use engine::Fault;
+use input::ReadFault;
+use std::alloc::{AllocError, AllocFailed};
+use thiserror::Error;
+
+/// Why the filter writes no text. It prints as the text of its error line, except that the name of a template, which may be any
+/// bytes, is left out.
+#[derive(Debug, Drop, Error)]
+pub enum FilterFault {
+    /// The input can't be read, or doesn't end within 65,536 reads.
+    #[error("file standard input")]
+    Read,
+    /// No line of the input is exactly `%%`.
+    #[error("usage")]
+    Usage,
+    /// The source, or a template, has an error.
+    #[error("{0}")]
+    Run(Fault),
+    /// The text can't be written.
+    #[error("file standard output")]
+    Write,
+    /// Memory ran out.
+    #[error("memory")]
+    OutOfMemory,
+}
+
+impl From<AllocError> for FilterFault {
+    ghost from_gives = { λ _ e. e ≡ OutOfMemory };
+
+    fn from(_e: AllocError) -> FilterFault {
+        FilterFault::OutOfMemory
+    }
+}
+
+impl<T: Drop> From<AllocFailed<T>> for FilterFault {
+    ghost from_gives = { λ _ e. e ≡ OutOfMemory };
+
+    fn from(_e: AllocFailed<T>) -> FilterFault {
+        FilterFault::OutOfMemory
+    }
+}
+
+impl From<ReadFault> for FilterFault {
+    ghost from_gives = { λ f e. (f ≡ Unread → e ≡ Read) × (f ≡ NoReadMemory → e ≡ OutOfMemory) };
+
+    fn from(fault: ReadFault) -> FilterFault {
+        match fault {
+            ReadFault::Read => FilterFault::Read,
+            ReadFault::OutOfMemory => FilterFault::OutOfMemory,
+        }
+    }
+}
+
+// A receiver in memory refuses a put only if memory runs out.
+impl From<Fault> for FilterFault {
+    ghost from_gives = { λ f e. e ≡ of_run f };
+
+    fn from(fault: Fault) -> FilterFault {
+        match fault {
+            Fault::PutRefused(_number, _report) => FilterFault::OutOfMemory,
+            Fault::OutOfMemory => FilterFault::OutOfMemory,
+            other => FilterFault::Run(other),
+        }
+    }
+}
+
+impl From<ParseFault> for FilterFault {
+    ghost from_gives = { λ f e. e ≡ of_run (of_parse f) };
+
+    fn from(fault: ParseFault) -> FilterFault {
+        FilterFault::from(Fault::from(fault))
+    }
+}

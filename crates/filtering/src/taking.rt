@@ -1,0 +1,72 @@
+//! What the filter takes of a run: the text of a file, what is printed on standard error, and the exit status.
+
+ghost use Rattle.std.specs.Prelude.{◌≡◌, IfOk, find, false};
+ghost use Rattle.std.specs.Option.{option_copied};
+ghost use Rattle.cfglog.specs.Texts.{messages_of};
+ghost use Rattle.deftable.specs.declared.note.Stream.TheVariants as streams;
+ghost use Rattle.filtering.specs.Handed as words;
+
+use cfglog::messages_text;
+use deftable::{Bytes, Stream};
+use engine::{Kind, Outcome, Report, Thing};
+use std::alloc::{AllocError, Global};
+
+/// The text that is written, the text for standard error, and the exit status.
+#[derive(Drop)]
+pub(crate) struct Written {
+    pub text: Bytes,
+    pub errors: Vec<u8>,
+    pub status: u8,
+}
+
+/// Returns the exit status of a run: 0 if it is completed or a text is shown, 3 if it is cut short, and else the source's own
+/// (own).
+pub fn status_of(outcome: Outcome) -> u8
+    ensures { result ≡ words.status_of outcome }
+{
+    match outcome {
+        Outcome::Completed => 0,
+        Outcome::Stopped(status) => status,
+        Outcome::CutShort(_) => 3,
+        Outcome::Shown => 0,
+    }
+}
+
+fn is_file(thing: &Thing) -> bool
+    ensures { result ≡ words.is_file thing.now }
+{
+    matches!(thing.kind, Kind::File)
+}
+
+/// Returns the first file among these things.
+fn first_file(things: &[Thing]) -> Option<&Thing>
+    ensures { option_copied result ≡ find words.is_file things.now }
+{
+    things.iter().find(|thing| is_file(thing))
+}
+
+/// Returns the text of the first file among these things, or the empty text if there is none.
+fn first_text(alloc: Global, things: &[Thing]) -> Result<Bytes, AllocError>
+    ensures { IfOk result (λ text. text ≡ words.first_text things.now) }
+{
+    match first_file(things) {
+        None => Ok(Bytes::new(alloc)),
+        Some(thing) => thing.text.copy(alloc),
+    }
+}
+
+/// Returns what the filter takes of a run with this report, which handed over these things.
+pub(crate) fn taken(alloc: Global, report: &Report, things: &[Thing]) -> Result<Written, AllocError>
+    ensures text { IfOk result (λ w. w.text ≡ words.first_text things.now) }
+    ensures errors { IfOk result (λ w. w.errors.items ≡ messages_of streams.Err false report.now.messages) }
+    ensures status { IfOk result (λ w. w.status ≡ words.status_of report.now.outcome) }
+{
+    let text = first_text(alloc, things)?;
+    let errors = messages_text(alloc, report.messages.as_slice(), Stream::Err, false)?;
+    let status = status_of(report.outcome);
+    Ok(Written {
+        text,
+        errors,
+        status,
+    })
+}
