@@ -1,21 +1,23 @@
-//! The program: calls `runner` with the arguments, files and streams of the process.
+//! The program: calls `runner` with the arguments, the environment and a crew of real children.
 #![tactic(auto)]
 
-use runner::{FilterFault, command};
-use std::io;
+use crew::ProcessCrew;
+use runner::{FilterFault, command, environment, tell, words};
+use std::alloc::AllocError;
 use std::process::ExitCode;
 
+/// Runs the command that the program's arguments name, and returns its exit status.
+fn run(rt: HostRuntime) -> Result<u8, AllocError> {
+    let words = words(rt.alloc(), &rt)?;
+    let env = environment(rt.alloc(), &rt)?;
+    let mut crew = ProcessCrew::new(rt, rt.alloc())?;
+    Ok(command(rt, rt.alloc(), words.as_slice(), env.as_slice(), &mut crew))
+}
+
 fn main(rt: HostRuntime) -> ExitCode {
-    let status = match command::words(rt.alloc(), &rt) {
-        Ok(words) => command::run(
-            rt.alloc(),
-            &rt,
-            words.as_slice(),
-            &mut rt.reader(),
-            &mut io::writer(&rt),
-            &mut rt.stderr(),
-        ),
-        Err(_) => command::tell(&mut rt.stderr(), &FilterFault::OutOfMemory),
+    let status = match run(rt) {
+        Ok(status) => status,
+        Err(_) => tell(&mut rt.stderr(), &FilterFault::OutOfMemory),
     };
     ExitCode::from(status)
 }

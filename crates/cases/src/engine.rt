@@ -8,7 +8,7 @@ use deftable::{Bytes, Vars};
 use options::{OptionFault, Settings, help_text, read_args, srcdir_of};
 use plan::{Plan, PlanFault, compile};
 use proberun::{RunEnd, run};
-use runner::{FilterFault, Filtered, command, filter};
+use runner::{FilterFault, Filtered, filter, tell};
 use std::alloc::{AllocError, Global};
 use testrows::Page;
 
@@ -44,7 +44,7 @@ pub fn run_filter(
 
 /// The fault line.
 pub fn put_fault_line(out: &mut Vec<u8>, fault: &FilterFault) {
-    command::tell(out, fault);
+    tell(out, fault);
 }
 
 /// What a run leaves, and what its crew did.

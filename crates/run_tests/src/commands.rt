@@ -1,14 +1,17 @@
 //! The filter and the program's commands: streams that fail, and the words of the program. The crate `cases` has what the
 //! filter writes and which faults it names.
 
+ghost use Rattle.std.specs.Prelude.{◌+◌, ◌^◌, ◌≤◌};
 ghost use Rattle.std.specs.Io.{WritesAtMost};
+ghost use Rattle.crew.specs.Events.{IsIdle};
 
 use crate::crews::{Work, job_of, put_real_children};
 use crate::streams::{Sheet, pipe_of};
-use crate::texts::{bytes_of, parts_of};
+use crate::texts::{bytes_of, parts_of, put_cut};
 use conftest::Job;
+use crew::{Crew, ProcessCrew};
 use deftable::Bytes;
-use runner::{command, filter};
+use runner::{environment, filter, run, words};
 use standin::standin;
 use std::env::{Env, FillError};
 use std::io::{Read, Write};
@@ -52,7 +55,7 @@ fn put_standin(page: &mut Page, rt: &HostRuntime, words: &[Bytes]) {
 
 // ---- the words of the program
 
-/// A process with these arguments, its name first.
+/// A process with these arguments, its name first. The entries of its environment are the same texts without its name.
 #[derive(Drop)]
 struct Process<'a> {
     arguments: &'a [Bytes],
@@ -68,20 +71,26 @@ fn copied_to(buf: &mut [u8], text: &[u8]) -> Result<usize, FillError>
     Ok(text.len())
 }
 
+fn text_to(buf: &mut [u8], texts: &[Bytes], i: usize) -> Result<usize, FillError>
+    ensures { WritesAtMost result buf.new }
+{
+    match texts.get(i) {
+        Some(text) => copied_to(buf, text.as_slice()),
+        None => Err(FillError::NotPresent),
+    }
+}
+
 impl Env for Process<'_> {
     fn arg(&self, i: usize, buf: &mut [u8]) -> Result<usize, FillError> {
-        match self.arguments.get(i) {
-            Some(argument) => copied_to(buf, argument.as_slice()),
-            None => Err(FillError::NotPresent),
-        }
+        text_to(buf, self.arguments, i)
     }
 
     fn var(&self, _name: &str, _buf: &mut [u8]) -> Result<usize, FillError> {
         Err(FillError::NotPresent)
     }
 
-    fn var_at(&self, _i: usize, _buf: &mut [u8]) -> Result<usize, FillError> {
-        Err(FillError::NotPresent)
+    fn var_at(&self, i: usize, buf: &mut [u8]) -> Result<usize, FillError> {
+        text_to(buf, self.arguments, i.saturating_add(1))
     }
 }
 
@@ -95,8 +104,29 @@ fn put_same(page: &mut Page, words: &[Bytes], arguments: &[Bytes]) {
 
 /// Puts how many words the program finds in these arguments, and whether each is the argument.
 fn put_words(page: &mut Page, arguments: &[Bytes]) {
-    match &command::words(page.alloc(), &Process { arguments }) {
+    match &words(page.alloc(), &Process { arguments }) {
         Ok(words) => put_same(page, words.as_slice(), arguments),
+        Err(_) => page.cut(),
+    }
+}
+
+/// Puts a name and a value, each in brackets. Of a long text only its length is put.
+fn put_entry(page: &mut Page, entry: &(Bytes, Bytes)) {
+    page.put(b"[");
+    put_cut(page, entry.0.as_slice());
+    page.put(b"][");
+    put_cut(page, entry.1.as_slice());
+    page.put(b"]");
+}
+
+/// Puts the names and the values that the program finds in an environment of these entries.
+fn put_environment(page: &mut Page, arguments: &[Bytes]) {
+    match &environment(page.alloc(), &Process { arguments }) {
+        Ok(entries) => {
+            for entry in entries {
+                put_entry(page, entry);
+            }
+        }
         Err(_) => page.cut(),
     }
 }
@@ -107,7 +137,24 @@ fn put_words(page: &mut Page, arguments: &[Bytes]) {
 const DEMO: &[u8] =
     b"AC_INIT([demo],[1.0])\nAC_CONFIG_FILES([out])\nAC_OUTPUT\n%%\n@PACKAGE_STRING@ @nope@\n";
 
-/// Returns the exit status of the program. It has no contract, so its callers don't see the long one of the command.
+/// Returns the exit status of the program over a crew, without an environment. It promises nothing, so that its callers don't
+/// see the long contract of the command.
+fn status_over<C: Crew, R: Read, W: Write, E: Write>(
+    rt: &HostRuntime,
+    words: &[Bytes],
+    crew: &mut C,
+    input: &mut R,
+    output: &mut W,
+    errors: &mut E,
+) -> u8
+    requires idle { IsIdle (C.account crew.old).events }
+    requires attempts { (C.account crew.old).attempts + 2 ^ 36 ≤ 2 ^ 62 }
+    requires failures { (C.account crew.old).failures + 256 ≤ 2 ^ 62 }
+{
+    run(rt.alloc(), rt, words, &[], crew, input, output, errors)
+}
+
+/// Returns the exit status of the program, or 2 if it can't be called.
 pub fn status_of<R: Read, W: Write, E: Write>(
     rt: &HostRuntime,
     words: &[Bytes],
@@ -115,7 +162,13 @@ pub fn status_of<R: Read, W: Write, E: Write>(
     output: &mut W,
     errors: &mut E,
 ) -> u8 {
-    command::run(rt.alloc(), rt, words, input, output, errors)
+    let Ok(own) = rt.clone() else {
+        return 2;
+    };
+    match &mut ProcessCrew::new(own, rt.alloc()) {
+        Ok(crew) => status_over(rt, words, crew, input, output, errors),
+        Err(_) => 2,
+    }
 }
 
 fn put_stream(page: &mut Page, word: &[u8], text: &[u8]) {
@@ -192,6 +245,7 @@ fn put_command(
     match command {
         b"sh" => put_real_children(page, rt, &Work::Children { count: 1, job }),
         b"words" => put_words(page, words),
+        b"environment" => put_environment(page, words),
         b"compiler" => put_standin(page, rt, words),
         _ => put_answer_to(
             page,
@@ -224,7 +278,8 @@ fn write_files(page: &mut Page, rt: &HostRuntime, files: &[u8]) {
 ///
 /// A row has the words, with commas between them, the input, which stream fails, and the files that are written first: a
 /// name, a blank and a text. What is left out at the end is empty. As the first word, `filter` calls the filter by itself,
-/// `compiler` the stand-in, and `words` the reader of the program's words. The words of `sh` are a child of a crew.
+/// `compiler` the stand-in, and `words` and `environment` the readers of what the program is given. The words of `sh` are a child
+/// of a crew.
 #[derive(Drop)]
 pub struct Program<'a> {
     pub rt: &'a HostRuntime,
@@ -256,6 +311,10 @@ filter||output => file standard output>
 filter|%%|output => parse 8>
 // the words of the program, the last one of more than a mebibyte
 words,a,,\xff\0 b,~ => 4 yes yes yes yes
+// the environment, without the entry that has no `=`
+environment,A=1,b,C==d=,=,\xff=\0 b, => [A][1][C][=d=][][][\xff][\0 b]
+environment,A=~ => [A][1048574 bytes aaaaaaaaaaaaaaaa .. aaaaaaaaaaaaaaaa]
+environment =>
 // the program
  => 0 out demo 1.0 @nope@^J
 |0 1 1 => 2 err acrun: file standard input^J
@@ -269,7 +328,6 @@ words,a,,\xff\0 b,~ => 4 yes yes yes yes
 // arguments that are not known
 ,standin => 2 err acrun: usage^J
 x,standin => 2 err acrun: usage^J
-configure,standin => 2 err acrun: usage^J
 standin2,standin => 2 err acrun: usage^J
 -j2,standin => 2 err acrun: usage^J
 ";

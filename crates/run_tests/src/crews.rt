@@ -3,7 +3,6 @@
 ghost use Rattle.std.specs.Prelude.{◌≡◌, ◌≤◌, []};
 
 use crate::batches::put_whole_over;
-use crate::directories::try_rows_in;
 use crate::runs::put_run_over;
 use crate::texts::{add, bytes_of, number_of, parts_of, put_cut, words_of};
 use conftest::Job;
@@ -13,7 +12,7 @@ use plan::Plan;
 use std::process::Processes;
 use std::rt::Files;
 use std::test::Fail;
-use testrows::{Call, Page, cut, try_rows};
+use testrows::{Call, Page, cut, try_rows, try_rows_in};
 
 /// Puts `STATUS:TEXT`, or `S` for a start that is refused and `E` for an end that is.
 pub fn put_reply(page: &mut Page, reply: &Reply) {

@@ -3,8 +3,8 @@
 //! No clause can say that memory is left, what the system answers, or how a fault is printed. `crews` has crews in memory and
 //! real children, `broken_children` those whose pipe or end fails, `plans` what a source weighs and its steps, `runs` whole
 //! runs, also by a machine that a test answers (`machines`), `batches` lists whose children are asked for at once, `commands` the
-//! filter and the program's commands over streams that fail, and `stand_ins` the stand-in for a compiler, as a child too. `texts`
-//! reads the parts of a row, `streams` has the streams that fail, and `directories` gives a test a directory of its own.
+//! filter and the program's commands over streams that fail, and `stand_ins` the stand-in for a compiler, as a child too.
+//! `texts` reads the parts of a row, and `streams` has the streams that fail.
 #![tactic(auto)]
 
 #[cfg(test)]
@@ -15,8 +15,6 @@ mod broken_children;
 mod commands;
 #[cfg(test)]
 mod crews;
-#[cfg(test)]
-mod directories;
 #[cfg(test)]
 mod machines;
 #[cfg(test)]

@@ -5,7 +5,6 @@ ghost use Rattle.std.specs.Prelude.{◌≡◌, ◌≤◌, []};
 
 use crate::batches::{put_at_windows, put_definitions, put_variables};
 use crate::crews::{Work, put_in_memory, put_real_children};
-use crate::directories::try_rows_in;
 use crate::machines::put_walked;
 use crate::texts::number_of;
 use acparse::{Source, parse};
@@ -14,7 +13,7 @@ use deftable::Vars;
 use plan::{Plan, compile};
 use proberun::{Outcome, RunEnd, run};
 use std::test::Fail;
-use testrows::{Call, Page, cut};
+use testrows::{Call, Page, cut, try_rows_in};
 
 /// Puts how a run ended.
 pub fn put_outcome(page: &mut Page, outcome: Outcome) {

@@ -2,16 +2,15 @@
 
 use crate::commands::{Program, status_of, write_file};
 use crate::crews::{Work, put_real_children};
-use crate::directories::try_rows_in;
 use crate::runs::vars_of;
 use conftest::compile_job;
 use csource::{default_includes, header_source};
 use deftable::{Bytes, Defs, Vars};
-use runner::command;
+use runner::words;
 use std::env::Env;
 use std::io;
 use std::test::Fail;
-use testrows::{Call, Page};
+use testrows::{Call, Page, try_rows_in};
 
 const STANDIN: &[u8] = b"\
 // no list
@@ -95,7 +94,7 @@ fn play_with(rt: &HostRuntime, words: &[Bytes]) -> Result<(), Fail> {
 
 /// Is the program, if the tests' executable is called with words after the test's name.
 fn play(rt: &HostRuntime) -> Result<(), Fail> {
-    match &command::words(rt.alloc(), rt) {
+    match &words(rt.alloc(), rt) {
         Ok(words) => play_with(rt, words.as_slice()),
         Err(_) => Err(Fail::new("no memory")),
     }

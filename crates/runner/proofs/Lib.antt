@@ -1,2 +1,3 @@
-pub mod Refusals
-pub mod Alone
+pub mod Appending
+pub mod Done
+pub mod Windows

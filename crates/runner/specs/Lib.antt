@@ -1,4 +1,3 @@
-pub mod Outputs
-pub mod Ran
-pub mod Commands
-pub mod Filtered
+pub mod Calls
+pub mod Lent
+pub mod Configures

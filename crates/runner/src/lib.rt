@@ -1,19 +1,28 @@
-//! The program's commands, apart from the streams and the files that they use.
+//! The program's commands, apart from the process that they run in.
 //!
-//! `filter` takes a text through the whole engine: it reads a configure.ac, a line `%%` and a template, and writes the
-//! filled template. `command` chooses between it and the stand-in for a compiler, the crate `standin`, by the program's
-//! arguments.
+//! [`command`] chooses by the program's words: a whole run over files (`configure`), the outputs of a record made again (`status`),
+//! the stand-in for a compiler, the crate `standin`, and without words the filter, the crate `filtering`.
 //!
-//! Read `fault`, `running` (what the run of a plan leaves) and `filtering`, then `command`. The crate `making` makes the file of what the run leaves.
+//! A run is a call of `engine::configure` on texts that are read from files, over the crew that `command` is given and a receiver
+//! that writes files. What it leaves for its user is printed and logged after it.
 //!
-//! From the lines `AC_INIT([demo],[1.0])`, `AC_CONFIG_FILES([out])`, `AC_OUTPUT`, `%%` and `@PACKAGE_NAME@`, `filter`
-//! writes `demo` and a newline.
+//! "own" marks a rule that no manual gives.
+//!
+//! In `specs`, read `Calls` (what the program is asked to do) and `Configures` (what it does then). In `src`, read `call`,
+//! `program`, `configuring` and `remaking`; `process`, `supplies`, `printing` and `telling` are what these two use.
 #![tactic(auto)]
 
-pub mod command;
-pub mod fault;
-pub mod filtering;
-pub mod running;
+mod call;
+mod configuring;
+mod printing;
+mod process;
+mod program;
+mod remaking;
+mod supplies;
+mod telling;
 
-pub use fault::{Fault, FilterFault};
-pub use filtering::{Filtered, filter};
+pub use engine::Fault;
+pub use filtering::{FilterFault, Filtered, filter};
+pub use process::{environment, words};
+pub use program::{command, run};
+pub use telling::tell;

@@ -1,0 +1,92 @@
+-- What the program is asked to do (own).
+use Rattle.std.specs.Prelude.{ℕ, ◌≤◌, Bool, false, List, [], ◌∷◌, Option, Some, None, bytes_eq, codes, if◌then◌else◌}
+
+-- What the program is asked to do: to filter its input; to answer in a compiler's place; to run a configure.ac with at most
+-- `window` children at once; to make the outputs of a record again; or it doesn't know. (own)
+pub data Call : Type 0 where
+  Filter : Call
+  StandIn : (words : List (List ℕ)) → Call
+  Configure : (window : ℕ) (arguments : List (List ℕ)) → Call
+  Status : (tags : List (List ℕ)) → Call
+  Unknown : Call
+
+-- The options for the number of children at once, each with that number. (own)
+unfoldable pub windows : List (List ℕ × ℕ)
+windows = (codes "-j1", 1) ∷ (codes "-j2", 2) ∷ (codes "-j3", 3) ∷ (codes "-j4", 4) ∷ (codes "-j5", 5) ∷ (codes "-j6", 6) ∷ (codes "-j7", 7) ∷ (codes "-j8", 8)
+    ∷ (codes "-j9", 9) ∷ (codes "-j10", 10) ∷ (codes "-j11", 11) ∷ (codes "-j12", 12) ∷ (codes "-j13", 13) ∷ (codes "-j14", 14) ∷ (codes "-j15", 15) ∷ (codes "-j16", 16) ∷ []
+
+-- The number in the first of these rows whose option is the word. (own)
+abbrev pub window_among : List ℕ → List (List ℕ × ℕ) → Option ℕ
+window_among word [] = None
+window_among word (row ∷ rows) = if bytes_eq row.0 word then Some row.1 else window_among word rows
+
+-- The number of children at once that the word asks for. (own)
+abbrev pub window_of : List ℕ → Option ℕ
+window_of word = window_among word windows
+
+abbrev pub is_configure : List ℕ → Bool
+is_configure word = bytes_eq word (codes "configure")
+
+-- The call, if so many children are wanted at once and these words follow. (own)
+abbrev pub windowed : Option ℕ → List (List ℕ) → Call
+windowed None words = Unknown
+windowed (Some window) [] = Unknown
+windowed (Some window) (word ∷ arguments) = if is_configure word then Configure window arguments else Unknown
+
+-- The words after `status` begin with `--recheck`, which is no command yet. (own)
+abbrev pub asks_recheck : List (List ℕ) → Bool
+asks_recheck [] = false
+asks_recheck (word ∷ words) = bytes_eq word (codes "--recheck")
+
+-- The call with these words after `status`. (own)
+abbrev pub status_call : List (List ℕ) → Call
+status_call words = if asks_recheck words then Unknown else Status words
+
+-- The call with this first word. (own)
+abbrev pub named_call : List ℕ → List (List ℕ) → Call
+named_call word words =
+    if bytes_eq word (codes "standin") then StandIn words
+    else if is_configure word then Configure 1 words
+    else if bytes_eq word (codes "status") then status_call words
+    else windowed (window_of word) words
+
+-- What the program is asked to do with these words after its name. (own)
+abbrev pub call_of : List (List ℕ) → Call
+call_of [] = Filter
+call_of (word ∷ words) = named_call word words
+
+-- If the program is asked to filter its input, this holds. (own)
+abbrev pub IfFilter : Call → Type 0 → Type 0
+IfFilter Filter goes_on = goes_on
+IfFilter call goes_on = Unit {0}
+
+-- If it is asked to answer in a compiler's place, this holds of its words. (own)
+abbrev pub IfStandIn : Call → (List (List ℕ) → Type 0) → Type 0
+IfStandIn (StandIn words) goes_on = goes_on words
+IfStandIn call goes_on = Unit {0}
+
+-- If it is asked to run a configure.ac, this holds of its window and its arguments. (own)
+abbrev pub IfConfigure : Call → (ℕ → List (List ℕ) → Type 0) → Type 0
+IfConfigure (Configure window arguments) goes_on = goes_on window arguments
+IfConfigure call goes_on = Unit {0}
+
+-- If it is asked to make outputs again, this holds of their names. (own)
+abbrev pub IfStatus : Call → (List (List ℕ) → Type 0) → Type 0
+IfStatus (Status tags) goes_on = goes_on tags
+IfStatus call goes_on = Unit {0}
+
+-- The program is asked for no run. (own)
+abbrev pub HasNoRun : Call → Type 0
+HasNoRun (Configure window arguments) = ⊥
+HasNoRun call = Unit {0}
+
+-- The program is asked for nothing that writes to standard output. (own)
+abbrev pub HasNoOutput : Call → Type 0
+HasNoOutput (StandIn words) = Unit {0}
+HasNoOutput Unknown = Unit {0}
+HasNoOutput call = ⊥
+
+-- The window of a run is from 1 to 16. (own)
+abbrev pub HasWindow : Call → Type 0
+HasWindow (Configure window arguments) = (1 ≤ window) × (window ≤ 16)
+HasWindow call = Unit {0}

@@ -1,0 +1,137 @@
+//! The program's commands, over its streams, its files and a crew.
+
+ghost use Rattle.std.specs.Prelude.{◌≡◌, ◌≢◌, ◌⊎◌, ◌+◌, ◌^◌, ◌≤◌, ℕ, List, [], IfSome};
+ghost use Rattle.std.specs.Io.KnownBytes.{Appends};
+ghost use Rattle.crew.specs.Events.{IsIdle};
+ghost use Rattle.filtering.specs.Filtered.{IsFiltered};
+ghost use Rattle.runner.specs.Calls.{call_of, Unknown, IfFilter, IfStandIn, IfConfigure, IfStatus, HasNoRun, HasNoOutput};
+ghost use Rattle.runner.specs.Configures.{IsConfigured, IsMadeAgain};
+ghost use Rattle.standin.specs.Standin.{IsAnswered};
+
+use crate::call::{Call, call_of};
+use crate::configuring::run_configure;
+use crate::remaking::run_status;
+use crate::telling::{tell, tell_memory, tell_usage};
+use crew::Crew;
+use deftable::Bytes;
+use filtering::{Filtered, filter};
+use standin::standin;
+use std::alloc::Global;
+use std::io::{self, Input, Read, Write};
+use std::rt::Files;
+
+/// Filters the input, and returns the exit status.
+fn run_filter<R: Read, W: Write, E: Write>(
+    alloc: Global,
+    input: &mut R,
+    output: &mut W,
+    errors: &mut E,
+) -> u8
+    ensures written { (result ≡ 2) ⊎ IfSome (R.remaining input.old)
+        (λ text. (out : List ℕ) × (said : List ℕ) × IsFiltered text out said result × Appends (W.contents output.old) (W.contents output.new) out × (said ≡ [] → errors.new ≡ errors.old)) }
+{
+    match filter(alloc, input, output) {
+        Ok(
+            Filtered {
+                status,
+                errors: said,
+            },
+        ) => {
+            if !said.is_empty() {
+                let _ = errors.write_all(said.as_slice());
+            }
+            status
+        }
+        Err(fault) => tell(errors, &fault),
+    }
+}
+
+/// Answers as the stand-in for a compiler.
+fn run_standin<F: Files, E: Write>(alloc: Global, files: &F, words: &[Bytes], errors: &mut E) -> u8
+    ensures answer { (result ≡ 2) ⊎ IsAnswered words.now result }
+    ensures silent { result ≡ 0 → errors.new ≡ errors.old }
+{
+    match standin(alloc, files, words, errors) {
+        Ok(status) => status,
+        Err(_) => tell_memory(errors),
+    }
+}
+
+/// Runs the command that the words name, and returns its exit status.
+///
+/// Without words, it filters its input, and the status is that of the source's run. After `standin` they are the command line
+/// of a compiler, which the stand-in answers. After `configure` they are the arguments of a run, which has at most one child at
+/// once, or N after `-jN`. After `status` they are the names of outputs of the run's record, which are made again. There is no
+/// other command. If anything is wrong, also with the words, the status is 2 (own).
+///
+/// Each error is reported as one line on standard error. If that can't be written, only the status reports it.
+pub fn run<F: Files, C: Crew, R: Read, W: Write, E: Write>(
+    alloc: Global,
+    files: &F,
+    words: &[Bytes],
+    env: &[(Bytes, Bytes)],
+    crew: &mut C,
+    input: &mut R,
+    output: &mut W,
+    errors: &mut E,
+) -> u8
+    requires idle { IsIdle (C.account crew.old).events }
+    requires attempts { (C.account crew.old).attempts + 2 ^ 36 ≤ 2 ^ 62 }
+    requires failures { (C.account crew.old).failures + 256 ≤ 2 ^ 62 }
+    // Without words: unless the status is 2, what is written and the status are those of the source's meaning.
+    ensures filter { IfFilter (call_of words.now) ((result ≡ 2) ⊎ IfSome (R.remaining input.old)
+        (λ text. (out : List ℕ) × (said : List ℕ) × IsFiltered text out said result × Appends (W.contents output.old) (W.contents output.new) out × (said ≡ [] → errors.new ≡ errors.old))) }
+    // The stand-in's status is its answer, unless memory runs out. If it accepts the conftest, it writes nothing.
+    ensures standin { IfStandIn (call_of words.now) (λ others. (result ≡ 2) ⊎ IsAnswered others result) }
+    ensures silent { IfStandIn (call_of words.now) (λ others. result ≡ 0 → errors.new ≡ errors.old) }
+    // Unless the status is 2, the crew made the run of some source, cache and templates with these arguments and this environment;
+    // the status is that of its outcome, and its messages and the lines on its outputs are printed.
+    ensures configure { IfConfigure (call_of words.now) (λ window args. result ≢ 2 → (out : List ℕ) × IsConfigured window args env.now (C.account crew.old) (C.account crew.new) out result
+        × Appends (W.contents output.old) (W.contents output.new) out) }
+    // Unless the status is 2, it is 0, and the outputs of some record with these names are made.
+    ensures status { IfStatus (call_of words.now) (λ tags. result ≢ 2 → (result ≡ 0) × (out : List ℕ) × IsMadeAgain tags out × Appends (W.contents output.old) (W.contents output.new) out) }
+    ensures unknown { call_of words.now ≡ Unknown → result ≡ 2 }
+    // Only a run starts children, only the filter reads the input, and the stand-in writes no output.
+    ensures crew { HasNoRun (call_of words.now) → crew.new ≡ crew.old }
+    ensures input { words.now ≢ [] → input.new ≡ input.old }
+    ensures output { HasNoOutput (call_of words.now) → output.new ≡ output.old }
+    // No child is left in flight.
+    ensures idle { IsIdle (C.account crew.new).events }
+{
+    match call_of(words) {
+        Call::Filter => run_filter(alloc, input, output, errors),
+        Call::StandIn(words) => run_standin(alloc, files, words, errors),
+        Call::Configure(window, args) => {
+            run_configure(alloc, files, window, args, env, crew, output, errors)
+        }
+        Call::Status(tags) => run_status(alloc, files, tags, output, errors),
+        Call::Unknown => tell_usage(errors),
+    }
+}
+
+/// Runs the command that the words name, on the streams and the files of the process, and returns its exit status.
+///
+/// This is [`run`], which says what each command does.
+pub fn command<C: Crew>(
+    rt: HostRuntime,
+    alloc: Global,
+    words: &[Bytes],
+    env: &[(Bytes, Bytes)],
+    crew: &mut C,
+) -> u8
+    requires idle { IsIdle (C.account crew.old).events }
+    requires attempts { (C.account crew.old).attempts + 2 ^ 36 ≤ 2 ^ 62 }
+    requires failures { (C.account crew.old).failures + 256 ≤ 2 ^ 62 }
+    ensures idle { IsIdle (C.account crew.new).events }
+{
+    run(
+        alloc,
+        &rt,
+        words,
+        env,
+        crew,
+        &mut rt.reader(),
+        &mut io::writer(&rt),
+        &mut rt.stderr(),
+    )
+}
