@@ -29,7 +29,7 @@ $(foreach pass,1 2 3 4 5 6 7 8 9 10,$(eval stale := $(sort $(stale) $(foreach na
 ifneq ($(stale),)
 ifneq ($(filter-out check,$(or $(MAKECMDGOALS),all)),)
 $(shell rm -f $(patsubst %,out/%.proved,$(stale)))
-$(info Proving $(words $(stale)) crates, each as soon as those that it uses are proved. All of them take 15 minutes on four processors.)
+$(info Proving $(words $(stale)) crates, each as soon as those that it uses are proved. All of them take 15 to 40 minutes on four processors.)
 endif
 endif
 
@@ -51,6 +51,8 @@ demo: $(acrun)
 	@sh examples/run.sh $(acrun) examples/first
 	@sh examples/run.sh $(acrun) examples/branches
 	@sh examples/standin/run.sh $(acrun)
+	@sh examples/tally/run.sh $(acrun)
+	@sh examples/guide/run.sh $(acrun)
 
 $(samples): out/conftest_samples.proved
 	@sh tools/build.sh conftest_samples
