@@ -1,3 +1,4 @@
 mod Versions
 pub mod Wholes
 pub mod Remakes
+mod Agreements

@@ -5,3 +5,4 @@ pub mod Given
 pub mod Handing
 pub mod Configured
 pub mod Remade
+pub mod Agreeing

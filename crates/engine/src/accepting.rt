@@ -156,7 +156,7 @@ fn started(
     let more = check_vars(alloc, source, &mut vars, &old)?;
     check_templates(alloc, no_create, templates, source)?;
     old.pour(&mut vars)?;
-    let notes = joined(alloc, &notes, &more)?;
+    let notes = joined(alloc, &notes, more)?;
     Ok(Start {
         cache_name,
         srcdir,

@@ -74,7 +74,7 @@ fn run_ready<C: Crew>(
         &end.vars,
         &end.defs,
     )?;
-    let messages = joined(alloc, &notes, &end.messages)?;
+    let messages = joined(alloc, &notes, end.messages)?;
     let log = with_notes(alloc, &notes, end.log)?;
     let handed = things.as_slice().len() as u64;
     let report = Report {

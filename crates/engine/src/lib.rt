@@ -4,11 +4,13 @@
 //! files and headers again from the record of such a run. What a run is given is a value, and what it hands over is put to
 //! [`Outputs`], so nothing here opens a file.
 //!
-//! In `specs`, read `Given` (what is accepted), `Handing` (what is handed over), `Configured` (both together) and `Remade`.
-//! `Shown`, `Told` and `Faults` are small. In `src`, read `accepting`, `handing`, `configuring` and `remaking`.
+//! In `specs`, read `Given` (what is accepted), `Handing` (what is handed over), `Configured` (both together), `Agreeing` (two runs
+//! under the same replies) and `Remade`. `Shown`, `Told` and `Faults` are small. In `src`, read `accepting`, `handing`, `configuring`
+//! and `remaking`; `agreeing` has a law.
 #![tactic(auto)]
 
 mod accepting;
+mod agreeing;
 mod configuring;
 mod fault;
 mod handing;
@@ -17,6 +19,7 @@ mod remaking;
 mod report;
 mod shown;
 
+pub use agreeing::configures_agree;
 pub use configuring::configure;
 pub use fault::{Fault, RemakeFault};
 pub use outputs::{Kind, MemoryOutputs, Outputs, PutRefused, Thing};

@@ -27,10 +27,13 @@ fn add_notes(alloc: Global, notes: &mut Notes, more: &[Note]) -> Result<(), Allo
     Ok(())
 }
 
-/// Returns notes, followed by others.
-pub(crate) fn joined(alloc: Global, first: &Notes, second: &Notes) -> Result<Notes, AllocError>
-    ensures { IfOk result (λ n. n ≡ first.now ++ second.now) }
+/// Returns notes, followed by others. If there are none, it is the others themselves.
+pub(crate) fn joined(alloc: Global, first: &Notes, second: Notes) -> Result<Notes, AllocError>
+    ensures { IfOk result (λ n. n ≡ first.now ++ second) }
 {
+    if first.as_slice().is_empty() {
+        return Ok(second);
+    }
     let mut all = Notes::new(alloc);
     add_notes(alloc, &mut all, first.as_slice())?;
     add_notes(alloc, &mut all, second.as_slice())?;
