@@ -1,4 +1,5 @@
 pub mod ChildLemmas
+pub mod FusedLemmas
 pub mod ReadyLemmas
 pub mod ScriptLemmas
 pub mod SlotLemmas

@@ -23,6 +23,9 @@
 //! requests for a job, and `specs/Ending.antt` the reply at the end of a child. `children` keeps the account, and uses
 //! `child` and `diagnostics`. Both crews use `failures`, which counts refused calls, and `room`.
 //!
+//! [`Fused`], in `fused`, is a crew around any other crew, for tests: it refuses one start or one end. `specs/Fused.antt`
+//! defines its account by the account of the crew inside.
+//!
 //! `entry` is for whoever runs jobs over a crew: the log of the pieces that were printed and of the children.
 #![tactic(auto)]
 
@@ -34,6 +37,7 @@ mod entry;
 mod event;
 mod failures;
 mod flight;
+mod fused;
 mod launcher;
 mod memory;
 mod order;
@@ -44,6 +48,7 @@ mod room;
 pub use calls::Crew;
 pub use entry::{Entry, Log};
 pub use event::{CrewEvent, Event, Refused};
+pub use fused::{FuseKind, Fused};
 pub use memory::MemoryCrew;
 pub use order::{Order, SlotList};
 pub use process::ProcessCrew;

@@ -12,13 +12,13 @@ use testrows::{Call, Page, cut};
 
 /// How a run is made, and what is put of it.
 #[derive(Clone, Copy)]
-struct How<'a> {
-    replies: &'a [u8],
-    window: usize,
-    order: &'a [u8],
-    refuse: u64,
-    view: View,
-    shown: &'a [u8],
+pub struct How<'a> {
+    pub replies: &'a [u8],
+    pub window: usize,
+    pub order: &'a [u8],
+    pub refuse: u64,
+    pub view: View,
+    pub shown: &'a [u8],
 }
 
 /// Returns the number of the put that a row refuses.
@@ -27,7 +27,7 @@ fn refused_in(row: &[u8]) -> u64 {
 }
 
 /// Returns how the run of a row is made.
-fn how_of<'a>(row: &'a [u8], view: View) -> How<'a> {
+pub fn how_of<'a>(row: &'a [u8], view: View) -> How<'a> {
     let (window, order) = cut(section_or_empty(row, b"at"), b" ");
     How {
         replies: section_or_empty(row, b"replies"),
@@ -69,7 +69,7 @@ fn answer_of<C: Crew, O: Outputs>(
 }
 
 /// Puts what a run leaves over a crew and a receiver that have done nothing.
-fn put_over<C: Crew, O: Outputs>(
+pub fn put_over<C: Crew, O: Outputs>(
     page: &mut Page,
     given: &Given,
     cache: Option<&[u8]>,
@@ -109,7 +109,7 @@ fn put_with_crew<O: Outputs>(
 }
 
 /// Puts what a run leaves and hands over. Returns the receiver.
-fn put_run(page: &mut Page, given: &Given, cache: Option<&[u8]>, how: &How) -> MemoryOutputs {
+pub fn put_run(page: &mut Page, given: &Given, cache: Option<&[u8]>, how: &How) -> MemoryOutputs {
     let mut outputs = MemoryOutputs::new(page.alloc(), how.refuse);
     put_with_crew(page, given, cache, how, &mut outputs);
     put_things(page, outputs.handed(), how.view);
@@ -138,7 +138,7 @@ fn put_viewed(page: &mut Page, given: &Given, row: &[u8], view: View) -> MemoryO
 }
 
 /// Puts the run of a row.
-fn put_seen(page: &mut Page, given: &Given, row: &[u8], view: View) {
+pub fn put_seen(page: &mut Page, given: &Given, row: &[u8], view: View) {
     put_viewed(page, given, row, view);
 }
 
@@ -156,11 +156,12 @@ fn put_again(page: &mut Page, given: &Given, row: &[u8]) {
 const WAYS: &[u8] =
     b"1 oldest,2 oldest,2 youngest,2 1 0 1,3 oldest,3 youngest,3 1 2 0,3 2 0 1,16 oldest,16 youngest,16 1 0 2";
 
-/// Returns how the run of a row is made at a window, with ends in an order, if all of it is put.
-fn how_at<'a>(row: &'a [u8], window: usize, order: &'a [u8]) -> How<'a> {
+/// Returns how the run of a row is made with these replies at a window, with ends in an order, if all of it is put.
+pub fn how_at<'a>(row: &'a [u8], way: &'a [u8], replies: &'a [u8]) -> How<'a> {
+    let (window, order) = cut(way, b" ");
     How {
-        replies: section_or_empty(row, b"replies"),
-        window,
+        replies,
+        window: number_of(window),
         order,
         refuse: refused_in(row),
         view: View::Whole,
@@ -171,8 +172,7 @@ fn how_at<'a>(row: &'a [u8], window: usize, order: &'a [u8]) -> How<'a> {
 /// Returns all that a run leaves and hands over at a window, with ends in an order.
 fn at_way(page: &mut Page, given: &Given, row: &[u8], way: &[u8]) -> Page {
     let mut whole = Page::new(page.alloc());
-    let (window, order) = cut(way, b" ");
-    let how = how_at(row, number_of(window), order);
+    let how = how_at(row, way, section_or_empty(row, b"replies"));
     put_run(&mut whole, given, section(row, b"cache"), &how);
     whole
 }

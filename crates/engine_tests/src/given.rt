@@ -37,7 +37,7 @@ pub fn number_of(text: &[u8]) -> usize {
 }
 
 /// Adds an item to a list.
-fn add<T: Drop>(page: &mut Page, list: &mut Vec<T>, item: T) {
+pub fn add<T: Drop>(page: &mut Page, list: &mut Vec<T>, item: T) {
     if list.push(item).is_err() {
         page.cut();
     }

@@ -4,7 +4,8 @@
 //! the rules. An example is a row of a table that `testrows` reads. `given` reads what a row gives, `answers` puts what a call
 //! leaves, and `calls` and `remakes` make the calls. The rows are in `worked` (a run, and a second one with its cache),
 //! `refusals` (faults, in their order), `handed` (what is handed over), `openings` (arguments, environment and cache),
-//! `windows` (several children at once) and `again` (outputs that are made again).
+//! `windows` (several children at once), `cuts` (each start and each end refused in turn) and `again` (outputs that are made
+//! again).
 //!
 //! What calls the engine is generic and has no contract but what the engine needs, so the proof of a test sees no contract
 //! of the engine.
@@ -16,6 +17,8 @@ mod again;
 mod answers;
 #[cfg(test)]
 mod calls;
+#[cfg(test)]
+mod cuts;
 #[cfg(test)]
 mod given;
 #[cfg(test)]

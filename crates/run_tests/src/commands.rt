@@ -139,7 +139,7 @@ const DEMO: &[u8] =
 
 /// Returns the exit status of the program over a crew, without an environment. It promises nothing, so that its callers don't
 /// see the long contract of the command.
-fn status_over<C: Crew, R: Read, W: Write, E: Write>(
+pub fn status_over<C: Crew, R: Read, W: Write, E: Write>(
     rt: &HostRuntime,
     words: &[Bytes],
     crew: &mut C,
@@ -330,6 +330,14 @@ environment =>
 x,standin => 2 err acrun: usage^J
 standin2,standin => 2 err acrun: usage^J
 -j2,standin => 2 err acrun: usage^J
+// At most 16 children at once. There is no configure.ac here.
+-j16,configure => 2 err acrun: file ./configure.ac^J
+-j17,configure => 2 err acrun: usage^J
+-j1,configure => 2 err acrun: file ./configure.ac^J
+-j0,configure => 2 err acrun: usage^J
+-j01,configure => 2 err acrun: usage^J
+-j,configure => 2 err acrun: usage^J
+-j4294967297,configure => 2 err acrun: usage^J
 ";
 
 #[test]

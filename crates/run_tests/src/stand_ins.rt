@@ -2,6 +2,7 @@
 
 use crate::commands::{Program, status_of, write_file};
 use crate::crews::{Work, put_real_children};
+use crate::refused_children::put_refused;
 use crate::runs::vars_of;
 use conftest::compile_job;
 use csource::{default_includes, header_source};
@@ -128,7 +129,18 @@ fn put_tried(page: &mut Page, rt: &HostRuntime, vars: &Vars, source: &[u8]) {
     }
 }
 
+/// Puts the end of the child that tests a header.
+fn put_header(page: &mut Page, rt: &HostRuntime, compiler: &[u8], header: &[u8]) {
+    let vars = vars_of(page, compiler);
+    match &header_source(page.alloc(), default_includes(), header) {
+        Ok(source) => put_tried(page, rt, &vars, source.as_slice()),
+        Err(_) => page.cut(),
+    }
+}
+
 /// The child that tests a header, with the tests' executable as the compiler, and one header in its list.
+///
+/// A row has the header, or `configure` and the call that is refused in a run with that child.
 #[derive(Drop)]
 struct Headers<'a> {
     rt: &'a HostRuntime,
@@ -136,17 +148,16 @@ struct Headers<'a> {
 }
 
 impl Call for Headers<'_> {
-    fn put(&self, page: &mut Page, header: &[u8]) {
+    fn put(&self, page: &mut Page, given: &[u8]) {
         write_file(page, self.rt, b"player.sh", PLAYER);
         write_file(page, self.rt, b"standin.txt", b"sys/stat.h\n");
         let mut compiler = Page::new(page.alloc());
         compiler.put(b"sh player.sh ");
         compiler.put(self.executable);
         compiler.put(b" standin");
-        let vars = vars_of(page, compiler.text());
-        match &header_source(page.alloc(), default_includes(), header) {
-            Ok(source) => put_tried(page, self.rt, &vars, source.as_slice()),
-            Err(_) => page.cut(),
+        match given.strip_prefix(b"configure ") {
+            Some(refused) => put_refused(page, self.rt, compiler.text(), refused),
+            None => put_header(page, self.rt, compiler.text(), given),
         }
     }
 }
@@ -154,6 +165,10 @@ impl Call for Headers<'_> {
 const HEADERS: &[u8] = b"\
 sys/stat.h =>  0:1:sys/stat.h^J
 unistd.h =>  0:0:
+// The only child is not started, or nothing is known of its answer. There is no second end.
+configure start 1 => 3[checking for sys/stat.h... refused^J][configure: cut short at child 1^J]
+configure end 1 => 3[checking for sys/stat.h... refused^J][configure: cut short at child 1^J]
+configure end 2 => 0[checking for sys/stat.h... no^J][]
 ";
 
 /// Tries the header tests.
