@@ -27,6 +27,14 @@ pub(crate) trait Launcher {
         ensures refused { OnErr result (Adds (calls self.old) (calls self.new) (Failed ∷ [])) };
 }
 
+/// Returns whether the name itself is that of a regular file, and not of a link to one.
+fn is_regular<F: Files>(files: &F, name: &str) -> bool {
+    match fs::symlink_metadata(files, name) {
+        Ok(found) => found.is_file(),
+        Err(_) => false,
+    }
+}
+
 /// The launcher of a real system.
 #[derive(Drop)]
 pub(crate) struct Host<R: Files + Processes + Drop> {
@@ -42,7 +50,12 @@ impl<R: Files + Processes + Drop> Host<R> {
 impl<R: Files + Processes + Drop> Launcher for Host<R> {
     type Process = R::Started;
 
+    // A regular file of this name is removed first: ext4 writes a file to the disk when it was truncated and is closed, which
+    // takes milliseconds, and leaves a new one in memory. Anything else, such as a link or a device, is written in place.
     fn write(&mut self, name: &str, text: &[u8]) -> io::Result<()> {
+        if is_regular(&self.rt, name) {
+            let _ = fs::remove_file(&self.rt, name);
+        }
         fs::write(&self.rt, name, text)
     }
 

@@ -18,9 +18,9 @@ use std::rt::Files;
 
 /// A crew that starts real children, in the directory and with the environment of the program.
 ///
-/// `start` writes the conftest and starts the child with empty standard input; its standard output is dropped. The
-/// start is refused if the job has no word, if a word isn't UTF-8, if the conftest can't be written or the child can't
-/// be started, or if memory for its record runs out.
+/// `start` writes the conftest, in the place of a regular file of its name if there is one, and starts the child with empty
+/// standard input; its standard output is dropped. The start is refused if the job has no word, if a word isn't UTF-8, if
+/// the conftest can't be written or the child can't be started, or if memory for its record runs out.
 ///
 /// `next` waits for the oldest child. It reads what the child writes to standard error, with at most 1,024 reads of at
 /// most 4,096 bytes each, and keeps the first 65,536 bytes. A read that a signal interrupts is tried up to 1,024 times,

@@ -298,10 +298,11 @@ const PUTS: &[u8] = b"\
 hand cache config.cache c;record config.status r;file out f;header config.h h => \
 all[config.status: creating out^Jconfig.status: creating config.h^J]
 read config.cache|read config.status|read out|read config.h => [c][r][f][h]
-// A header whose file has its text isn't touched, and any other thing is written anew.
+// A header or a cache whose file has its text isn't touched, and any other thing is written anew.
 mark config.h|hand header config.h h|same config.h => all[config.status: config.h is unchanged^J]yes
 mark out|hand file out f|same out => all[config.status: creating out^J]no
-mark config.cache|hand cache config.cache c|same config.cache => all[]no
+mark config.cache|hand cache config.cache c|same config.cache => all[]yes
+mark config.cache|hand cache config.cache cc|same config.cache|read config.cache => all[]no[cc]
 mark config.status|hand record config.status r|same config.status => all[]no
 mark config.h|hand header config.h hh|same config.h|read config.h => all[config.status: creating config.h^J]no[hh]
 hand header config.h h;header config.h h => all[config.status: creating config.h^Jconfig.status: config.h is unchanged^J]

@@ -19,8 +19,8 @@ use std::rt::Files;
 
 /// A receiver that writes each thing to the file of its name (own).
 ///
-/// For a file and a header it makes the directories of the name. A header whose file has this text already isn't written, and
-/// its file isn't touched. It keeps a copy of what it took, and the lines that are to be printed.
+/// For a file and a header it makes the directories of the name. A header or a cache whose file has this text already isn't
+/// written, and its file isn't touched. It keeps a copy of what it took, and the lines that are to be printed.
 ///
 /// A put is refused if memory runs out, no file can have the name, or the system refuses to write. Then the file is as it was,
 /// as [`write_text`] says, but directories that were made for it stay.
@@ -64,26 +64,43 @@ fn make_directories<F: Files>(files: &F, name: &str) -> bool {
 }
 
 /// Writes a thing, if it isn't unchanged. Returns whether its file has its text then.
-fn is_written<F: Files>(alloc: Global, files: &F, saying: Saying, name: &str, text: &[u8]) -> bool {
+fn is_written<F: Files>(
+    alloc: Global,
+    files: &F,
+    saying: Saying,
+    unchanged: bool,
+    name: &str,
+    text: &[u8],
+) -> bool {
     match saying {
-        Saying::Unchanged => true,
+        _ if unchanged => true,
         Saying::Creating if !make_directories(files, name) => false,
         _ => write_text(alloc, files, name.as_bytes(), text).is_ok(),
     }
 }
 
-/// Returns whether the file of a header has this text already. Fails only if memory runs out.
+/// Returns whether this names a regular file. Nothing else is read, since a read of a pipe may wait.
+fn is_regular<F: Files>(files: &F, name: &str) -> bool {
+    match fs::metadata(files, name) {
+        Ok(found) => found.is_file(),
+        Err(_) => false,
+    }
+}
+
+/// Returns whether the file of a header or a cache has this text already. It is false for what is written in any case: a file,
+/// and the record, so that it is newer than what it was made of. Fails only if memory runs out.
 fn is_unchanged<F: Files>(
     alloc: Global,
     files: &F,
     kind: Kind,
-    name: &[u8],
+    name: &str,
     text: &[u8],
 ) -> Result<bool, AllocError> {
-    if kind != Kind::Header {
+    let is_compared = kind == Kind::Header || kind == Kind::Cache;
+    if !is_compared || !is_regular(files, name) {
         return Ok(false);
     }
-    match read_text(alloc, files, name)? {
+    match read_text(alloc, files, name.as_bytes())? {
         Some(found) => Ok(found.as_slice() == text),
         None => Ok(false),
     }
@@ -118,6 +135,7 @@ fn keep_written<F: Files>(
     lines: &mut Vec<u8>,
     thing: Thing,
     saying: Saying,
+    unchanged: bool,
     name: &str,
     text: &[u8],
 ) -> Result<(), PutRefused>
@@ -129,7 +147,7 @@ fn keep_written<F: Files>(
     if keep(alloc, things, lines, thing, saying, name.as_bytes()).is_err() {
         return Err(PutRefused);
     }
-    if !is_written(alloc, files, saying, name, text) {
+    if !is_written(alloc, files, saying, unchanged, name, text) {
         things.truncate(count);
         lines.truncate(len);
         return Err(PutRefused);
@@ -168,7 +186,7 @@ impl<'a, F: Files> FileOutputs<'a, F> {
         let Some(path) = file_name(name) else {
             return Err(PutRefused);
         };
-        let Ok(unchanged) = is_unchanged(self.alloc, self.files, kind, name, text) else {
+        let Ok(unchanged) = is_unchanged(self.alloc, self.files, kind, path, text) else {
             return Err(PutRefused);
         };
         let saying = saying_of(kind, unchanged);
@@ -177,7 +195,7 @@ impl<'a, F: Files> FileOutputs<'a, F> {
         };
         let (things, lines) = (&mut self.things, &mut self.lines);
         keep_written(
-            self.alloc, self.files, things, lines, thing, saying, path, text,
+            self.alloc, self.files, things, lines, thing, saying, unchanged, path, text,
         )
     }
 }

@@ -10,7 +10,7 @@ use crew::Entry;
 use deftable::{Note, Stream};
 use std::alloc::Global;
 use std::fs;
-use std::io::{self, Write};
+use std::io::{self, BufWriter, Write};
 use std::rt::Files;
 
 /// The name of the log.
@@ -104,12 +104,24 @@ fn write_entries<L: Write>(alloc: Global, entries: &[Entry], log: &mut L) -> io:
     Ok(())
 }
 
-/// Writes the log of a run, entry by entry.
+/// Creates the log. A regular file of its name is removed first: ext4 writes a file to the disk when it was truncated and is
+/// closed, which takes milliseconds, and leaves a new one in memory.
+fn create_log<F: Files>(files: &F) -> io::Result<F::File> {
+    if let Ok(found) = fs::symlink_metadata(files, LOG) {
+        if found.is_file() {
+            let _ = fs::remove_file(files, LOG);
+        }
+    }
+    fs::create(files, LOG)
+}
+
+/// Writes the log of a run. It makes the text of one entry at a time, and hands the system 8 KiB at once.
 ///
 /// # Errors
 ///
 /// Fails if the file can't be made or written, or if memory runs out. Some of it may have been written.
 pub(crate) fn write_log<F: Files>(alloc: Global, files: &F, entries: &[Entry]) -> io::Result<()> {
-    let mut log = fs::create(files, LOG)?;
-    write_entries(alloc, entries, &mut log)
+    let mut log = BufWriter::new(alloc, create_log(files)?)?;
+    write_entries(alloc, entries, &mut log)?;
+    log.flush()
 }
