@@ -1,16 +1,22 @@
 //! The program: calls `runner` with the arguments, the environment and a crew of real children.
+//!
+//! If standard error is a terminal, the crew shows there how far it is.
 #![tactic(auto)]
 
 use crew::ProcessCrew;
-use runner::{FilterFault, command, environment, tell, words};
+use runner::{FilterFault, command, environment, may_show_progress, tell, words};
 use std::alloc::AllocError;
+use std::io::IsTerminal;
 use std::process::ExitCode;
+use watching::Watched;
 
 /// Runs the command that the program's arguments name, and returns its exit status.
 fn run(rt: HostRuntime) -> Result<u8, AllocError> {
     let words = words(rt.alloc(), &rt)?;
     let env = environment(rt.alloc(), &rt)?;
-    let mut crew = ProcessCrew::new(rt, rt.alloc())?;
+    let errors = rt.stderr();
+    let is_shown = may_show_progress(words.as_slice()) && errors.is_terminal();
+    let mut crew = Watched::new(ProcessCrew::new(rt, rt.alloc())?, errors, is_shown);
     Ok(command(rt, rt.alloc(), words.as_slice(), env.as_slice(), &mut crew))
 }
 

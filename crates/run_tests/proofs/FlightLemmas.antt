@@ -12,6 +12,7 @@ use Rattle.crew.specs.declared.event.CrewEvent.TheVariants.{Started, Ended}
 use Rattle.crew.specs.Events.{busy, busy_after, IsSomeBusy, failure_of}
 use Rattle.crew.specs.Sound.{times, ListsBusy}
 use Rattle.crew.proofs.SlotLemmas.{lists_none, lists_start, lists_end, first_busy}
+use Rattle.watching.proofs.Counts.{place_of}
 
 -- so many slots are busy
 pub record Flies (n : ℕ) (es : List CrewEvent) : Type 0 where
@@ -37,37 +38,14 @@ flies_same n m es es' h is same = subst (λ k. Flies k es') (sym same) (subst (�
 pub free_same : (es es' : List CrewEvent) (slot : ℕ) → ((s : ℕ) → slot ≤ s → busy s es ≡ false) → es' ≡ es → (s : ℕ) → slot + 1 ≤ s → busy s es' ≡ false
 free_same es es' slot free is s above = ap (busy s) is ∙ free s (omega arith)
 
--- where a slot that the list has stands
-record Stands (s : ℕ) (xs : List ℕ) : Type 0 where
-  place : ℕ
-  inside : place < length xs
-  is : s ≡ get_or xs place s
-
-stands : (s : ℕ) (xs : List ℕ) → 0 < times s xs → Stands s xs
-stands s [] some = absurd (omega arith)
-stands s (x ∷ xs) some =
-    ⊎_elim
-    (λ here. record { place = 0; inside = omega arith; is = sym here })
-    (λ other.
-    let miss : eqb x s ≡ false = grind (arith, nat_tests) in
-    let n : times s (x ∷ xs) ≡ 0 + times s xs = ap (λ b. cond b 1 0 + times s xs) miss in
-    let later = stands s xs (omega arith) in
-    record { place = suc later.place; inside = omega (arith, later.inside); is = later.is })
-    (cases_eq x s)
-
-length-remove : (xs : List ℕ) (i : ℕ) → i < length xs → length (remove xs i) + 1 ≡ length xs
-length-remove [] i lt = absurd (omega arith)
-length-remove (x ∷ xs) zero lt = omega arith
-length-remove (x ∷ xs) (suc i) lt = let e = length-remove xs i (omega arith) in omega arith
-
 pub flies_end : (n m : ℕ) (es es' : List CrewEvent) (slot : ℕ) (reply : Reply) (number : ℕ) → Flies n es → n ≡ m + 1 → busy slot es ≡ true → es' ≡ es ++ Ended slot reply number ∷ [] → Flies m es'
 flies_end n m es es' slot reply number h more was is =
     let one : times slot h.slots ≡ 1 = h.busy_slots.each slot ∙ ap (λ b. cond b 1 0) was in
-    let at = stands slot h.slots (omega (arith, one)) in
+    let at = place_of slot h.slots (omega (arith, one)) in
     record {
       slots = remove h.slots at.place;
-      busy_slots = lists_end h.slots (remove h.slots at.place) es es' at.place slot reply number h.busy_slots at.inside at.is refl is;
-      count = omega (arith, length-remove h.slots at.place at.inside, h.count);
+      busy_slots = lists_end h.slots (remove h.slots at.place) es es' at.place slot reply number h.busy_slots at.within at.found refl is;
+      count = let shorter = at.shorter in omega (arith, h.count);
     }
 
 some_first : (xs : List ℕ) (es : List CrewEvent) → ListsBusy xs es → 0 < length xs → IsSomeBusy es

@@ -82,7 +82,7 @@ pub enum Work<'a> {
 }
 
 /// Puts what a crew that has done nothing does.
-fn put_work<C: Crew>(page: &mut Page, crew: &mut C, work: &Work)
+pub fn put_work<C: Crew>(page: &mut Page, crew: &mut C, work: &Work)
     requires fresh { C.account crew.old ≡ record { events = []; attempts = 0; failures = 0 } }
 {
     match work {
@@ -118,7 +118,7 @@ fn reply_of(page: &mut Page, word: &[u8]) -> Reply {
 }
 
 /// Returns replies with blanks between them.
-fn replies_of(page: &mut Page, text: &[u8]) -> Vec<Reply> {
+pub fn replies_of(page: &mut Page, text: &[u8]) -> Vec<Reply> {
     let mut replies = Vec::new(page.alloc());
     for word in &parts_of(page, text, b' ') {
         let reply = reply_of(page, word);
@@ -137,7 +137,7 @@ fn slots_of(page: &mut Page, text: &[u8]) -> SlotList {
 }
 
 /// Returns the order with this name, or of these slots.
-fn order_of(page: &mut Page, text: &[u8]) -> Order {
+pub fn order_of(page: &mut Page, text: &[u8]) -> Order {
     match text {
         b"oldest" => Order::Oldest,
         b"youngest" => Order::Youngest,
@@ -270,6 +270,15 @@ const CHILDREN: &[u8] = b"\
 1||sh,-c,echo a >&2; exec 2>&-; sleep 0.3; exit 3 =>  0:3:a^J
 // It writes 8 MiB, of which the first 65,536 bytes are kept.
 1||sh,-c,yes abcdefg | head -c 8388608 >&2; exit 4 =>  0:4:65536 bytes abcdefg^Jabcdefg^J .. abcdefg^Jabcdefg^J
+// It writes 8 MiB by itself, or never stops writing: it ends once nothing is read any more.
+1||sh,-c,yes abcdefg | head -c 8388608 > big; echo 'cat big >&2; exit 5' > big.sh =>  0:0:
+1|conftest.c int x;|sh,big.sh,-c,conftest.c =>  0:5:65536 bytes abcdefg^Jabcdefg^J .. abcdefg^Jabcdefg^J
+1||sh,-c,exec cat big >&2 =>  0:256:65536 bytes abcdefg^Jabcdefg^J .. abcdefg^Jabcdefg^J
+1||sh,-c,exec yes abcdefg >&2 =>  0:256:65536 bytes abcdefg^Jabcdefg^J .. abcdefg^Jabcdefg^J
+6||sh,-c,yes abcdefg >&2; exit 6 =>  \
+0:6:65536 bytes abcdefg^Jabcdefg^J .. abcdefg^Jabcdefg^J 1:6:65536 bytes abcdefg^Jabcdefg^J .. abcdefg^Jabcdefg^J \
+2:6:65536 bytes abcdefg^Jabcdefg^J .. abcdefg^Jabcdefg^J 3:6:65536 bytes abcdefg^Jabcdefg^J .. abcdefg^Jabcdefg^J \
+4:6:65536 bytes abcdefg^Jabcdefg^J .. abcdefg^Jabcdefg^J 5:6:65536 bytes abcdefg^Jabcdefg^J .. abcdefg^Jabcdefg^J
 // conftests
 1|conftest.c int \xff;^J|sh,-c,cat conftest.c >&2; echo x > made =>  0:0:int \xff;^J
 1||sh,-c,cat made >&2; rm made =>  0:0:x^J

@@ -1,10 +1,11 @@
 //! Tests of the crates that run a source: real children, streams that fail, and an ordinary answer of each call.
 //!
 //! No clause can say that memory is left, what the system answers, or how a fault is printed. `crews` has crews in memory and
-//! real children, `broken_children` those whose pipe or end fails, `plans` what a source weighs and its steps, `runs` whole
-//! runs, also by a machine that a test answers (`machines`), `batches` lists whose children are asked for at once, `commands` the
-//! filter and the program's commands over streams that fail, and `stand_ins` the stand-in for a compiler, as a child too.
-//! `texts` reads the parts of a row, and `streams` has the streams that fail.
+//! real children, `broken_children` those whose pipe or end fails, `progress` crews that show how far they are, `plans` what a
+//! source weighs and its steps, `runs` whole runs, also by a machine that a test answers (`machines`), `batches` lists whose children
+//! are asked for at once, `commands` the filter and the program's commands over streams that fail, and `stand_ins` the stand-in for a
+//! compiler, as a child too, of which the start or the end may be refused (`refused_children`). `texts` reads the parts of a row, and
+//! `streams` has the streams that fail.
 #![tactic(auto)]
 
 #[cfg(test)]
@@ -19,6 +20,10 @@ mod crews;
 mod machines;
 #[cfg(test)]
 mod plans;
+#[cfg(test)]
+mod progress;
+#[cfg(test)]
+mod refused_children;
 #[cfg(test)]
 mod runs;
 #[cfg(test)]

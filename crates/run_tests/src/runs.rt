@@ -139,6 +139,10 @@ const RUNS: &[u8] = b"\
 // A compiler that can't be started cuts the run. A shell is found in the second directory of PATH.
 CC=/nowhere/cc^JAC_COMPILE_IFELSE([AC_LANG_PROGRAM([],[])],[r=1],[r=2])|children => cut 1
 PATH=/nowhere:/bin^JAC_PATH_PROG([r],[sh])|children => completed r=/bin/sh ac_cv_path_r=/bin/sh
+// A compiler that writes 8 MiB, and one that never stops writing.
+CC=sh CFLAGS='head${IFS}-c8388608</dev/zero>&2;exit${IFS}4'^JAC_COMPILE_IFELSE([AC_LANG_PROGRAM([],[])],[r=1],[r=2])|children => completed r=2
+CC=sh CFLAGS='yes>&2'^JAC_COMPILE_IFELSE([AC_LANG_PROGRAM([],[])],[r=1],[r=2])|children => completed r=2
+CC=sh CFLAGS='yes>&2;:'^JAC_CHECK_HEADERS([a.h])|children => completed ac_cv_header_a_h=yes HAVE_A_H=1
 // a machine whose only job is answered, and is cut
 AC_LINK_IFELSE([AC_LANG_PROGRAM([],[])],[r=1],[r=2])|machine|cc|0 => 1 asked, completed r=1
 AC_LINK_IFELSE([AC_LANG_PROGRAM([],[])],[r=1],[r=2])|machine|cc| => 1 asked, cut 1

@@ -1,3 +1,4 @@
 pub mod Appending
 pub mod Done
+pub mod Quiet
 pub mod Windows

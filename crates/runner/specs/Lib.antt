@@ -1,3 +1,4 @@
 pub mod Calls
 pub mod Lent
 pub mod Configures
+pub mod Progress

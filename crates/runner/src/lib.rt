@@ -9,7 +9,8 @@
 //! "own" marks a rule that no manual gives.
 //!
 //! In `specs`, read `Calls` (what the program is asked to do) and `Configures` (what it does then). In `src`, read `call`,
-//! `program`, `configuring` and `remaking`; `process`, `supplies`, `printing` and `telling` are what these two use.
+//! `program`, `configuring` and `remaking`; `process`, `supplies`, `printing` and `telling` are what these two use. `progress` says
+//! whether the program may show its progress.
 #![tactic(auto)]
 
 mod call;
@@ -17,6 +18,7 @@ mod configuring;
 mod printing;
 mod process;
 mod program;
+mod progress;
 mod remaking;
 mod supplies;
 mod telling;
@@ -25,4 +27,5 @@ pub use engine::Fault;
 pub use filtering::{FilterFault, Filtered, filter};
 pub use process::{environment, words};
 pub use program::{command, run};
+pub use progress::may_show_progress;
 pub use telling::tell;

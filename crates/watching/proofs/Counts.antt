@@ -1,0 +1,111 @@
+-- The counts of a watched crew after one more event.
+use Rattle.std.proofs.Common.{◌≡◌, ℕ, suc, ◌+◌, ◌<◌, Bool, true, false, cond, eqb, List, [], ◌∷◌, ◌++◌, length, get_or, refl, sym, ap, ◌∙◌, ⊎_elim, arith}
+use Rattle.std.specs.Prelude.{remove}
+use Rattle.std.proofs.lemmas.Bool.{cases_eq}
+use Rattle.std.proofs.lemmas.Bool.Decides.{nat_tests}
+use Rattle.std.proofs.lemmas.List.{length_push}
+use Rattle.std.proofs.lemmas.List.Sums.{fold-append}
+use Rattle.conftest.specs.declared.job.Job.{Job}
+use Rattle.crew.specs.declared.reply.Reply.{Reply}
+use Rattle.crew.specs.declared.event.CrewEvent.{CrewEvent}
+use Rattle.crew.specs.declared.event.CrewEvent.TheVariants.{Started, Ended}
+use Rattle.crew.specs.Events.{Account, busy, IsIdle}
+use Rattle.crew.specs.Sound.{times}
+use Rattle.crew.proofs.SlotLemmas.{lists_none, lists_start, lists_end}
+use Rattle.watching.specs.Progress.{started_after, ended_after, command_after, started_in, ended_in, command_in, command_of, line_of, text_of, text_after, erasure}
+use Rattle.watching.specs.Watch.{IsCounted}
+
+abbrev one_if : Bool → ℕ
+one_if b = cond b 1 0
+
+-- An account that has no event.
+pub counted_none : (account : Account) (command : List ℕ) → account.events ≡ [] → command ≡ [] → IsCounted account 0 0 command
+counted_none account command none empty = record {
+  starts = ap started_in none;
+  ends = ap ended_in none;
+  latest = ap command_in none ∙ sym empty;
+  attempted = omega arith;
+  slots = [];
+  lists = lists_none [] account.events refl none;
+  flying = refl;
+}
+
+-- After a start that is taken.
+pub counted_start : (before now : Account) (started ended : ℕ) (command next : List ℕ) (slot : ℕ) (job : Job) → IsCounted before started ended command
+    → busy slot before.events ≡ false → now.attempts ≡ before.attempts + 1 → now.events ≡ before.events ++ Started slot job (before.attempts + 1) ∷ [] → next ≡ command_of job.words
+    → IsCounted now (started + 1) ended next
+counted_start before now started ended command next slot job h free attempts events next_is =
+    let event : CrewEvent = Started slot job (before.attempts + 1) in
+    record {
+      starts = ap started_in events ∙ fold-append started_after 0 before.events (event ∷ []) ∙ ap (λ n. n + 1) h.starts;
+      ends = ap ended_in events ∙ fold-append ended_after 0 before.events (event ∷ []) ∙ h.ends;
+      latest = ap command_in events ∙ fold-append command_after [] before.events (event ∷ []) ∙ sym next_is;
+      attempted = let a = h.attempted in omega (arith, attempts);
+      slots = h.slots ++ slot ∷ [];
+      lists = lists_start h.slots _ before.events now.events slot job _ h.lists free refl events;
+      flying = let f = h.flying in omega (arith, length_push h.slots slot);
+    }
+
+-- The place of a slot that occurs in a list, without which the list is one shorter.
+pub record Place (slot : ℕ) (slots : List ℕ) : Type 0 where
+  pub place : ℕ
+  pub within : place < length slots
+  pub found : slot ≡ get_or slots place slot
+  pub shorter : length (remove slots place) + 1 ≡ length slots
+
+place_at_head : (slot x : ℕ) (xs : List ℕ) → x ≡ slot → Place slot (x ∷ xs)
+place_at_head slot x xs same = record { place = 0; within = omega arith; found = sym same; shorter = omega arith }
+
+place_in_rest : (slot x : ℕ) (xs : List ℕ) → Place slot xs → Place slot (x ∷ xs)
+place_in_rest slot x xs p = record {
+  place = suc p.place;
+  within = let w = p.within in omega arith;
+  found = p.found;
+  shorter = let s = p.shorter in omega arith;
+}
+
+pub place_of : (slot : ℕ) (slots : List ℕ) → 0 < times slot slots → Place slot slots
+place_of slot [] some = absurd (omega arith)
+place_of slot (x ∷ xs) some =
+    ⊎_elim
+    (λ same. place_at_head slot x xs same)
+    (λ other.
+    let test : eqb x slot ≡ false = grind (arith, nat_tests) in
+    let none : one_if (eqb x slot) ≡ 0 = ap one_if test in
+    place_in_rest slot x xs (place_of slot xs (omega (arith, none))))
+    (cases_eq x slot)
+
+-- After the end of a child that is in flight.
+pub counted_end : (before now : Account) (started ended : ℕ) (command : List ℕ) (slot : ℕ) (reply : Reply) → IsCounted before started ended command
+    → busy slot before.events ≡ true → now.attempts ≡ before.attempts → now.events ≡ before.events ++ Ended slot reply before.attempts ∷ []
+    → IsCounted now started (ended + 1) command
+counted_end before now started ended command slot reply h was attempts events =
+    let event : CrewEvent = Ended slot reply before.attempts in
+    let once : times slot h.slots ≡ 1 = h.lists.each slot ∙ ap one_if was in
+    let place = place_of slot h.slots (omega (arith, once)) in
+    record {
+      starts = ap started_in events ∙ fold-append started_after 0 before.events (event ∷ []) ∙ h.starts;
+      ends = ap ended_in events ∙ fold-append ended_after 0 before.events (event ∷ []) ∙ ap (λ n. n + 1) h.ends;
+      latest = ap command_in events ∙ fold-append command_after [] before.events (event ∷ []) ∙ h.latest;
+      attempted = let a = h.attempted in omega (arith, attempts);
+      slots = remove h.slots place.place;
+      lists = lists_end h.slots _ before.events now.events place.place slot reply _ h.lists place.within place.found refl events;
+      flying = let f = h.flying in let s = place.shorter in omega arith;
+    }
+
+no_slots : (slots : List ℕ) → ((slot : ℕ) → times slot slots ≡ 0) → length slots ≡ 0
+no_slots [] none = refl
+no_slots (x ∷ xs) none =
+    let test : eqb x x ≡ true = grind (arith, nat_tests) in
+    let one : one_if (eqb x x) ≡ 1 = ap one_if test in
+    absurd (let n = none x in omega (arith, one))
+
+-- If no child is in flight, what is written only erases the line.
+pub gone : (account : Account) (started ended : ℕ) (command : List ℕ) → IsCounted account started ended command → IsIdle account.events → text_after account.events ≡ erasure
+unfolding text_of
+gone account started ended command h idle =
+    let empty = no_slots h.slots (λ slot. h.lists.each slot ∙ ap one_if (idle.free slot)) in
+    let same : ended ≡ started = let f = h.flying in omega arith in
+    let equal : ended_in account.events ≡ started_in account.events = h.ends ∙ same ∙ sym h.starts in
+    let test : eqb (ended_in account.events) (started_in account.events) ≡ true = grind (arith, nat_tests) in
+    ap (λ b. erasure ++ cond b [] (line_of (started_in account.events) (ended_in account.events) (command_in account.events))) test

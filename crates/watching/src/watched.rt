@@ -1,0 +1,124 @@
+//! A crew whose progress is shown.
+
+ghost use Rattle.std.specs.Prelude.{◌≡◌, ◌≢◌, ◌+◌, ◌^◌, ◌<◌, [], ◌∷◌, ◌++◌, false, true, IsTrue, OnOk, OnErr};
+ghost use Rattle.std.specs.Io.KnownBytes.{Appends};
+ghost use Rattle.crew.specs.Events.{busy, IsSomeBusy, IsIdle, failure_of};
+ghost use Rattle.crew.specs.declared.event.CrewEvent.TheVariants.{Started, Ended};
+ghost use Rattle.watching.specs.Progress.{text_after, erasure};
+
+use crate::line::{Line, Text, command_of, text_of};
+use conftest::Job;
+use crew::{Crew, Refused, Reply};
+use std::io::Write;
+use std::marker::Model;
+
+/// A crew that shows on a stream how far it is: the number of its children that were started, the number that have ended, and the
+/// command that was started last (own).
+///
+/// Each change is one write. If a write fails, no further one is tried. What a call returns never depends on it.
+#[derive(Drop)]
+pub struct Watched<C: Crew + Drop, W: Write + Drop> {
+    crew: C,
+    stream: W,
+    is_on: bool,
+    started: u64,
+    ended: u64,
+    command: Line,
+}
+
+impl<C: Crew + Drop, W: Write + Drop> Model for Watched<C, W> {
+    ghost use Rattle.watching.specs.Watch.{Watch, IsCounted};
+
+    ghost Value = { Watch W };
+
+    ghost view = { λ w. record { account = C.account w.crew; stream = w.stream; is_on = w.is_on } };
+
+    ghost invariant = { λ w. IsCounted (C.account w.crew) w.started w.ended w.command.items };
+}
+
+/// Writes a text, if progress is shown. Returns whether it is shown from then on.
+fn is_written<W: Write>(stream: &mut W, is_on: bool, text: &Text) -> bool
+    ensures off { is_on ≡ false → (result ≡ false) × (stream.new ≡ stream.old) }
+    ensures written { IsTrue result → Appends (W.contents stream.old) (W.contents stream.new) text.now.items }
+{
+    is_on && stream.write_all(text.as_slice()).is_ok()
+}
+
+impl<C: Crew + Drop, W: Write + Drop> Watched<C, W> {
+    /// Returns a crew that shows its progress on the stream if `is_on` is true, and otherwise writes nothing.
+    pub fn new(crew: C, stream: W, is_on: bool) -> Watched<C, W>
+        requires { (C.account crew).events ≡ [] }
+        ensures { result ≡ record { account = C.account crew; stream = stream; is_on = is_on } }
+    {
+        Watched {
+            crew,
+            stream,
+            is_on,
+            started: 0,
+            ended: 0,
+            command: Line::new(),
+        }
+    }
+
+    /// Returns the stream.
+    pub fn stream(&self) -> &W
+        ensures { result.now ≡ self.now.stream }
+    {
+        &self.stream
+    }
+}
+
+impl<C: Crew + Drop, W: Write + Drop> Crew for Watched<C, W> {
+    ghost account = { λ w. w.account };
+
+    fn start(&mut self, slot: usize, job: Job) -> Result<(), Refused>
+        requires slot { slot < 16 }
+        requires free { busy slot self.old.account.events ≡ false }
+        requires attempts { self.old.account.attempts < 2 ^ 62 }
+        requires failures { self.old.account.failures < 2 ^ 62 }
+        ensures number { self.new.account.attempts ≡ self.old.account.attempts + 1 }
+        ensures taken { OnOk result (self.new.account.events
+            ≡ self.old.account.events ++ Started slot job (self.old.account.attempts + 1) ∷ []) }
+        ensures taken_count { OnOk result (self.new.account.failures ≡ self.old.account.failures) }
+        ensures refused { OnErr result (self.new.account.events ≡ self.old.account.events) }
+        ensures refused_count { OnErr result (self.new.account.failures ≡ self.old.account.failures + 1) }
+        // If progress isn't shown, nothing is written, and it never is. Nor is anything written after a start that is refused.
+        ensures off { self.old.is_on ≡ false → self.new ≡ record self.old { account = self.new.account } }
+        ensures untouched { OnErr result (self.new ≡ record self.old { account = self.new.account }) }
+        // Otherwise the text for all events so far is written, unless the write fails.
+        ensures written { OnOk result (IsTrue self.new.is_on
+            → Appends (W.contents self.old.stream) (W.contents self.new.stream) (text_after self.new.account.events)) }
+    {
+        let command = command_of(job.words.as_slice());
+        self.crew.start(slot, job)?;
+        self.started += 1;
+        self.command = command;
+        let text = text_of(self.started, self.ended, &self.command);
+        self.is_on = is_written(&mut self.stream, self.is_on, &text);
+        Ok(())
+    }
+
+    fn next(&mut self) -> (usize, Reply)
+        requires flying { IsSomeBusy self.old.account.events }
+        requires failures { self.old.account.failures < 2 ^ 62 }
+        ensures was_busy { busy result.0 self.old.account.events ≡ true }
+        ensures ended { self.new.account.events
+            ≡ self.old.account.events ++ Ended result.0 result.1 self.old.account.attempts ∷ [] }
+        ensures number { self.new.account.attempts ≡ self.old.account.attempts }
+        ensures reply { result.1 ≢ Reply.StartRefused }
+        ensures count { self.new.account.failures ≡ self.old.account.failures + failure_of result.1 }
+        // If progress isn't shown, nothing is written, and it never is.
+        ensures off { self.old.is_on ≡ false → self.new ≡ record self.old { account = self.new.account } }
+        // Otherwise the text for all events so far is written, unless the write fails.
+        ensures written { IsTrue self.new.is_on
+            → Appends (W.contents self.old.stream) (W.contents self.new.stream) (text_after self.new.account.events) }
+        // If no child is left in flight, that text only erases the line.
+        ensures gone { IsIdle self.new.account.events → text_after self.new.account.events ≡ erasure }
+    {
+        let (slot, reply) = self.crew.next();
+        self.ended += 1;
+        let text = text_of(self.started, self.ended, &self.command);
+        self.is_on = is_written(&mut self.stream, self.is_on, &text);
+        (slot, reply)
+    }
+}
