@@ -1,0 +1,53 @@
+//! Files that can't be written.
+
+use crate::steps::Steps;
+use std::test::Fail;
+use testrows::try_rows_in;
+
+/// The record is the first text that is handed over, or the second after a cache; files come before headers.
+const PUTS: &[u8] = b"\
+// a directory at the name of an output, and an output below a regular file; those before it are whole
+source AC_CONFIG_FILES([f g h])|write f.in 1|write g.in 2|write h.in 3|directory g|run configure|read f|list => \
+2 [config.status: creating f^J] err[acrun: put 3^J]; f[1]; here config.log config.status configure.ac f f.in g g.in h.in
+source AC_MSG_NOTICE([n])^JAC_CONFIG_FILES([f])^JAC_CONFIG_HEADERS([p/h:h.in k:h.in])|write f.in 1|write h.in x|write p plain\
+|run configure,-C|read p|read f|read config.cache|list => \
+2 [configure: n^Jconfig.status: creating f^J] err[acrun: put 4^J]; p[plain]; f[1]; config.cache[# config.cache of configure^J]; \
+here config.cache config.log config.status configure.ac f f.in h.in p
+// also if nothing is printed
+source AC_CONFIG_FILES([f g])|write f.in 1|write g.in 2|directory f|run configure,-q,-C|list => \
+2 err[acrun: put 3^J]; here config.cache config.log config.status configure.ac f f.in g.in
+// The record and the cache come before the outputs.
+source AC_CONFIG_FILES([f])|write f.in 1|directory config.status|run configure|run configure,-C|list => \
+2 err[acrun: put 1^J]; 2 err[acrun: put 2^J]; here config.cache config.log config.status configure.ac f.in
+source AC_CHECK_FUNCS([e])^JAC_CONFIG_FILES([f])|write f.in 1|env CC=cc|replies 0|directory config.cache|run configure,-C|read config.log|list => \
+2 [checking for e... yes^J] err[acrun: put 1^J]; config.log[checking for e... ^J$ cc -o conftest1 conftest1.c^Jstatus 0^Jyes^J]; \
+here config.cache config.log configure.ac f.in
+// What was there stays: an output of an earlier run, and its record.
+source AC_SUBST([Q],[1])^JAC_CONFIG_FILES([f g])|write f.in f@Q@|write g.in g@Q@|run configure,-q|source AC_SUBST([Q],[2])^JAC_CONFIG_FILES([f g])\
+|remove f|directory f|run configure|read g|list => \
+0; 2 err[acrun: put 2^J]; g[g1]; here config.log config.status configure.ac f f.in g g.in
+// a stopped run whose cache can't be written
+source AC_MSG_ERROR([no],[7])|directory config.cache|run configure,-C|read config.log => \
+2 err[configure: error: no^Jacrun: put 1^J]; config.log[configure: error: no^J]
+// the log
+source AC_CONFIG_FILES([f])|write f.in 1|directory config.log|run configure|read f|list => \
+2 [config.status: creating f^J] err[acrun: file config.log^J]; f[1]; here config.log config.status configure.ac f f.in
+source AC_CONFIG_FILES([f])|write f.in 1|directory config.log|directory f|run configure => 2 err[acrun: put 2^Jacrun: file config.log^J]
+source AC_MSG_ERROR([no],[7])|directory config.log|run configure|list => \
+2 err[configure: error: no^Jacrun: file config.log^J]; here config.log configure.ac
+// A log that is a link is written in place, and one that is a file is replaced.
+source AC_MSG_NOTICE([n])|write there old log^J|link config.log there|run configure,-q|read there|source AC_MSG_NOTICE([m])\
+|run configure,-q|read config.log|read there|list => \
+0; there[configure: n^J]; 0; config.log[configure: m^J]; there[configure: m^J]; here config.log config.status configure.ac there
+source AC_MSG_NOTICE([n])|write config.log a long old log^J|run configure,-q|read config.log => 0; config.log[configure: n^J]
+// standard output
+source AC_MSG_NOTICE([n])^JAC_MSG_WARN([w])^JAC_CONFIG_FILES([f])|write f.in 1|full|run configure|read f|read config.log|list => \
+2 err[configure: WARNING: w^Jacrun: file standard output^J]; f[1]; config.log[configure: n^Jconfigure: WARNING: w^J]; \
+here config.log config.status configure.ac f f.in
+source AC_MSG_NOTICE([n])^JAC_CONFIG_FILES([f])|write f.in 1|full|run configure,-q|read f => 0; f[1]
+";
+
+#[test]
+fn files_that_are_not_written(rt: HostRuntime) -> Result<(), Fail> {
+    try_rows_in(&rt, "files_that_are_not_written", &Steps { rt: &rt }, PUTS)
+}

@@ -1,0 +1,53 @@
+//! Outputs that are made again, and records from which none is made.
+
+use crate::steps::Steps;
+use std::test::Fail;
+use testrows::try_rows_in;
+
+const REMAKES: &[u8] = b"\
+// all outputs, and some after their templates changed; the order of the record counts
+source AC_SUBST([Q],[1])^JAC_CONFIG_FILES([f a/g])^JAC_CONFIG_HEADERS([h])^JAC_DEFINE([D],[2])|write f.in f@Q@|directory a|write a/g.in g@Q@\
+|write h.in #undef D^J|run configure|run status|write f.in new f@Q@|write a/g.in new g@Q@|write h.in #undef  D^J#undef E^J\
+|run status,f|read f|read a/g|run status,h,a/g,h|read a/g|read h|list => \
+0 [config.status: creating f^Jconfig.status: creating a/g^Jconfig.status: creating h^J]; \
+0 [config.status: creating f^Jconfig.status: creating a/g^Jconfig.status: h is unchanged^J]; \
+0 [config.status: creating f^J]; f[new f1]; a/g[g1]; \
+0 [config.status: creating a/g^Jconfig.status: creating h^J]; a/g[new g1]; \
+h[/* h.  Generated from h.in by configure.  */^J#define D 2^J/* #undef E */^J]; here a config.log config.status configure.ac f f.in h h.in
+// An unknown tag leaves all outputs as they are. A template is no tag.
+source AC_CONFIG_FILES([f])|write f.in 1|run configure,-q|write f.in 2|run status,zz|run status,f,f.in|run status,f,--recheck|read f\
+|run status|read f => \
+0; 2 err[acrun: tag 1^J]; 2 err[acrun: tag 2^J]; 2 err[acrun: tag 2^J]; f[1]; 0 [config.status: creating f^J]; f[2]
+// There is no --recheck.
+source AC_CONFIG_FILES([f])|write f.in 1|run configure,-q|remove f|run status,--recheck|run status,--recheck,f|list => \
+0; 2 err[acrun: usage^J]; 2 err[acrun: usage^J]; here config.log config.status configure.ac f.in
+// no record
+source AC_CONFIG_FILES([f])|write f.in 1|run status|run status,f|list => \
+2 err[acrun: file config.status^J]; 2 err[acrun: file config.status^J]; here configure.ac f.in
+directory config.status|run status|list => 2 err[acrun: file config.status^J]; here config.status
+// texts that are no records
+write f.in 1|write config.status |run status|write config.status acrun-record 1^Jsrcdir .^Jvar 9 x^Jend^J|run status\
+|write config.status acrun-record 1^Jsrcdir .^Jfile f f.in^J\
+|run status|write config.status acrun-record 2^J|run status|write config.status acrun-record 1^Jsrcdir .^Jvar A x^Jvar A y^Jend^J|run status,zz\
+|write config.status acrun-record 1^Jsrcdir .^Jfile f f.in^Jend^Jmore^J|run status|list => \
+2 err[acrun: record 1^J]; 2 err[acrun: record 2 at 3^J]; 2 err[acrun: record 3^J]; 2 err[acrun: record 4^J]; 2 err[acrun: record 5 at 4^J]; \
+2 err[acrun: record 2 at 5^J]; here config.status f.in
+// records by hand, with another source directory, and without outputs
+directory s|write s/t <@V@ @srcdir@>|write config.status acrun-record 1^Jsrcdir s^Jvar V x^Jfile f t^Jend^J|run status|read f => \
+0 [config.status: creating f^J]; f[<x s>]
+write config.status acrun-record 1^Jsrcdir .^Jend^J|run status|list => 0; here config.status
+// A template that isn't there: nothing is made, unless the tags name other outputs alone.
+source AC_CONFIG_FILES([f g])|write f.in 1|write g.in 2|run configure,-q|write f.in 3|remove g.in|run status|read f|run status,f|read f => \
+0; 2 err[acrun: template g.in^J]; f[1]; 0 [config.status: creating f^J]; f[3]
+// an output that can't be written
+source AC_CONFIG_FILES([f g h])|write f.in 1|write g.in 2|write h.in 3|run configure,-q|write f.in 4|write h.in 5|remove g|directory g\
+|run status|read f|read h|list => \
+0; 2 [config.status: creating f^J] err[acrun: put 2^J]; f[4]; h[3]; here config.log config.status configure.ac f f.in g g.in h h.in
+// Standard output is full.
+source AC_CONFIG_FILES([f])|write f.in 1|run configure,-q|write f.in 2|full|run status|read f => 0; 2 err[acrun: file standard output^J]; f[2]
+";
+
+#[test]
+fn outputs_made_again(rt: HostRuntime) -> Result<(), Fail> {
+    try_rows_in(&rt, "outputs_made_again", &Steps { rt: &rt }, REMAKES)
+}
