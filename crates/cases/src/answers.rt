@@ -1,6 +1,6 @@
 //! What the engine makes of what a case gives, as text.
 
-use crate::engine::{help_of, put_fault_line, read_source, run_filter, srcdir_in};
+use crate::calls::{help_of, put_fault_line, read_source, run_filter, srcdir_in};
 use crate::given::{Given, arguments_of, lines_of, put_source_of};
 use crate::pages::{note_cut, put_error, put_fault, put_text};
 use crate::runs::{put_conftests, put_logged, put_new_lines, put_opening, put_run, put_variables};

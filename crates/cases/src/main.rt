@@ -1,7 +1,7 @@
 //! Cases in files: what is to be read of a source, and what a run of it is to give.
 //!
 //! The arguments are names of files. `casefile` has their form, `given` what a case gives, and `answers` what the engine
-//! makes of it (`engine`), in the words of `tree_words`, `plain_words` and `shell_words` for a tree, and of `runs` for what
+//! makes of it (`calls`), in the words of `tree_words`, `plain_words` and `shell_words` for a tree, and of `runs` for what
 //! was run. A case differs if that is not what the file says. `data/README` says how to add a case.
 //!
 //! It prints a line for each file, before it what was wanted and found of each case that differs, and exits with status 1
@@ -9,8 +9,8 @@
 #![tactic(auto)]
 
 mod answers;
+mod calls;
 mod casefile;
-mod engine;
 mod given;
 mod pages;
 mod plain_words;

@@ -1,6 +1,6 @@
 //! What a run begins with, what it does, and what it leaves.
 
-use crate::engine::{Ran, read_settings, run_source};
+use crate::calls::{Ran, read_settings, run_source};
 use crate::given::{
     Given, arguments_of, environment_of, lines_of, order_of, replies_of, window_of,
 };

@@ -2,17 +2,17 @@
 //!
 //! No clause of the crates below forbids an answer of "out of memory" where memory is ample. So each limit has a test here
 //! at its full size. `texts` makes the texts, `reading` has the limits of configure.ac and its tree, `path` those of a
-//! search along PATH, `lists` those of a list of headers, functions, declarations or types, and `filtering` those of the input of
-//! the filter.
+//! search along PATH, `lists` those of a list of headers, functions, declarations or types, and `reads` those of the input of the
+//! filter.
 #![tactic(auto)]
 
-#[cfg(test)]
-mod filtering;
 #[cfg(test)]
 mod lists;
 #[cfg(test)]
 mod path;
 #[cfg(test)]
 mod reading;
+#[cfg(test)]
+mod reads;
 #[cfg(test)]
 mod texts;

@@ -90,6 +90,8 @@ used|[|1000000*x|] => 1000000
 // bytes of a source
 size|AC_INIT([x],[1])^J#|1048547*x|^JAC_OUTPUT^J => 1048576, items yes, source yes
 size|AC_INIT([x],[1])^J#|1048547*x|^JAC_OUTPUT^J^J => 1048577, items 5, source 1.5
+size|1048576*  => 1048576, items yes, source 8
+size|1048577*  => 1048577, items 5, source 1.5
 ";
 
 #[test]
