@@ -363,13 +363,13 @@ PARSE = rb"parse (?:(?:1\.[1-4]|[2-57]|6\.[123]|1[0-4]) at \d+|1\.[56]|[89])|pla
 FAULTS = {
     "filter": PARSE + rb"|precious [123] at \d+|template [^\n]+|usage",
     "configure": PARSE + rb"|option [1-5] at \d+|cache [12] at \d+|cache 3|precious [123] [^\n]+|template [^\n]+|put \d+"
-                 rb"|file [^\n]*configure\.ac|file config\.log",
+                 rb"|file (?s:.*)configure\.ac|file config\.log",
     "status": rb"record (?:[14]|[25] at \d+|3)|tag \d+|template [^\n]+|put \d+|file config\.status|usage",
     "words": rb"usage|file \./configure\.ac|file config\.status|file [^\n]+",
 }
 FAULTS = {kind: re.compile(rb"acrun: (?:" + it + rb")\n\Z") for kind, it in FAULTS.items()}
 NOTHING_WRITTEN = re.compile(
-    rb"acrun: (?:parse|plan|option|cache|precious|template|record|tag|usage|file [^\n]*configure\.ac|file config\.status)")
+    rb"acrun: (?:parse|plan|option|cache|precious|template|record|tag|usage|file (?s:.*)configure\.ac|file config\.status)")
 FIXED = {
     "f.in": b"@PACKAGE_NAME@ @x@ @CC@\n", "out.in": b"@PACKAGE_STRING@\n", "Makefile.in": b"@CC@ @DEFS@ @srcdir@\n",
     "config.h.in": b"#undef HAVE_F\n", "c.h.in": b"#undef HAVE_F\n#define X 1\n", "version.in": b"@kind@\n",
