@@ -1,7 +1,7 @@
 -- Jobs and replies that are taken one after the other.
 use Rattle.std.specs.Prelude.{◌≡◌, Bool, true, false, List, []}
-use Rattle.crew.specs.declared.reply.Reply.{Reply}
-use Rattle.crew.specs.declared.reply.Reply.TheVariants.{StartRefused}
+use Rattle.crew_trait.specs.declared.reply.Reply.{Reply}
+use Rattle.crew_trait.specs.declared.reply.Reply.TheVariants.{StartRefused}
 use Rattle.conftest.specs.declared.job.Job.{Job}
 use Rattle.meaning.specs.Asking.{only_reply}
 use Rattle.std.specs.Prelude.{drop, take}

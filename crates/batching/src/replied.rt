@@ -4,7 +4,7 @@ ghost use Rattle.std.specs.Prelude.{◌≡◌, ◌≤◌, ◌<◌, ◌+◌, ◌^
 ghost use Rattle.meaning.specs.Asking.{success};
 ghost use Rattle.meaning.specs.Play.{first_refused, refused_after};
 ghost use Rattle.meaning.specs.State.{Run, Scope, State};
-ghost use Rattle.crew.specs.declared.reply.Reply.TheVariants.{StartRefused};
+ghost use Rattle.crew_trait.specs.declared.reply.Reply.TheVariants.{StartRefused};
 ghost use Rattle.batching.specs.Taking.{Takes, TakesReply};
 ghost use Rattle.searching.specs.Flows.{Heeds, IsGroup, Leads, asks_now, passed};
 ghost use Rattle.searching.specs.Waits.{after_entries, at_once, entry_end, given, resumed};
@@ -12,7 +12,7 @@ ghost use Rattle.searching.specs.declared.wait.Wait.TheVariants as wait;
 
 use crate::beginning::end_quiet;
 use conftest::Job;
-use crew::Reply;
+use crew_trait::Reply;
 use runstate::Store;
 use searching::deciding::{begin_trial, end_heard};
 use searching::replies::{log_asked, success};

@@ -8,10 +8,10 @@ use Rattle.deftable.specs.declared.note.Stream.{Stream}
 use Rattle.deftable.specs.declared.note.Stream.TheVariants.{Out}
 use Rattle.deftable.specs.declared.note.Stream.TheVariants.{Err as ToErr}
 use Rattle.conftest.specs.declared.job.Job.{Job}
-use Rattle.crew.specs.declared.entry.Entry.{Entry}
-use Rattle.crew.specs.declared.entry.Entry.TheVariants.{Said, Child}
-use Rattle.crew.specs.declared.reply.Reply.{Reply}
-use Rattle.crew.specs.declared.reply.Reply.TheVariants.{Answer, StartRefused, EndRefused}
+use Rattle.crew_trait.specs.declared.entry.Entry.{Entry}
+use Rattle.crew_trait.specs.declared.entry.Entry.TheVariants.{Said, Child}
+use Rattle.crew_trait.specs.declared.reply.Reply.{Reply}
+use Rattle.crew_trait.specs.declared.reply.Reply.TheVariants.{Answer, StartRefused, EndRefused}
 
 -- ---- what is printed
 

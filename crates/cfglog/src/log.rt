@@ -3,12 +3,12 @@
 ghost use Rattle.std.specs.Prelude.{◌≡◌, ◌++◌, IfOk, OnOk, codes, decimal, flat_map};
 ghost use Rattle.bstr.specs.Text.{lines_of};
 ghost use Rattle.cfglog.specs.Texts as texts;
-ghost use Rattle.crew.specs.declared.reply.Reply.TheVariants.{Answer};
+ghost use Rattle.crew_trait.specs.declared.reply.Reply.TheVariants.{Answer};
 
 use bstr::ByteSlice;
 use cachefile::word_text;
 use conftest::Job;
-use crew::{Entry, Reply};
+use crew_trait::{Entry, Reply};
 use csource::put_ended;
 use deftable::Bytes;
 use std::alloc::{AllocError, Global};

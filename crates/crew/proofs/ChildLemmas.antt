@@ -9,9 +9,9 @@ use Rattle.std.proofs.KnownBytes.{Consumes-trans}
 use Rattle.std.specs.Io.KnownBytes.{Consumes, Keeps, IsAtEnd}
 use Rattle.crew.specs.Ending.{IsKept}
 use Rattle.conftest.specs.declared.job.Job.{Job}
-use Rattle.crew.specs.declared.event.CrewEvent.{CrewEvent}
-use Rattle.crew.specs.declared.event.CrewEvent.TheVariants.{Started, Ended}
-use Rattle.crew.specs.declared.reply.Reply.{Reply}
+use Rattle.crew_trait.specs.declared.event.CrewEvent.{CrewEvent}
+use Rattle.crew_trait.specs.declared.event.CrewEvent.TheVariants.{Started, Ended}
+use Rattle.crew_trait.specs.declared.reply.Reply.{Reply}
 use Rattle.crew.specs.Sound.{ListsBusy}
 use Rattle.crew.specs.Launch.{Adds, Call, Spawned, Failed, Run, Runs, failing, jobs_of, launch, run_after, writing}
 

@@ -6,13 +6,13 @@ use Rattle.std.proofs.lemmas.Bool.Decides.{nat_tests}
 use Rattle.std.proofs.lemmas.List.{take-append-drop, append-nil, take_all, drop_all}
 use Rattle.std.proofs.lemmas.List.Sums.{fold-append}
 use Rattle.conftest.specs.declared.job.Job.{Job}
-use Rattle.crew.specs.declared.reply.Reply.{Reply}
-use Rattle.crew.specs.declared.reply.Reply.TheVariants.{Answer, StartRefused, EndRefused}
-use Rattle.crew.specs.declared.event.CrewEvent.{CrewEvent}
-use Rattle.crew.specs.declared.event.CrewEvent.TheVariants.{Started, Ended}
+use Rattle.crew_trait.specs.declared.reply.Reply.{Reply}
+use Rattle.crew_trait.specs.declared.reply.Reply.TheVariants.{Answer, StartRefused, EndRefused}
+use Rattle.crew_trait.specs.declared.event.CrewEvent.{CrewEvent}
+use Rattle.crew_trait.specs.declared.event.CrewEvent.TheVariants.{Started, Ended}
 use Rattle.crew.specs.declared.fused.FuseKind.{FuseKind}
 use Rattle.crew.specs.declared.fused.FuseKind.TheVariants.{Start, End}
-use Rattle.crew.specs.Events.{Account, IsSomeBusy, busy, busy_after, failure_of, without_slot}
+use Rattle.crew_trait.specs.Events.{Account, IsSomeBusy, busy, busy_after, failure_of, without_slot}
 use Rattle.crew.specs.Fused.{fused, added_failure, before, counted, IsCounted, is_due, IsSpent, last_added, last_refused, later_of, left_after, one_higher, refused_end, since}
 use Rattle.crew.specs.Sound.{times, ListsBusy}
 use Rattle.crew.proofs.SlotLemmas.{lists_start}

@@ -3,13 +3,13 @@ use Rattle.std.proofs.Common.{◌≡◌, ◌≢◌, ℕ, zero, suc, ◌+◌, ◌
 use Rattle.std.specs.Prelude.{remove}
 use Rattle.std.proofs.lemmas.List.{map-append, length-map}
 use Rattle.conftest.specs.declared.job.Job.{Job}
-use Rattle.crew.specs.declared.reply.Reply.{Reply}
-use Rattle.crew.specs.declared.reply.Reply.TheVariants.{StartRefused}
-use Rattle.crew.specs.declared.event.CrewEvent.{CrewEvent}
-use Rattle.crew.specs.declared.event.CrewEvent.TheVariants.{Started, Ended}
+use Rattle.crew_trait.specs.declared.reply.Reply.{Reply}
+use Rattle.crew_trait.specs.declared.reply.Reply.TheVariants.{StartRefused}
+use Rattle.crew_trait.specs.declared.event.CrewEvent.{CrewEvent}
+use Rattle.crew_trait.specs.declared.event.CrewEvent.TheVariants.{Started, Ended}
 use Rattle.crew.specs.declared.event.Event.{Event}
 use Rattle.crew.specs.Child.{Child}
-use Rattle.crew.specs.Events.{busy, IsSomeBusy}
+use Rattle.crew_trait.specs.Events.{busy, IsSomeBusy}
 use Rattle.crew.specs.Sound.{AllStarted, IsReady}
 use Rattle.crew.proofs.SlotLemmas.{lists_none, lists_busy, lists_some, lists_start, lists_end}
 

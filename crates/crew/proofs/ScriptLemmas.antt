@@ -4,13 +4,13 @@ use Rattle.std.specs.Prelude.{remove}
 use Rattle.std.proofs.lemmas.Bool.{cond-true, cond-false}
 use Rattle.std.proofs.lemmas.List.{get_or_default}
 use Rattle.conftest.specs.declared.job.Job.{Job}
-use Rattle.crew.specs.declared.reply.Reply.{Reply}
-use Rattle.crew.specs.declared.reply.Reply.TheVariants.{StartRefused}
-use Rattle.crew.specs.declared.event.CrewEvent.{CrewEvent}
-use Rattle.crew.specs.declared.event.CrewEvent.TheVariants as happens
+use Rattle.crew_trait.specs.declared.reply.Reply.{Reply}
+use Rattle.crew_trait.specs.declared.reply.Reply.TheVariants.{StartRefused}
+use Rattle.crew_trait.specs.declared.event.CrewEvent.{CrewEvent}
+use Rattle.crew_trait.specs.declared.event.CrewEvent.TheVariants as happens
 use Rattle.crew.specs.declared.event.Event.TheVariants.{Started, Refused, Ended}
 use Rattle.crew.specs.Child.{Child}
-use Rattle.crew.specs.Events.{failure_of}
+use Rattle.crew_trait.specs.Events.{failure_of}
 use Rattle.crew.specs.Scripted.{Scripted, is_start_refused, started_with, after_start, place, order_after, no_child, ending, after_next}
 
 same : (x y : Scripted) → x.account.events ≡ y.account.events → x.account.attempts ≡ y.account.attempts → x.account.failures ≡ y.account.failures → x.listed ≡ y.listed → x.replies ≡ y.replies → x.children ≡ y.children → x.order ≡ y.order → x ≡ y

@@ -6,10 +6,10 @@ use Rattle.std.proofs.lemmas.Bool.Decides.{nat_tests}
 use Rattle.std.proofs.lemmas.List.Sums.{fold-append}
 use Rattle.std.proofs.lemmas.List.Elements.{All-push}
 use Rattle.conftest.specs.declared.job.Job.{Job}
-use Rattle.crew.specs.declared.reply.Reply.{Reply}
-use Rattle.crew.specs.declared.event.CrewEvent.{CrewEvent}
-use Rattle.crew.specs.declared.event.CrewEvent.TheVariants.{Started, Ended}
-use Rattle.crew.specs.Events.{busy, busy_after, IsSomeBusy, slots_in_flight, slots_after, without_slot}
+use Rattle.crew_trait.specs.declared.reply.Reply.{Reply}
+use Rattle.crew_trait.specs.declared.event.CrewEvent.{CrewEvent}
+use Rattle.crew_trait.specs.declared.event.CrewEvent.TheVariants.{Started, Ended}
+use Rattle.crew_trait.specs.Events.{busy, busy_after, IsSomeBusy, slots_in_flight, slots_after, without_slot}
 use Rattle.crew.specs.Sound.{times, ListsBusy}
 
 abbrev one_if : Bool → ℕ

@@ -1,6 +1,6 @@
 -- A child of a crew in memory.
 use Rattle.std.specs.Prelude.{ℕ}
-use Rattle.crew.specs.declared.reply.Reply.{Reply}
+use Rattle.crew_trait.specs.declared.reply.Reply.{Reply}
 
 -- a child: its slot, and the reply that it will give (own)
 pub record Child : Type 0 where

@@ -3,8 +3,8 @@ use Rattle.std.specs.Prelude.{◌≡◌, ◌⊎◌, ℕ, ℤ, ◌≤◌, List, l
 use Rattle.std.specs.Process.{exit_code}
 use Rattle.std.specs.Io.KnownBytes.{Consumes, IsAtEnd}
 use Rattle.std.specs.declared.process.status.ExitStatus.{ExitStatus}
-use Rattle.crew.specs.declared.reply.Reply.{Reply}
-use Rattle.crew.specs.declared.reply.Reply.TheVariants.{Answer, StartRefused, EndRefused}
+use Rattle.crew_trait.specs.declared.reply.Reply.{Reply}
+use Rattle.crew_trait.specs.declared.reply.Reply.TheVariants.{Answer, StartRefused, EndRefused}
 
 -- an exit code as a number, or 256 if there is none (own)
 abbrev pub number_of : Option ℤ → ℕ

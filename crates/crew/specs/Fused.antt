@@ -1,11 +1,11 @@
 -- A crew around a crew, which refuses one call.
 use Rattle.std.specs.Prelude.{◌≡◌, ℕ, ◌+◌, ◌-◌, ◌*◌, ◌^◌, ◌≤◌, ◌==◌, Bool, true, false, List, [], ◌∷◌, ◌++◌, length, take, drop, map, Option, None, Some, ⊤, if◌then◌else◌}
-use Rattle.crew.specs.declared.reply.Reply.TheVariants.{EndRefused}
-use Rattle.crew.specs.declared.event.CrewEvent.{CrewEvent}
-use Rattle.crew.specs.declared.event.CrewEvent.TheVariants.{Started, Ended}
+use Rattle.crew_trait.specs.declared.reply.Reply.TheVariants.{EndRefused}
+use Rattle.crew_trait.specs.declared.event.CrewEvent.{CrewEvent}
+use Rattle.crew_trait.specs.declared.event.CrewEvent.TheVariants.{Started, Ended}
 use Rattle.crew.specs.declared.fused.FuseKind.{FuseKind}
 use Rattle.crew.specs.declared.fused.FuseKind.TheVariants.{Start, End}
-use Rattle.crew.specs.Events.{Account, failure_of}
+use Rattle.crew_trait.specs.Events.{Account, failure_of}
 use Rattle.crew.specs.Sound.{ListsBusy}
 
 -- the events before the last `later` (own)

@@ -1,8 +1,8 @@
 -- The requests of a crew of real children to the system.
 use Rattle.std.specs.Prelude.{◌≡◌, ℕ, List, [], ◌∷◌, ◌++◌, All, IsUtf8, Option, Some, None, ⊤, fold}
 use Rattle.conftest.specs.declared.job.Job.{Job}
-use Rattle.crew.specs.declared.event.CrewEvent.{CrewEvent}
-use Rattle.crew.specs.declared.event.CrewEvent.TheVariants as happens
+use Rattle.crew_trait.specs.declared.event.CrewEvent.{CrewEvent}
+use Rattle.crew_trait.specs.declared.event.CrewEvent.TheVariants as happens
 
 -- a request: a file that was written, with its name and its bytes; a command that was started, with its words; or a
 -- command that didn't start (own)

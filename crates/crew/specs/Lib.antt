@@ -1,6 +1,5 @@
 pub mod Child
 pub mod Ending
-pub mod Events
 pub mod Fused
 pub mod Launch
 pub mod Scripted

@@ -1,15 +1,15 @@
 -- A crew in memory as a state machine: the effect of each call.
 use Rattle.std.specs.Prelude.{ℕ, ◌+◌, ◌-◌, ◌==◌, Bool, true, false, not, List, [], ◌∷◌, ◌++◌, length, remove, slice_index_or, unwrap_or, position, Option, Some, None, if◌then◌else◌}
 use Rattle.conftest.specs.declared.job.Job.{Job}
-use Rattle.crew.specs.declared.reply.Reply.{Reply}
-use Rattle.crew.specs.declared.reply.Reply.TheVariants.{Answer, StartRefused, EndRefused}
-use Rattle.crew.specs.declared.event.CrewEvent.TheVariants as happens
+use Rattle.crew_trait.specs.declared.reply.Reply.{Reply}
+use Rattle.crew_trait.specs.declared.reply.Reply.TheVariants.{Answer, StartRefused, EndRefused}
+use Rattle.crew_trait.specs.declared.event.CrewEvent.TheVariants as happens
 use Rattle.crew.specs.declared.event.Event.{Event}
 use Rattle.crew.specs.declared.event.Event.TheVariants.{Started, Refused, Ended}
 use Rattle.crew.specs.declared.order.Order.{Order}
 use Rattle.crew.specs.declared.order.Order.TheVariants.{Oldest, Youngest, Slots}
 use Rattle.crew.specs.Child.{Child}
-use Rattle.crew.specs.Events.{Account, failure_of}
+use Rattle.crew_trait.specs.Events.{Account, failure_of}
 
 -- the state: the account, the calls that are listed, the replies to the starts to come, the children in flight in the
 -- order of their starts, and the order in which they end (own)

@@ -1,11 +1,11 @@
 -- How a list of slots relates to the events of a crew.
 use Rattle.std.specs.Prelude.{◌≡◌, ◌≢◌, ℕ, ◌+◌, ◌*◌, ◌≤◌, ◌==◌, List, [], ◌∷◌, length, map, if◌then◌else◌}
-use Rattle.crew.specs.declared.reply.Reply.{Reply}
-use Rattle.crew.specs.declared.reply.Reply.TheVariants.{StartRefused}
-use Rattle.crew.specs.declared.event.CrewEvent.{CrewEvent}
+use Rattle.crew_trait.specs.declared.reply.Reply.{Reply}
+use Rattle.crew_trait.specs.declared.reply.Reply.TheVariants.{StartRefused}
+use Rattle.crew_trait.specs.declared.event.CrewEvent.{CrewEvent}
 use Rattle.crew.specs.declared.event.Event.{Event}
 use Rattle.crew.specs.Child.{Child}
-use Rattle.crew.specs.Events.{busy}
+use Rattle.crew_trait.specs.Events.{busy}
 
 -- how often the slot occurs in the list (own)
 abbrev pub times : ℕ → List ℕ → ℕ

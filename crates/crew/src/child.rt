@@ -9,8 +9,8 @@ ghost use Rattle.crew.specs.Launch.{Adds, AreCommand, Failed, Spawned, failing, 
 
 use crate::diagnostics::diagnostics;
 use crate::launcher::Launcher;
-use crate::reply::Reply;
 use conftest::Job;
+use crew_trait::Reply;
 use deftable::Bytes;
 use std::alloc::{AllocError, Global};
 use std::io;

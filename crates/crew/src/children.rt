@@ -3,19 +3,17 @@
 ghost use Rattle.std.specs.Prelude.{◌≡◌, ◌≢◌, ◌⊎◌, ◌+◌, ◌^◌, ◌<◌, ◌≤◌, [], ◌∷◌, ◌++◌, true, false, IfOk, IsSome, All, length, vec_capacity, vec_len};
 ghost use Rattle.std.specs.Bool.{OnFalse, OnTrue};
 ghost use Rattle.std.specs.VecDeque.{deque_capacity};
-ghost use Rattle.crew.specs.Events.{IsSomeBusy, busy, failure_of, slots_in_flight};
+ghost use Rattle.crew_trait.specs.Events.{IsSomeBusy, busy, failure_of, slots_in_flight};
 ghost use Rattle.crew.specs.Launch.{Adds, Runs, failing, launch};
-ghost use Rattle.crew.specs.declared.reply.Reply.TheVariants.{StartRefused};
-ghost use Rattle.crew.specs.declared.event.CrewEvent.TheVariants.{Started, Ended};
+ghost use Rattle.crew_trait.specs.declared.reply.Reply.TheVariants.{StartRefused};
+ghost use Rattle.crew_trait.specs.declared.event.CrewEvent.TheVariants.{Started, Ended};
 
-use crate::calls::Crew;
 use crate::child::{ended, is_started};
-use crate::event::{CrewEvent, Refused};
 use crate::failures::{failures_after, refusal};
 use crate::launcher::Launcher;
-use crate::reply::Reply;
 use crate::room::put;
 use conftest::Job;
+use crew_trait::{Crew, CrewEvent, Refused, Reply};
 use std::alloc::{AllocError, Global};
 use std::collections::VecDeque;
 use std::marker::Model;
@@ -38,7 +36,7 @@ pub(crate) struct Children<L: Launcher + Drop> {
 
 impl<L: Launcher + Drop> Model for Children<L> {
     ghost use Rattle.std.specs.Prelude.{◌≡◌, ◌+◌, ◌≤◌, ◌<◌, vec_len, vec_capacity, All, length};
-    ghost use Rattle.crew.specs.Events.{Account, slots_in_flight};
+    ghost use Rattle.crew_trait.specs.Events.{Account, slots_in_flight};
     ghost use Rattle.crew.specs.Launch.{Runs};
     ghost use Rattle.crew.specs.Sound.{ListsBusy};
 

@@ -1,28 +1,6 @@
-//! The events of a crew.
+//! The calls of a crew in memory, as it lists them.
 
-use crate::reply::Reply;
-use conftest::Job;
-use thiserror::Error;
-
-/// A start that was taken, or the end of a child. `number` is the number of starts attempted up to and including this
-/// event.
-#[derive(Drop)]
-pub enum CrewEvent {
-    /// A job was started in the slot.
-    Started {
-        slot: usize,
-        job: Job,
-        number: u64,
-    },
-    /// The child in the slot ended, with this reply.
-    Ended {
-        slot: usize,
-        reply: Reply,
-        number: u64,
-    },
-}
-
-/// A call of a [`MemoryCrew`], with its slot.
+/// A call of a [`MemoryCrew`](crate::MemoryCrew), with its slot.
 #[derive(Clone, Copy, PartialEq, Eq)]
 pub enum Event {
     /// A start that was taken.
@@ -32,8 +10,3 @@ pub enum Event {
     /// The end of a child.
     Ended(usize),
 }
-
-/// The error of a start that wasn't taken.
-#[derive(Clone, Copy, Debug, PartialEq, Eq, Error)]
-#[error("start refused")]
-pub struct Refused;

@@ -1,10 +1,9 @@
 //! Counts the calls that were refused.
 
 ghost use Rattle.std.specs.Prelude.{◌≡◌, ◌+◌, ◌^◌, ◌<◌};
-ghost use Rattle.crew.specs.Events.{failure_of};
+ghost use Rattle.crew_trait.specs.Events.{failure_of};
 
-use crate::event::Refused;
-use crate::reply::Reply;
+use crew_trait::{Refused, Reply};
 
 /// Counts a refused start, and returns its error.
 pub(crate) fn refusal(failures: &mut u64) -> Refused

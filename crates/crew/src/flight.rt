@@ -2,7 +2,7 @@
 
 ghost use Rattle.std.specs.Prelude.{◌≡◌};
 
-use crate::reply::Reply;
+use crew_trait::Reply;
 use std::marker::Model;
 
 /// A child of a crew in memory, with the reply that it will give, once for the caller and once for the account.

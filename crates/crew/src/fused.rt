@@ -2,16 +2,14 @@
 
 ghost use Rattle.std.specs.Prelude.{◌≡◌, ◌≢◌, ◌+◌, ◌^◌, ◌<◌, ◌≤◌, [], ◌∷◌, ◌++◌, true, false, None, OnOk, OnErr, is_ok};
 ghost use Rattle.std.specs.Bool.{OnTrue};
-ghost use Rattle.crew.specs.Events.{IsIdle, IsSomeBusy, busy, failure_of};
+ghost use Rattle.crew_trait.specs.Events.{IsIdle, IsSomeBusy, busy, failure_of};
 ghost use Rattle.crew.specs.Fused.{account_of, counted, is_due, is_same, later_after, later_of, left_after};
 ghost use Rattle.crew.specs.declared.fused.FuseKind.TheVariants.{Start, End};
-ghost use Rattle.crew.specs.declared.reply.Reply.TheVariants.{EndRefused, StartRefused};
-ghost use Rattle.crew.specs.declared.event.CrewEvent.TheVariants.{Started, Ended};
+ghost use Rattle.crew_trait.specs.declared.reply.Reply.TheVariants.{EndRefused, StartRefused};
+ghost use Rattle.crew_trait.specs.declared.event.CrewEvent.TheVariants.{Started, Ended};
 
-use crate::calls::Crew;
-use crate::event::Refused;
-use crate::reply::Reply;
 use conftest::Job;
+use crew_trait::{Crew, Refused, Reply};
 use std::marker::Model;
 
 /// The kind of the call that a [`Fused`] crew refuses.

@@ -1,18 +1,17 @@
 //! A crew that answers from a list of replies.
 
 ghost use Rattle.std.specs.Prelude.{◌≡◌, ◌≢◌, ◌+◌, ◌*◌, ◌^◌, ◌<◌, ◌≤◌, [], ◌∷◌, ◌++◌, true, false, IfOk, IfSome, IfNone, OnOk, OnErr, is_ok, length, reverse, vec_capacity, MatchOption};
-ghost use Rattle.crew.specs.Events.{busy, IsSomeBusy, failure_of};
-ghost use Rattle.crew.specs.declared.event.CrewEvent.TheVariants.{Started, Ended};
+ghost use Rattle.crew_trait.specs.Events.{busy, IsSomeBusy, failure_of};
+ghost use Rattle.crew_trait.specs.declared.event.CrewEvent.TheVariants.{Started, Ended};
 ghost use Rattle.crew.specs.Scripted.{after_start, after_next, ending, is_taken, is_start_refused};
 
-use crate::calls::Crew;
-use crate::event::{CrewEvent, Event, Refused};
+use crate::event::Event;
 use crate::failures::{failures_after, refusal};
 use crate::flight::Flight;
 use crate::order::{Order, next_place};
-use crate::reply::Reply;
 use crate::room::put;
 use conftest::Job;
+use crew_trait::{Crew, CrewEvent, Refused, Reply};
 use std::alloc::{AllocError, Global};
 use std::marker::Model;
 

@@ -1,16 +1,14 @@
 //! A crew of real children.
 
 ghost use Rattle.std.specs.Prelude.{◌≡◌, ◌≢◌, ◌+◌, ◌^◌, ◌<◌, [], ◌∷◌, ◌++◌, true, IfOk};
-ghost use Rattle.crew.specs.Events.{IsSomeBusy, busy, failure_of, slots_in_flight};
-ghost use Rattle.crew.specs.declared.reply.Reply.TheVariants.{StartRefused};
-ghost use Rattle.crew.specs.declared.event.CrewEvent.TheVariants.{Ended};
+ghost use Rattle.crew_trait.specs.Events.{IsSomeBusy, busy, failure_of, slots_in_flight};
+ghost use Rattle.crew_trait.specs.declared.reply.Reply.TheVariants.{StartRefused};
+ghost use Rattle.crew_trait.specs.declared.event.CrewEvent.TheVariants.{Ended};
 
-use crate::calls::Crew;
 use crate::children::Children;
-use crate::event::Refused;
 use crate::launcher::Host;
-use crate::reply::Reply;
 use conftest::Job;
+use crew_trait::{Crew, Refused, Reply};
 use std::alloc::{AllocError, Global};
 use std::marker::Model;
 use std::process::Processes;
@@ -32,7 +30,7 @@ pub struct ProcessCrew<R: Files + Processes + Drop> {
 }
 
 impl<R: Files + Processes + Drop> Model for ProcessCrew<R> {
-    ghost use Rattle.crew.specs.Events.{Account};
+    ghost use Rattle.crew_trait.specs.Events.{Account};
 
     ghost Value = { Account };
 

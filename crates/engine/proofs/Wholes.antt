@@ -3,7 +3,7 @@ use Rattle.std.proofs.Common.{◌≡◌, ℕ, Bool, List, Option, length, Result
 use Rattle.std.specs.Prelude.{IfOk, IsErrAnd, nat_le}
 use Rattle.outputs.specs.Receipt.{Receipt, with_things}
 use Rattle.acparse.specs.Profile.{source_of}
-use Rattle.crew.specs.Events.{Account}
+use Rattle.crew_trait.specs.Events.{Account}
 use Rattle.options.specs.declared.settings.Settings.{Settings}
 use Rattle.plan.specs.Weight.{heaviest, weight}
 use Rattle.plan.specs.declared.fault.PlanFault.TheVariants.{TooLong}

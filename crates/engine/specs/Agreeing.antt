@@ -1,6 +1,6 @@
 -- Two runs of one source, over crews with the same replies.
 use Rattle.std.specs.Prelude.{◌≡◌, ℕ, List, length}
-use Rattle.crew.specs.Events.{Account, replies_in}
+use Rattle.crew_trait.specs.Events.{Account, replies_in}
 use Rattle.meaning.specs.Play.{all_jobs}
 use Rattle.proberun.specs.Agreeing.{Agree}
 use Rattle.syntax.specs.Script.{Script}

@@ -1,6 +1,6 @@
 -- What a whole run does, and what is returned of it.
 use Rattle.std.specs.Prelude.{◌≡◌, ℕ, ◌+◌, List, ◌++◌, length, Result, Ok, Err}
-use Rattle.crew.specs.Events.{Account}
+use Rattle.crew_trait.specs.Events.{Account}
 use Rattle.machine.specs.declared.machine.RunEnd.{RunEnd}
 use Rattle.meaning.specs.Meaning.{meaning}
 use Rattle.meaning.specs.Play.{whole}

@@ -1,7 +1,7 @@
 -- The outcome of a run, in its report.
 use Rattle.std.specs.Prelude.{List, map}
-use Rattle.crew.specs.declared.entry.Entry.{Entry}
-use Rattle.crew.specs.declared.entry.Entry.TheVariants.{Said}
+use Rattle.crew_trait.specs.declared.entry.Entry.{Entry}
+use Rattle.crew_trait.specs.declared.entry.Entry.TheVariants.{Said}
 use Rattle.deftable.specs.declared.note.Note.{Note}
 use Rattle.machine.specs.declared.machine.Outcome as run
 use Rattle.machine.specs.declared.machine.Outcome.TheVariants as runs

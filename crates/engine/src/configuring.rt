@@ -1,7 +1,7 @@
 //! A whole run.
 
 ghost use Rattle.std.specs.Prelude.{◌≡◌, ◌+◌, ◌^◌, ◌<◌, ◌≤◌, length, IfOk, IfErr, Ok, Err, option_map};
-ghost use Rattle.crew.specs.Events.{IsIdle};
+ghost use Rattle.crew_trait.specs.Events.{IsIdle};
 ghost use Rattle.outputlist.specs.Output.{AreOutputs};
 ghost use Rattle.outputs.specs.Receipt.{with_things};
 ghost use Rattle.plan.specs.Walk.{DoesWhat};
@@ -18,7 +18,7 @@ use crate::handing::things_of;
 use crate::noting::{joined, with_notes};
 use crate::report::{Report, outcome_of};
 use crate::shown::shown;
-use crew::Crew;
+use crew_trait::Crew;
 use deftable::Bytes;
 use outputs::{Outputs, Things, put_all};
 use plan::Plan;

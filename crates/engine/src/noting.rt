@@ -1,10 +1,10 @@
 //! Pieces and entries of the log, joined.
 
 ghost use Rattle.std.specs.Prelude.{◌≡◌, ◌++◌, ◌∷◌, [], IfOk, OnOk};
-ghost use Rattle.crew.specs.declared.entry.Entry.TheVariants.{Said};
+ghost use Rattle.crew_trait.specs.declared.entry.Entry.TheVariants.{Said};
 ghost use Rattle.engine.specs.Told.{entries_of};
 
-use crew::{Entry, Log};
+use crew_trait::{Entry, Log};
 use deftable::{Note, Notes};
 use std::alloc::{AllocError, Global};
 

@@ -3,7 +3,7 @@
 ghost use Rattle.std.specs.Prelude.{◌≡◌};
 ghost use Rattle.engine.specs.Told as told;
 
-use crew::Log;
+use crew_trait::Log;
 use deftable::{Defs, Notes, Vars};
 
 /// How a run ended.

@@ -6,7 +6,7 @@ ghost use Rattle.syntax.specs.Script.{script_of};
 ghost use Rattle.engine.specs.Shown as words;
 
 use crate::report::{Outcome, Report};
-use crew::Log;
+use crew_trait::Log;
 use deftable::{Bytes, Defs, Note, Notes, Stream};
 use options::{Settings, help_text};
 use std::alloc::{AllocError, Global};

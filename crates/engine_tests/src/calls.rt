@@ -1,7 +1,7 @@
 //! Calls of `configure`, as a row has them.
 
 ghost use Rattle.std.specs.Prelude.{◌≡◌, ◌+◌, ◌^◌, ◌≤◌, []};
-ghost use Rattle.crew.specs.Events.{IsIdle};
+ghost use Rattle.crew_trait.specs.Events.{IsIdle};
 
 use crate::answers::{View, put_answer, put_events, put_things, text_of};
 use crate::given::{Given, given_of, number_of, order_of, replies_of, section, section_or_empty};

@@ -14,7 +14,7 @@ ghost use Rattle.searching.specs.Waits.{Awaits, broken_off, finished, given, is_
 
 use batching::hear_batch;
 use conftest::{Job, run_job};
-use crew::Reply;
+use crew_trait::Reply;
 use deftable::Bytes;
 use probing::{ask_again, conclude};
 use runstate::pieces::break_test;

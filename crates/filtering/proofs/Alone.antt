@@ -2,8 +2,8 @@
 use Rattle.std.proofs.Common.{◌≡◌, ℕ, zero, suc, ◌+◌, true, false, List, [], ◌∷◌, ◌++◌, length, Result, Ok, Err, inl, inr, refl, sym, ap, ◌∙◌, subst, arith}
 use Rattle.std.proofs.lemmas.Bool.Decides.{eqb_tells}
 use Rattle.std.specs.Prelude.{◌==◌, IfOk, IfErr, IsErrAnd, replicate}
-use Rattle.crew.specs.Events.{Account, replies_in}
-use Rattle.crew.specs.declared.reply.Reply.TheVariants.{StartRefused}
+use Rattle.crew_trait.specs.Events.{Account, replies_in}
+use Rattle.crew_trait.specs.declared.reply.Reply.TheVariants.{StartRefused}
 use Rattle.engine.specs.Configured.{IfReport, IfStarts, IsAnswer, IsMeant, things}
 use Rattle.engine.specs.Given.{Accepted, Shows, Starts}
 use Rattle.engine.specs.declared.accepting.Start.{Start}

@@ -3,7 +3,7 @@ use Rattle.std.proofs.Common.{◌≡◌, ℕ, Option, Some, None, List, [], ◌�
 use Rattle.std.specs.Prelude.{◌||◌, not, option_map}
 use Rattle.conftest.specs.declared.job.Job.{Job}
 use Rattle.conftest.specs.Probe.{run_of, job_of}
-use Rattle.crew.specs.declared.reply.Reply.{Reply}
+use Rattle.crew_trait.specs.declared.reply.Reply.{Reply}
 use Rattle.deftable.specs.Table.{value_of}
 use Rattle.shellword.specs.declared.part.Part.{Part}
 use Rattle.shellword.specs.Value.{word_value}

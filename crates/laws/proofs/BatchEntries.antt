@@ -4,10 +4,10 @@ use Rattle.std.specs.Prelude.{◌||◌, ◌==◌, option_map, bytes_eq, unwrap_o
 use Rattle.std.proofs.lemmas.Bool.{cases_Bool}
 use Rattle.std.proofs.lemmas.List.{append-nil}
 use Rattle.conftest.specs.declared.job.Job.{Job}
-use Rattle.crew.specs.declared.entry.Entry.{Entry}
-use Rattle.crew.specs.declared.entry.Entry.TheVariants.{Said, Child}
-use Rattle.crew.specs.declared.reply.Reply.{Reply}
-use Rattle.crew.specs.declared.reply.Reply.TheVariants.{Answer, StartRefused, EndRefused}
+use Rattle.crew_trait.specs.declared.entry.Entry.{Entry}
+use Rattle.crew_trait.specs.declared.entry.Entry.TheVariants.{Said, Child}
+use Rattle.crew_trait.specs.declared.reply.Reply.{Reply}
+use Rattle.crew_trait.specs.declared.reply.Reply.TheVariants.{Answer, StartRefused, EndRefused}
 use Rattle.deftable.specs.Table.{value_of, with_entry}
 use Rattle.deftable.specs.declared.note.Note.{Note}
 use Rattle.deftable.specs.declared.note.Stream.TheVariants.{Out}

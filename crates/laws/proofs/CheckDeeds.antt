@@ -2,7 +2,7 @@
 use Rattle.std.proofs.Common.{◌≡◌, ℕ, Option, Some, None, List, [], ◌∷◌, ◌++◌, length, take, drop, false, ◌⊎◌, inl, inr, refl, sym, ap, ◌∙◌, subst, ⊎_elim}
 use Rattle.std.specs.Prelude.{bytes_eq}
 use Rattle.std.proofs.lemmas.Bool.{cases_Bool}
-use Rattle.crew.specs.declared.reply.Reply.{Reply}
+use Rattle.crew_trait.specs.declared.reply.Reply.{Reply}
 use Rattle.deftable.specs.Table.{value_of, without_entry}
 use Rattle.shellword.specs.declared.part.Part.{Part}
 use Rattle.shellword.specs.Value.{word_value}

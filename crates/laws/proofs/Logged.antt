@@ -5,7 +5,7 @@ use Rattle.std.proofs.lemmas.Bool.{cases_Bool}
 use Rattle.std.proofs.lemmas.List.{append-nil}
 use Rattle.conftest.specs.declared.job.Job.{Job}
 use Rattle.conftest.specs.Probe.{run_of, job_of}
-use Rattle.crew.specs.declared.reply.Reply.{Reply}
+use Rattle.crew_trait.specs.declared.reply.Reply.{Reply}
 use Rattle.deftable.specs.declared.note.Stream.{Stream}
 use Rattle.deftable.specs.declared.note.Stream.TheVariants.{Out, Err}
 use Rattle.deftable.specs.Table.{value_of}

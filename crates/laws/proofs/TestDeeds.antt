@@ -3,7 +3,7 @@ use Rattle.std.proofs.Common.{◌≡◌, ℕ, Option, Some, None, List, [], ◌�
 use Rattle.std.specs.Prelude.{bytes_eq, unwrap_or}
 use Rattle.std.proofs.lemmas.Bool.{cases_Bool}
 use Rattle.std.proofs.lemmas.List.{append-nil}
-use Rattle.crew.specs.declared.reply.Reply.{Reply}
+use Rattle.crew_trait.specs.declared.reply.Reply.{Reply}
 use Rattle.deftable.specs.Table.{value_of, with_entry}
 use Rattle.meaning.specs.State.{State, How, Goes_on, Completed}
 use Rattle.meaning.specs.Tests.{Test, checking, cached_test, tested_by, may_begin, tested}

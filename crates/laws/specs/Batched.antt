@@ -2,7 +2,7 @@
 use Rattle.std.specs.Prelude.{◌≡◌, ◌≤◌, ◌==◌, ℕ, Bool, true, false, List, [], ◌∷◌, ◌++◌, ◌⊎◌, Option, Some, None, option_map, is_some, bytes_eq, drop, length, codes, if◌then◌else◌}
 use Rattle.conftest.specs.declared.job.Job.{Job}
 use Rattle.conftest.specs.Probe.{words_of}
-use Rattle.crew.specs.declared.reply.Reply.{Reply}
+use Rattle.crew_trait.specs.declared.reply.Reply.{Reply}
 use Rattle.deftable.specs.Table.{value_of}
 use Rattle.meaning.specs.State.{State, How, Goes_on, Stopped, Cut, Run, Ends}
 use Rattle.meaning.specs.Asking.{success, only_reply}

@@ -1,6 +1,6 @@
 -- What holds at the ends of a run.
 use Rattle.std.specs.Prelude.{◌≡◌, List}
-use Rattle.crew.specs.declared.reply.Reply.{Reply}
+use Rattle.crew_trait.specs.declared.reply.Reply.{Reply}
 use Rattle.meaning.specs.State.{State, How, Goes_on, Run, Ends, Asks}
 
 -- This holds at each end of the run, of how it ends and in which state, whatever the replies. (own)

@@ -1,9 +1,9 @@
 -- The children in the log of a run.
 use Rattle.std.specs.Prelude.{◌≡◌, List, [], ◌∷◌, ◌++◌, length, drop}
 use Rattle.conftest.specs.declared.job.Job.{Job}
-use Rattle.crew.specs.declared.entry.Entry.{Entry}
-use Rattle.crew.specs.declared.entry.Entry.TheVariants.{Said, Child}
-use Rattle.crew.specs.declared.reply.Reply.{Reply}
+use Rattle.crew_trait.specs.declared.entry.Entry.{Entry}
+use Rattle.crew_trait.specs.declared.entry.Entry.TheVariants.{Said, Child}
+use Rattle.crew_trait.specs.declared.reply.Reply.{Reply}
 use Rattle.syntax.specs.Script.{Script}
 use Rattle.meaning.specs.State.{State, Run, Ends, Asks}
 use Rattle.meaning.specs.Asking.{only_reply}

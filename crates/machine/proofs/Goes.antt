@@ -4,7 +4,7 @@ use Rattle.std.specs.Prelude.{replicate, option_map}
 use Rattle.std.specs.declared.alloc.AllocError.{AllocError}
 use Rattle.std.proofs.Math.Path.{fun_ext}
 use Rattle.std.proofs.lemmas.List.{length-map, length-replicate}
-use Rattle.crew.specs.declared.reply.Reply.{Reply}
+use Rattle.crew_trait.specs.declared.reply.Reply.{Reply}
 use Rattle.meaning.specs.State.{State, Goes_on, Cut, Run, Ends, Asks}
 use Rattle.plan.specs.declared.step.Step.{Step}
 use Rattle.plan.specs.Walk.{Instruction, Mind, minded, act, walk, shown}

@@ -1,7 +1,7 @@
 -- The position of a machine in a plan.
 use Rattle.std.specs.Prelude.{◌≡◌, ℕ, ◌+◌, ◌≤◌, List, [], length, replicate, Option, Some, None}
 use Rattle.conftest.specs.declared.job.Job.{Job}
-use Rattle.crew.specs.declared.reply.Reply.{Reply}
+use Rattle.crew_trait.specs.declared.reply.Reply.{Reply}
 use Rattle.meaning.specs.State.{State, Scope, Goes_on, Completed, Stopped, Cut, Run, Ends, Asks}
 use Rattle.plan.specs.Walk.{Instruction, Mind, walk}
 use Rattle.plan.specs.Inside.{asks_after}

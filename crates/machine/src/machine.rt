@@ -1,7 +1,7 @@
 //! The machine and its turns.
 
 ghost use Rattle.std.specs.Prelude.{◌≡◌, ◌+◌, ◌<◌, ◌≤◌, ◌^◌, List, [], Some, None, unwrap_or, IfOk, IsOk, IsErr, OnOk, OnErr, IsSome, IfSome, length, map, replicate, slice_get, slice_set};
-ghost use Rattle.crew.specs.declared.reply.Reply.TheVariants.{StartRefused};
+ghost use Rattle.crew_trait.specs.declared.reply.Reply.TheVariants.{StartRefused};
 ghost use Rattle.meaning.specs.Play.{refused_after, with_cut_line};
 ghost use Rattle.meaning.specs.State.{opened};
 ghost use Rattle.meaning.specs.Tests.{refused_all, unset_all};
@@ -14,7 +14,7 @@ ghost use Rattle.searching.specs.Waits.{Awaits, given, refused_rest, resumed, wa
 ghost use Rattle.searching.specs.declared.wait.Wait.TheVariants as waits;
 
 use conftest::Job;
-use crew::{Log, Reply};
+use crew_trait::{Log, Reply};
 use deftable::{Defs, Notes, Vars};
 use execution::{do_step, hear};
 use plan::{Plan, Step};

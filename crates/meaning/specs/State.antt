@@ -1,9 +1,9 @@
 -- What statements change, and the course of a run of statements.
 use Rattle.std.specs.Prelude.{ℕ, Bool, false, List, [], ◌∷◌, ◌++◌}
 use Rattle.conftest.specs.declared.job.Job.{Job}
-use Rattle.crew.specs.declared.entry.Entry.{Entry}
-use Rattle.crew.specs.declared.entry.Entry.TheVariants.{Said, Child}
-use Rattle.crew.specs.declared.reply.Reply.{Reply}
+use Rattle.crew_trait.specs.declared.entry.Entry.{Entry}
+use Rattle.crew_trait.specs.declared.entry.Entry.TheVariants.{Said, Child}
+use Rattle.crew_trait.specs.declared.reply.Reply.{Reply}
 use Rattle.deftable.specs.declared.note.Note.{Note}
 use Rattle.deftable.specs.declared.note.Stream.{Stream}
 use Rattle.deftable.specs.Table.{with_entry, without_entry}

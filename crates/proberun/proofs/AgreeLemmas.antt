@@ -2,8 +2,8 @@
 use Rattle.std.proofs.Common.{◌≡◌, ℕ, zero, suc, ◌≤◌, List, [], ◌∷◌, length, take, drop, Some, refl, sym, ap, ◌∙◌, subst, arith, length-append}
 use Rattle.std.proofs.lemmas.List.{length-drop}
 use Rattle.conftest.specs.declared.job.Job.{Job}
-use Rattle.crew.specs.declared.reply.Reply.{Reply}
-use Rattle.crew.specs.Events.{replies_in}
+use Rattle.crew_trait.specs.declared.reply.Reply.{Reply}
+use Rattle.crew_trait.specs.Events.{replies_in}
 use Rattle.meaning.specs.State.{State, Run, Ends, Asks}
 use Rattle.meaning.specs.Play.{Played, play, after, all_jobs, first_refused}
 use Rattle.machine.specs.declared.machine.Outcome.{Outcome}

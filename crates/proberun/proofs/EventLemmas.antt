@@ -5,11 +5,11 @@ use Rattle.std.proofs.lemmas.List.{append-nil}
 use Rattle.std.proofs.lemmas.List.Sums.{fold-append}
 use Rattle.std.proofs.lemmas.Bool.Decides.{nat_tests}
 use Rattle.conftest.specs.declared.job.Job.{Job}
-use Rattle.crew.specs.declared.reply.Reply.{Reply}
+use Rattle.crew_trait.specs.declared.reply.Reply.{Reply}
 use Rattle.meaning.specs.Play.{all_jobs}
-use Rattle.crew.specs.declared.event.CrewEvent.{CrewEvent}
-use Rattle.crew.specs.declared.event.CrewEvent.TheVariants.{Started, Ended}
-use Rattle.crew.specs.Events.{Fate, Unstarted, Running, Replied, fate_after, fate_of, ended_by, busy_after, busy, flying_after}
+use Rattle.crew_trait.specs.declared.event.CrewEvent.{CrewEvent}
+use Rattle.crew_trait.specs.declared.event.CrewEvent.TheVariants.{Started, Ended}
+use Rattle.crew_trait.specs.Events.{Fate, Unstarted, Running, Replied, fate_after, fate_of, ended_by, busy_after, busy, flying_after}
 use Rattle.proberun.specs.Starts.{StartsAre, TakesLeast, Fills, EndsGroup}
 
 pub fate-push : (n : ℕ) (es : List CrewEvent) (e : CrewEvent) → fate_of n (es ++ e ∷ []) ≡ fate_after n (fate_of n es) e

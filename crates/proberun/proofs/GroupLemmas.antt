@@ -6,9 +6,9 @@ use Rattle.std.proofs.lemmas.List.{append-nil}
 use Rattle.std.proofs.lemmas.Option.{slice_get_within}
 use Rattle.std.proofs.lemmas.Bool.{cases_lt}
 use Rattle.conftest.specs.declared.job.Job.{Job}
-use Rattle.crew.specs.declared.reply.Reply.{Reply}
-use Rattle.crew.specs.declared.event.CrewEvent.{CrewEvent}
-use Rattle.crew.specs.Events.{Account, Fate, Unstarted, Running, Replied, fate_of, IsIdle, reply_in, replies_in}
+use Rattle.crew_trait.specs.declared.reply.Reply.{Reply}
+use Rattle.crew_trait.specs.declared.event.CrewEvent.{CrewEvent}
+use Rattle.crew_trait.specs.Events.{Account, Fate, Unstarted, Running, Replied, fate_of, IsIdle, reply_in, replies_in}
 use Rattle.proberun.specs.Serving.{Serving, Served, AllHeld, AllFree, Tracks, is_held, failed_count}
 use Rattle.proberun.proofs.TableLemmas.{get-replicate, get-past, held-none}
 

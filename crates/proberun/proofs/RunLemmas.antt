@@ -7,13 +7,13 @@ use Rattle.std.proofs.lemmas.Option.{slice_get_within}
 use Rattle.std.proofs.lemmas.Bool.{cases_eq}
 use Rattle.std.proofs.lemmas.Bool.Decides.{nat_tests}
 use Rattle.conftest.specs.declared.job.Job.{Job}
-use Rattle.crew.specs.declared.reply.Reply.{Reply}
-use Rattle.crew.specs.declared.reply.Reply.TheVariants.{Answer, StartRefused, EndRefused}
+use Rattle.crew_trait.specs.declared.reply.Reply.{Reply}
+use Rattle.crew_trait.specs.declared.reply.Reply.TheVariants.{Answer, StartRefused, EndRefused}
 use Rattle.meaning.specs.State.{Run, Asks}
 use Rattle.meaning.specs.Play.{Played, play, after, all_jobs, first_refused, refused_here}
-use Rattle.crew.specs.declared.event.CrewEvent.{CrewEvent}
-use Rattle.crew.specs.declared.event.CrewEvent.TheVariants.{Started, Ended}
-use Rattle.crew.specs.Events.{Account, Fate, Unstarted, Running, Replied, fate_after, fate_of, ended_by, busy_after, busy, IsIdle, reply_in, replies_in, flying_after}
+use Rattle.crew_trait.specs.declared.event.CrewEvent.{CrewEvent}
+use Rattle.crew_trait.specs.declared.event.CrewEvent.TheVariants.{Started, Ended}
+use Rattle.crew_trait.specs.Events.{Account, Fate, Unstarted, Running, Replied, fate_after, fate_of, ended_by, busy_after, busy, IsIdle, reply_in, replies_in, flying_after}
 use Rattle.meaning.specs.Asking.{success}
 use Rattle.proberun.specs.Starts.{StartsAre, TakesLeast, Fills, EndsGroup, failures_in}
 use Rattle.proberun.proofs.EventLemmas.{least-both, fills-both, fills-weaken, ends_left, ends_last}

@@ -5,10 +5,10 @@ use Rattle.std.proofs.Math.ListN.{length-set}
 use Rattle.std.proofs.lemmas.Option.{get_or_from_slice_get}
 use Rattle.std.proofs.lemmas.Bool.{cases_eq}
 use Rattle.conftest.specs.declared.job.Job.{Job}
-use Rattle.crew.specs.declared.reply.Reply.{Reply}
-use Rattle.crew.specs.declared.reply.Reply.TheVariants.{Answer, StartRefused, EndRefused}
-use Rattle.crew.specs.declared.event.CrewEvent.TheVariants.{Started, Ended}
-use Rattle.crew.specs.Events.{Account, Fate, Unstarted, Running, Replied, fate_of, ended_by, busy, IsSomeBusy, failure_of}
+use Rattle.crew_trait.specs.declared.reply.Reply.{Reply}
+use Rattle.crew_trait.specs.declared.reply.Reply.TheVariants.{Answer, StartRefused, EndRefused}
+use Rattle.crew_trait.specs.declared.event.CrewEvent.TheVariants.{Started, Ended}
+use Rattle.crew_trait.specs.Events.{Account, Fate, Unstarted, Running, Replied, fate_of, ended_by, busy, IsSomeBusy, failure_of}
 use Rattle.proberun.specs.Serving.{Serving, HasHeld, HeldBelow, Tracks, is_held, open_count, failed_count, MayWait}
 use Rattle.proberun.specs.Starts.{Fills}
 use Rattle.proberun.proofs.EventLemmas.{fate-push, fate-started, fate-other, fate-ended, ended-other, busy-started, busy-started_other, busy-ended, busy-ended_other, starts-push, starts-end, flying-push, least-push, least-end, fills-start, fills-end}

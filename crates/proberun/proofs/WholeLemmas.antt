@@ -3,8 +3,8 @@ use Rattle.std.proofs.Common.{◌≡◌, ℕ, ◌+◌, ◌≤◌, List, [], ◌�
 use Rattle.std.specs.Prelude.{IsSome}
 use Rattle.std.proofs.lemmas.List.{append-nil}
 use Rattle.std.proofs.lemmas.List.Sums.{fold-append}
-use Rattle.crew.specs.declared.reply.Reply.{Reply}
-use Rattle.crew.specs.Events.{Account, IsIdle, replies_in, in_flight, flying_after}
+use Rattle.crew_trait.specs.declared.reply.Reply.{Reply}
+use Rattle.crew_trait.specs.Events.{Account, IsIdle, replies_in, in_flight, flying_after}
 use Rattle.meaning.specs.State.{State, How, Goes_on, Completed, Stopped, Cut, Run, Ends, Asks}
 use Rattle.meaning.specs.Play.{play, after, all_jobs, first_refused, whole}
 use Rattle.plan.specs.Walk.{empty_mind, Instruction, walk}

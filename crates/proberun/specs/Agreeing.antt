@@ -1,7 +1,7 @@
 -- Two runs of one plan, over crews with the same replies.
 use Rattle.std.specs.Prelude.{◌≡◌, ℕ, List, [], ◌∷◌, length}
-use Rattle.crew.specs.declared.reply.Reply.{Reply}
-use Rattle.crew.specs.Events.{Account, replies_in}
+use Rattle.crew_trait.specs.declared.reply.Reply.{Reply}
+use Rattle.crew_trait.specs.Events.{Account, replies_in}
 use Rattle.meaning.specs.State.{Run}
 use Rattle.meaning.specs.Play.{all_jobs}
 use Rattle.machine.specs.declared.machine.RunEnd.{RunEnd}

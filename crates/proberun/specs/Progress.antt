@@ -2,9 +2,9 @@
 use Rattle.plan.specs.Walk.{empty_mind}
 use Rattle.std.specs.Prelude.{◌≡◌, ℕ, ◌+◌, List, [], ◌++◌, length, fold, None, IfSome}
 use Rattle.conftest.specs.declared.job.Job.{Job}
-use Rattle.crew.specs.declared.reply.Reply.{Reply}
-use Rattle.crew.specs.declared.event.CrewEvent.{CrewEvent}
-use Rattle.crew.specs.Events.{Account, IsIdle, replies_in, flying_after}
+use Rattle.crew_trait.specs.declared.reply.Reply.{Reply}
+use Rattle.crew_trait.specs.declared.event.CrewEvent.{CrewEvent}
+use Rattle.crew_trait.specs.Events.{Account, IsIdle, replies_in, flying_after}
 use Rattle.meaning.specs.State.{Run, State}
 use Rattle.meaning.specs.Play.{play, after, all_jobs, first_refused}
 use Rattle.machine.specs.declared.machine.Phase.{Phase}

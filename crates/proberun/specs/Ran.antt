@@ -1,8 +1,8 @@
 -- A whole run over a crew.
 use Rattle.std.specs.Prelude.{◌≡◌, ℕ, ◌+◌, List, ◌++◌, length, Option, Some, None}
 use Rattle.conftest.specs.declared.job.Job.{Job}
-use Rattle.crew.specs.declared.event.CrewEvent.{CrewEvent}
-use Rattle.crew.specs.Events.{Account, replies_in}
+use Rattle.crew_trait.specs.declared.event.CrewEvent.{CrewEvent}
+use Rattle.crew_trait.specs.Events.{Account, replies_in}
 use Rattle.meaning.specs.State.{State, How, Goes_on, Completed, Stopped, Cut, Run}
 use Rattle.meaning.specs.Play.{play, all_jobs, first_refused}
 use Rattle.machine.specs.declared.machine.Outcome.{Outcome}

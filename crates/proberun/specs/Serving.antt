@@ -1,10 +1,10 @@
 -- The jobs of a group while they are run.
 use Rattle.std.specs.Prelude.{◌≡◌, ℕ, ◌∷◌, ◌+◌, ◌<◌, ◌≤◌, ◌⊎◌, Bool, true, false, List, [], ◌++◌, length, fold, Option, Some, None, map, slice_get}
 use Rattle.conftest.specs.declared.job.Job.{Job}
-use Rattle.crew.specs.declared.reply.Reply.{Reply}
-use Rattle.crew.specs.declared.reply.Reply.TheVariants.{StartRefused}
-use Rattle.crew.specs.declared.event.CrewEvent.{CrewEvent}
-use Rattle.crew.specs.Events.{Account, Fate, Unstarted, Running, Replied, fate_of, busy, IsIdle, replies_in, flying_after, failure_of}
+use Rattle.crew_trait.specs.declared.reply.Reply.{Reply}
+use Rattle.crew_trait.specs.declared.reply.Reply.TheVariants.{StartRefused}
+use Rattle.crew_trait.specs.declared.event.CrewEvent.{CrewEvent}
+use Rattle.crew_trait.specs.Events.{Account, Fate, Unstarted, Running, Replied, fate_of, busy, IsIdle, replies_in, flying_after, failure_of}
 use Rattle.proberun.specs.Starts.{StartsAre, TakesLeast, Fills}
 
 -- The slot holds a job. (own)

@@ -1,10 +1,10 @@
 -- The starts and the ends of a run, in its events.
 use Rattle.std.specs.Prelude.{◌≡◌, ℕ, ◌+◌, ◌-◌, ◌<◌, ◌≤◌, ◌⊎◌, true, List, [], ◌∷◌, ◌++◌, length, Some, slice_get}
 use Rattle.conftest.specs.declared.job.Job.{Job}
-use Rattle.crew.specs.declared.reply.Reply.{Reply}
-use Rattle.crew.specs.declared.event.CrewEvent.{CrewEvent}
-use Rattle.crew.specs.declared.event.CrewEvent.TheVariants.{Started, Ended}
-use Rattle.crew.specs.Events.{busy, failure_of}
+use Rattle.crew_trait.specs.declared.reply.Reply.{Reply}
+use Rattle.crew_trait.specs.declared.event.CrewEvent.{CrewEvent}
+use Rattle.crew_trait.specs.declared.event.CrewEvent.TheVariants.{Started, Ended}
+use Rattle.crew_trait.specs.Events.{busy, failure_of}
 
 -- The n-th start after the first `base`, if it succeeds, has the n-th of these jobs. (own)
 abbrev pub StartsAre : List Job → ℕ → List CrewEvent → Type 0

@@ -1,7 +1,7 @@
 //! A whole run.
 
 ghost use Rattle.std.specs.Prelude.{◌≡◌, ◌+◌, ◌^◌, ◌≤◌, IfOk, IsSome, OnErr, OnOk, length};
-ghost use Rattle.crew.specs.Events.{IsIdle, in_flight};
+ghost use Rattle.crew_trait.specs.Events.{IsIdle, in_flight};
 ghost use Rattle.machine.specs.Standing.{outcome_of};
 ghost use Rattle.machine.specs.declared.machine.RunEnd.{RunEnd};
 ghost use Rattle.meaning.specs.Play.{whole};
@@ -15,7 +15,7 @@ ghost use Rattle.proberun.specs.Serving.{AllFree};
 use crate::queue::Queue;
 use crate::serving::serve;
 use crate::slots::free_slots;
-use crew::Crew;
+use crew_trait::Crew;
 use deftable::Vars;
 use machine::{Machine, RunEnd, Turn};
 use plan::Plan;

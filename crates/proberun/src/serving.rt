@@ -1,13 +1,13 @@
 //! The jobs of one group, run in slots.
 
 ghost use Rattle.std.specs.Prelude.{◌≡◌, ℕ, ◌+◌, ◌^◌, ◌<◌, ◌≤◌, ◌⊎◌, [], ◌∷◌, length, Some, None, IfSome, IfNone, slice_get, replicate};
-ghost use Rattle.crew.specs.Events.{Account, IsIdle};
+ghost use Rattle.crew_trait.specs.Events.{Account, IsIdle};
 ghost use Rattle.proberun.specs.Serving.{Serving, Served, HasHeld, HeldBelow, AllHeld, AllFree, MayWait, open_count};
 
 use crate::queue::Queue;
 use crate::slots::{free_slot, is_idle};
 use conftest::Job;
-use crew::{Crew, Reply};
+use crew_trait::{Crew, Reply};
 use machine::Machine;
 
 // Returns a free slot and the next job, if there are both.

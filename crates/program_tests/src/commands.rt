@@ -1,7 +1,7 @@
 //! Calls of the program over a crew.
 
 ghost use Rattle.std.specs.Prelude.{◌≡◌, ◌+◌, ◌^◌, ◌≤◌};
-ghost use Rattle.crew.specs.Events.{IsIdle};
+ghost use Rattle.crew_trait.specs.Events.{IsIdle};
 
 use crate::given::{add_words, env_of, replies_of};
 use crew::{Crew, MemoryCrew, Order, ProcessCrew};

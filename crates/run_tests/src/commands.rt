@@ -3,7 +3,7 @@
 
 ghost use Rattle.std.specs.Prelude.{◌+◌, ◌^◌, ◌≤◌};
 ghost use Rattle.std.specs.Io.{WritesAtMost};
-ghost use Rattle.crew.specs.Events.{IsIdle};
+ghost use Rattle.crew_trait.specs.Events.{IsIdle};
 
 use crate::crews::{Work, job_of, put_real_children};
 use crate::streams::{Sheet, pipe_of};

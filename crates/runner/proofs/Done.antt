@@ -5,7 +5,7 @@ use Rattle.std.proofs.lemmas.List.{append-nil}
 use Rattle.acparse.specs.Profile.{source_of}
 use Rattle.acstatement.specs.declared.fault.ParseFault.{ParseFault}
 use Rattle.commandline.specs.declared.fault.OptionFault.{OptionFault}
-use Rattle.crew.specs.Events.{Account}
+use Rattle.crew_trait.specs.Events.{Account}
 use Rattle.diskfiles.specs.Lines.{AreLines, none}
 use Rattle.engine.specs.Configured.{IsAnswer, IsNotRun, IfStarts, IfReport, IsMeant, things}
 use Rattle.engine.specs.Faults.{◌>>=◌, named, wants, of_parse, of_option}

@@ -4,7 +4,7 @@ use Rattle.acstatement.specs.declared.fault.ParseFault.{ParseFault}
 use Rattle.acparse.specs.Profile.{source_of}
 use Rattle.cfglog.specs.Texts.{messages_of}
 use Rattle.commandline.specs.declared.fault.OptionFault.{OptionFault}
-use Rattle.crew.specs.Events.{Account}
+use Rattle.crew_trait.specs.Events.{Account}
 use Rattle.deftable.specs.declared.note.Note.{Note}
 use Rattle.deftable.specs.declared.note.Stream.TheVariants.{Out}
 use Rattle.diskfiles.specs.Lines.{AreLines}

@@ -2,7 +2,7 @@
 
 ghost use Rattle.std.specs.Prelude.{◌≡◌, ◌≢◌, ◌+◌, ◌^◌, ◌≤◌, ◌⊎◌, ℕ, List, None, true, Ok, IfOk, IsTrue, option_map};
 ghost use Rattle.std.specs.Io.KnownBytes.{Appends};
-ghost use Rattle.crew.specs.Events.{IsIdle};
+ghost use Rattle.crew_trait.specs.Events.{IsIdle};
 ghost use Rattle.engine.specs.declared.report.Report.{Report};
 ghost use Rattle.filtering.specs.Handed as words;
 ghost use Rattle.runner.specs.Configures.{IsConfigured, printed, quiet_in};
@@ -10,7 +10,7 @@ ghost use Rattle.runner.specs.Configures.{IsConfigured, printed, quiet_in};
 use crate::printing::{print_lines, print_pieces, write_log};
 use crate::supplies::{Supplies, read_supplies};
 use crate::telling::{FAULT, tell_file, tell_memory, tell_put, tell_run};
-use crew::Crew;
+use crew_trait::Crew;
 use deftable::Bytes;
 use diskfiles::{FileOutputs, path_in, read_text};
 use engine::{Fault, Outcome, Report, configure};

@@ -6,7 +6,7 @@ ghost use Rattle.cfglog.specs.Texts.{messages_of, shown};
 ghost use Rattle.deftable.specs.declared.note.Stream.TheVariants as streams;
 
 use cfglog::log_text;
-use crew::Entry;
+use crew_trait::Entry;
 use deftable::{Note, Stream};
 use std::alloc::Global;
 use std::fs;

@@ -2,7 +2,7 @@
 
 ghost use Rattle.std.specs.Prelude.{◌≡◌, ◌≢◌, ◌⊎◌, ◌+◌, ◌^◌, ◌≤◌, ℕ, List, [], IfSome};
 ghost use Rattle.std.specs.Io.KnownBytes.{Appends};
-ghost use Rattle.crew.specs.Events.{IsIdle};
+ghost use Rattle.crew_trait.specs.Events.{IsIdle};
 ghost use Rattle.filtering.specs.Filtered.{IsFiltered};
 ghost use Rattle.runner.specs.Calls.{call_of, Unknown, IfFilter, IfStandIn, IfConfigure, IfStatus, HasNoRun, HasNoOutput};
 ghost use Rattle.runner.specs.Configures.{IsConfigured, IsMadeAgain};
@@ -12,7 +12,7 @@ use crate::call::{Call, call_of};
 use crate::configuring::run_configure;
 use crate::remaking::run_status;
 use crate::telling::{tell, tell_memory, tell_usage};
-use crew::Crew;
+use crew_trait::Crew;
 use deftable::Bytes;
 use filtering::{Filtered, filter};
 use standin::standin;

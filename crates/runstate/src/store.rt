@@ -13,7 +13,7 @@ ghost use Rattle.conftest.specs.Probe.{job_of};
 ghost use Rattle.runstate.specs.Copies.{Copied};
 
 use conftest::{Job, JobFault, compile_job, link_job, preproc_job};
-use crew::{Entry, Log, Reply};
+use crew_trait::{Entry, Log, Reply};
 use csource::program_source;
 use deftable::{Bytes, Defs, Note, Notes, Stream, Vars};
 use shellword::{HereText, Test, Word};

@@ -3,7 +3,7 @@ use Rattle.std.proofs.Common.{◌≡◌, ℕ, zero, suc, ◌+◌, ◌-◌, ◌�
 use Rattle.std.proofs.lemmas.List.{length-map, take-map}
 use Rattle.std.specs.declared.alloc.AllocError.{AllocError}
 use Rattle.conftest.specs.declared.job.Job.{Job}
-use Rattle.crew.specs.declared.reply.Reply.{Reply}
+use Rattle.crew_trait.specs.declared.reply.Reply.{Reply}
 use Rattle.textcut.specs.Cuts.{parts}
 use Rattle.meaning.specs.State.{State, Scope, Run}
 use Rattle.plan.specs.Walk.{Mind, minded}

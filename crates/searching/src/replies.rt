@@ -5,7 +5,7 @@ ghost use Rattle.meaning.specs.Asking.{success};
 ghost use Rattle.searching.specs.Waits.{with_asked};
 
 use conftest::Job;
-use crew::Reply;
+use crew_trait::Reply;
 use runstate::Store;
 use std::alloc::AllocError;
 

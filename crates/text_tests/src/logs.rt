@@ -2,7 +2,7 @@
 
 use cfglog::{log_text, messages_text};
 use conftest::{Job, Words};
-use crew::{Entry, Log, Reply};
+use crew_trait::{Entry, Log, Reply};
 use deftable::{Bytes, Note, Notes, Stream};
 use std::alloc::{AllocError, Global};
 use std::test::Fail;

@@ -6,10 +6,10 @@ use Rattle.std.proofs.lemmas.Bool.Decides.{nat_tests}
 use Rattle.std.proofs.lemmas.List.{length_push}
 use Rattle.std.proofs.lemmas.List.Sums.{fold-append}
 use Rattle.conftest.specs.declared.job.Job.{Job}
-use Rattle.crew.specs.declared.reply.Reply.{Reply}
-use Rattle.crew.specs.declared.event.CrewEvent.{CrewEvent}
-use Rattle.crew.specs.declared.event.CrewEvent.TheVariants.{Started, Ended}
-use Rattle.crew.specs.Events.{Account, busy, IsIdle}
+use Rattle.crew_trait.specs.declared.reply.Reply.{Reply}
+use Rattle.crew_trait.specs.declared.event.CrewEvent.{CrewEvent}
+use Rattle.crew_trait.specs.declared.event.CrewEvent.TheVariants.{Started, Ended}
+use Rattle.crew_trait.specs.Events.{Account, busy, IsIdle}
 use Rattle.crew.specs.Sound.{times}
 use Rattle.crew.proofs.SlotLemmas.{lists_none, lists_start, lists_end}
 use Rattle.watching.specs.Progress.{started_after, ended_after, command_after, started_in, ended_in, command_in, command_of, line_of, text_of, text_after, erasure}

@@ -1,7 +1,7 @@
 -- The line of progress, and what is written after a list of events (own).
 use Rattle.std.specs.Prelude.{ℕ, ◌+◌, ◌==◌, ◌&&◌, nat_le, List, [], ◌∷◌, ◌++◌, codes, decimal, flat_map, fold, map, take, if◌then◌else◌}
-use Rattle.crew.specs.declared.event.CrewEvent.{CrewEvent}
-use Rattle.crew.specs.declared.event.CrewEvent.TheVariants.{Started, Ended}
+use Rattle.crew_trait.specs.declared.event.CrewEvent.{CrewEvent}
+use Rattle.crew_trait.specs.declared.event.CrewEvent.TheVariants.{Started, Ended}
 
 -- The byte if it is printable ASCII, and `?` otherwise. (own)
 abbrev pub printable : ℕ → ℕ

@@ -1,6 +1,6 @@
 -- What contracts see of a watched crew (own).
 use Rattle.std.specs.Prelude.{◌≡◌, ℕ, ◌+◌, ◌≤◌, Bool, List, length}
-use Rattle.crew.specs.Events.{Account}
+use Rattle.crew_trait.specs.Events.{Account}
 use Rattle.crew.specs.Sound.{ListsBusy}
 use Rattle.watching.specs.Progress.{started_in, ended_in, command_in}
 

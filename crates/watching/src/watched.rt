@@ -2,8 +2,8 @@
 
 ghost use Rattle.std.specs.Prelude.{◌≡◌, ◌≢◌, ◌+◌, ◌^◌, ◌<◌, [], ◌∷◌, ◌++◌, false, true, IsTrue, OnOk, OnErr};
 ghost use Rattle.std.specs.Io.KnownBytes.{Appends};
-ghost use Rattle.crew.specs.Events.{busy, IsSomeBusy, IsIdle, failure_of};
-ghost use Rattle.crew.specs.declared.event.CrewEvent.TheVariants.{Started, Ended};
+ghost use Rattle.crew_trait.specs.Events.{busy, IsSomeBusy, IsIdle, failure_of};
+ghost use Rattle.crew_trait.specs.declared.event.CrewEvent.TheVariants.{Started, Ended};
 ghost use Rattle.watching.specs.Progress.{text_after, erasure};
 
 use crate::line::{Line, Text, command_of, text_of};

@@ -1,6 +1,6 @@
 use Rattle.std.proofs.Common.{◌+◌, ap, sym, subst, arith}
 use Rattle.std.proofs.lemmas.Option.{slice_get_within}
-use Rattle.crew.specs.declared.reply.Reply.TheVariants.{StartRefused}
+use Rattle.crew_trait.specs.declared.reply.Reply.TheVariants.{StartRefused}
 use Rattle.proberun.specs.Serving.{Serving, open_count}
 use Rattle.proberun.proofs.ServingLemmas.{serve_start, serve_refused, awaits_start, open_count-set}
 use Rattle.proberun.proofs.serving.start_one.Goals as goal

@@ -1,5 +1,5 @@
 use Rattle.std.proofs.Common.{◌≡◌, ℕ, ◌+◌, ◌≤◌, false}
-use Rattle.crew.specs.Events.{busy}
+use Rattle.crew_trait.specs.Events.{busy}
 use Rattle.run_tests.proofs.FlightLemmas.{Flies}
 use Rattle.run_tests.proofs.crews.put_ends.Given as goal
 

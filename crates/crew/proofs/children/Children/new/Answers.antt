@@ -1,5 +1,5 @@
 use Rattle.std.proofs.Common.{sym, ap, ◌∙◌, length, arith}
-use Rattle.crew.specs.Events.{slots_in_flight}
+use Rattle.crew_trait.specs.Events.{slots_in_flight}
 use Rattle.crew.proofs.ChildLemmas.{runs_none}
 use Rattle.crew.proofs.SlotLemmas.{lists_none, below_none}
 use Rattle.crew.proofs.children.Children.new.Goals as goal

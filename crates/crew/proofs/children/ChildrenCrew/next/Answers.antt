@@ -1,5 +1,5 @@
 use Rattle.std.proofs.Common.{◌≡◌, ◌+◌, ◌≤◌, ◌∷◌, length, vec_capacity, ap, sym, ◌∙◌, arith, length-append}
-use Rattle.crew.specs.Events.{busy, slots_in_flight}
+use Rattle.crew_trait.specs.Events.{busy, slots_in_flight}
 use Rattle.crew.specs.Sound.{ListsBusy}
 use Rattle.crew.proofs.ChildLemmas.{runs_ended}
 use Rattle.crew.proofs.SlotLemmas.{lists_first, first_busy, slots_end}

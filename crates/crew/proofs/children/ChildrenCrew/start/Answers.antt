@@ -1,6 +1,6 @@
 use Rattle.std.proofs.Common.{◌≡◌, ◌+◌, ◌≤◌, ◌<◌, length, vec_capacity, refl, ap, sym, ◌∙◌, subst, arith, length-append}
 use Rattle.std.specs.Prelude.{All}
-use Rattle.crew.specs.Events.{busy, slots_in_flight}
+use Rattle.crew_trait.specs.Events.{busy, slots_in_flight}
 use Rattle.crew.specs.Sound.{ListsBusy}
 use Rattle.crew.proofs.ScriptLemmas.{moved}
 use Rattle.crew.proofs.ChildLemmas.{lists_same, runs_refused, runs_started}

@@ -1,8 +1,8 @@
 use Rattle.std.proofs.Common.{◌≡◌, ◌+◌, [], ◌∷◌, ◌++◌, Some, true, sym, ap, ◌∙◌, subst, arith}
-use Rattle.crew.specs.declared.event.CrewEvent.TheVariants.{Ended}
+use Rattle.crew_trait.specs.declared.event.CrewEvent.TheVariants.{Ended}
 use Rattle.crew.specs.declared.fused.FuseKind.TheVariants.{End}
-use Rattle.crew.specs.declared.reply.Reply.TheVariants.{EndRefused}
-use Rattle.crew.specs.Events.{IsSomeBusy, busy}
+use Rattle.crew_trait.specs.declared.reply.Reply.TheVariants.{EndRefused}
+use Rattle.crew_trait.specs.Events.{IsSomeBusy, busy}
 use Rattle.crew.specs.Fused.{counted, is_due, IsCounted, IsSpent, account_of}
 use Rattle.crew.proofs.FusedLemmas.{busy_over, counted_ended, counted_more, end_events, end_failures, some_over, spent_counted, spent_due}
 use Rattle.crew.proofs.fused.FusedCrew.next.Goals as goal

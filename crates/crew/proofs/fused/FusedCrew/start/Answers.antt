@@ -1,5 +1,5 @@
 use Rattle.std.proofs.Common.{◌≡◌, ◌^◌, ◌<◌, false, sym, ap, ◌∙◌, subst, arith}
-use Rattle.crew.specs.Events.{Account, busy}
+use Rattle.crew_trait.specs.Events.{Account, busy}
 use Rattle.crew.specs.Fused.{counted, IsCounted, IsSpent, account_of}
 use Rattle.crew.specs.declared.fused.FuseKind.TheVariants.{Start}
 use Rattle.crew.proofs.FusedLemmas.{attempts_over, busy_over, counted_started, spent_counted}

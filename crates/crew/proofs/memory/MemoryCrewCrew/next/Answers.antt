@@ -1,7 +1,7 @@
 use Rattle.std.proofs.Common.{◌≡◌, ◌+◌, ◌<◌, ◌++◌, [], ◌∷◌, length, refl, sym, ap, ◌∙◌, arith}
 use Rattle.crew.specs.declared.event.Event.TheVariants.{Ended}
 use Rattle.crew.specs.contracts.memory.MemoryCrew.{the_view}
-use Rattle.crew.specs.Events.{busy, failure_of}
+use Rattle.crew_trait.specs.Events.{busy, failure_of}
 use Rattle.crew.specs.Scripted.{after_next, ending, place}
 use Rattle.crew.proofs.ReadyLemmas.{ready_busy, ready_next, started_at}
 use Rattle.crew.proofs.ScriptLemmas.{ending_is, next_is, ended_events}

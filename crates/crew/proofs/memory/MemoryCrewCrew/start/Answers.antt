@@ -1,7 +1,7 @@
 use Rattle.std.proofs.Common.{◌++◌, [], ◌∷◌, refl, sym, ap, ◌∙◌}
 use Rattle.crew.specs.contracts.memory.MemoryCrew.{the_view}
 use Rattle.crew.specs.Child.{Child}
-use Rattle.crew.specs.Events.{busy}
+use Rattle.crew_trait.specs.Events.{busy}
 use Rattle.crew.specs.Scripted.{after_start}
 use Rattle.crew.proofs.ReadyLemmas.{ready_start}
 use Rattle.crew.proofs.ScriptLemmas.{start_past, start_refused, start_taken, not_refused}

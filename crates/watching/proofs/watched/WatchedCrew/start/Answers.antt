@@ -1,5 +1,5 @@
 use Rattle.std.proofs.Common.{ap, ◌∙◌}
-use Rattle.crew.specs.Events.{busy}
+use Rattle.crew_trait.specs.Events.{busy}
 use Rattle.watching.specs.Progress.{command_of}
 use Rattle.watching.proofs.Counts.{counted_start}
 use Rattle.watching.proofs.watched.WatchedCrew.start.Goals as goal

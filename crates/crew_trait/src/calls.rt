@@ -1,8 +1,8 @@
 //! The calls of a crew.
 
 ghost use Rattle.std.specs.Prelude.{◌≡◌, ◌≢◌, ◌+◌, ◌^◌, ◌<◌, [], ◌∷◌, ◌++◌, false, true, OnOk, OnErr};
-ghost use Rattle.crew.specs.Events.{Account, busy, IsSomeBusy, failure_of};
-ghost use Rattle.crew.specs.declared.event.CrewEvent.TheVariants.{Started, Ended};
+ghost use Rattle.crew_trait.specs.Events.{Account, busy, IsSomeBusy, failure_of};
+ghost use Rattle.crew_trait.specs.declared.event.CrewEvent.TheVariants.{Started, Ended};
 
 use crate::event::Refused;
 use crate::reply::Reply;

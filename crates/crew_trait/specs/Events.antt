@@ -1,9 +1,9 @@
 -- The meaning of a list of events.
 use Rattle.std.specs.Prelude.{◌≡◌, ℕ, zero, suc, ◌+◌, ◌-◌, ◌==◌, Bool, true, false, List, [], ◌∷◌, ◌++◌, if◌then◌else◌, fold}
-use Rattle.crew.specs.declared.reply.Reply.{Reply}
-use Rattle.crew.specs.declared.reply.Reply.TheVariants.{Answer, StartRefused, EndRefused}
-use Rattle.crew.specs.declared.event.CrewEvent.{CrewEvent}
-use Rattle.crew.specs.declared.event.CrewEvent.TheVariants.{Started, Ended}
+use Rattle.crew_trait.specs.declared.reply.Reply.{Reply}
+use Rattle.crew_trait.specs.declared.reply.Reply.TheVariants.{Answer, StartRefused, EndRefused}
+use Rattle.crew_trait.specs.declared.event.CrewEvent.{CrewEvent}
+use Rattle.crew_trait.specs.declared.event.CrewEvent.TheVariants.{Started, Ended}
 
 -- the account of a crew: its events, in order, and the numbers of attempted starts and of refused calls (own)
 pub record Account : Type 0 where

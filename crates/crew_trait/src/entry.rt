@@ -1,7 +1,7 @@
 //! The log of a run.
 
 ghost use Rattle.std.specs.Prelude.{◌≡◌, List, [], ◌∷◌, ◌++◌, OnOk, OnErr};
-ghost use Rattle.crew.specs.declared.entry.Entry.{Entry};
+ghost use Rattle.crew_trait.specs.declared.entry.Entry.{Entry};
 
 use crate::reply::Reply;
 use conftest::Job;
@@ -32,8 +32,8 @@ impl Drop for Log {
 impl Model for Log {
     ghost use Rattle.std.specs.Prelude.{List};
     ghost use Rattle.std.specs.Coded.{codes};
-    ghost use Rattle.crew.specs.declared.entry.Entry.{Entry};
-    ghost use Rattle.crew.specs.contracts.entry.Entry as entry;
+    ghost use Rattle.crew_trait.specs.declared.entry.Entry.{Entry};
+    ghost use Rattle.crew_trait.specs.contracts.entry.Entry as entry;
 
     ghost Value = { List Entry };
 
