@@ -6,7 +6,7 @@ use Rattle.meaning.specs.State.{opened}
 use Rattle.proberun.specs.Agreeing.{RunsAgree}
 use Rattle.engine.specs.Agreeing.{ConfiguresAgree}
 use Rattle.engine.specs.Configured.{report_of, things}
-use Rattle.engine.specs.declared.report.Report.{Report}
+use Rattle.framing.specs.declared.report.Report.{Report}
 
 pub configures_agree : RunsAgree → ConfiguresAgree
 configures_agree law script start window other_window before now other_before other_now report other_report one other g =

@@ -1,4 +1,2 @@
-mod Versions
 pub mod Wholes
-pub mod Remakes
 mod Agreements

@@ -8,17 +8,17 @@ use Rattle.options.specs.declared.settings.Settings.{Settings}
 use Rattle.plan.specs.Weight.{heaviest, weight}
 use Rattle.plan.specs.declared.fault.PlanFault.TheVariants.{TooLong}
 use Rattle.syntax.specs.Script.{Script}
-use Rattle.engine.specs.Faults.{Fails, ◌>>=◌, named, wants, of_parse}
-use Rattle.engine.specs.Given.{Accepted, Shows, Starts, judged, accepted, seen}
+use Rattle.framing.specs.Faults.{Fails, ◌>>=◌, named, wants, of_parse}
+use Rattle.framing.specs.Given.{Accepted, Shows, Starts, judged, accepted, seen}
 use Rattle.engine.specs.Configured.{IsWhole, refused, memory, shown, ran, IsAnswer, IsNotRun, IfStarts, IfReport, IfPutRefused, IsMeant, IsDone, IsCut, HasReport, things, record_after}
-use Rattle.engine.specs.Handing.{IfCompleted, ReadsBack}
-use Rattle.engine.specs.Shown.{shown_report}
-use Rattle.engine.specs.declared.accepting.Start.{Start}
-use Rattle.engine.specs.declared.accepting.Found.{Found}
-use Rattle.engine.specs.declared.accepting.Found.TheVariants as founds
-use Rattle.engine.specs.declared.fault.Fault.{Fault}
-use Rattle.engine.specs.declared.fault.Fault.TheVariants.{Plan, OutOfMemory, PutRefused}
-use Rattle.engine.specs.declared.report.Report.{Report}
+use Rattle.framing.specs.Handing.{IfCompleted, ReadsBack}
+use Rattle.framing.specs.Shown.{shown_report}
+use Rattle.framing.specs.declared.accepting.Start.{Start}
+use Rattle.framing.specs.declared.accepting.Found.{Found}
+use Rattle.framing.specs.declared.accepting.Found.TheVariants as founds
+use Rattle.framing.specs.declared.fault.Fault.{Fault}
+use Rattle.framing.specs.declared.fault.Fault.TheVariants.{Plan, OutOfMemory, PutRefused}
+use Rattle.framing.specs.declared.report.Report.{Report}
 
 -- ---- what is judged, from its parts
 

@@ -5,8 +5,8 @@ use Rattle.meaning.specs.Play.{all_jobs}
 use Rattle.proberun.specs.Agreeing.{Agree}
 use Rattle.syntax.specs.Script.{Script}
 use Rattle.engine.specs.Configured.{IsMeant, things}
-use Rattle.engine.specs.declared.accepting.Start.{Start}
-use Rattle.engine.specs.declared.report.Report.{Report}
+use Rattle.framing.specs.declared.accepting.Start.{Start}
+use Rattle.framing.specs.declared.report.Report.{Report}
 
 -- Two runs of one source from one opening, whose n-th replies are the same for every n that both have, ask for the same groups of
 -- jobs, have the same report but for how much was handed over, and hand over the same, whatever their windows and the orders in

@@ -11,14 +11,15 @@ use Rattle.outputs.specs.declared.thing.Thing.{Thing}
 use Rattle.proberun.specs.Ran.{Ran}
 use Rattle.status_record.specs.declared.record.Record.{Record}
 use Rattle.syntax.specs.Script.{Script}
-use Rattle.engine.specs.Given.{Accepted, Shows, Starts}
-use Rattle.engine.specs.Handing.{things_of, run_record, IfCompleted, ReadsBack}
-use Rattle.engine.specs.Shown.{shown_report}
-use Rattle.engine.specs.Told.{outcome_of, entries_of}
-use Rattle.engine.specs.declared.accepting.Start.{Start}
-use Rattle.engine.specs.declared.fault.Fault.{Fault}
-use Rattle.engine.specs.declared.fault.Fault.TheVariants.{PutRefused, OutOfMemory}
-use Rattle.engine.specs.declared.report.Report.{Report}
+use Rattle.framing.specs.Given.{Accepted, Shows, Starts}
+use Rattle.framing.specs.Handing.{things_of, run_record, IfCompleted, ReadsBack}
+use Rattle.framing.specs.Shown.{shown_report}
+use Rattle.framing.specs.Told.{entries_of}
+use Rattle.engine.specs.Told.{outcome_of}
+use Rattle.framing.specs.declared.accepting.Start.{Start}
+use Rattle.framing.specs.declared.fault.Fault.{Fault}
+use Rattle.framing.specs.declared.fault.Fault.TheVariants.{PutRefused, OutOfMemory}
+use Rattle.framing.specs.declared.report.Report.{Report}
 
 -- The report of a run that leaves this, of which so many things were handed over: its pieces follow those of its opening.
 -- (own)

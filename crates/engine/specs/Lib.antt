@@ -1,8 +1,3 @@
 pub mod Told
-pub mod Faults
-pub mod Shown
-pub mod Given
-pub mod Handing
 pub mod Configured
-pub mod Remade
 pub mod Agreeing

@@ -7,19 +7,17 @@ ghost use Rattle.outputs.specs.Receipt.{with_things};
 ghost use Rattle.plan.specs.Walk.{DoesWhat};
 ghost use Rattle.syntax.specs.Lists.{lists_of};
 ghost use Rattle.syntax.specs.Script.{script_of};
-ghost use Rattle.engine.specs.Given.{judged};
-ghost use Rattle.engine.specs.Handing.{IfCompleted, ReadsBack};
+ghost use Rattle.framing.specs.Given.{judged};
+ghost use Rattle.framing.specs.Handing.{IfCompleted, ReadsBack};
 ghost use Rattle.engine.specs.Configured.{IfStarts, IsNotRun, IfReport, IfPutRefused, IsAnswer, IsDone, IsWhole, IsRefusedPut, IsMeant, IsCut, things, record_after};
-ghost use Rattle.engine.specs.declared.fault.Fault.TheVariants.{OutOfMemory};
+ghost use Rattle.framing.specs.declared.fault.Fault.TheVariants.{OutOfMemory};
 
-use crate::accepting::{Found, Start, accepted, parsed, planned};
-use crate::fault::Fault;
-use crate::handing::things_of;
-use crate::noting::{joined, with_notes};
-use crate::report::{Report, outcome_of};
-use crate::shown::shown;
+use crate::outcome::outcome_of;
 use crew_trait::Crew;
 use deftable::Bytes;
+use framing::{
+    Fault, Found, Report, Start, accepted, joined, parsed, planned, shown, things_of, with_notes,
+};
 use outputs::{Outputs, Things, put_all};
 use plan::Plan;
 use proberun::run;
@@ -63,6 +61,7 @@ fn run_ready<C: Crew>(
         notes,
     } = start;
     let end = run(alloc, plan, vars, crew, window)?;
+    let outcome = outcome_of(end.outcome);
     let things = things_of(
         alloc,
         source,
@@ -70,7 +69,7 @@ fn run_ready<C: Crew>(
         srcdir.as_slice(),
         no_create,
         templates,
-        end.outcome,
+        outcome,
         &end.vars,
         &end.defs,
     )?;
@@ -78,7 +77,7 @@ fn run_ready<C: Crew>(
     let log = with_notes(alloc, &notes, end.log)?;
     let handed = things.as_slice().len() as u64;
     let report = Report {
-        outcome: outcome_of(end.outcome),
+        outcome,
         vars: end.vars,
         defs: end.defs,
         messages,

@@ -4,24 +4,15 @@
 //! files and headers again from the record of such a run. What a run is given is a value, and what it hands over is put to
 //! [`Outputs`], so nothing here opens a file.
 //!
-//! In `specs`, read `Given` (what is accepted), `Handing` (what is handed over), `Configured` (both together), `Agreeing` (two runs
-//! under the same replies) and `Remade`. `Shown`, `Told` and `Faults` are small. In `src`, read `accepting`, `handing`, `configuring`
-//! and `remaking`; `agreeing` has a law.
+//! What comes before and after the run is in the crate `framing`, which has [`remake`] too. In `specs`, read `Configured` (the
+//! whole) and `Agreeing` (two runs under the same replies); `Told` is small. In `src`, read `configuring`; `agreeing` has a law.
 #![tactic(auto)]
 
-mod accepting;
 mod agreeing;
 mod configuring;
-mod fault;
-mod handing;
-mod noting;
-mod remaking;
-mod report;
-mod shown;
+mod outcome;
 
 pub use agreeing::configures_agree;
 pub use configuring::configure;
-pub use fault::{Fault, RemakeFault};
+pub use framing::{Fault, Outcome, RemakeFault, Report, remake, status_of};
 pub use outputs::{Kind, MemoryOutputs, Outputs, PutRefused, Thing};
-pub use remaking::remake;
-pub use report::{Outcome, Report};

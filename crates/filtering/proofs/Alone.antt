@@ -5,11 +5,11 @@ use Rattle.std.specs.Prelude.{◌==◌, IfOk, IfErr, IsErrAnd, replicate}
 use Rattle.crew_trait.specs.Events.{Account, replies_in}
 use Rattle.crew_trait.specs.declared.reply.Reply.TheVariants.{StartRefused}
 use Rattle.engine.specs.Configured.{IfReport, IfStarts, IsAnswer, IsMeant, things}
-use Rattle.engine.specs.Given.{Accepted, Shows, Starts}
-use Rattle.engine.specs.declared.accepting.Start.{Start}
-use Rattle.engine.specs.declared.fault.Fault.{Fault}
-use Rattle.engine.specs.declared.fault.Fault.TheVariants as faults
-use Rattle.engine.specs.declared.report.Report.{Report}
+use Rattle.framing.specs.Given.{Accepted, Shows, Starts}
+use Rattle.framing.specs.declared.accepting.Start.{Start}
+use Rattle.framing.specs.declared.fault.Fault.{Fault}
+use Rattle.framing.specs.declared.fault.Fault.TheVariants as faults
+use Rattle.framing.specs.declared.report.Report.{Report}
 use Rattle.machine.specs.declared.machine.RunEnd.{RunEnd}
 use Rattle.meaning.specs.Play.{play, all_jobs, first_refused}
 use Rattle.meaning.specs.State.{Run}

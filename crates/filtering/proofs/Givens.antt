@@ -4,12 +4,12 @@ use Rattle.std.specs.Prelude.{IfOk, IfErr, nat_le}
 use Rattle.acparse.specs.Profile.{source_of}
 use Rattle.commandline.specs.Arguments.{given}
 use Rattle.engine.specs.Configured.{things}
-use Rattle.engine.specs.Faults.{◌>>=◌, named, of_parse, wants}
-use Rattle.engine.specs.Given.{Accepted, Starts, accepted, judged, started}
-use Rattle.engine.specs.declared.accepting.Start.{Start}
-use Rattle.engine.specs.declared.fault.Fault.{Fault}
-use Rattle.engine.specs.declared.fault.Fault.TheVariants.{Plan}
-use Rattle.engine.specs.declared.report.Report.{Report}
+use Rattle.framing.specs.Faults.{◌>>=◌, named, of_parse, wants}
+use Rattle.framing.specs.Given.{Accepted, Starts, accepted, judged, started}
+use Rattle.framing.specs.declared.accepting.Start.{Start}
+use Rattle.framing.specs.declared.fault.Fault.{Fault}
+use Rattle.framing.specs.declared.fault.Fault.TheVariants.{Plan}
+use Rattle.framing.specs.declared.report.Report.{Report}
 use Rattle.options.specs.Opening.{opened_by, opening, run_settings, set_by, setters}
 use Rattle.options.specs.Unrecognized.{notes_of}
 use Rattle.options.specs.declared.settings.Settings.{Settings}

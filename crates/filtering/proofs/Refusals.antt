@@ -6,9 +6,9 @@ use Rattle.acstatement.specs.declared.fault.ParseFault.TheVariants as parse_faul
 use Rattle.acstatement.specs.Reading.{Fails}
 use Rattle.acparse.specs.Profile.{source_of}
 use Rattle.acparse.specs.Source.{IsSource, IsSourceFault}
-use Rattle.engine.specs.Faults.{of_parse}
-use Rattle.engine.specs.Given.{Accepted}
-use Rattle.engine.specs.declared.fault.Fault.{Fault}
+use Rattle.framing.specs.Faults.{of_parse}
+use Rattle.framing.specs.Given.{Accepted}
+use Rattle.framing.specs.declared.fault.Fault.{Fault}
 use Rattle.input.specs.Parted.{IsParted}
 use Rattle.input.specs.declared.fault.ReadFault.{ReadFault}
 use Rattle.input.specs.declared.fault.ReadFault.TheVariants as reads

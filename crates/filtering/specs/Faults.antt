@@ -1,6 +1,6 @@
 -- The faults of a run, as those of the filter.
-use Rattle.engine.specs.declared.fault.Fault as run
-use Rattle.engine.specs.declared.fault.Fault.TheVariants as runs
+use Rattle.framing.specs.declared.fault.Fault as run
+use Rattle.framing.specs.declared.fault.Fault.TheVariants as runs
 use Rattle.filtering.specs.declared.fault.FilterFault.{FilterFault}
 use Rattle.filtering.specs.declared.fault.FilterFault.TheVariants.{Run, OutOfMemory}
 

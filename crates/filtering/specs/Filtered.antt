@@ -7,13 +7,14 @@ use Rattle.acparse.specs.Source.{IsSource, IsSourceFault}
 use Rattle.cfglog.specs.Texts.{messages_of}
 use Rattle.deftable.specs.declared.note.Stream.TheVariants as streams
 use Rattle.engine.specs.Configured.{things}
-use Rattle.engine.specs.Given.{Starts}
-use Rattle.engine.specs.declared.accepting.Start.{Start}
-use Rattle.engine.specs.declared.fault.Fault.TheVariants.{Parse}
-use Rattle.engine.specs.declared.report.Report.{Report}
+use Rattle.framing.specs.Given.{Starts}
+use Rattle.framing.specs.Told.{status_of}
+use Rattle.framing.specs.declared.accepting.Start.{Start}
+use Rattle.framing.specs.declared.fault.Fault.TheVariants.{Parse}
+use Rattle.framing.specs.declared.report.Report.{Report}
 use Rattle.input.specs.Parted.{IsParted, HasNoMarker}
 use Rattle.syntax.specs.Script.{Script}
-use Rattle.filtering.specs.Handed.{templates_of, judged_alone, first_text, status_of, IsNotRun}
+use Rattle.filtering.specs.Handed.{templates_of, judged_alone, first_text, IsNotRun}
 use Rattle.filtering.specs.Ran.{IsAlone}
 use Rattle.filtering.specs.declared.fault.FilterFault.{FilterFault}
 use Rattle.filtering.specs.declared.fault.FilterFault.TheVariants.{Read, Usage, Run, Write, OutOfMemory}

@@ -3,12 +3,11 @@ use Rattle.std.specs.Prelude.{◌≡◌, ℕ, Bool, true, false, List, [], ◌�
 use Rattle.cfglog.specs.Texts.{messages_of}
 use Rattle.deftable.specs.declared.note.Stream.TheVariants as streams
 use Rattle.engine.specs.Configured.{things}
-use Rattle.engine.specs.Given.{Accepted, Shows, Starts, judged}
-use Rattle.engine.specs.Shown.{shown_report}
-use Rattle.engine.specs.declared.fault.Fault.{Fault}
-use Rattle.engine.specs.declared.report.Outcome.{Outcome}
-use Rattle.engine.specs.declared.report.Outcome.TheVariants.{Completed, Stopped, CutShort, Shown}
-use Rattle.engine.specs.declared.report.Report.{Report}
+use Rattle.framing.specs.Given.{Accepted, Shows, Starts, judged}
+use Rattle.framing.specs.Shown.{shown_report}
+use Rattle.framing.specs.Told.{status_of}
+use Rattle.framing.specs.declared.fault.Fault.{Fault}
+use Rattle.framing.specs.declared.report.Report.{Report}
 use Rattle.outputlist.specs.declared.output.Output.{Output}
 use Rattle.outputs.specs.declared.thing.Kind as kind
 use Rattle.outputs.specs.declared.thing.Kind.TheVariants as kinds
@@ -60,13 +59,6 @@ text_of (Some thing) = thing.text
 -- The text of the first file among these things, and none if there is no file. (own)
 abbrev pub first_text : List Thing → List ℕ
 first_text things = text_of (find is_file things)
-
--- The exit status of a run: 0 if it is completed or a text is shown, 3 if it is cut short, and else the source's own. (own)
-abbrev pub status_of : Outcome → ℕ
-status_of Completed = 0
-status_of (Stopped status) = status
-status_of (CutShort number) = 3
-status_of Shown = 0
 
 -- What the filter takes of what follows from what is given: the text of the first file that is handed over, what the report has for
 -- standard error, and the exit status. (own)

@@ -4,8 +4,8 @@ use Rattle.conftest.specs.declared.job.Job.{Job}
 use Rattle.crew_trait.specs.declared.reply.Reply.{Reply}
 use Rattle.crew_trait.specs.declared.reply.Reply.TheVariants.{StartRefused}
 use Rattle.engine.specs.Configured.{report_of}
-use Rattle.engine.specs.declared.accepting.Start.{Start}
-use Rattle.engine.specs.declared.report.Report.{Report}
+use Rattle.framing.specs.declared.accepting.Start.{Start}
+use Rattle.framing.specs.declared.report.Report.{Report}
 use Rattle.machine.specs.declared.machine.RunEnd.{RunEnd}
 use Rattle.meaning.specs.Meaning.{meaning}
 use Rattle.meaning.specs.Play.{play, all_jobs, first_refused, whole}

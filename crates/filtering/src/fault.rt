@@ -2,7 +2,7 @@
 
 ghost use Rattle.std.specs.Prelude.{◌≡◌};
 ghost use Rattle.input.specs.declared.fault.ReadFault.TheVariants.{Read as Unread, OutOfMemory as NoReadMemory};
-ghost use Rattle.engine.specs.Faults.{of_parse};
+ghost use Rattle.framing.specs.Faults.{of_parse};
 ghost use Rattle.filtering.specs.Faults.{of_run};
 ghost use Rattle.filtering.specs.declared.fault.FilterFault.TheVariants.{OutOfMemory, Read};
 

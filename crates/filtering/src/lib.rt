@@ -19,5 +19,4 @@ mod taking;
 mod whole;
 
 pub use fault::FilterFault;
-pub use taking::status_of;
 pub use whole::{Filtered, filter};

@@ -4,11 +4,12 @@ ghost use Rattle.std.specs.Prelude.{◌≡◌, IfOk, find, false};
 ghost use Rattle.std.specs.Option.{option_copied};
 ghost use Rattle.cfglog.specs.Texts.{messages_of};
 ghost use Rattle.deftable.specs.declared.note.Stream.TheVariants as streams;
+ghost use Rattle.framing.specs.Told as told;
 ghost use Rattle.filtering.specs.Handed as words;
 
 use cfglog::messages_text;
 use deftable::{Bytes, Stream};
-use engine::{Kind, Outcome, Report, Thing};
+use engine::{Kind, Report, Thing, status_of};
 use std::alloc::{AllocError, Global};
 
 /// The text that is written, the text for standard error, and the exit status.
@@ -17,19 +18,6 @@ pub(crate) struct Written {
     pub text: Bytes,
     pub errors: Vec<u8>,
     pub status: u8,
-}
-
-/// Returns the exit status of a run: 0 if it is completed or a text is shown, 3 if it is cut short, and else the source's own
-/// (own).
-pub fn status_of(outcome: Outcome) -> u8
-    ensures { result ≡ words.status_of outcome }
-{
-    match outcome {
-        Outcome::Completed => 0,
-        Outcome::Stopped(status) => status,
-        Outcome::CutShort(_) => 3,
-        Outcome::Shown => 0,
-    }
 }
 
 fn is_file(thing: &Thing) -> bool
@@ -59,7 +47,7 @@ fn first_text(alloc: Global, things: &[Thing]) -> Result<Bytes, AllocError>
 pub(crate) fn taken(alloc: Global, report: &Report, things: &[Thing]) -> Result<Written, AllocError>
     ensures text { IfOk result (λ w. w.text ≡ words.first_text things.now) }
     ensures errors { IfOk result (λ w. w.errors.items ≡ messages_of streams.Err false report.now.messages) }
-    ensures status { IfOk result (λ w. w.status ≡ words.status_of report.now.outcome) }
+    ensures status { IfOk result (λ w. w.status ≡ told.status_of report.now.outcome) }
 {
     let text = first_text(alloc, things)?;
     let errors = messages_text(alloc, report.messages.as_slice(), Stream::Err, false)?;

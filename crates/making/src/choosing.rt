@@ -80,18 +80,18 @@ pub fn find_missing<'a>(
 }
 
 /// Returns whether a file or a header of the record has this name.
-fn is_output(record: &Record, tag: &[u8]) -> bool
-    ensures { result ≡ words.is_output record.now tag.now }
+fn is_output(recorded: &Record, tag: &[u8]) -> bool
+    ensures { result ≡ words.is_output recorded.now tag.now }
 {
-    record.files.has(tag) || record.headers.has(tag)
+    recorded.files.has(tag) || recorded.headers.has(tag)
 }
 
 /// Returns the index, counted from 0, of the first tag that is the name of no file and of no header of the record, or `None` if
 /// there is none (own).
-pub fn find_unknown(record: &Record, tags: &[Bytes]) -> Option<usize>
-    ensures exact { result ≡ words.unknown record.now tags.now }
+pub fn find_unknown(recorded: &Record, tags: &[Bytes]) -> Option<usize>
+    ensures exact { result ≡ words.unknown recorded.now tags.now }
     ensures bound { IfSome result (λ i. i < length tags.now) }
 {
     tags.iter()
-        .position(|tag| !is_output(record, tag.as_slice()))
+        .position(|tag| !is_output(recorded, tag.as_slice()))
 }

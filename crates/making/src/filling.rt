@@ -58,11 +58,11 @@ fn add_own(alloc: Global, table: &mut Table, file: &Output, srcdir: &[u8]) -> Re
 /// Returns the table that the template of a file is filled from: the output variables, and the file's own, which override
 /// them (Autoconf's manual, "Preset Output Variables").
 #[tactic(auto, unfolding(crate::specs::Making::file_table))]
-fn file_table(alloc: Global, record: &Record, file: &Output) -> Result<Table, AllocError>
-    ensures { IfOk result (λ table. table ≡ words.file_table record.now file.now) }
+fn file_table(alloc: Global, recorded: &Record, file: &Output) -> Result<Table, AllocError>
+    ensures { IfOk result (λ table. table ≡ words.file_table recorded.now file.now) }
 {
-    let mut table = table_of(alloc, &record.vars)?;
-    add_own(alloc, &mut table, file, record.srcdir.as_slice())?;
+    let mut table = table_of(alloc, &recorded.vars)?;
+    add_own(alloc, &mut table, file, recorded.srcdir.as_slice())?;
     Ok(table)
 }
 
@@ -77,13 +77,13 @@ fn file_table(alloc: Global, record: &Record, file: &Output) -> Result<Table, Al
 #[tactic(auto, unfolding(crate::specs::Making::made_file))]
 pub fn make_file(
     alloc: Global,
-    record: &Record,
+    recorded: &Record,
     templates: &[(Bytes, Bytes)],
     file: &Output,
 ) -> Result<Thing, AllocError>
-    ensures { IfOk result (λ thing. thing ≡ words.made_file record.now templates.now file.now) }
+    ensures { IfOk result (λ thing. thing ≡ words.made_file recorded.now templates.now file.now) }
 {
-    let table = file_table(alloc, record, file)?;
+    let table = file_table(alloc, recorded, file)?;
     let name = file.name.copy(alloc)?;
     let template = template_of(templates, file.template.as_slice());
     let text = fill(alloc, template, &table)?;
@@ -97,14 +97,14 @@ pub fn make_file(
 /// Returns the text of a header: its first line, and then what is made of its template.
 fn header_text(
     alloc: Global,
-    record: &Record,
+    recorded: &Record,
     templates: &[(Bytes, Bytes)],
     header: &Output,
 ) -> Result<Bytes, AllocError>
-    ensures { IfOk result (λ text. text ≡ words.header_text record.now templates.now header.now) }
+    ensures { IfOk result (λ text. text ≡ words.header_text recorded.now templates.now header.now) }
 {
     let template = template_of(templates, header.template.as_slice());
-    let made = fill_header(alloc, template, &record.defs)?;
+    let made = fill_header(alloc, template, &recorded.defs)?;
     let note = header_note(alloc, header.name.as_slice(), header.template.as_slice())?;
     let mut text = note.into_vec();
     text.extend_from_slice(made.as_slice())?;
@@ -115,14 +115,14 @@ fn header_text(
 #[tactic(auto, unfolding(crate::specs::Making::made_header))]
 fn make_header(
     alloc: Global,
-    record: &Record,
+    recorded: &Record,
     templates: &[(Bytes, Bytes)],
     header: &Output,
 ) -> Result<Thing, AllocError>
-    ensures { IfOk result (λ thing. thing ≡ words.made_header record.now templates.now header.now) }
+    ensures { IfOk result (λ thing. thing ≡ words.made_header recorded.now templates.now header.now) }
 {
     let name = header.name.copy(alloc)?;
-    let text = header_text(alloc, record, templates, header)?;
+    let text = header_text(alloc, recorded, templates, header)?;
     Ok(Thing {
         kind: Kind::Header,
         name,
@@ -134,17 +134,17 @@ fn make_header(
 fn add_file(
     alloc: Global,
     things: &mut Things,
-    record: &Record,
+    recorded: &Record,
     templates: &[(Bytes, Bytes)],
     tags: &[Bytes],
     file: &Output,
 ) -> Result<(), AllocError>
-    ensures { OnOk result (things.new ≡ things.old ++ map (words.made_file record.now templates.now) (chosen tags.now (file.now ∷ []))) }
+    ensures { OnOk result (things.new ≡ things.old ++ map (words.made_file recorded.now templates.now) (chosen tags.now (file.now ∷ []))) }
 {
     if !is_chosen(tags, file) {
         return Ok(());
     }
-    let thing = make_file(alloc, record, templates, file)?;
+    let thing = make_file(alloc, recorded, templates, file)?;
     things.push(thing)
 }
 
@@ -152,15 +152,15 @@ fn add_file(
 fn add_files(
     alloc: Global,
     things: &mut Things,
-    record: &Record,
+    recorded: &Record,
     templates: &[(Bytes, Bytes)],
     tags: &[Bytes],
     files: &[Output],
 ) -> Result<(), AllocError>
-    ensures { OnOk result (things.new ≡ things.old ++ map (words.made_file record.now templates.now) (chosen tags.now files.now)) }
+    ensures { OnOk result (things.new ≡ things.old ++ map (words.made_file recorded.now templates.now) (chosen tags.now files.now)) }
 {
     'outputs: for file in files {
-        add_file(alloc, things, record, templates, tags, file)?;
+        add_file(alloc, things, recorded, templates, tags, file)?;
     }
     Ok(())
 }
@@ -169,17 +169,17 @@ fn add_files(
 fn add_header(
     alloc: Global,
     things: &mut Things,
-    record: &Record,
+    recorded: &Record,
     templates: &[(Bytes, Bytes)],
     tags: &[Bytes],
     header: &Output,
 ) -> Result<(), AllocError>
-    ensures { OnOk result (things.new ≡ things.old ++ map (words.made_header record.now templates.now) (chosen tags.now (header.now ∷ []))) }
+    ensures { OnOk result (things.new ≡ things.old ++ map (words.made_header recorded.now templates.now) (chosen tags.now (header.now ∷ []))) }
 {
     if !is_chosen(tags, header) {
         return Ok(());
     }
-    let thing = make_header(alloc, record, templates, header)?;
+    let thing = make_header(alloc, recorded, templates, header)?;
     things.push(thing)
 }
 
@@ -187,15 +187,15 @@ fn add_header(
 fn add_headers(
     alloc: Global,
     things: &mut Things,
-    record: &Record,
+    recorded: &Record,
     templates: &[(Bytes, Bytes)],
     tags: &[Bytes],
     headers: &[Output],
 ) -> Result<(), AllocError>
-    ensures { OnOk result (things.new ≡ things.old ++ map (words.made_header record.now templates.now) (chosen tags.now headers.now)) }
+    ensures { OnOk result (things.new ≡ things.old ++ map (words.made_header recorded.now templates.now) (chosen tags.now headers.now)) }
 {
     'outputs: for header in headers {
-        add_header(alloc, things, record, templates, tags, header)?;
+        add_header(alloc, things, recorded, templates, tags, header)?;
     }
     Ok(())
 }
@@ -207,16 +207,16 @@ fn add_headers(
 pub fn add_outputs(
     alloc: Global,
     things: &mut Things,
-    record: &Record,
+    recorded: &Record,
     templates: &[(Bytes, Bytes)],
     tags: &[Bytes],
 ) -> Result<(), AllocError>
-    ensures { OnOk result (things.new ≡ things.old ++ words.made record.now templates.now tags.now) }
+    ensures { OnOk result (things.new ≡ things.old ++ words.made recorded.now templates.now tags.now) }
 {
-    let files = record.files.as_slice();
-    let headers = record.headers.as_slice();
-    add_files(alloc, things, record, templates, tags, files)?;
-    add_headers(alloc, things, record, templates, tags, headers)
+    let files = recorded.files.as_slice();
+    let headers = recorded.headers.as_slice();
+    add_files(alloc, things, recorded, templates, tags, files)?;
+    add_headers(alloc, things, recorded, templates, tags, headers)
 }
 
 /// Makes the files and then the headers of a record, each of its template, in the record's order.
@@ -230,13 +230,13 @@ pub fn add_outputs(
 /// Fails only if memory runs out.
 pub fn make_outputs(
     alloc: Global,
-    record: &Record,
+    recorded: &Record,
     templates: &[(Bytes, Bytes)],
     tags: &[Bytes],
 ) -> Result<Things, AllocError>
-    ensures { IfOk result (λ things. things ≡ words.made record.now templates.now tags.now) }
+    ensures { IfOk result (λ things. things ≡ words.made recorded.now templates.now tags.now) }
 {
     let mut things = Things::new(alloc);
-    add_outputs(alloc, &mut things, record, templates, tags)?;
+    add_outputs(alloc, &mut things, recorded, templates, tags)?;
     Ok(things)
 }

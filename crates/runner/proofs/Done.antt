@@ -8,14 +8,14 @@ use Rattle.commandline.specs.declared.fault.OptionFault.{OptionFault}
 use Rattle.crew_trait.specs.Events.{Account}
 use Rattle.diskfiles.specs.Lines.{AreLines, none}
 use Rattle.engine.specs.Configured.{IsAnswer, IsNotRun, IfStarts, IfReport, IsMeant, things}
-use Rattle.engine.specs.Faults.{◌>>=◌, named, wants, of_parse, of_option}
-use Rattle.engine.specs.Given.{Accepted, Shows, Starts, judged, accepted, started}
-use Rattle.engine.specs.Shown.{shown_report, shown_text}
-use Rattle.engine.specs.declared.accepting.Start.{Start}
-use Rattle.engine.specs.declared.fault.Fault.{Fault}
-use Rattle.engine.specs.declared.fault.Fault.TheVariants.{Plan, OutOfMemory}
-use Rattle.engine.specs.declared.report.Report.{Report}
-use Rattle.filtering.specs.Handed.{status_of}
+use Rattle.framing.specs.Faults.{◌>>=◌, named, wants, of_parse, of_option}
+use Rattle.framing.specs.Given.{Accepted, Shows, Starts, judged, accepted, started}
+use Rattle.framing.specs.Shown.{shown_report, shown_text}
+use Rattle.framing.specs.declared.accepting.Start.{Start}
+use Rattle.framing.specs.declared.fault.Fault.{Fault}
+use Rattle.framing.specs.declared.fault.Fault.TheVariants.{Plan, OutOfMemory}
+use Rattle.framing.specs.declared.report.Report.{Report}
+use Rattle.framing.specs.Told.{status_of}
 use Rattle.options.specs.Opening.{opening}
 use Rattle.options.specs.declared.settings.Settings.{Settings}
 use Rattle.outputs.specs.Receipt.{Receipt, with_things}
@@ -23,8 +23,8 @@ use Rattle.plan.specs.Weight.{heaviest, weight}
 use Rattle.plan.specs.declared.fault.PlanFault.TheVariants.{TooLong}
 use Rattle.syntax.specs.Lists.{lists_of}
 use Rattle.syntax.specs.Script.{Script}
-use Rattle.engine.specs.Remade.{remade, IsRemade, refused, memory, all, cut}
-use Rattle.engine.specs.declared.fault.RemakeFault.{RemakeFault}
+use Rattle.framing.specs.Remade.{remade, IsRemade, refused, memory, all, cut}
+use Rattle.framing.specs.declared.fault.RemakeFault.{RemakeFault}
 use Rattle.runner.specs.Configures.{quiet_with, quiet_for, quiet_in, printed, IsConfigured, shown, ran, IsMadeAgain}
 
 -- ---- a text that is to be shown is printed

@@ -9,12 +9,12 @@ use Rattle.deftable.specs.declared.note.Note.{Note}
 use Rattle.deftable.specs.declared.note.Stream.TheVariants.{Out}
 use Rattle.diskfiles.specs.Lines.{AreLines}
 use Rattle.engine.specs.Configured.{IsMeant, things}
-use Rattle.engine.specs.Given.{judged, Shows, Starts}
-use Rattle.engine.specs.Remade.{remade}
-use Rattle.engine.specs.Shown.{shown_text}
-use Rattle.engine.specs.declared.accepting.Start.{Start}
-use Rattle.engine.specs.declared.report.Report.{Report}
-use Rattle.filtering.specs.Handed.{status_of}
+use Rattle.framing.specs.Given.{judged, Shows, Starts}
+use Rattle.framing.specs.Remade.{remade}
+use Rattle.framing.specs.Shown.{shown_text}
+use Rattle.framing.specs.declared.accepting.Start.{Start}
+use Rattle.framing.specs.declared.report.Report.{Report}
+use Rattle.framing.specs.Told.{status_of}
 use Rattle.options.specs.Opening.{opening}
 use Rattle.options.specs.declared.settings.Settings.{Settings}
 use Rattle.outputs.specs.declared.thing.Thing.{Thing}

@@ -3,8 +3,8 @@
 ghost use Rattle.std.specs.Prelude.{◌≡◌, ◌≢◌, ◌+◌, ◌^◌, ◌≤◌, ◌⊎◌, ℕ, List, None, true, Ok, IfOk, IsTrue, option_map};
 ghost use Rattle.std.specs.Io.KnownBytes.{Appends};
 ghost use Rattle.crew_trait.specs.Events.{IsIdle};
-ghost use Rattle.engine.specs.declared.report.Report.{Report};
-ghost use Rattle.filtering.specs.Handed as words;
+ghost use Rattle.framing.specs.declared.report.Report.{Report};
+ghost use Rattle.framing.specs.Told as words;
 ghost use Rattle.runner.specs.Configures.{IsConfigured, printed, quiet_in};
 
 use crate::printing::{print_lines, print_pieces, write_log};
@@ -13,8 +13,7 @@ use crate::telling::{FAULT, tell_file, tell_memory, tell_put, tell_run};
 use crew_trait::Crew;
 use deftable::Bytes;
 use diskfiles::{FileOutputs, path_in, read_text};
-use engine::{Fault, Outcome, Report, configure};
-use filtering::status_of;
+use engine::{Fault, Outcome, Report, configure, status_of};
 use options::srcdir_of;
 use std::alloc::{AllocError, Global};
 use std::io::Write;

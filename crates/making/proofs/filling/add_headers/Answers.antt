@@ -5,7 +5,7 @@ use Rattle.making.proofs.filling.add_headers.Goals as goal
 
 pub outputs-preserved : goal.outputs-preserved
 outputs-preserved c =
-    made_more (made_header c.args.record.now c.args.templates.now) (is_chosen c.args.tags.now) c.args.headers.now c.outputs.header-index _ _ _ _ c.outputs-test.true c.header-item.is c.outputs.invariant c.in_ok-add_header.ensures
+    made_more (made_header c.args.recorded.now c.args.templates.now) (is_chosen c.args.tags.now) c.args.headers.now c.outputs.header-index _ _ _ _ c.outputs-test.true c.header-item.is c.outputs.invariant c.in_ok-add_header.ensures
 
 pub returns : goal.returns
-returns c = made_end (made_header c.args.record.now c.args.templates.now) (is_chosen c.args.tags.now) c.args.headers.now c.outputs.header-index _ _ c.outputs-test.false c.outputs.invariant
+returns c = made_end (made_header c.args.recorded.now c.args.templates.now) (is_chosen c.args.tags.now) c.args.headers.now c.outputs.header-index _ _ c.outputs-test.false c.outputs.invariant

@@ -12,9 +12,9 @@ ghost use Rattle.plan.specs.Weight.{heaviest, weight};
 ghost use Rattle.plan.specs.declared.fault.PlanFault.TheVariants.{TooLong};
 ghost use Rattle.syntax.specs.Lists.{lists_of};
 ghost use Rattle.syntax.specs.Script.{script_of};
-ghost use Rattle.engine.specs.Faults.{Gives, named, of_parse, of_option, of_cache, of_precious, wants};
-ghost use Rattle.engine.specs.Given as given;
-ghost use Rattle.engine.specs.declared.fault.Fault.TheVariants.{Plan as Unplanned};
+ghost use Rattle.framing.specs.Faults.{Gives, named, of_parse, of_option, of_cache, of_precious, wants};
+ghost use Rattle.framing.specs.Given as given;
+ghost use Rattle.framing.specs.declared.fault.Fault.TheVariants.{Plan as Unplanned};
 
 use crate::fault::Fault;
 use crate::noting::joined;
@@ -29,7 +29,7 @@ use std::alloc::Global;
 use syntax::Source;
 
 /// Reads the source.
-pub(crate) fn parsed(alloc: Global, text: &[u8]) -> Result<Source, Fault>
+pub fn parsed(alloc: Global, text: &[u8]) -> Result<Source, Fault>
     ensures exact { Gives script_of result (named of_parse (source_of text.now)) }
     ensures outputs { IfOk result (λ s. AreOutputs (lists_of (script_of s)).files (lists_of (script_of s)).headers) }
 {
@@ -37,7 +37,7 @@ pub(crate) fn parsed(alloc: Global, text: &[u8]) -> Result<Source, Fault>
 }
 
 /// Compiles the source.
-pub(crate) fn planned<'a>(alloc: Global, source: &'a Source) -> Result<Plan<'a>, Fault>
+pub fn planned<'a>(alloc: Global, source: &'a Source) -> Result<Plan<'a>, Fault>
     ensures exact { Gives (λ _. tt) result (wants (nat_le (weight (script_of source.now)) heaviest) (Unplanned TooLong)) }
     ensures meaning { IfOk result (λ plan. DoesWhat plan (script_of source.now)) }
 {
@@ -177,7 +177,7 @@ pub enum Found {
 
 /// Returns what follows from all but the source.
 #[tactic(auto, unfolding(crate::specs::Given::accepted))]
-pub(crate) fn accepted(
+pub fn accepted(
     alloc: Global,
     source: &Source,
     args: &[Bytes],

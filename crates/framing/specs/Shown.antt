@@ -10,8 +10,8 @@ use Rattle.syntax.specs.declared.tree.Stmt.{Stmt}
 use Rattle.syntax.specs.declared.tree.Stmt.TheVariants.{Plain, Choose', CacheCheck'}
 use Rattle.syntax.specs.Lists.{lists_of}
 use Rattle.syntax.specs.Script.{Script, Done, Then, Choice, Check}
-use Rattle.engine.specs.declared.report.Report.{Report}
-use Rattle.engine.specs.declared.report.Outcome.TheVariants.{Shown}
+use Rattle.framing.specs.declared.report.Report.{Report}
+use Rattle.framing.specs.declared.report.Outcome.TheVariants.{Shown}
 
 -- The line of the version of a package. (Autoconf's manual, "configure Invocation")
 abbrev pub line_of : List ℕ → List ℕ → List ℕ

@@ -12,10 +12,10 @@ use Rattle.options.specs.declared.fault.PreciousFault as precious
 use Rattle.options.specs.declared.fault.PreciousFault.TheVariants as preciouses
 use Rattle.status_record.specs.declared.fault.RecordFault as recorded
 use Rattle.status_record.specs.declared.fault.RecordFault.TheVariants as records
-use Rattle.engine.specs.declared.fault.Fault.{Fault}
-use Rattle.engine.specs.declared.fault.Fault.TheVariants.{Parse, Plan, Option, Cache, Precious, NoTemplate, OutOfMemory}
-use Rattle.engine.specs.declared.fault.RemakeFault.{RemakeFault}
-use Rattle.engine.specs.declared.fault.RemakeFault.TheVariants as remade
+use Rattle.framing.specs.declared.fault.Fault.{Fault}
+use Rattle.framing.specs.declared.fault.Fault.TheVariants.{Parse, Plan, Option, Cache, Precious, NoTemplate, OutOfMemory}
+use Rattle.framing.specs.declared.fault.RemakeFault.{RemakeFault}
+use Rattle.framing.specs.declared.fault.RemakeFault.TheVariants as remade
 
 -- An error of the source, as a fault of the run. (own)
 abbrev pub of_parse : parse.ParseFault → Fault

@@ -2,7 +2,7 @@
 
 ghost use Rattle.std.specs.Prelude.{◌≡◌, ◌++◌, ◌∷◌, [], IfOk, OnOk};
 ghost use Rattle.crew_trait.specs.declared.entry.Entry.TheVariants.{Said};
-ghost use Rattle.engine.specs.Told.{entries_of};
+ghost use Rattle.framing.specs.Told.{entries_of};
 
 use crew_trait::{Entry, Log};
 use deftable::{Note, Notes};
@@ -28,7 +28,7 @@ fn add_notes(alloc: Global, notes: &mut Notes, more: &[Note]) -> Result<(), Allo
 }
 
 /// Returns notes, followed by others. If there are none, it is the others themselves.
-pub(crate) fn joined(alloc: Global, first: &Notes, second: Notes) -> Result<Notes, AllocError>
+pub fn joined(alloc: Global, first: &Notes, second: Notes) -> Result<Notes, AllocError>
     ensures { IfOk result (λ n. n ≡ first.now ++ second) }
 {
     if first.as_slice().is_empty() {
@@ -75,7 +75,7 @@ fn add_entries(alloc: Global, log: &mut Log, entries: &[Entry]) -> Result<(), Al
 }
 
 /// Returns a log that begins with notes. If there are none, it is the log itself.
-pub(crate) fn with_notes(alloc: Global, notes: &Notes, log: Log) -> Result<Log, AllocError>
+pub fn with_notes(alloc: Global, notes: &Notes, log: Log) -> Result<Log, AllocError>
     ensures { IfOk result (λ l. l ≡ entries_of notes.now ++ log) }
 {
     if notes.as_slice().is_empty() {

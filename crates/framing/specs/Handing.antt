@@ -9,8 +9,8 @@ use Rattle.status_record.specs.RecordText.{record_text}
 use Rattle.status_record.specs.declared.record.Record.{Record}
 use Rattle.syntax.specs.Lists.{lists_of}
 use Rattle.syntax.specs.Script.{Script}
-use Rattle.engine.specs.declared.report.Outcome.{Outcome}
-use Rattle.engine.specs.declared.report.Outcome.TheVariants.{Completed, Stopped, CutShort, Shown}
+use Rattle.framing.specs.declared.report.Outcome.{Outcome}
+use Rattle.framing.specs.declared.report.Outcome.TheVariants.{Completed, Stopped, CutShort, Shown}
 
 -- The cache, if one is named. (Autoconf's manual, "Cache Files")
 abbrev pub cache_things : Option (List ℕ) → List (List ℕ × List ℕ) → List Thing

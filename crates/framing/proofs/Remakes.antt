@@ -3,10 +3,10 @@ use Rattle.std.proofs.Common.{◌≡◌, ℕ, List, length, Result, Ok, Err, ref
 use Rattle.std.specs.Prelude.{IfOk, IfErr, IsErrAnd}
 use Rattle.outputs.specs.Receipt.{Receipt, with_things, IsCutAt}
 use Rattle.outputs.specs.declared.thing.Thing.{Thing}
-use Rattle.engine.specs.Faults.{FailsAgain}
-use Rattle.engine.specs.Remade.{IsRemade, refused, memory, all, cut, IsPut}
-use Rattle.engine.specs.declared.fault.RemakeFault.{RemakeFault}
-use Rattle.engine.specs.declared.fault.RemakeFault.TheVariants.{OutOfMemory, PutRefused}
+use Rattle.framing.specs.Faults.{FailsAgain}
+use Rattle.framing.specs.Remade.{IsRemade, refused, memory, all, cut, IsPut}
+use Rattle.framing.specs.declared.fault.RemakeFault.{RemakeFault}
+use Rattle.framing.specs.declared.fault.RemakeFault.TheVariants.{OutOfMemory, PutRefused}
 
 pub fails : (f : RemakeFault) (wanted : Result (List Thing) RemakeFault) (same : Type 0) (old new : Receipt) (result : Result ℕ RemakeFault)
     → FailsAgain f wanted → IsErrAnd result (λ e. e ≡ f) → same → IsRemade wanted same old new result

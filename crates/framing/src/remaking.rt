@@ -5,8 +5,8 @@ ghost use Rattle.std.specs.Option.{option_copied};
 ghost use Rattle.making.specs.Choice.{unknown};
 ghost use Rattle.making.specs.Making.{made};
 ghost use Rattle.status_record.specs.Reading.{record_in};
-ghost use Rattle.engine.specs.Faults.{GivesAgain, named, of_record};
-ghost use Rattle.engine.specs.Remade as words;
+ghost use Rattle.framing.specs.Faults.{GivesAgain, named, of_record};
+ghost use Rattle.framing.specs.Remade as words;
 
 use crate::fault::RemakeFault;
 use deftable::Bytes;
@@ -24,10 +24,10 @@ fn read(alloc: Global, text: &[u8]) -> Result<Record, RemakeFault>
 }
 
 /// Checks that each tag is the name of an output.
-fn check_tags(record: &Record, tags: &[Bytes]) -> Result<(), RemakeFault>
-    ensures { GivesAgain (λ _. tt) result (words.none_unknown (unknown record.now tags.now)) }
+fn check_tags(recorded: &Record, tags: &[Bytes]) -> Result<(), RemakeFault>
+    ensures { GivesAgain (λ _. tt) result (words.none_unknown (unknown recorded.now tags.now)) }
 {
-    match find_unknown(record, tags) {
+    match find_unknown(recorded, tags) {
         None => Ok(()),
         Some(place) => Err(RemakeFault::UnknownTag(place as u64 + 1)),
     }
@@ -50,32 +50,32 @@ fn check_found(alloc: Global, missing: Option<&Output>) -> Result<(), RemakeFaul
 #[tactic(auto, unfolding(crate::specs::Remade::present))]
 fn check_templates(
     alloc: Global,
-    record: &Record,
+    recorded: &Record,
     templates: &[(Bytes, Bytes)],
     tags: &[Bytes],
 ) -> Result<(), RemakeFault>
-    ensures { GivesAgain (λ _. tt) result (words.present record.now templates.now tags.now) }
+    ensures { GivesAgain (λ _. tt) result (words.present recorded.now templates.now tags.now) }
 {
     check_found(
         alloc,
-        find_missing(templates, record.files.as_slice(), tags),
+        find_missing(templates, recorded.files.as_slice(), tags),
     )?;
     check_found(
         alloc,
-        find_missing(templates, record.headers.as_slice(), tags),
+        find_missing(templates, recorded.headers.as_slice(), tags),
     )
 }
 
 /// Returns the outputs of a record that are chosen.
 fn outputs_of(
     alloc: Global,
-    record: &Record,
+    recorded: &Record,
     templates: &[(Bytes, Bytes)],
     tags: &[Bytes],
 ) -> Result<Things, RemakeFault>
-    ensures { GivesAgain (λ t. t) result (Ok (made record.now templates.now tags.now)) }
+    ensures { GivesAgain (λ t. t) result (Ok (made recorded.now templates.now tags.now)) }
 {
-    Ok(make_outputs(alloc, record, templates, tags)?)
+    Ok(make_outputs(alloc, recorded, templates, tags)?)
 }
 
 /// Returns what a record's text gives.

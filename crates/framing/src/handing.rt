@@ -6,14 +6,13 @@ ghost use Rattle.outputs.specs.declared.thing.Kind.TheVariants.{Record as Record
 ghost use Rattle.status_record.specs.RecordText.{IsRecord};
 ghost use Rattle.syntax.specs.Lists.{lists_of};
 ghost use Rattle.syntax.specs.Script.{script_of};
-ghost use Rattle.engine.specs.Handing as hands;
-ghost use Rattle.engine.specs.Told.{outcome_of};
+ghost use Rattle.framing.specs.Handing as hands;
 
+use crate::report::Outcome;
 use cachefile::cache_text;
 use deftable::{Bytes, Defs, Vars};
 use making::{add_outputs, record_of};
 use outputs::{Kind, Thing, Things};
-use proberun::Outcome;
 use status_record::{Record, write_record};
 use std::alloc::{AllocError, Global};
 use syntax::Source;
@@ -52,12 +51,12 @@ fn record_thing(alloc: Global, text: Bytes) -> Result<Thing, AllocError>
 }
 
 /// Appends the record.
-fn add_record(alloc: Global, things: &mut Things, record: &Record) -> Result<(), AllocError>
-    requires { IsRecord record.now }
-    ensures added { OnOk result (things.new ≡ things.old ++ hands.record_thing record.now ∷ []) }
-    ensures reads_back { OnOk result (hands.ReadsBack record.now) }
+fn add_record(alloc: Global, things: &mut Things, recorded: &Record) -> Result<(), AllocError>
+    requires { IsRecord recorded.now }
+    ensures added { OnOk result (things.new ≡ things.old ++ hands.record_thing recorded.now ∷ []) }
+    ensures reads_back { OnOk result (hands.ReadsBack recorded.now) }
 {
-    let text = write_record(alloc, record)?;
+    let text = write_record(alloc, recorded)?;
     let thing = record_thing(alloc, text)?;
     things.push(thing)
 }
@@ -66,32 +65,32 @@ fn add_record(alloc: Global, things: &mut Things, record: &Record) -> Result<(),
 fn add_wanted(
     alloc: Global,
     things: &mut Things,
-    record: &Record,
+    recorded: &Record,
     no_create: bool,
     templates: &[(Bytes, Bytes)],
 ) -> Result<(), AllocError>
-    ensures { OnOk result (things.new ≡ things.old ++ hands.wanted_outputs no_create templates.now record.now) }
+    ensures { OnOk result (things.new ≡ things.old ++ hands.wanted_outputs no_create templates.now recorded.now) }
 {
     if no_create {
         return Ok(());
     }
-    add_outputs(alloc, things, record, templates, &[])
+    add_outputs(alloc, things, recorded, templates, &[])
 }
 
 /// Appends what a completed run hands over after its cache.
 fn add_completed(
     alloc: Global,
     things: &mut Things,
-    record: &Record,
+    recorded: &Record,
     no_create: bool,
     templates: &[(Bytes, Bytes)],
 ) -> Result<(), AllocError>
-    requires { IsRecord record.now }
-    ensures added { OnOk result (things.new ≡ things.old ++ hands.completed_things no_create templates.now record.now) }
-    ensures reads_back { OnOk result (hands.ReadsBack record.now) }
+    requires { IsRecord recorded.now }
+    ensures added { OnOk result (things.new ≡ things.old ++ hands.completed_things no_create templates.now recorded.now) }
+    ensures reads_back { OnOk result (hands.ReadsBack recorded.now) }
 {
-    add_record(alloc, things, record)?;
-    add_wanted(alloc, things, record, no_create, templates)
+    add_record(alloc, things, recorded)?;
+    add_wanted(alloc, things, recorded, no_create, templates)
 }
 
 /// Returns the record of a run.
@@ -119,7 +118,7 @@ fn run_record(
 
 /// Returns what a run hands over that leaves this outcome, these variables and definitions.
 #[tactic(auto, unfolding(crate::specs::Handing::things_of))]
-pub(crate) fn things_of(
+pub fn things_of(
     alloc: Global,
     source: &Source,
     cache_name: Option<&Bytes>,
@@ -131,9 +130,9 @@ pub(crate) fn things_of(
     defs: &Defs,
 ) -> Result<Things, AllocError>
     requires { AreOutputs (lists_of (script_of source.now)).files (lists_of (script_of source.now)).headers }
-    ensures all { IfOk result (λ t. t ≡ hands.things_of (option_map (λ n. n.now) cache_name.entry) no_create templates.now (outcome_of outcome) vars.now
+    ensures all { IfOk result (λ t. t ≡ hands.things_of (option_map (λ n. n.now) cache_name.entry) no_create templates.now outcome vars.now
         (hands.run_record (script_of source.now) srcdir.now vars.now defs.now)) }
-    ensures reads_back { OnOk result (hands.IfCompleted (outcome_of outcome) (hands.ReadsBack (hands.run_record (script_of source.now) srcdir.now vars.now defs.now))) }
+    ensures reads_back { OnOk result (hands.IfCompleted outcome (hands.ReadsBack (hands.run_record (script_of source.now) srcdir.now vars.now defs.now))) }
 {
     let mut things = Things::new(alloc);
     add_cache(alloc, &mut things, cache_name, vars)?;

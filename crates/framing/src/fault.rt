@@ -1,9 +1,9 @@
 //! Why a run has no report, or only that of a refused put.
 
 ghost use Rattle.std.specs.Prelude.{◌≡◌};
-ghost use Rattle.engine.specs.Faults as faults;
-ghost use Rattle.engine.specs.declared.fault.Fault.TheVariants.{OutOfMemory};
-ghost use Rattle.engine.specs.declared.fault.RemakeFault.TheVariants.{OutOfMemory as NoMemory};
+ghost use Rattle.framing.specs.Faults as faults;
+ghost use Rattle.framing.specs.declared.fault.Fault.TheVariants.{OutOfMemory};
+ghost use Rattle.framing.specs.declared.fault.RemakeFault.TheVariants.{OutOfMemory as NoMemory};
 
 use crate::report::Report;
 use acparse::ParseFault;

@@ -8,7 +8,7 @@ use Rattle.syntax.specs.declared.statement.Plain.TheVariants.{Init, Accepted, Co
 use Rattle.syntax.specs.declared.tree.Stmt.{Stmt}
 use Rattle.syntax.specs.declared.tree.Stmt.TheVariants.{Plain, Choose', CacheCheck'}
 use Rattle.syntax.specs.Script.{Script, script_of, stmt_then}
-use Rattle.engine.specs.Shown.{line_of, plain_line, statement_line, version_line}
+use Rattle.framing.specs.Shown.{line_of, plain_line, statement_line, version_line}
 
 pub no_line : (p : plain.Plain) → ((title version bug tarname url : List ℕ) → p ≢ Init title version bug tarname url) → None ≡ plain_line p
 no_line (Init title version bug tarname url) h = absurd (h title version bug tarname url refl)

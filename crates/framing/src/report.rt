@@ -1,7 +1,7 @@
 //! What a run did.
 
 ghost use Rattle.std.specs.Prelude.{◌≡◌};
-ghost use Rattle.engine.specs.Told as told;
+ghost use Rattle.framing.specs.Told as told;
 
 use crew_trait::Log;
 use deftable::{Defs, Notes, Vars};
@@ -37,13 +37,15 @@ pub struct Report {
     pub handed: u64,
 }
 
-/// Returns the outcome of a run as the report has it.
-pub(crate) fn outcome_of(outcome: proberun::Outcome) -> Outcome
-    ensures { result ≡ told.outcome_of outcome }
+/// Returns the exit status of a run: 0 if it is completed or a text is shown, 3 if it is cut short, and else the source's own
+/// (own).
+pub fn status_of(outcome: Outcome) -> u8
+    ensures { result ≡ told.status_of outcome }
 {
     match outcome {
-        proberun::Outcome::Completed => Outcome::Completed,
-        proberun::Outcome::Stopped(status) => Outcome::Stopped(status),
-        proberun::Outcome::CutShort(number) => Outcome::CutShort(number),
+        Outcome::Completed => 0,
+        Outcome::Stopped(status) => status,
+        Outcome::CutShort(_) => 3,
+        Outcome::Shown => 0,
     }
 }

@@ -1,6 +1,6 @@
 use Rattle.std.proofs.Common.{◌≡◌, refl}
-use Rattle.engine.proofs.Remakes.{fails, put_slice}
-use Rattle.engine.proofs.remaking.remake.Goals as goal
+use Rattle.framing.proofs.Remakes.{fails, put_slice}
+use Rattle.framing.proofs.remaking.remake.Goals as goal
 
 pub returns-in_err-things : goal.returns-in_err-things
 returns-in_err-things g c = record { remade = fails _ _ _ _ _ _ c.in_err-things.ensures c.from_residual.ensures.1 refl }

@@ -7,9 +7,9 @@ use Rattle.outputs.specs.Receipt.{Receipt, with_things, IsCutAt}
 use Rattle.outputs.specs.declared.thing.Thing.{Thing}
 use Rattle.status_record.specs.Reading.{record_in}
 use Rattle.status_record.specs.declared.record.Record.{Record}
-use Rattle.engine.specs.Faults.{of_record, named, ◌>>=◌}
-use Rattle.engine.specs.declared.fault.RemakeFault.{RemakeFault}
-use Rattle.engine.specs.declared.fault.RemakeFault.TheVariants.{UnknownTag, NoTemplate, PutRefused, OutOfMemory}
+use Rattle.framing.specs.Faults.{of_record, named, ◌>>=◌}
+use Rattle.framing.specs.declared.fault.RemakeFault.{RemakeFault}
+use Rattle.framing.specs.declared.fault.RemakeFault.TheVariants.{UnknownTag, NoTemplate, PutRefused, OutOfMemory}
 
 -- A tag is the name of no output: its number, from 1. (own)
 abbrev pub none_unknown : Option ℕ → Result (Unit {0}) RemakeFault

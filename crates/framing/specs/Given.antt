@@ -13,12 +13,12 @@ use Rattle.plan.specs.Weight.{heaviest, weight}
 use Rattle.plan.specs.declared.fault.PlanFault.TheVariants.{TooLong}
 use Rattle.syntax.specs.Lists.{lists_of}
 use Rattle.syntax.specs.Script.{Script}
-use Rattle.engine.specs.Faults.{of_parse, of_option, of_cache, of_precious, named, ◌>>=◌, wants}
-use Rattle.engine.specs.declared.accepting.Start.{Start}
-use Rattle.engine.specs.declared.accepting.Found as found
-use Rattle.engine.specs.declared.accepting.Found.TheVariants as founds
-use Rattle.engine.specs.declared.fault.Fault.{Fault}
-use Rattle.engine.specs.declared.fault.Fault.TheVariants.{Plan, NoTemplate}
+use Rattle.framing.specs.Faults.{of_parse, of_option, of_cache, of_precious, named, ◌>>=◌, wants}
+use Rattle.framing.specs.declared.accepting.Start.{Start}
+use Rattle.framing.specs.declared.accepting.Found as found
+use Rattle.framing.specs.declared.accepting.Found.TheVariants as founds
+use Rattle.framing.specs.declared.fault.Fault.{Fault}
+use Rattle.framing.specs.declared.fault.Fault.TheVariants.{Plan, NoTemplate}
 
 -- What is accepted: a text is to be shown, or the source is to be run from this start. (own)
 pub data Accepted : Type 0 where

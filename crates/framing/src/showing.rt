@@ -3,7 +3,7 @@
 ghost use Rattle.std.specs.Prelude.{◌≡◌, ◌∷◌, [], IfOk};
 ghost use Rattle.deftable.specs.declared.note.Stream.TheVariants.{Out};
 ghost use Rattle.syntax.specs.Script.{script_of};
-ghost use Rattle.engine.specs.Shown as words;
+ghost use Rattle.framing.specs.Shown as words;
 
 use crate::report::{Outcome, Report};
 use crew_trait::Log;
@@ -81,11 +81,7 @@ fn sole_note(alloc: Global, text: Bytes) -> Result<Notes, AllocError>
 
 /// Returns the report if a text is shown.
 #[tactic(auto, unfolding(crate::specs::Shown::shown_report))]
-pub(crate) fn shown(
-    alloc: Global,
-    source: &Source,
-    settings: Settings,
-) -> Result<Report, AllocError>
+pub fn shown(alloc: Global, source: &Source, settings: Settings) -> Result<Report, AllocError>
     ensures { IfOk result (λ r. r ≡ words.shown_report (script_of source.now) settings) }
 {
     let text = shown_text(alloc, source, &settings)?;

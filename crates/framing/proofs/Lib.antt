@@ -1,0 +1,2 @@
+mod Versions
+pub mod Remakes

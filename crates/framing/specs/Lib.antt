@@ -1,0 +1,6 @@
+pub mod Told
+pub mod Faults
+pub mod Shown
+pub mod Given
+pub mod Handing
+pub mod Remade

@@ -1,0 +1,29 @@
+//! What comes before and after a run: what is given is accepted or refused, and what the run leaves is made into what it hands
+//! over. Nothing here starts a child.
+//!
+//! [`accepted`] goes over the arguments, the environment, the cache and the templates of a source, up to the first fault, and
+//! says what a run begins with, or that a text is to be [`shown`]. [`things_of`] makes the cache, the record, the files and the
+//! headers that a run hands over. [`remake`] makes files and headers again from a record, and puts them. The crate `engine` puts
+//! the run in between.
+//!
+//! "own" marks a rule that no manual gives.
+//!
+//! In `specs`, read `Given` (what is accepted), `Handing` (what is handed over) and `Remade`. `Shown`, `Told` and `Faults` are
+//! small. In `src`, read `accepting`, `handing` and `remaking`; `showing`, `noting`, `report` and `fault` are small.
+#![tactic(auto)]
+
+mod accepting;
+mod fault;
+mod handing;
+mod noting;
+mod remaking;
+mod report;
+mod showing;
+
+pub use accepting::{Found, Start, accepted, parsed, planned};
+pub use fault::{Fault, RemakeFault};
+pub use handing::things_of;
+pub use noting::{joined, with_notes};
+pub use remaking::remake;
+pub use report::{Outcome, Report, status_of};
+pub use showing::shown;
