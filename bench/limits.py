@@ -108,7 +108,7 @@ def tried(program, row):
 
 
 def main():
-    program = os.path.realpath(sys.argv[1] if len(sys.argv) > 1 else "crates/acrun/out/acrun")
+    program = os.path.realpath(sys.argv[1] if len(sys.argv) > 1 else "out/acrun")
     wrong = 0
     os.open(os.devnull, os.O_RDONLY)  # 3, which stays that of the runner
     for title, made, wanted in ROWS:

@@ -78,7 +78,7 @@ def best(program, path):
 
 
 def main():
-    programs = sys.argv[1:] or ["crates/acrun/out/acrun"]
+    programs = sys.argv[1:] or ["out/acrun"]
     with tempfile.TemporaryDirectory() as room:
         for title, made, n in ROWS:
             paths = []

@@ -1,0 +1,41 @@
+#!/usr/bin/env python3
+"""The gate, `make check`: `rt ci`, and then what no proof sees of the repository (`repository.py`).
+
+Its last line is 'N passed, M failed' over both, and the exit status is 1 if M is not 0.
+"""
+import re
+import shutil
+import subprocess
+import sys
+
+import repository
+
+COUNTS = re.compile(r"(\d+) passed, (\d+) failed\s*\Z")
+
+
+def prove():
+    """Runs `rt ci`, passes on what it prints, and returns how many items passed and failed."""
+    # `rt ci` refuses a repository inside this one, such as the room in which `make` proves.
+    shutil.rmtree("out/rooms", ignore_errors=True)
+    words = {"stdin": subprocess.DEVNULL, "stdout": subprocess.PIPE, "stderr": subprocess.STDOUT, "errors": "replace"}
+    last = ""
+    with subprocess.Popen(["rt", "ci"], **words) as gate:
+        for line in gate.stdout:
+            print(line, end="", flush=True)
+            last = line
+    counts = COUNTS.match(last)
+    if not counts:
+        return 0, 1
+    passed, failed = map(int, counts.groups())
+    return passed, max(failed, int(gate.returncode != 0))
+
+
+def main():
+    passed, failed = prove()
+    more, wrong = repository.check()
+    print(f"{passed + more} passed, {failed + wrong} failed")
+    return int(failed + wrong > 0)
+
+
+if __name__ == "__main__":
+    sys.exit(main())

@@ -1,0 +1,132 @@
+#!/usr/bin/env python3
+"""Checks what no proof sees of the repository. `make check` runs it after `rt ci`, and it may be run alone.
+
+Each check prints a line for each place that is wrong. The last line is 'N passed, M failed', and the exit status is 1 if M is
+not 0.
+"""
+import pathlib
+import re
+import sys
+
+CRATES = pathlib.Path("crates")
+# The budget of must-fail edits, which `rt ci` tries one by one.
+MOST_EDITS, MOST_CRATES = 90, 15
+
+
+def rows():
+    """Returns the libraries of each crate, by crates.txt."""
+    lines = (line.partition("#")[0].partition(":") for line in pathlib.Path("crates.txt").read_text().splitlines())
+    return {name.strip(): uses.split() for name, _, uses in lines if name.strip()}
+
+
+def sources(crate):
+    files = (file for part in ("src", "specs", "proofs") for file in (CRATES / crate / part).rglob("*"))
+    return "\n".join(file.read_text() for file in files if file.suffix in (".rt", ".antt"))
+
+
+def unused_libraries():
+    """A line of crates.txt lists a library that no file of the crate names: every check would read it."""
+    for crate, uses in rows().items():
+        text = sources(crate)
+        for name in uses:
+            if not re.search(rf"\bRattle\.{name}\.|\b{name}::|\buse {name}\b", text):
+                yield f"crates.txt: {crate} names nothing of {name}"
+
+
+def unlisted_crates():
+    """A crate has no line in crates.txt, or a line has no crate."""
+    found = {file.name for file in CRATES.iterdir() if any((file / "src" / it).exists() for it in ("lib.rt", "main.rt"))}
+    for name in sorted(found ^ {*rows()}):
+        yield f"crates.txt and crates/ do not agree on {name}"
+
+
+def unnamed_crates():
+    """A document that lists the crates lacks one."""
+    for file in ("README.md", "docs/architecture.md"):
+        text = pathlib.Path(file).read_text()
+        for crate in rows():
+            if f"`{crate}`" not in text:
+                yield f"{file} does not name the crate {crate}"
+
+
+def pairs(edit):
+    """Returns the file of an edit, and the texts that it replaces."""
+    file, old = None, []
+    for line in edit.read_text().splitlines():
+        word, _, rest = line.partition(": ")
+        if word == "file":
+            file = edit.parent.parent / rest.strip()
+        elif word == "old":
+            old.append(rest)
+    return file, old
+
+
+def edits_that_do_not_apply():
+    """The text that an edit replaces is not in its file exactly once."""
+    for edit in sorted([*CRATES.glob("*/must-fail/*.edit"), *CRATES.glob("*/wrong-bodies/*.edit")]):
+        file, old = pairs(edit)
+        if not file or not file.is_file() or not old:
+            yield f"{edit}: it names no file, or replaces nothing"
+            continue
+        text = file.read_text()
+        for part in old:
+            # A later pair may replace what an earlier one wrote.
+            if text.count(part) != 1 and part == old[0]:
+                yield f"{edit}: the text is in {file} {text.count(part)} times"
+
+
+def edits_over_the_budget():
+    """There are more must-fail edits, or more crates that have some, than the gate has time for."""
+    edits = [*CRATES.glob("*/must-fail/*.edit")]
+    crates = {edit.parent.parent.name for edit in edits}
+    if len(edits) > MOST_EDITS or len(crates) > MOST_CRATES:
+        yield f"{len(edits)} must-fail edits in {len(crates)} crates; {MOST_EDITS} in {MOST_CRATES} are the budget"
+
+
+def broken_links():
+    """A link of a document leads to no file of the repository, or to no heading of it."""
+    for file in [*pathlib.Path(".").glob("*.md"), *pathlib.Path("docs").glob("*.md"), *pathlib.Path(".").glob("*/README.md")]:
+        text = re.sub(r"(?ms)^(?:```|    ).*?$", "", file.read_text())
+        for target, _, heading in (it.partition("#") for it in re.findall(r"\]\(([^)\s]+)\)", text)):
+            path = file.parent / target if target else file
+            if re.match(r"[a-z]+:", target):
+                continue
+            if not path.exists():
+                yield f"{file}: there is no {target}"
+            elif heading and heading not in headings(path):
+                yield f"{file}: {target or file.name} has no heading {heading}"
+
+
+def headings(file):
+    titles = re.findall(r"(?m)^#+ (.*)$", file.read_text())
+    return {re.sub(r"[^\w\- ]", "", it.lower()).replace(" ", "-") for it in titles}
+
+
+CHECKS = [
+    unused_libraries,
+    unlisted_crates,
+    unnamed_crates,
+    edits_that_do_not_apply,
+    edits_over_the_budget,
+    broken_links,
+]
+
+
+def check():
+    """Runs each check, prints what is wrong, and returns how many passed and failed."""
+    failed = 0
+    for one in CHECKS:
+        wrong = [*one()]
+        print("".join(f"{line}\n" for line in wrong), end="")
+        failed += bool(wrong)
+    return len(CHECKS) - failed, failed
+
+
+def main():
+    passed, failed = check()
+    print(f"{passed} passed, {failed} failed")
+    return int(failed > 0)
+
+
+if __name__ == "__main__":
+    sys.exit(main())
