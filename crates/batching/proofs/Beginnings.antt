@@ -1,6 +1,6 @@
 -- The beginning of a batch, from what its parts give.
 use Rattle.std.proofs.Common.{◌≡◌, ℕ, ◌<◌, ◌≤◌, Vec, Global, List, [], length, sym, ap, ◌∙◌, subst, arith}
-use Rattle.conftest.specs.declared.job.Job.{Job}
+use Rattle.jobs.specs.declared.job.Job.{Job}
 use Rattle.meaning.specs.State.{State, Run, Asks, then_run}
 use Rattle.meaning.specs.Batches.{Batch, asking, jobs_in, batched}
 use Rattle.meaning.specs.Tests.{guarded_all}

@@ -1,7 +1,7 @@
 -- Which entries of a batch ask for a child, and what follows if there is nothing to ask for.
 use Rattle.std.specs.Prelude.{ℕ, suc, Bool, true, false, not, ◌||◌, List, [], ◌∷◌, ◌++◌, Option, None, bytes_eq, map, option_to_list, reverse, if◌then◌else◌}
 use Rattle.std.specs.List.{list_any}
-use Rattle.conftest.specs.declared.job.Job.{Job}
+use Rattle.jobs.specs.declared.job.Job.{Job}
 use Rattle.deftable.specs.Table.{value_of}
 use Rattle.deftable.specs.declared.note.Stream.TheVariants as streams
 use Rattle.shellword.specs.declared.part.Part.{Part}

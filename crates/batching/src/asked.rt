@@ -5,8 +5,8 @@ ghost use Rattle.std.specs.Prelude.{◌++◌, OnOk, bytes_eq, option_to_list};
 ghost use Rattle.meaning.specs.Batches.{is_known};
 ghost use Rattle.batching.specs.Waiting.{is_named, job_at, jobs_of, names_before, waiting_for};
 
-use conftest::Job;
 use deftable::Bytes;
+use jobs::Job;
 use runstate::Store;
 use searching::Waiting;
 use searching::deciding::trial_of;

@@ -11,8 +11,8 @@ ghost use Rattle.searching.specs.Waits.{after_entries, at_once, entry_end, given
 ghost use Rattle.searching.specs.declared.wait.Wait.TheVariants as wait;
 
 use crate::beginning::end_quiet;
-use conftest::Job;
 use crew_trait::Reply;
+use jobs::Job;
 use runstate::Store;
 use searching::deciding::{begin_trial, end_heard};
 use searching::replies::{log_asked, success};

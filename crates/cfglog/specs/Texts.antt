@@ -7,7 +7,7 @@ use Rattle.deftable.specs.declared.note.Note.{Note}
 use Rattle.deftable.specs.declared.note.Stream.{Stream}
 use Rattle.deftable.specs.declared.note.Stream.TheVariants.{Out}
 use Rattle.deftable.specs.declared.note.Stream.TheVariants.{Err as ToErr}
-use Rattle.conftest.specs.declared.job.Job.{Job}
+use Rattle.jobs.specs.declared.job.Job.{Job}
 use Rattle.crew_trait.specs.declared.entry.Entry.{Entry}
 use Rattle.crew_trait.specs.declared.entry.Entry.TheVariants.{Said, Child}
 use Rattle.crew_trait.specs.declared.reply.Reply.{Reply}

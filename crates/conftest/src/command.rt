@@ -1,12 +1,12 @@
 //! The words of a compiler's command.
 
 ghost use Rattle.std.specs.Prelude.{◌≡◌, ◌++◌, [], ◌∷◌, IfOk, OnOk, codes, unwrap_or};
-ghost use Rattle.conftest.specs.Probe as probe;
+ghost use Rattle.jobs.specs.Probe as probe;
 ghost use Rattle.deftable.specs.Table.{value_of};
 
 use crate::text::{file_name, out_name};
-use crate::words::{Words, push_all};
 use deftable::{Bytes, Vars};
+use jobs::{Words, push_all};
 use std::alloc::{AllocError, Global};
 use textcut::fields;
 

@@ -1,5 +1,4 @@
-//! The jobs that a configure run gives to child processes. A job is the words of a command and, for most, a program for
-//! it to read.
+//! Makes the jobs that a configure run gives to child processes.
 //!
 //! A check of a compiler writes a small C program, the conftest, and runs the compiler on it. The words come from the
 //! variables of the run (`CC`, `CFLAGS` and the like). The text of the conftest is the definitions made so far,
@@ -14,18 +13,16 @@
 //! A call that returns a `Result` fails if memory runs out; the calls that need a compiler name their other error. No
 //! other call allocates. "own" marks a rule that no manual gives.
 //!
-//! Read `specs/Probe.antt` first: each job is `job_of` of a probe, its number, the variables and the definitions. Then
-//! read `words`, `job`, `fault`, `probe`, `command` and `text`. The crate `csource` makes the sources of the checks.
+//! The crate `jobs` has the type of a job, and the definition of each: `job_of` of a probe, its number, the variables and the
+//! definitions. Read it first, and then `fault`, `probe`, `command` and `text`. The crate `csource` makes the sources of the
+//! checks.
 #![tactic(auto)]
 
 mod command;
 mod fault;
-mod job;
 mod probe;
 mod text;
-mod words;
 
 pub use fault::JobFault;
-pub use job::Job;
+pub use jobs::{Job, Words};
 pub use probe::{compile_job, link_job, path_job, preproc_job, run_job};
-pub use words::Words;

@@ -1,18 +1,17 @@
 //! Makes the jobs.
 
 ghost use Rattle.std.specs.Prelude.{◌≡◌, ◌≢◌, [], ◌++◌, Some, None, IfOk, IsErrOf, OnOk, codes};
-ghost use Rattle.conftest.specs.Probe as probe;
-ghost use Rattle.conftest.specs.Probe.{job_of, Compile, Link, Preprocess, Run, Find, run_of, path_of, file_name, conftest_text};
+ghost use Rattle.jobs.specs.Probe as probe;
+ghost use Rattle.jobs.specs.Probe.{job_of, Compile, Link, Preprocess, Run, Find, run_of, path_of, file_name, conftest_text};
 ghost use Rattle.conftest.specs.declared.fault.JobFault.TheVariants.{NoCompiler};
 
 use crate::command::{
     compiler, preprocessor, push_compile_words, push_link_words, push_preprocess_words,
 };
 use crate::fault::JobFault;
-use crate::job::Job;
 use crate::text::{self, conftest_text, file_name};
-use crate::words::Words;
 use deftable::{Bytes, Defs, Vars};
+use jobs::{Job, Words};
 use std::alloc::{AllocError, Global};
 
 /// Returns the job that compiles `source` to an object file: `$CC -c $CFLAGS $CPPFLAGS FILE` (Autoconf's manual,

@@ -2,7 +2,7 @@
 
 ghost use Rattle.std.specs.Prelude.{◌≡◌, ◌++◌, IfOk, OnOk, decimal};
 ghost use Rattle.std.specs.List.{flat_map};
-ghost use Rattle.conftest.specs.Probe as probe;
+ghost use Rattle.jobs.specs.Probe as probe;
 
 use csource::put_ended;
 use deftable::{Bytes, Defs};

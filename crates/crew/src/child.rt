@@ -9,9 +9,9 @@ ghost use Rattle.crew.specs.Launch.{Adds, AreCommand, Failed, Spawned, failing, 
 
 use crate::diagnostics::diagnostics;
 use crate::launcher::Launcher;
-use conftest::Job;
 use crew_trait::Reply;
 use deftable::Bytes;
+use jobs::Job;
 use std::alloc::{AllocError, Global};
 use std::io;
 use std::process::{Child, Command, ExitStatus, OpenProcess};

@@ -8,8 +8,8 @@ ghost use Rattle.crew.specs.declared.fused.FuseKind.TheVariants.{Start, End};
 ghost use Rattle.crew_trait.specs.declared.reply.Reply.TheVariants.{EndRefused, StartRefused};
 ghost use Rattle.crew_trait.specs.declared.event.CrewEvent.TheVariants.{Started, Ended};
 
-use conftest::Job;
 use crew_trait::{Crew, Refused, Reply};
+use jobs::Job;
 use std::marker::Model;
 
 /// The kind of the call that a [`Fused`] crew refuses.

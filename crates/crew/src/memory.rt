@@ -10,8 +10,8 @@ use crate::failures::{failures_after, refusal};
 use crate::flight::Flight;
 use crate::order::{Order, next_place};
 use crate::room::put;
-use conftest::Job;
 use crew_trait::{Crew, CrewEvent, Refused, Reply};
+use jobs::Job;
 use std::alloc::{AllocError, Global};
 use std::marker::Model;
 

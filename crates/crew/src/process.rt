@@ -7,8 +7,8 @@ ghost use Rattle.crew_trait.specs.declared.event.CrewEvent.TheVariants.{Ended};
 
 use crate::children::Children;
 use crate::launcher::Host;
-use conftest::Job;
 use crew_trait::{Crew, Refused, Reply};
+use jobs::Job;
 use std::alloc::{AllocError, Global};
 use std::marker::Model;
 use std::process::Processes;

@@ -1,27 +1,23 @@
 -- Steps, as what they are made of continues.
-use Rattle.std.proofs.Common.{◌≡◌, ℕ, ◌<◌, ◌≤◌, Bool, true, false, cond, List, [], ◌∷◌, length, get_or, arith, Option, None, Some, Result, Ok, Err, IfOk, Vec, Global, refl, sym, ap, subst, ◌∙◌}
+use Rattle.std.proofs.Common.{◌≡◌, ℕ, ◌<◌, ◌≤◌, Bool, true, false, cond, List, [], ◌∷◌, length, get_or, arith, Option, None, Some, Result, Ok, Err, IfOk, refl, sym, ap, subst, ◌∙◌}
 use Rattle.std.specs.Prelude.{not, ◌||◌, option_map}
 use Rattle.std.specs.declared.alloc.AllocError.{AllocError}
 use Rattle.shellword.specs.declared.part.Part.{Part}
 use Rattle.shellword.specs.Value.{word_value}
 use Rattle.syntax.specs.declared.listed.Listed.{Listed}
 use Rattle.syntax.specs.declared.listed.Sought.{Sought}
-use Rattle.conftest.specs.declared.job.Job.{Job}
+use Rattle.jobs.specs.declared.job.Job.{Job}
 use Rattle.syntax.specs.declared.statement.Plain as plain
 use Rattle.syntax.specs.declared.statement.Plain.TheVariants.{CheckProg, PathProg, Batch}
 use Rattle.meaning.specs.State.{State, Scope, How, Run, Ends, Goes_on}
 use Rattle.meaning.specs.Meaning.{effect, check_prog, path_prog, program_test, has_value, is_full_name, looks, found_by, first_found}
-use Rattle.conftest.specs.Probe.{job_of, run_of}
+use Rattle.jobs.specs.Probe.{job_of, run_of}
 use Rattle.syntax.specs.declared.program.Try as kinds
 use Rattle.syntax.specs.declared.program.Try.TheVariants as tries
 use Rattle.meaning.specs.Asking.{child, compiled}
 use Rattle.meaning.specs.Tries.{first_probe, tried}
 use Rattle.plan.specs.Inside.{asks_to_try}
 use Rattle.meaning.specs.Batches.{batched}
-use Rattle.searching.specs.Waits.{Suits, at_once, is_single}
-use Rattle.searching.specs.declared.trial.Waiting as waiting
-use Rattle.searching.specs.declared.wait.Wait.{Wait}
-use Rattle.searching.specs.declared.wait.Wait.TheVariants as waits
 use Rattle.plan.specs.Walk.{Mind, minded, own_effect}
 use Rattle.searching.specs.declared.flow.Flow.{Flow}
 use Rattle.searching.specs.Flows.{Leads, Continues}
@@ -78,19 +74,6 @@ pub batch_effect : (statement : plain.Plain) (listed : Listed) (entries : List (
     → batched (record { listed = listed; entries = entries; includes = includes }) st ≡ own_effect statement st
 unfolding effect
 batch_effect statement listed entries includes st is = sym (ap (λ x. own_effect x st) is)
-
-pub batch_fits : (entries : Vec waiting.Waiting Global) (w : Wait) (jobs : List Job) → w ≡ waits.Batch entries → Suits w jobs → length jobs ≡ at_once entries.items
-unfolding Suits
-batch_fits entries w jobs is fit = subst (λ x. Suits x jobs) is fit
-
-pub single_of : (w : Wait) → ((entries : Vec waiting.Waiting Global) → w ≡ waits.Batch entries → ⊥) → is_single w ≡ true
-single_of waits.Nothing h = refl
-single_of waits.Answer h = refl
-single_of waits.Link h = refl
-single_of (waits.Directory search file left) h = refl
-single_of (waits.Found trial found_on) h = refl
-single_of (waits.Size trial second) h = refl
-single_of (waits.Batch entries) h = absurd (h entries refl)
 
 -- A program that is tried.
 pub one_asks : (kind : kinds.Try) → 1 ≤ asks_to_try kind

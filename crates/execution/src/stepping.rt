@@ -8,7 +8,7 @@ ghost use Rattle.meaning.specs.Meaning.{asked, begun, check_prog, defaulted, err
 ghost use Rattle.meaning.specs.Meaning as meanings;
 ghost use Rattle.meaning.specs.Rows.{value_or_empty};
 ghost use Rattle.meaning.specs.State.{Scope, State, answered, then_run, told, with_definition, with_variable};
-ghost use Rattle.conftest.specs.Probe.{job_of};
+ghost use Rattle.jobs.specs.Probe.{job_of};
 ghost use Rattle.meaning.specs.Tests.{broken_all, guarded_all};
 ghost use Rattle.meaning.specs.Tries.{first_probe, text_of, tried};
 ghost use Rattle.shellword.specs.Value.{word_value};
@@ -19,15 +19,15 @@ ghost use Rattle.searching.specs.Flows.{Continues, Heeds, IsGroup, Leads, asks_n
 ghost use Rattle.searching.specs.declared.flow.Flow.TheVariants.{Complete, Pass, Stop};
 
 use crate::checks::{close_check, open_check};
-use crate::hearing::{ask_answer, ask_link};
 use batching::begin_batch;
-use conftest::Job;
 use deftable::Bytes;
+use jobs::Job;
 use plan::Step;
 use probing::check_entry;
 use runstate::pieces::{report_error, say};
 use runstate::{About, OpenTests, Store, initialise};
 use searching::programs::stop_without_compiler;
+use searching::questions::{ask_answer, ask_link};
 use searching::search::look_for;
 use searching::{Flow, Search};
 use shellword::{HereText, Word};

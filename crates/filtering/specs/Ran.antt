@@ -1,6 +1,6 @@
 -- What a run leaves if each start is refused.
 use Rattle.std.specs.Prelude.{◌≡◌, List, length, replicate, Some}
-use Rattle.conftest.specs.declared.job.Job.{Job}
+use Rattle.jobs.specs.declared.job.Job.{Job}
 use Rattle.crew_trait.specs.declared.reply.Reply.{Reply}
 use Rattle.crew_trait.specs.declared.reply.Reply.TheVariants.{StartRefused}
 use Rattle.engine.specs.Configured.{report_of}

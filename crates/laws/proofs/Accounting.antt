@@ -1,8 +1,8 @@
 -- What the deeds of a run account for.
 use Rattle.std.proofs.Common.{◌≡◌, ℕ, Option, Some, None, List, [], ◌∷◌, ◌++◌, length, take, drop, codes, Bool, true, false, cond, refl, sym, subst, ◌+◌}
 use Rattle.std.specs.Prelude.{◌||◌, not, option_map}
-use Rattle.conftest.specs.declared.job.Job.{Job}
-use Rattle.conftest.specs.Probe.{run_of, job_of}
+use Rattle.jobs.specs.declared.job.Job.{Job}
+use Rattle.jobs.specs.Probe.{run_of, job_of}
 use Rattle.crew_trait.specs.declared.reply.Reply.{Reply}
 use Rattle.deftable.specs.Table.{value_of}
 use Rattle.shellword.specs.declared.part.Part.{Part}

@@ -2,7 +2,7 @@
 use Rattle.std.proofs.Common.{◌≡◌, ℕ, suc, Option, Some, None, List, [], ◌∷◌, Bool, true, false, cond, ◌⊎◌, inl, inr, refl, sym, ap, ◌∙◌, subst, ⊎_elim}
 use Rattle.std.specs.Prelude.{bytes_eq, ◌||◌, is_some}
 use Rattle.std.proofs.lemmas.Bool.{cases_Bool}
-use Rattle.conftest.specs.declared.job.Job.{Job}
+use Rattle.jobs.specs.declared.job.Job.{Job}
 use Rattle.crew_trait.specs.declared.reply.Reply.{Reply}
 use Rattle.deftable.specs.Table.{value_of}
 use Rattle.syntax.specs.declared.listed.Listed.{Listed}

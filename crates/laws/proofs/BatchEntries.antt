@@ -3,7 +3,7 @@ use Rattle.std.proofs.Common.{◌≡◌, ℕ, Option, Some, None, List, [], ◌�
 use Rattle.std.specs.Prelude.{◌||◌, ◌==◌, option_map, bytes_eq, unwrap_or}
 use Rattle.std.proofs.lemmas.Bool.{cases_Bool}
 use Rattle.std.proofs.lemmas.List.{append-nil}
-use Rattle.conftest.specs.declared.job.Job.{Job}
+use Rattle.jobs.specs.declared.job.Job.{Job}
 use Rattle.crew_trait.specs.declared.entry.Entry.{Entry}
 use Rattle.crew_trait.specs.declared.entry.Entry.TheVariants.{Said, Child}
 use Rattle.crew_trait.specs.declared.reply.Reply.{Reply}

@@ -1,6 +1,6 @@
 -- Tests that write no name but their own.
 use Rattle.std.proofs.Common.{◌≡◌, ℕ, Option, Some, None, List, Bool, true, false, inl, inr, refl, sym, ap, ◌∙◌, subst, ⊎_elim, [], ◌∷◌}
-use Rattle.conftest.specs.Probe.{job_of}
+use Rattle.jobs.specs.Probe.{job_of}
 use Rattle.deftable.specs.Table.{value_of, with_entry, without_entry}
 use Rattle.shellword.specs.Value.{word_value}
 use Rattle.syntax.specs.declared.statement.Plain as plain

@@ -1,6 +1,6 @@
 -- What holds at the ends of runs that are made of others.
 use Rattle.std.proofs.Common.{ℕ, Option, Some, None, List, [], ◌∷◌, Bool, true, false, cond}
-use Rattle.conftest.specs.declared.job.Job.{Job}
+use Rattle.jobs.specs.declared.job.Job.{Job}
 use Rattle.crew_trait.specs.declared.reply.Reply.{Reply}
 use Rattle.meaning.specs.State.{State, How, Goes_on, Completed, Stopped, Cut, Run, Ends, Asks, then_run, ended, as_is, with_child}
 use Rattle.meaning.specs.Asking.{success, only_reply, heard, child, compiled, without_compiler, same, Attempt, attempted}

@@ -1,7 +1,7 @@
 -- Laws of batches: which entries ask for a child, and what becomes of the replies.
 use Rattle.std.specs.Prelude.{◌≡◌, ◌≤◌, ◌==◌, ℕ, Bool, true, false, List, [], ◌∷◌, ◌++◌, ◌⊎◌, Option, Some, None, option_map, is_some, bytes_eq, drop, length, codes, if◌then◌else◌}
-use Rattle.conftest.specs.declared.job.Job.{Job}
-use Rattle.conftest.specs.Probe.{words_of}
+use Rattle.jobs.specs.declared.job.Job.{Job}
+use Rattle.jobs.specs.Probe.{words_of}
 use Rattle.crew_trait.specs.declared.reply.Reply.{Reply}
 use Rattle.deftable.specs.Table.{value_of}
 use Rattle.meaning.specs.State.{State, How, Goes_on, Stopped, Cut, Run, Ends}

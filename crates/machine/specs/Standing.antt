@@ -1,6 +1,6 @@
 -- The position of a machine in a plan.
 use Rattle.std.specs.Prelude.{◌≡◌, ℕ, ◌+◌, ◌≤◌, List, [], length, replicate, Option, Some, None}
-use Rattle.conftest.specs.declared.job.Job.{Job}
+use Rattle.jobs.specs.declared.job.Job.{Job}
 use Rattle.crew_trait.specs.declared.reply.Reply.{Reply}
 use Rattle.meaning.specs.State.{State, Scope, Goes_on, Completed, Stopped, Cut, Run, Ends, Asks}
 use Rattle.plan.specs.Walk.{Instruction, Mind, walk}

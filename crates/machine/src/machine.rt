@@ -13,10 +13,11 @@ ghost use Rattle.machine.specs.Standing.{Fits, Holds, Rests, Turned, outcome_of,
 ghost use Rattle.searching.specs.Waits.{Awaits, given, refused_rest, resumed, waits_for};
 ghost use Rattle.searching.specs.declared.wait.Wait.TheVariants as waits;
 
-use conftest::Job;
 use crew_trait::{Log, Reply};
 use deftable::{Defs, Notes, Vars};
-use execution::{do_step, hear};
+use execution::do_step;
+use hearing::hear;
+use jobs::Job;
 use plan::{Plan, Step};
 use runstate::open_tests::{OpenTests, refuse_all, unset_all};
 use runstate::pieces::report_cut;

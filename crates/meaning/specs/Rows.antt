@@ -1,7 +1,7 @@
 -- The rows of the kinds of tests.
 use Rattle.std.specs.Prelude.{ℕ, Bool, true, false, List, [], ◌∷◌, ◌++◌, Option, Some, None, codes, map, unwrap_or, is_some, bytes_eq, if◌then◌else◌}
-use Rattle.conftest.specs.declared.job.Job.{Job}
-use Rattle.conftest.specs.Probe.{Probe, Compile, Link, path_of, job_of}
+use Rattle.jobs.specs.declared.job.Job.{Job}
+use Rattle.jobs.specs.Probe.{Probe, Compile, Link, path_of, job_of}
 use Rattle.csource.specs.Sources.{default_includes, header_source, function_source, declaration_source, type_source, second_type_source}
 use Rattle.deftable.specs.Table.{value_of}
 use Rattle.m4quote.specs.Names.{sh_byte, cpp_byte}

@@ -1,6 +1,6 @@
 -- Programs that are tried (Autoconf's manual, "Running the Compiler").
 use Rattle.std.specs.Prelude.{ℕ, Bool, false, List, if◌then◌else◌}
-use Rattle.conftest.specs.Probe as probe
+use Rattle.jobs.specs.Probe as probe
 use Rattle.csource.specs.Sources.{program_source}
 use Rattle.shellword.specs.Value.{word_value}
 use Rattle.syntax.specs.declared.program.Try as kinds

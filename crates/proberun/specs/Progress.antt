@@ -1,7 +1,7 @@
 -- How far a run over a crew is, between two groups of jobs.
 use Rattle.plan.specs.Walk.{empty_mind}
 use Rattle.std.specs.Prelude.{◌≡◌, ℕ, ◌+◌, List, [], ◌++◌, length, fold, None, IfSome}
-use Rattle.conftest.specs.declared.job.Job.{Job}
+use Rattle.jobs.specs.declared.job.Job.{Job}
 use Rattle.crew_trait.specs.declared.reply.Reply.{Reply}
 use Rattle.crew_trait.specs.declared.event.CrewEvent.{CrewEvent}
 use Rattle.crew_trait.specs.Events.{Account, IsIdle, replies_in, flying_after}

@@ -6,8 +6,8 @@ ghost use Rattle.proberun.specs.Serving.{Serving, Served, HasHeld, HeldBelow, Al
 
 use crate::queue::Queue;
 use crate::slots::{free_slot, is_idle};
-use conftest::Job;
 use crew_trait::{Crew, Reply};
+use jobs::Job;
 use machine::Machine;
 
 // Returns a free slot and the next job, if there are both.

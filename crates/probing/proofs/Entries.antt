@@ -1,7 +1,7 @@
 -- The test of an entry, as what is asked for.
 use Rattle.std.proofs.Common.{◌≡◌, ℕ, Bool, true, false, cond, List, ◌∷◌, sym, ap, ◌∙◌, subst}
 use Rattle.std.specs.Prelude.{Option, Some, None, is_some}
-use Rattle.conftest.specs.declared.job.Job.{Job}
+use Rattle.jobs.specs.declared.job.Job.{Job}
 use Rattle.csource.specs.Sources.{type_source, second_type_source}
 use Rattle.deftable.specs.Table.{value_of}
 use Rattle.shellword.specs.declared.part.Part.{Part}

@@ -16,8 +16,8 @@ ghost use Rattle.searching.specs.declared.wait.Wait.TheVariants.{Size};
 ghost use Rattle.syntax.specs.declared.listed.Sought.TheVariants.{Entry, «Type»};
 ghost use Rattle.searching.specs.declared.flow.Flow.TheVariants.{Pass};
 
-use conftest::Job;
 use deftable::Bytes;
+use jobs::Job;
 use runstate::{About, Store};
 use searching::deciding::{begin_trial, end_known, is_yes, trial_of};
 use searching::programs::{entry_job, stop_without_compiler, type_jobs};

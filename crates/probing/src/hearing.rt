@@ -9,7 +9,7 @@ ghost use Rattle.searching.specs.Trials.{decided};
 ghost use Rattle.searching.specs.Waits.{found_end};
 ghost use Rattle.searching.specs.declared.flow.Flow.TheVariants.{Pass};
 
-use conftest::Job;
+use jobs::Job;
 use runstate::{About, Store};
 use searching::deciding::decide;
 use searching::search::alone;

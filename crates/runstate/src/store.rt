@@ -9,13 +9,14 @@ ghost use Rattle.meaning.specs.Meaning.{has_value, is_full_name, is_slash, is_un
 ghost use Rattle.meaning.specs.Rows.{value_or_empty};
 ghost use Rattle.meaning.specs.State.{opened, told, with_child, with_definition, with_variable, without_variable};
 ghost use Rattle.meaning.specs.Tries.{first_probe, text_of};
-ghost use Rattle.conftest.specs.Probe.{job_of};
+ghost use Rattle.jobs.specs.Probe.{job_of};
 ghost use Rattle.runstate.specs.Copies.{Copied};
 
-use conftest::{Job, JobFault, compile_job, link_job, preproc_job};
+use conftest::{JobFault, compile_job, link_job, preproc_job};
 use crew_trait::{Entry, Log, Reply};
 use csource::program_source;
 use deftable::{Bytes, Defs, Note, Notes, Stream, Vars};
+use jobs::Job;
 use shellword::{HereText, Test, Word};
 use std::alloc::{AllocError, Global};
 use std::marker::Model;

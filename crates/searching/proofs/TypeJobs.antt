@@ -2,8 +2,8 @@
 use Rattle.std.proofs.Common.{◌≡◌, ℕ, List, Bool, true, false, cond, codes, length, refl, sym, ap, ◌∙◌, subst}
 use Rattle.std.specs.Prelude.{Option, Some, None, ◌==◌}
 use Rattle.std.specs.Option.{option_zip}
-use Rattle.conftest.specs.declared.job.Job.{Job}
-use Rattle.conftest.specs.Probe.{Compile, job_of, words_of}
+use Rattle.jobs.specs.declared.job.Job.{Job}
+use Rattle.jobs.specs.Probe.{Compile, job_of, words_of}
 use Rattle.csource.specs.Sources.{type_source, second_type_source}
 use Rattle.searching.specs.Trials.{AreBoth}
 

@@ -1,6 +1,6 @@
 -- The pieces, the value and the definition of an entry's test, whose programs have been made.
 use Rattle.std.specs.Prelude.{◌≡◌, ℕ, Bool, true, false, List, ◌++◌, Option, Some, None, codes}
-use Rattle.conftest.specs.declared.job.Job.{Job}
+use Rattle.jobs.specs.declared.job.Job.{Job}
 use Rattle.syntax.specs.declared.listed.Sought.{Sought}
 use Rattle.syntax.specs.declared.listed.Sought.TheVariants.{Entry, «Type»}
 use Rattle.meaning.specs.State.{State, with_variable, Cut}

@@ -1,7 +1,7 @@
 -- What a machine waits for, and what follows the replies.
 use Rattle.std.specs.Prelude.{◌≡◌, ◌<◌, ◌≤◌, ℕ, suc, Bool, true, false, ◌||◌, List, [], ◌∷◌, Option, None, Some, drop, length, map, unwrap_or, if◌then◌else◌}
-use Rattle.conftest.specs.declared.job.Job.{Job}
-use Rattle.conftest.specs.Probe.{run_of}
+use Rattle.jobs.specs.declared.job.Job.{Job}
+use Rattle.jobs.specs.Probe.{run_of}
 use Rattle.crew_trait.specs.declared.reply.Reply.{Reply}
 use Rattle.crew_trait.specs.declared.reply.Reply.TheVariants.{StartRefused}
 use Rattle.deftable.specs.Table.{value_of}

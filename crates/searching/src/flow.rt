@@ -1,7 +1,7 @@
 //! What follows a step.
 
 use crate::wait::Wait;
-use conftest::Job;
+use jobs::Job;
 
 /// What follows a step, or the replies to the jobs that it asked for.
 #[derive(Drop)]

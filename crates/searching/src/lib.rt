@@ -4,8 +4,8 @@
 //! and `wait` have their types. `search` looks for programs along PATH: it asks for one directory after the other, unless the
 //! search is known (`specs/Known`). `trial` has the tests of headers, functions, declarations and types that have begun,
 //! `programs` their programs and jobs, and `deciding` what they print, keep and define (`specs/Trials`). `replies` has what a
-//! reply means. The crates `probing` and `batching` ask for the children of such tests, and `execution` does the steps, and takes
-//! the replies.
+//! reply means, and `questions` asks for the child of a question. The crates `probing` and `batching` ask for the children of such tests, `execution` does the steps, and `hearing`
+//! takes the replies.
 //!
 //! The theorem is that the test of a program, with what follows it, continues as the flow says, whatever the tests around it.
 #![tactic(auto)]
@@ -13,6 +13,7 @@
 pub mod deciding;
 pub mod flow;
 pub mod programs;
+pub mod questions;
 pub mod replies;
 pub mod search;
 pub mod trial;

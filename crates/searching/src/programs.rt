@@ -2,7 +2,7 @@
 //! Functions", "Generic Declarations" and "Generic Types").
 
 ghost use Rattle.std.specs.Prelude.{◌≡◌, IfOk, OnOk};
-ghost use Rattle.conftest.specs.Probe.{Compile, job_of};
+ghost use Rattle.jobs.specs.Probe.{Compile, job_of};
 ghost use Rattle.csource.specs.Sources as sources;
 ghost use Rattle.deftable.specs.declared.note.Stream.TheVariants as streams;
 ghost use Rattle.meaning.specs.Asking.{no_compiler};
@@ -12,12 +12,12 @@ ghost use Rattle.searching.specs.Trials.{AreBoth};
 ghost use Rattle.searching.specs.declared.flow.Flow.TheVariants.{Stop};
 
 use crate::flow::Flow;
-use conftest::Job;
 use csource::{
     declaration_source, default_includes, function_source, header_source, second_type_source,
     type_source,
 };
 use deftable::Bytes;
+use jobs::Job;
 use runstate::Store;
 use runstate::pieces::report_no_compiler;
 use shellword::HereText;

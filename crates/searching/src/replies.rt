@@ -4,8 +4,8 @@ ghost use Rattle.std.specs.Prelude.{◌≡◌, ◌∷◌, [], OnOk, option_to_li
 ghost use Rattle.meaning.specs.Asking.{success};
 ghost use Rattle.searching.specs.Waits.{with_asked};
 
-use conftest::Job;
 use crew_trait::Reply;
+use jobs::Job;
 use runstate::Store;
 use std::alloc::AllocError;
 

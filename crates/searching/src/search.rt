@@ -1,7 +1,7 @@
 //! Searches for programs along PATH (Autoconf's manual, "Generic Programs").
 
 ghost use Rattle.std.specs.Prelude.{◌≡◌, ◌≤◌, ◌+◌, ◌++◌, ◌∷◌, [], None, Some, IfOk, OnOk, IfSome, IfNone, if◌then◌else◌, length, option_map, codes, map, take};
-ghost use Rattle.conftest.specs.Probe.{path_of};
+ghost use Rattle.jobs.specs.Probe.{path_of};
 ghost use Rattle.deftable.specs.Table as tables;
 ghost use Rattle.meaning.specs.Directories.{ends_empty, directory_of, directories_of, without_last_empty};
 ghost use Rattle.meaning.specs.Meaning.{program_test};
@@ -15,8 +15,9 @@ ghost use Rattle.searching.specs.declared.flow.Flow.TheVariants.{Pass};
 
 use crate::flow::Flow;
 use crate::wait::Wait;
-use conftest::{Job, path_job};
+use conftest::path_job;
 use deftable::Bytes;
+use jobs::Job;
 use runstate::Store;
 use runstate::pieces::{begin_search, end_cached, end_search};
 use std::alloc::{AllocError, Global};

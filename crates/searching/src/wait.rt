@@ -2,8 +2,8 @@
 
 use crate::search::{Directories, Search};
 use crate::trial::{Trial, Waiting};
-use conftest::Job;
 use deftable::Bytes;
+use jobs::Job;
 
 /// What the replies to the jobs that are asked for decide.
 #[derive(Drop)]

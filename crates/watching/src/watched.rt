@@ -7,8 +7,8 @@ ghost use Rattle.crew_trait.specs.declared.event.CrewEvent.TheVariants.{Started,
 ghost use Rattle.watching.specs.Progress.{text_after, erasure};
 
 use crate::line::{Line, Text, command_of, text_of};
-use conftest::Job;
 use crew::{Crew, Refused, Reply};
+use jobs::Job;
 use std::io::Write;
 use std::marker::Model;
 

@@ -1,6 +1,6 @@
 use Rattle.std.proofs.Common.{ℕ, List, subst}
 use Rattle.std.specs.Prelude.{Option}
-use Rattle.conftest.specs.declared.job.Job.{Job}
+use Rattle.jobs.specs.declared.job.Job.{Job}
 use Rattle.csource.specs.Sources.{type_source, second_type_source}
 use Rattle.meaning.specs.Rows.{type_job}
 use Rattle.searching.specs.Trials.{AreBoth}

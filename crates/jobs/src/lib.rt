@@ -1,0 +1,16 @@
+//! The jobs that a configure run gives to child processes. A job is the words of a command and, for most, a program for
+//! it to read. It is only a value: nothing is written or started here.
+//!
+//! The crate `conftest` makes the jobs. Whoever speaks of jobs, and makes none, needs this crate alone.
+//!
+//! "own" marks a rule that no manual gives.
+//!
+//! Read `specs/Probe.antt` first: each job is `job_of` of a probe, its number, the variables and the definitions. Then read
+//! `words` and `job`.
+#![tactic(auto)]
+
+mod job;
+mod words;
+
+pub use job::Job;
+pub use words::{Words, push_all};
