@@ -1,7 +1,11 @@
 #!/usr/bin/env python3
-"""Runs `rt ci` at the top of the repository and says where its time goes: for each crate the processor seconds that its proof,
-the proofs of its tests and its must-fail edits took, and the longest single check. The whole output goes to out/gate.log, with
-the time in seconds before each line. The exit status is that of `rt ci`.
+"""Runs the gate at the top of the repository and says where its time goes: for each crate the processor seconds that its proof,
+the proofs of its tests and its must-fail edits took, and the longest single check; and the longest chain of crates, each of
+which waits for the one before. The whole output goes to out/gate.log, with the time in seconds before each line. The exit status
+is that of the gate.
+
+  gate_times.py            runs `make check`
+  gate_times.py WORD..     runs this command instead, such as `make`
 """
 import collections
 import os
@@ -9,6 +13,8 @@ import subprocess
 import sys
 import threading
 import time
+
+import repository
 
 TICK = os.sysconf("SC_CLK_TCK")
 
@@ -42,10 +48,24 @@ def running(root):
     return found
 
 
+def longest_chain(total):
+    """Returns the chain of crates whose proofs take the longest one after the other, and its seconds."""
+    rows, chains = repository.rows(), {}
+
+    def chain(crate):
+        if crate not in chains:
+            below = max((chain(it) for it in rows[crate] if it in rows), default=(0, []))
+            chains[crate] = below[0] + total[crate, "proof"], [*below[1], crate]
+        return chains[crate]
+
+    return max(chain(crate) for crate in rows)
+
+
 def main():
     os.makedirs("out", exist_ok=True)
     began = time.time()
-    gate = subprocess.Popen(["rt", "ci"], stdout=subprocess.PIPE, stderr=subprocess.STDOUT, errors="replace")
+    words = sys.argv[1:] or ["make", "check"]
+    gate = subprocess.Popen(words, stdout=subprocess.PIPE, stderr=subprocess.STDOUT, errors="replace")
 
     def copy():
         with open("out/gate.log", "w") as log:
@@ -69,7 +89,9 @@ def main():
         print(f"{crate:<14}{kind:<8}{used:>8.0f}{longest[crate, kind]:>9.0f}")
     for kind in ("proof", "tests", "edits"):
         print(f"{'all':<14}{kind:<8}{sum(used for (_, it), used in total.items() if it == kind):>8.0f}")
-    print(f"{time.time() - began:.0f} seconds in all on {os.cpu_count()} processors")
+    seconds, crates = longest_chain(total)
+    print(f"longest chain: {seconds:.0f} seconds: {', '.join(crates)}")
+    print(f"{time.time() - began:.0f} seconds in all on {len(os.sched_getaffinity(0))} processors")
     with open("out/gate.log") as log:
         print("last line:", log.read().rstrip().rpartition("\n")[2])
     return gate.returncode

@@ -11,7 +11,7 @@ use std::alloc::{AllocError, Global};
 use textcut::fields;
 
 /// Appends the words of a variable's value.
-#[tactic(auto, unfolding(crate::specs::Probe::words_of))]
+#[tactic(auto, unfolding(jobs::specs::Probe::words_of))]
 fn push_value(alloc: Global, words: &mut Words, vars: &Vars, name: &[u8]) -> Result<(), AllocError>
     ensures { OnOk result (words.new ≡ words.old ++ probe.words_of vars.now name.now) }
 {
@@ -35,7 +35,7 @@ pub(crate) fn compiler(alloc: Global, vars: &Vars) -> Result<Words, AllocError>
 }
 
 /// Returns the words of CPP, or those of CC with `-E` if CPP has none.
-#[tactic(auto, unfolding(crate::specs::Probe::preprocessor))]
+#[tactic(auto, unfolding(jobs::specs::Probe::preprocessor))]
 pub(crate) fn preprocessor(alloc: Global, vars: &Vars) -> Result<Words, AllocError>
     ensures { IfOk result (λ w. w ≡ probe.preprocessor vars.now) }
 {
@@ -75,7 +75,7 @@ fn push_out(alloc: Global, words: &mut Words, number: u64) -> Result<(), AllocEr
 }
 
 /// Appends the arguments of a compile job to the compiler's own words.
-#[tactic(auto, unfolding(crate::specs::Probe::compile_words))]
+#[tactic(auto, unfolding(jobs::specs::Probe::compile_words))]
 pub(crate) fn push_compile_words(
     alloc: Global,
     words: &mut Words,
@@ -91,7 +91,7 @@ pub(crate) fn push_compile_words(
 }
 
 /// Appends the arguments of a link job to the compiler's own words.
-#[tactic(auto, unfolding(crate::specs::Probe::link_words))]
+#[tactic(auto, unfolding(jobs::specs::Probe::link_words))]
 pub(crate) fn push_link_words(
     alloc: Global,
     words: &mut Words,
@@ -110,7 +110,7 @@ pub(crate) fn push_link_words(
 }
 
 /// Appends the arguments of a preprocess job to the preprocessor's own words.
-#[tactic(auto, unfolding(crate::specs::Probe::preprocess_words))]
+#[tactic(auto, unfolding(jobs::specs::Probe::preprocess_words))]
 pub(crate) fn push_preprocess_words(
     alloc: Global,
     words: &mut Words,

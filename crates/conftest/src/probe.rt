@@ -23,7 +23,7 @@ use std::alloc::{AllocError, Global};
 /// # Errors
 ///
 /// Returns [`JobFault::NoCompiler`] if CC is unset or has no word.
-#[tactic(auto, unfolding(crate::specs::Probe::job_of))]
+#[tactic(auto, unfolding(jobs::specs::Probe::job_of))]
 pub fn compile_job(
     alloc: Global,
     vars: &Vars,
@@ -51,7 +51,7 @@ pub fn compile_job(
 /// # Errors
 ///
 /// Returns [`JobFault::NoCompiler`] if CC is unset or has no word.
-#[tactic(auto, unfolding(crate::specs::Probe::job_of))]
+#[tactic(auto, unfolding(jobs::specs::Probe::job_of))]
 pub fn link_job(
     alloc: Global,
     vars: &Vars,
@@ -79,7 +79,7 @@ pub fn link_job(
 /// # Errors
 ///
 /// Returns [`JobFault::NoCompiler`] if neither CPP nor CC has a word.
-#[tactic(auto, unfolding(crate::specs::Probe::job_of))]
+#[tactic(auto, unfolding(jobs::specs::Probe::job_of))]
 pub fn preproc_job(
     alloc: Global,
     vars: &Vars,
@@ -101,7 +101,7 @@ pub fn preproc_job(
 
 /// Returns the job that runs the program of the link job with this number: `./conftest`, or `./conftestN` (Autoconf's
 /// manual, "Runtime").
-#[tactic(auto, unfolding(crate::specs::Probe::run_of))]
+#[tactic(auto, unfolding(jobs::specs::Probe::run_of))]
 pub fn run_job(alloc: Global, number: u64) -> Result<Job, AllocError>
     ensures { IfOk result (λ job. job ≡ run_of number) }
 {
@@ -122,7 +122,7 @@ fn program_path(alloc: Global, number: u64) -> Result<Vec<u8>, AllocError>
 }
 
 /// Returns the job that succeeds if `file` is a regular file that may be executed. A shell tests it with POSIX's `test` (own).
-#[tactic(auto, unfolding(crate::specs::Probe::path_of))]
+#[tactic(auto, unfolding(jobs::specs::Probe::path_of))]
 pub fn path_job(alloc: Global, file: &[u8]) -> Result<Job, AllocError>
     ensures { IfOk result (λ job. job ≡ path_of file.now) }
 {
@@ -132,7 +132,7 @@ pub fn path_job(alloc: Global, file: &[u8]) -> Result<Job, AllocError>
 }
 
 /// Appends the words of the shell command that tests a file.
-#[tactic(auto, unfolding(crate::specs::Probe::path_words))]
+#[tactic(auto, unfolding(jobs::specs::Probe::path_words))]
 fn push_path_words(words: &mut Words, file: &[u8]) -> Result<(), AllocError>
     requires { words.old ≡ [] }
     ensures { OnOk result (words.new ≡ probe.path_words file.now) }
