@@ -67,3 +67,13 @@ check:
 install: $(acrun)
 	mkdir -p "$(DESTDIR)$(prefix)/bin"
 	install -m 755 $(acrun) "$(DESTDIR)$(prefix)/bin/acrun"
+
+# make edits       tries the wrong bodies of every crate, or of those that NAMES names: make edits NAMES="crew plan"
+# make edits-test  tries the script that does it
+.PHONY: edits edits-test
+
+edits:
+	@python3 tools/edits_together.py $(NAMES)
+
+edits-test:
+	@python3 tools/edits_together.py --selftest

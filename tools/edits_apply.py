@@ -1,20 +1,23 @@
 #!/usr/bin/env python3
-"""Lists the must-fail edits of crates/ whose old text is not in its file exactly once. The exit status is 1 if there is one."""
+"""Lists the edits of crates/*/must-fail and crates/*/wrong-bodies that cannot be applied: an old text does not stand once in its
+file, as the pairs before it left that file. The exit status is 1 if there is one."""
 import pathlib
 import sys
 
 wrong = 0
-for path in sorted(pathlib.Path("crates").glob("*/must-fail/*.edit")):
-    file, old = None, []
+for path in sorted(it for folder in ("must-fail", "wrong-bodies") for it in pathlib.Path("crates").glob(f"*/{folder}/*.edit")):
+    file, old, texts = None, None, {}
     for line in path.read_text().splitlines():
-        word, _, rest = line.partition(": ")
+        word, _, rest = line.partition(":")
+        rest = rest.removeprefix(" ")
         if word == "file":
             file = path.parent.parent / rest
-        elif word.rstrip(":") == "old":
-            old.append(rest)
-    text = file.read_text()
-    for part in old:
-        if text.count(part) != 1:
-            print(f"{path}: {text.count(part)} times")
-            wrong = 1
+            texts.setdefault(file, file.read_text() if file.is_file() else "")
+        elif word == "old":
+            old = rest
+        elif word == "new":
+            if texts[file].count(old) != 1:
+                print(f"{path}: {texts[file].count(old)} times")
+                wrong = 1
+            texts[file] = texts[file].replace(old, rest)
 sys.exit(wrong)
