@@ -3,12 +3,13 @@
 # make demo     the same, and runs it on the examples
 # make compile  tries sample conftests with a real compiler, the one that CC names
 # make check    the gate: every proof, every test, every must-fail edit, and the checks of tools/repository.py
-# make edits    tries the wrong bodies of the crates; NAMES="CRATE .." tries those of these crates
+# make edits    tries the wrong bodies of every crate, or of those that NAMES names: make edits NAMES="crew plan"
+# make edits-test  tries the script that does it
 # make install  puts the built program at $(prefix)/bin/acrun
 
 prefix = /usr/local
 
-.PHONY: all try demo compile check install
+.PHONY: all try demo compile check edits edits-test install
 
 # tools/build.sh looks at what has changed, and builds nothing anew if nothing has.
 all:
@@ -30,6 +31,12 @@ compile:
 
 check:
 	@python3 tools/gate.py
+
+edits:
+	@python3 tools/edits_together.py $(NAMES)
+
+edits-test:
+	@python3 tools/edits_together.py --selftest
 
 install: all
 	mkdir -p "$(DESTDIR)$(prefix)/bin"

@@ -18,7 +18,7 @@ def build(folder, name, used, *words):
         wanted |= {below for it in wanted for below in uses[it] if below in uses}
     crates = folder / "crates"
     for it in wanted:
-        shutil.copytree(ROOT / "crates" / it, crates / it, ignore=shutil.ignore_patterns("must-fail"))
+        shutil.copytree(ROOT / "crates" / it, crates / it, ignore=shutil.ignore_patterns("must-fail", "wrong-bodies"))
     here = crates / f"{name}_bench"
     (here / "src").mkdir(parents=True)
     shutil.copyfile(ROOT / "bench" / f"{name}.rt.txt", here / "src" / "main.rt")

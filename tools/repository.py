@@ -49,30 +49,33 @@ def unnamed_crates():
                 yield f"{file} does not name the crate {crate}"
 
 
-def pairs(edit):
-    """Returns the file of an edit, and the texts that it replaces."""
-    file, old = None, []
+def applied(edit):
+    """Applies an edit, and returns what is wrong with it, if anything is."""
+    file, old, texts = None, None, {}
     for line in edit.read_text().splitlines():
-        word, _, rest = line.partition(": ")
+        word, _, text = line.partition(": ")
         if word == "file":
-            file = edit.parent.parent / rest.strip()
+            file = edit.parent.parent / text.strip()
+            if not file.is_file():
+                return f"there is no file {file}"
         elif word == "old":
-            old.append(rest)
-    return file, old
+            old = text
+        elif word.rstrip(":") == "new":
+            if not file or not old:
+                return "it replaces nothing"
+            now = texts.get(file) or file.read_text()
+            if now.count(old) != 1:
+                return f"its text is in {file} {now.count(old)} times: {old.strip()}"
+            texts[file] = now.replace(old, text)
+    return "" if texts else "it replaces nothing"
 
 
 def edits_that_do_not_apply():
     """The text that an edit replaces is not in its file exactly once."""
     for edit in sorted([*CRATES.glob("*/must-fail/*.edit"), *CRATES.glob("*/wrong-bodies/*.edit")]):
-        file, old = pairs(edit)
-        if not file or not file.is_file() or not old:
-            yield f"{edit}: it names no file, or replaces nothing"
-            continue
-        text = file.read_text()
-        for part in old:
-            # A later pair may replace what an earlier one wrote.
-            if text.count(part) != 1 and part == old[0]:
-                yield f"{edit}: the text is in {file} {text.count(part)} times"
+        wrong = applied(edit)
+        if wrong:
+            yield f"{edit}: {wrong}"
 
 
 def edits_over_the_budget():
