@@ -26,7 +26,7 @@ use plan::Step;
 use probing::check_entry;
 use runstate::pieces::{report_error, say};
 use runstate::{About, OpenTests, Store, initialise};
-use searching::programs::stop_without_compiler;
+use searching::programs::{job_to_try, stop_without_compiler};
 use searching::questions::{ask_answer, ask_link};
 use searching::search::look_for;
 use searching::{Flow, Search};
@@ -396,7 +396,7 @@ fn first_job(
     ensures { IfOk result (λ job. job ≡ job_of (first_probe kind (text_of program.now store.now.vars)) 0 store.now.vars store.now.defs) }
 {
     let text = store.program_text(alloc, program)?;
-    store.job_to_try(alloc, kind, text.as_slice(), 0)
+    job_to_try(alloc, store, kind, text.as_slice(), 0)
 }
 
 /// Tries a program.

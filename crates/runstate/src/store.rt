@@ -8,11 +8,9 @@ ghost use Rattle.shellword.specs.Value.{word_value};
 ghost use Rattle.meaning.specs.Meaning.{has_value, is_full_name, is_slash, is_unsettled, settled, starts_slash, with_prefixes};
 ghost use Rattle.meaning.specs.Rows.{value_or_empty};
 ghost use Rattle.meaning.specs.State.{opened, told, with_child, with_definition, with_variable, without_variable};
-ghost use Rattle.meaning.specs.Tries.{first_probe, text_of};
-ghost use Rattle.jobs.specs.Probe.{job_of};
+ghost use Rattle.meaning.specs.Tries.{text_of};
 ghost use Rattle.runstate.specs.Copies.{Copied};
 
-use conftest::{JobFault, compile_job, link_job, preproc_job};
 use crew_trait::{Entry, Log, Reply};
 use csource::program_source;
 use deftable::{Bytes, Defs, Note, Notes, Stream, Vars};
@@ -20,7 +18,7 @@ use jobs::Job;
 use shellword::{HereText, Test, Word};
 use std::alloc::{AllocError, Global};
 use std::marker::Model;
-use syntax::{Program, Try};
+use syntax::Program;
 
 /// Variables and definitions, the messages that were printed, and the log. Contracts see them as a state.
 pub struct Store {
@@ -60,6 +58,20 @@ impl Store {
             messages: Notes::new(alloc),
             log: Log::new(alloc),
         }
+    }
+
+    /// Returns the variables.
+    pub fn vars(&self) -> &Vars
+        ensures { result.now ≡ self.now.vars }
+    {
+        &self.vars
+    }
+
+    /// Returns the definitions.
+    pub fn defs(&self) -> &Defs
+        ensures { result.now ≡ self.now.defs }
+    {
+        &self.defs
     }
 
     fn put_piece(&mut self, alloc: Global, stream: Stream, text: Bytes) -> Result<(), AllocError>
@@ -169,28 +181,6 @@ impl Store {
                 program_source(alloc, prologue.as_slice(), body.as_slice())
             }
             Program::Source { text } => self.here_text(alloc, text),
-        }
-    }
-
-    /// Returns the first job of a program that is tried, with this number, or `None` if there is no compiler.
-    pub fn job_to_try(
-        &self,
-        alloc: Global,
-        kind: Try,
-        source: &[u8],
-        number: u64,
-    ) -> Result<Option<Job>, AllocError>
-        ensures { IfOk result (λ job. job ≡ job_of (first_probe kind source.now) number self.now.vars self.now.defs) }
-    {
-        let job = match kind {
-            Try::Compile => compile_job(alloc, &self.vars, &self.defs, source, number),
-            Try::Link | Try::Run => link_job(alloc, &self.vars, &self.defs, source, number),
-            Try::Preproc => preproc_job(alloc, &self.vars, &self.defs, source, number),
-        };
-        match job {
-            Ok(job) => Ok(Some(job)),
-            Err(JobFault::NoCompiler) => Ok(None),
-            Err(JobFault::OutOfMemory) => Err(AllocError),
         }
     }
 

@@ -8,10 +8,12 @@ ghost use Rattle.deftable.specs.declared.note.Stream.TheVariants as streams;
 ghost use Rattle.meaning.specs.Asking.{no_compiler};
 ghost use Rattle.meaning.specs.Rows.{entry_job, includes_text, type_job};
 ghost use Rattle.meaning.specs.State.{told};
+ghost use Rattle.meaning.specs.Tries.{first_probe};
 ghost use Rattle.searching.specs.Trials.{AreBoth};
 ghost use Rattle.searching.specs.declared.flow.Flow.TheVariants.{Stop};
 
 use crate::flow::Flow;
+use conftest::{JobFault, compile_job, link_job, preproc_job};
 use csource::{
     declaration_source, default_includes, function_source, header_source, second_type_source,
     type_source,
@@ -38,6 +40,28 @@ fn includes_text(
     }
 }
 
+/// Returns the first job of a program that is tried, with this number, or `None` if there is no compiler.
+pub fn job_to_try(
+    alloc: Global,
+    store: &Store,
+    kind: Try,
+    source: &[u8],
+    number: u64,
+) -> Result<Option<Job>, AllocError>
+    ensures { IfOk result (λ job. job ≡ job_of (first_probe kind source.now) number store.now.vars store.now.defs) }
+{
+    let job = match kind {
+        Try::Compile => compile_job(alloc, store.vars(), store.defs(), source, number),
+        Try::Link | Try::Run => link_job(alloc, store.vars(), store.defs(), source, number),
+        Try::Preproc => preproc_job(alloc, store.vars(), store.defs(), source, number),
+    };
+    match job {
+        Ok(job) => Ok(Some(job)),
+        Err(JobFault::NoCompiler) => Ok(None),
+        Err(JobFault::OutOfMemory) => Err(AllocError),
+    }
+}
+
 /// Returns the job that decides about an entry, with its number, or `None` if there is no compiler.
 pub fn entry_job(
     alloc: Global,
@@ -53,16 +77,16 @@ pub fn entry_job(
         Listed::Header => {
             let includes = includes_text(alloc, store, includes)?;
             let source = header_source(alloc, includes.as_slice(), entry)?;
-            store.job_to_try(alloc, Try::Compile, source.as_slice(), number)
+            job_to_try(alloc, store, Try::Compile, source.as_slice(), number)
         }
         Listed::Function => {
             let source = function_source(alloc, entry)?;
-            store.job_to_try(alloc, Try::Link, source.as_slice(), number)
+            job_to_try(alloc, store, Try::Link, source.as_slice(), number)
         }
         Listed::Declaration => {
             let includes = includes_text(alloc, store, includes)?;
             let source = declaration_source(alloc, includes.as_slice(), entry)?;
-            store.job_to_try(alloc, Try::Compile, source.as_slice(), number)
+            job_to_try(alloc, store, Try::Compile, source.as_slice(), number)
         }
     }
 }
@@ -77,7 +101,7 @@ fn first_type_job(
     ensures { IfOk result (λ job. job ≡ job_of (Compile (sources.type_source includes.now entry.now)) 0 store.now.vars store.now.defs) }
 {
     let source = type_source(alloc, includes, entry)?;
-    store.job_to_try(alloc, Try::Compile, source.as_slice(), 0)
+    job_to_try(alloc, store, Try::Compile, source.as_slice(), 0)
 }
 
 /// Returns the second job of a type's test.
@@ -90,7 +114,7 @@ fn second_type_job(
     ensures { IfOk result (λ job. job ≡ job_of (Compile (sources.second_type_source includes.now entry.now)) 0 store.now.vars store.now.defs) }
 {
     let source = second_type_source(alloc, includes, entry)?;
-    store.job_to_try(alloc, Try::Compile, source.as_slice(), 0)
+    job_to_try(alloc, store, Try::Compile, source.as_slice(), 0)
 }
 
 /// Returns the two jobs of a type's test, or `None` if there is no compiler.
