@@ -1,4 +1,0 @@
-pub mod Appending
-pub mod Done
-pub mod Quiet
-pub mod Windows

@@ -1,4 +1,0 @@
-pub mod Calls
-pub mod Lent
-pub mod Configures
-pub mod Progress

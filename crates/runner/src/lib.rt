@@ -1,31 +1,20 @@
 //! The program's commands, apart from the process that they run in.
 //!
-//! [`command`] chooses by the program's words: a whole run over files (`configure`), the outputs of a record made again (`status`),
-//! the stand-in for a compiler, the crate `standin`, and without words the filter, the crate `filtering`.
-//!
-//! A run is a call of `engine::configure` on texts that are read from files, over the crew that `command` is given and a receiver
-//! that writes files. What it leaves for its user is printed and logged after it.
+//! [`command`] chooses by the program's words, as the crate `invocation` reads them: a whole run over files (`configure`), the crate
+//! `configuring`; the outputs of a record made again (`status`), or the stand-in for a compiler, the crate `commands`; and without
+//! words the filter, the crate `filtering`.
 //!
 //! "own" marks a rule that no manual gives.
 //!
-//! In `specs`, read `Calls` (what the program is asked to do) and `Configures` (what it does then). In `src`, read `call`,
-//! `program`, `configuring` and `remaking`; `process`, `supplies`, `printing` and `telling` are what these two use. `progress` says
-//! whether the program may show its progress.
+//! The definitions are those of the crates below: `Calls` in `invocation`, `Configures` in `configuring`, `MadeAgain` in `commands`,
+//! and `Filtered` in `filtering`. In `src`, read `program`; `telling` is small.
 #![tactic(auto)]
 
-mod call;
-mod configuring;
-mod printing;
-mod process;
 mod program;
-mod progress;
-mod remaking;
-mod supplies;
 mod telling;
 
-pub use engine::Fault;
 pub use filtering::{FilterFault, Filtered, filter};
-pub use process::{environment, words};
+pub use framing::Fault;
+pub use invocation::{environment, may_show_progress, words};
 pub use program::{command, run};
-pub use progress::may_show_progress;
 pub use telling::tell;

@@ -2,20 +2,20 @@
 
 ghost use Rattle.std.specs.Prelude.{◌≡◌, ◌≢◌, ◌⊎◌, ◌+◌, ◌^◌, ◌≤◌, ℕ, List, [], IfSome};
 ghost use Rattle.std.specs.Io.KnownBytes.{Appends};
+ghost use Rattle.commands.specs.MadeAgain.{IsMadeAgain};
+ghost use Rattle.configuring.specs.Configures.{IsConfigured};
 ghost use Rattle.crew_trait.specs.Events.{IsIdle};
 ghost use Rattle.filtering.specs.Filtered.{IsFiltered};
-ghost use Rattle.runner.specs.Calls.{call_of, Unknown, IfFilter, IfStandIn, IfConfigure, IfStatus, HasNoRun, HasNoOutput};
-ghost use Rattle.runner.specs.Configures.{IsConfigured, IsMadeAgain};
+ghost use Rattle.invocation.specs.Calls.{call_of, Unknown, IfFilter, IfStandIn, IfConfigure, IfStatus, HasNoRun, HasNoOutput};
 ghost use Rattle.standin.specs.Standin.{IsAnswered};
 
-use crate::call::{Call, call_of};
-use crate::configuring::run_configure;
-use crate::remaking::run_status;
-use crate::telling::{tell, tell_memory, tell_usage};
+use crate::telling::tell;
+use commands::{run_standin, run_status};
+use configuring::run_configure;
 use crew_trait::Crew;
 use deftable::Bytes;
 use filtering::{Filtered, filter};
-use standin::standin;
+use invocation::{Call, call_of, tell_usage};
 use std::alloc::Global;
 use std::io::{self, Input, Read, Write};
 use std::rt::Files;
@@ -43,17 +43,6 @@ fn run_filter<R: Read, W: Write, E: Write>(
             status
         }
         Err(fault) => tell(errors, &fault),
-    }
-}
-
-/// Answers as the stand-in for a compiler.
-fn run_standin<F: Files, E: Write>(alloc: Global, files: &F, words: &[Bytes], errors: &mut E) -> u8
-    ensures answer { (result ≡ 2) ⊎ IsAnswered words.now result }
-    ensures silent { result ≡ 0 → errors.new ≡ errors.old }
-{
-    match standin(alloc, files, words, errors) {
-        Ok(status) => status,
-        Err(_) => tell_memory(errors),
     }
 }
 

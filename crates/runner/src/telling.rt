@@ -1,139 +1,18 @@
-//! The lines of errors, on standard error.
+//! The line of an error of the filter, on standard error.
 
 ghost use Rattle.std.specs.Prelude.{◌≡◌};
 
-use crate::supplies::precious_name;
-use engine::{Fault, RemakeFault};
+use commands::tell_fault;
 use filtering::FilterFault;
-use options::PreciousFault;
-use std::alloc::Global;
-use std::fmt;
-use std::io::{self, Write};
-
-/// The exit status after an error.
-pub(crate) const FAULT: u8 = 2;
-
-/// Writes the line of an error, with a name unless it is empty.
-fn put_line<E: Write, D: fmt::Display>(errors: &mut E, fault: &D, name: &[u8]) -> io::Result<()> {
-    write!(errors, "acrun: {fault}")?;
-    if !name.is_empty() {
-        errors.write_all(b" ")?;
-        errors.write_all(name)?;
-    }
-    errors.write_all(b"\n")
-}
-
-/// Reports an error on standard error. If that can't be written, only the exit status reports it.
-fn tell_named<E: Write, D: fmt::Display>(errors: &mut E, fault: &D, name: &[u8]) -> u8
-    ensures { result ≡ 2 }
-{
-    let _ = put_line(errors, fault, name);
-    FAULT
-}
-
-/// Returns the name of the template that is missing, or an empty text if none is.
-fn missing_name(fault: &Fault) -> &[u8] {
-    match fault {
-        Fault::NoTemplate(name) => name.as_slice(),
-        _ => b"",
-    }
-}
+use invocation::tell_named;
+use std::io::Write;
 
 /// Reports an error of the filter, and returns the exit status.
 pub fn tell<E: Write>(errors: &mut E, fault: &FilterFault) -> u8
     ensures { result ≡ 2 }
 {
     match fault {
-        FilterFault::Run(inner) => tell_named(errors, inner, missing_name(inner)),
+        FilterFault::Run(inner) => tell_fault(errors, inner),
         other => tell_named(errors, other, b""),
     }
-}
-
-/// Reports that memory ran out.
-pub(crate) fn tell_memory<E: Write>(errors: &mut E) -> u8
-    ensures { result ≡ 2 }
-{
-    tell_named(errors, &"memory", b"")
-}
-
-/// Reports words that the program doesn't know.
-pub(crate) fn tell_usage<E: Write>(errors: &mut E) -> u8
-    ensures { result ≡ 2 }
-{
-    tell_named(errors, &"usage", b"")
-}
-
-/// Reports that the file at this path can't be read, or can't be written.
-pub(crate) fn tell_file<E: Write>(errors: &mut E, path: &[u8]) -> u8
-    ensures { result ≡ 2 }
-{
-    tell_named(errors, &"file", path)
-}
-
-/// Reports that a put was refused.
-pub(crate) fn tell_put<E: Write>(errors: &mut E, number: u64) -> u8
-    ensures { result ≡ 2 }
-{
-    let _ = write!(errors, "acrun: put {number}\n");
-    FAULT
-}
-
-/// Reports a precious variable of this number, with the kind of its fault.
-fn tell_variable<E: Write>(
-    alloc: Global,
-    text: &[u8],
-    errors: &mut E,
-    kind: &str,
-    number: u64,
-) -> u8
-    ensures { result ≡ 2 }
-{
-    match precious_name(alloc, text, number) {
-        Ok(Some(name)) => tell_named(errors, &kind, name.as_slice()),
-        Ok(None) => tell_named(errors, &kind, b""),
-        Err(_) => tell_memory(errors),
-    }
-}
-
-/// Reports a precious variable.
-fn tell_precious<E: Write>(alloc: Global, text: &[u8], errors: &mut E, fault: PreciousFault) -> u8
-    ensures { result ≡ 2 }
-{
-    match fault {
-        PreciousFault::WasSet(number) => {
-            tell_variable(alloc, text, errors, "precious 1", number)
-        }
-        PreciousFault::WasUnset(number) => {
-            tell_variable(alloc, text, errors, "precious 2", number)
-        }
-        PreciousFault::Changed(number) => {
-            tell_variable(alloc, text, errors, "precious 3", number)
-        }
-        PreciousFault::OutOfMemory => tell_memory(errors),
-    }
-}
-
-/// Reports what is wrong with what a run of this source is given.
-pub(crate) fn tell_run<E: Write>(alloc: Global, text: &[u8], errors: &mut E, fault: &Fault) -> u8
-    ensures { result ≡ 2 }
-{
-    match fault {
-        Fault::Precious(inner) => tell_precious(alloc, text, errors, *inner),
-        other => tell_named(errors, other, missing_name(other)),
-    }
-}
-
-/// Returns the name of the template that is missing, or an empty text if none is.
-fn missing_again(fault: &RemakeFault) -> &[u8] {
-    match fault {
-        RemakeFault::NoTemplate(name) => name.as_slice(),
-        _ => b"",
-    }
-}
-
-/// Reports why outputs are not made again.
-pub(crate) fn tell_remake<E: Write>(errors: &mut E, fault: &RemakeFault) -> u8
-    ensures { result ≡ 2 }
-{
-    tell_named(errors, fault, missing_again(fault))
 }

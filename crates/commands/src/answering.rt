@@ -1,0 +1,27 @@
+//! The command that answers in a compiler's place.
+
+ghost use Rattle.std.specs.Prelude.{◌≡◌, ◌⊎◌};
+ghost use Rattle.standin.specs.Standin.{IsAnswered};
+
+use deftable::Bytes;
+use invocation::tell_memory;
+use standin::standin;
+use std::alloc::Global;
+use std::io::Write;
+use std::rt::Files;
+
+/// Answers as the stand-in for a compiler with this command line, and returns the exit status (own).
+pub fn run_standin<F: Files, E: Write>(
+    alloc: Global,
+    files: &F,
+    words: &[Bytes],
+    errors: &mut E,
+) -> u8
+    ensures answer { (result ≡ 2) ⊎ IsAnswered words.now result }
+    ensures silent { result ≡ 0 → errors.new ≡ errors.old }
+{
+    match standin(alloc, files, words, errors) {
+        Ok(status) => status,
+        Err(_) => tell_memory(errors),
+    }
+}

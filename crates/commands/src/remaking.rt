@@ -1,0 +1,118 @@
+//! The command that makes the outputs of a record again.
+
+ghost use Rattle.std.specs.Prelude.{◌≡◌, ◌≢◌, ℕ, List, Ok, IfOk, IsTrue};
+ghost use Rattle.std.specs.Io.KnownBytes.{Appends};
+ghost use Rattle.commands.specs.MadeAgain.{IsMadeAgain};
+
+use crate::telling::tell_remake;
+use deftable::Bytes;
+use diskfiles::{FileOutputs, read_text};
+use framing::{RemakeFault, remake};
+use invocation::{FAULT, print_lines, record_templates, tell_file, tell_memory};
+use std::alloc::{AllocError, Global};
+use std::io::Write;
+use std::rt::Files;
+
+/// The name of the record.
+const RECORD: &[u8] = b"config.status";
+
+/// Prints the lines of the outputs. Returns whether standard output took them.
+fn print_made<W: Write, E: Write>(lines: &[u8], output: &mut W, errors: &mut E) -> bool
+    ensures { IsTrue result → Appends (W.contents output.old) (W.contents output.new) lines.now }
+{
+    if print_lines(lines, false, output).is_err() {
+        let _ = tell_file(errors, b"standard output");
+        return false;
+    }
+    true
+}
+
+/// Reports the fault of the answer, if there is one. Returns whether there is none.
+fn tell_answer<E: Write>(answer: &Result<usize, RemakeFault>, errors: &mut E) -> bool
+    ensures { IsTrue result → (n : ℕ) × (answer.now ≡ Ok n) }
+{
+    match answer {
+        Ok(_) => true,
+        Err(fault) => {
+            let _ = tell_remake(errors, fault);
+            false
+        }
+    }
+}
+
+/// Makes the outputs of a record with these templates, and returns the exit status.
+fn make_supplied<F: Files, W: Write, E: Write>(
+    alloc: Global,
+    files: &F,
+    text: &[u8],
+    templates: &[(Bytes, Bytes)],
+    tags: &[Bytes],
+    output: &mut W,
+    errors: &mut E,
+) -> u8
+    ensures { result ≢ 2 → (result ≡ 0) × (out : List ℕ) × IsMadeAgain tags.now out × Appends (W.contents output.old) (W.contents output.new) out }
+{
+    let mut outputs = FileOutputs::new(alloc, files);
+    let answer = remake(alloc, text, templates, tags, &mut outputs);
+    let is_printed = print_made(outputs.lines(), output, errors);
+    let is_whole = tell_answer(&answer, errors);
+    if is_printed && is_whole { 0 } else { FAULT }
+}
+
+/// Reads the templates of a record, makes its outputs, and returns the exit status.
+fn make_text<F: Files, W: Write, E: Write>(
+    alloc: Global,
+    files: &F,
+    text: &[u8],
+    tags: &[Bytes],
+    output: &mut W,
+    errors: &mut E,
+) -> Result<u8, AllocError>
+    ensures { IfOk result (λ status. status ≢ 2 → (status ≡ 0) × (out : List ℕ) × IsMadeAgain tags.now out × Appends (W.contents output.old) (W.contents output.new) out) }
+{
+    let templates = record_templates(alloc, files, text)?;
+    Ok(make_supplied(
+        alloc,
+        files,
+        text,
+        templates.as_slice(),
+        tags,
+        output,
+        errors,
+    ))
+}
+
+/// Reads the record, makes its outputs, and returns the exit status.
+fn make_record<F: Files, W: Write, E: Write>(
+    alloc: Global,
+    files: &F,
+    tags: &[Bytes],
+    output: &mut W,
+    errors: &mut E,
+) -> Result<u8, AllocError>
+    ensures { IfOk result (λ status. status ≢ 2 → (status ≡ 0) × (out : List ℕ) × IsMadeAgain tags.now out × Appends (W.contents output.old) (W.contents output.new) out) }
+{
+    match read_text(alloc, files, RECORD)? {
+        Some(text) => make_text(alloc, files, text.as_slice(), tags, output, errors),
+        None => Ok(tell_file(errors, RECORD)),
+    }
+}
+
+/// Makes the outputs of the record in the current directory that have these names, or all if there are no names, and returns the
+/// exit status.
+///
+/// If anything is wrong, the status is 2, and standard error has a line for it (own); outputs may have been made before that.
+pub fn run_status<F: Files, W: Write, E: Write>(
+    alloc: Global,
+    files: &F,
+    tags: &[Bytes],
+    output: &mut W,
+    errors: &mut E,
+) -> u8
+    ensures { result ≢ 2 → (result ≡ 0) × (out : List ℕ) × IsMadeAgain tags.now out × Appends (W.contents output.old) (W.contents output.new) out }
+{
+    match make_record(alloc, files, tags, output, errors) {
+        Ok(status) => status,
+        Err(_) => tell_memory(errors),
+    }
+}

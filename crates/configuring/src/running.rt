@@ -1,0 +1,159 @@
+//! The command that runs a configure.ac.
+
+ghost use Rattle.std.specs.Prelude.{◌≡◌, ◌≢◌, ◌+◌, ◌^◌, ◌≤◌, ℕ, List, IfOk};
+ghost use Rattle.std.specs.Io.KnownBytes.{Appends};
+ghost use Rattle.configuring.specs.Configures.{IsConfigured};
+ghost use Rattle.crew_trait.specs.Events.{IsIdle};
+ghost use Rattle.invocation.specs.Quiet.{quiet_in};
+
+use commands::tell_result;
+use crew_trait::Crew;
+use deftable::Bytes;
+use diskfiles::{FileOutputs, path_in, read_text};
+use engine::configure;
+use invocation::{Supplies, read_supplies, tell_file, tell_memory};
+use options::srcdir_of;
+use std::alloc::{AllocError, Global};
+use std::io::Write;
+use std::rt::Files;
+
+/// Runs a source that was read, and returns the exit status.
+fn run_supplied<F: Files, C: Crew, W: Write, E: Write>(
+    alloc: Global,
+    files: &F,
+    window: usize,
+    text: &[u8],
+    args: &[Bytes],
+    env: &[(Bytes, Bytes)],
+    supplies: &Supplies,
+    crew: &mut C,
+    output: &mut W,
+    errors: &mut E,
+) -> u8
+    requires some { 1 ≤ window }
+    requires few { window ≤ 16 }
+    requires idle { IsIdle (C.account crew.old).events }
+    requires attempts { (C.account crew.old).attempts + 2 ^ 36 ≤ 2 ^ 62 }
+    requires failures { (C.account crew.old).failures + 256 ≤ 2 ^ 62 }
+    requires quiet { supplies.now.quiet ≡ quiet_in text.now args.now env.now }
+    ensures idle { IsIdle (C.account crew.new).events }
+    ensures run { result ≢ 2 → (out : List ℕ) × IsConfigured window args.now env.now (C.account crew.old) (C.account crew.new) out result
+        × Appends (W.contents output.old) (W.contents output.new) out }
+{
+    let mut outputs = FileOutputs::new(alloc, files);
+    let answer = configure(
+        alloc,
+        text,
+        args,
+        env,
+        supplies.cache.as_ref().map(|cache| cache.as_slice()),
+        supplies.templates.as_slice(),
+        crew,
+        &mut outputs,
+        window,
+    );
+    tell_result(
+        alloc,
+        files,
+        text,
+        supplies.quiet,
+        answer,
+        outputs.lines(),
+        output,
+        errors,
+    )
+}
+
+/// Reads what a run of this source is given, runs it, and returns the exit status.
+fn run_text<F: Files, C: Crew, W: Write, E: Write>(
+    alloc: Global,
+    files: &F,
+    window: usize,
+    text: &[u8],
+    args: &[Bytes],
+    env: &[(Bytes, Bytes)],
+    crew: &mut C,
+    output: &mut W,
+    errors: &mut E,
+) -> Result<u8, AllocError>
+    requires some { 1 ≤ window }
+    requires few { window ≤ 16 }
+    requires idle { IsIdle (C.account crew.old).events }
+    requires attempts { (C.account crew.old).attempts + 2 ^ 36 ≤ 2 ^ 62 }
+    requires failures { (C.account crew.old).failures + 256 ≤ 2 ^ 62 }
+    ensures idle { IsIdle (C.account crew.new).events }
+    ensures run { IfOk result (λ status. status ≢ 2 → (out : List ℕ) × IsConfigured window args.now env.now (C.account crew.old) (C.account crew.new) out status
+        × Appends (W.contents output.old) (W.contents output.new) out) }
+{
+    let supplies = read_supplies(alloc, files, text, args, env)?;
+    Ok(run_supplied(
+        alloc, files, window, text, args, env, &supplies, crew, output, errors,
+    ))
+}
+
+/// Reads the source that the arguments name, runs it, and returns the exit status.
+fn run_source<F: Files, C: Crew, W: Write, E: Write>(
+    alloc: Global,
+    files: &F,
+    window: usize,
+    args: &[Bytes],
+    env: &[(Bytes, Bytes)],
+    crew: &mut C,
+    output: &mut W,
+    errors: &mut E,
+) -> Result<u8, AllocError>
+    requires some { 1 ≤ window }
+    requires few { window ≤ 16 }
+    requires idle { IsIdle (C.account crew.old).events }
+    requires attempts { (C.account crew.old).attempts + 2 ^ 36 ≤ 2 ^ 62 }
+    requires failures { (C.account crew.old).failures + 256 ≤ 2 ^ 62 }
+    ensures idle { IsIdle (C.account crew.new).events }
+    ensures run { IfOk result (λ status. status ≢ 2 → (out : List ℕ) × IsConfigured window args.now env.now (C.account crew.old) (C.account crew.new) out status
+        × Appends (W.contents output.old) (W.contents output.new) out) }
+{
+    let path = path_in(alloc, srcdir_of(args), b"configure.ac")?;
+    match read_text(alloc, files, path.as_slice())? {
+        Some(text) => run_text(
+            alloc,
+            files,
+            window,
+            text.as_slice(),
+            args,
+            env,
+            crew,
+            output,
+            errors,
+        ),
+        None => Ok(tell_file(errors, path.as_slice())),
+    }
+}
+
+/// Runs the configure.ac that the arguments name, with at most `window` children at once, and returns the exit status.
+///
+/// The source is `configure.ac` in the directory that `--srcdir` names, or else in the current one. What the run hands over is
+/// written in the current directory, and then its log. If a text is shown, nothing is written. If anything is wrong, the status is 2,
+/// and standard error has a line for it (own); outputs may have been written before that.
+pub fn run_configure<F: Files, C: Crew, W: Write, E: Write>(
+    alloc: Global,
+    files: &F,
+    window: usize,
+    args: &[Bytes],
+    env: &[(Bytes, Bytes)],
+    crew: &mut C,
+    output: &mut W,
+    errors: &mut E,
+) -> u8
+    requires some { 1 ≤ window }
+    requires few { window ≤ 16 }
+    requires idle { IsIdle (C.account crew.old).events }
+    requires attempts { (C.account crew.old).attempts + 2 ^ 36 ≤ 2 ^ 62 }
+    requires failures { (C.account crew.old).failures + 256 ≤ 2 ^ 62 }
+    ensures idle { IsIdle (C.account crew.new).events }
+    ensures run { result ≢ 2 → (out : List ℕ) × IsConfigured window args.now env.now (C.account crew.old) (C.account crew.new) out result
+        × Appends (W.contents output.old) (W.contents output.new) out }
+{
+    match run_source(alloc, files, window, args, env, crew, output, errors) {
+        Ok(status) => status,
+        Err(_) => tell_memory(errors),
+    }
+}

@@ -1,0 +1,138 @@
+-- A run is quiet only if one of its arguments is `--quiet`.
+use Rattle.std.proofs.Common.{◌≡◌, ℕ, ◌+◌, Bool, true, false, not, cond, List, [], ◌∷◌, Option, Some, None, Result, Ok, Err, refl, sym, ap, ◌∙◌}
+use Rattle.std.specs.Prelude.{◌||◌, IsTrue}
+use Rattle.std.specs.List.{list_any}
+use Rattle.commandline.specs.Arguments.{Said, Turns, Gives, Awaits, Chooses, Misnames, Assigns, Misassigns, Nothing, alone, and_then, awaited_by, given, said_by}
+use Rattle.commandline.specs.CommandLine.{Setting, valued}
+use Rattle.commandline.specs.Reading.{◌>>=◌}
+use Rattle.commandline.specs.declared.argument.Switch.TheVariants.{ConfigCache, Quiet, NoCreate, Help, Version, Ignored}
+use Rattle.commandline.specs.declared.argument.Target.{Target}
+use Rattle.commandline.specs.declared.argument.Target.TheVariants.{InstallDirectory, Srcdir, CacheFile}
+use Rattle.commandline.specs.declared.fault.OptionFault.{OptionFault}
+use Rattle.deftable.specs.declared.note.Note.{Note}
+use Rattle.options.specs.Opening.{opening, opened_by, run_settings, set_by, setters}
+use Rattle.options.specs.Opening.{is_quiet as sets_quiet}
+use Rattle.invocation.specs.Quiet.{quiet_with}
+use Rattle.invocation.specs.Progress.{turns_quiet, is_quiet, IsNeverQuiet}
+
+-- One setting, or all of them, turn quiet on; an error doesn't.
+abbrev one_quiet : Result Setting OptionFault → Bool
+one_quiet (Ok setting) = sets_quiet setting
+one_quiet (Err fault) = false
+
+abbrev any_quiet : Result (List Setting) OptionFault → Bool
+any_quiet (Ok settings) = list_any sets_quiet settings
+any_quiet (Err fault) = false
+
+one_more : (first : Result Setting OptionFault) (rest : Result (List Setting) OptionFault) → any_quiet (and_then first rest) ≡ true → (one_quiet first || any_quiet rest) ≡ true
+one_more (Ok setting) (Ok settings) e = e
+one_more (Ok setting) (Err fault) e = cc
+one_more (Err fault) rest e = cc
+
+value_quiet : (target : Target) (value : List ℕ) → sets_quiet (valued target value) ≡ false
+value_quiet (InstallDirectory directory) value = refl
+value_quiet Srcdir value = refl
+value_quiet CacheFile value = refl
+
+alone_quiet : (i : ℕ) (said : Said) → one_quiet (alone i said) ≡ turns_quiet said
+alone_quiet i (Turns ConfigCache) = refl
+alone_quiet i (Turns Quiet) = refl
+alone_quiet i (Turns NoCreate) = refl
+alone_quiet i (Turns Help) = refl
+alone_quiet i (Turns Version) = refl
+alone_quiet i (Turns Ignored) = refl
+alone_quiet i (Gives target value) = value_quiet target value
+alone_quiet i (Awaits target) = refl
+alone_quiet i (Chooses kind name value option) = refl
+alone_quiet i Misnames = refl
+alone_quiet i (Assigns name value) = refl
+alone_quiet i Misassigns = refl
+alone_quiet i Nothing = refl
+
+or_mono : (a b c : Bool) → (b ≡ true → c ≡ true) → (a || b) ≡ true → (a || c) ≡ true
+or_mono true b c h e = refl
+or_mono false b c h e = h e
+
+or_second : (a b : Bool) → b ≡ true → (a || b) ≡ true
+or_second true b e = refl
+or_second false b e = e
+
+-- What follows an argument with this reading.
+abbrev after_said : Said → ℕ → List (List ℕ) → Result (List Setting) OptionFault
+after_said said i more = elim (awaited_by said) [
+  | Some target ↦ given (Some target) (i + 1) more
+  | None ↦ and_then (alone (i + 1) said) (given None (i + 1) more)
+]
+
+by_itself : (i : ℕ) (said : Said) (more : List (List ℕ)) → (any_quiet (given None (i + 1) more) ≡ true → list_any is_quiet more ≡ true)
+    → any_quiet (and_then (alone (i + 1) said) (given None (i + 1) more)) ≡ true → (turns_quiet said || list_any is_quiet more) ≡ true
+by_itself i said more later e =
+    or_mono (turns_quiet said) _ _ later
+    (sym (ap (λ b. b || any_quiet (given None (i + 1) more)) (alone_quiet (i + 1) said)) ∙ one_more (alone (i + 1) said) (given None (i + 1) more) e)
+
+by_reading : (said : Said) (i : ℕ) (more : List (List ℕ)) → (any_quiet (given None (i + 1) more) ≡ true → list_any is_quiet more ≡ true)
+    → ((target : Target) → any_quiet (given (Some target) (i + 1) more) ≡ true → list_any is_quiet more ≡ true)
+    → any_quiet (after_said said i more) ≡ true → (turns_quiet said || list_any is_quiet more) ≡ true
+by_reading (Awaits target) i more later awaited e = awaited target e
+by_reading (Turns switch) i more later awaited e = by_itself i (Turns switch) more later e
+by_reading (Gives target value) i more later awaited e = by_itself i (Gives target value) more later e
+by_reading (Chooses kind name value option) i more later awaited e = by_itself i (Chooses kind name value option) more later e
+by_reading Misnames i more later awaited e = by_itself i Misnames more later e
+by_reading (Assigns name value) i more later awaited e = by_itself i (Assigns name value) more later e
+by_reading Misassigns i more later awaited e = by_itself i Misassigns more later e
+by_reading Nothing i more later awaited e = by_itself i Nothing more later e
+
+-- If the settings of arguments turn quiet on, one of the arguments is `--quiet`.
+quiet_given : (arguments : List (List ℕ)) (awaited : Option Target) (i : ℕ) → any_quiet (given awaited i arguments) ≡ true → list_any is_quiet arguments ≡ true
+unfolding given
+quiet_given [] None i e = e
+quiet_given [] (Some target) i e = e
+quiet_given (value ∷ more) (Some target) i e =
+    let rest = one_more (Ok (valued target value)) (given None (i + 1) more) e in
+    or_second (is_quiet value) (list_any is_quiet more)
+    (quiet_given more None (i + 1) (sym (ap (λ b. b || any_quiet (given None (i + 1) more)) (value_quiet target value)) ∙ rest))
+quiet_given (word ∷ more) None i e = by_reading (said_by word) i more (quiet_given more None (i + 1)) (λ target. quiet_given more (Some target) (i + 1)) e
+
+-- The settings of a run are quiet if those of its arguments turn quiet on.
+quiet_chosen : (help version quiet : Bool) → cond (help || version) false quiet ≡ true → quiet ≡ true
+quiet_chosen true version quiet e = cc
+quiet_chosen false true quiet e = cc
+quiet_chosen false false quiet e = e
+
+quiet_run : (precious : List (List ℕ)) (vars : List (List ℕ × List ℕ)) (settings : List Setting) (notes : List Note)
+    → quiet_with (Ok (run_settings precious vars settings notes)) ≡ true → list_any sets_quiet settings ≡ true
+unfolding run_settings
+quiet_run precious vars settings notes e =
+    let run = run_settings precious vars settings notes in
+    quiet_chosen run.help run.version (list_any sets_quiet settings) e
+
+quiet_noted : (precious : List (List ℕ)) (vars : List (List ℕ × List ℕ)) (settings : List Setting) (noted : Result (List Note) OptionFault)
+    → quiet_with (noted >>= λ notes. Ok (run_settings precious vars settings notes)) ≡ true → list_any sets_quiet settings ≡ true
+quiet_noted precious vars settings (Ok notes) e = quiet_run precious vars settings notes e
+quiet_noted precious vars settings (Err fault) e = cc
+
+quiet_opened : (features packages precious : List (List ℕ)) (environment : List (List ℕ × List ℕ)) (read : Result (List Setting) OptionFault)
+    → quiet_with (read >>= opened_by features packages precious environment) ≡ true → any_quiet read ≡ true
+unfolding opened_by
+quiet_opened features packages precious environment (Ok settings) e = quiet_noted precious (set_by (setters environment settings)) settings _ e
+quiet_opened features packages precious environment (Err fault) e = cc
+
+quiet_opening : (features packages precious arguments : List (List ℕ)) (environment : List (List ℕ × List ℕ))
+    → quiet_with (opening features packages precious arguments environment) ≡ true → list_any is_quiet arguments ≡ true
+unfolding opening
+quiet_opening features packages precious arguments environment e =
+    quiet_given arguments None 0 (quiet_opened features packages precious environment (given None 0 arguments) e)
+
+not_true : (a b : Bool) → (a ≡ true → b ≡ true) → b ≡ false → a ≡ false
+not_true true b h e = sym (h refl) ∙ e
+not_true false b h e = refl
+
+-- If no argument is `--quiet`, no run is quiet.
+pub never_quiet : (arguments : List (List ℕ)) → list_any is_quiet arguments ≡ false → IsNeverQuiet arguments
+never_quiet arguments none = λ features packages precious environment.
+    not_true _ _ (quiet_opening features packages precious arguments environment) none
+
+-- The same of the answer whether an argument is `--quiet`.
+pub shown_quiet : (arguments : List (List ℕ)) (has : Bool) → has ≡ list_any is_quiet arguments → IsTrue (not has) → IsNeverQuiet arguments
+shown_quiet arguments true is shown = cc
+shown_quiet arguments false is shown = never_quiet arguments (sym is)

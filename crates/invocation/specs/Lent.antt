@@ -1,0 +1,12 @@
+-- What the program is asked to do, as the code has it, which borrows the words.
+use Rattle.invocation.specs.Calls.{Call, Filter, StandIn, Configure, Status, Unknown}
+use Rattle.invocation.specs.declared.call.Call as lent
+use Rattle.invocation.specs.declared.call.Call.TheVariants as lends
+
+-- The call, with the words themselves. (own)
+abbrev pub call_seen : lent.Call → Call
+call_seen lends.Filter = Filter
+call_seen (lends.StandIn words) = StandIn words.now
+call_seen (lends.Configure window arguments) = Configure window arguments.now
+call_seen (lends.Status tags) = Status tags.now
+call_seen lends.Unknown = Unknown

@@ -1,0 +1,4 @@
+pub mod Calls
+pub mod Lent
+pub mod Quiet
+pub mod Progress

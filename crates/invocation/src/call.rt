@@ -1,0 +1,134 @@
+//! What the program is asked to do.
+
+ghost use Rattle.std.specs.Prelude.{◌≡◌, ◌≤◌, bytes_eq, map, IfSome};
+ghost use Rattle.invocation.specs.Calls as meant;
+ghost use Rattle.invocation.specs.Lent.{call_seen};
+
+use deftable::Bytes;
+
+/// What the program is asked to do.
+#[derive(Clone, Copy)]
+pub enum Call<'a> {
+    /// To filter its input.
+    Filter,
+    /// To answer in a compiler's place, with these words.
+    StandIn(&'a [Bytes]),
+    /// To run a configure.ac, with at most so many children at once and with these arguments.
+    Configure(usize, &'a [Bytes]),
+    /// To make the outputs with these names again, or all if there are no names.
+    Status(&'a [Bytes]),
+    /// It doesn't know.
+    Unknown,
+}
+
+/// The options for the number of children at once, each with that number.
+#[rattlefmt::skip]
+const WINDOWS: [(&[u8], usize); 16] = [
+    (b"-j1", 1), (b"-j2", 2), (b"-j3", 3), (b"-j4", 4), (b"-j5", 5), (b"-j6", 6), (b"-j7", 7), (b"-j8", 8),
+    (b"-j9", 9), (b"-j10", 10), (b"-j11", 11), (b"-j12", 12), (b"-j13", 13), (b"-j14", 14), (b"-j15", 15), (b"-j16", 16),
+];
+
+/// Returns the options for the number of children at once, each with that number.
+#[tactic(auto, unfolding(crate::specs::Calls::windows))]
+fn windows() -> &'static [(&'static [u8], usize)]
+    ensures { map (λ row. (row.0.now, row.1)) result.now ≡ meant.windows }
+{
+    &WINDOWS
+}
+
+/// Returns the number in the first of these rows whose option is the word.
+fn find(rows: &[(&[u8], usize)], word: &[u8]) -> Option<usize>
+    ensures { result ≡ meant.window_among word.now (map (λ row. (row.0.now, row.1)) rows.now) }
+{
+    for row in rows {
+        if row.0 == word {
+            return Some(row.1);
+        }
+    }
+    None
+}
+
+/// Returns the number of children at once that the word asks for.
+#[tactic(auto, using(crate::proofs::Windows::within))]
+fn window_of(word: &[u8]) -> Option<usize>
+    ensures window { result ≡ meant.window_of word.now }
+    ensures bound { IfSome result (λ window. (1 ≤ window) × (window ≤ 16)) }
+{
+    find(windows(), word)
+}
+
+fn is(word: &[u8], name: &[u8]) -> bool
+    ensures { result ≡ bytes_eq word.now name.now }
+{
+    word == name
+}
+
+/// Returns the call, if so many children are wanted at once and these words follow.
+fn windowed<'a>(window: Option<usize>, words: &'a [Bytes]) -> Call<'a>
+    requires { IfSome window (λ n. (1 ≤ n) × (n ≤ 16)) }
+    ensures call { call_seen result ≡ meant.windowed window words.now }
+    ensures window { meant.HasWindow (call_seen result) }
+{
+    let Some(window) = window else {
+        return Call::Unknown;
+    };
+    match words.split_first() {
+        Some((word, arguments)) => {
+            if is(word.as_slice(), b"configure") {
+                Call::Configure(window, arguments)
+            } else {
+                Call::Unknown
+            }
+        }
+        None => Call::Unknown,
+    }
+}
+
+/// Returns whether the words after `status` begin with `--recheck`.
+fn asks_recheck(words: &[Bytes]) -> bool
+    ensures { result ≡ meant.asks_recheck words.now }
+{
+    match words.first() {
+        Some(word) => is(word.as_slice(), b"--recheck"),
+        None => false,
+    }
+}
+
+/// Returns the call with these words after `status`.
+fn status_call(words: &[Bytes]) -> Call<'_>
+    ensures call { call_seen result ≡ meant.status_call words.now }
+    ensures window { meant.HasWindow (call_seen result) }
+{
+    if asks_recheck(words) {
+        return Call::Unknown;
+    }
+    Call::Status(words)
+}
+
+/// Returns the call with this first word.
+fn named_call<'a>(word: &[u8], words: &'a [Bytes]) -> Call<'a>
+    ensures call { call_seen result ≡ meant.named_call word.now words.now }
+    ensures window { meant.HasWindow (call_seen result) }
+{
+    if is(word, b"standin") {
+        return Call::StandIn(words);
+    }
+    if is(word, b"configure") {
+        return Call::Configure(1, words);
+    }
+    if is(word, b"status") {
+        return status_call(words);
+    }
+    windowed(window_of(word), words)
+}
+
+/// Returns what the program is asked to do with these words after its name (own).
+pub fn call_of(words: &[Bytes]) -> Call<'_>
+    ensures call { call_seen result ≡ meant.call_of words.now }
+    ensures window { meant.HasWindow (call_seen result) }
+{
+    match words.split_first() {
+        Some((word, words)) => named_call(word.as_slice(), words),
+        None => Call::Filter,
+    }
+}

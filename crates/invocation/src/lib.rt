@@ -1,0 +1,32 @@
+//! What the program is asked to do, what it reads for that, and how it prints. Nothing here runs a source.
+//!
+//! [`words`] and [`environment`] are what the process is given, and [`call_of`] says which command the words name. [`read_supplies`]
+//! and [`record_templates`] read what a command needs besides its source or its record. [`print_pieces`], [`print_lines`] and
+//! [`write_log`] leave what a run has for its user. Each error is one line on standard error, by a function `tell_..`, which
+//! returns [`FAULT`].
+//!
+//! ```text
+//! call_of(["-j4", "configure", "-q"])  // Configure(4, ["-q"]), for which may_show_progress is false
+//! tell_file(errors, b"config.status")  // acrun: file config.status
+//! ```
+//!
+//! "own" marks a rule that no manual gives.
+//!
+//! In `specs`, read `Calls` (what the program is asked to do), `Quiet` (when nothing is printed) and `Progress`; `Lent` is small. In
+//! `src`, read `call`, `supplies`, `printing` and `telling`; `process` reads what the process is given, and `progress` says whether
+//! the program may show its progress.
+#![tactic(auto)]
+
+mod call;
+mod printing;
+mod process;
+mod progress;
+mod supplies;
+mod telling;
+
+pub use call::{Call, call_of};
+pub use printing::{print_lines, print_pieces, write_log};
+pub use process::{environment, words};
+pub use progress::may_show_progress;
+pub use supplies::{Supplies, read_supplies, record_templates};
+pub use telling::{FAULT, tell_file, tell_memory, tell_named, tell_precious, tell_put, tell_usage};

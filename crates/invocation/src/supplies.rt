@@ -1,0 +1,244 @@
+//! What a run is given besides its source: the texts of its cache and of its templates.
+
+ghost use Rattle.std.specs.Prelude.{◌≡◌, false, Ok, IfOk};
+ghost use Rattle.invocation.specs.Quiet as words;
+ghost use Rattle.syntax.specs.Script.{script_of};
+
+use acparse::{ParseFault, parse};
+use deftable::Bytes;
+use diskfiles::{path_in, read_text};
+use options::{OptionFault, Settings, read_args};
+use outputlist::Output;
+use status_record::{Record, RecordFault, read_record};
+use std::alloc::{AllocError, Global};
+use std::rt::Files;
+use syntax::Source;
+
+/// What a run is given besides its source, arguments and environment.
+#[derive(Drop)]
+pub struct Supplies {
+    /// If true, nothing is printed on standard output.
+    pub quiet: bool,
+    /// The text of the cache, if one is named and there.
+    pub cache: Option<Bytes>,
+    /// The templates that are there, by their names.
+    pub templates: Vec<(Bytes, Bytes)>,
+}
+
+/// Returns supplies of nothing.
+fn nothing(alloc: Global) -> Supplies
+    ensures { result.quiet ≡ false }
+{
+    Supplies {
+        quiet: false,
+        cache: None,
+        templates: Vec::new(alloc),
+    }
+}
+
+/// Reads the text of a template, and appends it under its name. Does nothing if it can't be read.
+fn add_template<F: Files>(
+    alloc: Global,
+    files: &F,
+    srcdir: &[u8],
+    name: &[u8],
+    templates: &mut Vec<(Bytes, Bytes)>,
+) -> Result<(), AllocError> {
+    let path = path_in(alloc, srcdir, name)?;
+    let Some(text) = read_text(alloc, files, path.as_slice())? else {
+        return Ok(());
+    };
+    let name = Bytes::from_slice(alloc, name)?;
+    templates.push((name, text))?;
+    Ok(())
+}
+
+/// Returns whether there is a template of this name.
+fn has_template(templates: &[(Bytes, Bytes)], name: &[u8]) -> bool {
+    templates
+        .iter()
+        .any(|template| template.0.as_slice() == name)
+}
+
+/// Reads the templates of these outputs, each once.
+fn add_templates<F: Files>(
+    alloc: Global,
+    files: &F,
+    srcdir: &[u8],
+    outputs: &[Output],
+    templates: &mut Vec<(Bytes, Bytes)>,
+) -> Result<(), AllocError> {
+    for output in outputs {
+        let name = output.template.as_slice();
+        if !has_template(templates.as_slice(), name) {
+            add_template(alloc, files, srcdir, name, templates)?;
+        }
+    }
+    Ok(())
+}
+
+/// Reads the templates of files and headers.
+fn read_templates<F: Files>(
+    alloc: Global,
+    files: &F,
+    srcdir: &[u8],
+    outputs: &[Output],
+    headers: &[Output],
+) -> Result<Vec<(Bytes, Bytes)>, AllocError> {
+    let mut templates = Vec::new(alloc);
+    add_templates(alloc, files, srcdir, outputs, &mut templates)?;
+    add_templates(alloc, files, srcdir, headers, &mut templates)?;
+    Ok(templates)
+}
+
+/// Reads the cache, if one is named.
+fn read_cache<F: Files>(
+    alloc: Global,
+    files: &F,
+    name: Option<&Bytes>,
+) -> Result<Option<Bytes>, AllocError> {
+    let Some(name) = name else {
+        return Ok(None);
+    };
+    read_text(alloc, files, name.as_slice())
+}
+
+/// Reads the templates that a run with these settings wants.
+fn wanted_templates<F: Files>(
+    alloc: Global,
+    files: &F,
+    source: &Source,
+    settings: &Settings,
+) -> Result<Vec<(Bytes, Bytes)>, AllocError> {
+    if settings.no_create {
+        return Ok(Vec::new(alloc));
+    }
+    read_templates(
+        alloc,
+        files,
+        settings.srcdir.as_slice(),
+        source.files().as_slice(),
+        source.headers().as_slice(),
+    )
+}
+
+/// Reads what a run with these settings is given. If a text is to be shown, nothing is read, and it is shown also with `-q`.
+fn settled_supplies<F: Files>(
+    alloc: Global,
+    files: &F,
+    source: &Source,
+    settings: &Settings,
+) -> Result<Supplies, AllocError>
+    ensures { IfOk result (λ s. s.quiet ≡ words.quiet_with (Ok settings.now)) }
+{
+    if settings.help || settings.version {
+        return Ok(nothing(alloc));
+    }
+    let cache = read_cache(alloc, files, settings.cache_name.as_ref())?;
+    let templates = wanted_templates(alloc, files, source, settings)?;
+    Ok(Supplies {
+        quiet: settings.quiet,
+        cache,
+        templates,
+    })
+}
+
+/// Reads what a run of this source is given.
+fn parsed_supplies<F: Files>(
+    alloc: Global,
+    files: &F,
+    source: &Source,
+    args: &[Bytes],
+    env: &[(Bytes, Bytes)],
+) -> Result<Supplies, AllocError>
+    ensures { IfOk result (λ s. s.quiet ≡ words.quiet_for args.now env.now (Ok (script_of source.now))) }
+{
+    match read_args(alloc, source, args, env) {
+        Ok(settings) => settled_supplies(alloc, files, source, &settings),
+        Err(OptionFault::OutOfMemory) => Err(AllocError),
+        Err(_) => Ok(nothing(alloc)),
+    }
+}
+
+/// Reads what a run is given besides its source, arguments and environment. If one of these has an error, nothing is read.
+///
+/// A file that can't be read counts as not there: who runs the source then names it. No clause says what the files hold, because
+/// the contract of [`Files`] has no name for it.
+///
+/// # Errors
+///
+/// Fails only if memory runs out.
+pub fn read_supplies<F: Files>(
+    alloc: Global,
+    files: &F,
+    text: &[u8],
+    args: &[Bytes],
+    env: &[(Bytes, Bytes)],
+) -> Result<Supplies, AllocError>
+    ensures { IfOk result (λ s. s.quiet ≡ words.quiet_in text.now args.now env.now) }
+{
+    match parse(alloc, text) {
+        Ok(source) => parsed_supplies(alloc, files, &source, args, env),
+        Err(ParseFault::OutOfMemory) => Err(AllocError),
+        Err(_) => Ok(nothing(alloc)),
+    }
+}
+
+/// Reads the templates of a record, each once, with its name. If the text is no record, nothing is read.
+///
+/// A template that can't be read is left out, so who makes its output finds it missing.
+///
+/// # Errors
+///
+/// Fails only if memory runs out.
+pub fn record_templates<F: Files>(
+    alloc: Global,
+    files: &F,
+    text: &[u8],
+) -> Result<Vec<(Bytes, Bytes)>, AllocError> {
+    match read_record(alloc, text) {
+        Ok(record) => templates_of(alloc, files, &record),
+        Err(RecordFault::OutOfMemory) => Err(AllocError),
+        Err(_) => Ok(Vec::new(alloc)),
+    }
+}
+
+/// Reads the templates of this record.
+fn templates_of<F: Files>(
+    alloc: Global,
+    files: &F,
+    record: &Record,
+) -> Result<Vec<(Bytes, Bytes)>, AllocError> {
+    read_templates(
+        alloc,
+        files,
+        record.srcdir.as_slice(),
+        record.files.as_slice(),
+        record.headers.as_slice(),
+    )
+}
+
+/// Returns the name of the precious variable of this number, counted from 1.
+pub(crate) fn precious_name(
+    alloc: Global,
+    text: &[u8],
+    number: u64,
+) -> Result<Option<Bytes>, AllocError> {
+    match parse(alloc, text) {
+        Ok(source) => name_at(alloc, &source, number),
+        Err(ParseFault::OutOfMemory) => Err(AllocError),
+        Err(_) => Ok(None),
+    }
+}
+
+/// Returns the precious variable of this number.
+fn name_at(alloc: Global, source: &Source, number: u64) -> Result<Option<Bytes>, AllocError> {
+    match source
+        .precious()
+        .names()
+        .get((number as usize).saturating_sub(1))
+    {
+        Some(name) => Ok(Some(Bytes::from_slice(alloc, name.as_slice())?)),
+        None => Ok(None),
+    }
+}
