@@ -16,7 +16,7 @@ An edit fails if it is not refused, if its check has no verdict, if it cannot be
 definition or a proof. Each function that is refused without an edit is one more failure.
 
 A check needs the proved libraries of the crates below. `rt ci` leaves them in crates/*/out/rlib, and `make` in
-out/room/crates/*/out/rlib. One that was made of other sources is not taken.
+out/rooms/*/crates/*/out/rlib. One that was made of other sources is not taken.
 
 There is a line for each failure and for each crate, and the last line is 'N passed, M failed'. The exit status is 1 if M > 0, and
 2 if nothing can be tried.
@@ -479,7 +479,7 @@ def options_of(words):
     parser.add_argument("crates", nargs="*", metavar="CRATE")
     parser.add_argument("--selftest", action="store_true", help="tries the script itself")
     parser.add_argument("--tell", action="store_true", help="a line for each refused edit too, with the first goal that is open")
-    parser.add_argument("--tree", action="append", metavar="TOP", help="where libraries lie, in TOP/crates/*/out/rlib (. and out/room)")
+    parser.add_argument("--tree", action="append", metavar="TOP", help="where libraries lie, in TOP/crates/*/out/rlib (. and out/rooms/*)")
     parser.add_argument("--at-once", type=int, metavar="N", help="crates tried side by side, of 1 to 3 GB each (as many as fit)")
     parser.add_argument("--minutes", type=float, default=20, metavar="N", help="after which a check is stopped (20)")
     parser.add_argument("--keep", metavar="FOLDER", help="writes there what each check said")
@@ -496,7 +496,7 @@ def main():
         return 2
     if options.selftest:
         return selftest(kit, options)
-    trees = [os.path.abspath(it) for it in options.tree or [".", "out/room"]]
+    trees = [os.path.abspath(it) for it in options.tree or [".", *glob.glob("out/rooms/*")]]
     repository, passed, failed = Repository(os.getcwd(), trees, kit), 0, 0
     names = options.crates or [it for it in repository.uses if glob.glob(f"crates/{it}/wrong-bodies/*.edit")]
     without = [it for it in names if it not in repository.uses or not glob.glob(f"crates/{it}/wrong-bodies/*.edit")]
