@@ -1,77 +1,14 @@
 //! What the engine makes of what a case gives, as text.
 
 use crate::calls::{help_of, put_fault_line, read_source, run_filter, srcdir_in};
-use crate::given::{Given, arguments_of, lines_of, put_source_of};
+use crate::given::{Given, arguments_of, lines_of, number_in, put_source_of};
+use crate::kinds::Kind;
 use crate::pages::{note_cut, put_error, put_fault, put_text};
-use crate::runs::{put_conftests, put_logged, put_new_lines, put_opening, put_run, put_variables};
+use crate::runs::{put_new_lines, put_opening, put_run, put_variables};
 use crate::tree_words::{put_counts, put_lists, put_statements};
 use acparse::{Source, Stmt};
 use runner::{FilterFault, Filtered};
 use testrows::{Page, cut};
-
-/// What a case may want to see.
-#[derive(Clone, Copy)]
-pub enum Kind {
-    /// The tree of the source, or its fault.
-    Parsed,
-    /// How much is in the tree.
-    Counted,
-    /// What each front of the source is.
-    Fronts,
-    /// The lengths of those fronts that are sources.
-    Sources,
-    /// What the filter writes.
-    Filtered,
-    /// All variables that a run begins with, without arguments and environment.
-    Variables,
-    /// What a run begins with by its arguments and environment.
-    Opened,
-    /// The help text.
-    Help,
-    /// The directory of the source.
-    Srcdir,
-    /// What a run does and leaves.
-    Ran,
-    /// The same, with all variables.
-    RanWhole,
-    /// The log of a run.
-    Logged,
-    /// The conftests of a run.
-    Conftests,
-}
-
-/// The sections that are answers.
-const ANSWERS: [(&[u8], Kind); 12] = [
-    (b"parsed", Kind::Parsed),
-    (b"counted", Kind::Counted),
-    (b"fronts", Kind::Fronts),
-    (b"sources", Kind::Sources),
-    (b"filtered", Kind::Filtered),
-    (b"variables", Kind::Variables),
-    (b"opened", Kind::Opened),
-    (b"help", Kind::Help),
-    (b"srcdir", Kind::Srcdir),
-    (b"ran", Kind::Ran),
-    (b"logged", Kind::Logged),
-    (b"conftests", Kind::Conftests),
-];
-
-/// Returns the answer that a section of this name is.
-pub fn kind_of(name: &[u8]) -> Option<Kind> {
-    for (answer, kind) in &ANSWERS {
-        if *answer == name {
-            return Some(*kind);
-        }
-    }
-    None
-}
-
-impl Kind {
-    /// Returns whether newlines at the end of the answer count.
-    pub fn is_exact(self) -> bool {
-        matches!(self, Kind::Filtered | Kind::Help)
-    }
-}
 
 /// Returns the statements of a source, without AC_INIT and AC_OUTPUT if the case gives the lines between them.
 fn own_statements(source: &Source, is_lines: bool) -> &[Stmt] {
@@ -97,16 +34,13 @@ fn put_read(page: &mut Page, kind: Kind, given: &Given, source: &Source) {
         Kind::Counted => put_counts(page, own_statements(source, given.is_lines), source),
         Kind::Variables => put_variables(page, source),
         Kind::Opened => put_opening(page, given, source),
-        Kind::Ran => put_run(page, given, source, false),
-        Kind::RanWhole => put_run(page, given, source, true),
-        Kind::Logged => put_logged(page, given, source),
-        Kind::Conftests => put_conftests(page, given, source),
         Kind::Help => put_help(page, source),
         Kind::Fronts | Kind::Sources => {
             page.put_number(source.statements().len());
             page.put(b" statements");
         }
         Kind::Filtered | Kind::Srcdir => {}
+        _ => put_run(page, kind, given, source),
     }
 }
 
@@ -163,9 +97,9 @@ fn put_sources(page: &mut Page, given: &Given) {
 
 /// Puts what a run of the source does and leaves. If the case gives lines between AC_INIT and AC_OUTPUT, it puts no variable
 /// and no definition that these two leave by themselves.
-fn put_ran(page: &mut Page, given: &Given) {
+fn put_ran(page: &mut Page, kind: Kind, given: &Given) {
     let mut whole = Page::new(page.alloc());
-    put_source(&mut whole, Kind::Ran, given, given.source());
+    put_source(&mut whole, kind, given, given.source());
     let mut usual = Page::new(page.alloc());
     if given.is_lines {
         put_usual(&mut usual, given);
@@ -211,8 +145,9 @@ fn put_filtered(page: &mut Page, given: &Given) {
     let mut input = Page::new(page.alloc());
     given.put_input(&mut input);
     note_cut(page, &input);
+    let piece = number_in(page, &given.case, b"piece");
     let mut written = Vec::new(page.alloc());
-    match run_filter(page.alloc(), input.text(), &mut written) {
+    match run_filter(page.alloc(), input.text(), piece, &mut written) {
         Ok(answer) => put_filtered_text(page, &answer, written.as_slice()),
         Err(fault) => put_filter_fault(page, &fault),
     }
@@ -230,7 +165,7 @@ pub fn put_answer(page: &mut Page, kind: Kind, given: &Given) {
         Kind::Sources => put_sources(page, given),
         Kind::Filtered => put_filtered(page, given),
         Kind::Srcdir => put_srcdir(page, given),
-        Kind::Ran => put_ran(page, given),
+        Kind::Ran | Kind::Measured => put_ran(page, kind, given),
         _ => put_source(page, kind, given, given.source()),
     }
 }

@@ -1,6 +1,7 @@
 //! The calls of the engine, each in a function without a contract: what is proved of them is not needed here, and would make
 //! each function that calls them slow to check.
 
+use crate::pieces::Pieces;
 use crate::recorder::Recorder;
 use acparse::{ParseFault, Source, parse};
 use crew::{MemoryCrew, Order, Reply};
@@ -33,13 +34,16 @@ pub fn srcdir_in(arguments: &[Bytes]) -> &[u8] {
     srcdir_of(arguments)
 }
 
-/// What the filter answers, and what it writes to `written`.
+/// What the filter answers to a text, and what it writes to `written`. Each read gives at most
+/// `piece` bytes, or what it has room for if that is 0.
 pub fn run_filter(
     alloc: Global,
-    mut input: &[u8],
+    text: &[u8],
+    piece: usize,
     written: &mut Vec<u8>,
 ) -> Result<Filtered, FilterFault> {
-    filter(alloc, &mut input, written)
+    let size = if piece == 0 { usize::MAX } else { piece };
+    filter(alloc, &mut Pieces { text, size }, written)
 }
 
 /// The fault line.
@@ -47,11 +51,16 @@ pub fn put_fault_line(out: &mut Vec<u8>, fault: &FilterFault) {
     tell(out, fault);
 }
 
-/// What a run leaves, and what its crew did.
+/// What a run leaves, what its crew did, and how many steps its plan has.
 #[derive(Drop)]
 pub struct Ran {
     pub end: RunEnd,
     pub calls: Page,
+    pub steps: usize,
+}
+
+fn count_steps(plan: &Plan) -> usize {
+    plan.steps().len()
 }
 
 fn run_plan(
@@ -69,6 +78,7 @@ fn run_plan(
     Ok(Ran {
         end,
         calls: recorder.lines,
+        steps: count_steps(plan),
     })
 }
 

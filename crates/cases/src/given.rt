@@ -190,9 +190,9 @@ pub fn replies_of(page: &mut Page, case: &Case<'_>) -> Vec<Reply> {
     replies
 }
 
-/// Returns the window that a case gives: 0 if it gives none.
-pub fn window_of(page: &mut Page, case: &Case<'_>) -> usize {
-    let text = text_of(page, case, b"window");
+/// Returns the number in a section of the case: 0 if there is no such section.
+pub fn number_in(page: &mut Page, case: &Case<'_>, name: &[u8]) -> usize {
+    let text = text_of(page, case, name);
     number_of(text.text())
 }
 

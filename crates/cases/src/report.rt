@@ -1,8 +1,9 @@
 //! The check of a file of cases, and its report.
 
-use crate::answers::{Kind, kind_of, put_answer};
+use crate::answers::put_answer;
 use crate::casefile::{Case, Section, next_case, next_section, read_file};
 use crate::given::{Given, MARK, read_given};
+use crate::kinds::{Kind, kind_of};
 use crate::pages::{has, note_cut};
 use std::alloc::{AllocError, Global};
 use testrows::Page;
@@ -14,11 +15,12 @@ pub struct Report {
 }
 
 /// The sections that say what a case gives.
-const GIVEN: [&[u8]; 9] = [
+const GIVEN: [&[u8]; 10] = [
     b"source",
     b"lines",
     b"template",
     b"input",
+    b"piece",
     b"arguments",
     b"environment",
     b"replies",

@@ -2,9 +2,10 @@
 
 use crate::calls::{Ran, read_settings, run_source};
 use crate::given::{
-    Given, arguments_of, environment_of, lines_of, order_of, replies_of, window_of,
+    Given, arguments_of, environment_of, lines_of, number_in, order_of, replies_of,
 };
-use crate::pages::{has, note_cut, put_bracketed, put_fault, put_text, put_value};
+use crate::kinds::Kind;
+use crate::pages::{has, note_cut, put_bracketed, put_count, put_fault, put_text, put_value};
 use crate::recorder::put_command;
 use acparse::Source;
 use conftest::Job;
@@ -156,7 +157,7 @@ fn put_definitions(page: &mut Page, defs: &Defs) {
 /// Runs a source from these variables.
 fn ran(page: &mut Page, given: &Given, source: &Source, vars: Vars) -> Result<Ran, PlanFault> {
     let replies = replies_of(page, &given.case);
-    let window = window_of(page, &given.case);
+    let window = number_in(page, &given.case, b"window");
     let order = order_of(page, &given.case);
     run_source(page.alloc(), source, vars, replies, order, window)
 }
@@ -167,6 +168,38 @@ fn put_ran(page: &mut Page, ran: &Ran, before: &[u8]) {
     page.put(ran.calls.text());
     put_changes(page, &ran.end.vars, before);
     put_definitions(page, &ran.end.defs);
+}
+
+/// Puts how many children were started, and how many there were at once.
+fn put_children(page: &mut Page, calls: &[u8]) {
+    let mut started: usize = 0;
+    let mut running: usize = 0;
+    let mut most: usize = 0;
+    for line in calls.split(|byte| *byte == b'\n') {
+        if line.starts_with(b"start ") {
+            started = started.saturating_add(1);
+            running = running.saturating_add(1);
+        } else if line.starts_with(b"end ") {
+            running = running.saturating_sub(1);
+        }
+        most = most.max(running);
+    }
+    put_count(page, b"started ", started);
+    put_count(page, b"at once ", most);
+}
+
+/// Puts the figures of a run, and then the variables that are not in the lines before, the
+/// definitions and what is printed.
+fn put_measured(page: &mut Page, ran: &Ran, before: &[u8]) {
+    put_outcome(page, ran.end.outcome);
+    put_count(page, b"steps ", ran.steps);
+    note_cut(page, &ran.calls);
+    put_children(page, ran.calls.text());
+    put_changes(page, &ran.end.vars, before);
+    put_definitions(page, &ran.end.defs);
+    for note in ran.end.messages.as_slice() {
+        put_note(page, note);
+    }
 }
 
 /// Puts a job and the reply to it.
@@ -216,56 +249,34 @@ fn put_log_conftests(page: &mut Page, log: &Log) {
     }
 }
 
-fn put_conftests_from(page: &mut Page, given: &Given, source: &Source, vars: Vars) {
+/// Puts what a run gives of this kind. Of the variables, it leaves out those in the lines before.
+fn put_kind(page: &mut Page, kind: Kind, ran: &Ran, before: &[u8]) {
+    match kind {
+        Kind::Logged => put_log(page, &ran.end.log),
+        Kind::Conftests => put_log_conftests(page, &ran.end.log),
+        Kind::Measured => put_measured(page, ran, before),
+        _ => put_ran(page, ran, before),
+    }
+}
+
+/// Puts what a run from these variables gives of this kind, or the fault of its plan.
+fn put_run_from(page: &mut Page, kind: Kind, given: &Given, source: &Source, vars: Vars) {
+    let mut before = Page::new(page.alloc());
+    if !matches!(kind, Kind::RanWhole) {
+        put_vars(&mut before, &vars);
+    }
+    note_cut(page, &before);
     match ran(page, given, source, vars) {
-        Ok(ran) => put_log_conftests(page, &ran.end.log),
+        Ok(ran) => put_kind(page, kind, &ran, before.text()),
         Err(fault) => put_fault(page, b"plan ", &fault),
     }
 }
 
-/// Puts the conftests of a run, or the fault of the arguments or of the plan.
-pub fn put_conftests(page: &mut Page, given: &Given, source: &Source) {
+/// Puts what a run gives of this kind, or the fault of the arguments or of the plan. Of the
+/// variables, it puts those that the run changed, or all if the kind is `RanWhole`.
+pub fn put_run(page: &mut Page, kind: Kind, given: &Given, source: &Source) {
     match settings_of(page, given, source) {
-        Ok(settings) => put_conftests_from(page, given, source, settings.vars),
-        Err(fault) => put_fault(page, b"option ", &fault),
-    }
-}
-
-/// Puts the log of a run, or the fault of the arguments or of the plan.
-pub fn put_logged(page: &mut Page, given: &Given, source: &Source) {
-    match settings_of(page, given, source) {
-        Ok(settings) => put_log_from(page, given, source, settings.vars),
-        Err(fault) => put_fault(page, b"option ", &fault),
-    }
-}
-
-fn put_log_from(page: &mut Page, given: &Given, source: &Source, vars: Vars) {
-    match ran(page, given, source, vars) {
-        Ok(ran) => put_log(page, &ran.end.log),
-        Err(fault) => put_fault(page, b"plan ", &fault),
-    }
-}
-
-/// Puts what a run from these variables does and leaves that is not in the lines before, or the fault of its plan.
-fn put_run_from(page: &mut Page, given: &Given, source: &Source, vars: Vars, before: &[u8]) {
-    match ran(page, given, source, vars) {
-        Ok(ran) => put_ran(page, &ran, before),
-        Err(fault) => put_fault(page, b"plan ", &fault),
-    }
-}
-
-/// Puts what a run does and leaves: its outcome, the starts and ends of children, the variables, and the definitions. Of the
-/// variables, it puts those that the run changed, or all.
-pub fn put_run(page: &mut Page, given: &Given, source: &Source, is_all: bool) {
-    match settings_of(page, given, source) {
-        Ok(settings) => {
-            let mut before = Page::new(page.alloc());
-            if !is_all {
-                put_vars(&mut before, &settings.vars);
-            }
-            note_cut(page, &before);
-            put_run_from(page, given, source, settings.vars, before.text());
-        }
+        Ok(settings) => put_run_from(page, kind, given, source, settings.vars),
         Err(fault) => put_fault(page, b"option ", &fault),
     }
 }

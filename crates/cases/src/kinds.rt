@@ -1,0 +1,68 @@
+//! The answers that a case may want.
+
+/// What a case may want to see.
+#[derive(Clone, Copy)]
+pub enum Kind {
+    /// The tree of the source, or its fault.
+    Parsed,
+    /// How much is in the tree.
+    Counted,
+    /// What each front of the source is.
+    Fronts,
+    /// The lengths of those fronts that are sources.
+    Sources,
+    /// What the filter writes.
+    Filtered,
+    /// All variables that a run begins with, without arguments and environment.
+    Variables,
+    /// What a run begins with by its arguments and environment.
+    Opened,
+    /// The help text.
+    Help,
+    /// The directory of the source.
+    Srcdir,
+    /// What a run does and leaves.
+    Ran,
+    /// The same, with all variables.
+    RanWhole,
+    /// The log of a run.
+    Logged,
+    /// The conftests of a run.
+    Conftests,
+    /// The figures of a run, and what it leaves.
+    Measured,
+}
+
+/// The sections that are answers.
+const ANSWERS: [(&[u8], Kind); 13] = [
+    (b"parsed", Kind::Parsed),
+    (b"counted", Kind::Counted),
+    (b"fronts", Kind::Fronts),
+    (b"sources", Kind::Sources),
+    (b"filtered", Kind::Filtered),
+    (b"variables", Kind::Variables),
+    (b"opened", Kind::Opened),
+    (b"help", Kind::Help),
+    (b"srcdir", Kind::Srcdir),
+    (b"ran", Kind::Ran),
+    (b"logged", Kind::Logged),
+    (b"conftests", Kind::Conftests),
+    (b"measured", Kind::Measured),
+];
+
+/// Returns the answer that a section of this name is.
+pub fn kind_of(name: &[u8]) -> Option<Kind> {
+    for (answer, kind) in &ANSWERS {
+        if *answer == name {
+            return Some(*kind);
+        }
+    }
+    None
+}
+
+impl Kind {
+    /// Returns whether newlines at the end of the answer count.
+    pub fn is_exact(self) -> bool {
+        matches!(self, Kind::Filtered | Kind::Help)
+    }
+}
