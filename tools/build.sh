@@ -54,7 +54,7 @@ git init -q "$room"
 
 began=$(date +%s)
 count=$(echo "$crates" | wc -l)
-echo "Proving $count crates, and then building out/$program. On four processors, all of it takes some 20 minutes."
+echo "Proving $count crates, each as soon as those that it uses are proved, and then building out/$program."
 { (cd "$room" && rt ci) 2>&1 || echo "rt ci failed"; } | tee "$log" | awk -v count="$count" '
     /^rt: [a-z0-9_]+ proved$/ { proved++; print "proved " $2 "; " count - proved " of " count " crates are left"; fflush() }'
 if [ "$(tail -n 1 "$log")" = "rt ci failed" ]; then

@@ -441,6 +441,19 @@ EDITS_OF_SELFTEST = {
 }
 
 
+def of_texts(repository, options):
+    """What comes of a missing name on a later line of an error, and of an open goal in a function that no edit changes."""
+    trial, end = Trial(repository, "textcut", options), "\nlogic=not-proved"
+    functions = trial.crate.functions({})
+    error = "./proofs/trim/Answers.antt:1:1: error: `returns`: record `After` (nearest: .all)\n  has no field `trim_with`"
+    said = Said(error + end, 1, functions)
+    yield "a-name-on-a-later-line", ("trim" in said.missing and not said.refused, ""), (True, "")
+    at = next(it.last for it in functions if it.name == "trim")
+    others = [it for it in trial.crate.edits if it.places == {"is_blank"}]
+    trial.judge(others[:1], Said(f"note: src/lib.rt:{at}:5: it is not proved that it holds" + end, 1, functions))
+    yield "a-stranger", (not trial.strangers, "; ".join(trial.strangers.values())), (False, "trim has no edit")
+
+
 def selftest(kit, options):
     """Tries small edits of a copy of textcut, which stands on no crate of the repository, and libraries that are not to be taken."""
     with tempfile.TemporaryDirectory(prefix="edits-selftest-") as room:
@@ -454,6 +467,7 @@ def selftest(kit, options):
         told = {os.path.basename(it.name)[: -len(".edit")]: verdict for it, verdict in trial.verdicts.items()}
         wanted = [(name, told[name], (is_well, part)) for name, (_, _, _, is_well, part) in EDITS_OF_SELFTEST.items()]
         wanted.append(("no-stranger", (not trial.strangers, "; ".join(trial.strangers.values())), (True, "")))
+        wanted += of_texts(repository, options)
         made = f"{room}/crates/textcut/out/rlib/textcut.rlib/format"
         wanted.append(("no-library", (False, repository.words("above")[1] or ""), (False, "there is no crates/textcut/out/rlib")))
         write(made, "")
