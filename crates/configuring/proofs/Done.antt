@@ -9,7 +9,8 @@ use Rattle.crew_trait.specs.Events.{Account}
 use Rattle.diskfiles.specs.Lines.{AreLines, none}
 use Rattle.engine.specs.Configured.{IsAnswer, IsNotRun, IfStarts, IfReport, IsMeant, things}
 use Rattle.framing.specs.Faults.{◌>>=◌, named, wants, of_parse, of_option}
-use Rattle.framing.specs.Given.{Accepted, Shows, Starts, judged, accepted, started}
+use Rattle.engine.specs.Judged.{judged}
+use Rattle.framing.specs.Given.{Accepted, Shows, Starts, accepted, started}
 use Rattle.framing.specs.Shown.{shown_report, shown_text}
 use Rattle.framing.specs.declared.accepting.Start.{Start}
 use Rattle.framing.specs.declared.fault.Fault.{Fault}

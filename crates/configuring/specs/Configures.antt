@@ -4,7 +4,8 @@ use Rattle.commands.specs.Printed.{printed}
 use Rattle.crew_trait.specs.Events.{Account}
 use Rattle.diskfiles.specs.Lines.{AreLines}
 use Rattle.engine.specs.Configured.{IsMeant, things}
-use Rattle.framing.specs.Given.{judged, Shows, Starts}
+use Rattle.engine.specs.Judged.{judged}
+use Rattle.framing.specs.Given.{Shows, Starts}
 use Rattle.framing.specs.Shown.{shown_text}
 use Rattle.framing.specs.declared.accepting.Start.{Start}
 use Rattle.framing.specs.declared.report.Report.{Report}

@@ -9,7 +9,8 @@ use Rattle.plan.specs.Weight.{heaviest, weight}
 use Rattle.plan.specs.declared.fault.PlanFault.TheVariants.{TooLong}
 use Rattle.syntax.specs.Script.{Script}
 use Rattle.framing.specs.Faults.{Fails, ◌>>=◌, named, wants, of_parse}
-use Rattle.framing.specs.Given.{Accepted, Shows, Starts, judged, accepted, seen}
+use Rattle.engine.specs.Judged.{judged}
+use Rattle.framing.specs.Given.{Accepted, Shows, Starts, accepted, seen}
 use Rattle.engine.specs.Configured.{IsWhole, refused, memory, shown, ran, IsAnswer, IsNotRun, IfStarts, IfReport, IfPutRefused, IsMeant, IsDone, IsCut, HasReport, things, record_after}
 use Rattle.framing.specs.Handing.{IfCompleted, ReadsBack}
 use Rattle.framing.specs.Shown.{shown_report}

@@ -1,14 +1,13 @@
 -- What a whole run does, and what is returned of it.
 use Rattle.std.specs.Prelude.{◌≡◌, ℕ, ◌+◌, List, ◌++◌, length, Result, Ok, Err}
 use Rattle.crew_trait.specs.Events.{Account}
-use Rattle.machine.specs.declared.machine.RunEnd.{RunEnd}
 use Rattle.meaning.specs.Meaning.{meaning}
 use Rattle.meaning.specs.Play.{whole}
 use Rattle.meaning.specs.State.{opened}
 use Rattle.options.specs.declared.settings.Settings.{Settings}
 use Rattle.outputs.specs.Receipt.{Receipt, with_things, IsCutAt}
 use Rattle.outputs.specs.declared.thing.Thing.{Thing}
-use Rattle.proberun.specs.Ran.{Ran}
+pub use Rattle.proberun.specs.Ran.{Ran, RunEnd, outcome_from, state_of}
 use Rattle.status_record.specs.declared.record.Record.{Record}
 use Rattle.syntax.specs.Script.{Script}
 use Rattle.framing.specs.Given.{Accepted, Shows, Starts}

@@ -1,3 +1,4 @@
 pub mod Told
+pub mod Judged
 pub mod Configured
 pub mod Agreeing

@@ -7,16 +7,17 @@ ghost use Rattle.outputs.specs.Receipt.{with_things};
 ghost use Rattle.plan.specs.Walk.{DoesWhat};
 ghost use Rattle.syntax.specs.Lists.{lists_of};
 ghost use Rattle.syntax.specs.Script.{script_of};
-ghost use Rattle.framing.specs.Given.{judged};
+ghost use Rattle.engine.specs.Judged.{judged};
 ghost use Rattle.framing.specs.Handing.{IfCompleted, ReadsBack};
 ghost use Rattle.engine.specs.Configured.{IfStarts, IsNotRun, IfReport, IfPutRefused, IsAnswer, IsDone, IsWhole, IsRefusedPut, IsMeant, IsCut, things, record_after};
 ghost use Rattle.framing.specs.declared.fault.Fault.TheVariants.{OutOfMemory};
 
 use crate::outcome::outcome_of;
+use crate::reading::parsed;
 use crew_trait::Crew;
 use deftable::Bytes;
 use framing::{
-    Fault, Found, Report, Start, accepted, joined, parsed, planned, shown, things_of, with_notes,
+    Fault, Found, Report, Start, accepted, joined, planned, shown, things_of, with_notes,
 };
 use outputs::{Outputs, Things, put_all};
 use plan::Plan;

@@ -4,13 +4,15 @@
 //! files and headers again from the record of such a run. What a run is given is a value, and what it hands over is put to
 //! [`Outputs`], so nothing here opens a file.
 //!
-//! What comes before and after the run is in the crate `framing`, which has [`remake`] too. In `specs`, read `Configured` (the
-//! whole) and `Agreeing` (two runs under the same replies); `Told` is small. In `src`, read `configuring`; `agreeing` has a law.
+//! What comes before and after the run is in the crate `framing`, which has [`remake`] too. In `specs`, read `Judged` (what
+//! follows from all that is given), `Configured` (the whole) and `Agreeing` (two runs under the same replies); `Told` is small. In
+//! `src`, read `configuring`; `reading` and `outcome` are small, and `agreeing` has a law.
 #![tactic(auto)]
 
 mod agreeing;
 mod configuring;
 mod outcome;
+mod reading;
 
 pub use agreeing::configures_agree;
 pub use configuring::configure;

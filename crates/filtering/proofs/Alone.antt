@@ -4,17 +4,15 @@ use Rattle.std.proofs.lemmas.Bool.Decides.{eqb_tells}
 use Rattle.std.specs.Prelude.{◌==◌, IfOk, IfErr, IsErrAnd, replicate}
 use Rattle.crew_trait.specs.Events.{Account, replies_in}
 use Rattle.crew_trait.specs.declared.reply.Reply.TheVariants.{StartRefused}
-use Rattle.engine.specs.Configured.{IfReport, IfStarts, IsAnswer, IsMeant, things}
+use Rattle.engine.specs.Configured.{Ran, RunEnd, outcome_from, IfReport, IfStarts, IsAnswer, IsMeant, things}
 use Rattle.framing.specs.Given.{Accepted, Shows, Starts}
 use Rattle.framing.specs.declared.accepting.Start.{Start}
 use Rattle.framing.specs.declared.fault.Fault.{Fault}
 use Rattle.framing.specs.declared.fault.Fault.TheVariants as faults
 use Rattle.framing.specs.declared.report.Report.{Report}
-use Rattle.machine.specs.declared.machine.RunEnd.{RunEnd}
 use Rattle.meaning.specs.Play.{play, all_jobs, first_refused}
 use Rattle.meaning.specs.State.{Run}
 use Rattle.outputs.specs.Receipt.{Receipt, with_things}
-use Rattle.proberun.specs.Ran.{Ran, outcome_from}
 use Rattle.syntax.specs.Script.{Script}
 use Rattle.filtering.specs.Faults.{of_run}
 use Rattle.filtering.specs.Handed.{IsNotRun, refused, no_memory, IsReported}

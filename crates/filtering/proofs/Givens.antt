@@ -5,7 +5,8 @@ use Rattle.acparse.specs.Profile.{source_of}
 use Rattle.commandline.specs.Arguments.{given}
 use Rattle.engine.specs.Configured.{things}
 use Rattle.framing.specs.Faults.{◌>>=◌, named, of_parse, wants}
-use Rattle.framing.specs.Given.{Accepted, Starts, accepted, judged, started}
+use Rattle.engine.specs.Judged.{judged}
+use Rattle.framing.specs.Given.{Accepted, Starts, accepted, started}
 use Rattle.framing.specs.declared.accepting.Start.{Start}
 use Rattle.framing.specs.declared.fault.Fault.{Fault}
 use Rattle.framing.specs.declared.fault.Fault.TheVariants.{Plan}

@@ -3,7 +3,8 @@ use Rattle.std.specs.Prelude.{◌≡◌, ℕ, Bool, true, false, List, [], ◌�
 use Rattle.cfglog.specs.Texts.{messages_of}
 use Rattle.deftable.specs.declared.note.Stream.TheVariants as streams
 use Rattle.engine.specs.Configured.{things}
-use Rattle.framing.specs.Given.{Accepted, Shows, Starts, judged}
+use Rattle.engine.specs.Judged.{judged}
+use Rattle.framing.specs.Given.{Accepted, Shows, Starts}
 use Rattle.framing.specs.Shown.{shown_report}
 use Rattle.framing.specs.Told.{status_of}
 use Rattle.framing.specs.declared.fault.Fault.{Fault}

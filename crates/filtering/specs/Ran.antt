@@ -3,14 +3,12 @@ use Rattle.std.specs.Prelude.{◌≡◌, List, length, replicate, Some}
 use Rattle.jobs.specs.declared.job.Job.{Job}
 use Rattle.crew_trait.specs.declared.reply.Reply.{Reply}
 use Rattle.crew_trait.specs.declared.reply.Reply.TheVariants.{StartRefused}
-use Rattle.engine.specs.Configured.{report_of}
+use Rattle.engine.specs.Configured.{RunEnd, outcome_from, report_of, state_of}
 use Rattle.framing.specs.declared.accepting.Start.{Start}
 use Rattle.framing.specs.declared.report.Report.{Report}
-use Rattle.machine.specs.declared.machine.RunEnd.{RunEnd}
 use Rattle.meaning.specs.Meaning.{meaning}
 use Rattle.meaning.specs.Play.{play, all_jobs, first_refused, whole}
 use Rattle.meaning.specs.State.{opened, How, Run}
-use Rattle.proberun.specs.Ran.{outcome_from, state_of}
 use Rattle.syntax.specs.Script.{Script}
 
 -- A refused start for each of these jobs. (own)

@@ -1,6 +1,5 @@
 -- What a run is given, and what follows from it before anything is run.
-use Rattle.std.specs.Prelude.{◌≡◌, ℕ, Bool, true, false, ◌||◌, nat_le, List, [], ◌∷◌, ◌++◌, Option, Some, None, Result, Ok, Err, option_map, if◌then◌else◌}
-use Rattle.acparse.specs.Profile.{source_of}
+use Rattle.std.specs.Prelude.{◌≡◌, ℕ, Bool, true, false, ◌||◌, List, [], ◌∷◌, ◌++◌, Option, Some, None, Result, Ok, Err, option_map, if◌then◌else◌}
 use Rattle.cachefile.specs.Cache.{cache_of, vars_after}
 use Rattle.cachefile.specs.Line.{Setting}
 use Rattle.deftable.specs.declared.note.Note.{Note}
@@ -9,16 +8,14 @@ use Rattle.options.specs.Opening.{opening}
 use Rattle.options.specs.Precious.{checked}
 use Rattle.options.specs.declared.settings.Settings.{Settings}
 use Rattle.outputlist.specs.declared.output.Output.{Output}
-use Rattle.plan.specs.Weight.{heaviest, weight}
-use Rattle.plan.specs.declared.fault.PlanFault.TheVariants.{TooLong}
 use Rattle.syntax.specs.Lists.{lists_of}
 use Rattle.syntax.specs.Script.{Script}
-use Rattle.framing.specs.Faults.{of_parse, of_option, of_cache, of_precious, named, ◌>>=◌, wants}
+use Rattle.framing.specs.Faults.{of_option, of_cache, of_precious, named, ◌>>=◌}
 use Rattle.framing.specs.declared.accepting.Start.{Start}
 use Rattle.framing.specs.declared.accepting.Found as found
 use Rattle.framing.specs.declared.accepting.Found.TheVariants as founds
 use Rattle.framing.specs.declared.fault.Fault.{Fault}
-use Rattle.framing.specs.declared.fault.Fault.TheVariants.{Plan, NoTemplate}
+use Rattle.framing.specs.declared.fault.Fault.TheVariants.{NoTemplate}
 
 -- What is accepted: a text is to be shown, or the source is to be run from this start. (own)
 pub data Accepted : Type 0 where
@@ -62,14 +59,6 @@ accepted arguments environment cache templates script = do
   settings ← named of_option (opening (lists_of script).features (lists_of script).packages (lists_of script).precious arguments environment)
   if settings.help || settings.version then Ok (Shows script settings)
       else (started cache templates script settings >>= λ start. Ok (Starts script start))
-
--- What follows from a source, arguments, an environment, a cache and templates: they are refused with their first fault, or
--- accepted. Of two templates of one name the first counts. (own)
-unfoldable pub judged : List ℕ → List (List ℕ) → List (List ℕ × List ℕ) → Option (List ℕ) → List (List ℕ × List ℕ) → Result Accepted Fault
-judged source arguments environment cache templates = do
-  script ← named of_parse (source_of source)
-  _ ← wants (nat_le (weight script) heaviest) (Plan TooLong)
-  accepted arguments environment cache templates script
 
 -- What a function found, given the statements. (own)
 abbrev pub seen : Script → found.Found → Accepted

@@ -2,23 +2,20 @@
 
 ghost use Rattle.std.specs.Prelude.{◌≡◌, ◌≤◌, nat_le, IfOk, Ok, option_map, length};
 ghost use Rattle.std.specs.Option.{option_copied};
-ghost use Rattle.acparse.specs.Profile.{source_of};
 ghost use Rattle.options.specs.Opening.{opening};
 ghost use Rattle.options.specs.Precious.{checked};
-ghost use Rattle.outputlist.specs.Output.{AreOutputs};
 ghost use Rattle.cachefile.specs.Cache.{cache_of};
 ghost use Rattle.plan.specs.Walk.{DoesWhat};
 ghost use Rattle.plan.specs.Weight.{heaviest, weight};
 ghost use Rattle.plan.specs.declared.fault.PlanFault.TheVariants.{TooLong};
 ghost use Rattle.syntax.specs.Lists.{lists_of};
 ghost use Rattle.syntax.specs.Script.{script_of};
-ghost use Rattle.framing.specs.Faults.{Gives, named, of_parse, of_option, of_cache, of_precious, wants};
+ghost use Rattle.framing.specs.Faults.{Gives, named, of_option, of_cache, of_precious, wants};
 ghost use Rattle.framing.specs.Given as given;
 ghost use Rattle.framing.specs.declared.fault.Fault.TheVariants.{Plan as Unplanned};
 
 use crate::fault::Fault;
 use crate::noting::joined;
-use acparse::parse;
 use cachefile::{OldCache, read_cache};
 use deftable::{Bytes, Notes, Vars};
 use making::find_missing;
@@ -27,14 +24,6 @@ use outputlist::Output;
 use plan::{Plan, compile};
 use std::alloc::Global;
 use syntax::Source;
-
-/// Reads the source.
-pub fn parsed(alloc: Global, text: &[u8]) -> Result<Source, Fault>
-    ensures exact { Gives script_of result (named of_parse (source_of text.now)) }
-    ensures outputs { IfOk result (λ s. AreOutputs (lists_of (script_of s)).files (lists_of (script_of s)).headers) }
-{
-    Ok(parse(alloc, text)?)
-}
 
 /// Compiles the source.
 pub fn planned<'a>(alloc: Global, source: &'a Source) -> Result<Plan<'a>, Fault>

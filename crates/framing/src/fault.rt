@@ -6,7 +6,7 @@ ghost use Rattle.framing.specs.declared.fault.Fault.TheVariants.{OutOfMemory};
 ghost use Rattle.framing.specs.declared.fault.RemakeFault.TheVariants.{OutOfMemory as NoMemory};
 
 use crate::report::Report;
-use acparse::ParseFault;
+use acstatement::ParseFault;
 use cachefile::CacheFault;
 use deftable::Bytes;
 use options::{OptionFault, PreciousFault};

@@ -1,5 +1,5 @@
 //! What comes before and after a run: what is given is accepted or refused, and what the run leaves is made into what it hands
-//! over. Nothing here starts a child.
+//! over. Nothing here reads a source or starts a child.
 //!
 //! [`accepted`] goes over the arguments, the environment, the cache and the templates of a source, up to the first fault, and
 //! says what a run begins with, or that a text is to be [`shown`]. [`things_of`] makes the cache, the record, the files and the
@@ -20,7 +20,7 @@ mod remaking;
 mod report;
 mod showing;
 
-pub use accepting::{Found, Start, accepted, parsed, planned};
+pub use accepting::{Found, Start, accepted, planned};
 pub use fault::{Fault, RemakeFault};
 pub use handing::things_of;
 pub use noting::{joined, with_notes};

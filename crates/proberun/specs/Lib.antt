@@ -3,3 +3,4 @@ pub mod Serving
 pub mod Ran
 pub mod Progress
 pub mod Agreeing
+pub mod Outcomes

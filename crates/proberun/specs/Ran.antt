@@ -7,7 +7,7 @@ use Rattle.meaning.specs.State.{State, How, Goes_on, Completed, Stopped, Cut, Ru
 use Rattle.meaning.specs.Play.{play, all_jobs, first_refused}
 use Rattle.machine.specs.declared.machine.Outcome.{Outcome}
 use Rattle.machine.specs.declared.machine.Outcome.TheVariants as outcome
-use Rattle.machine.specs.declared.machine.RunEnd.{RunEnd}
+pub use Rattle.machine.specs.declared.machine.RunEnd.{RunEnd}
 use Rattle.proberun.specs.Starts.{StartsAre, TakesLeast, Fills, EndsGroup, failures_in}
 
 -- The outcome of a run, by how it ends and by the number, from 1, of the first refused reply among those to all its
