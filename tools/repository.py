@@ -40,6 +40,19 @@ def unlisted_crates():
         yield f"crates.txt and crates/ do not agree on {name}"
 
 
+def below(crate, uses):
+    """Returns the crates of the repository that a crate stands on, directly or not."""
+    return {it for use in uses[crate] if use in uses for it in {use, *below(use, uses)}}
+
+
+def modules_named_as_crates():
+    """A module has the name of a crate below its own, which `rt ci` refuses and a check does not."""
+    uses = rows()
+    for crate in uses:
+        for name in set(re.findall(r"(?m)^\s*(?:pub(?:\(crate\))? )?mod (\w+)\b", sources(crate))) & below(crate, uses):
+            yield f"crates/{crate} has a module {name}, which is the name of a crate below"
+
+
 def unnamed_crates():
     """A document that lists the crates lacks one."""
     for file in ("README.md", "docs/architecture.md"):
@@ -108,6 +121,7 @@ def headings(file):
 CHECKS = [
     unused_libraries,
     unlisted_crates,
+    modules_named_as_crates,
     unnamed_crates,
     edits_that_do_not_apply,
     edits_over_the_budget,

@@ -2,7 +2,7 @@
 //!
 //! No contract says what a file holds or how an error line reads, so a row compares the exit status, both streams and the
 //! files that are left. An example is a row of a table that `testrows` reads, each answer found by hand from docs/. `steps` does what
-//! a row says, `given` reads its words, and `commands` calls the program. The rows are in `runs` (whole runs and their files),
+//! a row says, `given` reads its words, and `calls` runs the program. The rows are in `runs` (whole runs and their files),
 //! `remakes` (outputs made again), `faults` (error lines), `puts` (files that can't be written), `ends` (runs that are stopped or cut,
 //! and go on), `windows` (several children at once) and `children` (real children).
 //!
@@ -10,9 +10,9 @@
 #![tactic(auto)]
 
 #[cfg(test)]
-mod children;
+mod calls;
 #[cfg(test)]
-mod commands;
+mod children;
 #[cfg(test)]
 mod ends;
 #[cfg(test)]

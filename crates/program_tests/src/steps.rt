@@ -9,7 +9,7 @@
 //!   can be written to their standard output.
 //! - `run` puts the status and the streams of a command, `read` the name and the text of a file, and `list` the names in the directory.
 
-use crate::commands::{Given, NOTHING, put_run};
+use crate::calls::{Given, NOTHING, put_run};
 use std::fs::DirEntry;
 use std::os::unix::fs::symlink;
 use std::{env, fs, io, str};

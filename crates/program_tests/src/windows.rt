@@ -1,6 +1,6 @@
 //! Runs with several children at once.
 
-use crate::commands::{Given, NOTHING};
+use crate::calls::{Given, NOTHING};
 use crate::steps::put_row;
 use std::test::Fail;
 use testrows::{Call, Page, try_rows_in};

@@ -3,7 +3,7 @@
 //! No clause can say that memory is left, what the system answers, or how a fault is printed. `crews` has crews in memory and
 //! real children, `broken_children` those whose pipe or end fails, `progress` crews that show how far they are, `plans` what a
 //! source weighs and its steps, `runs` whole runs, also by a machine that a test answers (`machines`), `batches` lists whose children
-//! are asked for at once, `commands` the filter and the program's commands over streams that fail, and `stand_ins` the stand-in for a
+//! are asked for at once, `calls` the filter and the program's commands over streams that fail, and `stand_ins` the stand-in for a
 //! compiler, as a child too, of which the start or the end may be refused (`refused_children`). `texts` reads the parts of a row, and
 //! `streams` has the streams that fail.
 #![tactic(auto)]
@@ -13,7 +13,7 @@ mod batches;
 #[cfg(test)]
 mod broken_children;
 #[cfg(test)]
-mod commands;
+mod calls;
 #[cfg(test)]
 mod crews;
 #[cfg(test)]

@@ -2,7 +2,7 @@
 
 ghost use Rattle.std.specs.Prelude.{◌≡◌, []};
 
-use crate::commands::{status_over, write_file};
+use crate::calls::{status_over, write_file};
 use crate::streams::Sheet;
 use crate::texts::{number_of, words_of};
 use crew::{Crew, FuseKind, Fused, ProcessCrew};

@@ -1,6 +1,6 @@
 //! The stand-in for a compiler on real files, each test in a directory of its own.
 
-use crate::commands::{Program, status_of, write_file};
+use crate::calls::{Program, status_of, write_file};
 use crate::crews::{Work, put_real_children};
 use crate::refused_children::put_refused;
 use crate::runs::vars_of;

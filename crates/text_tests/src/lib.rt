@@ -10,11 +10,11 @@
 #[cfg(test)]
 mod caches;
 #[cfg(test)]
+mod conftests;
+#[cfg(test)]
 mod cuts;
 #[cfg(test)]
 mod headers;
-#[cfg(test)]
-mod jobs;
 #[cfg(test)]
 mod logs;
 #[cfg(test)]
