@@ -11,11 +11,11 @@ use acargs::arguments::{is_given, name};
 use acargs::program::{program, programs};
 use acargs::shell::here_text;
 use acstatement::texts::arg_at;
-use deftable::{Bytes, Name, SubstList};
+use deftable::{Bytes, Name, SubstList, Texts};
 use m4quote::Arg;
 use shellword::HereText;
 use std::alloc::{AllocError, Global};
-use syntax::{Declarations, Plain, ProgramNames};
+use syntax::{Declarations, Plain};
 
 /// The largest number of names in a list of the source (own).
 const MAX_NAMES: usize = 1024;
@@ -87,7 +87,7 @@ pub(crate) fn check_progs(
     let otherwise = optional_text(alloc, arg_at(args, 2))?;
     Ok(Plain::CheckProgs {
         variable,
-        programs: ProgramNames::from_vec(names),
+        programs: Texts::from_vec(names),
         otherwise,
     })
 }
@@ -172,6 +172,6 @@ pub(crate) fn prog_cc(
     }
     let names = compilers(alloc, arg_at(args, 0))?;
     Ok(Plain::ProgCc {
-        programs: ProgramNames::from_vec(names),
+        programs: Texts::from_vec(names),
     })
 }

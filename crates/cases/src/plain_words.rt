@@ -3,8 +3,9 @@
 use crate::pages::{put_bracketed, put_text};
 use crate::shell_words::{put_here, put_word};
 use acparse::{Help, Outputs};
+use deftable::Texts;
 use shellword::HereText;
-use syntax::{Entries, Listed, MessageKind, Plain, ProgramNames};
+use syntax::{Entries, Listed, MessageKind, Plain};
 use testrows::Page;
 
 /// Puts each file or header with its template.
@@ -28,7 +29,7 @@ pub fn put_help(page: &mut Page, help: &Help) {
     }
 }
 
-fn put_programs(page: &mut Page, programs: &ProgramNames) {
+fn put_programs(page: &mut Page, programs: &Texts) {
     for program in programs.as_slice() {
         put_bracketed(page, program.as_slice());
     }

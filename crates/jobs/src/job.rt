@@ -2,15 +2,14 @@
 
 ghost use Rattle.std.specs.Prelude.{◌≡◌, IfOk};
 
-use crate::words::Words;
-use deftable::Bytes;
+use deftable::{Bytes, Texts};
 use std::alloc::{AllocError, Global};
 
 /// The work of one child process.
 #[derive(Drop)]
 pub struct Job {
     /// The words of the command, with the program first.
-    pub words: Words,
+    pub words: Texts,
     /// The name and the text of the file that must exist when the command starts.
     pub file: Option<(Bytes, Bytes)>,
 }

@@ -6,11 +6,12 @@
 //! "own" marks a rule that no manual gives.
 //!
 //! Read `specs/Probe.antt` first: each job is `job_of` of a probe, its number, the variables and the definitions. Then read
-//! `words` and `job`.
+//! `words` and `job`. A command's words, with the program first, are a list of texts.
 #![tactic(auto)]
 
 mod job;
 mod words;
 
 pub use job::Job;
-pub use words::{Words, push_all};
+pub use deftable::Texts as Words;
+pub use words::push_all;

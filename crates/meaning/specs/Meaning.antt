@@ -14,6 +14,7 @@ use Rattle.syntax.specs.declared.statement.MessageKind.TheVariants as messages
 use Rattle.syntax.specs.declared.statement.Plain as plain
 use Rattle.syntax.specs.declared.statement.Plain.TheVariants.{Init, Accepted, ConfigFiles, ConfigHeaders, Assign, Subst, SubstValue, Define, DefineUnquoted, Error, Message, ArgVar, CheckProg, CheckProgs, PathProg, ProgCc, Batch, Output}
 use Rattle.syntax.specs.declared.statement.Question as asks
+use Rattle.syntax.specs.declared.statement.Question.TheVariants as questions
 use Rattle.syntax.specs.declared.statement.Question.TheVariants.{Given, Tries, Checks, ChecksEach}
 use Rattle.syntax.specs.declared.tree.Subject.{Subject}
 use Rattle.syntax.specs.declared.tree.Subject.TheVariants.{Nothing, Word, Asked}
@@ -22,7 +23,7 @@ use Rattle.syntax.specs.declared.tree.When.TheVariants.{Holds, Matches, Yes, No,
 use Rattle.syntax.specs.Script.{Script, Done, Then, Choice, Check, Cases, No_case, Case}
 use Rattle.meaning.specs.Package.{initialised}
 use Rattle.meaning.specs.State.{State, Scope, no_choice, about, answered, told, with_variable, with_definition, How, as_is, Run, Ends, Goes_on, Completed, Stopped, then_run, ended}
-use Rattle.meaning.specs.Rows.{Search, Kind, Program, kind_for, name_of, is_yes, value_or_empty, value_if, row_of}
+use Rattle.meaning.specs.Rows.{Search, Kind, Program, Library, Libraries, kind_for, name_of, is_found, value_or_empty, value_if, row_of}
 use Rattle.meaning.specs.Batches.{batched}
 use Rattle.meaning.specs.Tests.{Test, cached_test, checking, with_result, tested}
 use Rattle.meaning.specs.Tries.{text_of, tried}
@@ -144,10 +145,10 @@ abbrev pub given : Option (List ℕ) → OptionKind → State → (Scope → Sta
 given None kind st go = go (answered false) st
 given (Some value) kind st go = go (answered true) (with_variable (value_name kind) value st)
 
--- A test as a question: it has found what it looks for if its value is `yes`. (Autoconf's manual, "Existing Tests")
+-- A test as a question: whether it has found what it looks for. (Autoconf's manual, "Existing Tests" and "Library Files")
 abbrev pub found_by : (How → State → State) → Kind → State → (Scope → State → Run) → Run
 found_by early kind st go =
-    then_run (ended early (tested (row_of kind st) st)) (λ now. go (answered (is_yes (value_of now.vars (name_of kind)))) now)
+    then_run (ended early (tested (row_of kind st) st)) (λ now. go (answered (is_found kind (value_of now.vars (name_of kind)))) now)
 
 -- The first entry of a list is tested, and what is found is defined. (Autoconf's manual, "Generic Headers" to "Generic
 -- Types")
@@ -156,13 +157,15 @@ first_found early sought [] includes st go = go (answered false) st
 first_found early sought (entry ∷ more) includes st go = found_by early (kind_for sought entry includes true) st go
 
 -- A question, and how the run continues with the answer: an option is given if its variable is set, a program that is
--- tried passes if its children succeed, and an entry is found by its test. (Autoconf's manual, "Running the Compiler" and
--- "Existing Tests")
+-- tried passes if its children succeed, and an entry or a library is found by its test. (Autoconf's manual, "Running the
+-- Compiler", "Existing Tests" and "Library Files")
 abbrev pub asked : (How → State → State) → asks.Question → State → (Scope → State → Run) → Run
 asked early (Tries kind program) st go = tried early kind (text_of program st.vars) st (λ passed. go (answered passed))
 asked early (Given kind variable help) st go = given (value_of st.vars variable) kind st go
 asked early (Checks sought entry includes) st go = found_by early (kind_for sought entry includes false) st go
 asked early (ChecksEach sought entries includes) st go = first_found early sought entries includes st go
+asked early (questions.Library library function others adds) st go = found_by early (Library library function others adds) st go
+asked early (questions.Libraries function libraries others) st go = found_by early (Libraries function libraries others) st go
 
 -- A choice begins with its subject: nothing, the value of a word, or the answer to a question; `early` changes the state
 -- of a run that ends here. (own)

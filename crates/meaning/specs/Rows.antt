@@ -1,9 +1,9 @@
 -- The rows of the kinds of tests.
-use Rattle.std.specs.Prelude.{ℕ, Bool, true, false, List, [], ◌∷◌, ◌++◌, Option, Some, None, codes, map, unwrap_or, is_some, bytes_eq, if◌then◌else◌}
+use Rattle.std.specs.Prelude.{ℕ, Bool, true, false, not, ◌&&◌, List, [], ◌∷◌, ◌++◌, Option, Some, None, codes, map, unwrap_or, is_some, bytes_eq, if◌then◌else◌}
 use Rattle.jobs.specs.declared.job.Job.{Job}
 use Rattle.jobs.specs.Probe.{Probe, Compile, Link, path_of, job_of}
 use Rattle.csource.specs.Sources.{default_includes, header_source, function_source, declaration_source, type_source, second_type_source}
-use Rattle.deftable.specs.Table.{value_of}
+use Rattle.deftable.specs.Table.{value_of, with_entry}
 use Rattle.m4quote.specs.Names.{sh_byte, cpp_byte}
 use Rattle.shellword.specs.declared.part.Part.{Part}
 use Rattle.shellword.specs.Value.{word_value}
@@ -25,12 +25,15 @@ pub record Search : Type 0 where
   pub found : Option (List ℕ)
   pub otherwise : Option (List ℕ)
 
--- The kinds of tests: a program, what one child decides, and a type. `own` is the variable's own value, if it counts.
--- `defines` says whether the result is defined, as the macros of lists do. (own)
+-- The kinds of tests: a program, what one child decides, a type, a function of a library, and a function that several
+-- libraries may have. `own` is the variable's own value, if it counts. `defines` says whether the result is defined, as the
+-- macros of lists do, and `adds` whether the library is defined and added to LIBS. (own)
 pub data Kind : Type 0 where
   Program : (search : Search) (own : Option (List ℕ)) → Kind
   Single : (listed : Listed) (entry : List ℕ) (includes : Option (List Part)) (defines : Bool) → Kind
   Sized : (name : List ℕ) (includes : Option (List Part)) (defines : Bool) → Kind
+  Library : (library function : List ℕ) (others : Option (List Part)) (adds : Bool) → Kind
+  Libraries : (function : List ℕ) (libraries : List (List ℕ)) (others : Option (List Part)) → Kind
 
 -- The kind of test that a macro makes of an entry. (Autoconf's manual, "Generic Headers" to "Generic Types")
 abbrev pub kind_for : Sought → List ℕ → Option (List Part) → Bool → Kind
@@ -112,10 +115,69 @@ entry_job listed entry includes number st =
 abbrev pub type_job : (List ℕ → List ℕ → List ℕ) → List ℕ → Option (List Part) → State → Option Job
 type_job program name includes st = job_of (Compile (program (includes_text includes st.vars) name)) 0 st.vars st.defs
 
+-- The value of the other libraries, or no text if there are none. (Autoconf's manual, "Library Files")
+abbrev pub others_text : Option (List Part) → List (List ℕ × List ℕ) → List ℕ
+others_text None vars = []
+others_text (Some text) vars = word_value text vars
+
+-- What is linked after a library that is tested: the other libraries, and LIBS. (Autoconf's manual, "Library Files")
+abbrev pub libraries_after : Option (List Part) → State → List ℕ
+libraries_after others st = others_text others st.vars ++ codes " " ++ value_or_empty st (codes "LIBS")
+
+-- The variables of the job that tests a library: LIBS has the library first. They are those of the job alone. (Autoconf's
+-- manual, "Library Files")
+abbrev pub vars_with : List ℕ → List ℕ → State → List (List ℕ × List ℕ)
+vars_with library after st = with_entry st.vars (codes "LIBS") (codes "-l" ++ library ++ codes " " ++ after)
+
+-- The job that links a function with a library; none if there is no compiler. (Autoconf's manual, "Library Files")
+abbrev pub library_job : List ℕ → List ℕ → List ℕ → State → Option Job
+library_job function library after st = job_of (Link (function_source function)) 0 (vars_with library after st) st.defs
+
+-- The job that links a function with LIBS as it is; none if there is no compiler. (Autoconf's manual, "Library Files")
+abbrev pub function_job : List ℕ → State → Option Job
+function_job function st = job_of (Link (function_source function)) 0 st.vars st.defs
+
+-- A function is linked with a library, and the value if it can be. (Autoconf's manual, "Library Files")
+abbrev pub attempt_with : List ℕ → List ℕ → State → List ℕ → List ℕ → Attempt
+attempt_with function after st value library =
+    record { job = library_job function library after st; ends_on = true; value = Some value }
+
+-- The same with each of several libraries; the value is the option that names the library. (Autoconf's manual, "Library
+-- Files")
+abbrev pub attempts_with : List ℕ → List ℕ → State → List (List ℕ) → List Attempt
+attempts_with function after st libraries =
+    map (λ library. attempt_with function after st (codes "-l" ++ library) library) libraries
+
 -- The test has found what it looks for: its value is `yes`. (Autoconf's manual, "Caching Results")
 abbrev pub is_yes : Option (List ℕ) → Bool
 is_yes None = false
 is_yes (Some value) = bytes_eq value (codes "yes")
+
+-- A search for libraries has found one: its value is set, and is not `no`. (Autoconf's manual, "Library Files")
+abbrev pub is_linked : Option (List ℕ) → Bool
+is_linked None = false
+is_linked (Some value) = not (bytes_eq value (codes "no"))
+
+-- The test has found what it looks for, by its value. (Autoconf's manual, "Caching Results")
+abbrev pub is_found : Kind → Option (List ℕ) → Bool
+is_found (Libraries function libraries others) value = is_linked value
+is_found kind value = is_yes value
+
+-- A text and a blank are put before the value of LIBS. (Autoconf's manual, "Library Files")
+abbrev pub with_library : List ℕ → State → State
+with_library text st = with_variable (codes "LIBS") (text ++ codes " " ++ value_or_empty st (codes "LIBS")) st
+
+-- A library that has the function: `HAVE_LIB` and its name is defined, and then LIBS gets it. (Autoconf's manual, "Library
+-- Files")
+abbrev pub with_library_if : Bool → List ℕ → State → State
+with_library_if true library st = with_library (codes "-l" ++ library) (with_definition (codes "HAVE_LIB" ++ symbol_part library) (codes "1") st)
+with_library_if false library st = st
+
+-- LIBS gets what a search found, unless no library is needed. (Autoconf's manual, "Library Files")
+abbrev pub with_linked : Option (List ℕ) → State → State
+with_linked None st = st
+with_linked (Some value) st =
+    if is_linked (Some value) && not (bytes_eq value (codes "none required")) then with_library value st else st
 
 -- A name is defined as 1 if this is true. (own)
 abbrev pub defined_if : Bool → List ℕ → State → State
@@ -135,15 +197,19 @@ abbrev pub name_of : Kind → List ℕ
 name_of (Program s own) = s.name
 name_of (Single listed entry includes defines) = entry_name listed entry
 name_of (Sized name includes defines) = codes "ac_cv_type_" ++ shell_part name
+name_of (Library library function others adds) = codes "ac_cv_lib_" ++ shell_part (library ++ codes "_" ++ function)
+name_of (Libraries function libraries others) = codes "ac_cv_search_" ++ shell_part function
 
 -- What is checked. (Autoconf's manual, "Printing Messages")
 abbrev pub message_of : Kind → List ℕ
 message_of (Program s own) = codes "for " ++ s.program
 message_of (Single listed entry includes defines) = entry_message listed entry
 message_of (Sized name includes defines) = codes "for " ++ name
+message_of (Library library function others adds) = codes "for " ++ function ++ codes " in -l" ++ library
+message_of (Libraries function libraries others) = codes "for library containing " ++ function
 
--- The children of the test. A type is found if it has a size, and has none in parentheses, as a value would. (Autoconf's
--- manual, "Generic Programs" and "Generic Types")
+-- The children of the test. A type is found if it has a size, and has none in parentheses, as a value would. A search for
+-- libraries begins with no further library. (Autoconf's manual, "Generic Programs", "Generic Types" and "Library Files")
 abbrev pub attempts_of : Kind → State → List Attempt
 attempts_of (Program s own) st = program_attempts own s (directories_of (value_or_empty st (codes "PATH")))
 attempts_of (Single listed entry includes defines) st =
@@ -151,33 +217,47 @@ attempts_of (Single listed entry includes defines) st =
 attempts_of (Sized name includes defines) st =
     record { job = type_job type_source name includes st; ends_on = false; value = Some (codes "no") }
     ∷ record { job = type_job second_type_source name includes st; ends_on = true; value = Some (codes "no") } ∷ []
+attempts_of (Library library function others adds) st = attempt_with function (libraries_after others st) st (codes "yes") library ∷ []
+attempts_of (Libraries function libraries others) st =
+    record { job = function_job function st; ends_on = true; value = Some (codes "none required") }
+    ∷ attempts_with function (libraries_after others st) st libraries
 
 -- The value if no child ends the test. (Autoconf's manual, "Generic Programs")
 abbrev pub otherwise_of : Kind → Option (List ℕ)
 otherwise_of (Program s own) = first_of own s.otherwise
 otherwise_of (Single listed entry includes defines) = Some (codes "no")
 otherwise_of (Sized name includes defines) = Some (codes "yes")
+otherwise_of (Library library function others adds) = Some (codes "no")
+otherwise_of (Libraries function libraries others) = Some (codes "no")
 
 -- What is printed of the value. (Autoconf's manual, "Printing Messages")
 abbrev pub shown_of : Kind → Option (List ℕ) → List ℕ
 shown_of (Program s own) value = text_or_no (unwrap_or value [])
 shown_of (Single listed entry includes defines) value = unwrap_or value []
 shown_of (Sized name includes defines) value = unwrap_or value []
+shown_of (Library library function others adds) value = unwrap_or value []
+shown_of (Libraries function libraries others) value = unwrap_or value []
 
 -- The test can begin: it needs no compiler, or there is one. (own)
 abbrev pub is_ready : Kind → State → Bool
 is_ready (Program s own) st = true
 is_ready (Single listed entry includes defines) st = is_some (entry_job listed entry includes 0 st)
 is_ready (Sized name includes defines) st = is_some (type_job type_source name includes st)
+is_ready (Library library function others adds) st = is_some (library_job function library (libraries_after others st) st)
+is_ready (Libraries function libraries others) st = is_some (function_job function st)
 
--- What is done with the value: a program's variable gets it, or is set to the empty text, and the macros of lists define
--- the result. (Autoconf's manual, "Generic Programs", "Generic Headers" and "Generic Types")
+-- What is done with the value: a program's variable gets it, or is set to the empty text, the macros of lists define
+-- the result, and LIBS gets a library that was found. (Autoconf's manual, "Generic Programs", "Generic Headers", "Generic
+-- Types" and "Library Files")
 abbrev pub after_of : Kind → Option (List ℕ) → State → State
 after_of (Program s own) value st = with_variable s.variable (unwrap_or value []) st
 after_of (Single listed entry includes true) value st = with_entry_defined listed entry (is_yes value) st
 after_of (Single listed entry includes false) value st = st
 after_of (Sized name includes true) value st = defined_if (is_yes value) (codes "HAVE_" ++ symbol_part name) st
 after_of (Sized name includes false) value st = st
+after_of (Library library function others true) value st = with_library_if (is_yes value) library st
+after_of (Library library function others false) value st = st
+after_of (Libraries function libraries others) value st = with_linked value st
 
 -- The test of a kind, as a statement has it. (own)
 abbrev pub row_of : Kind → State → Row

@@ -2,10 +2,11 @@
 
 use crate::texts::{add, bytes_of, number_of};
 use acparse::Stmt;
+use deftable::Texts;
 use plan::{PlanFault, Step, compile_statements};
 use shellword::Patterns;
 use std::test::Fail;
-use syntax::{Case, Plain, ProgramNames, Subject, When, choose};
+use syntax::{Case, Plain, Subject, When, choose};
 use testrows::{Call, Page, cut, try_rows};
 
 /// Adds so many statements.
@@ -53,7 +54,7 @@ fn compilers(page: &mut Page) -> Stmt {
     let name = bytes_of(page, b"cc");
     add(page, &mut names, name);
     Stmt::Plain(Plain::ProgCc {
-        programs: ProgramNames::from_vec(names),
+        programs: Texts::from_vec(names),
     })
 }
 

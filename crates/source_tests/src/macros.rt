@@ -9,14 +9,13 @@ use acmacros::rows::{plain, question};
 use acmacros::scene::{Scene, check_scene};
 use acmacros::table::{row_named, takes};
 use acmacros::{ArgumentMacro, ChoiceMacro, Macro, Named, PlainMacro, QuestionMacro};
-use deftable::Bytes;
+use deftable::{Bytes, Texts};
 use m4quote::{Arg, Item, read_items};
 use shellword::HereText;
 use std::alloc::Global;
 use std::test::Fail;
 use syntax::{
-    Declarations, Entries, MessageKind, OptionKind, Plain, Program, ProgramNames, Question, Sought,
-    Stage, Try,
+    Declarations, Entries, MessageKind, OptionKind, Plain, Program, Question, Sought, Stage, Try,
 };
 use testrows::{Call, Page, try_rows};
 
@@ -256,7 +255,7 @@ fn put_programs(page: &mut Page) {
     let mut names = Vec::new(page.alloc());
     add(page, &mut names, b"gcc");
     add(page, &mut names, b"cc");
-    put_each(page, ProgramNames::from_vec(names).as_slice());
+    put_each(page, Texts::from_vec(names).as_slice());
 }
 
 /// A call.

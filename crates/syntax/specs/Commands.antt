@@ -4,7 +4,7 @@ use Rattle.std.specs.Prelude.{◌≡◌, ℕ, true, List}
 use Rattle.deftable.specs.CacheName.{is_cache_name}
 use Rattle.syntax.specs.declared.statement.Plain as plain
 use Rattle.syntax.specs.declared.statement.Plain.TheVariants.{Assign}
-use Rattle.syntax.specs.declared.statement.Question.TheVariants.{Given, Tries, Checks, ChecksEach}
+use Rattle.syntax.specs.declared.statement.Question.TheVariants.{Given, Tries, Checks, ChecksEach, Library, Libraries}
 use Rattle.syntax.specs.declared.tree.Subject.{Subject}
 use Rattle.syntax.specs.declared.tree.Subject.TheVariants.{Nothing, Word, Asked}
 use Rattle.syntax.specs.Script.{Script, Done, Then, Choice, Check, Cases, No_case, Case}
@@ -22,6 +22,8 @@ TriesAlone (Asked (Tries kind program)) = Unit {0}
 TriesAlone (Asked (Given kind variable help)) = ⊥
 TriesAlone (Asked (Checks sought entry includes)) = ⊥
 TriesAlone (Asked (ChecksEach sought entries includes)) = ⊥
+TriesAlone (Asked (Library library function others adds)) = ⊥
+TriesAlone (Asked (Libraries function libraries others)) = ⊥
 
 abbrev mutual
   -- The statements are commands that set this name: assignments to it, and choices that hold such commands.

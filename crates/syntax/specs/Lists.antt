@@ -9,7 +9,7 @@ use Rattle.syntax.specs.declared.help.Help.TheVariants.{Entry}
 use Rattle.syntax.specs.declared.statement.Plain as plain
 use Rattle.syntax.specs.declared.statement.Plain.TheVariants.{Init, ConfigFiles, ConfigHeaders, Subst, SubstValue, ArgVar, CheckProg, CheckProgs, PathProg, ProgCc, Output}
 use Rattle.syntax.specs.declared.statement.Question as question
-use Rattle.syntax.specs.declared.statement.Question.TheVariants.{Given, Tries, Checks, ChecksEach}
+use Rattle.syntax.specs.declared.statement.Question.TheVariants.{Given, Tries, Checks, ChecksEach, Library, Libraries}
 use Rattle.syntax.specs.declared.tree.Subject.{Subject}
 use Rattle.syntax.specs.declared.tree.Subject.TheVariants.{Nothing, Word, Asked}
 use Rattle.syntax.specs.Script.{Script, Done, Then, Choice, Check, Cases, No_case, Case}
@@ -55,6 +55,8 @@ after_question c (Given Package variable help) = record c { packages = with_name
 after_question c (Tries kind program) = c
 after_question c (Checks sought entry includes) = c
 after_question c (ChecksEach sought entries includes) = c
+after_question c (Library library function others adds) = c
+after_question c (Libraries function libraries others) = c
 
 -- The declarations after the subject of a choice. (own)
 abbrev pub after_subject : declarations.Declarations → Subject → declarations.Declarations

@@ -166,6 +166,10 @@ pub fn declare_question(
             known.packages.add(variable.as_slice())?;
             known.help.push(help.copy(alloc)?)
         }
-        Question::Tries { .. } | Question::Checks { .. } | Question::ChecksEach { .. } => Ok(()),
+        Question::Tries { .. }
+        | Question::Checks { .. }
+        | Question::ChecksEach { .. }
+        | Question::Library { .. }
+        | Question::Libraries { .. } => Ok(()),
     }
 }

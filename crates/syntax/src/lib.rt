@@ -28,7 +28,7 @@ pub use declarations::{Declarations, Stage};
 pub use feature::{OptionKind, is_feature, option_variable};
 pub use help::{Help, HelpList};
 pub use listed::{Entries, Listed, Sought};
-pub use program::{Program, ProgramNames, Try};
+pub use program::{Program, Try};
 pub use source::Source;
 pub use statement::{MessageKind, Plain, Question};
 pub use tree::{Case, Stmt, Subject, When, cache_check, choose};

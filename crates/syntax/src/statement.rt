@@ -3,8 +3,8 @@
 use crate::feature::OptionKind;
 use crate::help::Help;
 use crate::listed::{Entries, Listed, Sought};
-use crate::program::{Program, ProgramNames, Try};
-use deftable::{Bytes, Name};
+use crate::program::{Program, Try};
+use deftable::{Bytes, Name, Texts};
 use outputlist::Outputs;
 use shellword::{HereText, Word};
 
@@ -93,7 +93,7 @@ pub enum Plain {
     /// AC_CHECK_PROGS: an output variable, which gets the name of the first program that is found, and its value if none is.
     CheckProgs {
         variable: Name,
-        programs: ProgramNames,
+        programs: Texts,
         otherwise: Option<HereText>,
     },
     /// AC_PATH_PROG: an output variable, which gets the full name of the program if it is found, and its value if it isn't.
@@ -104,7 +104,7 @@ pub enum Plain {
     },
     /// AC_PROG_CC: the variable CC, which gets the name of the first compiler that is found.
     ProgCc {
-        programs: ProgramNames,
+        programs: Texts,
     },
     /// AC_CHECK_HEADERS, AC_CHECK_FUNCS and AC_CHECK_DECLS without actions: the entries, for which all children are asked at
     /// once, and the includes of their programs, if they are not the default ones.
@@ -145,5 +145,20 @@ pub enum Question {
         sought: Sought,
         entries: Entries,
         includes: Option<HereText>,
+    },
+    /// AC_CHECK_LIB: whether a library has a function. The other libraries are linked after it. If it has the function and
+    /// `adds` is true, the result is defined and LIBS gets the library.
+    Library {
+        library: Bytes,
+        function: Bytes,
+        others: Option<HereText>,
+        adds: bool,
+    },
+    /// AC_SEARCH_LIBS: whether a function can be linked with no further library, or with one of these. LIBS gets the first
+    /// one that has it.
+    Libraries {
+        function: Bytes,
+        libraries: Texts,
+        others: Option<HereText>,
     },
 }
