@@ -3,6 +3,7 @@
 ghost use Rattle.std.specs.Prelude.{◌≡◌, ◌++◌, [], ◌∷◌, IfOk, OnOk, codes, unwrap_or};
 ghost use Rattle.jobs.specs.Probe as probe;
 ghost use Rattle.deftable.specs.Table.{value_of};
+ghost use Rattle.textcut.specs.Cuts as cuts;
 
 use crate::text::{file_name, out_name};
 use deftable::{Bytes, Vars};
@@ -10,13 +11,20 @@ use jobs::{Words, push_all};
 use std::alloc::{AllocError, Global};
 use textcut::fields;
 
+/// Appends the words of a text.
+fn push_fields(alloc: Global, words: &mut Words, text: &[u8]) -> Result<(), AllocError>
+    ensures { OnOk result (words.new ≡ words.old ++ cuts.fields text.now) }
+{
+    let found = fields(alloc, text)?;
+    push_all(words, found.as_slice())
+}
+
 /// Appends the words of a variable's value.
 #[tactic(auto, unfolding(jobs::specs::Probe::words_of))]
 fn push_value(alloc: Global, words: &mut Words, vars: &Vars, name: &[u8]) -> Result<(), AllocError>
     ensures { OnOk result (words.new ≡ words.old ++ probe.words_of vars.now name.now) }
 {
-    let found = fields(alloc, vars.value_or_empty(name))?;
-    push_all(words, found.as_slice())
+    push_fields(alloc, words, vars.value_or_empty(name))
 }
 
 /// Returns the words of a variable's value, or none if it is unset.
@@ -90,23 +98,24 @@ pub(crate) fn push_compile_words(
     push_file(alloc, words, number)
 }
 
-/// Appends the arguments of a link job to the compiler's own words.
-#[tactic(auto, unfolding(jobs::specs::Probe::link_words))]
+/// Appends the arguments of a link job to the compiler's own words. `libraries` is the value of LIBS.
+#[tactic(auto, unfolding(jobs::specs::Probe::link_words_with))]
 pub(crate) fn push_link_words(
     alloc: Global,
     words: &mut Words,
     vars: &Vars,
+    libraries: &[u8],
     number: u64,
 ) -> Result<(), AllocError>
     requires { words.old ≡ probe.words_of vars.now (codes "CC") }
-    ensures { OnOk result (words.new ≡ probe.link_words number vars.now) }
+    ensures { OnOk result (words.new ≡ probe.link_words_with (cuts.fields libraries.now) number vars.now) }
 {
     words.push(b"-o")?;
     push_out(alloc, words, number)?;
     push_flags(alloc, words, vars)?;
     push_value(alloc, words, vars, b"LDFLAGS")?;
     push_file(alloc, words, number)?;
-    push_value(alloc, words, vars, b"LIBS")
+    push_fields(alloc, words, libraries)
 }
 
 /// Appends the arguments of a preprocess job to the preprocessor's own words.

@@ -25,4 +25,4 @@ mod text;
 
 pub use fault::JobFault;
 pub use jobs::{Job, Words};
-pub use probe::{compile_job, link_job, path_job, preproc_job, run_job};
+pub use probe::{compile_job, link_job, link_job_with, path_job, preproc_job, run_job};

@@ -2,7 +2,9 @@
 
 ghost use Rattle.std.specs.Prelude.{◌≡◌, ◌≢◌, [], ◌++◌, Some, None, IfOk, IsErrOf, OnOk, codes};
 ghost use Rattle.jobs.specs.Probe as probe;
-ghost use Rattle.jobs.specs.Probe.{job_of, Compile, Link, Preprocess, Run, Find, run_of, path_of, file_name, conftest_text};
+ghost use Rattle.jobs.specs.Probe.{job_if, job_of, Compile, Link, Preprocess, Run, Find, run_of, path_of, file_name, conftest_text};
+ghost use Rattle.deftable.specs.Table.{with_entry};
+ghost use Rattle.textcut.specs.Cuts.{fields};
 ghost use Rattle.conftest.specs.declared.fault.JobFault.TheVariants.{NoCompiler};
 
 use crate::command::{
@@ -43,6 +45,27 @@ pub fn compile_job(
     Ok(job)
 }
 
+/// Returns the job that links a program if LIBS has this value.
+fn linked(
+    alloc: Global,
+    vars: &Vars,
+    libraries: &[u8],
+    defs: &Defs,
+    source: &[u8],
+    number: u64,
+) -> Result<Job, JobFault>
+    ensures job { IfOk result (λ job. job_if (probe.words_of vars.now (codes "CC")) (probe.link_words_with (fields libraries.now) number vars.now) number defs.now source.now ≡ Some job) }
+    ensures fault { IsErrOf result NoCompiler → job_if (probe.words_of vars.now (codes "CC")) (probe.link_words_with (fields libraries.now) number vars.now) number defs.now source.now ≡ None }
+{
+    let mut words = compiler(alloc, vars)?;
+    if words.as_slice().is_empty() {
+        return Err(JobFault::NoCompiler);
+    }
+    push_link_words(alloc, &mut words, vars, libraries, number)?;
+    let job = with_conftest(alloc, words, defs, source, number)?;
+    Ok(job)
+}
+
 /// Returns the job that compiles and links `source` to a program: `$CC -o OUT $CFLAGS $CPPFLAGS $LDFLAGS FILE $LIBS`
 /// (Autoconf's manual, "Running the Linker").
 ///
@@ -51,7 +74,7 @@ pub fn compile_job(
 /// # Errors
 ///
 /// Returns [`JobFault::NoCompiler`] if CC is unset or has no word.
-#[tactic(auto, unfolding(jobs::specs::Probe::job_of))]
+#[tactic(auto, unfolding(jobs::specs::Probe::job_of, jobs::specs::Probe::words_of))]
 pub fn link_job(
     alloc: Global,
     vars: &Vars,
@@ -62,13 +85,26 @@ pub fn link_job(
     ensures job { IfOk result (λ job. job_of (Link source.now) number vars.now defs.now ≡ Some job) }
     ensures fault { IsErrOf result NoCompiler → job_of (Link source.now) number vars.now defs.now ≡ None }
 {
-    let mut words = compiler(alloc, vars)?;
-    if words.as_slice().is_empty() {
-        return Err(JobFault::NoCompiler);
-    }
-    push_link_words(alloc, &mut words, vars, number)?;
-    let job = with_conftest(alloc, words, defs, source, number)?;
-    Ok(job)
+    linked(alloc, vars, vars.value_or_empty(b"LIBS"), defs, source, number)
+}
+
+/// Returns the job of [`link_job`] for variables in which LIBS has this value. The variables stay as they are.
+///
+/// # Errors
+///
+/// Returns [`JobFault::NoCompiler`] if CC is unset or has no word.
+pub fn link_job_with(
+    alloc: Global,
+    vars: &Vars,
+    libraries: &[u8],
+    defs: &Defs,
+    source: &[u8],
+    number: u64,
+) -> Result<Job, JobFault>
+    ensures job { IfOk result (λ job. job_of (Link source.now) number (with_entry vars.now (codes "LIBS") libraries.now) defs.now ≡ Some job) }
+    ensures fault { IsErrOf result NoCompiler → job_of (Link source.now) number (with_entry vars.now (codes "LIBS") libraries.now) defs.now ≡ None }
+{
+    linked(alloc, vars, libraries, defs, source, number)
 }
 
 /// Returns the job that preprocesses `source`: `$CPP $CPPFLAGS FILE`, or `$CC -E $CPPFLAGS FILE` if CPP is unset or has

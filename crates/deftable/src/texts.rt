@@ -41,6 +41,14 @@ impl Texts {
         Texts { texts }
     }
 
+    /// Returns the texts as a vector, without copying them.
+    pub fn into_vec(self) -> Vec<Bytes>
+        ensures { result.items ≡ self }
+    {
+        let Texts { texts } = self;
+        texts
+    }
+
     /// Returns the texts, in order.
     pub fn as_slice(&self) -> &[Bytes]
         ensures { result.now ≡ self.now }

@@ -32,12 +32,16 @@ compile_words number vars =
     words_of vars (codes "CC") ++ codes "-c" ∷ [] ++ words_of vars (codes "CFLAGS")
     ++ words_of vars (codes "CPPFLAGS") ++ file_name number ∷ []
 
--- `$CC -o OUT $CFLAGS $CPPFLAGS $LDFLAGS FILE $LIBS` (Autoconf's manual, "Running the Linker")
-unfoldable pub link_words : ℕ → List (List ℕ × List ℕ) → List (List ℕ)
-link_words number vars =
+-- `$CC -o OUT $CFLAGS $CPPFLAGS $LDFLAGS FILE` and these libraries (Autoconf's manual, "Running the Linker")
+unfoldable pub link_words_with : List (List ℕ) → ℕ → List (List ℕ × List ℕ) → List (List ℕ)
+link_words_with libraries number vars =
     words_of vars (codes "CC") ++ codes "-o" ∷ out_name number ∷ [] ++ words_of vars (codes "CFLAGS")
     ++ words_of vars (codes "CPPFLAGS") ++ words_of vars (codes "LDFLAGS") ++ file_name number ∷ []
-    ++ words_of vars (codes "LIBS")
+    ++ libraries
+
+-- `$CC -o OUT $CFLAGS $CPPFLAGS $LDFLAGS FILE $LIBS` (Autoconf's manual, "Running the Linker")
+abbrev pub link_words : ℕ → List (List ℕ × List ℕ) → List (List ℕ)
+link_words number vars = link_words_with (words_of vars (codes "LIBS")) number vars
 
 -- `$CPP`, or `$CC -E` if that has no word, or no word if CC has none either (Autoconf's manual, "Running the Preprocessor")
 unfoldable pub preprocessor : List (List ℕ × List ℕ) → List (List ℕ)
