@@ -23,7 +23,7 @@ use batching::begin_batch;
 use deftable::Bytes;
 use jobs::Job;
 use plan::Step;
-use probing::check_entry;
+use probing::{check_entry, check_library, search_libraries};
 use runstate::pieces::{report_error, say};
 use runstate::{About, OpenTests, Store, initialise};
 use searching::programs::{job_to_try, stop_without_compiler};
@@ -499,6 +499,25 @@ fn ask(
         } => {
             // for the proof only: the flow has a name
             let flow = check_first(alloc, store, about, *sought, entries, includes)?;
+            Ok(flow)
+        }
+        Question::Library {
+            library,
+            function,
+            others,
+            adds,
+        } => {
+            // for the proof only: the flow has a name
+            let flow = check_library(alloc, store, about, library, function, others, *adds)?;
+            Ok(flow)
+        }
+        Question::Libraries {
+            function,
+            libraries,
+            others,
+        } => {
+            // for the proof only: the flow has a name
+            let flow = search_libraries(alloc, store, about, function, libraries, others)?;
             Ok(flow)
         }
     }

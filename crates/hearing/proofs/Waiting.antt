@@ -17,4 +17,5 @@ single_of waits.Link h = refl
 single_of (waits.Directory search file left) h = refl
 single_of (waits.Found trial found_on) h = refl
 single_of (waits.Size trial second) h = refl
+single_of (waits.Library test value left) h = refl
 single_of (waits.Batch entries) h = absurd (h entries refl)

@@ -17,13 +17,13 @@ use conftest::run_job;
 use crew_trait::Reply;
 use deftable::Bytes;
 use jobs::Job;
-use probing::{ask_again, conclude};
+use probing::{ask_again, conclude, conclude_linked, link_on};
 use runstate::pieces::break_test;
 use runstate::{About, Store};
 use searching::questions::ask_answer;
 use searching::replies::{log_asked, success};
 use searching::search::{look_on, pass_search};
-use searching::{Directories, Flow, Search, Wait};
+use searching::{Flow, LibraryTest, Queue, Search, Wait};
 use std::alloc::{AllocError, Global};
 
 /// Returns whether two answers are the same.
@@ -39,7 +39,7 @@ fn tell_search(
     store: &mut Store,
     search: Search,
     file: Bytes,
-    left: Directories,
+    left: Queue,
     found: bool,
 ) -> Result<Flow, AllocError>
     ensures within { IfOk result (λ flow. passed flow ≤ 0) }
@@ -53,6 +53,31 @@ fn tell_search(
     }
     let value = search.found.as_ref().unwrap_or(&file);
     pass_search(alloc, store, &search, Some(value))
+}
+
+/// Continues with whether a function was linked. If it was, `value` is the value of the test.
+fn tell_linked(
+    alloc: Global,
+    store: &mut Store,
+    about: &mut About,
+    test: LibraryTest,
+    value: Bytes,
+    left: Queue,
+    linked: bool,
+) -> Result<Flow, AllocError>
+    ensures within { IfOk result (λ flow. passed flow ≤ 0) }
+    ensures asks { IfOk result (λ flow. asks_now flow ≤ length left) }
+    ensures group { IfOk result IsGroup }
+    ensures heeds { IfOk result (λ flow. Heeds flow None) }
+    ensures leads { IfOk result (λ flow. Leads flow (λ tests next. told_to tests (waits.Library test value left) linked (next 0) about.old store.old) about.new store.new) }
+{
+    if !linked {
+        // for the proof only: the flow has a name
+        let flow = link_on(alloc, store, about, test, left)?;
+        return Ok(flow);
+    }
+    let flow = conclude_linked(alloc, store, about, &test, value.as_slice())?;
+    Ok(flow)
 }
 
 /// Asks to run the program that was linked.
@@ -111,6 +136,11 @@ fn tell(
             let flow = ask_again(alloc, trial, second)?;
             Ok(flow)
         }
+        Wait::Library { test, value, left } => {
+            // for the proof only: the flow has a name
+            let flow = tell_linked(alloc, store, about, test, value, left, succeeded)?;
+            Ok(flow)
+        }
     }
 }
 
@@ -123,6 +153,7 @@ fn break_off(alloc: Global, store: &mut Store, wait: &Wait) -> Result<(), AllocE
         Wait::Found { trial, .. } | Wait::Size { trial, .. } => {
             break_test(alloc, store, trial.name.as_slice())
         }
+        Wait::Library { test, .. } => break_test(alloc, store, test.name.as_slice()),
         Wait::Nothing | Wait::Answer | Wait::Link | Wait::Batch { .. } => Ok(()),
     }
 }

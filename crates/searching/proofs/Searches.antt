@@ -58,6 +58,7 @@ one_fits wait.Link jobs single one = one
 one_fits (wait.Directory search file left) jobs single one = one
 one_fits (wait.Found trial found_on) jobs single one = one
 one_fits (wait.Size trial second) jobs single one = one
+one_fits (wait.Library test value left) jobs single one = one
 one_fits (wait.Batch entries) jobs single one = absurd cc
 
 pub one_awaits : (w : Wait) (jobs : List Job) (job : Job) → is_single w ≡ true → jobs ≡ job ∷ [] → Awaits w jobs
@@ -71,6 +72,7 @@ single_fits wait.Link jobs single one = one
 single_fits (wait.Directory search file left) jobs single one = one
 single_fits (wait.Found trial found_on) jobs single one = one
 single_fits (wait.Size trial second) jobs single one = one
+single_fits (wait.Library test value left) jobs single one = one
 single_fits (wait.Batch entries) jobs single one = absurd cc
 
 pub resumed_single : (tests : List (List ℕ)) (w : Wait) (jobs : List Job) (replies : List Reply) (next : Scope → State → Run) (c : Scope) (st : State) → is_single w ≡ true
@@ -81,6 +83,7 @@ resumed_single tests wait.Link jobs replies next c st single = refl
 resumed_single tests (wait.Directory search file left) jobs replies next c st single = refl
 resumed_single tests (wait.Found trial found_on) jobs replies next c st single = refl
 resumed_single tests (wait.Size trial second) jobs replies next c st single = refl
+resumed_single tests (wait.Library test value left) jobs replies next c st single = refl
 resumed_single tests (wait.Batch entries) jobs replies next c st single = absurd cc
 
 -- A flow that continues a run continues an equal one.

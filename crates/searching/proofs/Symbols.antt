@@ -44,5 +44,8 @@ part_continues (b ∷ bs) = joined _ _ (byte_continues b) (part_continues bs)
 pub have_name : (text : List ℕ) → IsShellName (codes "HAVE_" ++ symbol_part text)
 have_name text = part_continues text
 
+pub library_name : (text : List ℕ) → IsShellName (codes "HAVE_LIB" ++ symbol_part text)
+library_name text = part_continues text
+
 pub declared_name : (text : List ℕ) → IsShellName (codes "HAVE_DECL_" ++ symbol_part text)
 declared_name text = part_continues text

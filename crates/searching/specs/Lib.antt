@@ -1,3 +1,4 @@
+pub mod Linking
 pub mod Trials
 pub mod Waits
 pub mod Known

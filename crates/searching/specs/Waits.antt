@@ -9,6 +9,7 @@ use Rattle.meaning.specs.State.{State, Scope, answered, with_child, with_variabl
 use Rattle.meaning.specs.Asking.{success, only_reply, heard, child, same, attempted}
 use Rattle.meaning.specs.Rows.{Search, attempts_in, value_or_empty, text_or_no}
 use Rattle.meaning.specs.Tests.{broken, broken_all, with_result, with_value}
+use Rattle.searching.specs.Linking.{linked_end, linking}
 use Rattle.searching.specs.Trials.{begun, decided, heard_end, known_end}
 use Rattle.searching.specs.declared.trial.Trial.{Trial}
 use Rattle.searching.specs.declared.trial.Waiting as waiting
@@ -43,6 +44,7 @@ tests_in wait.Answer tests = tests
 tests_in wait.Link tests = tests
 tests_in (wait.Found trial found_on) tests = trial.name ∷ tests
 tests_in (wait.Size trial second) tests = trial.name ∷ tests
+tests_in (wait.Library test value left) tests = test.name ∷ tests
 tests_in (wait.Batch entries) tests = tests
 
 -- What is done with the state if a reply is refused, before the tests around it are broken. (own)
@@ -53,6 +55,7 @@ broken_off wait.Answer st = st
 broken_off wait.Link st = st
 broken_off (wait.Found trial found_on) st = broken trial.name Cut st
 broken_off (wait.Size trial second) st = broken trial.name Cut st
+broken_off (wait.Library test value left) st = broken test.name Cut st
 broken_off (wait.Batch entries) st = st
 
 -- The end of a test that is a question, with whether its entry is found. (own)
@@ -60,7 +63,8 @@ abbrev pub found_end : Trial → Bool → (Scope → State → Run) → State �
 found_end t found next st = next (answered found) (decided t found st)
 
 -- What follows an answer inside these tests, by what is waited for: the answer of a choice, whether the program that is to be run was
--- linked, whether a directory has the program that is looked for, or whether an entry is found. (own)
+-- linked, whether a directory has the program that is looked for, whether an entry is found, or whether a function can be
+-- linked. (own)
 abbrev pub told_to : List (List ℕ) → Wait → Bool → (Scope → State → Run) → Scope → State → Run
 told_to tests wait.Nothing b next scope st = next scope st
 told_to tests wait.Answer b next scope st = next (answered b) st
@@ -70,6 +74,8 @@ told_to tests (wait.Directory search file left) b next scope st =
 told_to tests (wait.Found trial found_on) b next scope st = found_end trial (same found_on b) next st
 told_to tests (wait.Size trial second) b next scope st =
     if b then child (broken_all (trial.name ∷ tests)) second st (λ c. found_end trial (same false c) next) else found_end trial false next st
+told_to tests (wait.Library test value left) b next scope st =
+    if b then linked_end test (Some value) next st else linking tests test left st next
 told_to tests (wait.Batch entries) b next scope st = next scope st
 
 -- The log gets the job that was asked for, with its reply. (own)
@@ -152,4 +158,5 @@ waits_for wait.Link = 1
 waits_for (wait.Directory search file left) = length left
 waits_for (wait.Found trial found_on) = 0
 waits_for (wait.Size trial second) = 1
+waits_for (wait.Library test value left) = length left
 waits_for (wait.Batch entries) = 0

@@ -16,7 +16,7 @@ use std::alloc::{AllocError, Global};
 use syntax::{Listed, Sought};
 
 /// Returns a text after a prefix.
-fn joined(alloc: Global, prefix: &[u8], text: &[u8]) -> Result<Bytes, AllocError>
+pub(crate) fn prefixed(alloc: Global, prefix: &[u8], text: &[u8]) -> Result<Bytes, AllocError>
     ensures { IfOk result (λ t. t ≡ prefix.now ++ text.now) }
 {
     let mut all = Vec::from_slice(alloc, prefix)?;
@@ -30,10 +30,10 @@ fn cached_name(alloc: Global, sought: Sought, entry: &[u8]) -> Result<Bytes, All
 {
     let part = sh_name(alloc, entry)?;
     match sought {
-        Sought::Entry(Listed::Header) => joined(alloc, b"ac_cv_header_", part.as_slice()),
-        Sought::Entry(Listed::Function) => joined(alloc, b"ac_cv_func_", part.as_slice()),
-        Sought::Entry(Listed::Declaration) => joined(alloc, b"ac_cv_have_decl_", part.as_slice()),
-        Sought::Type => joined(alloc, b"ac_cv_type_", part.as_slice()),
+        Sought::Entry(Listed::Header) => prefixed(alloc, b"ac_cv_header_", part.as_slice()),
+        Sought::Entry(Listed::Function) => prefixed(alloc, b"ac_cv_func_", part.as_slice()),
+        Sought::Entry(Listed::Declaration) => prefixed(alloc, b"ac_cv_have_decl_", part.as_slice()),
+        Sought::Type => prefixed(alloc, b"ac_cv_type_", part.as_slice()),
     }
 }
 
@@ -84,7 +84,7 @@ fn define_have(
         return Ok(());
     }
     let part = cpp_name(alloc, entry)?;
-    let symbol = joined(alloc, b"HAVE_", part.as_slice())?;
+    let symbol = prefixed(alloc, b"HAVE_", part.as_slice())?;
     store.define(symbol.as_slice(), b"1")
 }
 
@@ -106,7 +106,7 @@ fn define_declared(
     ensures { OnOk result (store.new ≡ with_definition (codes "HAVE_DECL_" ++ symbol_part entry.now) (digit_of found) store.old) }
 {
     let part = cpp_name(alloc, entry)?;
-    let symbol = joined(alloc, b"HAVE_DECL_", part.as_slice())?;
+    let symbol = prefixed(alloc, b"HAVE_DECL_", part.as_slice())?;
     store.define(symbol.as_slice(), one_or_zero(found))
 }
 

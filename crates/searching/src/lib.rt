@@ -12,14 +12,18 @@
 
 pub mod deciding;
 pub mod flow;
+pub mod libraries;
 pub mod programs;
 pub mod questions;
+pub mod queue;
 pub mod replies;
 pub mod search;
 pub mod trial;
 pub mod wait;
 
 pub use flow::Flow;
-pub use search::{Directories, Search};
+pub use libraries::{LibraryTest, Purpose};
+pub use queue::Queue;
+pub use search::Search;
 pub use trial::{Trial, Waiting};
 pub use wait::Wait;

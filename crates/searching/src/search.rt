@@ -14,6 +14,7 @@ ghost use Rattle.searching.specs.Waits.{finished, searched};
 ghost use Rattle.searching.specs.declared.flow.Flow.TheVariants.{Pass};
 
 use crate::flow::Flow;
+use crate::queue::Queue;
 use crate::wait::Wait;
 use conftest::path_job;
 use deftable::Bytes;
@@ -57,48 +58,6 @@ impl Model for Search {
     ghost Value = { Search };
 
     ghost view = { λ s. record { variable = s.variable; name = s.name; program = s.program; found = s.found; otherwise = s.otherwise } };
-}
-
-/// Directories, in the order in which they are tried.
-pub struct Directories {
-    /// The directory that is tried first is last.
-    directories: Vec<Bytes>,
-}
-
-impl Drop for Directories {
-    fn drop(self) {
-        let Directories {
-            directories: _directories,
-        } = self;
-    }
-}
-
-impl Model for Directories {
-    ghost use Rattle.std.specs.Prelude.{List, ℕ, reverse};
-
-    ghost Value = { List (List ℕ) };
-
-    ghost view = { λ f. reverse f.directories.items };
-}
-
-impl Directories {
-    /// Takes the directory that is tried next.
-    fn take_first(&mut self) -> Option<Bytes>
-        ensures some { IfSome result (λ directory. self.old ≡ directory ∷ self.new) }
-        ensures none { IfNone result (self.old ≡ []) }
-    {
-        self.directories.pop()
-    }
-
-    /// Returns the directories of a path.
-    fn of(alloc: Global, path: &[u8]) -> Result<Directories, AllocError>
-        ensures { IfOk result (λ f. f ≡ directories_of path.now) }
-    {
-        let parts = parts(alloc, path, b':')?;
-        let mut directories = directories_in(alloc, within(without_last_empty(parts.as_slice())))?;
-        directories.reverse();
-        Ok(Directories { directories })
-    }
 }
 
 /// Returns whether the last part is empty.
@@ -238,7 +197,7 @@ fn ask_in(
     alloc: Global,
     directory: &Bytes,
     search: Search,
-    left: Directories,
+    left: Queue,
 ) -> Result<Flow, AllocError>
     ensures within { IfOk result (λ flow. passed flow ≤ 0) }
     ensures asks { IfOk result (λ flow. asks_now flow ≤ 1 + length left) }
@@ -258,7 +217,7 @@ pub fn look_on(
     alloc: Global,
     store: &mut Store,
     search: Search,
-    mut left: Directories,
+    mut left: Queue,
 ) -> Result<Flow, AllocError>
     ensures within { IfOk result (λ flow. passed flow ≤ 0) }
     ensures asks { IfOk result (λ flow. asks_now flow ≤ length left) }
@@ -272,12 +231,21 @@ pub fn look_on(
     }
 }
 
+/// Returns the directories of a path.
+fn directories_of(alloc: Global, path: &[u8]) -> Result<Queue, AllocError>
+    ensures { IfOk result (λ f. f ≡ directories_of path.now) }
+{
+    let parts = parts(alloc, path, b':')?;
+    let directories = directories_in(alloc, within(without_last_empty(parts.as_slice())))?;
+    Ok(Queue::new(directories))
+}
+
 /// Returns the directories of PATH.
-fn path_directories(alloc: Global, store: &Store) -> Result<Directories, AllocError>
+fn path_directories(alloc: Global, store: &Store) -> Result<Queue, AllocError>
     ensures { IfOk result (λ f. f ≡ directories_of (value_or_empty store.now (codes "PATH"))) }
 {
     let path = store.value_or_empty(alloc, b"PATH")?;
-    Directories::of(alloc, path.as_slice())
+    directories_of(alloc, path.as_slice())
 }
 
 /// Looks for the program in the directories of PATH.

@@ -1,6 +1,8 @@
 //! What a machine waits for.
 
-use crate::search::{Directories, Search};
+use crate::libraries::LibraryTest;
+use crate::queue::Queue;
+use crate::search::Search;
 use crate::trial::{Trial, Waiting};
 use deftable::Bytes;
 use jobs::Job;
@@ -18,7 +20,7 @@ pub enum Wait {
     Directory {
         search: Search,
         file: Bytes,
-        left: Directories,
+        left: Queue,
     },
     /// Whether an entry is found: it is if the child's success is `found_on`.
     Found {
@@ -29,6 +31,12 @@ pub enum Wait {
     Size {
         trial: Trial,
         second: Job,
+    },
+    /// Whether a function can be linked. If it can be, `value` is the value of the test. `left` are the remaining libraries.
+    Library {
+        test: LibraryTest,
+        value: Bytes,
+        left: Queue,
     },
     /// Which entries of a batch are found.
     Batch {
