@@ -28,7 +28,7 @@ impl Model for Queue {
 impl Queue {
     /// Makes a queue of a vector's texts, without copying them.
     pub fn new(mut texts: Vec<Bytes>) -> Queue
-        ensures { result ≡ texts.entry.items }
+        ensures { result ≡ texts.items }
     {
         texts.reverse();
         Queue { texts }
