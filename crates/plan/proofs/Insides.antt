@@ -12,7 +12,7 @@ use Rattle.syntax.specs.declared.tree.Subject as what
 use Rattle.syntax.specs.declared.tree.Subject.TheVariants.{Nothing, Word, Asked}
 use Rattle.syntax.specs.Script.{Script, Done, Then, Choice, Check, Cases, No_case, Case}
 use Rattle.meaning.specs.Meaning.{rounds_of}
-use Rattle.plan.specs.Walk.{Instruction, Does, Looks, Defaults, Begins, Skips_unless, Skips, Opens, Closes}
+use Rattle.plan.specs.Walk.{Instruction, Defaults, Begins, Skips, Closes}
 use Rattle.plan.specs.Code.{case_code, check_code, code_after, code_each, code_of, code_of_cases, code_of_programs}
 use Rattle.plan.specs.Inside.{StaysInside, AskFew, asks_by, asks_to_find, asks_about, asks_after}
 use Rattle.plan.specs.Weight.{entries_of, entries_asked, times, weight, weight_of_cases, heaviest}
