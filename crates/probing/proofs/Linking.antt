@@ -3,11 +3,10 @@ use Rattle.std.proofs.Common.{◌≡◌, ℕ, Bool, true, false, cond, List, [],
 use Rattle.std.specs.Prelude.{◌&&◌, not, bytes_eq, Option, Some, None, is_some, unwrap_or}
 use Rattle.std.proofs.Math.Path.{fun_ext}
 use Rattle.jobs.specs.declared.job.Job.{Job}
-use Rattle.crew_trait.specs.declared.reply.Reply.{Reply}
 use Rattle.deftable.specs.Table.{value_of}
 use Rattle.shellword.specs.declared.part.Part.{Part}
-use Rattle.meaning.specs.State.{State, Scope, answered, told, with_variable, without_variable, with_child, Run, Ends, Asks, Stopped}
-use Rattle.meaning.specs.Asking.{Attempt, child, same, heard, success, only_reply, compiled, attempted, without_compiler}
+use Rattle.meaning.specs.State.{State, Scope, answered, with_variable, Run}
+use Rattle.meaning.specs.Asking.{child, same, compiled, attempted, without_compiler}
 use Rattle.meaning.specs.Meaning.{found_by}
 use Rattle.meaning.specs.Rows.{Kind, Library, Libraries, name_of, message_of, attempts_of, otherwise_of, shown_of, is_ready, is_found, is_yes, is_linked, after_of, attempts_with, library_job, function_job, libraries_after, with_library, with_library_if, with_linked}
 use Rattle.meaning.specs.Tests.{broken_all, checking, with_result, with_value}
@@ -16,6 +15,7 @@ use Rattle.searching.specs.declared.libraries.LibraryTest.{LibraryTest}
 use Rattle.searching.specs.declared.wait.Wait.TheVariants as waits
 use Rattle.searching.specs.Linking.{library_test, libraries_test, is_found_for, used_for, linked, linked_before, linked_end, linking}
 use Rattle.searching.specs.Waits.{told_to}
+use Rattle.searching.proofs.Linked.{child_links}
 use Rattle.searching.proofs.Found.{LeavesName, follows, keeps, prints, ends_with, set_with, unset_with, stops_with}
 
 -- What a test that begins is: the test of a kind, with its first job, the value if that succeeds, and the libraries after it.
@@ -69,22 +69,6 @@ libraries_begins function libraries others st = record {
 }
 
 -- ---- what follows a child
-
--- The child of a test, and what follows it. The jobs of the libraries that are left are the same after the child, which adds
--- to the log alone.
-child_links : (t : LibraryTest) (value : List ℕ) (left : List (List ℕ)) (tests : List (List ℕ)) (job : Job) (st : State) (next : Scope → State → Run) (about : Scope)
-    → child (broken_all (t.name ∷ tests)) job st (λ b now. told_to tests (waits.Library t value left) b next about now)
-    ≡ child (broken_all (t.name ∷ tests)) job st
-    (λ b now. cond (same true b) (linked_end t (Some value) next now) (attempted (broken_all (t.name ∷ tests)) (attempts_with t.function t.after st left) (Some (codes "no")) now (λ v later. linked_end t v next later)))
-child_links t value left tests job st next about = ap (Asks (job ∷ [])) (fun_ext (λ replies. by_reply (success (only_reply replies)) (only_reply replies)))
-  where
-    by_reply : (o : Option Bool) (r : Reply)
-        → heard (broken_all (t.name ∷ tests)) o (with_child job r st) (λ b now. told_to tests (waits.Library t value left) b next about now)
-        ≡ heard (broken_all (t.name ∷ tests)) o (with_child job r st)
-        (λ b now. cond (same true b) (linked_end t (Some value) next now) (attempted (broken_all (t.name ∷ tests)) (attempts_with t.function t.after st left) (Some (codes "no")) now (λ v later. linked_end t v next later)))
-    by_reply None r = refl
-    by_reply (Some true) r = refl
-    by_reply (Some false) r = refl
 
 -- A library that is tried.
 pub library_leads : (t : LibraryTest) (library : List ℕ) (left : List (List ℕ)) (tests : List (List ℕ)) (job : Job) (st : State) (next : Scope → State → Run) (about : Scope)

@@ -3,3 +3,4 @@ pub mod TypeJobs
 pub mod Searches
 pub mod Tested
 pub mod Found
+pub mod Linked
