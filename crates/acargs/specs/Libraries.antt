@@ -9,7 +9,7 @@ use Rattle.acargs.specs.Arguments.{text, bare_text}
 use Rattle.acstatement.specs.Reading.{◌>>=◌, wants}
 use Rattle.syntax.specs.Feature.{is_feature}
 
--- A text that can name a library: one of the bytes that the name of a feature may have, or more. (own)
+-- A text that can name a library: it is not empty, and has only bytes that the name of a feature may have. (own)
 unfoldable pub is_library : List ℕ → Bool
 is_library name = is_feature name
 

@@ -25,8 +25,8 @@ has_yes (Case when body more) = is_yes when || has_yes more
 
 -- A question is a choice, even if there are many entries: the statements for one run before the next is looked for. But a
 -- list of headers, functions or declarations without cases is a batch, whose children are asked at once. A list of types is
--- not, since a type may need a second child. AC_CHECK_LIB adds the library if there are no statements for yes. (Autoconf's
--- manual, "Library Files" and the sections of the macros; the batches are own)
+-- not, since a type may need a second child. AC_CHECK_LIB adds the library if no case is for yes. (Autoconf's manual,
+-- "Library Files" and the sections of the macros; the batches are own)
 abbrev pub asked_by : Question → Cases → Script
 asked_by (ChecksEach (Entry listed) entries includes) No_case = Then (Batch listed entries includes) Done
 asked_by (Library library function others adds) cases = Choice (Asked (Library library function others (not (has_yes cases)))) cases Done

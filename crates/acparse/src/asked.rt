@@ -77,7 +77,7 @@ fn has_yes(cases: &[Case]) -> bool
     false
 }
 
-/// Returns the choice of AC_CHECK_LIB, which adds the library if there are no statements for yes.
+/// Returns the choice of AC_CHECK_LIB, which adds the library if no case is for yes.
 fn asked_library(
     library: Bytes,
     function: Bytes,
