@@ -6,3 +6,4 @@ pub mod Numbers
 pub mod Feature
 pub mod Help
 pub mod Programs
+pub mod Libraries

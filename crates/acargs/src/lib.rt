@@ -6,7 +6,8 @@
 //!
 //! Read `arguments` first, then the forms in any order: `numbers` (versions, statuses and languages), `shell` (words, tests
 //! and patterns), `outputs` (lists of outputs, with `path`), `feature` (options), `program` (programs and texts that are
-//! compiled) and `helping` (help arguments). The crate `acstatement` has the errors, and arguments that hold statements.
+//! compiled), `library` (libraries) and `helping` (help arguments). The crate `acstatement` has the errors, and arguments
+//! that hold statements.
 //!
 //! An argument `[ demo ]` that is read as a title is `demo`; read as a line it is ` demo `.
 //!
@@ -17,6 +18,7 @@
 pub mod arguments;
 pub mod feature;
 pub mod helping;
+pub mod library;
 pub mod numbers;
 pub mod outputs;
 mod path;

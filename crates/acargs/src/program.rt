@@ -17,7 +17,7 @@ use std::alloc::{AllocError, Global};
 use textcut::{fields, is_blank, parts, trim};
 
 /// Copies the names.
-fn copies(alloc: Global, names: &[&[u8]]) -> Result<Vec<Bytes>, AllocError>
+pub(crate) fn copies(alloc: Global, names: &[&[u8]]) -> Result<Vec<Bytes>, AllocError>
     ensures { IfOk result (λ v. v.items ≡ map (λ n. n.now) names.now) }
 {
     let mut copies = Vec::new(alloc);

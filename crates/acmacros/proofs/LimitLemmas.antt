@@ -49,8 +49,12 @@ use Rattle.syntax.specs.Lists.{start, after, after_question, with_tool}
 use Rattle.acmacros.specs.Searches.{growth, output_variable, optional_text, compilers, check_prog, check_progs, path_prog, prog_cc}
 use Rattle.acmacros.specs.Tries.{tried_program, tries}
 use Rattle.acmacros.specs.Checks.{checks, checks_each}
+use Rattle.acmacros.specs.Libraries.{check_lib, search_libs}
+use Rattle.acargs.specs.Libraries.{library, libraries}
 use Rattle.entries.specs.Readers.{entry_of, entries_of}
+use Rattle.syntax.specs.declared.listed.Listed.TheVariants.{Function}
 use Rattle.syntax.specs.declared.listed.Sought.{Sought}
+use Rattle.syntax.specs.declared.listed.Sought.TheVariants.{Entry}
 
 -- ---- lists of names
 
@@ -408,11 +412,27 @@ checks_each_keep : (c : declarations.Declarations) (sought : Sought) (args : Lis
 unfolding checks_each after_question
 checks_each_keep c sought args q e h = let p = bind_ok (entries_of sought (arg_at args 0)) _ _ e in subst (KeepsAsked c) (ok_is _ q p.2) h
 
+check_lib_keeps : (c : declarations.Declarations) (args : List Span) (q : Question) → check_lib args ≡ Ok q → IsWithinLimits c → KeepsAsked c q
+unfolding check_lib after_question
+check_lib_keeps c args q e h =
+    let l = bind_ok (library (arg_at args 0)) _ _ e in
+    let f = bind_ok (entry_of (Entry Function) (arg_at args 1)) _ _ l.2 in
+    subst (KeepsAsked c) (ok_is _ q f.2) h
+
+search_libs_keeps : (c : declarations.Declarations) (args : List Span) (q : Question) → search_libs args ≡ Ok q → IsWithinLimits c → KeepsAsked c q
+unfolding search_libs after_question
+search_libs_keeps c args q e h =
+    let f = bind_ok (entry_of (Entry Function) (arg_at args 0)) _ _ e in
+    let l = bind_ok (libraries (arg_at args 1)) _ _ f.2 in
+    subst (KeepsAsked c) (ok_is _ q l.2) h
+
 pub question_keeps : (c : declarations.Declarations) (m : QuestionMacro) (args : List Span) (q : Question) → question_of c m args ≡ Ok q → IsWithinLimits c → KeepsAsked c q
 question_keeps c (questions.Given kind) args q e h = given_keeps c kind args q e h
 question_keeps c (questions.Tries kind) args q e h = tries_keep c kind args q e h
 question_keeps c (questions.Checks sought) args q e h = checks_keep c sought args q e h
 question_keeps c (questions.ChecksEach sought) args q e h = checks_each_keep c sought args q e h
+question_keeps c questions.Library args q e h = check_lib_keeps c args q e h
+question_keeps c questions.Libraries args q e h = search_libs_keeps c args q e h
 
 pub start_fits : IsWithinLimits start
 start_fits = record { substituted = omega arith; distinct = AreDistinct-[]; precious = λ n e. e; features = omega arith; packages = omega arith; files = omega arith; headers = omega arith; outputs = record { file_paths = tt; header_paths = tt; names = AreDistinct-[] } }

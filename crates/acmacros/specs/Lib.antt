@@ -4,6 +4,7 @@ pub mod Room
 pub mod Searches
 pub mod Tries
 pub mod Checks
+pub mod Libraries
 pub mod Rows
 pub mod Placement
 pub mod Scene

@@ -27,6 +27,7 @@ use Rattle.syntax.specs.declared.statement.Plain.TheVariants.{Init, Accepted, Co
 use Rattle.syntax.specs.declared.statement.Question.{Question}
 use Rattle.syntax.specs.declared.statement.Question.TheVariants.{Given}
 use Rattle.acmacros.specs.Checks.{checks, checks_each}
+use Rattle.acmacros.specs.Libraries.{check_lib, search_libs}
 use Rattle.acmacros.specs.PackageName.{tar_name}
 use Rattle.acmacros.specs.Room.{has_room}
 use Rattle.acmacros.specs.Searches.{check_prog, check_progs, path_prog, prog_cc}
@@ -175,9 +176,11 @@ given c kind args = do
   h ← help (arg_at args 1)
   Ok (Given kind variable h)
 
--- The question of a macro, before its includes are read, given what has been declared. (own)
+-- The question of a macro, before its includes or other libraries are read, given what has been declared. (own)
 abbrev pub question_of : declarations.Declarations → QuestionMacro → List Span → Result Question ParseFault
 question_of c (questions.Given kind) args = given c kind args
 question_of c (questions.Tries kind) args = tries kind args
 question_of c (questions.Checks sought) args = checks sought args
 question_of c (questions.ChecksEach sought) args = checks_each sought args
+question_of c questions.Library args = check_lib args
+question_of c questions.Libraries args = search_libs args

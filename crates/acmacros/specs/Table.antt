@@ -11,7 +11,7 @@ use Rattle.acmacros.specs.declared.macros.Macro.TheVariants.{Plain, Choice, Ques
 use Rattle.acmacros.specs.declared.macros.Named.{Named}
 use Rattle.acmacros.specs.declared.macros.Named.TheVariants.{Statement, Argument}
 use Rattle.acmacros.specs.declared.macros.PlainMacro.TheVariants.{Init, Prereq, Ignored, Lang, ConfigFiles, ConfigHeaders, Subst, Define, DefineUnquoted, MsgError, Message, ArgVar, ProgCc, CheckProg, CheckProgs, PathProg, Output}
-use Rattle.acmacros.specs.declared.macros.QuestionMacro.TheVariants.{Given, Tries, Checks, ChecksEach}
+use Rattle.acmacros.specs.declared.macros.QuestionMacro.TheVariants.{Given, Tries, Checks, ChecksEach, Library, Libraries}
 use Rattle.acmacros.specs.declared.table.Row.{Row}
 use Rattle.syntax.specs.declared.feature.OptionKind.TheVariants.{Feature, Package}
 use Rattle.syntax.specs.declared.listed.Listed.TheVariants.{Header, Function, Declaration}
@@ -63,6 +63,8 @@ rows =
     ∷ (codes "AC_CHECK_FUNCS", Statement (Question (ChecksEach (Entry Function))), 1, 3, false)
     ∷ (codes "AC_CHECK_DECLS", Statement (Question (ChecksEach (Entry Declaration))), 1, 4, false)
     ∷ (codes "AC_CHECK_TYPES", Statement (Question (ChecksEach «Type»)), 1, 4, false)
+    ∷ (codes "AC_CHECK_LIB", Statement (Question Library), 2, 5, false)
+    ∷ (codes "AC_SEARCH_LIBS", Statement (Question Libraries), 2, 5, false)
     ∷ (codes "AC_COMPILE_IFELSE", Statement (Question (Tries Compile)), 1, 3, false)
     ∷ (codes "AC_LINK_IFELSE", Statement (Question (Tries Link)), 1, 3, false)
     ∷ (codes "AC_PREPROC_IFELSE", Statement (Question (Tries Preproc)), 1, 3, false)

@@ -6,6 +6,7 @@ ghost use Rattle.m4quote.specs.Entry.{span};
 ghost use Rattle.acstatement.specs.Reading.{Gives};
 ghost use Rattle.acmacros.specs.Checks as rows;
 
+use crate::searches::optional_text;
 use acargs::ParseFault;
 use acargs::program::includes;
 use acstatement::texts::arg_at;
@@ -48,11 +49,12 @@ pub(crate) fn checks_each(
     })
 }
 
-/// Returns the question of a call with its includes, which are read from the fourth argument.
+/// Returns the question of a call with its includes, which are read from the fourth argument, or with its other libraries,
+/// which are read from the fifth.
 ///
 /// # Errors
 ///
-/// - That of the argument of the includes.
+/// - That of the argument of the includes or of the other libraries.
 #[tactic(auto, unfolding(crate::specs::Checks::completed_of))]
 pub fn complete(alloc: Global, question: Question, args: &[Arg<'_>]) -> Result<Question, ParseFault>
     ensures { Gives (λ q. q) result (rows.completed_of question (map span args.now)) }
@@ -75,6 +77,30 @@ pub fn complete(alloc: Global, question: Question, args: &[Arg<'_>]) -> Result<Q
                 sought,
                 entries,
                 includes,
+            })
+        }
+        Question::Library {
+            library,
+            function,
+            adds,
+            ..
+        } => {
+            optional_text(alloc, arg_at(args, 4)).map(|others| Question::Library {
+                library,
+                function,
+                others,
+                adds,
+            })
+        }
+        Question::Libraries {
+            function,
+            libraries,
+            ..
+        } => {
+            optional_text(alloc, arg_at(args, 4)).map(|others| Question::Libraries {
+                function,
+                libraries,
+                others,
             })
         }
     }

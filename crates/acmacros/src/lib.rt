@@ -2,7 +2,8 @@
 //!
 //! `table` has the rows: a macro's name, which arguments it takes, and whether its calls are allowed only at top level,
 //! in the file's own list of statements. `rows` has the readers, with `searches` for macros that look for programs,
-//! `tries` for those that try programs, and `checks` for those that look for headers and their like: each reads the arguments of a call from the left, each by its form, and gives a
+//! `tries` for those that try programs, `checks` for those that look for headers and their like, and `libraries` for
+//! those that look for libraries: each reads the arguments of a call from the left, each by its form, and gives a
 //! statement or a question of the crate `syntax`. `placement` says which calls are allowed before, between and after
 //! AC_INIT and AC_OUTPUT, and `scene` which are allowed in the commands of AC_CACHE_CHECK. `limits` has the law that the
 //! lists of a source stay within their limits. Read `macros`, `table`, `rows`, then the rest in any order.
@@ -14,6 +15,7 @@
 #![tactic(auto)]
 
 pub mod checks;
+mod libraries;
 pub mod limits;
 pub mod macros;
 pub mod placement;

@@ -61,6 +61,10 @@ pub enum QuestionMacro {
     Checks(Sought),
     /// AC_CHECK_HEADERS, AC_CHECK_FUNCS, AC_CHECK_DECLS and AC_CHECK_TYPES: whether each entry of a list is found.
     ChecksEach(Sought),
+    /// AC_CHECK_LIB: whether a library has a function.
+    Library,
+    /// AC_SEARCH_LIBS: whether one of several libraries has a function, or none is needed for it.
+    Libraries,
 }
 
 /// A macro whose calls are statements. Macros are grouped by which of their arguments hold statements.
@@ -70,8 +74,8 @@ pub enum Macro {
     Plain(PlainMacro),
     /// Every second argument holds statements, and the last if it is left over. The word of AS_CASE comes before them.
     Choice(ChoiceMacro),
-    /// The two arguments after those of the question hold statements: the first for yes, the second for no. Includes come
-    /// after them.
+    /// The two arguments after those of the question hold statements: the first for yes, the second for no. Includes
+    /// and other libraries come after them.
     Question(QuestionMacro),
     /// AC_CACHE_CHECK: the third argument holds the commands (Autoconf's manual, "Caching Results").
     Check,

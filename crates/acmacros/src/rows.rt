@@ -7,6 +7,7 @@ ghost use Rattle.acmacros.specs.PackageName as package_names;
 ghost use Rattle.acmacros.specs.Rows as rows;
 
 use crate::checks::{checks, checks_each};
+use crate::libraries::{check_lib, search_libs};
 use crate::macros::{PlainMacro, QuestionMacro};
 use crate::searches::{check_prog, check_progs, has_room, path_prog, prog_cc};
 use crate::tries::tries;
@@ -318,8 +319,8 @@ fn given(
     })
 }
 
-/// Returns the question of a call with these arguments, given what the statements before it declare. Its includes are not read
-/// yet: `checks::complete` reads them.
+/// Returns the question of a call with these arguments, given what the statements before it declare. Its includes or
+/// other libraries are not read yet: `checks::complete` reads them.
 ///
 /// # Errors
 ///
@@ -338,5 +339,7 @@ pub fn question(
         QuestionMacro::Tries(kind) => tries(alloc, kind, args),
         QuestionMacro::Checks(sought) => checks(alloc, sought, args),
         QuestionMacro::ChecksEach(sought) => checks_each(alloc, sought, args),
+        QuestionMacro::Library => check_lib(alloc, args),
+        QuestionMacro::Libraries => search_libs(alloc, args),
     }
 }

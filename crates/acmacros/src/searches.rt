@@ -41,7 +41,7 @@ fn output_variable(alloc: Global, known: &Declarations, arg: Arg<'_>) -> Result<
 
 /// Reads a value, if the argument is given.
 #[tactic(auto, unfolding(crate::specs::Searches::optional_text))]
-fn optional_text(alloc: Global, arg: Arg<'_>) -> Result<Option<HereText>, ParseFault>
+pub(crate) fn optional_text(alloc: Global, arg: Arg<'_>) -> Result<Option<HereText>, ParseFault>
     ensures { Gives (λ t. t) result (rows.optional_text (span arg.entry)) }
 {
     if is_given(alloc, arg)? {

@@ -32,7 +32,7 @@ const ANY: usize = 1_048_576;
 /// The table: a name, what it means, the least and the most arguments, and whether its calls are allowed only at top
 /// level.
 #[rattlefmt::skip]
-const TABLE: [(&[u8], Named, usize, usize, bool); 43] = [
+const TABLE: [(&[u8], Named, usize, usize, bool); 45] = [
     (b"AC_INIT", Statement(Plain(PlainMacro::Init)), 2, 5, true),
     (b"AC_PREREQ", Statement(Plain(PlainMacro::Prereq)), 1, 1, true),
     (b"AC_CONFIG_SRCDIR", Statement(Plain(PlainMacro::Ignored)), 1, 1, true),
@@ -69,6 +69,8 @@ const TABLE: [(&[u8], Named, usize, usize, bool); 43] = [
     (b"AC_CHECK_FUNCS", Statement(Question(QuestionMacro::ChecksEach(Sought::Entry(Listed::Function)))), 1, 3, false),
     (b"AC_CHECK_DECLS", Statement(Question(QuestionMacro::ChecksEach(Sought::Entry(Listed::Declaration)))), 1, 4, false),
     (b"AC_CHECK_TYPES", Statement(Question(QuestionMacro::ChecksEach(Sought::Type))), 1, 4, false),
+    (b"AC_CHECK_LIB", Statement(Question(QuestionMacro::Library)), 2, 5, false),
+    (b"AC_SEARCH_LIBS", Statement(Question(QuestionMacro::Libraries)), 2, 5, false),
     (b"AC_COMPILE_IFELSE", Statement(Question(QuestionMacro::Tries(Try::Compile))), 1, 3, false),
     (b"AC_LINK_IFELSE", Statement(Question(QuestionMacro::Tries(Try::Link))), 1, 3, false),
     (b"AC_PREPROC_IFELSE", Statement(Question(QuestionMacro::Tries(Try::Preproc))), 1, 3, false),

@@ -20,7 +20,7 @@ use Rattle.acmacros.specs.declared.macros.ChoiceMacro.TheVariants.{If, Case as A
 use Rattle.acmacros.specs.declared.macros.Macro.TheVariants.{Plain as A_plain, Question as A_question, Check as A_check}
 use Rattle.acmacros.specs.declared.macros.PlainMacro.{PlainMacro}
 use Rattle.acmacros.specs.declared.macros.QuestionMacro.{QuestionMacro}
-use Rattle.acmacros.specs.declared.macros.QuestionMacro.TheVariants.{Given, Tries, Checks, ChecksEach}
+use Rattle.acmacros.specs.declared.macros.QuestionMacro.TheVariants.{Given, Tries, Checks, ChecksEach, Library, Libraries}
 use Rattle.acmacros.specs.Checks.{completed_of}
 use Rattle.acmacros.specs.Rows.{question_of}
 use Rattle.acmacros.specs.Scene.{Scene, Top, Nested, Commands, of_case, may_hold}
@@ -185,6 +185,8 @@ tried c (Tries kind) args q n at e f =
     subst (λ (q : question_of_tree.Question). TriesAlone (Asked q)) (ok_is _ q p.2) tt
 tried c (Checks sought) args q n at e f = absurd cc
 tried c (ChecksEach sought) args q n at e f = absurd cc
+tried c Library args q n at e f = absurd cc
+tried c Libraries args q n at e f = absurd cc
 
 tried_whole : (q whole : question_of_tree.Question) (args : List Span) → TriesAlone (Asked q) → completed_of q args ≡ Ok whole → TriesAlone (Asked whole)
 unfolding completed_of
@@ -192,21 +194,26 @@ tried_whole (asks.Given kind variable help) whole args t e = absurd t
 tried_whole (asks.Tries kind program) whole args t e = subst (λ (q : question_of_tree.Question). TriesAlone (Asked q)) (ok_is _ whole e) tt
 tried_whole (asks.Checks sought entry includes) whole args t e = absurd t
 tried_whole (asks.ChecksEach sought entries includes) whole args t e = absurd t
+tried_whole (asks.Library library function others adds) whole args t e = absurd t
+tried_whole (asks.Libraries function libraries others) whole args t e = absurd t
 
 has_asked : (q : question_of_tree.Question) (cases : Cases) → HasCommandsIn cases → HasCommands (asked_by q cases)
-has_asked q (Case when body more) h = (h, tt)
-has_asked (asks.Given kind variable help) No_case h = (h, tt)
-has_asked (asks.Tries kind program) No_case h = (h, tt)
-has_asked (asks.Checks sought entry includes) No_case h = (h, tt)
+has_asked (asks.Given kind variable help) cases h = (h, tt)
+has_asked (asks.Tries kind program) cases h = (h, tt)
+has_asked (asks.Checks sought entry includes) cases h = (h, tt)
 has_asked (asks.ChecksEach (Entry listed) entries includes) No_case h = tt
-has_asked (asks.ChecksEach «Type» entries includes) No_case h = (h, tt)
+has_asked (asks.ChecksEach (Entry listed) entries includes) (Case when body more) h = (h, tt)
+has_asked (asks.ChecksEach «Type» entries includes) cases h = (h, tt)
+has_asked (asks.Library library function others adds) cases h = (h, tt)
+has_asked (asks.Libraries function libraries others) cases h = (h, tt)
 
 commands_asked : (n : List ℕ) (q : question_of_tree.Question) (cases : Cases) → TriesAlone (Asked q) → AreCommandsIn n cases → AreCommands n (asked_by q cases)
-commands_asked n q (Case when body more) t h = (t, (h, tt))
-commands_asked n (asks.Given kind variable help) No_case t h = absurd t
-commands_asked n (asks.Tries kind program) No_case t h = (t, (h, tt))
-commands_asked n (asks.Checks sought entry includes) No_case t h = absurd t
-commands_asked n (asks.ChecksEach sought entries includes) No_case t h = absurd t
+commands_asked n (asks.Given kind variable help) cases t h = absurd t
+commands_asked n (asks.Tries kind program) cases t h = (t, (h, tt))
+commands_asked n (asks.Checks sought entry includes) cases t h = absurd t
+commands_asked n (asks.ChecksEach sought entries includes) cases t h = absurd t
+commands_asked n (asks.Library library function others adds) cases t h = absurd t
+commands_asked n (asks.Libraries function libraries others) cases t h = absurd t
 
 held_question : (scene : Scene) (c : declarations.Declarations) (m : QuestionMacro) (args : List Span) (q whole : question_of_tree.Question) (cases : Cases) → may_hold scene (A_question m) ≡ Ok tt → question_of c m args ≡ Ok q
     → completed_of q args ≡ Ok whole → HeldIn scene cases → Held scene (asked_by whole cases)

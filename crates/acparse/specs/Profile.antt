@@ -18,7 +18,7 @@ use Rattle.acmacros.specs.declared.macros.Macro.{Macro}
 use Rattle.acmacros.specs.declared.macros.Macro.TheVariants.{Plain, Choice as A_choice, Question as A_question, Check as A_check}
 use Rattle.acmacros.specs.declared.table.Row.{Row}
 use Rattle.acmacros.specs.declared.macros.QuestionMacro.{QuestionMacro}
-use Rattle.acmacros.specs.declared.macros.QuestionMacro.TheVariants.{Given, Tries, Checks, ChecksEach}
+use Rattle.acmacros.specs.declared.macros.QuestionMacro.TheVariants.{Given, Tries, Checks, ChecksEach, Library, Libraries}
 use Rattle.syntax.specs.declared.declarations.Stage.{Stage}
 use Rattle.syntax.specs.declared.declarations.Stage.TheVariants.{Before, Open, Ended}
 use Rattle.syntax.specs.declared.declarations.Declarations as declarations
@@ -113,6 +113,8 @@ action_args (Given kind) args = drop 2 args
 action_args (Tries kind) args = drop 1 args
 action_args (Checks sought) args = drop 1 args
 action_args (ChecksEach sought) args = drop 1 args
+action_args Library args = drop 2 args
+action_args Libraries args = drop 2 args
 
 -- The case of the first of these arguments, if there is one. (own)
 unfoldable pub action_in : Bodies → When → declarations.Declarations → List Span → Result Cases ParseFault
@@ -133,8 +135,8 @@ answers_in bodies c args = do
 
 -- AC_ARG_ENABLE(feature, help, [for yes], [for no]) and AC_ARG_WITH; AC_COMPILE_IFELSE(program, [for yes], [for no]),
 -- AC_LINK_IFELSE, AC_PREPROC_IFELSE and AC_RUN_IFELSE; AC_CHECK_HEADER(header, [for yes], [for no], [includes]) and its kin,
--- and AC_CHECK_HEADERS(headers, ..) and its kin. (Autoconf's manual, "Choosing Package Options", "Running the Compiler" and
--- "Existing Tests")
+-- and AC_CHECK_HEADERS(headers, ..) and its kin; AC_CHECK_LIB(library, function, [for yes], [for no], [others]) and
+-- AC_SEARCH_LIBS. (Autoconf's manual, "Choosing Package Options", "Running the Compiler" and "Existing Tests")
 unfoldable pub asked_of : Bodies → QuestionMacro → declarations.Declarations → List Span → Result Script ParseFault
 asked_of bodies m c args = do
   q ← question_of c m args

@@ -1,19 +1,20 @@
 //! The statement of a macro that asks a question.
 
-ghost use Rattle.std.specs.Prelude.{◌≡◌, [], ◌∷◌, map};
+ghost use Rattle.std.specs.Prelude.{◌≡◌, [], ◌∷◌, map, true};
 ghost use Rattle.m4quote.specs.Entry.{span};
 ghost use Rattle.acstatement.specs.Reading.{Gives};
 ghost use Rattle.acparse.specs.Asked as asked;
-ghost use Rattle.syntax.specs.declared.statement.Question.TheVariants.{ChecksEach};
+ghost use Rattle.syntax.specs.declared.statement.Question.TheVariants.{ChecksEach, Library};
 ghost use Rattle.syntax.specs.declared.tree.Subject.TheVariants.{Asked};
 ghost use Rattle.syntax.specs.Script.{script_of, cases_of, Choice, Done};
 
 use acargs::ParseFault;
 use acmacros::checks::complete;
+use deftable::Bytes;
 use m4quote::Arg;
 use shellword::HereText;
 use std::alloc::Global;
-use syntax::{Case, Entries, Plain, Question, Sought, Stmt, Subject, choose};
+use syntax::{Case, Entries, Plain, Question, Sought, Stmt, Subject, When, choose};
 
 /// Returns the statement of a question about each entry of a list: a batch, if there are no cases and one child decides an
 /// entry.
@@ -57,6 +58,44 @@ fn choose_each(
     choose(Subject::Asked(question), cases)
 }
 
+/// Returns whether the condition is the answer yes.
+fn is_yes(when: &When) -> bool
+    ensures { result ≡ asked.is_yes when.now }
+{
+    matches!(when, When::Yes)
+}
+
+/// Returns whether one of the cases is for yes.
+fn has_yes(cases: &[Case]) -> bool
+    ensures { result ≡ asked.has_yes (cases_of cases.now) }
+{
+    for case in cases {
+        if is_yes(&case.when) {
+            return true;
+        }
+    }
+    false
+}
+
+/// Returns the choice of AC_CHECK_LIB, which adds the library if no case is for yes.
+fn asked_library(
+    library: Bytes,
+    function: Bytes,
+    others: Option<HereText>,
+    cases: Vec<Case>,
+) -> Stmt
+    ensures { script_of (result ∷ []) ≡ asked.asked_by (Library library function others true) (cases_of cases.items) }
+{
+    let adds = !has_yes(cases.as_slice());
+    let question = Question::Library {
+        library,
+        function,
+        others,
+        adds,
+    };
+    choose(Subject::Asked(question), cases)
+}
+
 /// Returns the statement of a question and its cases.
 fn asked_by(question: Question, cases: Vec<Case>) -> Stmt
     ensures { script_of (result ∷ []) ≡ asked.asked_by question (cases_of cases.items) }
@@ -70,10 +109,17 @@ fn asked_by(question: Question, cases: Vec<Case>) -> Stmt
         Question::Given { .. } => choose(Subject::Asked(question), cases),
         Question::Tries { .. } => choose(Subject::Asked(question), cases),
         Question::Checks { .. } => choose(Subject::Asked(question), cases),
+        Question::Library {
+            library,
+            function,
+            others,
+            ..
+        } => asked_library(library, function, others, cases),
+        Question::Libraries { .. } => choose(Subject::Asked(question), cases),
     }
 }
 
-/// Reads the includes of a question, and returns its statement.
+/// Reads the includes or the other libraries of a question, and returns its statement.
 #[tactic(auto, unfolding(crate::specs::Asked::asked_with))]
 pub(crate) fn asked_with(
     alloc: Global,

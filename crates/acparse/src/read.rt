@@ -126,7 +126,9 @@ fn action_args<'a, 'b>(m: QuestionMacro, args: &'b [Arg<'a>]) -> &'b [Arg<'a>]
     ensures { map span result.now ≡ profile.action_args m (map span args.now) }
 {
     match m {
-        QuestionMacro::Given(_) => &args[args.len().min(2)..],
+        QuestionMacro::Given(_) | QuestionMacro::Library | QuestionMacro::Libraries => {
+            &args[args.len().min(2)..]
+        }
         QuestionMacro::Tries(_) | QuestionMacro::Checks(_) | QuestionMacro::ChecksEach(_) => {
             &args[args.len().min(1)..]
         }

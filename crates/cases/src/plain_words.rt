@@ -29,9 +29,10 @@ pub fn put_help(page: &mut Page, help: &Help) {
     }
 }
 
-fn put_programs(page: &mut Page, programs: &Texts) {
-    for program in programs.as_slice() {
-        put_bracketed(page, program.as_slice());
+/// Puts each text of a list.
+pub fn put_each(page: &mut Page, texts: &Texts) {
+    for text in texts.as_slice() {
+        put_bracketed(page, text.as_slice());
     }
 }
 
@@ -73,7 +74,7 @@ fn put_search(page: &mut Page, statement: &Plain) {
     match statement {
         Plain::ProgCc { programs } => {
             page.put(b"compiler");
-            put_programs(page, programs);
+            put_each(page, programs);
         }
         Plain::CheckProg {
             variable,
@@ -95,7 +96,7 @@ fn put_search(page: &mut Page, statement: &Plain) {
         } => {
             page.put(b"programs ");
             page.put(variable.as_slice());
-            put_programs(page, programs);
+            put_each(page, programs);
             put_otherwise(page, otherwise);
         }
         Plain::PathProg {

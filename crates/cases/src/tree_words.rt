@@ -1,7 +1,7 @@
 //! A source in words: a line for each statement, with those in it indented, and then its lists that are not empty.
 
 use crate::pages::{put_bracketed, put_count, put_indent};
-use crate::plain_words::{put_entries, put_files, put_help, put_includes, put_plain};
+use crate::plain_words::{put_each, put_entries, put_files, put_help, put_includes, put_plain};
 use crate::shell_words::{put_here, put_patterns, put_test, put_word};
 use acparse::{Case, Help, Source, Stmt, Subject, When};
 use deftable::SubstList;
@@ -30,6 +30,45 @@ fn put_sought(page: &mut Page, sought: Sought) {
         Sought::Entry(Listed::Declaration) => b"declaration",
         Sought::Type => b"type",
     });
+}
+
+/// Puts other libraries, if they are given.
+fn put_others(page: &mut Page, others: &Option<HereText>) {
+    if let Some(text) = others {
+        page.put(b" others");
+        put_here(page, text);
+    }
+}
+
+/// Puts a question about libraries.
+fn put_linked(page: &mut Page, question: &Question) {
+    match question {
+        Question::Library {
+            library,
+            function,
+            others,
+            adds,
+        } => {
+            page.put(b"library");
+            put_bracketed(page, library.as_slice());
+            page.put(b" function");
+            put_bracketed(page, function.as_slice());
+            put_others(page, others);
+            page.put(if *adds { b" adds" } else { b"" });
+        }
+        Question::Libraries {
+            function,
+            libraries,
+            others,
+        } => {
+            page.put(b"libraries");
+            put_each(page, libraries);
+            page.put(b" function");
+            put_bracketed(page, function.as_slice());
+            put_others(page, others);
+        }
+        _ => {}
+    }
 }
 
 fn put_question(page: &mut Page, question: &Question) {
@@ -74,6 +113,8 @@ fn put_question(page: &mut Page, question: &Question) {
             put_entries(page, entries);
             put_includes(page, includes);
         }
+        Question::Library { .. } => put_linked(page, question),
+        Question::Libraries { .. } => put_linked(page, question),
     }
 }
 

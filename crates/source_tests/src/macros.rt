@@ -36,6 +36,8 @@ fn meaning(named: Named) -> &'static [u8] {
         }
         Named::Statement(Macro::Question(QuestionMacro::Tries(Try::Link))) => b"question Link ",
         Named::Statement(Macro::Question(QuestionMacro::Tries(Try::Run))) => b"question Run ",
+        Named::Statement(Macro::Question(QuestionMacro::Library)) => b"question Library ",
+        Named::Statement(Macro::Question(QuestionMacro::Libraries)) => b"question Libraries ",
         Named::Statement(Macro::Check) => b"check ",
         Named::Argument(ArgumentMacro::LangSource) => b"argument LangSource ",
         _ => b"another ",
@@ -174,6 +176,31 @@ fn put_tries(page: &mut Page, kind: Try, program: &Program) {
     });
 }
 
+/// Puts a question about a library.
+fn put_library(
+    page: &mut Page,
+    library: &Bytes,
+    function: &Bytes,
+    others: &Option<HereText>,
+    adds: bool,
+) {
+    page.put(b"library");
+    library.tell(page);
+    page.put(b" function");
+    function.tell(page);
+    others.tell(page);
+    put_if(page, adds, b" adds");
+}
+
+/// Puts a question about several libraries.
+fn put_libraries(page: &mut Page, function: &Bytes, libraries: &Texts, others: &Option<HereText>) {
+    page.put(b"libraries");
+    put_each(page, libraries.as_slice());
+    page.put(b" function");
+    function.tell(page);
+    others.tell(page);
+}
+
 /// What a question asks.
 impl Told for Question {
     fn tell(&self, page: &mut Page) {
@@ -190,6 +217,17 @@ impl Told for Question {
                 entries,
                 includes,
             } => put_entries(page, *sought, entries, includes),
+            Question::Library {
+                library,
+                function,
+                others,
+                adds,
+            } => put_library(page, library, function, others, *adds),
+            Question::Libraries {
+                function,
+                libraries,
+                others,
+            } => put_libraries(page, function, libraries, others),
         }
     }
 }
@@ -362,9 +400,9 @@ row AC_CHECK_HEADERS => each header 1 to 4
 row AC_CHECK_FUNCS => each function 1 to 3
 row AC_CHECK_DECLS => each declaration 1 to 4
 row AC_CHECK_TYPES => each type 1 to 4
+row AC_CHECK_LIB => question Library 2 to 5
+row AC_SEARCH_LIBS => question Libraries 2 to 5
 row AC_NOPE =>
-row AC_CHECK_LIB =>
-row AC_SEARCH_LIBS =>
 // arguments that are taken
 takes AC_OUTPUT => yes
 takes AC_OUTPUT() => yes
@@ -384,6 +422,13 @@ takes AC_CHECK_FUNCS([f],,,[]) => no
 takes AC_CHECK_HEADER([f],,,) => yes
 takes AC_CHECK_HEADER([f],,,,) => no
 takes AC_CHECK_TYPES => no
+takes AC_CHECK_LIB([m]) => no
+takes AC_CHECK_LIB([m],[f]) => yes
+takes AC_CHECK_LIB([m],[f],,,) => yes
+takes AC_CHECK_LIB([m],[f],,,,) => no
+takes AC_SEARCH_LIBS([f]) => no
+takes AC_SEARCH_LIBS([f],[m],,,) => yes
+takes AC_SEARCH_LIBS([f],[m],,,,) => no
 // in the file's own list
 top AC_CONFIG_FILES => accepted
 top AC_INIT => 7 at 3
@@ -397,6 +442,8 @@ inside AC_SUBST => accepted
 inside AC_CACHE_CHECK => accepted
 inside AC_CHECK_HEADERS => accepted
 inside AC_CHECK_TYPE => accepted
+inside AC_CHECK_LIB => accepted
+inside AC_SEARCH_LIBS => accepted
 // in the commands of AC_CACHE_CHECK
 commands AC_COMPILE_IFELSE => accepted
 commands AC_RUN_IFELSE => accepted
@@ -410,13 +457,17 @@ commands AC_MSG_RESULT => 11 at 9
 commands AC_LANG => 11 at 9
 commands AC_CHECK_HEADER => 11 at 9
 commands AC_CHECK_FUNCS => 11 at 9
+commands AC_CHECK_LIB => 11 at 9
+commands AC_SEARCH_LIBS => 11 at 9
 // before AC_INIT
 before AC_CONFIG_FILES => 8
 before AC_INIT => accepted
 before AC_PREREQ => accepted
+before AC_CHECK_LIB => 8
 before a => 8
 // after AC_OUTPUT
 after AC_SUBST => 10 at 3
+after AC_SEARCH_LIBS => 10 at 3
 after AS_HELP_STRING => 10 at 3
 after a => 10 at 3
 // what a call is read as
@@ -470,6 +521,28 @@ reads AC_CHECK_FUNCS([f,g]) => 5 at 15
 reads AC_CHECK_DECLS([a b]) => 5 at 15
 reads AC_CHECK_TYPES([a, $b]) => 5 at 15
 reads AC_CHECK_TYPES([a],,,[`]) => 6.1 at 21
+// a library; that it is added is said after its actions are read
+reads AC_CHECK_LIB([m],[sin]) => library[m] function[sin]
+reads AC_CHECK_LIB([ stdc++.1-a_B ],[ sin ],[:],[:],[-lz $L]) => library[stdc++.1-a_B] function[sin] with -lz $[L]
+reads AC_CHECK_LIB(m,sin,,,[]) => library[m] function[sin]
+reads AC_CHECK_LIB([a/b],[sin]) => 5 at 13
+reads AC_CHECK_LIB([a b],[sin]) => 5 at 13
+reads AC_CHECK_LIB([$m],[sin]) => 5 at 13
+reads AC_CHECK_LIB([],[sin]) => 5 at 13
+reads AC_CHECK_LIB([m],[9p]) => 5 at 17
+reads AC_CHECK_LIB([m],[sin cos]) => 5 at 17
+reads AC_CHECK_LIB([m],[]) => 5 at 17
+reads AC_CHECK_LIB([a/b],[9p]) => 5 at 13
+reads AC_CHECK_LIB([m],[sin],,,[`]) => 6.1 at 25
+// several libraries
+reads AC_SEARCH_LIBS([sin],[m c]) => libraries[m][c] function[sin]
+reads AC_SEARCH_LIBS(sin,[ m^J^Ic m ],,,[-lz]) => libraries[m][c][m] function[sin] with -lz
+reads AC_SEARCH_LIBS([9p],[/]) => 5 at 15
+reads AC_SEARCH_LIBS([sin],[m a/b]) => 5 at 21
+reads AC_SEARCH_LIBS([sin],[m,c]) => 5 at 21
+reads AC_SEARCH_LIBS([sin],[ ]) => 5 at 21
+reads AC_SEARCH_LIBS([sin],[]) => 5 at 21
+reads AC_SEARCH_LIBS([sin],[m],,,[`]) => 6.1 at 27
 // calls with errors
 reads AC_SUBST([a-b]) => 5 at 9
 reads AC_ARG_WITH([]) => 5 at 12

@@ -37,9 +37,18 @@ fn put_batch(page: &mut Page, statement: &Plain) {
     }
 }
 
-/// Puts a question about entries, and how many cases it has.
+/// Returns whether the question is about entries or libraries.
+fn is_listed(question: &Question) -> bool {
+    match question {
+        Question::Checks { .. } | Question::ChecksEach { .. } => true,
+        Question::Library { .. } | Question::Libraries { .. } => true,
+        Question::Given { .. } | Question::Tries { .. } => false,
+    }
+}
+
+/// Puts a question about entries or libraries, and how many cases it has.
 fn put_asked(page: &mut Page, question: &Question, cases: usize) {
-    if let Question::Checks { .. } | Question::ChecksEach { .. } = question {
+    if is_listed(question) {
         page.put(b";");
         question.tell(page);
         page.put(b" ");
@@ -47,7 +56,7 @@ fn put_asked(page: &mut Page, question: &Question, cases: usize) {
     }
 }
 
-/// Puts a statement that looks for entries.
+/// Puts a statement that looks for entries or libraries.
 fn put_entries(page: &mut Page, statement: &Stmt) {
     match statement {
         Stmt::Plain(plain) => put_batch(page, plain),
@@ -60,7 +69,7 @@ fn put_entries(page: &mut Page, statement: &Stmt) {
 }
 
 /// How many statements there are, the output variables, the precious ones, the features, the packages, the help and the
-/// files, each AC_CACHE_CHECK, and each statement that looks for entries.
+/// files, each AC_CACHE_CHECK, and each statement that looks for entries or libraries.
 impl Told for Source {
     fn tell(&self, page: &mut Page) {
         page.put_number(self.statements().len());
@@ -181,9 +190,33 @@ AC_INIT([x],[1])^JAC_CHECK_TYPES([$],,,,)^JAC_OUTPUT^J => 4 at 17
 // in the commands of AC_CACHE_CHECK
 AC_INIT([x],[1])^JAC_CACHE_CHECK([x],[v_cv_x],[AC_CHECK_HEADER([a b])])^JAC_OUTPUT^J => 11 at 45
 AC_INIT([x],[1])^JAC_CACHE_CHECK([x],[v_cv_x],[AS_IF([:],[AC_CHECK_FUNCS([f])])])^JAC_OUTPUT^J => 11 at 45
-// not read yet
-AC_INIT([x],[1])^JAC_CHECK_LIB([m],[sin])^JAC_OUTPUT^J => 2 at 17
-AC_INIT([x],[1])^JAC_SEARCH_LIBS([sin],[m])^JAC_OUTPUT^J => 2 at 17
+AC_INIT([x],[1])^JAC_CACHE_CHECK([x],[v_cv_x],[AC_CHECK_LIB([a/b],[f])])^JAC_OUTPUT^J => 11 at 45
+AC_INIT([x],[1])^JAC_CACHE_CHECK([x],[v_cv_x],[AS_IF([:],[AC_SEARCH_LIBS([f],[m])])])^JAC_OUTPUT^J => 11 at 45
+// a library is added if there are no statements for yes
+AC_INIT([x],[1])^JAC_CHECK_LIB([m],[sin])^JAC_OUTPUT^J => 3;;;;;;0;library[m] function[sin] adds 0
+AC_INIT([x],[1])^JAC_CHECK_LIB([m],[sin],[],[],[-lz])^JAC_OUTPUT^J => 3;;;;;;0;library[m] function[sin] with -lz adds 0
+AC_INIT([x],[1])^JAC_CHECK_LIB([m],[sin],[dnl x^J])^JAC_OUTPUT^J => 3;;;;;;0;library[m] function[sin] adds 0
+AC_INIT([x],[1])^JAC_CHECK_LIB([m],[sin],,[AC_SUBST([v])])^JAC_OUTPUT^J => 3;[v];;;;;0;library[m] function[sin] adds 1
+AC_INIT([x],[1])^JAC_CHECK_LIB([m],[sin],[ ])^JAC_OUTPUT^J => 3;;;;;;0;library[m] function[sin] 1
+AC_INIT([x],[1])^JAC_CHECK_LIB([m],[sin],[AC_SUBST([v])],[w=1])^JAC_OUTPUT^J => 3;[v];;;;;0;library[m] function[sin] 2
+AC_INIT([x],[1])^JAC_SEARCH_LIBS([sin],[m^Jc])^JAC_OUTPUT^J => 3;;;;;;0;libraries[m][c] function[sin] 0
+AC_INIT([x],[1])^JAC_SEARCH_LIBS([sin],[m],[v=1],[AC_SUBST([v])],[$L])^JAC_OUTPUT^J => 3;[v];;;;;0;libraries[m] function[sin] with $[L] 2
+AC_INIT([x],[1])^JAS_IF([:],[AC_CHECK_LIB([m],[sin],[AC_SEARCH_LIBS([cos],[m],[AC_SUBST([v])])])])^JAC_OUTPUT^J => 3;[v];;;;;0
+// the first argument that has an error: the library, the function, the statements for yes, those for no, the others
+AC_INIT([x],[1])^JAC_CHECK_LIB([a/b],[9],[AC_NOPE],[AC_NOPE],[`])^JAC_OUTPUT^J => 5 at 30
+AC_INIT([x],[1])^JAC_CHECK_LIB([m],[9],[AC_NOPE],[AC_NOPE],[`])^JAC_OUTPUT^J => 5 at 34
+AC_INIT([x],[1])^JAC_CHECK_LIB([m],[f],[AC_NOPE],[AC_NOPE],[`])^JAC_OUTPUT^J => 2 at 39
+AC_INIT([x],[1])^JAC_CHECK_LIB([m],[f],,[AC_NOPE],[`])^JAC_OUTPUT^J => 2 at 40
+AC_INIT([x],[1])^JAC_CHECK_LIB([m],[f],,,[`])^JAC_OUTPUT^J => 6.1 at 40
+AC_INIT([x],[1])^JAC_SEARCH_LIBS([9],[/],[AC_NOPE],[AC_NOPE],[`])^JAC_OUTPUT^J => 5 at 32
+AC_INIT([x],[1])^JAC_SEARCH_LIBS([f],[/],[AC_NOPE],[AC_NOPE],[`])^JAC_OUTPUT^J => 5 at 36
+AC_INIT([x],[1])^JAC_SEARCH_LIBS([f],[m],[AC_NOPE],[AC_NOPE],[`])^JAC_OUTPUT^J => 2 at 41
+AC_INIT([x],[1])^JAC_SEARCH_LIBS([f],[m],,[AC_NOPE],[`])^JAC_OUTPUT^J => 2 at 42
+AC_INIT([x],[1])^JAC_SEARCH_LIBS([f],[m],,,[`])^JAC_OUTPUT^J => 6.1 at 42
+AC_INIT([x],[1])^JAC_CHECK_LIB([a/b])^JAC_OUTPUT^J => 4 at 17
+AC_INIT([x],[1])^JAC_CHECK_LIB([m],[f],,,,)^JAC_OUTPUT^J => 4 at 17
+AC_INIT([x],[1])^JAC_SEARCH_LIBS([9])^JAC_OUTPUT^J => 4 at 17
+AC_INIT([x],[1])^JAC_SEARCH_LIBS([f],[m],,,,)^JAC_OUTPUT^J => 4 at 17
 // before AC_INIT, and after AC_OUTPUT
 AC_CACHE_CHECK([x],[v_cv_x],[v_cv_x=1]) => 8
 AC_INIT([x],[1])^JAC_OUTPUT^JAC_CACHE_CHECK([x],[v_cv_x],[v_cv_x=1])^J => 10 at 27

@@ -11,5 +11,5 @@ pub returns-else-is_empty : goal.returns-else-is_empty
 returns-else-is_empty c =
     let cases = c.args.cases.items in
     c.choose_each.ensures
-    ∙ sym (asked_some (ChecksEach (Entry c.in-Entry.listed) c.args.entries c.args.includes) cases (ap (λ n. n == 0) (sym c.args.cases.ok.0) ∙ sym c.is_empty.ensures ∙ c.if-is_empty.false))
+    ∙ sym (asked_some c.in-Entry.listed c.args.entries c.args.includes cases (ap (λ n. n == 0) (sym c.args.cases.ok.0) ∙ sym c.is_empty.ensures ∙ c.if-is_empty.false))
     ∙ ap (λ s. asked_by (ChecksEach s c.args.entries c.args.includes) (cases_of cases)) (sym c.in-Entry.is)
