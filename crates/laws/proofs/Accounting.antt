@@ -16,6 +16,7 @@ use Rattle.syntax.specs.declared.statement.MessageKind.{MessageKind}
 use Rattle.syntax.specs.declared.statement.MessageKind.TheVariants as messages
 use Rattle.syntax.specs.declared.statement.Plain.TheVariants.{Init, Accepted, ConfigFiles, ConfigHeaders, Assign, Subst, SubstValue, Define, DefineUnquoted, Error, Message, ArgVar, CheckProg, CheckProgs, PathProg, ProgCc, Output}
 use Rattle.syntax.specs.declared.statement.Plain.TheVariants as plain_is
+use Rattle.syntax.specs.declared.statement.Question.TheVariants as questions
 use Rattle.syntax.specs.declared.statement.Question.TheVariants.{Given, Tries, Checks, ChecksEach}
 use Rattle.syntax.specs.declared.tree.Subject.{Subject}
 use Rattle.syntax.specs.declared.tree.Subject.TheVariants.{Nothing, Word, Asked}
@@ -23,7 +24,7 @@ use Rattle.syntax.specs.Script.{Script, Done, Then, Choice, Check, Cases, No_cas
 use Rattle.meaning.specs.State.{State, Scope, no_choice, about, answered, Goes_on, Completed, Stopped, Cut, Run, Ends, Asks, then_run, ended, as_is, with_child, with_variable}
 use Rattle.meaning.specs.Asking.{success, only_reply, heard, child, compiled}
 use Rattle.meaning.specs.Tests.{checking, cached_test, tested}
-use Rattle.meaning.specs.Rows.{Kind, Program, kind_for, is_yes, name_of, value_or_empty, value_if, row_of}
+use Rattle.meaning.specs.Rows.{Kind, Program, Library, Libraries, kind_for, is_found, name_of, value_or_empty, value_if, row_of}
 use Rattle.meaning.specs.Package.{package_string, initialised}
 use Rattle.meaning.specs.Play.{play, first_number, refused_after, with_cut_line, last_words}
 use Rattle.meaning.specs.Tries.{first_probe, after_first, text_of}
@@ -163,7 +164,7 @@ run_accounts (Asks jobs ask) rs before a f go did runs x y =
 found_accounts : (kind : Kind) (st : State) (rs : List Reply) (go : Scope → State → Run) (did : Scope → State → List Reply → List Deed) → FollowChoice go did
     → Accounts st.vars (kind_deeds kind st rs ++ deeds_answered (found_by as_is kind st yes_or_no) rs did) (play (found_by as_is kind st go) rs).state.vars
 found_accounts kind st rs go did y =
-    run_accounts (tested (row_of kind st) st) rs st.vars (kind_deeds kind st rs) (λ now. is_yes (value_of now.vars (name_of kind))) go did (tested_open kind st) (kind_accounts kind st rs) y
+    run_accounts (tested (row_of kind st) st) rs st.vars (kind_deeds kind st rs) (λ now. is_found kind (value_of now.vars (name_of kind))) go did (tested_open kind st) (kind_accounts kind st rs) y
 
 first_accounts : (sought : Sought) (entries : List (List ℕ)) (includes : Option (List Part)) (st : State) (rs : List Reply) (go : Scope → State → Run) (did : Scope → State → List Reply → List Deed) → FollowChoice go did
     → Accounts st.vars (first_deeds sought entries includes st rs ++ deeds_answered (first_found as_is sought entries includes st yes_or_no) rs did) (play (first_found as_is sought entries includes st go) rs).state.vars
@@ -181,6 +182,8 @@ subject_accounts (Asked (Tries kind program)) st rs go did y =
     (first_answers did kind (λ b. yes_or_no (answered b)) (λ b. go (answered b)) (either_answers did go y)) rs
 subject_accounts (Asked (Checks sought entry includes)) st rs go did y = found_accounts (kind_for sought entry includes false) st rs go did y
 subject_accounts (Asked (ChecksEach sought entries includes)) st rs go did y = first_accounts sought entries includes st rs go did y
+subject_accounts (Asked (questions.Library library function others adds)) st rs go did y = found_accounts (Library library function others adds) st rs go did y
+subject_accounts (Asked (questions.Libraries function libraries others)) st rs go did y = found_accounts (Libraries function libraries others) st rs go did y
 
 turns_account : (rounds : List Subject) (go : Scope → State → Run) (did : Scope → State → List Reply → List Deed) → FollowChoice go did → Follow (in_turn rounds go) (turn_deeds rounds go did)
 turns_account [] go did y st rs = nothing st.vars

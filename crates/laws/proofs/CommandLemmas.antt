@@ -5,7 +5,7 @@ use Rattle.deftable.specs.Table.{value_of, with_entry, without_entry}
 use Rattle.shellword.specs.Value.{word_value}
 use Rattle.syntax.specs.declared.statement.Plain as plain
 use Rattle.syntax.specs.declared.statement.Plain.TheVariants.{Assign}
-use Rattle.syntax.specs.declared.statement.Question.TheVariants.{Given, Tries, Checks, ChecksEach}
+use Rattle.syntax.specs.declared.statement.Question.TheVariants.{Given, Tries, Checks, ChecksEach, Library, Libraries}
 use Rattle.syntax.specs.declared.tree.Subject.{Subject}
 use Rattle.syntax.specs.declared.tree.Subject.TheVariants.{Nothing, Word, Asked}
 use Rattle.syntax.specs.Commands.{AssignsAlone, TriesAlone, AreCommands, AreCommandsIn}
@@ -104,6 +104,8 @@ begun_writes name first (Word word) st go a k h = k _ st h
 begun_writes name first (Asked (Given kind variable help)) st go a k h = absurd a
 begun_writes name first (Asked (Checks sought entry includes)) st go a k h = absurd a
 begun_writes name first (Asked (ChecksEach sought entries includes)) st go a k h = absurd a
+begun_writes name first (Asked (Library library function others adds)) st go a k h = absurd a
+begun_writes name first (Asked (Libraries function libraries others)) st go a k h = absurd a
 begun_writes name first (Asked (Tries kind program)) st go a k h =
     ends_compiled (OwnOnly name first) (λ how now. OwnOnly name first now) (λ job reply now x. x) (job_of (first_probe kind (text_of program st.vars)) 0 st.vars st.defs) st _ (λ now x. x) (λ now x. x)
     (first_ends (OwnOnly name first) (λ how now. OwnOnly name first now) (λ job reply now x. x) (λ now x. x) kind (λ b. go (answered b)) (λ b now x. k (answered b) now x)) h
@@ -116,6 +118,8 @@ one_round (Asked (Tries kind program)) a = refl
 one_round (Asked (Given kind variable help)) a = absurd a
 one_round (Asked (Checks sought entry includes)) a = absurd a
 one_round (Asked (ChecksEach sought entries includes)) a = absurd a
+one_round (Asked (Library library function others adds)) a = absurd a
+one_round (Asked (Libraries function libraries others)) a = absurd a
 
 turn_writes : (name : List ℕ) (first : State) (subject : Subject) (st : State) (go : Scope → State → Run) → TriesAlone subject → ((scope : Scope) (now : State) → OwnOnly name first now → Keeps (OwnOnly name first) (go scope now)) → OwnOnly name first st
     → Keeps (OwnOnly name first) (in_turn (rounds_of subject) go st)

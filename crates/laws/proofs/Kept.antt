@@ -1,6 +1,6 @@
 -- What every write keeps holds at each end of any statements.
 use Rattle.std.proofs.Common.{◌≡◌, ℕ, Option, Some, None, List, [], ◌∷◌, ◌++◌, codes, Bool, true, false, cond, refl, sym, ap, ◌∙◌, subst, ⊎_elim}
-use Rattle.std.specs.Prelude.{◌||◌, not, option_map, unwrap_or}
+use Rattle.std.specs.Prelude.{◌||◌, ◌&&◌, not, option_map, unwrap_or, bytes_eq}
 use Rattle.jobs.specs.declared.job.Job.{Job}
 use Rattle.jobs.specs.Probe.{run_of, job_of}
 use Rattle.crew_trait.specs.declared.reply.Reply.{Reply}
@@ -18,6 +18,7 @@ use Rattle.syntax.specs.declared.statement.MessageKind.TheVariants as messages
 use Rattle.syntax.specs.declared.statement.Plain.TheVariants.{Init, Accepted, ConfigFiles, ConfigHeaders, Assign, Subst, SubstValue, Define, DefineUnquoted, Error, Message, ArgVar, CheckProg, CheckProgs, PathProg, ProgCc, Output}
 use Rattle.syntax.specs.declared.statement.Plain.TheVariants as plain_is
 use Rattle.syntax.specs.declared.statement.Question as asks
+use Rattle.syntax.specs.declared.statement.Question.TheVariants as questions
 use Rattle.syntax.specs.declared.statement.Question.TheVariants.{Given, Tries, Checks, ChecksEach}
 use Rattle.syntax.specs.declared.tree.Subject.{Subject}
 use Rattle.syntax.specs.declared.tree.Subject.TheVariants.{Nothing, Word, Asked}
@@ -27,7 +28,7 @@ use Rattle.syntax.specs.declared.listed.Listed.TheVariants.{Header, Function, De
 use Rattle.meaning.specs.State.{State, told, with_child, with_variable, with_definition, without_variable, Scope, answered, How, Goes_on, Completed, Stopped, Cut, Run, Ends, then_run, as_is, ended}
 use Rattle.meaning.specs.Asking.{no_compiler, success, only_reply}
 use Rattle.meaning.specs.Tests.{Test, broken, guarded, checking, cached_test, with_value, tested_by, may_begin, tested, Row}
-use Rattle.meaning.specs.Rows.{Kind, Program, Single, Sized, kind_for, entry_name, symbol_part, is_yes, defined_if, name_of, attempts_of, otherwise_of, after_of, row_of}
+use Rattle.meaning.specs.Rows.{Kind, Program, Single, Sized, Library, Libraries, kind_for, entry_name, symbol_part, is_yes, is_linked, is_found, with_library, with_library_if, defined_if, name_of, attempts_of, otherwise_of, after_of, row_of}
 use Rattle.meaning.specs.Package.{with_package, package_string, literal, initialised}
 use Rattle.meaning.specs.Tries.{first_probe, after_first, text_of}
 use Rattle.meaning.specs.Meaning.{settled, is_unsettled, has_value, check_prog, looks, looks_all, defaulted, error_line, said, effect, value_name, given, found_by, first_found, asked, begun, rounds_of, in_turn, is_taken, check, meaning, chosen}
@@ -84,6 +85,17 @@ defined_keeps : (I : State → Type 0) → Closed I → (b : Bool) (name : List 
 defined_keeps I c true name st h = c.definitions name (codes "1") st h
 defined_keeps I c false name st h = h
 
+library_keeps : (I : State → Type 0) → Closed I → (text : List ℕ) (st : State) → I st → I (with_library text st)
+library_keeps I c text st h = c.variables (codes "LIBS") _ st h
+
+library_if_keeps : (I : State → Type 0) → Closed I → (b : Bool) (library : List ℕ) (st : State) → I st → I (with_library_if b library st)
+library_if_keeps I c true library st h = library_keeps I c (codes "-l" ++ library) _ (c.definitions (codes "HAVE_LIB" ++ symbol_part library) (codes "1") st h)
+library_if_keeps I c false library st h = h
+
+linked_keeps : (I : State → Type 0) → Closed I → (b : Bool) (value : List ℕ) (st : State) → I st → I (cond b (with_library value st) st)
+linked_keeps I c true value st h = library_keeps I c value st h
+linked_keeps I c false value st h = h
+
 after_keeps : (I : State → Type 0) → Closed I → (kind : Kind) (value : Option (List ℕ)) (st : State) → I st → I (after_of kind value st)
 after_keeps I c (Program s own) value st h = c.variables s.variable (unwrap_or value []) st h
 after_keeps I c (Single listed entry includes false) value st h = h
@@ -93,6 +105,11 @@ after_keeps I c (Single Declaration entry includes true) value st h =
     c.definitions (codes "HAVE_DECL_" ++ symbol_part entry) (cond (is_yes value) (codes "1") (codes "0")) st h
 after_keeps I c (Sized name includes false) value st h = h
 after_keeps I c (Sized name includes true) value st h = defined_keeps I c (is_yes value) (codes "HAVE_" ++ symbol_part name) st h
+after_keeps I c (Library library function others false) value st h = h
+after_keeps I c (Library library function others true) value st h = library_if_keeps I c (is_yes value) library st h
+after_keeps I c (Libraries function libraries others) None st h = h
+after_keeps I c (Libraries function libraries others) (Some value) st h =
+    linked_keeps I c (is_linked (Some value) && not (bytes_eq value (codes "none required"))) value st h
 
 row_keeps : (I : State → Type 0) → Closed I → (b : Bool) (r : Row) (st : State) → ((now : State) → I now → Keeps I (r.test.body now)) → ((value : Option (List ℕ)) (now : State) → I now → I (r.after value now)) → I st → Keeps I (tested_by b r st)
 row_keeps I c true r st body after h = then_keeps I (cached_test r.test st) _ (cached_keeps I c r.test st body h) (λ now k. after (value_of now.vars r.test.name) now k)
@@ -203,7 +220,7 @@ first_ends I P spares cut kinds_are.Preproc go k b st h = k b st h
 found_keeps : (I : State → Type 0) → Closed I → (kind : Kind) (st : State) (go : Scope → State → Run) → ((scope : Scope) (now : State) → I now → Keeps I (go scope now)) → I st → Keeps I (found_by as_is kind st go)
 found_keeps I c kind st go k h =
     then_keeps I (ended as_is (tested (row_of kind st) st)) _ (ends_ended (λ how now. I now) (λ how now. I now) as_is (tested (row_of kind st) st) (kind_keeps I c kind st h) (λ how now x. x))
-    (λ now x. k (answered (is_yes (value_of now.vars (name_of kind)))) now x)
+    (λ now x. k (answered (is_found kind (value_of now.vars (name_of kind)))) now x)
 
 first_found_keeps : (I : State → Type 0) → Closed I → (sought : Sought) (entries : List (List ℕ)) (includes : Option (List Part)) (st : State) (go : Scope → State → Run) → ((scope : Scope) (now : State) → I now → Keeps I (go scope now))
     → I st → Keeps I (first_found as_is sought entries includes st go)
@@ -218,6 +235,8 @@ asked_keeps I c (Tries kind program) st go k h =
     (first_ends I (λ how now. I now) c.children (λ now x. x) kind (λ b. go (answered b)) (λ b now x. k (answered b) now x)) h
 asked_keeps I c (Checks sought entry includes) st go k h = found_keeps I c (kind_for sought entry includes false) st go k h
 asked_keeps I c (ChecksEach sought entries includes) st go k h = first_found_keeps I c sought entries includes st go k h
+asked_keeps I c (questions.Library library function others adds) st go k h = found_keeps I c (Library library function others adds) st go k h
+asked_keeps I c (questions.Libraries function libraries others) st go k h = found_keeps I c (Libraries function libraries others) st go k h
 
 pub begun_keeps : (I : State → Type 0) → Closed I → (subject : Subject) (st : State) (go : Scope → State → Run) → ((scope : Scope) (now : State) → I now → Keeps I (go scope now)) → I st → Keeps I (begun as_is subject st go)
 unfolding begun

@@ -4,6 +4,8 @@ pub mod CachedTests
 pub mod Kept
 pub mod CommandLemmas
 pub mod Questions
+pub mod LinkLemmas
+pub mod Linking
 pub mod DeedLemmas
 pub mod TestDeeds
 pub mod BatchDeeds

@@ -1,6 +1,6 @@
 -- The children in the log.
 use Rattle.std.proofs.Common.{◌≡◌, ℕ, ◌+◌, Option, Some, None, List, [], ◌∷◌, ◌++◌, length, codes, Bool, true, false, cond, refl, ◌∙◌, ap, subst, ⊎_elim, sym}
-use Rattle.std.specs.Prelude.{option_map, ◌||◌, not}
+use Rattle.std.specs.Prelude.{option_map, ◌||◌, ◌&&◌, not, bytes_eq}
 use Rattle.std.proofs.lemmas.Bool.{cases_Bool}
 use Rattle.std.proofs.lemmas.List.{append-nil}
 use Rattle.jobs.specs.declared.job.Job.{Job}
@@ -20,6 +20,7 @@ use Rattle.syntax.specs.declared.statement.MessageKind.TheVariants as messages
 use Rattle.syntax.specs.declared.statement.Plain.TheVariants.{Init, Accepted, ConfigFiles, ConfigHeaders, Assign, Subst, SubstValue, Define, DefineUnquoted, Error, Message, ArgVar, CheckProg, CheckProgs, PathProg, ProgCc, Output}
 use Rattle.syntax.specs.declared.statement.Plain.TheVariants as plain_is
 use Rattle.syntax.specs.declared.statement.Question as asks
+use Rattle.syntax.specs.declared.statement.Question.TheVariants as questions
 use Rattle.syntax.specs.declared.statement.Question.TheVariants.{Given, Tries, Checks, ChecksEach}
 use Rattle.syntax.specs.declared.tree.Subject.{Subject}
 use Rattle.syntax.specs.declared.tree.Subject.TheVariants.{Nothing, Word, Asked}
@@ -28,7 +29,7 @@ use Rattle.syntax.specs.declared.listed.Sought.{Sought}
 use Rattle.meaning.specs.State.{State, piece, told, with_child, with_variable, without_variable, Scope, answered, How, Goes_on, Completed, Stopped, Cut, Run, Ends, Asks, then_run, ended, as_is}
 use Rattle.meaning.specs.Asking.{success, only_reply, heard, child, compiled, no_compiler, same, Attempt, attempted}
 use Rattle.meaning.specs.Tests.{Test, broken, guarded, checking, test_by, cached_test, with_value, tested_by, may_begin, tested}
-use Rattle.meaning.specs.Rows.{Kind, Program, Single, Sized, kind_for, symbol_part, is_yes, name_of, attempts_of, otherwise_of, after_of, row_of}
+use Rattle.meaning.specs.Rows.{Kind, Program, Single, Sized, Library, Libraries, kind_for, symbol_part, is_yes, is_linked, is_found, with_library, with_library_if, name_of, attempts_of, otherwise_of, after_of, row_of}
 use Rattle.meaning.specs.Package.{initialised}
 use Rattle.meaning.specs.Play.{first_number, refused_after, with_cut_line, cut_line, last_words}
 use Rattle.meaning.specs.Tries.{first_probe, after_first, text_of}
@@ -99,12 +100,25 @@ cached_logs t st h =
     let s = checking t.message st in
     subst (λ x. Logs x (cached_test t st)) (told_kids Out (codes "checking " ++ t.message ++ codes "... ") st) (by_logs (value_of st.vars t.name) t s (h s))
 
+library_kids : (b : Bool) (library : List ℕ) (st : State) → kids (with_library_if b library st) ≡ kids st
+library_kids true library st = refl
+library_kids false library st = refl
+
+linked_kids : (b : Bool) (value : List ℕ) (st : State) → kids (cond b (with_library value st) st) ≡ kids st
+linked_kids true value st = refl
+linked_kids false value st = refl
+
 after_kids : (kind : Kind) (value : Option (List ℕ)) (st : State) → kids (after_of kind value st) ≡ kids st
 after_kids (Program s own) value st = refl
 after_kids (Single listed entry includes false) value st = refl
 after_kids (Single listed entry includes true) value st = ap children_of (have_log listed entry (is_yes value) st)
 after_kids (Sized name includes false) value st = refl
 after_kids (Sized name includes true) value st = ap children_of (defined_log (is_yes value) (codes "HAVE_" ++ symbol_part name) st)
+after_kids (Library library function others false) value st = refl
+after_kids (Library library function others true) value st = library_kids (is_yes value) library st
+after_kids (Libraries function libraries others) None st = refl
+after_kids (Libraries function libraries others) (Some value) st =
+    linked_kids (is_linked (Some value) && not (bytes_eq value (codes "none required"))) value st
 
 value_kids : (name : List ℕ) (value : Option (List ℕ)) (st : State) → kids (with_value name value st) ≡ kids st
 value_kids name None st = refl
@@ -201,7 +215,7 @@ after_first_logs kinds_are.Preproc go k b st = k b st
 found_logs : (kind : Kind) (st : State) (go : Scope → State → Run) → ((scope : Scope) (now : State) → Logs (kids now) (go scope now)) → Logs (kids st) (found_by as_is kind st go)
 found_logs kind st go k =
     then_logs (kids st) (ended as_is (tested (row_of kind st) st)) _ (ended_logs (kids st) as_is (tested (row_of kind st) st) (kind_logs kind st) (λ how now. refl))
-    (λ now. k (answered (is_yes (value_of now.vars (name_of kind)))) now)
+    (λ now. k (answered (is_found kind (value_of now.vars (name_of kind)))) now)
 
 first_found_logs : (sought : Sought) (entries : List (List ℕ)) (includes : Option (List Part)) (st : State) (go : Scope → State → Run) → ((scope : Scope) (now : State) → Logs (kids now) (go scope now))
     → Logs (kids st) (first_found as_is sought entries includes st go)
@@ -214,6 +228,8 @@ asked_logs (Tries kind program) st go k =
     compiled_logs (job_of (first_probe kind (text_of program st.vars)) 0 st.vars st.defs) st _ (after_first_logs kind (λ b. go (answered b)) (λ b now. k (answered b) now))
 asked_logs (Checks sought entry includes) st go k = found_logs (kind_for sought entry includes false) st go k
 asked_logs (ChecksEach sought entries includes) st go k = first_found_logs sought entries includes st go k
+asked_logs (questions.Library library function others adds) st go k = found_logs (Library library function others adds) st go k
+asked_logs (questions.Libraries function libraries others) st go k = found_logs (Libraries function libraries others) st go k
 
 begun_logs : (subject : Subject) (st : State) (go : Scope → State → Run) → ((scope : Scope) (now : State) → Logs (kids now) (go scope now)) → Logs (kids st) (begun as_is subject st go)
 unfolding begun

@@ -6,7 +6,7 @@ use Rattle.crew_trait.specs.declared.reply.Reply.{Reply}
 use Rattle.shellword.specs.Value.{word_value}
 use Rattle.syntax.specs.declared.statement.Plain as plain
 use Rattle.syntax.specs.declared.statement.Plain.TheVariants.{Assign}
-use Rattle.syntax.specs.declared.statement.Question.TheVariants.{Given, Tries, Checks, ChecksEach}
+use Rattle.syntax.specs.declared.statement.Question.TheVariants.{Given, Tries, Checks, ChecksEach, Library, Libraries}
 use Rattle.syntax.specs.declared.tree.Subject.{Subject}
 use Rattle.syntax.specs.declared.tree.Subject.TheVariants.{Nothing, Word, Asked}
 use Rattle.syntax.specs.Commands.{AssignsAlone, TriesAlone, AreCommands, AreCommandsIn}
@@ -63,6 +63,8 @@ subject_none name (Word word) st rs rest a h = h (about (word_value word st.vars
 subject_none name (Asked (Given kind variable help)) st rs rest a h = absurd a
 subject_none name (Asked (Checks sought entry includes)) st rs rest a h = absurd a
 subject_none name (Asked (ChecksEach sought entries includes)) st rs rest a h = absurd a
+subject_none name (Asked (Library library function others adds)) st rs rest a h = absurd a
+subject_none name (Asked (Libraries function libraries others)) st rs rest a h = absurd a
 subject_none name (Asked (Tries kind program)) st rs rest a h = none_answered name (asked as_is (Tries kind program) st yes_or_no) rs rest h
 
 turn_none : (name : List ℕ) (subject : Subject) (st : State) (rs : List Reply) (go : Scope → State → Run) (did : Scope → State → List Reply → List Deed) → TriesAlone subject

@@ -1,23 +1,24 @@
 -- What the deeds of one test account for.
 use Rattle.std.proofs.Common.{◌≡◌, ℕ, Option, Some, None, List, [], ◌∷◌, ◌++◌, codes, Bool, true, false, ◌⊎◌, inl, inr, refl, sym, ap, ◌∙◌, subst, ⊎_elim}
-use Rattle.std.specs.Prelude.{bytes_eq, unwrap_or}
+use Rattle.std.specs.Prelude.{◌&&◌, bytes_eq, unwrap_or}
 use Rattle.std.proofs.lemmas.Bool.{cases_Bool}
 use Rattle.std.proofs.lemmas.List.{append-nil}
 use Rattle.crew_trait.specs.declared.reply.Reply.{Reply}
 use Rattle.deftable.specs.Table.{value_of, with_entry}
 use Rattle.meaning.specs.State.{State, How, Goes_on, Completed}
 use Rattle.meaning.specs.Tests.{Test, checking, cached_test, tested_by, may_begin, tested}
-use Rattle.meaning.specs.Rows.{Kind, Program, Single, Sized, entry_name, shell_part, symbol_part, is_yes, name_of, after_of, row_of, attempts_of, otherwise_of}
+use Rattle.meaning.specs.Rows.{Kind, Program, Single, Sized, Library, Libraries, entry_name, shell_part, symbol_part, is_yes, name_of, after_of, row_of, attempts_of, otherwise_of}
 use Rattle.meaning.specs.Play.{play}
 use Rattle.laws.specs.Ends.{AtEnds, Breaks}
 use Rattle.laws.specs.Cached.{IsSet, IsUnset}
 use Rattle.laws.specs.Commands.{WritesOwn}
-use Rattle.laws.specs.Deeds.{Deed, Assigned, Tested, left_set, assigned_by, kind_deeds, name_in, Accounts}
+use Rattle.laws.specs.Deeds.{Deed, Assigned, Tested, left_set, is_added, libs_if, assigned_by, kind_deeds, name_in, Accounts}
 use Rattle.laws.proofs.Values.{same_text, cases_value, value_here, value_there, set_write, rewritten}
 use Rattle.laws.proofs.Endings.{ends_then, ends_map, ends_attempted}
 use Rattle.laws.proofs.CachedTests.{set_cached, broken_ends, broken_vars}
 use Rattle.laws.proofs.CommandLemmas.{own_unset, row_alone}
 use Rattle.laws.proofs.BatchEntries.{defined_vars, have_vars}
+use Rattle.laws.proofs.LinkLemmas.{put_if, put_other, checked_vars, searched_vars, checked_apart, searched_apart}
 use Rattle.laws.proofs.DeedLemmas.{Variables, nothing, unchanged, writes, writes_more, ends_account}
 
 -- One test.
@@ -76,19 +77,28 @@ set_deeds name before mid own =
     own
 
 -- How a test in a statement ends: it leaves the variables, or wrote its name alone and then what follows.
-abbrev AfterVars : Kind → Variables → Variables → Type 0
+abbrev pub AfterVars : Kind → Variables → Variables → Type 0
 AfterVars (Program s own) mid now = (value : List ℕ) × (now ≡ with_entry mid s.variable value)
 AfterVars (Single listed entry includes defines) mid now = now ≡ mid
 AfterVars (Sized name includes defines) mid now = now ≡ mid
+AfterVars (Library library function others adds) mid now =
+    now ≡ put_if (adds && is_yes (value_of mid (name_of (Library library function others adds)))) (codes "-l" ++ library) mid
+AfterVars (Libraries function libraries others) mid now =
+    let value = value_of mid (name_of (Libraries function libraries others)) in
+    now ≡ put_if (is_added value) (unwrap_or value []) mid
 
-after_through : (kind : Kind) (value : Option (List ℕ)) (st : State) → AfterVars kind st.vars (after_of kind value st).vars
-after_through (Program s own) value st = (unwrap_or value [], refl)
-after_through (Single listed entry includes false) value st = refl
-after_through (Single listed entry includes true) value st = have_vars listed entry (is_yes value) st
-after_through (Sized name includes false) value st = refl
-after_through (Sized name includes true) value st = defined_vars (is_yes value) (codes "HAVE_" ++ symbol_part name) st
+after_through : (kind : Kind) (st : State) → AfterVars kind st.vars (after_of kind (value_of st.vars (name_of kind)) st).vars
+after_through (Program s own) st = (unwrap_or (value_of st.vars s.name) [], refl)
+after_through (Single listed entry includes false) st = refl
+after_through (Single listed entry includes true) st = have_vars listed entry (is_yes (value_of st.vars (entry_name listed entry))) st
+after_through (Sized name includes false) st = refl
+after_through (Sized name includes true) st =
+    defined_vars (is_yes (value_of st.vars (name_of (Sized name includes true)))) (codes "HAVE_" ++ symbol_part name) st
+after_through (Library library function others adds) st =
+    checked_vars library function others adds (value_of st.vars (name_of (Library library function others adds))) st
+after_through (Libraries function libraries others) st = searched_vars (value_of st.vars (name_of (Libraries function libraries others))) st
 
-record KindEnds (kind : Kind) (before : Variables) (how : How) (now : Variables) : Type 0 where
+pub record KindEnds (kind : Kind) (before : Variables) (how : How) (now : Variables) : Type 0 where
   pub breaks : Breaks how → now ≡ before
   pub goes : how ≡ Goes_on → (mid : Variables) × (TestWrites (name_of kind) before mid × AfterVars kind mid now)
 
@@ -105,12 +115,12 @@ cached_ends t st alone =
     (λ some. subst (AtEnds (λ how now. CachedEnds t.name st.vars how now.vars)) (sym (set_cached t some.0 st some.1)) (record { breaks = λ b. refl; own = inl refl }))
     (cases_value (value_of st.vars t.name))
 
-kind_ends : (kind : Kind) (first st : State) (b : Bool) → AtEnds (λ how now. KindEnds kind st.vars how now.vars) (tested_by b (row_of kind first) st)
+pub kind_ends : (kind : Kind) (first st : State) (b : Bool) → AtEnds (λ how now. KindEnds kind st.vars how now.vars) (tested_by b (row_of kind first) st)
 kind_ends kind first st true =
     let t = (row_of kind first).test in
     ends_then (λ how now. CachedEnds (name_of kind) st.vars how now.vars) (λ how now. KindEnds kind st.vars how now.vars) (cached_test t st) _
     (cached_ends t st (ends_map (λ how now. WritesOwn (name_of kind) st.vars now.vars × (now.defs ≡ st.defs)) (λ how now. WritesOwn (name_of kind) st.vars now.vars) ((row_of kind first).test.body (checking t.message st)) (row_alone kind first (checking t.message st)) (λ how now h. h.0)))
-    (λ now c. record { breaks = λ b. absurd (b refl); goes = λ g. (now.vars, (c.own, after_through kind (value_of now.vars (name_of kind)) now)) })
+    (λ now c. record { breaks = λ b. absurd (b refl); goes = λ g. (now.vars, (c.own, after_through kind now)) })
     (λ how now b c. record { breaks = λ k. c.breaks b; goes = λ g. absurd (b g) })
 kind_ends kind first st false = record { breaks = λ b. refl; goes = λ g. cc }
 
@@ -144,8 +154,25 @@ same_accounts name before mid now alone same =
     subst (λ l. Accounts before (left_set name (value_of before name) (value_of l name) ++ []) l) (sym same)
     (subst (λ ds. Accounts before ds mid) (sym (append-nil (left_set name (value_of before name) (value_of mid name)))) (set_deeds name before mid alone))
 
+-- A test of libraries, and then LIBS.
+libs_accounts : (b : Bool) (text name : List ℕ) (before mid : Variables) → TestWrites name before mid
+    → Accounts before (left_set name (value_of before name) (value_of (put_if b text mid) name) ++ libs_if b) (put_if b text mid)
+libs_accounts true text name before mid alone = variable_accounts name (codes "LIBS") _ before mid alone
+libs_accounts false text name before mid alone = same_accounts name before mid mid alone refl
+
+-- What is assigned is decided by the value after LIBS is written, which is that before.
+linked_accounts : (adds : Option (List ℕ) → Bool) (text name : List ℕ) (before mid now : Variables) → bytes_eq name (codes "LIBS") ≡ false → TestWrites name before mid
+    → now ≡ put_if (adds (value_of mid name)) text mid
+    → Accounts before (left_set name (value_of before name) (value_of now name) ++ libs_if (adds (value_of now name))) now
+linked_accounts adds text name before mid now ne alone is =
+    let b = adds (value_of mid name) in
+    let same : adds (value_of (put_if b text mid) name) ≡ b = ap adds (put_other b text mid name ne) in
+    subst (λ l. Accounts before (left_set name (value_of before name) (value_of l name) ++ libs_if (adds (value_of l name))) l) (sym is)
+    (subst (λ c. Accounts before (left_set name (value_of before name) (value_of (put_if b text mid) name) ++ libs_if c) (put_if b text mid)) (sym same)
+    (libs_accounts b text name before mid alone))
+
 after_accounts : (kind : Kind) (before mid now : Variables) → TestWrites (name_of kind) before mid → AfterVars kind mid now
-    → Accounts before (left_set (name_of kind) (value_of before (name_of kind)) (value_of now (name_of kind)) ++ assigned_by kind) now
+    → Accounts before (left_set (name_of kind) (value_of before (name_of kind)) (value_of now (name_of kind)) ++ assigned_by kind (value_of now (name_of kind))) now
 after_accounts (Program s own) before mid now alone after =
     subst (λ l. Accounts before (left_set s.name (value_of before s.name) (value_of l s.name) ++ Assigned s.variable ∷ []) l) (sym after.1)
     (variable_accounts s.name s.variable after.0 before mid alone)
@@ -153,11 +180,17 @@ after_accounts (Single listed entry includes defines) before mid now alone after
     same_accounts (entry_name listed entry) before mid now alone after
 after_accounts (Sized name includes defines) before mid now alone after =
     same_accounts (codes "ac_cv_type_" ++ shell_part name) before mid now alone after
+after_accounts (Library library function others adds) before mid now alone after =
+    linked_accounts (λ value. adds && is_yes value) (codes "-l" ++ library) (name_of (Library library function others adds)) before mid now
+    (checked_apart (shell_part (library ++ codes "_" ++ function))) alone after
+after_accounts (Libraries function libraries others) before mid now alone after =
+    linked_accounts is_added (unwrap_or (value_of mid (name_of (Libraries function libraries others))) []) (name_of (Libraries function libraries others)) before mid now
+    (searched_apart (shell_part function)) alone after
 
 pub kind_accounts : (kind : Kind) (st : State) (rs : List Reply) → Accounts st.vars (kind_deeds kind st rs) (play (tested (row_of kind st) st) rs).state.vars
 kind_accounts kind st rs =
     ends_account (λ how now. KindEnds kind st.vars how now.vars) (tested (row_of kind st) st) rs st.vars
-    (λ now. left_set (name_of kind) (value_of st.vars (name_of kind)) (value_of now.vars (name_of kind)) ++ assigned_by kind)
+    (λ now. left_set (name_of kind) (value_of st.vars (name_of kind)) (value_of now.vars (name_of kind)) ++ assigned_by kind (value_of now.vars (name_of kind)))
     (kind_ends kind st st (may_begin (value_of st.vars (name_of kind)) (row_of kind st).ready))
     (λ now k. let g = k.goes refl in after_accounts kind st.vars g.0 now.vars g.1.0 g.1.1)
     (λ how now breaks k. unchanged st.vars now.vars (k.breaks breaks))

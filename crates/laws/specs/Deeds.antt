@@ -1,5 +1,5 @@
 -- A law of names: what each name that is set at the end of a run comes from.
-use Rattle.std.specs.Prelude.{◌≡◌, ◌||◌, ℕ, Bool, true, false, not, List, [], ◌∷◌, ◌++◌, ◌⊎◌, Option, Some, None, bytes_eq, codes, length, take, drop, if◌then◌else◌, option_map}
+use Rattle.std.specs.Prelude.{◌≡◌, ◌||◌, ◌&&◌, ℕ, Bool, true, false, not, List, [], ◌∷◌, ◌++◌, ◌⊎◌, Option, Some, None, bytes_eq, codes, length, take, drop, if◌then◌else◌, option_map}
 use Rattle.crew_trait.specs.declared.reply.Reply.{Reply}
 use Rattle.deftable.specs.Table.{value_of}
 use Rattle.shellword.specs.declared.part.Part.{Part}
@@ -10,6 +10,7 @@ use Rattle.syntax.specs.declared.listed.Sought.{Sought}
 use Rattle.syntax.specs.declared.statement.Plain as plain
 use Rattle.syntax.specs.declared.statement.Plain.TheVariants.{Init, Accepted, ConfigFiles, ConfigHeaders, Assign, Subst, SubstValue, Define, DefineUnquoted, Error, Message, ArgVar, CheckProg, CheckProgs, PathProg, ProgCc, Batch, Output}
 use Rattle.syntax.specs.declared.statement.Question as asks
+use Rattle.syntax.specs.declared.statement.Question.TheVariants as questions
 use Rattle.syntax.specs.declared.statement.Question.TheVariants.{Given, Tries, Checks, ChecksEach}
 use Rattle.syntax.specs.declared.tree.Subject.{Subject}
 use Rattle.syntax.specs.declared.tree.Subject.TheVariants.{Nothing, Word, Asked}
@@ -17,7 +18,7 @@ use Rattle.syntax.specs.Commands.{AreCommands}
 use Rattle.syntax.specs.Script.{Script, Done, Then, Choice, Check, Cases, No_case, Case}
 use Rattle.meaning.specs.State.{State, Scope, no_choice, about, answered, Goes_on, Completed, Stopped, Cut, Run, Ends, Asks, as_is}
 use Rattle.meaning.specs.Tests.{checking, cached_test, tested}
-use Rattle.meaning.specs.Rows.{Kind, Program, Single, Sized, Search, kind_for, entry_name, name_of, value_or_empty, value_if, row_of}
+use Rattle.meaning.specs.Rows.{Kind, Program, Single, Sized, Library, Libraries, Search, kind_for, entry_name, name_of, is_yes, is_linked, value_or_empty, value_if, row_of}
 use Rattle.meaning.specs.Batches.{is_known, batched}
 use Rattle.meaning.specs.Play.{play, whole}
 use Rattle.meaning.specs.Meaning.{settled, is_unsettled, check_prog, path_prog, has_value, is_full_name, looks, looks_all, effect, value_name, asked, begun, rounds_of, in_turn, is_taken, check, meaning, chosen}
@@ -44,18 +45,32 @@ left_set name (Some value) now = []
 left_set name None None = []
 left_set name None (Some value) = Tested name ∷ []
 
--- What a kind of test assigns after its test: a program's variable, and nothing for the others. (own)
-abbrev pub assigned_by : Kind → List Deed
-assigned_by (Program s own) = Assigned s.variable ∷ []
-assigned_by (Single listed entry includes defines) = []
-assigned_by (Sized name includes defines) = []
+-- A search for libraries has found one that LIBS gets: its value is set, and is neither `no` nor `none required`.
+-- (Autoconf's manual, "Library Files")
+abbrev pub is_added : Option (List ℕ) → Bool
+is_added None = false
+is_added (Some value) = is_linked (Some value) && not (bytes_eq value (codes "none required"))
+
+-- LIBS is assigned if this is true. (own)
+abbrev pub libs_if : Bool → List Deed
+libs_if true = Assigned (codes "LIBS") ∷ []
+libs_if false = []
+
+-- What a kind of test assigns after its test, by the value of its name: a program's variable, and LIBS if it gets a
+-- library. (Autoconf's manual, "Generic Programs" and "Library Files")
+abbrev pub assigned_by : Kind → Option (List ℕ) → List Deed
+assigned_by (Program s own) value = Assigned s.variable ∷ []
+assigned_by (Single listed entry includes defines) value = []
+assigned_by (Sized name includes defines) value = []
+assigned_by (Library library function others adds) value = libs_if (adds && is_yes value)
+assigned_by (Libraries function libraries others) value = libs_if (is_added value)
 
 -- The deeds of a test in a statement. (own)
 abbrev pub kind_deeds : Kind → State → List Reply → List Deed
 kind_deeds kind st replies =
     deeds_after (tested (row_of kind st) st) replies
     (λ now left. left_set (name_of kind) (value_of st.vars (name_of kind)) (value_of now.vars (name_of kind))
-    ++ assigned_by kind)
+    ++ assigned_by kind (value_of now.vars (name_of kind)))
 
 -- The deeds of the test of a program; `counts` says whether the variable's own value counts. (own)
 abbrev pub program_deeds : Search → Bool → State → List Reply → List Deed
@@ -143,6 +158,8 @@ question_deeds (Given kind variable help) st replies = given_deeds (value_of st.
 question_deeds (Tries kind program) st replies = []
 question_deeds (Checks sought entry includes) st replies = kind_deeds (kind_for sought entry includes false) st replies
 question_deeds (ChecksEach sought entries includes) st replies = first_deeds sought entries includes st replies
+question_deeds (questions.Library library function others adds) st replies = kind_deeds (Library library function others adds) st replies
+question_deeds (questions.Libraries function libraries others) st replies = kind_deeds (Libraries function libraries others) st replies
 
 -- The deeds after the answer of a question that is asked with `yes_or_no`, if there is one. (own)
 abbrev pub deeds_answered : Run → List Reply → (Scope → State → List Reply → List Deed) → List Deed

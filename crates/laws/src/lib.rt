@@ -3,7 +3,7 @@
 //! There is no code here. Each function does nothing, and its contract is a theorem on the definitions of `meaning`.
 //! Read `specs/Ends.antt` (what holds at the ends of a run), `specs/Cached.antt` (cached tests: their names),
 //! `specs/Commands.antt` (tests that set their name alone), `specs/Questions.antt` (questions that test: their answer),
-//! `specs/Deeds.antt` (what each name that is set at the end comes from), `specs/Logged.antt` (the children in the log),
+//! `specs/Linking.antt` (tests of libraries: what they leave in LIBS), `specs/Deeds.antt` (what each name that is set at the end comes from), `specs/Logged.antt` (the children in the log),
 //! then `specs/Batched.antt` (batches: lists of tests whose children are asked for at once).
 //!
 //! For example, say that AC_CACHE_CHECK of the name `v_cv_x` has the commands `v_cv_x=no` and then a program that is
@@ -15,6 +15,7 @@ ghost use Rattle.laws.specs.Batched.{BatchCommits, BatchAsksUnset, BatchStops, B
 ghost use Rattle.laws.specs.Cached.{NamesStandOnce, BrokenIsUnset, BrokenRowIsUnset, BrokenCheckIsUnset, SetStaysSet, SetRowAsksNothing};
 ghost use Rattle.laws.specs.Commands.{BrokenLeavesVariables, BrokenRowLeavesVariables, CommandsWriteAlone, BrokenCheckLeavesVariables};
 ghost use Rattle.laws.specs.Deeds.{DeedsAccount, CommandsHaveNoDeeds};
+ghost use Rattle.laws.specs.Linking.{LibsChecked, LibsSearched};
 ghost use Rattle.laws.specs.Logged.{ChildrenAreLogged};
 ghost use Rattle.laws.specs.Questions.{FoundByValue, FoundByCached};
 
@@ -82,11 +83,20 @@ pub fn commands_have_no_deeds()
     ensures others { CommandsHaveNoDeeds }
 {}
 
-/// A question of a test is answered by the cached value when the test is over: yes if it is `yes`, and no if it isn't. If
-/// the name is set, the question asks for nothing, and the value that the name has decides.
+/// A question of a test is answered by the cached value when the test is over: yes if it is `yes`, and no if it isn't. A
+/// search for libraries is answered with yes if it is set and is not `no`. If the name is set, the question asks for nothing,
+/// and the value that the name has decides.
 pub fn found_by_value()
     ensures value { FoundByValue }
     ensures cached { FoundByCached }
+{}
+
+/// When the actions of a test of libraries begin, LIBS is what it was before the test, with a library and a blank in front in
+/// exactly two cases: AC_CHECK_LIB has found its library and has no first action, or AC_SEARCH_LIBS has found that one of its
+/// libraries is needed. If the run ends in the test, LIBS is as it was.
+pub fn libs_gets_libraries()
+    ensures checked { LibsChecked }
+    ensures searched { LibsSearched }
 {}
 
 /// The children in the log of a run are the jobs that it asked for with their replies, in order.

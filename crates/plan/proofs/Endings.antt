@@ -9,6 +9,7 @@ use Rattle.deftable.specs.declared.note.Stream.TheVariants.{Err}
 use Rattle.shellword.specs.declared.part.Part.{Part}
 use Rattle.syntax.specs.declared.feature.OptionKind.{OptionKind}
 use Rattle.syntax.specs.declared.statement.Question as asks
+use Rattle.syntax.specs.declared.statement.Question.TheVariants as questions
 use Rattle.syntax.specs.declared.statement.Question.TheVariants.{Given, Tries, Checks, ChecksEach}
 use Rattle.syntax.specs.declared.listed.Sought.{Sought}
 use Rattle.syntax.specs.declared.program.Try as kinds
@@ -17,7 +18,7 @@ use Rattle.syntax.specs.declared.tree.Subject as what
 use Rattle.syntax.specs.declared.tree.Subject.TheVariants.{Nothing, Word, Asked}
 use Rattle.meaning.specs.State.{State, Scope, answered, told, with_child, How, Goes_on, Completed, Stopped, Cut, Run, Ends, Asks, then_run, ended}
 use Rattle.meaning.specs.Meaning.{given, found_by, first_found, asked, begun}
-use Rattle.meaning.specs.Rows.{Kind, kind_for, name_of, is_yes, row_of}
+use Rattle.meaning.specs.Rows.{Kind, Library, Libraries, kind_for, name_of, is_found, row_of}
 use Rattle.meaning.specs.Asking.{success, only_reply, heard, child, no_compiler, compiled}
 use Rattle.meaning.specs.Tries.{first_probe, after_first, text_of}
 use Rattle.meaning.specs.Tests.{broken, guarded, broken_all, guarded_all, tested}
@@ -123,7 +124,7 @@ run_carried f early other c (Asks jobs ask) go =
 found_carried : (f : Run → Run) (early other : How → State → State) → Carries f early other → (kind : Kind) (st : State) (go : Scope → State → Run)
     → f (found_by early kind st go) ≡ found_by other kind st (λ scope now. f (go scope now))
 found_carried f early other c kind st go =
-    run_carried f early other c (tested (row_of kind st) st) (λ now. go (answered (is_yes (value_of now.vars (name_of kind)))) now)
+    run_carried f early other c (tested (row_of kind st) st) (λ now. go (answered (is_found kind (value_of now.vars (name_of kind)))) now)
 
 first_found_carried : (f : Run → Run) (early other : How → State → State) → Carries f early other
     → (sought : Sought) (entries : List (List ℕ)) (includes : Option (List Part)) (st : State) (go : Scope → State → Run)
@@ -139,6 +140,8 @@ asked_carried f early other c (Tries kind program) st go =
     compiled_carried f early other c job st _ ∙ ap (compiled other job st) (fun_ext (λ b. fun_ext (λ now. first_carried f early other c kind (λ passed. go (answered passed)) b now)))
 asked_carried f early other c (Checks sought entry includes) st go = found_carried f early other c (kind_for sought entry includes false) st go
 asked_carried f early other c (ChecksEach sought entries includes) st go = first_found_carried f early other c sought entries includes st go
+asked_carried f early other c (questions.Library library function others adds) st go = found_carried f early other c (Library library function others adds) st go
+asked_carried f early other c (questions.Libraries function libraries others) st go = found_carried f early other c (Libraries function libraries others) st go
 
 -- The beginning of a choice.
 pub begun_carried : (f : Run → Run) (early other : How → State → State) → Carries f early other → (subject : what.Subject) (st : State) (go : Scope → State → Run)

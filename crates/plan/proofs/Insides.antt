@@ -1,9 +1,10 @@
 -- Every jump of a plan stays inside, and how many jobs a plan asks for.
-use Rattle.std.proofs.Common.{◌≡◌, codes, ◌*◌, ◌+◌, ℕ, ◌≤◌, List, [], ◌∷◌, ◌++◌, length, Bool, true, false, sym, arith, append_assoc, length-append, subst}
+use Rattle.std.proofs.Common.{◌≡◌, codes, ◌*◌, ◌+◌, ℕ, ◌≤◌, List, [], ◌∷◌, ◌++◌, length, map, Option, Bool, true, false, sym, arith, append_assoc, length-append, subst}
 use Rattle.std.proofs.lemmas.List.{append-nil, length-map}
+use Rattle.shellword.specs.declared.part.Part.{Part}
 use Rattle.syntax.specs.declared.listed.Sought.{Sought}
 use Rattle.syntax.specs.declared.listed.Sought.TheVariants.{Entry, «Type»}
-use Rattle.syntax.specs.declared.statement.Question.TheVariants.{Given, Tries, Checks, ChecksEach}
+use Rattle.syntax.specs.declared.statement.Question.TheVariants.{Given, Tries, Checks, ChecksEach, Library, Libraries}
 use Rattle.syntax.specs.declared.program.Try.TheVariants as kinds_are
 use Rattle.syntax.specs.declared.statement.Plain as plain
 use Rattle.syntax.specs.declared.statement.Plain.TheVariants.{Init, Accepted, ConfigFiles, ConfigHeaders, Assign, Subst, SubstValue, Define, DefineUnquoted, Error, Message, ArgVar, CheckProg, PathProg, Output, CheckProgs, ProgCc, Batch}
@@ -11,10 +12,10 @@ use Rattle.syntax.specs.declared.tree.Subject as what
 use Rattle.syntax.specs.declared.tree.Subject.TheVariants.{Nothing, Word, Asked}
 use Rattle.syntax.specs.Script.{Script, Done, Then, Choice, Check, Cases, No_case, Case}
 use Rattle.meaning.specs.Meaning.{rounds_of}
-use Rattle.plan.specs.Walk.{Instruction, Does, Looks, Defaults, Begins, Skips_unless, Skips, Opens, Closes}
+use Rattle.plan.specs.Walk.{Instruction, Defaults, Begins, Skips, Closes}
 use Rattle.plan.specs.Code.{case_code, check_code, code_after, code_each, code_of, code_of_cases, code_of_programs}
-use Rattle.plan.specs.Inside.{StaysInside, AskFew, IsShort, AreShort, asks_by, asks_to_find, asks_about, asks_of, asks_after}
-use Rattle.plan.specs.Weight.{entries_of, entries_asked, times, weight, weight_of_cases}
+use Rattle.plan.specs.Inside.{StaysInside, AskFew, asks_by, asks_to_find, asks_about, asks_after}
+use Rattle.plan.specs.Weight.{entries_of, entries_asked, times, weight, weight_of_cases, heaviest}
 use Rattle.plan.proofs.Follows.{flat, flat_check}
 
 programs_inside : (variable : List ℕ) (programs : List (List ℕ)) (always : Bool) (rest : List Instruction) → StaysInside rest → StaysInside (code_of_programs variable programs always ++ rest)
@@ -81,7 +82,7 @@ find_asks (Entry listed) = omega arith
 find_asks «Type» = omega arith
 
 -- The beginning of a choice.
-about_asks : (subject : what.Subject) → asks_about subject ≤ 65536
+about_asks : (subject : what.Subject) → asks_about subject ≤ 2 + entries_asked subject
 about_asks Nothing = omega arith
 about_asks (Word word) = omega arith
 about_asks (Asked (Given kind variable help)) = omega arith
@@ -91,42 +92,12 @@ about_asks (Asked (Tries kinds_are.Preproc program)) = omega arith
 about_asks (Asked (Tries kinds_are.Run program)) = omega arith
 about_asks (Asked (Checks sought entry includes)) = omega (arith, find_asks sought)
 about_asks (Asked (ChecksEach sought entries includes)) = omega (arith, find_asks sought)
+about_asks (Asked (Library library function others adds)) = omega arith
+about_asks (Asked (Libraries function libraries others)) = omega arith
 
--- A step asks for no more jobs than there are directories.
-asks_few : (i : Instruction) → IsShort i → asks_of i ≤ 65536
-asks_few (Does (Init a b d e f)) h = omega arith
-asks_few (Does Accepted) h = omega arith
-asks_few (Does (ConfigFiles outputs)) h = omega arith
-asks_few (Does (ConfigHeaders outputs)) h = omega arith
-asks_few (Does (Assign name value)) h = omega arith
-asks_few (Does (Subst name)) h = omega arith
-asks_few (Does (SubstValue name value)) h = omega arith
-asks_few (Does (Define name value)) h = omega arith
-asks_few (Does (DefineUnquoted name value)) h = omega arith
-asks_few (Does (Error message status)) h = omega arith
-asks_few (Does (Message kind message)) h = omega arith
-asks_few (Does (ArgVar name help)) h = omega arith
-asks_few (Does (CheckProg variable program found otherwise)) h = omega arith
-asks_few (Does (PathProg variable program otherwise)) h = omega arith
-asks_few (Does Output) h = omega arith
-asks_few (Does (CheckProgs variable programs otherwise)) h = omega arith
-asks_few (Does (ProgCc programs)) h = omega arith
-asks_few (Does (Batch listed entries includes)) h = omega arith
-asks_few (Looks variable program always) h = omega arith
-asks_few (Defaults variable value) h = omega arith
-asks_few (Begins subject) h = about_asks subject
-asks_few (Skips_unless when steps) h = omega arith
-asks_few (Skips steps) h = omega arith
-asks_few (Opens message name steps) h = omega arith
-asks_few (Closes name) h = omega arith
-
-pub all_ask_few : (steps : List Instruction) → AreShort steps → AskFew steps
-all_ask_few [] h = tt
-all_ask_few (i ∷ rest) h = (asks_few i h.0, all_ask_few rest h.1)
-
-pub asks_bound : (steps : List Instruction) → AreShort steps → asks_after steps 0 ≤ 65536 * length steps
+pub asks_bound : (steps : List Instruction) → AskFew steps → asks_after steps 0 ≤ 65536 * length steps
 asks_bound [] h = omega arith
-asks_bound (i ∷ rest) h = omega (arith, asks_few i h.0, asks_bound rest h.1)
+asks_bound (i ∷ rest) h = omega (arith, asks_bound rest h.1)
 
 asks_both : (a b : List Instruction) → asks_after (a ++ b) 0 ≡ asks_after a 0 + asks_after b 0
 asks_both [] b = omega arith
@@ -159,10 +130,26 @@ statement_asks (Batch listed entries includes) = omega arith
 statement_asks Output = omega arith
 
 each_ask : (rounds : List what.Subject) (cases : List Instruction) (w : ℕ) → asks_after cases 0 ≤ 65536 * w
-    → asks_after (code_each rounds cases) 0 ≤ 65536 * (length rounds + times (length rounds) w)
+    → asks_after (code_each rounds cases) 0 ≤ asks_after (map Begins rounds) 0 + 65536 * times (length rounds) w
 each_ask [] cases w h = omega arith
 each_ask (round ∷ rounds) cases w h =
-    omega (arith, about_asks round, asks_both cases (code_each rounds cases), h, each_ask rounds cases w h)
+    omega (arith, asks_both cases (code_each rounds cases), h, each_ask rounds cases w h)
+
+entries_ask : (sought : Sought) (entries : List (List ℕ)) (includes : Option (List Part))
+    → asks_after (map Begins (rounds_of (Asked (ChecksEach sought entries includes)))) 0 ≤ 2 * length entries
+entries_ask sought [] includes = omega arith
+entries_ask sought (entry ∷ entries) includes = omega (arith, find_asks sought, entries_ask sought entries includes)
+
+-- The beginnings of the rounds of a choice ask no more than its statement, and the entries of its list, weigh.
+rounds_ask : (subject : what.Subject) → asks_after (map Begins (rounds_of subject)) 0 ≤ 65536 * (1 + entries_asked subject)
+rounds_ask Nothing = omega arith
+rounds_ask (Word word) = omega arith
+rounds_ask (Asked (Given kind variable help)) = omega arith
+rounds_ask (Asked (Tries kind program)) = omega (arith, about_asks (Asked (Tries kind program)))
+rounds_ask (Asked (Checks sought entry includes)) = omega (arith, find_asks sought)
+rounds_ask (Asked (ChecksEach sought entries includes)) = omega (arith, entries_ask sought entries includes)
+rounds_ask (Asked (Library library function others adds)) = omega arith
+rounds_ask (Asked (Libraries function libraries others)) = omega arith
 
 -- A choice has no more rounds than its statement, and the entries of its list, weigh.
 pub rounds_bound : (subject : what.Subject) → length (rounds_of subject) ≤ 1 + entries_asked subject
@@ -173,6 +160,8 @@ rounds_bound (Asked (Tries kind program)) = omega arith
 rounds_bound (Asked (Checks sought entry includes)) = omega arith
 rounds_bound (Asked (ChecksEach sought entries includes)) =
     omega (arith, length-map entries (λ (entry : List ℕ). Asked (ChecksEach sought (entry ∷ []) includes)))
+rounds_bound (Asked (Library library function others adds)) = omega arith
+rounds_bound (Asked (Libraries function libraries others)) = omega arith
 
 mutual
   -- Code asks for 65,536 jobs at most for each unit of weight.
@@ -181,7 +170,7 @@ mutual
   code_asks (Then s script) = omega (arith, statement_asks s, asks_both (code_after s) (code_of script), code_asks script)
   code_asks (Choice subject cases script) =
       let rounds = rounds_of subject in let c = code_of_cases cases in
-      omega (arith, asks_both (code_each rounds c) (code_of script), each_ask rounds c (weight_of_cases cases) (cases_ask cases), rounds_bound subject, code_asks script)
+      omega (arith, asks_both (code_each rounds c) (code_of script), each_ask rounds c (weight_of_cases cases) (cases_ask cases), rounds_ask subject, code_asks script)
   code_asks (Check message name commands script) =
       let b = code_of commands in
       omega (arith, asks_both (check_code message name b) (code_of script), asks_both b (Closes name ∷ []), code_asks commands, code_asks script)
@@ -191,3 +180,100 @@ mutual
   cases_ask (Case when body cases) =
       let b = code_of body in let m = code_of_cases cases in
       omega (arith, asks_both (case_code when b (length m)) m, asks_both b (Skips (length m) ∷ []), code_asks body, cases_ask cases)
+
+few_both : (a b : List Instruction) → AskFew a → AskFew b → AskFew (a ++ b)
+few_both [] b few more = more
+few_both (i ∷ a) b few more = (few.0, few_both a b few.1 more)
+
+programs_few : (variable : List ℕ) (programs : List (List ℕ)) (always : Bool) → AskFew (code_of_programs variable programs always)
+programs_few variable [] always = tt
+programs_few variable (p ∷ programs) always = (omega arith, programs_few variable programs false)
+
+after_few : (s : plain.Plain) → AskFew (code_after s)
+after_few (CheckProgs variable programs otherwise) =
+    few_both (code_of_programs variable programs true) (Defaults variable otherwise ∷ []) (programs_few variable programs true) (omega arith, tt)
+after_few (ProgCc programs) = programs_few (codes "CC") programs true
+after_few (Init a b d e f) = tt
+after_few Accepted = tt
+after_few (ConfigFiles outputs) = tt
+after_few (ConfigHeaders outputs) = tt
+after_few (Assign name value) = tt
+after_few (Subst name) = tt
+after_few (SubstValue name value) = tt
+after_few (Define name value) = tt
+after_few (DefineUnquoted name value) = tt
+after_few (Error message status) = tt
+after_few (Message kind message) = tt
+after_few (ArgVar name help) = tt
+after_few (CheckProg variable program found otherwise) = tt
+after_few (PathProg variable program otherwise) = tt
+after_few (Batch listed entries includes) = tt
+after_few Output = tt
+
+-- A statement asks for no more jobs than there are directories, or than it weighs.
+does_few : (s : plain.Plain) → 1 + entries_of s ≤ heaviest → asks_by s ≤ 65536
+does_few (CheckProgs variable programs otherwise) fits = omega arith
+does_few (ProgCc programs) fits = omega arith
+does_few (Init a b d e f) fits = omega arith
+does_few Accepted fits = omega arith
+does_few (ConfigFiles outputs) fits = omega arith
+does_few (ConfigHeaders outputs) fits = omega arith
+does_few (Assign name value) fits = omega arith
+does_few (Subst name) fits = omega arith
+does_few (SubstValue name value) fits = omega arith
+does_few (Define name value) fits = omega arith
+does_few (DefineUnquoted name value) fits = omega arith
+does_few (Error message status) fits = omega arith
+does_few (Message kind message) fits = omega arith
+does_few (ArgVar name help) fits = omega arith
+does_few (CheckProg variable program found otherwise) fits = omega arith
+does_few (PathProg variable program otherwise) fits = omega arith
+does_few (Batch listed entries includes) fits = omega arith
+does_few Output fits = omega arith
+
+entries_few : (sought : Sought) (entries : List (List ℕ)) (includes : Option (List Part)) → AskFew (map Begins (rounds_of (Asked (ChecksEach sought entries includes))))
+entries_few sought [] includes = tt
+entries_few sought (entry ∷ entries) includes = (omega (arith, find_asks sought), entries_few sought entries includes)
+
+-- The beginnings of the rounds of a choice that is not too heavy.
+rounds_few : (subject : what.Subject) → 1 + entries_asked subject ≤ heaviest → AskFew (map Begins (rounds_of subject))
+rounds_few Nothing fits = (omega arith, tt)
+rounds_few (Word word) fits = (omega arith, tt)
+rounds_few (Asked (Given kind variable help)) fits = (omega arith, tt)
+rounds_few (Asked (Tries kind program)) fits = (omega (arith, about_asks (Asked (Tries kind program))), tt)
+rounds_few (Asked (Checks sought entry includes)) fits = (omega (arith, find_asks sought), tt)
+rounds_few (Asked (ChecksEach sought entries includes)) fits = entries_few sought entries includes
+rounds_few (Asked (Library library function others adds)) fits = (omega arith, tt)
+rounds_few (Asked (Libraries function libraries others)) fits = (omega arith, tt)
+
+-- Rounds, with the cases of each; without a round the cases may be heavy.
+each_few : (rounds : List what.Subject) (cases : List Instruction) (w : ℕ) → AskFew (map Begins rounds) → (w ≤ heaviest → AskFew cases)
+    → times (length rounds) w ≤ heaviest → AskFew (code_each rounds cases)
+each_few [] cases w begins each fits = tt
+each_few (round ∷ rounds) cases w begins each fits =
+    (begins.0, few_both cases (code_each rounds cases) (each (omega arith)) (each_few rounds cases w begins.1 each (omega arith)))
+
+mutual
+  -- Each step of code that is not too heavy asks for at most 65,536 jobs.
+  pub code_few : (script : Script) → weight script ≤ heaviest → AskFew (code_of script)
+  code_few Done fits = tt
+  code_few (Then s script) fits =
+      (does_few s (omega arith), few_both (code_after s) (code_of script) (after_few s) (code_few script (omega arith)))
+  code_few (Choice subject cases script) fits =
+      let rounds = rounds_of subject in let c = code_of_cases cases in
+      few_both (code_each rounds c) (code_of script)
+      (each_few rounds c (weight_of_cases cases) (rounds_few subject (omega arith)) (cases_few cases) (omega arith))
+      (code_few script (omega arith))
+  code_few (Check message name commands script) fits =
+      let b = code_of commands in
+      few_both (check_code message name b) (code_of script)
+      (omega arith, few_both b (Closes name ∷ []) (code_few commands (omega arith)) (omega arith, tt))
+      (code_few script (omega arith))
+
+  cases_few : (cases : Cases) → weight_of_cases cases ≤ heaviest → AskFew (code_of_cases cases)
+  cases_few No_case fits = tt
+  cases_few (Case when body cases) fits =
+      let b = code_of body in let m = code_of_cases cases in
+      few_both (case_code when b (length m)) m
+      (omega arith, few_both b (Skips (length m) ∷ []) (code_few body (omega arith)) (omega arith, tt))
+      (cases_few cases (omega arith))

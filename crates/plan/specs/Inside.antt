@@ -4,7 +4,7 @@ use Rattle.syntax.specs.declared.listed.Sought as sought
 use Rattle.syntax.specs.declared.listed.Sought.TheVariants.{Entry, «Type»}
 use Rattle.syntax.specs.declared.statement.Plain as plain
 use Rattle.syntax.specs.declared.statement.Plain.TheVariants.{CheckProg, PathProg, Batch}
-use Rattle.syntax.specs.declared.statement.Question.TheVariants.{Given, Tries, Checks, ChecksEach}
+use Rattle.syntax.specs.declared.statement.Question.TheVariants.{Given, Tries, Checks, ChecksEach, Library, Libraries}
 use Rattle.syntax.specs.declared.program.Try as kinds
 use Rattle.syntax.specs.declared.program.Try.TheVariants.{Compile, Link, Preproc, Run}
 use Rattle.syntax.specs.declared.tree.Subject as subject
@@ -50,7 +50,8 @@ abbrev pub asks_to_find : sought.Sought → ℕ
 asks_to_find (Entry listed) = 1
 asks_to_find «Type» = 2
 
--- How many jobs the beginning of a choice may ask for; of a list, the first entry alone is tested. (own)
+-- How many jobs the beginning of a choice may ask for; of a list, the first entry alone is tested. A search for libraries
+-- links with no further one, and then with each. (own)
 abbrev pub asks_about : subject.Subject → ℕ
 asks_about Nothing = 0
 asks_about (Word word) = 0
@@ -58,6 +59,8 @@ asks_about (Asked (Given kind variable help)) = 0
 asks_about (Asked (Tries kind program)) = asks_to_try kind
 asks_about (Asked (Checks sought entry includes)) = asks_to_find sought
 asks_about (Asked (ChecksEach sought entries includes)) = asks_to_find sought
+asks_about (Asked (Library library function others adds)) = 1
+asks_about (Asked (Libraries function libraries others)) = 1 + length libraries
 
 -- How many jobs a step may ask for. (own)
 abbrev pub asks_of : Instruction → ℕ

@@ -2,7 +2,7 @@
 use Rattle.std.specs.Prelude.{ℕ, zero, suc, ◌+◌, length}
 use Rattle.syntax.specs.declared.statement.Plain as plain
 use Rattle.syntax.specs.declared.statement.Plain.TheVariants.{CheckProgs, ProgCc, Batch}
-use Rattle.syntax.specs.declared.statement.Question.TheVariants.{Given, Tries, Checks, ChecksEach}
+use Rattle.syntax.specs.declared.statement.Question.TheVariants.{Given, Tries, Checks, ChecksEach, Library, Libraries}
 use Rattle.syntax.specs.declared.tree.Subject as subject
 use Rattle.syntax.specs.declared.tree.Subject.TheVariants.{Nothing, Word, Asked}
 use Rattle.syntax.specs.Script.{Script, Done, Then, Choice, Check, Cases, No_case, Case}
@@ -15,7 +15,7 @@ entries_of (ProgCc programs) = length programs
 entries_of (Batch listed entries includes) = length entries
 entries_of statement = 0
 
--- The number of entries of a choice's list. (own)
+-- The number of entries of a choice's list: what is tested in turn, or libraries. (own)
 abbrev pub entries_asked : subject.Subject → ℕ
 entries_asked Nothing = 0
 entries_asked (Word word) = 0
@@ -23,6 +23,8 @@ entries_asked (Asked (Given kind variable help)) = 0
 entries_asked (Asked (Tries kind program)) = 0
 entries_asked (Asked (Checks sought entry includes)) = 0
 entries_asked (Asked (ChecksEach sought entries includes)) = length entries
+entries_asked (Asked (Library library function others adds)) = 0
+entries_asked (Asked (Libraries function libraries others)) = length libraries
 
 -- A weight so many times. (own)
 abbrev pub times : ℕ → ℕ → ℕ

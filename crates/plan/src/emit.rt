@@ -122,6 +122,8 @@ fn emit_asked<'a>(
         Question::Checks { .. } => emit_round(code, Step::Subject(subject), cases),
         Question::Tries { .. } => emit_round(code, Step::Subject(subject), cases),
         Question::Given { .. } => emit_round(code, Step::Subject(subject), cases),
+        Question::Library { .. } => emit_round(code, Step::Subject(subject), cases),
+        Question::Libraries { .. } => emit_round(code, Step::Subject(subject), cases),
     }
 }
 

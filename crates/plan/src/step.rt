@@ -72,7 +72,7 @@ impl<'a> Model for Plan<'a> {
     ghost use Rattle.syntax.specs.contracts.tree.Subject as subject;
     ghost use Rattle.syntax.specs.contracts.tree.When as when;
     ghost use Rattle.plan.specs.Walk.{Instruction, shown};
-    ghost use Rattle.plan.specs.Inside.{StaysInside, AreShort, asks_after};
+    ghost use Rattle.plan.specs.Inside.{StaysInside, AreShort, AskFew, asks_after};
     ghost use Rattle.plan.specs.Names.{DefinesNames};
 
     ghost Value = { List Instruction };
@@ -81,7 +81,7 @@ impl<'a> Model for Plan<'a> {
 
     ghost view = { λ p. map shown p.steps.items };
 
-    ghost invariant = { λ p. StaysInside (map shown p.steps.items) × DefinesNames (map shown p.steps.items) × AreShort (map shown p.steps.items) × (asks_after (map shown p.steps.items) 0 ≤ 2 ^ 36) };
+    ghost invariant = { λ p. StaysInside (map shown p.steps.items) × DefinesNames (map shown p.steps.items) × AreShort (map shown p.steps.items) × AskFew (map shown p.steps.items) × (asks_after (map shown p.steps.items) 0 ≤ 2 ^ 36) };
 }
 
 impl<'a> Plan<'a> {
@@ -94,6 +94,7 @@ impl<'a> Plan<'a> {
     pub(crate) fn new(code: Code<'a>) -> Plan<'a>
         requires inside { StaysInside code }
         requires few { length code ≤ 2 ^ 20 }
+        requires each { AskFew code }
         ensures { result ≡ code.entry }
     {
         Plan {

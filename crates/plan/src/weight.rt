@@ -42,6 +42,7 @@ fn entries_asked(subject: &Subject) -> usize
 {
     match subject {
         Subject::Asked(Question::ChecksEach { entries, .. }) => entries.as_slice().len(),
+        Subject::Asked(Question::Libraries { libraries, .. }) => libraries.as_slice().len(),
         _ => 0,
     }
 }

@@ -1,19 +1,22 @@
 use Rattle.std.proofs.Common.{◌≡◌, ◌≤◌, ◌*◌, ap, ◌∙◌, sym, subst, arith, length}
 use Rattle.syntax.specs.Script.{script_of}
-use Rattle.plan.specs.Inside.{StaysInside, asks_after}
+use Rattle.plan.specs.Inside.{StaysInside, AskFew, asks_after}
 use Rattle.plan.specs.Code.{code_of}
 use Rattle.plan.specs.Weight.{weight}
 use Rattle.plan.specs.Walk.{walk, empty_mind}
 use Rattle.plan.proofs.Follows.{does_what}
-use Rattle.plan.proofs.Insides.{code_stays, code_asks}
+use Rattle.plan.proofs.Insides.{code_stays, code_asks, code_few}
 use Rattle.plan.proofs.Weights.{code_bound, within}
 use Rattle.plan.proofs.compiling.compile_statements.Goals as goal
 
 pub new-requires : goal.new-requires
-new-requires c = record {
-  inside = subst StaysInside (sym c.in_ok-code.ensures) (code_stays (script_of c.args.statements.now));
-  few = omega (arith, ap length c.in_ok-code.ensures, code_bound (script_of c.args.statements.now), within _ _ _ (sym c.if-is_none.ensures) c.weigh.ensures.some);
-}
+new-requires c =
+    let fits = within _ _ _ (sym c.if-is_none.ensures) c.weigh.ensures.some in
+    record {
+      inside = subst StaysInside (sym c.in_ok-code.ensures) (code_stays (script_of c.args.statements.now));
+      few = omega (arith, ap length c.in_ok-code.ensures, code_bound (script_of c.args.statements.now), fits);
+      each = subst AskFew (sym c.in_ok-code.ensures) (code_few (script_of c.args.statements.now) fits);
+    }
 
 pub returns-clause-meaning : goal.returns-clause-meaning
 returns-clause-meaning c = λ st.
