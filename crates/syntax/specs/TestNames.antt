@@ -1,10 +1,14 @@
 -- The names of tests, under which their values are cached (Autoconf's manual, "Cache Variable Names").
 use Rattle.std.specs.Prelude.{ℕ, List, ◌++◌, map, codes}
+use Rattle.deftable.specs.ShellName.{IsShellName}
 use Rattle.m4quote.specs.Names.{sh_byte}
 use Rattle.syntax.specs.declared.listed.Listed.{Listed}
 use Rattle.syntax.specs.declared.listed.Listed.TheVariants.{Header, Function, Declaration}
 use Rattle.syntax.specs.declared.listed.Sought.{Sought}
 use Rattle.syntax.specs.declared.listed.Sought.TheVariants.{Entry, «Type»}
+use Rattle.syntax.specs.declared.statement.Plain as plain
+use Rattle.syntax.specs.declared.statement.Plain.TheVariants.{CheckProg, CheckProgs, PathProg}
+use Rattle.syntax.specs.Script.{Script, Done, Then, Choice, Check, Cases, No_case, Case}
 
 -- The text as the end of a shell variable's name. (Autoconf's manual, AS_TR_SH in "Common Shell Constructs")
 abbrev pub shell_part : List ℕ → List ℕ
@@ -40,3 +44,23 @@ program_name variable = codes "ac_cv_prog_" ++ variable
 -- The cached name of a program whose full name a variable has. (Autoconf's manual, "Generic Programs")
 abbrev pub path_name : List ℕ → List ℕ
 path_name variable = codes "ac_cv_path_" ++ variable
+
+-- The variable of a program is a shell name. (POSIX, "Name")
+abbrev pub NamesVariable : plain.Plain → Type 0
+NamesVariable (CheckProg variable program found otherwise) = IsShellName variable
+NamesVariable (CheckProgs variable programs otherwise) = IsShellName variable
+NamesVariable (PathProg variable program otherwise) = IsShellName variable
+NamesVariable statement = Unit {0}
+
+abbrev mutual
+  -- The variable of each program that statements look for is a shell name, so each test has a cache name. (POSIX, "Name")
+  pub HasTestNames : Script → Type 0
+  HasTestNames Done = Unit {0}
+  HasTestNames (Then s rest) = NamesVariable s × HasTestNames rest
+  HasTestNames (Choice subject cases rest) = HasTestNamesIn cases × HasTestNames rest
+  HasTestNames (Check message name commands rest) = HasTestNames commands × HasTestNames rest
+
+  -- The same in all cases.
+  pub HasTestNamesIn : Cases → Type 0
+  HasTestNamesIn No_case = Unit {0}
+  HasTestNamesIn (Case when body more) = HasTestNames body × HasTestNamesIn more

@@ -1,0 +1,9 @@
+mod Near
+mod Names
+mod Runs
+mod Liking
+mod CommandLiking
+mod Forms
+mod Parts
+mod Single
+mod Programs

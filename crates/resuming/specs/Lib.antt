@@ -1,0 +1,6 @@
+pub mod Finished
+pub mod Poured
+pub mod Alone
+pub mod Joint
+pub mod Same
+pub mod Law

@@ -1,0 +1,2 @@
+//! Laws of runs that are cut and started again.
+#![tactic(auto)]
