@@ -1,26 +1,25 @@
 -- What a batch defines: for each entry that is set at its end, what its value says.
-use Rattle.std.proofs.Common.{◌≡◌, ℕ, suc, List, [], ◌∷◌, ◌++◌, codes, Bool, true, false, cond, Option, Some, None, ◌⊎◌, inl, inr, refl, sym, ap, ◌∙◌, subst, ⊎_elim}
+use Rattle.std.proofs.Common.{◌≡◌, ℕ, suc, List, [], ◌∷◌, ◌++◌, codes, Bool, true, false, cond, Option, Some, None, ◌⊎◌, refl, sym, ap, ◌∙◌, subst, ⊎_elim}
 use Rattle.std.specs.Prelude.{◌||◌, bytes_eq, is_some}
 use Rattle.std.specs.List.{list_any}
-use Rattle.std.proofs.lemmas.Bool.{cases_Bool}
 use Rattle.jobs.specs.declared.job.Job.{Job}
 use Rattle.crew_trait.specs.declared.reply.Reply.{Reply}
 use Rattle.deftable.specs.Table.{value_of, with_entry, without_entry}
 use Rattle.syntax.specs.declared.listed.Listed.{Listed}
 use Rattle.syntax.specs.declared.listed.Listed.TheVariants.{Header, Function, Declaration}
 use Rattle.syntax.specs.TestNames.{entry_name}
-use Rattle.meaning.specs.State.{State, with_child, with_variable, How, Goes_on, Completed, Stopped, Cut, Run, Ends, Asks, then_run, as_is}
+use Rattle.meaning.specs.State.{State, with_child, with_variable, How, Goes_on, Completed, Stopped, Cut, Run, Ends, Asks, as_is}
 use Rattle.meaning.specs.Asking.{success, only_reply, heard}
-use Rattle.meaning.specs.Tests.{broken, checking, with_result, cached_test, tested_by, may_begin, tested}
-use Rattle.meaning.specs.Rows.{Single, symbol_part, is_yes, defined_if, with_entry_defined, after_of, row_of}
-use Rattle.meaning.specs.Batches.{Batch, is_known, job_for, asking, jobs_in, asks_all, yes_or_no, replied, replies_after, commits, committed, batched}
+use Rattle.meaning.specs.Tests.{broken, checking, cached_test, tested_by, may_begin, tested}
+use Rattle.meaning.specs.Rows.{symbol_part, is_yes, defined_if, with_entry_defined}
+use Rattle.meaning.specs.Batches.{Batch, is_known, job_for, asking, jobs_in, yes_or_no, replied, replies_after, commits, committed, batched}
 use Rattle.laws.specs.Ends.{AtEnds, Breaks}
 use Rattle.laws.specs.Cached.{with_cached}
-use Rattle.laws.proofs.Values.{same_text, same_self, not_same, cond_true, cond_false, cases_value, value_here, value_there, value_without, without_unset}
+use Rattle.laws.proofs.Values.{same_self, cond_true, cases_value, value_here, without_unset}
 use Rattle.laws.proofs.Endings.{ends_then, ends_asks_all, ends_map}
-use Rattle.laws.proofs.CachedTests.{set_row, broken_ends, broken_vars}
+use Rattle.laws.proofs.CachedTests.{set_row, broken_ends}
 use Rattle.laws.proofs.BatchEntries.{row_at}
-use Rattle.resuming.specs.Finished.{Enough, finish}
+use Rattle.resuming.specs.Finished.{finish}
 use Rattle.resuming.proofs.Names.{same_or_not, value_else}
 use Rattle.resuming.proofs.Runs.{at_end}
 

@@ -5,13 +5,13 @@ use Rattle.std.proofs.lemmas.Bool.{cases_Bool}
 use Rattle.std.proofs.lemmas.List.{length-take-le}
 use Rattle.std.proofs.Math.Seq.{take-append_seam, drop-append_seam}
 use Rattle.std.proofs.Math.ListN.{length-append}
-use Rattle.cachefile.specs.Text.{is_one_line, saved_value}
+use Rattle.cachefile.specs.Text.{saved_value}
 use Rattle.crew_trait.specs.declared.reply.Reply.{Reply}
 use Rattle.deftable.specs.CacheName.{is_cache_name}
 use Rattle.deftable.specs.Table.{value_of}
 use Rattle.jobs.specs.Probe.{words_of}
 use Rattle.textcut.specs.Cuts.{fields}
-use Rattle.syntax.specs.Resumable.{Among, IsOrdinary}
+use Rattle.syntax.specs.Resumable.{Among}
 use Rattle.syntax.specs.TestNames.{entry_name}
 use Rattle.meaning.specs.State.{State, How, Goes_on, Completed, Stopped, Cut, Run}
 use Rattle.meaning.specs.Asking.{success}

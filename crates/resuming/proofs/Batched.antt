@@ -1,11 +1,11 @@
 -- Batches: in states that are alike, under replies, and with all names set.
-use Rattle.std.proofs.Common.{◌≡◌, ℕ, suc, ◌≤◌, List, [], ◌∷◌, codes, Bool, true, false, cond, length, take, drop, map, Option, Some, None, ◌⊎◌, inl, inr, refl, sym, ap, ◌∙◌, subst, ⊎_elim, arith}
-use Rattle.std.specs.Prelude.{◌||◌, ◌==◌, bytes_eq, option_map, is_some}
+use Rattle.std.proofs.Common.{◌≡◌, ℕ, suc, ◌≤◌, List, [], ◌∷◌, Bool, true, false, cond, length, take, drop, map, Option, Some, None, ◌⊎◌, inl, inr, refl, sym, ap, ◌∙◌, subst, ⊎_elim, arith}
+use Rattle.std.specs.Prelude.{◌||◌, bytes_eq, option_map, is_some}
 use Rattle.std.specs.List.{list_any}
 use Rattle.std.proofs.lemmas.Bool.{cases_Bool}
 use Rattle.std.proofs.lemmas.List.{append-nil, length-take-le}
 use Rattle.jobs.specs.declared.job.Job.{Job}
-use Rattle.jobs.specs.Probe.{words_of, job_of}
+use Rattle.jobs.specs.Probe.{job_of}
 use Rattle.crew_trait.specs.declared.reply.Reply.{Reply}
 use Rattle.crew_trait.specs.declared.reply.Reply.TheVariants.{StartRefused}
 use Rattle.deftable.specs.Table.{value_of}
@@ -22,8 +22,8 @@ use Rattle.meaning.specs.Batches.{Batch, is_known, job_for, asking, jobs_in, ask
 use Rattle.meaning.specs.Play.{first_refused, refused_here}
 use Rattle.laws.specs.Ends.{AtEnds}
 use Rattle.laws.specs.Cached.{StandsOnce, KeepsOnce}
-use Rattle.laws.specs.Batched.{lacks_compiler, answer_to, value_by, cut_by, IsEntry, all_set}
-use Rattle.laws.proofs.Values.{same_text, same_self, cond_true, cond_false, cases_value, once_with}
+use Rattle.laws.specs.Batched.{lacks_compiler, answer_to, value_by, cut_by, IsEntry}
+use Rattle.laws.proofs.Values.{same_text, same_self, cond_true, cond_false, once_with}
 use Rattle.laws.proofs.BatchEntries.{row_at, how_if, flag_of, refused_in, one_set, or_false}
 use Rattle.laws.proofs.BatchLemmas.{batch_commits, batch_asks_unset}
 use Rattle.resuming.specs.Finished.{Finished, finish, with_taken, Enough}

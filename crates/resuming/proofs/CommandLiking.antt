@@ -1,7 +1,6 @@
 -- Commands of AC_CACHE_CHECK, and their test, have runs that are alike in states that are alike.
-use Rattle.std.proofs.Common.{◌≡◌, ℕ, List, [], ◌∷◌, ◌++◌, Option, Some, None, inl, inr, refl, sym, ap, ◌∙◌, subst}
+use Rattle.std.proofs.Common.{◌≡◌, ℕ, List, [], ◌++◌, Option, refl, subst}
 use Rattle.std.specs.Prelude.{unwrap_or}
-use Rattle.deftable.specs.Table.{value_of}
 use Rattle.shellword.specs.declared.part.Part.{Part}
 use Rattle.shellword.specs.Value.{word_value}
 use Rattle.syntax.specs.declared.statement.Plain as plain
@@ -10,9 +9,9 @@ use Rattle.syntax.specs.declared.statement.Question.TheVariants.{Given, Tries, C
 use Rattle.syntax.specs.declared.tree.Subject.{Subject}
 use Rattle.syntax.specs.declared.tree.Subject.TheVariants.{Nothing, Word, Asked}
 use Rattle.syntax.specs.Commands.{AssignsAlone, TriesAlone, AreCommands, AreCommandsIn}
-use Rattle.syntax.specs.Resumable.{tests_of, tests_at, first_alone, ReadsText, ResumablePlain, ResumableSubject, Resumable, ResumableIn}
+use Rattle.syntax.specs.Resumable.{tests_of, tests_at, first_alone, ResumablePlain, ResumableSubject, Resumable, ResumableIn}
 use Rattle.syntax.specs.Script.{Script, Done, Then, Choice, Check, Cases, No_case, Case}
-use Rattle.meaning.specs.State.{State, Scope, no_choice, about, answered, Goes_on, Run, Ends, as_is}
+use Rattle.meaning.specs.State.{State, Scope, no_choice, about, answered, Run, as_is}
 use Rattle.meaning.specs.Tries.{text_of, tried}
 use Rattle.meaning.specs.Meaning.{effect, begun, rounds_of, is_taken, in_turn, meaning, chosen}
 use Rattle.laws.proofs.Kept.{names_stand_once}

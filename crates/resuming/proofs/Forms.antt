@@ -1,31 +1,28 @@
 -- The ends of a test of one name: its own name was written and what follows was done, or all is as before.
-use Rattle.std.proofs.Common.{◌≡◌, ℕ, List, [], ◌∷◌, ◌++◌, codes, Bool, true, false, cond, Option, Some, None, ◌⊎◌, inl, inr, refl, sym, ap, ◌∙◌, subst, ⊎_elim}
-use Rattle.std.specs.Prelude.{unwrap_or, not, ◌&&◌, bytes_eq, is_some}
-use Rattle.std.proofs.lemmas.Bool.{cases_Bool}
+use Rattle.std.proofs.Common.{◌≡◌, ℕ, List, [], ◌∷◌, ◌++◌, codes, Bool, true, false, cond, Option, Some, None, inl, inr, refl, sym, ap, ◌∙◌, subst, ⊎_elim}
+use Rattle.std.specs.Prelude.{unwrap_or, not, ◌&&◌, bytes_eq}
 use Rattle.jobs.specs.declared.job.Job.{Job}
-use Rattle.deftable.specs.Table.{value_of, with_entry}
+use Rattle.deftable.specs.Table.{value_of}
 use Rattle.shellword.specs.declared.part.Part.{Part}
-use Rattle.shellword.specs.Value.{word_value}
 use Rattle.syntax.specs.declared.listed.Listed.{Listed}
 use Rattle.syntax.specs.declared.listed.Listed.TheVariants.{Header, Function, Declaration}
 use Rattle.syntax.specs.Commands.{AreCommands}
 use Rattle.syntax.specs.Resumable.{Among, IsOrdinary, MayRead, Resumable}
 use Rattle.syntax.specs.Script.{Script}
-use Rattle.meaning.specs.State.{State, with_variable, with_definition, How, Goes_on, Completed, Stopped, Cut, Run, Ends, as_is}
+use Rattle.meaning.specs.State.{State, with_definition, How, Goes_on, Completed, Stopped, Cut, Run, Ends, as_is}
 use Rattle.meaning.specs.Asking.{success, only_reply, compiled, same, Attempt}
-use Rattle.meaning.specs.Tests.{Test, broken, checking, with_result, cached_test, Row, tested_by, may_begin, tested, with_value, by_attempts}
-use Rattle.meaning.specs.Rows.{Search, Kind, Program, Single, Sized, Library, Libraries, is_yes, is_linked, symbol_part, with_library, with_library_if, with_linked, defined_if, with_entry_defined, value_or_empty, name_of, attempts_of, attempts_with, attempt_with, libraries_after, otherwise_of, after_of, row_of}
+use Rattle.meaning.specs.Tests.{Test, broken, checking, cached_test, Row, tested_by, may_begin, tested, with_value, by_attempts}
+use Rattle.meaning.specs.Rows.{Kind, Program, Single, Sized, Library, Libraries, is_yes, is_linked, symbol_part, with_library, with_library_if, with_linked, defined_if, with_entry_defined, name_of, attempts_of, attempts_with, libraries_after, otherwise_of, after_of, row_of}
 use Rattle.meaning.specs.Meaning.{check, meaning}
 use Rattle.laws.specs.Ends.{AtEnds, Breaks}
 use Rattle.laws.specs.Cached.{IsSet, with_cached}
-use Rattle.laws.specs.Commands.{WritesOwn}
 use Rattle.laws.proofs.Values.{cases_value, value_here}
 use Rattle.laws.proofs.Endings.{ends_then, ends_map, ends_either, ends_heard}
 use Rattle.laws.proofs.CachedTests.{set_cached, set_row_asks_nothing, broken_ends, broken_vars}
 use Rattle.laws.proofs.CommandLemmas.{OwnOnly, own_unset, row_alone, commands_write_alone}
 use Rattle.resuming.specs.Joint.{checks}
 use Rattle.resuming.proofs.Near.{IsCached, Alike, Every, Like}
-use Rattle.resuming.proofs.Names.{same_or_not, value_else, cached_apart, libs_plain}
+use Rattle.resuming.proofs.Names.{value_else, cached_apart, libs_plain}
 use Rattle.resuming.proofs.Liking.{Reads, ReadsKind, row_like, after_alike}
 use Rattle.resuming.proofs.CommandLiking.{check_like}
 

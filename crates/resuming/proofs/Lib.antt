@@ -10,3 +10,6 @@ mod Programs
 mod BatchDefinitions
 mod Batched
 mod BatchPart
+mod Statements
+mod Rounds
+mod Whole

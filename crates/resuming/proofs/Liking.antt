@@ -1,7 +1,6 @@
 -- States that are alike have runs that are alike: attempts, tests, and the commands of AC_CACHE_CHECK.
-use Rattle.std.proofs.Common.{◌≡◌, ℕ, List, [], ◌∷◌, ◌++◌, codes, Bool, true, false, cond, length, take, drop, Option, Some, None, ◌⊎◌, inl, inr, refl, sym, ap, ◌∙◌, subst, ⊎_elim}
+use Rattle.std.proofs.Common.{◌≡◌, ℕ, List, [], ◌∷◌, ◌++◌, codes, Bool, true, false, cond, length, take, drop, Option, Some, None, inl, refl, sym, ap, ◌∙◌, subst, ⊎_elim}
 use Rattle.std.specs.Prelude.{is_some, unwrap_or, not, ◌&&◌, bytes_eq, ◌==◌}
-use Rattle.cachefile.specs.Text.{saved_value}
 use Rattle.jobs.specs.declared.job.Job.{Job}
 use Rattle.jobs.specs.Probe as probe
 use Rattle.jobs.specs.Probe.{words_of, compile_words, link_words, preprocessor, preprocess_words, job_if, run_of, job_of}
@@ -13,7 +12,7 @@ use Rattle.shellword.specs.declared.element.Element.{Element}
 use Rattle.shellword.specs.declared.part.Part.{Part}
 use Rattle.shellword.specs.declared.part.Part.TheVariants as parts
 use Rattle.shellword.specs.Truth.{Joined, single, joined, condition_truth, element_truth, joint_truth, truth}
-use Rattle.shellword.specs.Value.{or_empty, part_value, word_value}
+use Rattle.shellword.specs.Value.{or_empty, word_value}
 use Rattle.syntax.specs.declared.listed.Listed.{Listed}
 use Rattle.syntax.specs.declared.listed.Listed.TheVariants.{Header, Function, Declaration}
 use Rattle.syntax.specs.declared.program.Program as programs
@@ -22,15 +21,15 @@ use Rattle.syntax.specs.declared.program.Try as kinds
 use Rattle.syntax.specs.declared.program.Try.TheVariants as kinds_are
 use Rattle.syntax.specs.declared.tree.When.{When}
 use Rattle.syntax.specs.declared.tree.When.TheVariants.{Holds, Matches, Yes, No, Always}
-use Rattle.syntax.specs.Resumable.{Among, IsOrdinary, MayRead, ReadsText, ReadsIfGiven, ReadsCondition, ReadsTest, ReadsProgram, ReadsWhen}
+use Rattle.syntax.specs.Resumable.{IsOrdinary, MayRead, ReadsText, ReadsIfGiven, ReadsCondition, ReadsTest, ReadsProgram, ReadsWhen}
 use Rattle.meaning.specs.State.{State, with_child, with_variable, with_definition, without_variable, Scope, How, Goes_on, Completed, Stopped, Cut, Run, Ends, Asks, then_run, as_is}
 use Rattle.meaning.specs.Asking.{success, only_reply, heard, child, compiled, same, Attempt, attempted}
 use Rattle.meaning.specs.Tests.{Test, broken, guarded, checking, with_result, cached_test, Row, tested_by, may_begin, tested, with_value, by_attempts}
-use Rattle.meaning.specs.Rows.{Search, Kind, Program, Single, Sized, Library, Libraries, symbol_part, includes_text, entry_probe, entry_job, type_job, others_text, libraries_after, vars_with, library_job, function_job, attempt_with, attempts_with, program_attempts, is_yes, is_linked, with_library, with_library_if, with_linked, defined_if, with_entry_defined, value_or_empty, name_of, message_of, attempts_of, otherwise_of, shown_of, is_ready, after_of, row_of}
+use Rattle.meaning.specs.Rows.{Kind, Program, Single, Sized, Library, Libraries, symbol_part, includes_text, entry_probe, entry_job, type_job, others_text, libraries_after, vars_with, library_job, function_job, attempt_with, attempts_with, program_attempts, is_yes, is_linked, with_library, with_library_if, with_linked, defined_if, with_entry_defined, value_or_empty, name_of, message_of, attempts_of, otherwise_of, shown_of, is_ready, after_of, row_of}
 use Rattle.meaning.specs.Directories.{directories_of}
 use Rattle.meaning.specs.Tries.{text_of, first_probe, after_first, tried}
 use Rattle.meaning.specs.Meaning.{is_taken}
-use Rattle.csource.specs.Sources.{default_includes, type_source, second_type_source, function_source, program_source}
+use Rattle.csource.specs.Sources.{type_source, second_type_source, function_source, program_source}
 use Rattle.laws.specs.Ends.{AtEnds}
 use Rattle.laws.specs.Cached.{StandsOnce, KeepsOnce}
 use Rattle.laws.proofs.Values.{cases_value, value_without, not_same, once_unset, once_with}

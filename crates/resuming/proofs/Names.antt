@@ -1,12 +1,12 @@
 -- Names, and the values of names.
-use Rattle.std.proofs.Common.{◌≡◌, ℕ, Bool, List, [], ◌∷◌, ◌++◌, map, codes, true, false, cond, Option, Some, None, ◌⊎◌, inl, inr, refl, sym, ap, ◌∙◌, ⊎_elim}
-use Rattle.std.specs.Prelude.{bytes_eq, ◌&&◌, ◌||◌, ◌==◌, IsTrue}
+use Rattle.std.proofs.Common.{◌≡◌, ℕ, Bool, List, [], ◌∷◌, ◌++◌, codes, true, false, cond, Option, Some, None, ◌⊎◌, inl, inr, refl, sym, ap, ◌∙◌, ⊎_elim}
+use Rattle.std.specs.Prelude.{bytes_eq, ◌&&◌, ◌||◌, ◌==◌}
 use Rattle.std.specs.Int.{is_in_range}
 use Rattle.std.specs.List.{list_all}
 use Rattle.std.proofs.lemmas.Bool.{cases_Bool}
 use Rattle.cachefile.specs.Text.{is_one_line, saved_value}
 use Rattle.deftable.specs.CacheName.{is_cache_name, has_cv}
-use Rattle.deftable.specs.ShellName.{starts_name, continues_name, is_shell_name_of, IsShellName}
+use Rattle.deftable.specs.ShellName.{starts_name, continues_name, IsShellName}
 use Rattle.deftable.specs.Table.{value_of, with_entry}
 use Rattle.m4quote.specs.Names.{sh_byte}
 use Rattle.m4quote.specs.Text.{is_word_byte}
@@ -16,7 +16,6 @@ use Rattle.syntax.specs.declared.listed.Sought.{Sought}
 use Rattle.syntax.specs.declared.listed.Sought.TheVariants as seeks
 use Rattle.syntax.specs.Resumable.{Among, IsOrdinary}
 use Rattle.syntax.specs.TestNames.{shell_part, entry_name, type_name, sought_name, library_name, libraries_name, program_name, path_name}
-use Rattle.meaning.specs.Rows.{kind_for, name_of}
 use Rattle.laws.proofs.Values.{same_text, not_same, apart, value_here, value_there}
 use Rattle.resuming.proofs.Near.{IsCached}
 

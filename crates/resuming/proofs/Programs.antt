@@ -1,21 +1,21 @@
 -- Tests of programs: AC_CHECK_PROG and AC_PATH_PROG, and the looks of AC_CHECK_PROGS and AC_PROG_CC, which are one test.
-use Rattle.std.proofs.Common.{◌≡◌, ℕ, List, [], ◌∷◌, ◌++◌, codes, Bool, true, false, cond, length, Option, Some, None, ◌⊎◌, inl, inr, refl, sym, ap, ◌∙◌, subst, ⊎_elim}
+use Rattle.std.proofs.Common.{◌≡◌, ℕ, List, [], ◌∷◌, Bool, true, false, cond, length, Option, Some, None, inl, inr, refl, sym, ap, ◌∙◌, subst, ⊎_elim}
 use Rattle.std.specs.Prelude.{◌||◌, ◌==◌, not, option_map, unwrap_or}
 use Rattle.deftable.specs.Table.{value_of}
 use Rattle.shellword.specs.declared.part.Part.{Part}
 use Rattle.shellword.specs.Value.{word_value}
-use Rattle.syntax.specs.Resumable.{Among, IsOrdinary, MayRead, ReadsText, ReadsIfGiven}
+use Rattle.syntax.specs.Resumable.{IsOrdinary, MayRead, ReadsIfGiven}
 use Rattle.meaning.specs.State.{State, with_variable, How, Goes_on, Completed, Stopped, Cut, Run, Ends, then_run}
 use Rattle.meaning.specs.Tests.{tested, with_value}
 use Rattle.meaning.specs.Rows.{Kind, Program, value_or_empty, value_if, name_of, row_of}
-use Rattle.meaning.specs.Meaning.{has_value, check_prog, looks, looks_all, defaulted}
+use Rattle.meaning.specs.Meaning.{has_value, defaulted}
 use Rattle.laws.specs.Ends.{AtEnds, Breaks}
 use Rattle.laws.proofs.Values.{cases_value, value_here}
 use Rattle.laws.proofs.Endings.{ends_then, ends_map}
 use Rattle.resuming.proofs.Near.{IsCached, Alike, Every, Like}
 use Rattle.resuming.proofs.Names.{same_or_not, value_else, cached_apart}
-use Rattle.resuming.proofs.Liking.{Reads, like_then, like_cond, cond_alike, variable_alike, written_alike, row_like, text_same}
-use Rattle.resuming.proofs.Forms.{Own, alike_refl, alike_trans, alike_sym, Went, Still, Form, form_off, Follows, IsTest, cond_values, row_form, row_set}
+use Rattle.resuming.proofs.Liking.{Reads, like_then, like_cond, cond_alike, variable_alike, row_like, text_same}
+use Rattle.resuming.proofs.Forms.{alike_refl, alike_trans, Went, Still, Form, form_off, Follows, IsTest, cond_values, row_form, row_set}
 
 -- What is done with the value of a program's test.
 abbrev pub after_var : List ℕ → Option (List ℕ) → State → State

@@ -1,5 +1,5 @@
 -- Parts that ask for nothing, and tests of one name.
-use Rattle.std.proofs.Common.{◌≡◌, ℕ, List, [], ◌∷◌, ◌++◌, true, length, take, drop, Option, Some, None, ◌⊎◌, inl, inr, refl, sym, ap, ◌∙◌, subst, ⊎_elim, arith}
+use Rattle.std.proofs.Common.{◌≡◌, ℕ, List, [], ◌∷◌, ◌++◌, length, take, drop, Option, Some, None, ◌⊎◌, inl, inr, refl, sym, ap, ◌∙◌, subst, ⊎_elim, arith}
 use Rattle.std.proofs.lemmas.Bool.{cases_Bool}
 use Rattle.std.proofs.lemmas.List.{length-take-le}
 use Rattle.cachefile.specs.Text.{saved_value}
@@ -14,9 +14,9 @@ use Rattle.resuming.specs.Finished.{Finished, finish, Enough}
 use Rattle.resuming.specs.Joint.{both_past, Pair, joint_by, joint_one}
 use Rattle.resuming.specs.Same.{SameOne}
 use Rattle.resuming.proofs.Near.{IsCached, Alike, Every, Like, Near, Sets, leads_by, Ready, Comes, IsPart}
-use Rattle.resuming.proofs.Names.{same_or_not, cached_apart}
+use Rattle.resuming.proofs.Names.{same_or_not}
 use Rattle.resuming.proofs.Runs.{at_end}
-use Rattle.resuming.proofs.Forms.{Own, own_else, alike_refl, alike_trans, alike_sym, Went, Still, Form, Follows, IsTest, Settles}
+use Rattle.resuming.proofs.Forms.{Own, own_else, Went, Still, Form, IsTest, Settles}
 use Rattle.resuming.proofs.Parts.{sets_none, ends_like, readable_same}
 
 -- ---- parts that ask nothing

@@ -1,5 +1,5 @@
 -- A run under given replies, with those that it takes and those that it leaves.
-use Rattle.std.specs.Prelude.{ℕ, ◌≤◌, List, [], ◌++◌, length, take, drop}
+use Rattle.std.specs.Prelude.{◌≤◌, List, [], ◌++◌, length, take, drop}
 use Rattle.crew_trait.specs.declared.reply.Reply.{Reply}
 use Rattle.meaning.specs.State.{State, How, Run, Ends, Asks}
 

@@ -16,7 +16,7 @@ use Rattle.syntax.specs.declared.tree.Subject.{Subject}
 use Rattle.syntax.specs.declared.tree.Subject.TheVariants.{Nothing, Word, Asked}
 use Rattle.syntax.specs.Script.{Script, Done, Then, Choice, Check, Cases, No_case, Case}
 use Rattle.meaning.specs.State.{State, Scope, no_choice, about, answered, with_variable, How, Goes_on, Completed, Stopped, Cut, Run, Ends}
-use Rattle.meaning.specs.Asking.{success, only_reply}
+use Rattle.meaning.specs.Asking.{success}
 use Rattle.meaning.specs.Tests.{cached_test, tested}
 use Rattle.meaning.specs.Rows.{Kind, Library, Libraries, entry_name, kind_for, name_of, is_found, row_of}
 use Rattle.meaning.specs.Batches.{Batch, asking, batched}

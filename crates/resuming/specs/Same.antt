@@ -12,7 +12,7 @@ use Rattle.meaning.specs.State.{State, Scope, Goes_on, Run}
 use Rattle.meaning.specs.Rows.{Kind, name_of}
 use Rattle.meaning.specs.Meaning.{effect, rounds_of, is_taken, meaning}
 use Rattle.resuming.specs.Finished.{finish}
-use Rattle.resuming.specs.Joint.{Pair, Joint, Past, Whole, joint_then, joint_one, joint_plain, test_in, begins_test, begins, scope_at, joint_rounds, checks, joint, joint_cases}
+use Rattle.resuming.specs.Joint.{Pair, Joint, Past, Whole, joint_then, joint_one, joint_plain, test_in, begins_test, begins, scope_at, joint_rounds, checks, joint_cases}
 
 -- One of two facts.
 abbrev pub Chosen : Bool → Type 0 → Type 0 → Type 0
