@@ -13,3 +13,4 @@ mod BatchPart
 mod Statements
 mod Rounds
 mod Whole
+mod Unasked

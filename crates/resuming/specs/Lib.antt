@@ -4,3 +4,4 @@ pub mod Alone
 pub mod Joint
 pub mod Same
 pub mod Law
+pub mod Asked

@@ -4,12 +4,14 @@
 //! `specs/Finished.antt` (a run under given replies), `specs/Poured.antt` (with what a second run begins),
 //! `specs/Joint.antt` (the joint replies of a run that was cut and of a second one), `specs/Alone.antt` and
 //! `specs/Same.antt` (what is asked of tests that may leave their names unset), and then `specs/Law.antt`.
+//! `specs/Asked.antt` is about the tests that a run makes.
 //!
 //! For example, say that a source checks the header `a.h` and then the function `f`, and that the first child answers and
 //! the second can't be started. The cache then has `ac_cv_header_a_h`. A second run that begins with it, and whose first
 //! child answers 0, asks for one child, and ends as one run would under the first answer and then 0.
 #![tactic(auto)]
 
+ghost use Rattle.resuming.specs.Asked.{AsksNoSaved};
 ghost use Rattle.resuming.specs.Law.{Resumes};
 
 /// A run was cut, and is started again with the values that its cache saves at that end. If the second run isn't cut, and
@@ -18,4 +20,9 @@ ghost use Rattle.resuming.specs.Law.{Resumes};
 /// variables may differ.
 pub fn resumes()
     ensures law { Resumes }
+{}
+
+/// A run that begins with the saved values of an end makes no test of a name that was saved, whatever the source.
+pub fn asks_no_saved()
+    ensures law { AsksNoSaved }
 {}
