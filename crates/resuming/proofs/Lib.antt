@@ -14,3 +14,4 @@ mod Statements
 mod Rounds
 mod Whole
 mod Unasked
+mod Counter
