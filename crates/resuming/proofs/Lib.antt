@@ -15,3 +15,4 @@ mod Rounds
 mod Whole
 mod Unasked
 mod Counter
+mod Example
