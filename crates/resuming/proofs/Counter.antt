@@ -1,6 +1,6 @@
 -- Why each premise of the law is there: without it, the second run ends otherwise than the joint one. In each example the first
 -- run is cut in a test of the function g.
-use Rattle.std.proofs.Common.{◌≡◌, ℕ, codes, List, [], ◌∷◌, map, true, false, Option, Some, None, refl}
+use Rattle.std.proofs.Common.{◌≡◌, ℕ, codes, List, [], ◌∷◌, map, false, Some, None, refl}
 use Rattle.crew_trait.specs.declared.reply.Reply.{Reply}
 use Rattle.crew_trait.specs.declared.reply.Reply.TheVariants.{Answer, StartRefused}
 use Rattle.deftable.specs.Table.{value_of, with_entry, without_entry}

@@ -16,3 +16,4 @@ mod Whole
 mod Unasked
 mod Counter
 mod Example
+mod Plays

@@ -105,7 +105,7 @@ resumes_by script before second replies again part h =
     } in
     let p : Pair = record { first = before; replies = replies; second = second; again = again } in
     let ends = ends_whole E (meaning script before) (meaning script second) replies again (joint script p) h.cut (part.comes [] E p h.alone near ready h.same) in
-    record { how = ends.how; defs = ends.state.defs; value = λ n. ends.state.value n tt }
+    record { how = ends.how; defs = ends.state.defs; value = λ n. ends.state.value n tt; left = ends.left }
 
 pub resumes : Resumes
 resumes script before second replies again h = resumes_by script before second replies again (script_part script [] [] (λ n k. k) h.commands h.names h.resumable) h

@@ -28,12 +28,13 @@ pub record Begun (script : Script) (before second : State) (replies again : List
   pub enough_again : Enough (meaning script second) again
   pub same : SameAgain script (record { first = before; replies = replies; second = second; again = again })
 
--- Two runs end in the same way, with the same definitions in the same order, and with the same value of each variable.
--- (own)
+-- Two runs end in the same way, with the same definitions in the same order, and with the same value of each variable. They
+-- leave the same replies. (own)
 pub record EndsSo (a b : Finished) : Type 0 where
   pub how : a.how ≡ b.how
   pub defs : a.state.defs ≡ b.state.defs
   pub value : (name : List ℕ) → value_of a.state.vars name ≡ value_of b.state.vars name
+  pub left : a.left ≡ b.left
 
 -- The second run ends as a run that begins like the first, under the joint replies. (own)
 abbrev pub EndsAgain : Script → State → State → List Reply → List Reply → Type 0

@@ -5,3 +5,4 @@ pub mod Joint
 pub mod Same
 pub mod Law
 pub mod Asked
+pub mod Plays
