@@ -21,6 +21,7 @@ use Rattle.syntax.specs.declared.tree.Subject.TheVariants.{Nothing, Word, Asked}
 use Rattle.syntax.specs.declared.tree.When.{When}
 use Rattle.syntax.specs.declared.tree.When.TheVariants.{Holds, Matches, Yes, No, Always}
 use Rattle.syntax.specs.Script.{Script, Done, Then, Choice, Check, Cases, No_case, Case}
+use Rattle.syntax.specs.TestNames.{program_name, path_name}
 use Rattle.meaning.specs.Package.{initialised}
 use Rattle.meaning.specs.State.{State, Scope, no_choice, about, answered, told, with_variable, with_definition, How, as_is, Run, Ends, Goes_on, Completed, Stopped, then_run, ended}
 use Rattle.meaning.specs.Rows.{Search, Kind, Program, Library, Libraries, kind_for, name_of, is_found, value_or_empty, value_if, row_of}
@@ -47,12 +48,12 @@ with_prefixes st = settled (codes "exec_prefix") (codes "${prefix}") (settled (c
 -- manual, "Generic Programs")
 abbrev pub check_prog : List ℕ → List ℕ → List ℕ → Option (List ℕ) → Search
 check_prog variable program found otherwise =
-    record { variable = variable; name = codes "ac_cv_prog_" ++ variable; program = program; found = Some found; otherwise = otherwise }
+    record { variable = variable; name = program_name variable; program = program; found = Some found; otherwise = otherwise }
 
 -- AC_PATH_PROG: the value is the program's full name if it is found. (Autoconf's manual, "Generic Programs")
 abbrev pub path_prog : List ℕ → List ℕ → Option (List ℕ) → Search
 path_prog variable program otherwise =
-    record { variable = variable; name = codes "ac_cv_path_" ++ variable; program = program; found = None; otherwise = otherwise }
+    record { variable = variable; name = path_name variable; program = program; found = None; otherwise = otherwise }
 
 -- The variable is set, and is not empty. (own)
 abbrev pub has_value : State → List ℕ → Bool

@@ -4,13 +4,15 @@ use Rattle.jobs.specs.declared.job.Job.{Job}
 use Rattle.jobs.specs.Probe.{Probe, Compile, Link, path_of, job_of}
 use Rattle.csource.specs.Sources.{default_includes, header_source, function_source, declaration_source, type_source, second_type_source}
 use Rattle.deftable.specs.Table.{value_of, with_entry}
-use Rattle.m4quote.specs.Names.{sh_byte, cpp_byte}
+use Rattle.m4quote.specs.Names.{cpp_byte}
 use Rattle.shellword.specs.declared.part.Part.{Part}
 use Rattle.shellword.specs.Value.{word_value}
 use Rattle.syntax.specs.declared.listed.Listed.{Listed}
 use Rattle.syntax.specs.declared.listed.Listed.TheVariants.{Header, Function, Declaration}
 use Rattle.syntax.specs.declared.listed.Sought.{Sought}
 use Rattle.syntax.specs.declared.listed.Sought.TheVariants.{Entry, «Type»}
+use Rattle.syntax.specs.TestNames.{type_name, library_name, libraries_name}
+pub use Rattle.syntax.specs.TestNames.{shell_part, entry_name}
 use Rattle.meaning.specs.State.{State, with_variable, with_definition}
 use Rattle.meaning.specs.Asking.{Attempt}
 use Rattle.meaning.specs.Tests.{Row, by_attempts}
@@ -73,19 +75,9 @@ abbrev pub text_or_no : List ℕ → List ℕ
 text_or_no [] = codes "no"
 text_or_no (b ∷ bs) = b ∷ bs
 
--- The text as the end of a shell variable's name. (Autoconf's manual, AS_TR_SH in "Common Shell Constructs")
-abbrev pub shell_part : List ℕ → List ℕ
-shell_part text = map sh_byte text
-
 -- The text as the end of a preprocessor symbol. (Autoconf's manual, AS_TR_CPP in "Common Shell Constructs")
 abbrev pub symbol_part : List ℕ → List ℕ
 symbol_part text = map cpp_byte text
-
--- The cached name of an entry. (Autoconf's manual, "Cache Variable Names")
-abbrev pub entry_name : Listed → List ℕ → List ℕ
-entry_name Header entry = codes "ac_cv_header_" ++ shell_part entry
-entry_name Function entry = codes "ac_cv_func_" ++ shell_part entry
-entry_name Declaration entry = codes "ac_cv_have_decl_" ++ shell_part entry
 
 -- What is checked of an entry. (Autoconf's manual, "Printing Messages")
 abbrev pub entry_message : Listed → List ℕ → List ℕ
@@ -196,9 +188,9 @@ with_entry_defined Declaration entry found st =
 abbrev pub name_of : Kind → List ℕ
 name_of (Program s own) = s.name
 name_of (Single listed entry includes defines) = entry_name listed entry
-name_of (Sized name includes defines) = codes "ac_cv_type_" ++ shell_part name
-name_of (Library library function others adds) = codes "ac_cv_lib_" ++ shell_part (library ++ codes "_" ++ function)
-name_of (Libraries function libraries others) = codes "ac_cv_search_" ++ shell_part function
+name_of (Sized name includes defines) = type_name name
+name_of (Library library function others adds) = library_name library function
+name_of (Libraries function libraries others) = libraries_name function
 
 -- What is checked. (Autoconf's manual, "Printing Messages")
 abbrev pub message_of : Kind → List ℕ

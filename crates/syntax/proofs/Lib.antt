@@ -1,1 +1,3 @@
 pub mod ScriptLemmas
+mod Deciding
+mod ResumableRows

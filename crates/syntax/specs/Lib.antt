@@ -4,3 +4,6 @@ pub mod Script
 pub mod Lists
 pub mod Limits
 pub mod Commands
+pub mod TestNames
+pub mod Resumable
+pub mod Decide

@@ -7,7 +7,8 @@
 //!
 //! Contracts see a list of statements as its first statement and what follows: `specs/Script.antt`. `specs/Lists.antt`
 //! says which lists statements declare, also in cases that a run does not take. `specs/Commands.antt` says what the
-//! commands of AC_CACHE_CHECK hold.
+//! commands of AC_CACHE_CHECK hold, `specs/Resumable.antt` which sources can be cut and started again, and
+//! `specs/TestNames.antt` the names under which tests are cached. `resumable` has a law that the crates above use.
 //!
 //! `AS_IF([test x = y], [a=1], [a=2])` is a `Choose` of two cases: one decided by the test, and one that is always
 //! taken.
@@ -20,6 +21,7 @@ pub mod feature;
 pub mod help;
 pub mod listed;
 pub mod program;
+pub mod resumable;
 pub mod source;
 pub mod statement;
 pub mod tree;
@@ -29,6 +31,7 @@ pub use feature::{OptionKind, is_feature, option_variable};
 pub use help::{Help, HelpList};
 pub use listed::{Entries, Listed, Sought};
 pub use program::{Program, Try};
+pub use resumable::resumable_is_decided;
 pub use source::Source;
 pub use statement::{MessageKind, Plain, Question};
 pub use tree::{Case, Stmt, Subject, When, cache_check, choose};

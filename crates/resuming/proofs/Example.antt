@@ -1,0 +1,97 @@
+-- The premises of the law can be met. A batch of the functions f, g and f is cut at g; after it are a list with actions,
+-- AC_CACHE_CHECK, and a definition of its value.
+use Rattle.std.proofs.Common.{◌≡◌, ℕ, codes, List, [], ◌∷◌, Bool, true, false, cond, Option, Some, None, inl, inr, refl, sym, ap, ◌∙◌, arith}
+use Rattle.std.specs.Prelude.{bytes_eq, ◌&&◌}
+use Rattle.cachefile.specs.Text.{saved_value}
+use Rattle.crew_trait.specs.declared.reply.Reply.{Reply}
+use Rattle.crew_trait.specs.declared.reply.Reply.TheVariants.{StartRefused}
+use Rattle.deftable.specs.CacheName.{is_cache_name, has_cv}
+use Rattle.deftable.specs.Table.{value_of, with_entry, without_entry}
+use Rattle.jobs.specs.Probe.{words_of, job_of}
+use Rattle.shellword.specs.Truth.{truth}
+use Rattle.shellword.specs.Value.{word_value}
+use Rattle.textcut.specs.Cuts.{fields, parts_by}
+use Rattle.syntax.specs.declared.listed.Listed.TheVariants.{Function}
+use Rattle.syntax.specs.declared.listed.Sought.TheVariants.{Entry}
+use Rattle.syntax.specs.declared.statement.Plain.TheVariants.{Batch, DefineUnquoted}
+use Rattle.syntax.specs.declared.statement.Question.TheVariants.{ChecksEach}
+use Rattle.syntax.specs.declared.tree.Subject.TheVariants.{Asked}
+use Rattle.syntax.specs.declared.tree.When.TheVariants.{Yes}
+use Rattle.syntax.specs.Script.{Script, Done, Then, Choice, No_case, Case}
+use Rattle.meaning.specs.State.{Goes_on, Cut}
+use Rattle.meaning.specs.Meaning.{effect, begun, is_taken, meaning, chosen}
+use Rattle.laws.proofs.Values.{same_text}
+use Rattle.resuming.specs.Finished.{finish}
+use Rattle.resuming.specs.Poured.{poured}
+use Rattle.resuming.specs.Joint.{joint, joint_cases, joint_plain, begins, scope_at, joint_replies}
+use Rattle.resuming.specs.Same.{SameAgain, SameCases}
+use Rattle.resuming.specs.Law.{Begun}
+use Rattle.resuming.proofs.Counter.{vars_with, good, bad, value, if_set, maybe, f_is}
+
+abbrev example : Script
+example = Then (Batch Function (codes "f" ∷ codes "g" ∷ codes "f" ∷ []) None)
+    (Choice (Asked (ChecksEach (Entry Function) (codes "h" ∷ codes "k" ∷ []) None)) (Case Yes (if_set (codes "ac_cv_func_h") Done) No_case)
+    (maybe (Then (DefineUnquoted (codes "A") (value (codes "v_cv_x"))) Done)))
+
+abbrev replies : List Reply
+replies = good ∷ StartRefused ∷ []
+
+abbrev again : List Reply
+again = bad ∷ good ∷ bad ∷ good ∷ []
+
+-- The value of a name, by the names that it may be.
+abbrev by_names : Bool → Bool → Bool → Option (List ℕ)
+by_names cc_is path_is f_too = cond cc_is (Some (codes "cc")) (cond path_is (Some (codes "/b")) (cond f_too (Some (codes "yes")) None))
+
+by_cases : (b c d cached : Bool) → (d ≡ true → cached ≡ true)
+    → by_names b c d ≡ poured (cond b (cond cached (Some (codes "cc")) None) (cond c (cond cached (Some (codes "/b")) None) (cond d (cond cached (Some (codes "yes")) None) None))) (by_names b c false)
+by_cases true c d true h = refl
+by_cases true c d false h = refl
+by_cases false true d true h = refl
+by_cases false true d false h = refl
+by_cases false false true true h = refl
+by_cases false false true false h = let z = h refl in cc
+by_cases false false false true h = refl
+by_cases false false false false h = refl
+
+saved_by : (n : List ℕ) (b c d : Bool) → saved_value n (by_names b c d) ≡ cond b (cond (is_cache_name n && true) (Some (codes "cc")) None) (cond c (cond (is_cache_name n && true) (Some (codes "/b")) None) (cond d (cond (is_cache_name n && true) (Some (codes "yes")) None) None))
+saved_by n true c d = refl
+saved_by n false true d = refl
+saved_by n false false true = refl
+saved_by n false false false = refl
+
+f_cached : (n : List ℕ) → bytes_eq n (codes "ac_cv_func_f") ≡ true → is_cache_name n && true ≡ true
+unfolding is_cache_name has_cv
+f_cached n e = ap (λ x. is_cache_name x && true) (same_text n (codes "ac_cv_func_f") e)
+
+premises : Begun example (vars_with []) (vars_with f_is) replies again
+unfolding effect begun is_taken meaning chosen joint joint_cases joint_plain begins scope_at SameAgain SameCases value_of with_entry without_entry words_of job_of truth word_value fields parts_by is_cache_name has_cv
+premises = record {
+  resumable = (
+    tt,
+    (
+      tt,
+      (
+        (tt, ((tt, (((inr (inl refl), tt), (((inl refl, tt), tt), tt)), tt)), tt)),
+        (tt, (((tt, tt), ((tt, (((inr refl, tt), tt), tt)), tt)), ((inr (inl refl), tt), tt))),
+      ),
+    ),
+  );
+  commands = ((((tt, tt), tt), tt), (refl, ((tt, (((refl, tt), tt), tt)), tt)));
+  names = (tt, (((((tt, tt), tt), tt), tt), ((((tt, tt), tt), tt), (tt, tt))));
+  alone = (tt, (((((((tt, tt), tt), tt), tt), tt), ((((((tt, tt), tt), tt), tt), tt), tt)), ((λ h. h), (tt, tt))));
+  cut = refl;
+  enough = (omega arith, tt);
+  poured = record {
+    defs = refl;
+    value = λ n. by_cases (bytes_eq n (codes "CC")) (bytes_eq n (codes "PATH")) (bytes_eq n (codes "ac_cv_func_f")) (is_cache_name n && true) (f_cached n)
+        ∙ ap (λ o. poured o (by_names (bytes_eq n (codes "CC")) (bytes_eq n (codes "PATH")) false)) (sym (saved_by n (bytes_eq n (codes "CC")) (bytes_eq n (codes "PATH")) (bytes_eq n (codes "ac_cv_func_f"))));
+  };
+  uncut = λ e. let h : (finish (meaning example (vars_with f_is)) again).how ≡ Goes_on = refl in let z : Goes_on ≡ Cut = sym h ∙ e in cc;
+  enough_again = (omega arith, (omega arith, (omega arith, (omega arith, tt))));
+  same = (tt, tt);
+}
+
+joint_is : joint_replies (joint example (record { first = vars_with []; replies = replies; second = vars_with f_is; again = again })) ≡ good ∷ bad ∷ good ∷ bad ∷ good ∷ []
+unfolding effect begun is_taken meaning chosen joint joint_cases joint_plain begins scope_at value_of with_entry without_entry words_of job_of truth word_value fields parts_by
+joint_is = refl

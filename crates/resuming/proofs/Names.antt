@@ -1,0 +1,179 @@
+-- Names, and the values of names.
+use Rattle.std.proofs.Common.{◌≡◌, ℕ, Bool, List, [], ◌∷◌, ◌++◌, codes, true, false, cond, Option, Some, None, ◌⊎◌, inl, inr, refl, sym, ap, ◌∙◌, ⊎_elim}
+use Rattle.std.specs.Prelude.{bytes_eq, ◌&&◌, ◌||◌, ◌==◌}
+use Rattle.std.specs.Int.{is_in_range}
+use Rattle.std.specs.List.{list_all}
+use Rattle.std.proofs.lemmas.Bool.{cases_Bool}
+use Rattle.cachefile.specs.Text.{is_one_line, saved_value}
+use Rattle.deftable.specs.CacheName.{is_cache_name, has_cv}
+use Rattle.deftable.specs.ShellName.{starts_name, continues_name, IsShellName}
+use Rattle.deftable.specs.Table.{value_of, with_entry}
+use Rattle.m4quote.specs.Names.{sh_byte}
+use Rattle.m4quote.specs.Text.{is_word_byte}
+use Rattle.syntax.specs.declared.listed.Listed.{Listed}
+use Rattle.syntax.specs.declared.listed.Listed.TheVariants.{Header, Function, Declaration}
+use Rattle.syntax.specs.declared.listed.Sought.{Sought}
+use Rattle.syntax.specs.declared.listed.Sought.TheVariants as seeks
+use Rattle.syntax.specs.Resumable.{Among, IsOrdinary}
+use Rattle.syntax.specs.TestNames.{shell_part, entry_name, type_name, sought_name, library_name, libraries_name, program_name, path_name}
+use Rattle.laws.proofs.Values.{same_text, not_same, apart, value_here, value_there}
+use Rattle.resuming.proofs.Near.{IsCached}
+
+pub same_or_not : (a b : List ℕ) → (a ≡ b) ⊎ (a ≡ b → ⊥)
+same_or_not a b = ⊎_elim (λ t. inl (same_text a b t)) (λ f. inr (apart a b f)) (cases_Bool (bytes_eq a b))
+
+-- Equal values stay equal if a name is written in both lists.
+pub value_same : (a b : List (List ℕ × List ℕ)) (k v q : List ℕ) → value_of a q ≡ value_of b q → value_of (with_entry a k v) q ≡ value_of (with_entry b k v) q
+value_same a b k v q e =
+    ⊎_elim
+    (λ t.
+    let same = same_text q k t in
+    ap (value_of (with_entry a k v)) same ∙ value_here a k v ∙ sym (value_here b k v) ∙ ap (value_of (with_entry b k v)) (sym same))
+    (λ f. value_there a k v q f ∙ e ∙ sym (value_there b k v q f))
+    (cases_Bool (bytes_eq q k))
+
+pub value_else : (es : List (List ℕ × List ℕ)) (k v q : List ℕ) → (k ≡ q → ⊥) → value_of (with_entry es k v) q ≡ value_of es q
+value_else es k v q ne = value_there es k v q (not_same q k (λ e. ne (sym e)))
+
+pub among_left : (n : List ℕ) (a b : List (List ℕ)) → Among n a → Among n (a ++ b)
+among_left n [] b h = absurd h
+among_left n (x ∷ a) b h = ⊎_elim (λ e. inl e) (λ k. inr (among_left n a b k)) h
+
+pub among_right : (n : List ℕ) (a b : List (List ℕ)) → Among n b → Among n (a ++ b)
+among_right n [] b h = h
+among_right n (x ∷ a) b h = inr (among_right n a b h)
+
+pub among_either : (n : List ℕ) (a b : List (List ℕ)) → Among n (a ++ b) → Among n a ⊎ Among n b
+among_either n [] b h = inr h
+among_either n (x ∷ a) b h = ⊎_elim (λ e. inl (inl e)) (λ k. ⊎_elim (λ l. inl (inr l)) (λ r. inr r) (among_either n a b k)) h
+
+pub among_wider : (n : List ℕ) (a b c : List (List ℕ)) → (Among n b → Among n c) → Among n (a ++ b) → Among n (a ++ c)
+among_wider n a b c w h = ⊎_elim (λ x. among_left n a c x) (λ x. among_right n a c (w x)) (among_either n a b h)
+
+-- ---- names of tests are cache names
+
+and_both : (a b : Bool) → a && b ≡ true → (a ≡ true) × (b ≡ true)
+and_both true b e = (refl, e)
+and_both false b e = cc
+
+both_and : (a b : Bool) → a ≡ true → b ≡ true → a && b ≡ true
+both_and true b e f = f
+both_and false b e f = cc
+
+word_if : (b : ℕ) (c : Bool) → is_word_byte b ≡ c → continues_name (cond c b 95) ≡ true
+word_if b true e = e
+word_if b false e = refl
+
+sh_if : (b : ℕ) (c : Bool) → continues_name (cond c 112 (cond (is_word_byte b) b 95)) ≡ true
+sh_if b true = refl
+sh_if b false = word_if b (is_word_byte b) refl
+
+pub all_sh : (text : List ℕ) → list_all continues_name (shell_part text) ≡ true
+all_sh [] = refl
+all_sh (b ∷ bs) = both_and (continues_name (sh_byte b)) (list_all continues_name (shell_part bs)) (sh_if b (b == 42 || b == 43)) (all_sh bs)
+
+widened : (d a b c : Bool) → (a || b) || c ≡ true → ((d || a) || b) || c ≡ true
+widened true a b c e = refl
+widened false a b c e = e
+
+continues_so : (b : ℕ) → starts_name b ≡ true → continues_name b ≡ true
+continues_so b e = widened (is_in_range 48 57 b) (is_in_range 65 90 b) (is_in_range 97 122 b) (b == 95) e
+
+pub all_name : (name : List ℕ) → IsShellName name → list_all continues_name name ≡ true
+all_name [] e = refl
+all_name (b ∷ bs) e =
+    let h = and_both (starts_name b) (list_all continues_name bs) e in
+    both_and (continues_name b) (list_all continues_name bs) (continues_so b h.0) h.1
+
+pub entry_cached : (listed : Listed) (entry : List ℕ) → IsCached (entry_name listed entry)
+unfolding is_cache_name has_cv
+entry_cached Header entry = ap (λ b. b && true) (all_sh entry)
+entry_cached Function entry = ap (λ b. b && true) (all_sh entry)
+entry_cached Declaration entry = ap (λ b. b && true) (all_sh entry)
+
+type_cached : (name : List ℕ) → IsCached (type_name name)
+unfolding is_cache_name has_cv
+type_cached name = ap (λ b. b && true) (all_sh name)
+
+pub sought_cached : (sought : Sought) (entry : List ℕ) → IsCached (sought_name sought entry)
+sought_cached (seeks.Entry listed) entry = entry_cached listed entry
+sought_cached seeks.«Type» entry = type_cached entry
+
+pub library_cached : (library function : List ℕ) → IsCached (library_name library function)
+unfolding is_cache_name has_cv
+library_cached library function = ap (λ b. b && true) (all_sh (library ++ codes "_" ++ function))
+
+pub libraries_cached : (function : List ℕ) → IsCached (libraries_name function)
+unfolding is_cache_name has_cv
+libraries_cached function = ap (λ b. b && true) (all_sh function)
+
+pub program_cached : (variable : List ℕ) → IsShellName variable → IsCached (program_name variable)
+unfolding is_cache_name has_cv
+program_cached variable h = ap (λ b. b && true) (all_name variable h)
+
+pub path_cached : (variable : List ℕ) → IsShellName variable → IsCached (path_name variable)
+unfolding is_cache_name has_cv
+path_cached variable h = ap (λ b. b && true) (all_name variable h)
+
+-- ---- ordinary names
+
+pub cc_plain : IsOrdinary (codes "CC")
+unfolding is_cache_name has_cv
+cc_plain = refl
+
+pub cflags_plain : IsOrdinary (codes "CFLAGS")
+unfolding is_cache_name has_cv
+cflags_plain = refl
+
+pub cppflags_plain : IsOrdinary (codes "CPPFLAGS")
+unfolding is_cache_name has_cv
+cppflags_plain = refl
+
+pub ldflags_plain : IsOrdinary (codes "LDFLAGS")
+unfolding is_cache_name has_cv
+ldflags_plain = refl
+
+pub libs_plain : IsOrdinary (codes "LIBS")
+unfolding is_cache_name has_cv
+libs_plain = refl
+
+pub cpp_plain : IsOrdinary (codes "CPP")
+unfolding is_cache_name has_cv
+cpp_plain = refl
+
+pub path_plain : IsOrdinary (codes "PATH")
+unfolding is_cache_name has_cv
+path_plain = refl
+
+pub enableval_plain : IsOrdinary (codes "enableval")
+unfolding is_cache_name has_cv
+enableval_plain = refl
+
+pub withval_plain : IsOrdinary (codes "withval")
+unfolding is_cache_name has_cv
+withval_plain = refl
+
+pub prefix_plain : IsOrdinary (codes "prefix")
+unfolding is_cache_name has_cv
+prefix_plain = refl
+
+pub exec_prefix_plain : IsOrdinary (codes "exec_prefix")
+unfolding is_cache_name has_cv
+exec_prefix_plain = refl
+
+pub cached_apart : (a b : List ℕ) → IsCached a → IsOrdinary b → a ≡ b → ⊥
+cached_apart a b p q e = let z : true ≡ false = sym p ∙ ap is_cache_name e ∙ q in cc
+
+-- ---- values that are saved
+
+pub saved_or_not : (n : List ℕ) (o : Option (List ℕ)) → (saved_value n o ≡ o) ⊎ (saved_value n o ≡ None)
+saved_or_not n None = inl refl
+saved_or_not n (Some v) = by_test (is_cache_name n && is_one_line v)
+  where
+    by_test : (b : Bool) → (cond b (Some v) None ≡ Some v) ⊎ (cond b (Some v) None ≡ None)
+    by_test true = inl refl
+    by_test false = inr refl
+
+pub ordinary_unsaved : (n : List ℕ) (o : Option (List ℕ)) → IsOrdinary n → saved_value n o ≡ None
+ordinary_unsaved n None p = refl
+ordinary_unsaved n (Some v) p = ap (λ b. cond (b && is_one_line v) (Some v) None) p

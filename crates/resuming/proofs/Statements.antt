@@ -1,0 +1,209 @@
+-- Statements without statements in them, as parts.
+use Rattle.std.proofs.Common.{◌≡◌, ℕ, List, [], ◌∷◌, ◌++◌, codes, Bool, cond, length, Option, Some, None, inl, inr, refl, sym, ap, ◌∙◌, subst, ⊎_elim}
+use Rattle.std.specs.Prelude.{◌==◌, not, option_map, unwrap_or}
+use Rattle.deftable.specs.CacheName.{is_cache_name, has_cv}
+use Rattle.deftable.specs.Table.{value_of}
+use Rattle.deftable.specs.declared.note.Stream.TheVariants as streams
+use Rattle.shellword.specs.declared.part.Part.{Part}
+use Rattle.shellword.specs.Value.{word_value}
+use Rattle.syntax.specs.declared.statement.MessageKind.{MessageKind}
+use Rattle.syntax.specs.declared.statement.MessageKind.TheVariants as messages
+use Rattle.syntax.specs.declared.statement.Plain as plain
+use Rattle.syntax.specs.declared.statement.Plain.TheVariants.{Init, Accepted, ConfigFiles, ConfigHeaders, Assign, Subst, SubstValue, Define, DefineUnquoted, Error, Message, ArgVar, CheckProg, CheckProgs, PathProg, ProgCc, Batch, Output}
+use Rattle.syntax.specs.Resumable.{Among, IsOrdinary, MayRead, ReadsText, ReadsIfGiven, tests_of, MayAssign, ResumablePlain}
+use Rattle.syntax.specs.TestNames.{program_name, path_name, NamesVariable}
+use Rattle.meaning.specs.State.{State, told, with_variable, with_definition, Goes_on, Ends}
+use Rattle.meaning.specs.Rows.{value_or_empty, value_if}
+use Rattle.meaning.specs.Package.{literal, package_string, with_package, initialised}
+use Rattle.meaning.specs.Meaning.{is_unsettled, settled, with_prefixes, has_value, is_full_name, error_line, said, effect}
+use Rattle.resuming.specs.Alone.{AlonePlain}
+use Rattle.resuming.specs.Joint.{joint_plain, joint_one}
+use Rattle.resuming.specs.Same.{SamePlain}
+use Rattle.resuming.proofs.Near.{IsCached, Alike, Every, IsPart}
+use Rattle.resuming.proofs.Names.{value_else, cached_apart, program_cached, path_cached, cc_plain, prefix_plain, exec_prefix_plain}
+use Rattle.resuming.proofs.Liking.{Reads, variable_alike, written_alike, definition_alike, cond_alike, text_same}
+use Rattle.resuming.proofs.Forms.{cond_values, reads_more}
+use Rattle.resuming.proofs.Programs.{SameKind, prog_kind, prog_test, looks_test, test_then, default_of, default_alike, default_values, given_same}
+use Rattle.resuming.proofs.Single.{still_part, completes_part, stops_part, test_part}
+use Rattle.resuming.proofs.BatchPart.{batch_part}
+
+-- What may be read with these names may be read with more.
+pub wider_reads : (tested known : List (List ℕ)) → ((n : List ℕ) → Among n tested → Among n known) → Reads (MayRead known) tested
+wider_reads tested known w n r = ⊎_elim (λ x. inl x) (λ x. inr (w n x)) r
+
+pub id_part : (known : List (List ℕ)) (fits : List (List ℕ) → Type 0) → IsPart known known [] (Ends Goes_on) (joint_one (Ends Goes_on)) (λ p. Unit {0}) fits
+id_part known fits = still_part known (λ st. st) fits (λ s t h. h) (λ n st c. refl) (λ s t h. record { defs = h.defs; value = λ n p. h.value n (inl p) })
+
+pub ordinary : (known : List (List ℕ)) (s t : State) → Alike (MayRead known) s t → Alike IsOrdinary s t
+ordinary known s t h = record { defs = h.defs; value = λ n p. h.value n (inl p) }
+
+-- A cache name is not written with an ordinary one.
+pub write_values : (name value : List ℕ) (n : List ℕ) (st : State) → IsOrdinary name → IsCached n → value_of (with_variable name value st).vars n ≡ value_of st.vars n
+write_values name value n st p c = value_else st.vars name value n (λ e. cached_apart n name c p (sym e))
+
+-- ---- AC_INIT, messages and the end
+
+package_alike : (at : List ℕ → Type 0) (name value : List ℕ) (s t : State) → Alike at s t → Alike at (with_package s name value) (with_package t name value)
+package_alike at name value s t h = definition_alike at name (literal value) (with_variable name value s) (with_variable name value t) (variable_alike at name value s t h)
+
+init_alike : (at : List ℕ → Type 0) (title version bug tarname url : List ℕ) (s t : State) → Alike at s t → Alike at (initialised title version bug tarname url s) (initialised title version bug tarname url t)
+unfolding initialised
+init_alike at title version bug tarname url s t h =
+    package_alike at (codes "PACKAGE_URL") url _ _ (package_alike at (codes "PACKAGE_BUGREPORT") bug _ _ (package_alike at (codes "PACKAGE_STRING") (package_string title version) _ _
+    (package_alike at (codes "PACKAGE_VERSION") version _ _ (package_alike at (codes "PACKAGE_TARNAME") tarname _ _ (package_alike at (codes "PACKAGE_NAME") title s t h)))))
+
+url_plain : IsOrdinary (codes "PACKAGE_URL")
+unfolding is_cache_name has_cv
+url_plain = refl
+
+bug_plain : IsOrdinary (codes "PACKAGE_BUGREPORT")
+unfolding is_cache_name has_cv
+bug_plain = refl
+
+string_plain : IsOrdinary (codes "PACKAGE_STRING")
+unfolding is_cache_name has_cv
+string_plain = refl
+
+version_plain : IsOrdinary (codes "PACKAGE_VERSION")
+unfolding is_cache_name has_cv
+version_plain = refl
+
+tarname_plain : IsOrdinary (codes "PACKAGE_TARNAME")
+unfolding is_cache_name has_cv
+tarname_plain = refl
+
+name_plain : IsOrdinary (codes "PACKAGE_NAME")
+unfolding is_cache_name has_cv
+name_plain = refl
+
+init_values : (title version bug tarname url : List ℕ) (n : List ℕ) (st : State) → IsCached n → value_of (initialised title version bug tarname url st).vars n ≡ value_of st.vars n
+unfolding initialised
+init_values title version bug tarname url n st c =
+    let a = with_package st (codes "PACKAGE_NAME") title in
+    let b = with_package a (codes "PACKAGE_TARNAME") tarname in
+    let d = with_package b (codes "PACKAGE_VERSION") version in
+    let e = with_package d (codes "PACKAGE_STRING") (package_string title version) in
+    let f = with_package e (codes "PACKAGE_BUGREPORT") bug in
+    write_values (codes "PACKAGE_URL") url n f url_plain c ∙ write_values (codes "PACKAGE_BUGREPORT") bug n e bug_plain c ∙ write_values (codes "PACKAGE_STRING") (package_string title version) n d string_plain c
+    ∙ write_values (codes "PACKAGE_VERSION") version n b version_plain c ∙ write_values (codes "PACKAGE_TARNAME") tarname n a tarname_plain c ∙ write_values (codes "PACKAGE_NAME") title n st name_plain c
+
+said_alike : (at : List ℕ → Type 0) (kind : MessageKind) (v w : List ℕ) (s t : State) → Alike at s t → Alike at (said kind v s) (said kind w t)
+unfolding said
+said_alike at messages.Checking v w s t h = record { defs = h.defs; value = h.value }
+said_alike at messages.Results v w s t h = record { defs = h.defs; value = h.value }
+said_alike at messages.Notice v w s t h = record { defs = h.defs; value = h.value }
+said_alike at messages.Warning v w s t h = record { defs = h.defs; value = h.value }
+
+said_values : (kind : MessageKind) (v : List ℕ) (n : List ℕ) (st : State) → value_of (said kind v st).vars n ≡ value_of st.vars n
+unfolding said
+said_values messages.Checking v n st = refl
+said_values messages.Results v n st = refl
+said_values messages.Notice v n st = refl
+said_values messages.Warning v n st = refl
+
+settled_alike : (name value : List ℕ) (s t : State) → Alike Every s t → Alike Every (settled name value s) (settled name value t)
+settled_alike name value s t h =
+    subst (λ b. Alike Every (settled name value s) (cond b (with_variable name value t) t)) (ap is_unsettled (h.value name tt))
+    (cond_alike Every (is_unsettled (value_of s.vars name)) _ _ _ _ (variable_alike Every name value s t h) h)
+
+settled_values : (name value : List ℕ) (n : List ℕ) (o : Option (List ℕ)) (st : State) → IsOrdinary name → IsCached n → value_of st.vars n ≡ o → value_of (settled name value st).vars n ≡ o
+settled_values name value n o st p c e = cond_values (is_unsettled (value_of st.vars name)) _ _ n o (write_values name value n st p c ∙ e) e
+
+-- ---- tests of programs
+
+pub may_assign : (variable : List ℕ) → MayAssign None variable → IsOrdinary variable
+may_assign variable m = ⊎_elim (λ p. p) (λ h. absurd h) m
+
+own_same : (at : List ℕ → Type 0) (counts : List ℕ → Bool) (variable : List ℕ) (s t : State) → at variable → Alike at s t → value_if (counts (value_or_empty s variable)) (value_or_empty s variable) ≡ value_if (counts (value_or_empty t variable)) (value_or_empty t variable)
+own_same at counts variable s t a h = ap (λ o. value_if (counts (unwrap_or o [])) (unwrap_or o [])) (h.value variable a)
+
+same_three : (name variable program : List ℕ) (a b c d e f : Option (List ℕ)) → a ≡ b → c ≡ d → e ≡ f → prog_kind name variable program a c e ≡ prog_kind name variable program b d f
+same_three name variable program a b c d e f p q r =
+    ap (λ x. prog_kind name variable program x c e) p ∙ ap (λ x. prog_kind name variable program b x e) q ∙ ap (prog_kind name variable program b d) r
+
+check_same : (at : List ℕ → Type 0) (names : List (List ℕ)) (name variable program : List ℕ) (found : List Part) (otherwise : Option (List Part)) → at variable → Reads at names → ReadsText names found → ReadsIfGiven names otherwise
+    → SameKind at (λ st. prog_kind name variable program (Some (word_value found st.vars)) (option_map (λ t. word_value t st.vars) otherwise) (value_if (has_value st variable) (value_or_empty st variable)))
+check_same at names name variable program found otherwise a reads r q s t h =
+    same_three name variable program _ _ _ _ _ _ (ap Some (text_same at names found s t reads r h)) (given_same at names otherwise s t reads q h)
+    (ap (λ o. value_if (not (length (unwrap_or o []) == 0)) (unwrap_or o [])) (h.value variable a))
+
+path_same : (at : List ℕ → Type 0) (names : List (List ℕ)) (name variable program : List ℕ) (otherwise : Option (List Part)) → at variable → Reads at names → ReadsIfGiven names otherwise
+    → SameKind at (λ st. prog_kind name variable program None (option_map (λ t. word_value t st.vars) otherwise) (value_if (is_full_name (value_or_empty st variable)) (value_or_empty st variable)))
+path_same at names name variable program otherwise a reads q s t h =
+    same_three name variable program _ _ _ _ _ _ refl (given_same at names otherwise s t reads q h) (own_same at is_full_name variable s t a h)
+
+-- ---- statements
+
+set_part : (tested known : List (List ℕ)) (name : List ℕ) (value : List Part) (fits : List (List ℕ) → Type 0) → ((n : List ℕ) → Among n tested → Among n known) → MayAssign None name → ReadsText tested value
+    → IsPart known known [] (λ st. Ends Goes_on (with_variable name (word_value value st.vars) st)) (joint_one (λ st. Ends Goes_on (with_variable name (word_value value st.vars) st))) (λ p. Unit {0}) fits
+set_part tested known name value fits w m r =
+    still_part known (λ st. with_variable name (word_value value st.vars) st) fits
+    (λ s t a. written_alike Every name (word_value value s.vars) (word_value value t.vars) s t (text_same Every tested value s t (λ n k. tt) r a) a)
+    (λ n st c. write_values name (word_value value st.vars) n st (may_assign name m) c)
+    (λ s t a. written_alike IsOrdinary name (word_value value s.vars) (word_value value t.vars) s t (text_same (MayRead known) tested value s t (wider_reads tested known w) r a) (ordinary known s t a))
+
+defined_alike : (at : List ℕ → Type 0) (name v w : List ℕ) (s t : State) → v ≡ w → Alike at s t → Alike at (with_definition name v s) (with_definition name w t)
+defined_alike at name v w s t e h = subst (λ x. Alike at (with_definition name v s) (with_definition name x t)) e (definition_alike at name v s t h)
+
+pub plain_part : (tested known : List (List ℕ)) (s : plain.Plain) → ((n : List ℕ) → Among n tested → Among n known) → NamesVariable s → ResumablePlain None tested s
+    → IsPart known (tests_of s ++ known) (tests_of s) (effect s) (joint_plain s) (SamePlain s) (AlonePlain s)
+unfolding effect joint_plain
+plain_part tested known (Init title version bug tarname url) w v r =
+    still_part known (initialised title version bug tarname url) (AlonePlain (Init title version bug tarname url)) (λ s t a. init_alike Every title version bug tarname url s t a)
+    (λ n st c. init_values title version bug tarname url n st c) (λ s t a. init_alike IsOrdinary title version bug tarname url s t (ordinary known s t a))
+plain_part tested known Accepted w v r = id_part known (AlonePlain Accepted)
+plain_part tested known (ConfigFiles outputs) w v r = id_part known (AlonePlain (ConfigFiles outputs))
+plain_part tested known (ConfigHeaders outputs) w v r = id_part known (AlonePlain (ConfigHeaders outputs))
+plain_part tested known (Assign name value) w v r = set_part tested known name value (AlonePlain (Assign name value)) w r.0 r.1
+plain_part tested known (Subst name) w v r = id_part known (AlonePlain (Subst name))
+plain_part tested known (SubstValue name value) w v r = set_part tested known name value (AlonePlain (SubstValue name value)) w r.0 r.1
+plain_part tested known (Define name value) w v r =
+    still_part known (with_definition name value) (AlonePlain (Define name value)) (λ s t a. definition_alike Every name value s t a) (λ n st c. refl)
+    (λ s t a. definition_alike IsOrdinary name value s t (ordinary known s t a))
+plain_part tested known (DefineUnquoted name value) w v r =
+    still_part known (λ st. with_definition name (word_value value st.vars) st) (AlonePlain (DefineUnquoted name value))
+    (λ s t a. defined_alike Every name _ _ s t (text_same Every tested value s t (λ n k. tt) r a) a)
+    (λ n st c. refl)
+    (λ s t a. defined_alike IsOrdinary name _ _ s t (text_same (MayRead known) tested value s t (wider_reads tested known w) r a) (ordinary known s t a))
+plain_part tested known (Error message status) w v r =
+    stops_part known status (λ st. told streams.Err (error_line (word_value message st.vars)) st) (AlonePlain (Error message status)) (λ s t a. record { defs = a.defs; value = a.value }) (λ n st c. refl)
+plain_part tested known (Message kind message) w v r =
+    still_part known (λ st. said kind (word_value message st.vars) st) (AlonePlain (Message kind message)) (λ s t a. said_alike Every kind _ _ s t a) (λ n st c. said_values kind (word_value message st.vars) n st)
+    (λ s t a. said_alike IsOrdinary kind _ _ s t (ordinary known s t a))
+plain_part tested known (ArgVar name help) w v r = id_part known (AlonePlain (ArgVar name help))
+plain_part tested known (CheckProg variable program found otherwise) w v r =
+    let name = program_name variable in
+    let p = may_assign variable r.0 in
+    test_part known name _ _ (AlonePlain (CheckProg variable program found otherwise))
+    (prog_test known name variable program (λ st. Some (word_value found st.vars)) (λ st. option_map (λ t. word_value t st.vars) otherwise) (λ st. value_if (has_value st variable) (value_or_empty st variable))
+    (program_cached variable v) p (check_same Every tested name variable program found otherwise tt (λ n k. tt) r.1.0 r.1.1)
+    (check_same (MayRead (name ∷ known)) tested name variable program found otherwise (inl p) (reads_more tested known name w) r.1.0 r.1.1))
+    (λ later f. inl f)
+plain_part tested known (CheckProgs variable programs otherwise) w v r =
+    let name = program_name variable in
+    let p = may_assign variable r.0 in
+    test_part known name _ _ (AlonePlain (CheckProgs variable programs otherwise))
+    (test_then known name _ _ (default_of variable otherwise)
+    (λ s t a. default_alike Every tested variable otherwise s t tt (λ n k. tt) r.1 a)
+    (λ s t a. default_alike (MayRead (name ∷ known)) tested variable otherwise s t (inl p) (reads_more tested known name w) r.1 a)
+    (λ n st c. default_values variable (option_map (λ t. word_value t st.vars) otherwise) n st p c)
+    (looks_test known name variable programs (program_cached variable v) p))
+    (λ later f. inl f)
+plain_part tested known (PathProg variable program otherwise) w v r =
+    let name = path_name variable in
+    let p = may_assign variable r.0 in
+    test_part known name _ _ (AlonePlain (PathProg variable program otherwise))
+    (prog_test known name variable program (λ st. None) (λ st. option_map (λ t. word_value t st.vars) otherwise) (λ st. value_if (is_full_name (value_or_empty st variable)) (value_or_empty st variable))
+    (path_cached variable v) p (path_same Every tested name variable program otherwise tt (λ n k. tt) r.1)
+    (path_same (MayRead (name ∷ known)) tested name variable program otherwise (inl p) (reads_more tested known name w) r.1))
+    (λ later f. inl f)
+plain_part tested known (ProgCc programs) w v r =
+    let name = program_name (codes "CC") in
+    test_part known name _ _ (AlonePlain (ProgCc programs)) (looks_test known name (codes "CC") programs (program_cached (codes "CC") refl) cc_plain) (λ later f. inl f)
+plain_part tested known (Batch listed entries includes) w v r =
+    batch_part tested known (record { listed = listed; entries = entries; includes = includes }) (AlonePlain (Batch listed entries includes)) r
+plain_part tested known Output w v r =
+    completes_part known with_prefixes (AlonePlain Output)
+    (λ s t a. settled_alike (codes "exec_prefix") (codes "${prefix}") _ _ (settled_alike (codes "prefix") (codes "/usr/local") s t a))
+    (λ n st c. settled_values (codes "exec_prefix") (codes "${prefix}") n _ (settled (codes "prefix") (codes "/usr/local") st) exec_prefix_plain c
+    (settled_values (codes "prefix") (codes "/usr/local") n _ st prefix_plain c refl))

@@ -1,0 +1,5 @@
+use Rattle.resuming.proofs.Plays as lemmas
+use Rattle.resuming.proofs.whole_runs_resume.Goals as goal
+
+pub returns : goal.returns
+returns c = record { law = lemmas.whole_runs_resume }

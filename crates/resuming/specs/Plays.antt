@@ -1,0 +1,50 @@
+-- The law for whole runs, as they are played: a whole run that is cut has a line about it at its end.
+use Rattle.std.specs.Prelude.{◌≡◌, ℕ, List, [], length}
+use Rattle.crew_trait.specs.declared.reply.Reply.{Reply}
+use Rattle.deftable.specs.Table.{value_of}
+use Rattle.syntax.specs.Commands.{HasCommands}
+use Rattle.syntax.specs.Resumable.{IsResumable}
+use Rattle.syntax.specs.Script.{Script}
+use Rattle.syntax.specs.TestNames.{HasTestNames}
+use Rattle.meaning.specs.State.{State, Cut}
+use Rattle.meaning.specs.Meaning.{meaning}
+use Rattle.meaning.specs.Play.{Played, play, all_jobs, whole}
+use Rattle.resuming.specs.Poured.{Poured}
+use Rattle.resuming.specs.Alone.{Alone}
+use Rattle.resuming.specs.Joint.{joint, joint_replies}
+use Rattle.resuming.specs.Same.{SameAgain}
+
+-- A source as a whole run, played with these replies. (own)
+abbrev pub played : Script → State → List Reply → Played
+played script st replies = play (whole (meaning script st)) replies
+
+-- There are as many replies as jobs. (own)
+abbrev pub HasReplies : Played → List Reply → Type 0
+HasReplies p replies = length replies ≡ length (all_jobs p.groups)
+
+-- A whole run was cut, and its cache was saved. A second one that begins with the saved values is not cut. The source can be
+-- resumed, and has the form that the parser gives it. (own)
+pub record StartedAgain (script : Script) (before second : State) (replies again : List Reply) : Type 0 where
+  pub resumable : IsResumable script
+  pub commands : HasCommands script
+  pub names : HasTestNames script
+  pub alone : Alone script []
+  pub cut : (played script before replies).how ≡ Cut
+  pub enough : HasReplies (played script before replies) replies
+  pub poured : Poured (played script before replies).state before second
+  pub uncut : (played script second again).how ≡ Cut → ⊥
+  pub enough_again : HasReplies (played script second again) again
+  pub same : SameAgain script (record { first = before; replies = replies; second = second; again = again })
+
+-- Two whole runs end in the same way, with the same definitions in the same order, and with the same value of each variable.
+-- (own)
+pub record PlaysSo (a b : Played) : Type 0 where
+  pub how : a.how ≡ b.how
+  pub defs : a.state.defs ≡ b.state.defs
+  pub value : (name : List ℕ) → value_of a.state.vars name ≡ value_of b.state.vars name
+
+-- The second run ends as a run that begins like the first, under the joint replies. (own)
+abbrev pub WholeRunsResume : Type 0
+WholeRunsResume = (script : Script) (before second : State) (replies again : List Reply) → StartedAgain script before second replies again
+    → PlaysSo (played script before (joint_replies (joint script (record { first = before; replies = replies; second = second; again = again }))))
+    (played script second again)

@@ -1,0 +1,34 @@
+//! Laws of runs that are cut and started again.
+//!
+//! There is no code here. Each function does nothing, and its contract is a theorem on the definitions of `meaning`. Read
+//! `specs/Finished.antt` (a run under given replies), `specs/Poured.antt` (with what a second run begins),
+//! `specs/Joint.antt` (the joint replies of a run that was cut and of a second one), `specs/Alone.antt` and
+//! `specs/Same.antt` (what is asked of tests that may leave their names unset), and then `specs/Law.antt`.
+//! `specs/Plays.antt` has the same law for whole runs. `specs/Asked.antt` is about the tests that a run makes.
+//!
+//! For example, say that a source checks the header `a.h` and then the function `f`, and that the first child answers and
+//! the second can't be started. The cache then has `ac_cv_header_a_h`. A second run that begins with it, and whose first
+//! child answers 0, asks for one child, and ends as one run would under the first answer and then 0.
+#![tactic(auto)]
+
+ghost use Rattle.resuming.specs.Asked.{AsksNoSaved};
+ghost use Rattle.resuming.specs.Law.{Resumes};
+ghost use Rattle.resuming.specs.Plays.{WholeRunsResume};
+
+/// A run was cut, and is started again with the values that its cache saves at that end. If the second run isn't cut, and
+/// if the source can be resumed, it ends as a run that begins like the first, under the joint replies: in the same way, with
+/// the same definitions in the same order, and with the same value of each variable. Messages, the log and the order of the
+/// variables may differ.
+pub fn resumes()
+    ensures law { Resumes }
+{}
+
+/// The same of whole runs as they are played, whose replies are as many as their jobs.
+pub fn whole_runs_resume()
+    ensures law { WholeRunsResume }
+{}
+
+/// A run that begins with the saved values of an end makes no test of a name that was saved, whatever the source.
+pub fn asks_no_saved()
+    ensures law { AsksNoSaved }
+{}
