@@ -85,7 +85,14 @@ pub fn link_job(
     ensures job { IfOk result (λ job. job_of (Link source.now) number vars.now defs.now ≡ Some job) }
     ensures fault { IsErrOf result NoCompiler → job_of (Link source.now) number vars.now defs.now ≡ None }
 {
-    linked(alloc, vars, vars.value_or_empty(b"LIBS"), defs, source, number)
+    linked(
+        alloc,
+        vars,
+        vars.value_or_empty(b"LIBS"),
+        defs,
+        source,
+        number,
+    )
 }
 
 /// Returns the job of [`link_job`] for variables in which LIBS has this value. The variables stay as they are.

@@ -12,6 +12,6 @@
 mod job;
 mod words;
 
-pub use job::Job;
 pub use deftable::Texts as Words;
+pub use job::Job;
 pub use words::push_all;

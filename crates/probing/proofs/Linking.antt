@@ -49,23 +49,41 @@ pub library_begins : (library function : List ℕ) (others : Option (List Part))
     → Begins (Library library function others adds) (library_test library function others adds st) (codes "for " ++ function ++ codes " in -l" ++ library)
     (library_job function library (libraries_after others st) st) (codes "yes") [] st
 library_begins library function others true st = record {
-  name = refl; checks = refl; found = λ v. refl; used = λ v now. refl; shown = λ v. refl;
+  name = refl;
+  checks = refl;
+  found = λ v. refl;
+  used = λ v now. refl;
+  shown = λ v. refl;
   leaves = λ v now. library_leaves (is_yes v) library _ now refl;
-  ready = refl; attempts = refl; otherwise = refl
+  ready = refl;
+  attempts = refl;
+  otherwise = refl;
 }
 library_begins library function others false st = record {
-  name = refl; checks = refl; found = λ v. refl; used = λ v now. refl; shown = λ v. refl;
+  name = refl;
+  checks = refl;
+  found = λ v. refl;
+  used = λ v now. refl;
+  shown = λ v. refl;
   leaves = λ v now. refl;
-  ready = refl; attempts = refl; otherwise = refl
+  ready = refl;
+  attempts = refl;
+  otherwise = refl;
 }
 
 pub libraries_begins : (function : List ℕ) (libraries : List (List ℕ)) (others : Option (List Part)) (st : State)
     → Begins (Libraries function libraries others) (libraries_test function others st) (codes "for library containing " ++ function)
     (function_job function st) (codes "none required") libraries st
 libraries_begins function libraries others st = record {
-  name = refl; checks = refl; found = λ v. refl; used = λ v now. refl; shown = λ v. refl;
+  name = refl;
+  checks = refl;
+  found = λ v. refl;
+  used = λ v now. refl;
+  shown = λ v. refl;
   leaves = λ v now. linked_leaves v _ now refl;
-  ready = refl; attempts = refl; otherwise = refl
+  ready = refl;
+  attempts = refl;
+  otherwise = refl;
 }
 
 -- ---- what follows a child

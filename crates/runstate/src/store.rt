@@ -256,12 +256,7 @@ impl Store {
 }
 
 /// Returns a text between two others.
-pub fn joined(
-    alloc: Global,
-    before: &[u8],
-    text: &[u8],
-    after: &[u8],
-) -> Result<Bytes, AllocError>
+pub fn joined(alloc: Global, before: &[u8], text: &[u8], after: &[u8]) -> Result<Bytes, AllocError>
     ensures { IfOk result (λ t. t ≡ before.now ++ text.now ++ after.now) }
 {
     let mut out = Vec::from_slice(alloc, before)?;

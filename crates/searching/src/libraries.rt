@@ -53,11 +53,7 @@ impl Drop for LibraryTest {
 }
 
 /// Returns the value of the other libraries, or no text if there are none.
-fn others_text(
-    alloc: Global,
-    store: &Store,
-    others: &Option<HereText>,
-) -> Result<Bytes, AllocError>
+fn others_text(alloc: Global, store: &Store, others: &Option<HereText>) -> Result<Bytes, AllocError>
     ensures { IfOk result (λ text. text ≡ others_text others.now store.now.vars) }
 {
     match others {
@@ -151,11 +147,7 @@ pub fn libraries_test(
 }
 
 /// Returns what AC_CHECK_LIB checks.
-pub fn library_message(
-    alloc: Global,
-    library: &[u8],
-    function: &[u8],
-) -> Result<Bytes, AllocError>
+pub fn library_message(alloc: Global, library: &[u8], function: &[u8]) -> Result<Bytes, AllocError>
     ensures { IfOk result (λ m. m ≡ codes "for " ++ function.now ++ codes " in -l" ++ library.now) }
 {
     let end = prefixed(alloc, b" in -l", library)?;

@@ -193,12 +193,7 @@ fn try_in(
 }
 
 /// Asks whether this directory has the program. `left` are the directories after it.
-fn ask_in(
-    alloc: Global,
-    directory: &Bytes,
-    search: Search,
-    left: Queue,
-) -> Result<Flow, AllocError>
+fn ask_in(alloc: Global, directory: &Bytes, search: Search, left: Queue) -> Result<Flow, AllocError>
     ensures within { IfOk result (λ flow. passed flow ≤ 0) }
     ensures asks { IfOk result (λ flow. asks_now flow ≤ 1 + length left) }
     ensures group { IfOk result IsGroup }
