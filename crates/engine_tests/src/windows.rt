@@ -28,6 +28,15 @@ cache config.cache[# config.cache of configure^Jac_cv_func_a=${ac_cv_func_a=no}^
 ways AC_CHECK_FUNCS([a b c])|args -C => stopped 1, 1 err[configure: error: no acceptable C compiler found in $PATH^J]; \
 cache config.cache[# config.cache of configure^J]
 
+// Tests of libraries ask one child at a time.
+ways AC_CHECK_LIB([m],[sin])^JAC_SEARCH_LIBS([f],[a b],[x=\"$LIBS\"])^JAC_SUBST([x])|args -C|env CC=cc;LIBS=-lz|replies 0: 1: 1: 0:|shown LIBS;x => \
+completed 2 [checking for sin in -lm... ][yes^J][checking for library containing f... ][-lb^J] HAVE_LIBM=1 LIBS=-lb -lm -lz x=-lb -lm -lz, \
+start 0, end 0, start 0, end 0, start 0, end 0, start 0, end 0; cache config.cache[# config.cache of configure^J\
+ac_cv_lib_m_sin=${ac_cv_lib_m_sin=yes}^Jac_cv_search_f=${ac_cv_search_f=-lb}^J]; record config.status
+ways AC_SEARCH_LIBS([f],[a b],[],[],[-lx])|args -C|env CC=cc|replies 1: S|shown LIBS => \
+cut 2, 1 [checking for library containing f... ][refused^J]err[configure: cut short at child 2^J], start 0, end 0, refused 0; \
+cache config.cache[# config.cache of configure^J]
+
 // three children at once
 run AC_CHECK_FUNCS([a b c])|at 3 youngest|env CC=cc|replies 0: 1: 0: => \
 completed 1 [checking for a... ][yes^J][checking for b... ][no^J][checking for c... ][yes^J] HAVE_A=1 HAVE_C=1, \

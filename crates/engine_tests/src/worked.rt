@@ -37,6 +37,12 @@ completed 2 [checking for a.h... ][yes^J][checking for f... ][yes^J] x=1 y=1, st
 cache config.cache[# config.cache of configure^Jac_cv_func_f=${ac_cv_func_f=yes}^Jac_cv_header_a_h=${ac_cv_header_a_h=yes}^J]; \
 record config.status
 
+// A search for libraries that is cut at the second, and then asks for all of them. LIBS is unset until it is found.
+twice AC_SEARCH_LIBS([f],[a b])|args -C|env CC=cc|replies 1: E|then 1: 1: 0:|shown LIBS => \
+cut 2, 1 [checking for library containing f... ][refused^J]err[configure: cut short at child 2^J], start 0, end 0, start 0, end 0; cache config.cache[# config.cache of configure^J] / \
+completed 2 [checking for library containing f... ][-lb^J] LIBS=-lb , start 0, end 0, start 0, end 0, start 0, end 0; \
+cache config.cache[# config.cache of configure^Jac_cv_search_f=${ac_cv_search_f=-lb}^J]; record config.status
+
 // A run that is stopped hands over its cache alone.
 run AC_CHECK_HEADERS([a.h])^JAS_IF([test x = y],[AC_SUBST([Q],[1])])^JAC_MSG_ERROR([no],[7])^JAC_CONFIG_FILES([out])|args -C|env CC=cc\
 |templates out.in <@Q@>|replies 0: => \

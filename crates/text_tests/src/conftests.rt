@@ -1,7 +1,9 @@
 //! csource and conftest: test programs, and the jobs that a run asks for.
 
 use crate::tables::{Tables, text_of};
-use conftest::{Job, JobFault, Words, compile_job, link_job, path_job, preproc_job, run_job};
+use conftest::{
+    Job, JobFault, Words, compile_job, link_job, link_job_with, path_job, preproc_job, run_job,
+};
 use csource::{
     declaration_source, default_includes, function_source, header_source, program_source,
     second_type_source, type_source,
@@ -11,7 +13,7 @@ use std::test::Fail;
 use testrows::{Call, Page, cut, try_rows};
 
 /// `words` and variables: the commands that compile, link and preprocess, or the number of what is wrong. `twelfth` and
-/// variables: those of job 12. `run` and one digit: the command of that job. `path` and a file: the command that looks for it.
+/// variables: those of job 12. `other`, a value of LIBS and variables: the command that links with that value. `run` and one digit: the command of that job. `path` and a file: the command that looks for it.
 /// `list` and two words.
 const COMMANDS: &[u8] = b"
 words CC=cc;CFLAGS=-O;LIBS=-lm => cc|-c|-O|conftest.c|^Jcc|-o|conftest|-O|conftest.c|-lm|^Jcc|-E|conftest.c|
@@ -25,6 +27,11 @@ words CC= ^J;CPP=cpp => 1^J1^Jcpp|conftest.c|
 
 twelfth CC=cc => cc|-c|conftest12.c|^Jcc|-o|conftest12|conftest12.c|^Jcc|-E|conftest12.c|
 twelfth CC= ccache\tcc^J;CPP= \t;CFLAGS=-O -g;CPPFLAGS='-D A';LDFLAGS=-L. -s;LIBS=-la -lb => ccache|cc|-c|-O|-g|'-D|A'|conftest12.c|^Jccache|cc|-o|conftest12|-O|-g|'-D|A'|-L.|-s|conftest12.c|-la|-lb|^Jccache|cc|-E|'-D|A'|conftest12.c|
+
+// Another value of LIBS counts in place of that of the variables, which may have none.
+other -lm  -lz;CC=cc;LDFLAGS=-s;LIBS=-lq => cc|-o|conftest|-s|conftest.c|-lm|-lz|
+other -lm;CC=cc => cc|-o|conftest|conftest.c|-lm|
+other -lm;LIBS=-lq => 1
 
 run 0 => ./conftest|
 run 2 => ./conftest2|
@@ -112,6 +119,15 @@ fn put_under(
     }
 }
 
+/// Puts the command that links under these variables with another value of LIBS.
+fn put_linked(page: &mut Page, libraries: &[u8], variables: &[u8]) {
+    let alloc = page.alloc();
+    let mut tables = Tables::new(alloc);
+    tables.take(page, b"vars", variables);
+    let job = link_job_with(alloc, &tables.vars, libraries, &tables.defs, b"x", 0);
+    put_command(page, job);
+}
+
 fn put_two_words(page: &mut Page, first: &[u8], second: &[u8]) {
     let alloc = page.alloc();
     let mut all = Vec::new(alloc);
@@ -136,6 +152,10 @@ impl Call for Commands {
         match (call.first(), text) {
             (Some(b'w'), _) => put_under(page, text, b"", None, 0),
             (Some(b't'), _) => put_under(page, text, b"", None, 12),
+            (Some(b'o'), _) => {
+                let (libraries, variables) = cut(text, b";");
+                put_linked(page, libraries, variables)
+            }
             (Some(b'r'), _) => put_given_job(
                 page,
                 run_job(alloc, if text.starts_with(b"0") { 0 } else { 2 }),
