@@ -1,5 +1,5 @@
 -- Whole runs that are played, and the runs of their statements.
-use Rattle.std.proofs.Common.{◌≡◌, ℕ, ◌+◌, ◌≤◌, List, length, take, drop, Option, Some, None, refl, sym, ap, ◌∙◌, arith, length-append}
+use Rattle.std.proofs.Common.{◌≡◌, ℕ, ◌+◌, ◌≤◌, List, ◌∷◌, [], length, take, drop, Option, Some, None, refl, sym, ap, ◌∙◌, arith, length-append}
 use Rattle.std.proofs.lemmas.List.{length-drop}
 use Rattle.crew_trait.specs.declared.reply.Reply.{Reply}
 use Rattle.deftable.specs.Table.{value_of}
@@ -49,13 +49,45 @@ enough_of (Asks jobs next) before refused rs e =
     let later : length (drop (length jobs) rs) ≡ length (all_jobs rest.groups) = omega (arith, e, both, left) in
     (few, enough_of (next t) (before + length jobs) (first_number refused (refused_after before t)) (drop (length jobs) rs) later)
 
+-- If there are as many replies as jobs, none is left, and the other way round.
+none_of : (rs : List Reply) → length rs ≡ 0 → rs ≡ []
+none_of [] e = refl
+none_of (r ∷ rs) e = absurd (omega (arith, e))
+
+none_left : (run : Run) (before : ℕ) (refused : Option ℕ) (rs : List Reply) → length rs ≡ length (all_jobs (play (last_words before refused run) rs).groups) → (finish run rs).left ≡ []
+none_left (Ends Goes_on st) before refused rs e = none_of rs e
+none_left (Ends Completed st) before refused rs e = none_of rs e
+none_left (Ends (Stopped s) st) before refused rs e = none_of rs e
+none_left (Ends Cut st) before refused rs e = none_of rs e
+none_left (Asks jobs next) before refused rs e =
+    let t = take (length jobs) rs in
+    let rest = play (last_words (before + length jobs) (first_number refused (refused_after before t)) (next t)) (drop (length jobs) rs) in
+    let both = length-append jobs (all_jobs rest.groups) in
+    let left = length-drop (length jobs) rs in
+    let later : length (drop (length jobs) rs) ≡ length (all_jobs rest.groups) = omega (arith, e, both, left) in
+    none_left (next t) (before + length jobs) (first_number refused (refused_after before t)) (drop (length jobs) rs) later
+
+as_many : (run : Run) (before : ℕ) (refused : Option ℕ) (rs : List Reply) → Enough run rs → (finish run rs).left ≡ [] → length rs ≡ length (all_jobs (play (last_words before refused run) rs).groups)
+as_many (Ends Goes_on st) before refused rs h e = ap length e
+as_many (Ends Completed st) before refused rs h e = ap length e
+as_many (Ends (Stopped s) st) before refused rs h e = ap length e
+as_many (Ends Cut st) before refused rs h e = ap length e
+as_many (Asks jobs next) before refused rs h e =
+    let t = take (length jobs) rs in
+    let rest = play (last_words (before + length jobs) (first_number refused (refused_after before t)) (next t)) (drop (length jobs) rs) in
+    let both = length-append jobs (all_jobs rest.groups) in
+    let left = length-drop (length jobs) rs in
+    let later : length (drop (length jobs) rs) ≡ length (all_jobs rest.groups) = as_many (next t) (before + length jobs) (first_number refused (refused_after before t)) (drop (length jobs) rs) h.1 e in
+    let few = h.0 in
+    omega (arith, few, both, left, later)
+
 pub whole_runs_resume : WholeRunsResume
 whole_runs_resume script before second replies again h =
     let joined = joint_replies (joint script (record { first = before; replies = replies; second = second; again = again })) in
     let first = same_end (meaning script before) _ _ replies in
     let last = same_end (meaning script second) _ _ again in
     let both = same_end (meaning script before) _ _ joined in
-    let ends = resumes script before second replies again
+    let law = resumes script before second replies again
     (record {
       resumable = h.resumable;
       commands = h.commands;
@@ -71,8 +103,12 @@ whole_runs_resume script before second replies again h =
       enough_again = enough_of (meaning script second) _ _ again h.enough_again;
       same = h.same;
     }) in
+    let ends = law.ends in
     record {
-      how = both.how ∙ ends.how ∙ sym last.how;
-      defs = both.defs ∙ ends.defs ∙ sym last.defs;
-      value = λ n. ap (λ l. value_of l n) both.vars ∙ ends.value n ∙ sym (ap (λ l. value_of l n) last.vars);
+      enough = as_many (meaning script before) _ _ joined law.enough (ends.left ∙ none_left (meaning script second) _ _ again h.enough_again);
+      ends = record {
+        how = both.how ∙ ends.how ∙ sym last.how;
+        defs = both.defs ∙ ends.defs ∙ sym last.defs;
+        value = λ n. ap (λ l. value_of l n) both.vars ∙ ends.value n ∙ sym (ap (λ l. value_of l n) last.vars);
+      };
     }

@@ -43,8 +43,12 @@ pub record PlaysSo (a b : Played) : Type 0 where
   pub defs : a.state.defs ≡ b.state.defs
   pub value : (name : List ℕ) → value_of a.state.vars name ≡ value_of b.state.vars name
 
--- The second run ends as a run that begins like the first, under the joint replies. (own)
+-- The second run ends as a run that begins like the first, under these replies, which are as many as its jobs. (own)
+pub record PlaysAgain (script : Script) (before second : State) (replies again : List Reply) : Type 0 where
+  pub enough : HasReplies (played script before replies) replies
+  pub ends : PlaysSo (played script before replies) (played script second again)
+
+-- This holds of the joint replies. (own)
 abbrev pub WholeRunsResume : Type 0
 WholeRunsResume = (script : Script) (before second : State) (replies again : List Reply) → StartedAgain script before second replies again
-    → PlaysSo (played script before (joint_replies (joint script (record { first = before; replies = replies; second = second; again = again }))))
-    (played script second again)
+    → PlaysAgain script before second (joint_replies (joint script (record { first = before; replies = replies; second = second; again = again }))) again
