@@ -17,3 +17,5 @@ mod Unasked
 mod Counter
 mod Example
 mod Plays
+mod Refusals
+mod WholeRuns
