@@ -19,3 +19,4 @@ mod Example
 mod Plays
 mod Refusals
 mod WholeRuns
+mod Pouring

@@ -28,7 +28,7 @@ use Rattle.resuming.proofs.Rounds.{after_rounds, turns_part, after_more, rounds_
 mutual
   unfolding meaning chosen joint joint_cases SameAgain SameCases
 
-  script_part : (script : Script) (tested known : List (List ℕ)) → ((n : List ℕ) → Among n tested → Among n known) → HasCommands script → HasTestNames script → Resumable None tested script
+  pub script_part : (script : Script) (tested known : List (List ℕ)) → ((n : List ℕ) → Among n tested → Among n known) → HasCommands script → HasTestNames script → Resumable None tested script
       → IsPart known known (tested_in script) (meaning script) (joint script) (SameAgain script) (Alone script)
   script_part Done tested known w a v r = id_part known (Alone Done)
   script_part (Then s rest) tested known w a v r =

@@ -7,3 +7,4 @@ pub mod Law
 pub mod Asked
 pub mod Plays
 pub mod Refusals
+pub mod Opening
