@@ -18,7 +18,7 @@ use Rattle.laws.specs.Cached.{with_cached}
 use Rattle.laws.proofs.Values.{same_self, cond_true, cases_value, value_here, without_unset}
 use Rattle.laws.proofs.Endings.{ends_then, ends_asks_all, ends_map}
 use Rattle.laws.proofs.CachedTests.{set_row, broken_ends}
-use Rattle.laws.proofs.BatchEntries.{row_at}
+use Rattle.laws.proofs.BatchEntries.{have_vars, row_at}
 use Rattle.resuming.specs.Finished.{finish}
 use Rattle.resuming.proofs.Names.{same_or_not, value_else}
 use Rattle.resuming.proofs.Runs.{at_end}
@@ -40,19 +40,10 @@ if_defs : (b : Bool) (name : List ℕ) (st : State) → (defined_if b name st).d
 if_defs true name st = refl
 if_defs false name st = refl
 
-if_vars : (b : Bool) (name : List ℕ) (st : State) → (defined_if b name st).vars ≡ st.vars
-if_vars true name st = refl
-if_vars false name st = refl
-
 defined_as : (listed : Listed) (entry v : List ℕ) (st : State) → (with_entry_defined listed entry (is_yes (Some v)) st).defs ≡ entry_defs listed entry (Some v) st.defs
 defined_as Header entry v st = if_defs (is_yes (Some v)) (codes "HAVE_" ++ symbol_part entry) st
 defined_as Function entry v st = if_defs (is_yes (Some v)) (codes "HAVE_" ++ symbol_part entry) st
 defined_as Declaration entry v st = refl
-
-vars_kept : (listed : Listed) (entry : List ℕ) (found : Bool) (st : State) → (with_entry_defined listed entry found st).vars ≡ st.vars
-vars_kept Header entry found st = if_vars found (codes "HAVE_" ++ symbol_part entry) st
-vars_kept Function entry found st = if_vars found (codes "HAVE_" ++ symbol_part entry) st
-vars_kept Declaration entry found st = refl
 
 -- ---- one entry
 
@@ -121,8 +112,8 @@ found_end batch entry v job now end none vars defs asked =
     (record {
       value = v;
       unasked = λ z. absurd (asked z);
-      here = ap (λ l. value_of l name) (vars_kept batch.listed entry (is_yes (Some v)) end) ∙ here;
-      others = λ n x. ap (λ l. value_of l n) (vars_kept batch.listed entry (is_yes (Some v)) end) ∙ ap (λ l. value_of l n) vars ∙ value_else now.vars name v n x;
+      here = ap (λ l. value_of l name) (have_vars batch.listed entry (is_yes (Some v)) end) ∙ here;
+      others = λ n x. ap (λ l. value_of l n) (have_vars batch.listed entry (is_yes (Some v)) end) ∙ ap (λ l. value_of l n) vars ∙ value_else now.vars name v n x;
       kept = λ w e. let z : None ≡ Some w = sym none ∙ e in cc;
       defs = defined_as batch.listed entry v end ∙ ap (entry_defs batch.listed entry (Some v)) defs;
     })
@@ -149,8 +140,8 @@ one_end batch entry job reply first now =
     (record {
       value = some.0;
       unasked = λ z. some;
-      here = ap (λ l. value_of l name) (vars_kept batch.listed entry (is_yes (Some some.0)) mid) ∙ some.1;
-      others = λ n x. ap (λ l. value_of l n) (vars_kept batch.listed entry (is_yes (Some some.0)) mid);
+      here = ap (λ l. value_of l name) (have_vars batch.listed entry (is_yes (Some some.0)) mid) ∙ some.1;
+      others = λ n x. ap (λ l. value_of l n) (have_vars batch.listed entry (is_yes (Some some.0)) mid);
       kept = λ v e. let z : Some some.0 ≡ Some v = sym some.1 ∙ e in cc;
       defs = defined_as batch.listed entry some.0 mid;
     }))

@@ -26,7 +26,7 @@ use Rattle.resuming.proofs.Near.{IsCached, Near, Sets, leads_by, EndsAlike, Read
 use Rattle.resuming.proofs.Names.{among_either, cached_apart, cc_plain}
 use Rattle.resuming.proofs.Parts.{sets_none}
 use Rattle.resuming.proofs.BatchDefinitions.{defs_all}
-use Rattle.resuming.proofs.Batched.{ReadsBatch, DoneWith, Cached, names_in, AllThere, with_replies, enough_asks, batch_like, cached_run, defs_same, names_cached, among_or_not, other_name, unset_asks, answered_well, answer_value, joint_length, joint_answer, joint_ok}
+use Rattle.resuming.proofs.Batched.{ReadsBatch, DoneWith, Cached, names_in, AllThere, with_replies, batch_enough, enough_asks, batch_like, cached_run, defs_same, names_cached, among_or_not, other_name, unset_asks, answered_well, answer_value, joint_length, joint_answer, joint_ok}
 
 -- A batch that continued.
 record Filled (batch : Batch) (st now : State) : Type 0 where
@@ -158,10 +158,14 @@ batch_near known batch f s E f2 s2 near filled at_end saved vars defined = recor
       (among_or_not n (names_in batch));
 }
 
+-- These replies are enough for the batch, and it ends with them in this way.
+abbrev Mended : Batch → State → List Reply → Finished → Type 0
+Mended batch st rs s = Enough (batched batch st) rs × EndsAlike (finish (batched batch st) rs) s
+
 -- The first run was cut in it.
 cut_ends : (known : List (List ℕ)) (batch : Batch) (F S E : State) (t l t2 l2 : List Reply) (f s : Finished) → lacks_compiler F ≡ false → lacks_compiler S ≡ false → Near known F S E
     → length t ≡ length (jobs_in (asking batch 1 [] batch.entries F)) → length t2 ≡ length (jobs_in (asking batch 1 [] batch.entries S)) → (d : DoneWith batch F t l f) → d.end ≡ E → (d2 : DoneWith batch S t2 l2 s) → refused_in t2 ≡ false
-    → EndsAlike (finish (batched batch F) (joint_entries batch (asking batch 1 [] batch.entries F) t (asking batch 1 [] batch.entries S) t2 ++ l2)) s
+    → Mended batch F (joint_entries batch (asking batch 1 [] batch.entries F) t (asking batch 1 [] batch.entries S) t2 ++ l2) s
 cut_ends known batch F S E t l t2 l2 f s cf cs near len len2 d at_e d2 ok =
     let a = asking batch 1 [] batch.entries F in
     let a2 = asking batch 1 [] batch.entries S in
@@ -203,7 +207,7 @@ cut_ends known batch F S E t l t2 l2 f s cf cs near len len2 d at_e d2 ok =
       };
       left = refl;
     } in
-    subst (λ x. EndsAlike x s) (sym d3.is) (subst (λ y. EndsAlike (record { how = how_if (refused_in j); state = d3.end; taken = j; left = l2 }) y) (sym d2.is) ends)
+    (batch_enough batch F (j ++ l2) cf few, subst (λ x. EndsAlike x s) (sym d3.is) (subst (λ y. EndsAlike (record { how = how_if (refused_in j); state = d3.end; taken = j; left = l2 }) y) (sym d2.is) ends))
   where
     by_success : (n : List ℕ) → Among n (names_in batch) → (r : Reply) (o : Option Bool) → success r ≡ o → value_of S.vars n ≡ option_map yes_or_no o
         → option_map yes_or_no (success (answer_or o r (answer_to n batch (asking batch 1 [] batch.entries S) t2))) ≡ value_by (value_of S.vars n) (answer_to n batch (asking batch 1 [] batch.entries S) t2)
@@ -274,9 +278,9 @@ batch_by known later batch p E Cut near ready is =
     (length-take-le (length jobs) p.replies few) (length-take-le (length jobs2) p.again few2) d (sym (ap (λ x. x.state) d.is) ∙ ends) d2
     (how_uncut (refused_in (take (length jobs2) p.again)) (λ c. ready.uncut (ap (λ x. x.how) d2.is ∙ c))) in (
       is,
-      subst (λ x. EndsAlike (finish (batched batch p.first) (joint_entries batch (asking batch 1 [] batch.entries p.first) f.taken (asking batch 1 [] batch.entries p.second) s.taken ++ x)) s) (sym (ap (λ x. x.left) d2.is))
-          (subst (λ x. EndsAlike (finish (batched batch p.first) (joint_entries batch (asking batch 1 [] batch.entries p.first) f.taken (asking batch 1 [] batch.entries p.second) x ++ drop (length jobs2) p.again)) s) (sym (ap (λ x. x.taken) d2.is))
-          (subst (λ x. EndsAlike (finish (batched batch p.first) (joint_entries batch (asking batch 1 [] batch.entries p.first) x (asking batch 1 [] batch.entries p.second) (take (length jobs2) p.again) ++ drop (length jobs2) p.again)) s) (sym (ap (λ x. x.taken) d.is)) whole)),
+      subst (λ x. Mended batch p.first (joint_entries batch (asking batch 1 [] batch.entries p.first) f.taken (asking batch 1 [] batch.entries p.second) s.taken ++ x) s) (sym (ap (λ x. x.left) d2.is))
+          (subst (λ x. Mended batch p.first (joint_entries batch (asking batch 1 [] batch.entries p.first) f.taken (asking batch 1 [] batch.entries p.second) x ++ drop (length jobs2) p.again) s) (sym (ap (λ x. x.taken) d2.is))
+          (subst (λ x. Mended batch p.first (joint_entries batch (asking batch 1 [] batch.entries p.first) x (asking batch 1 [] batch.entries p.second) (take (length jobs2) p.again) ++ drop (length jobs2) p.again) s) (sym (ap (λ x. x.taken) d.is)) whole)),
     ))
     (cases_Bool (lacks_compiler p.first))
 

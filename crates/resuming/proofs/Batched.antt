@@ -172,6 +172,18 @@ with_replies batch st rs c h =
           (batch_defines batch st rs (how_if (refused_in t)) (ap (λ (f : Finished). f.how) is) (how_goes (refused_in t)));
     }
 
+enough_all : (js : List Job) (next : List Reply → Run) (rs : List Reply) → length js ≤ length rs → Enough (next (take (length js) rs)) (drop (length js) rs) → Enough (asks_all js next) rs
+enough_all [] next rs h k = k
+enough_all (j ∷ js) next rs h k = (h, k)
+
+-- There are enough replies for a batch if there are as many as jobs.
+pub batch_enough : (batch : Batch) (st : State) (rs : List Reply) → lacks_compiler st ≡ false → length (jobs_in (asking batch 1 [] batch.entries st)) ≤ length rs → Enough (batched batch st) rs
+batch_enough batch st rs c h =
+    let a = asking batch 1 [] batch.entries st in
+    let t = take (length (jobs_in a)) rs in
+    let go = batch_commits batch st t c (length-take-le (length (jobs_in a)) rs h) in
+    enough_all (jobs_in a) (λ replies. committed batch st a replies false st) rs h (subst (λ run. Enough run (drop (length (jobs_in a)) rs)) (sym go.is) tt)
+
 -- ---- a batch whose names are set
 
 pub record Cached (batch : Batch) (now : State) (run : Run) : Type 0 where

@@ -4,21 +4,20 @@ use Rattle.std.specs.Prelude.{unwrap_or, not, ◌&&◌, bytes_eq}
 use Rattle.jobs.specs.declared.job.Job.{Job}
 use Rattle.deftable.specs.Table.{value_of}
 use Rattle.shellword.specs.declared.part.Part.{Part}
-use Rattle.syntax.specs.declared.listed.Listed.{Listed}
-use Rattle.syntax.specs.declared.listed.Listed.TheVariants.{Header, Function, Declaration}
 use Rattle.syntax.specs.Commands.{AreCommands}
 use Rattle.syntax.specs.Resumable.{Among, IsOrdinary, MayRead, Resumable}
 use Rattle.syntax.specs.Script.{Script}
 use Rattle.meaning.specs.State.{State, with_definition, How, Goes_on, Completed, Stopped, Cut, Run, Ends, as_is}
 use Rattle.meaning.specs.Asking.{success, only_reply, compiled, same, Attempt}
 use Rattle.meaning.specs.Tests.{Test, broken, checking, cached_test, Row, tested_by, may_begin, tested, with_value, by_attempts}
-use Rattle.meaning.specs.Rows.{Kind, Program, Single, Sized, Library, Libraries, is_yes, is_linked, symbol_part, with_library, with_library_if, with_linked, defined_if, with_entry_defined, name_of, attempts_of, attempts_with, libraries_after, otherwise_of, after_of, row_of}
+use Rattle.meaning.specs.Rows.{Kind, Program, Single, Sized, Library, Libraries, is_yes, is_linked, symbol_part, with_library, with_library_if, with_linked, name_of, attempts_of, attempts_with, libraries_after, otherwise_of, after_of, row_of}
 use Rattle.meaning.specs.Meaning.{check, meaning}
 use Rattle.laws.specs.Ends.{AtEnds, Breaks}
 use Rattle.laws.specs.Cached.{IsSet, with_cached}
 use Rattle.laws.proofs.Values.{cases_value, value_here}
 use Rattle.laws.proofs.Endings.{ends_then, ends_map, ends_either, ends_heard}
 use Rattle.laws.proofs.CachedTests.{set_cached, set_row_asks_nothing, broken_ends, broken_vars}
+use Rattle.laws.proofs.BatchEntries.{defined_vars, have_vars}
 use Rattle.laws.proofs.CommandLemmas.{OwnOnly, own_unset, row_alone, commands_write_alone}
 use Rattle.resuming.specs.Joint.{checks}
 use Rattle.resuming.proofs.Near.{IsCached, Alike, Every, Like}
@@ -131,15 +130,6 @@ tested_form r st none body = subst (λ o. AtEnds (Form r.after r.test.name st) (
 
 -- ---- rows
 
-defined_vars : (b : Bool) (name : List ℕ) (st : State) → (defined_if b name st).vars ≡ st.vars
-defined_vars true name st = refl
-defined_vars false name st = refl
-
-entry_vars : (listed : Listed) (entry : List ℕ) (found : Bool) (st : State) → (with_entry_defined listed entry found st).vars ≡ st.vars
-entry_vars Header entry found st = defined_vars found (codes "HAVE_" ++ symbol_part entry) st
-entry_vars Function entry found st = defined_vars found (codes "HAVE_" ++ symbol_part entry) st
-entry_vars Declaration entry found st = refl
-
 library_values : (text : List ℕ) (n : List ℕ) (st : State) → IsCached n → value_of (with_library text st).vars n ≡ value_of st.vars n
 library_values text n st c = value_else st.vars (codes "LIBS") _ n (λ e. cached_apart n (codes "LIBS") c libs_plain (sym e))
 
@@ -166,7 +156,7 @@ PlainKind (Libraries function libraries others) = Unit {0}
 
 pub after_values : (kind : Kind) → PlainKind kind → (o : Option (List ℕ)) (n : List ℕ) (st : State) → IsCached n → value_of (after_of kind o st).vars n ≡ value_of st.vars n
 after_values (Program search own) p o n st c = value_else st.vars search.variable (unwrap_or o []) n (λ e. cached_apart n search.variable c p (sym e))
-after_values (Single listed entry includes true) p o n st c = ap (λ l. value_of l n) (entry_vars listed entry (is_yes o) st)
+after_values (Single listed entry includes true) p o n st c = ap (λ l. value_of l n) (have_vars listed entry (is_yes o) st)
 after_values (Single listed entry includes false) p o n st c = refl
 after_values (Sized name includes true) p o n st c = ap (λ l. value_of l n) (defined_vars (is_yes o) (codes "HAVE_" ++ symbol_part name) st)
 after_values (Sized name includes false) p o n st c = refl

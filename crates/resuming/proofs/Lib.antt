@@ -17,3 +17,6 @@ mod Unasked
 mod Counter
 mod Example
 mod Plays
+mod Refusals
+mod WholeRuns
+mod Pouring

@@ -35,7 +35,7 @@ use Rattle.laws.specs.Cached.{StandsOnce, KeepsOnce}
 use Rattle.laws.proofs.Values.{cases_value, value_without, not_same, once_unset, once_with}
 use Rattle.laws.proofs.Endings.{ends_attempted}
 use Rattle.laws.proofs.CachedTests.{set_cached, unset_cached}
-use Rattle.resuming.specs.Finished.{Finished, finish, with_taken}
+use Rattle.resuming.specs.Finished.{Finished, finish, with_taken, Enough}
 use Rattle.resuming.proofs.Near.{Alike, Like}
 use Rattle.resuming.proofs.Names.{same_or_not, value_same, cc_plain, cflags_plain, cppflags_plain, ldflags_plain, libs_plain, cpp_plain, path_plain}
 
@@ -85,6 +85,15 @@ like_finish at (Asks js n) (Asks ks m) rs e =
     subst (λ (k : List Job). Both at (with_taken (take (length js) rs) (finish (n (take (length js) rs)) (drop (length js) rs))) (with_taken (take (length k) rs) (finish (m (take (length k) rs)) (drop (length k) rs)))) e.0 same_jobs
 like_finish at (Ends h a) (Asks ks m) rs e = absurd e
 like_finish at (Asks js n) (Ends g b) rs e = absurd e
+
+-- Enough replies for one are enough for the other.
+pub like_enough : (at : List ℕ → Type 0) (a b : Run) (rs : List Reply) → Like at a b → Enough b rs → Enough a rs
+like_enough at (Ends h a) (Ends g b) rs e k = tt
+like_enough at (Asks js n) (Asks ks m) rs e k =
+    let x : Enough (Asks js m) rs = subst (λ (l : List Job). Enough (Asks l m) rs) (sym e.0) k in
+    (x.0, like_enough at (n (take (length js) rs)) (m (take (length js) rs)) (drop (length js) rs) (e.1 (take (length js) rs)) x.1)
+like_enough at (Ends h a) (Asks ks m) rs e k = tt
+like_enough at (Asks js n) (Ends g b) rs e k = absurd e
 
 -- ---- states
 

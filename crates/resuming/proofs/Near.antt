@@ -85,11 +85,11 @@ pub record Passes (tested : List (List ℕ)) (end : State) (f s : Finished) (tak
   pub left2 : s.left ≡ p.again
   pub near : Near tested p.first p.second end
 
--- What comes of a part of both runs: they went through it, or the first was cut in it and, under the joint replies, ends as the
--- second does.
+-- What comes of a part of both runs: they went through it, or the first was cut in it and, under the joint replies, which are
+-- enough, ends as the second does.
 abbrev pub Comes : List (List ℕ) → State → Run → List Reply → Run → List Reply → Joint → Type 0
 Comes tested end first replies second again (Past taken p) = Passes tested end (finish first replies) (finish second again) taken p
-Comes tested end first replies second again (Whole all) = ((finish first replies).how ≡ Cut) × EndsAlike (finish first all) (finish second again)
+Comes tested end first replies second again (Whole all) = ((finish first replies).how ≡ Cut) × (Enough first all × EndsAlike (finish first all) (finish second again))
 
 -- A part of the statements: the names that are known to be tested before and after it, those that it may set, its joint
 -- replies, what is given of its replies, and of the names that are tested later.

@@ -11,8 +11,8 @@ use Rattle.resuming.specs.Joint.{Joint, Past, Whole, Pair, in_front, joint_then}
 use Rattle.resuming.specs.Same.{Chosen, AndThen}
 use Rattle.resuming.proofs.Near.{IsCached, Alike, Every, Like, follow, Near, Sets, leads_by, Leads, EndsAlike, Ready, Passes, Comes, IsPart}
 use Rattle.resuming.proofs.Names.{among_left, among_right}
-use Rattle.resuming.proofs.Runs.{finish_then, enough_first, enough_rest, finish_again}
-use Rattle.resuming.proofs.Liking.{like_then, like_cond, like_finish}
+use Rattle.resuming.proofs.Runs.{finish_then, enough_first, enough_rest, finish_again, enough_again, enough_then}
+use Rattle.resuming.proofs.Liking.{like_then, like_cond, like_finish, like_enough}
 
 -- ---- names that may be set
 
@@ -105,11 +105,17 @@ front seen mid E a b k rs qs taken p (Whole w) enough passes h =
     let eqa = finish_then a k rs ∙ went (finish a rs) taken p.first p.replies k passes.first passes.state passes.left passes.took in
     let eqb = finish_then b k qs ∙ went (finish b qs) (finish b qs).taken p.second p.again k passes.second passes.state2 passes.left2 refl in
     let same = ap (λ t. finish a (t ++ w)) (sym passes.took) ∙ finish_again a rs w enough in
+    let state = ap (λ f. f.state) same ∙ passes.state in
     let eqc : finish (then_run a k) (taken ++ w) ≡ with_taken taken (finish (k p.first) w) =
-    finish_then a k (taken ++ w) ∙ went (finish a (taken ++ w)) taken p.first w k (ap (λ f. f.how) same ∙ passes.first) (ap (λ f. f.state) same ∙ passes.state) (ap (λ f. f.left) same) (ap (λ f. f.taken) same ∙ passes.took) in (
+    finish_then a k (taken ++ w) ∙ went (finish a (taken ++ w)) taken p.first w k (ap (λ f. f.how) same ∙ passes.first) state (ap (λ f. f.left) same) (ap (λ f. f.taken) same ∙ passes.took) in
+    let first_enough : Enough a (taken ++ w) = subst (λ t. Enough a (t ++ w)) passes.took (enough_again a rs w enough) in (
       ap (λ f. f.how) eqa ∙ h.0,
-      subst (λ x. EndsAlike x (finish (then_run b k) qs)) (sym eqc)
-          (subst (λ y. EndsAlike (with_taken taken (finish (k p.first) w)) y) (sym eqb) (with_like taken (finish b qs).taken _ _ h.1)),
+      (
+        enough_then a k (taken ++ w) first_enough
+            (λ on. subst (λ x. Enough (k x) (finish a (taken ++ w)).left) (sym state) (subst (λ l. Enough (k p.first) l) (sym (ap (λ f. f.left) same)) h.1.0)),
+        subst (λ x. EndsAlike x (finish (then_run b k) qs)) (sym eqc)
+            (subst (λ y. EndsAlike (with_taken taken (finish (k p.first) w)) y) (sym eqb) (with_like taken (finish b qs).taken _ _ h.1.1)),
+      ),
     )
 
 follow_alike : (x y : How) (f g : Finished) (k : State → Run) → x ≡ y → EndsAlike f g → ((s t : State) → Alike Every s t → Like Every (k s) (k t)) → EndsAlike (follow x f k) (follow y g k)
@@ -131,15 +137,21 @@ follow_alike (Stopped n) Goes_on f g k e h ext = cc
 follow_alike (Stopped n) Completed f g k e h ext = cc
 follow_alike (Stopped n) Cut f g k e h ext = cc
 
-comes_then : (seen mid : List (List ℕ)) (E : State) (a b : Run) (k : State → Run) (rs qs : List Reply) (j : Joint) (rest : Pair → Joint) → Enough a rs → ((s t : State) → Alike Every s t → Like Every (k s) (k t)) → Comes mid E a rs b qs j → ((taken : List Reply) (p : Pair) → j ≡ Past taken p → Passes mid E (finish a rs) (finish b qs) taken p → Comes seen E (k p.first) p.replies (k p.second) p.again (rest p)) → Comes seen E (then_run a k) rs (then_run b k) qs (joint_then j rest)
-comes_then seen mid E a b k rs qs (Past taken p) rest enough ext h next =
+comes_then : (seen mid : List (List ℕ)) (E : State) (a b : Run) (k : State → Run) (rs qs : List Reply) (j : Joint) (rest : Pair → Joint) → Enough a rs → Enough (then_run b k) qs → ((s t : State) → Alike Every s t → Like Every (k s) (k t)) → Comes mid E a rs b qs j → ((taken : List Reply) (p : Pair) → j ≡ Past taken p → Passes mid E (finish a rs) (finish b qs) taken p → Comes seen E (k p.first) p.replies (k p.second) p.again (rest p)) → Comes seen E (then_run a k) rs (then_run b k) qs (joint_then j rest)
+comes_then seen mid E a b k rs qs (Past taken p) rest enough again ext h next =
     front seen mid E a b k rs qs taken p (rest p) enough h (next taken p refl h)
-comes_then seen mid E a b k rs qs (Whole w) rest enough ext h next = (
-  ap (λ f. f.how) (finish_then a k rs) ∙ follow_cut (finish a rs).how (finish a rs) k h.0 refl,
-  subst (λ x. EndsAlike x (finish (then_run b k) qs)) (sym (finish_then a k w))
-      (subst (λ y. EndsAlike (follow (finish a w).how (finish a w) k) y) (sym (finish_then b k qs))
-      (follow_alike (finish a w).how (finish b qs).how (finish a w) (finish b qs) k (h.1).how h.1 ext)),
-)
+comes_then seen mid E a b k rs qs (Whole w) rest enough again ext h next =
+    let ends = h.1.1 in (
+      ap (λ f. f.how) (finish_then a k rs) ∙ follow_cut (finish a rs).how (finish a rs) k h.0 refl,
+      (
+        enough_then a k w h.1.0
+            (λ on. like_enough Every (k (finish a w).state) (k (finish b qs).state) (finish a w).left (ext (finish a w).state (finish b qs).state ends.state)
+            (subst (λ l. Enough (k (finish b qs).state) l) (sym ends.left) (enough_rest b k qs again (sym ends.how ∙ on)))),
+        subst (λ x. EndsAlike x (finish (then_run b k) qs)) (sym (finish_then a k w))
+            (subst (λ y. EndsAlike (follow (finish a w).how (finish a w) k) y) (sym (finish_then b k qs))
+            (follow_alike (finish a w).how (finish b qs).how (finish a w) (finish b qs) k ends.how ends ext)),
+      ),
+    )
 
 and_then : (j : Joint) (P : Pair → Type 0) (taken : List Reply) (p : Pair) → j ≡ Past taken p → AndThen j P → P p
 and_then j P taken p e h = let x : AndThen (Past taken p) P = subst (λ y. AndThen y P) e h in x
@@ -153,7 +165,7 @@ part_then before mid after n1 n2 a b ja jb sa sb fa fb x y = record {
   sets = λ st rs enough. sets_run n1 n2 st (a st) b rs enough (x.sets st rs (enough_first (a st) b rs enough)) y.sets;
   comes = λ later E p fits near ready same.
       let first_ready = ready_first later n2 E (a p.first) (a p.second) b p.replies p.again ready y.sets in
-      comes_then after mid E (a p.first) (a p.second) b p.replies p.again (ja p) jb first_ready.enough y.like
+      comes_then after mid E (a p.first) (a p.second) b p.replies p.again (ja p) jb first_ready.enough ready.again y.like
       (x.comes (n2 ++ later) E p fits.0 near first_ready same.0)
       (λ taken q is passes. y.comes later E q fits.1 passes.near (ready_rest later mid E (a p.first) (a p.second) b p.replies p.again taken q ready passes) (and_then (ja p) sb taken q is same.1));
 }

@@ -1,23 +1,17 @@
 -- Whole runs that are played, and the runs of their statements.
-use Rattle.std.proofs.Common.{◌≡◌, ℕ, ◌+◌, ◌≤◌, List, length, take, drop, Option, Some, None, refl, sym, ap, ◌∙◌, arith, length-append}
+use Rattle.std.proofs.Common.{◌≡◌, ℕ, ◌+◌, ◌≤◌, List, ◌∷◌, [], length, take, drop, Option, Some, None, refl, ap, arith, length-append}
 use Rattle.std.proofs.lemmas.List.{length-drop}
 use Rattle.crew_trait.specs.declared.reply.Reply.{Reply}
-use Rattle.deftable.specs.Table.{value_of}
 use Rattle.meaning.specs.State.{State, Goes_on, Completed, Stopped, Cut, Run, Ends, Asks}
-use Rattle.meaning.specs.Meaning.{meaning}
-use Rattle.meaning.specs.Play.{Played, play, all_jobs, first_number, refused_after, with_cut_line, last_words}
+use Rattle.meaning.specs.Play.{Played, play, all_jobs, first_number, refused_after, with_cut_line, last_words, whole}
 use Rattle.resuming.specs.Finished.{Finished, finish, Enough}
-use Rattle.resuming.specs.Poured.{poured}
-use Rattle.resuming.specs.Joint.{joint, joint_replies}
-use Rattle.resuming.specs.Plays.{WholeRunsResume}
-use Rattle.resuming.proofs.Whole.{resumes}
-use Rattle.cachefile.specs.Text.{saved_value}
+use Rattle.resuming.specs.Plays.{HasReplies}
 
 -- A run with its last words ends in the same way, with the same variables and definitions.
-record SameEnd (p : Played) (f : Finished) : Type 0 where
-  how : p.how ≡ f.how
-  vars : p.state.vars ≡ f.state.vars
-  defs : p.state.defs ≡ f.state.defs
+pub record SameEnd (p : Played) (f : Finished) : Type 0 where
+  pub how : p.how ≡ f.how
+  pub vars : p.state.vars ≡ f.state.vars
+  pub defs : p.state.defs ≡ f.state.defs
 
 line_vars : (o : Option ℕ) (st : State) → (with_cut_line o st).vars ≡ st.vars
 line_vars None st = refl
@@ -27,7 +21,7 @@ line_defs : (o : Option ℕ) (st : State) → (with_cut_line o st).defs ≡ st.d
 line_defs None st = refl
 line_defs (Some k) st = refl
 
-same_end : (run : Run) (before : ℕ) (refused : Option ℕ) (rs : List Reply) → SameEnd (play (last_words before refused run) rs) (finish run rs)
+pub same_end : (run : Run) (before : ℕ) (refused : Option ℕ) (rs : List Reply) → SameEnd (play (last_words before refused run) rs) (finish run rs)
 same_end (Ends Goes_on st) before refused rs = record { how = refl; vars = refl; defs = refl }
 same_end (Ends Completed st) before refused rs = record { how = refl; vars = refl; defs = refl }
 same_end (Ends (Stopped s) st) before refused rs = record { how = refl; vars = refl; defs = refl }
@@ -38,7 +32,7 @@ same_end (Asks jobs next) before refused rs =
     record { how = later.how; vars = later.vars; defs = later.defs }
 
 -- There are enough replies.
-enough_of : (run : Run) (before : ℕ) (refused : Option ℕ) (rs : List Reply) → length rs ≡ length (all_jobs (play (last_words before refused run) rs).groups) → Enough run rs
+pub enough_of : (run : Run) (before : ℕ) (refused : Option ℕ) (rs : List Reply) → length rs ≡ length (all_jobs (play (last_words before refused run) rs).groups) → Enough run rs
 enough_of (Ends how st) before refused rs e = tt
 enough_of (Asks jobs next) before refused rs e =
     let t = take (length jobs) rs in
@@ -49,30 +43,44 @@ enough_of (Asks jobs next) before refused rs e =
     let later : length (drop (length jobs) rs) ≡ length (all_jobs rest.groups) = omega (arith, e, both, left) in
     (few, enough_of (next t) (before + length jobs) (first_number refused (refused_after before t)) (drop (length jobs) rs) later)
 
-pub whole_runs_resume : WholeRunsResume
-whole_runs_resume script before second replies again h =
-    let joined = joint_replies (joint script (record { first = before; replies = replies; second = second; again = again })) in
-    let first = same_end (meaning script before) _ _ replies in
-    let last = same_end (meaning script second) _ _ again in
-    let both = same_end (meaning script before) _ _ joined in
-    let ends = resumes script before second replies again
-    (record {
-      resumable = h.resumable;
-      commands = h.commands;
-      names = h.names;
-      alone = h.alone;
-      cut = sym first.how ∙ h.cut;
-      enough = enough_of (meaning script before) _ _ replies h.enough;
-      poured = record {
-        defs = h.poured.defs;
-        value = λ n. h.poured.value n ∙ ap (λ l. poured (saved_value n (value_of l n)) (value_of before.vars n)) first.vars;
-      };
-      uncut = λ c. h.uncut (last.how ∙ c);
-      enough_again = enough_of (meaning script second) _ _ again h.enough_again;
-      same = h.same;
-    }) in
-    record {
-      how = both.how ∙ ends.how ∙ sym last.how;
-      defs = both.defs ∙ ends.defs ∙ sym last.defs;
-      value = λ n. ap (λ l. value_of l n) both.vars ∙ ends.value n ∙ sym (ap (λ l. value_of l n) last.vars);
-    }
+-- If there are as many replies as jobs, none is left, and the other way round.
+none_of : (rs : List Reply) → length rs ≡ 0 → rs ≡ []
+none_of [] e = refl
+none_of (r ∷ rs) e = absurd (omega (arith, e))
+
+pub none_left : (run : Run) (before : ℕ) (refused : Option ℕ) (rs : List Reply) → length rs ≡ length (all_jobs (play (last_words before refused run) rs).groups) → (finish run rs).left ≡ []
+none_left (Ends Goes_on st) before refused rs e = none_of rs e
+none_left (Ends Completed st) before refused rs e = none_of rs e
+none_left (Ends (Stopped s) st) before refused rs e = none_of rs e
+none_left (Ends Cut st) before refused rs e = none_of rs e
+none_left (Asks jobs next) before refused rs e =
+    let t = take (length jobs) rs in
+    let rest = play (last_words (before + length jobs) (first_number refused (refused_after before t)) (next t)) (drop (length jobs) rs) in
+    let both = length-append jobs (all_jobs rest.groups) in
+    let left = length-drop (length jobs) rs in
+    let later : length (drop (length jobs) rs) ≡ length (all_jobs rest.groups) = omega (arith, e, both, left) in
+    none_left (next t) (before + length jobs) (first_number refused (refused_after before t)) (drop (length jobs) rs) later
+
+pub as_many : (run : Run) (before : ℕ) (refused : Option ℕ) (rs : List Reply) → Enough run rs → (finish run rs).left ≡ [] → length rs ≡ length (all_jobs (play (last_words before refused run) rs).groups)
+as_many (Ends Goes_on st) before refused rs h e = ap length e
+as_many (Ends Completed st) before refused rs h e = ap length e
+as_many (Ends (Stopped s) st) before refused rs h e = ap length e
+as_many (Ends Cut st) before refused rs h e = ap length e
+as_many (Asks jobs next) before refused rs h e =
+    let t = take (length jobs) rs in
+    let rest = play (last_words (before + length jobs) (first_number refused (refused_after before t)) (next t)) (drop (length jobs) rs) in
+    let both = length-append jobs (all_jobs rest.groups) in
+    let left = length-drop (length jobs) rs in
+    let later : length (drop (length jobs) rs) ≡ length (all_jobs rest.groups) = as_many (next t) (before + length jobs) (first_number refused (refused_after before t)) (drop (length jobs) rs) h.1 e in
+    let few = h.0 in
+    omega (arith, few, both, left, later)
+
+-- The same of whole runs.
+pub whole_how : (run : Run) (rs : List Reply) → (play (whole run) rs).how ≡ (finish run rs).how
+whole_how run rs = (same_end run 0 None rs).how
+
+pub whole_enough : (run : Run) (rs : List Reply) → HasReplies (play (whole run) rs) rs → Enough run rs
+whole_enough run rs e = enough_of run 0 None rs e
+
+pub whole_left : (run : Run) (rs : List Reply) → HasReplies (play (whole run) rs) rs → (finish run rs).left ≡ []
+whole_left run rs e = none_left run 0 None rs e

@@ -1,6 +1,6 @@
 -- Runs that continue.
-use Rattle.std.proofs.Common.{◌≡◌, ℕ, ◌≤◌, List, ◌++◌, length, take, drop, refl, sym, ap, ◌∙◌, append_assoc}
-use Rattle.std.proofs.lemmas.List.{length-take-le}
+use Rattle.std.proofs.Common.{◌≡◌, ℕ, ◌≤◌, List, ◌++◌, length, take, drop, refl, sym, ap, ◌∙◌, append_assoc, subst, arith, length-append}
+use Rattle.std.proofs.lemmas.List.{length-take-le, take-append-drop}
 use Rattle.std.proofs.Math.Seq.{take-append_seam, drop-append_seam}
 use Rattle.crew_trait.specs.declared.reply.Reply.{Reply}
 use Rattle.meaning.specs.State.{State, How, Goes_on, Completed, Stopped, Cut, Run, Ends, Asks, then_run}
@@ -53,6 +53,37 @@ finish_again (Asks jobs next) rs more h =
     ∙ ap (λ x. with_taken x (finish (next x) (drop (length jobs) (r ++ (g.taken ++ more))))) (take_front (length jobs) rs g.taken more h.0)
     ∙ ap (λ x. with_taken r (finish (next r) x)) (drop_front (length jobs) rs g.taken more h.0)
     ∙ ap (with_taken r) (finish_again (next r) (drop (length jobs) rs) more h.1)
+
+-- The replies that it took, and those that it left, are all.
+pub taken_left : (run : Run) (rs : List Reply) → (finish run rs).taken ++ (finish run rs).left ≡ rs
+taken_left (Ends how st) rs = refl
+taken_left (Asks jobs next) rs =
+    let f = finish (next (take (length jobs) rs)) (drop (length jobs) rs) in
+    append_assoc (take (length jobs) rs) f.taken f.left ∙ ap (λ l. take (length jobs) rs ++ l) (taken_left (next (take (length jobs) rs)) (drop (length jobs) rs)) ∙ take-append-drop (length jobs) rs
+
+-- There are enough of them, too.
+pub enough_again : (run : Run) (rs more : List Reply) → Enough run rs → Enough run ((finish run rs).taken ++ more)
+enough_again (Ends how st) rs more h = tt
+enough_again (Asks jobs next) rs more h =
+    let n = length jobs in
+    let r = take n rs in
+    let g = finish (next r) (drop n rs) in
+    let rest : Enough (next r) (g.taken ++ more) = enough_again (next r) (drop n rs) more h.1 in
+    let front : Enough (next (take n (r ++ (g.taken ++ more)))) (drop n (r ++ (g.taken ++ more))) =
+    subst (λ x. Enough (next x) (drop n (r ++ (g.taken ++ more)))) (sym (take_front n rs g.taken more h.0)) (subst (λ x. Enough (next r) x) (sym (drop_front n rs g.taken more h.0)) rest) in
+    let few : n ≤ length (r ++ (g.taken ++ more)) =
+    let a = length-append r (g.taken ++ more) in
+    let b = length-take-le n rs h.0 in
+    omega (arith, a, b) in
+    subst (Enough (Asks jobs next)) (sym (append_assoc r g.taken more)) (few, front)
+
+-- One run after the other.
+pub enough_then : (run : Run) (rest : State → Run) (rs : List Reply) → Enough run rs → ((finish run rs).how ≡ Goes_on → Enough (rest (finish run rs).state) (finish run rs).left) → Enough (then_run run rest) rs
+enough_then (Ends Goes_on st) rest rs h k = k refl
+enough_then (Ends Completed st) rest rs h k = tt
+enough_then (Ends (Stopped status) st) rest rs h k = tt
+enough_then (Ends Cut st) rest rs h k = tt
+enough_then (Asks jobs next) rest rs h k = (h.0, enough_then (next (take (length jobs) rs)) rest (drop (length jobs) rs) h.1 k)
 
 pub at_end : (P : How → State → Type 0) (run : Run) (rs : List Reply) → AtEnds P run → P (finish run rs).how (finish run rs).state
 at_end P (Ends how st) rs h = h

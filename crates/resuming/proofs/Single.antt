@@ -17,6 +17,7 @@ use Rattle.resuming.proofs.Near.{IsCached, Alike, Every, Like, Near, Sets, leads
 use Rattle.resuming.proofs.Names.{same_or_not}
 use Rattle.resuming.proofs.Runs.{at_end}
 use Rattle.resuming.proofs.Forms.{Own, own_else, Went, Still, Form, IsTest, Settles}
+use Rattle.resuming.proofs.Liking.{like_enough}
 use Rattle.resuming.proofs.Parts.{sets_none, ends_like, readable_same}
 
 -- ---- parts that ask nothing
@@ -200,7 +201,7 @@ test_by known later name after part p E Cut test apart near ready same is =
       defs = near.alike.defs;
       value = λ n a. ⊎_elim (λ c. ⊎_elim (λ e. sym (kept n c) ∙ ap (λ x. value_of x.vars n) ends ∙ sym e) (λ h. h.1.0 ∙ sym h.0) (near.saved n c)) (λ q. near.alike.value n q) (cases_Bool (is_cache_name n));
     } in
-    (is, ends_like (part p.first) (part p.second) p.again (test.every p.first p.second alike)))
+    (is, (like_enough Every (part p.first) (part p.second) p.again (test.every p.first p.second alike) ready.again, ends_like (part p.first) (part p.second) p.again (test.every p.first p.second alike))))
     (λ some. let z : Goes_on ≡ Cut = sym (ap (λ w. (finish w p.replies).how) (test.set p.first some.0 some.1).run_is) ∙ is in cc)
     (cases_value (value_of p.first.vars name))
 test_by known later name after part p E Goes_on test apart near ready same is =

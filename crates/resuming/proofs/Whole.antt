@@ -10,7 +10,7 @@ use Rattle.syntax.specs.TestNames.{HasTestNames, HasTestNamesIn}
 use Rattle.meaning.specs.State.{State, Scope, How, Cut, Run}
 use Rattle.meaning.specs.Meaning.{effect, rounds_of, is_taken, in_turn, meaning, chosen}
 use Rattle.laws.proofs.Values.{cases_value}
-use Rattle.resuming.specs.Finished.{Finished, finish}
+use Rattle.resuming.specs.Finished.{Finished, finish, Enough}
 use Rattle.resuming.specs.Poured.{poured}
 use Rattle.resuming.specs.Alone.{tested_rounds, tested_in, tested_cases, IsNone, AlonePlain, AloneRounds, Alone, AloneIn}
 use Rattle.resuming.specs.Joint.{Joint, Past, Whole, Pair, joint_one, joint_plain, joint_rounds, checks, joint, joint_cases, joint_replies}
@@ -28,7 +28,7 @@ use Rattle.resuming.proofs.Rounds.{after_rounds, turns_part, after_more, rounds_
 mutual
   unfolding meaning chosen joint joint_cases SameAgain SameCases
 
-  script_part : (script : Script) (tested known : List (List ℕ)) → ((n : List ℕ) → Among n tested → Among n known) → HasCommands script → HasTestNames script → Resumable None tested script
+  pub script_part : (script : Script) (tested known : List (List ℕ)) → ((n : List ℕ) → Among n tested → Among n known) → HasCommands script → HasTestNames script → Resumable None tested script
       → IsPart known known (tested_in script) (meaning script) (joint script) (SameAgain script) (Alone script)
   script_part Done tested known w a v r = id_part known (Alone Done)
   script_part (Then s rest) tested known w a v r =
@@ -84,7 +84,7 @@ saved_by before second E n e keeps =
     inl (both ∙ ⊎_elim (λ k. ap (λ o. poured o (value_of E.vars n)) k ∙ ap (λ o. poured o o) en ∙ sym en) (λ k. ap (λ o. poured o (value_of E.vars n)) k) (saved_or_not n (value_of E.vars n))))
     (cases_value (value_of before.vars n))
 
-ends_whole : (E : State) (a b : Run) (rs qs : List Reply) (j : Joint) → (finish a rs).how ≡ Cut → Comes [] E a rs b qs j → EndsAlike (finish a (joint_replies j)) (finish b qs)
+ends_whole : (E : State) (a b : Run) (rs qs : List Reply) (j : Joint) → (finish a rs).how ≡ Cut → Comes [] E a rs b qs j → Enough a (joint_replies j) × EndsAlike (finish a (joint_replies j)) (finish b qs)
 ends_whole E a b rs qs (Past taken p) cut h = let first = h.first in cc
 ends_whole E a b rs qs (Whole all) cut h = h.1
 
@@ -104,8 +104,9 @@ resumes_by script before second replies again part h =
       uncut = h.uncut;
     } in
     let p : Pair = record { first = before; replies = replies; second = second; again = again } in
-    let ends = ends_whole E (meaning script before) (meaning script second) replies again (joint script p) h.cut (part.comes [] E p h.alone near ready h.same) in
-    record { how = ends.how; defs = ends.state.defs; value = λ n. ends.state.value n tt; left = ends.left }
+    let both = ends_whole E (meaning script before) (meaning script second) replies again (joint script p) h.cut (part.comes [] E p h.alone near ready h.same) in
+    let ends = both.1 in
+    record { enough = both.0; ends = record { how = ends.how; defs = ends.state.defs; value = λ n. ends.state.value n tt; left = ends.left } }
 
 pub resumes : Resumes
 resumes script before second replies again h = resumes_by script before second replies again (script_part script [] [] (λ n k. k) h.commands h.names h.resumable) h

@@ -36,11 +36,12 @@ pub record EndsSo (a b : Finished) : Type 0 where
   pub value : (name : List ℕ) → value_of a.state.vars name ≡ value_of b.state.vars name
   pub left : a.left ≡ b.left
 
--- The second run ends as a run that begins like the first, under the joint replies. (own)
-abbrev pub EndsAgain : Script → State → State → List Reply → List Reply → Type 0
-EndsAgain script before second replies again =
-    EndsSo (finish (meaning script before) (joint_replies (joint script (record { first = before; replies = replies; second = second; again = again }))))
-    (finish (meaning script second) again)
+-- The second run ends as a run that begins like the first, under the joint replies, of which there are enough. (own)
+pub record EndsAgain (script : Script) (before second : State) (replies again : List Reply) : Type 0 where
+  pub enough : Enough (meaning script before) (joint_replies (joint script (record { first = before; replies = replies; second = second; again = again })))
+  pub ends : EndsSo
+      (finish (meaning script before) (joint_replies (joint script (record { first = before; replies = replies; second = second; again = again }))))
+      (finish (meaning script second) again)
 
 -- This holds of all such runs. (own)
 abbrev pub Resumes : Type 0

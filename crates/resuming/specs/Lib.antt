@@ -6,3 +6,5 @@ pub mod Same
 pub mod Law
 pub mod Asked
 pub mod Plays
+pub mod Refusals
+pub mod Opening

@@ -1,5 +1,5 @@
 -- The law for whole runs, as they are played: a whole run that is cut has a line about it at its end.
-use Rattle.std.specs.Prelude.{◌≡◌, ℕ, List, [], length}
+use Rattle.std.specs.Prelude.{◌≡◌, ℕ, List, [], None, length}
 use Rattle.crew_trait.specs.declared.reply.Reply.{Reply}
 use Rattle.deftable.specs.Table.{value_of}
 use Rattle.syntax.specs.Commands.{HasCommands}
@@ -8,7 +8,7 @@ use Rattle.syntax.specs.Script.{Script}
 use Rattle.syntax.specs.TestNames.{HasTestNames}
 use Rattle.meaning.specs.State.{State, Cut}
 use Rattle.meaning.specs.Meaning.{meaning}
-use Rattle.meaning.specs.Play.{Played, play, all_jobs, whole}
+use Rattle.meaning.specs.Play.{Played, play, all_jobs, whole, first_refused}
 use Rattle.resuming.specs.Poured.{Poured}
 use Rattle.resuming.specs.Alone.{Alone}
 use Rattle.resuming.specs.Joint.{joint, joint_replies}
@@ -43,8 +43,14 @@ pub record PlaysSo (a b : Played) : Type 0 where
   pub defs : a.state.defs ≡ b.state.defs
   pub value : (name : List ℕ) → value_of a.state.vars name ≡ value_of b.state.vars name
 
--- The second run ends as a run that begins like the first, under the joint replies. (own)
+-- The second run ends as a run that begins like the first, under these replies. They are as many as its jobs, and none is
+-- refused. (own)
+pub record PlaysAgain (script : Script) (before second : State) (replies again : List Reply) : Type 0 where
+  pub enough : HasReplies (played script before replies) replies
+  pub answered : first_refused replies ≡ None
+  pub ends : PlaysSo (played script before replies) (played script second again)
+
+-- This holds of the joint replies. (own)
 abbrev pub WholeRunsResume : Type 0
 WholeRunsResume = (script : Script) (before second : State) (replies again : List Reply) → StartedAgain script before second replies again
-    → PlaysSo (played script before (joint_replies (joint script (record { first = before; replies = replies; second = second; again = again }))))
-    (played script second again)
+    → PlaysAgain script before second (joint_replies (joint script (record { first = before; replies = replies; second = second; again = again }))) again

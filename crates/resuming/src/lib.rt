@@ -4,7 +4,8 @@
 //! `specs/Finished.antt` (a run under given replies), `specs/Poured.antt` (with what a second run begins),
 //! `specs/Joint.antt` (the joint replies of a run that was cut and of a second one), `specs/Alone.antt` and
 //! `specs/Same.antt` (what is asked of tests that may leave their names unset), and then `specs/Law.antt`.
-//! `specs/Plays.antt` has the same law for whole runs. `specs/Asked.antt` is about the tests that a run makes.
+//! `specs/Plays.antt` has the same law for whole runs. `specs/Opening.antt` is about the cache text that leads from the first
+//! to the second, `specs/Asked.antt` about the tests that a run makes, and `specs/Refusals.antt` about the replies that cut it.
 //!
 //! For example, say that a source checks the header `a.h` and then the function `f`, and that the first child answers and
 //! the second can't be started. The cache then has `ac_cv_header_a_h`. A second run that begins with it, and whose first
@@ -13,7 +14,9 @@
 
 ghost use Rattle.resuming.specs.Asked.{AsksNoSaved};
 ghost use Rattle.resuming.specs.Law.{Resumes};
+ghost use Rattle.resuming.specs.Opening.{CachePours};
 ghost use Rattle.resuming.specs.Plays.{WholeRunsResume};
+ghost use Rattle.resuming.specs.Refusals.{CutsAtRefusals};
 
 /// A run was cut, and is started again with the values that its cache saves at that end. If the second run isn't cut, and
 /// if the source can be resumed, it ends as a run that begins like the first, under the joint replies: in the same way, with
@@ -23,12 +26,24 @@ pub fn resumes()
     ensures law { Resumes }
 {}
 
-/// The same of whole runs as they are played, whose replies are as many as their jobs.
+/// The same of whole runs as they are played, whose replies are as many as their jobs. The joint replies are as many, too,
+/// and none of them is refused.
 pub fn whole_runs_resume()
     ensures law { WholeRunsResume }
+{}
+
+/// If the cache text that is written at the end of a run is poured over the same opening, a run of a source that can be resumed
+/// begins with the saved values, as `whole_runs_resume` wants it. The first run may have had a cache of its own.
+pub fn cache_pours()
+    ensures law { CachePours }
 {}
 
 /// A run that begins with the saved values of an end makes no test of a name that was saved, whatever the source.
 pub fn asks_no_saved()
     ensures law { AsksNoSaved }
+{}
+
+/// A whole run that is played with as many replies as jobs is cut exactly if one of them is refused.
+pub fn cuts_at_refusals()
+    ensures law { CutsAtRefusals }
 {}

@@ -1,4 +1,4 @@
-use Rattle.resuming.proofs.Plays as lemmas
+use Rattle.resuming.proofs.WholeRuns as lemmas
 use Rattle.resuming.proofs.whole_runs_resume.Goals as goal
 
 pub returns : goal.returns
