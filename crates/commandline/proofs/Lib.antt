@@ -4,3 +4,4 @@ pub mod Lines
 pub mod SlashLemmas
 pub mod Turns
 pub mod SourceDirectories
+pub mod Cuttings

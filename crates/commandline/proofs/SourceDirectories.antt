@@ -2,7 +2,8 @@
 use Rattle.std.proofs.Common.{◌≡◌, ℕ, ◌+◌, ◌<◌, ◌≤◌, List, Option, length, drop, get_or, sym, ap, ◌∙◌}
 use Rattle.std.proofs.Math.ListN.{drop_of_length-le}
 use Rattle.commandline.proofs.Turns.{next_of}
-use Rattle.commandline.specs.Srcdir.{awaited_after, srcdir_after, srcdir_from}
+use Rattle.commandline.specs.Arguments.{awaited_after}
+use Rattle.commandline.specs.Srcdir.{srcdir_after, srcdir_from}
 use Rattle.commandline.specs.declared.argument.Target.{Target}
 
 pub directory_more : (awaited next : Option Target) (srcdir now : List ℕ) (i : ℕ) (args : List (List ℕ)) (x : List ℕ) (total : List ℕ) → i < length args

@@ -142,6 +142,11 @@ abbrev pub awaited_by : Said → Option Target
 awaited_by (Awaits target) = Some target
 awaited_by other = None
 
+-- The option that needs the next argument as its value, after an argument that may be such a value itself. (own)
+abbrev pub awaited_after : Option Target → List ℕ → Option Target
+awaited_after (Some target) argument = None
+awaited_after None argument = awaited_by (said_by argument)
+
 -- A setting, and those after it. (own)
 abbrev pub and_then : Result Setting OptionFault → Result (List Setting) OptionFault → Result (List Setting) OptionFault
 and_then first rest = first >>= λ setting. rest >>= λ settings. Ok (setting ∷ settings)

@@ -1,6 +1,8 @@
 pub mod Arguments
 pub mod CommandLine
 pub mod Directories
+pub mod Kept
+pub mod Parts
 pub mod Reading
 pub mod Said
 pub mod Slashes

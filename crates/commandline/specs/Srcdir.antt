@@ -1,14 +1,36 @@
 -- The directory of the source, as a command line names it, whether or not its arguments are right (own).
-use Rattle.std.specs.Prelude.{ℕ, List, [], ◌∷◌, Option, Some, None, codes}
-use Rattle.commandline.specs.Arguments.{Said, Gives, awaited_by, said_by}
+use Rattle.std.specs.Prelude.{◌≡◌, ℕ, List, [], ◌∷◌, ◌++◌, Option, Some, None, codes}
+use Rattle.commandline.specs.Arguments.{Said, Gives, awaited_after, said_by}
+use Rattle.commandline.specs.Parts.{Part, Word, Valued, AreParts}
 use Rattle.commandline.specs.Slashes.{without_slashes}
 use Rattle.commandline.specs.declared.argument.Target.{Target}
 use Rattle.commandline.specs.declared.argument.Target.TheVariants.{InstallDirectory, Srcdir, CacheFile}
 
--- The option that needs the next argument as its value, after an argument that may be such a value itself. (own)
-abbrev pub awaited_after : Option Target → List ℕ → Option Target
-awaited_after (Some target) argument = None
-awaited_after None argument = awaited_by (said_by argument)
+-- ---- as a rule
+
+-- The part names this directory as that of the source. (Autoconf's manual, "configure Invocation")
+pub data NamesSource : Part → List ℕ → Type 0 where
+  in_one : (directory : List ℕ) → NamesSource (Word (codes "--srcdir=" ++ directory)) directory
+  in_two : (option directory : List ℕ) → NamesSource (Valued option Srcdir directory) directory
+
+-- The last directory that a part names or, if none names one, the directory before. (own)
+pub data IsLastSource : List ℕ → List Part → List ℕ → Type 0 where
+  no_more : {before : List ℕ} → IsLastSource before [] before
+  named : {before directory last : List ℕ} {part : Part} {parts : List Part} → NamesSource part directory
+      → IsLastSource directory parts last → IsLastSource before (part ∷ parts) last
+  passed : {before last : List ℕ} {part : Part} {parts : List Part} → ((directory : List ℕ) → ¬ (NamesSource part directory))
+      → IsLastSource before parts last → IsLastSource before (part ∷ parts) last
+
+-- The arguments, right or not, name this directory: that of the last part that names one, or the current one, without final
+-- slashes. (Autoconf's manual, "configure Invocation")
+pub record NamesDirectory (arguments : List (List ℕ)) (directory : List ℕ) : Type 0 where
+  pub parts : List Part
+  pub are_parts : AreParts arguments parts
+  pub source : List ℕ
+  pub is_last : IsLastSource (codes ".") parts source
+  pub is : directory ≡ without_slashes source
+
+-- ---- as a function
 
 -- The directory after an option with this value. (own)
 abbrev pub srcdir_of_value : Target → List ℕ → List ℕ → List ℕ

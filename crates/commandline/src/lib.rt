@@ -1,18 +1,23 @@
-//! The arguments of a configure run, one by one: what each says, the standard directories, and the directory of the source.
+//! The arguments of a configure run, one by one: what each says, the standard directories, the directory of the source, and
+//! the arguments that the record of a run keeps.
 //!
-//! The rules are `specs/CommandLine.antt` (which settings arguments give, and which argument has an error) and
-//! `specs/Directories.antt`. `specs/Arguments.antt` follows the code, and `proofs/Words.antt` and `proofs/Lines.antt` prove
+//! The rules are `specs/CommandLine.antt` (which settings arguments give, and which argument has an error),
+//! `specs/Parts.antt` (which arguments are values of options, whether or not all are right) and `specs/Directories.antt`.
+//! `specs/Arguments.antt` follows the code, and `proofs/Words.antt`, `proofs/Lines.antt` and `proofs/Cuttings.antt` prove
 //! that it agrees with the rules. The crate `options` makes the variables of a run of the settings.
 //!
-//! In the code, read `directory` and `argument`, then `slashes` and `srcdir`.
+//! In the code, read `directory` and `argument`, then `slashes`, `awaiting`, `srcdir` and `kept`.
 #![tactic(auto)]
 
 pub mod argument;
+mod awaiting;
 pub mod directory;
 pub mod fault;
+pub mod kept;
 pub mod slashes;
 pub mod srcdir;
 
 pub use directory::{Directory, directories};
 pub use fault::OptionFault;
+pub use kept::kept_args;
 pub use srcdir::srcdir_of;

@@ -1,33 +1,13 @@
 //! The directory of the source.
 
-ghost use Rattle.std.specs.Prelude.{◌≡◌, None, codes};
-ghost use Rattle.commandline.specs.Arguments.{awaited_by as awaited_of};
+ghost use Rattle.std.specs.Prelude.{◌≡◌, ℕ, List, None, codes};
 ghost use Rattle.commandline.specs.Said.{said_of};
 ghost use Rattle.commandline.specs.Srcdir as words;
 
 use crate::argument::{Said, Target, said_by};
+use crate::awaiting::awaited_after;
 use crate::slashes::without_slashes;
 use deftable::Bytes;
-
-/// Returns the option that needs the next argument as its value, after an argument with this reading.
-fn awaited_by(said: Said<'_>) -> Option<Target>
-    ensures { result ≡ awaited_of (said_of said.entry) }
-{
-    match said {
-        Said::Awaits(target) => Some(target),
-        _ => None,
-    }
-}
-
-/// Returns the option that needs the next argument as its value, after an argument that may be such a value itself.
-fn awaited_after(awaited: Option<Target>, argument: &Bytes) -> Option<Target>
-    ensures { result ≡ words.awaited_after awaited argument.now }
-{
-    match awaited {
-        Some(_) => None,
-        None => awaited_by(said_by(argument.as_slice())),
-    }
-}
 
 /// Returns the directory after an option with this value.
 fn srcdir_of_value<'a>(target: Target, value: &'a [u8], srcdir: &'a [u8]) -> &'a [u8]
@@ -78,7 +58,10 @@ fn srcdir_named(args: &[Bytes]) -> &[u8]
 /// right, `srcdir` of a run's settings is the same.
 #[tactic(auto, unfolding(crate::specs::Srcdir::srcdir_of))]
 pub fn srcdir_of(args: &[Bytes]) -> &[u8]
-    ensures { result.now ≡ words.srcdir_of args.now }
+    // The arguments name what is returned, and no other directory.
+    ensures sound { words.NamesDirectory args.now result.now }
+    ensures complete { (directory : List ℕ) → words.NamesDirectory args.now directory → result.now ≡ directory }
+    ensures exact { result.now ≡ words.srcdir_of args.now }
 {
     without_slashes(srcdir_named(args))
 }

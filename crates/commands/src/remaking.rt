@@ -14,7 +14,7 @@ use std::io::Write;
 use std::rt::Files;
 
 /// The name of the record.
-const RECORD: &[u8] = b"config.status";
+pub const RECORD: &[u8] = b"config.status";
 
 /// Prints the lines of the outputs. Returns whether standard output took them.
 fn print_made<W: Write, E: Write>(lines: &[u8], output: &mut W, errors: &mut E) -> bool

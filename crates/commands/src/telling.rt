@@ -40,8 +40,8 @@ fn missing_again(fault: &RemakeFault) -> &[u8] {
     }
 }
 
-/// Reports why outputs are not made again.
-pub(crate) fn tell_remake<E: Write>(errors: &mut E, fault: &RemakeFault) -> u8
+/// Reports why outputs are not made again, or a run is not done again, and returns the exit status.
+pub fn tell_remake<E: Write>(errors: &mut E, fault: &RemakeFault) -> u8
     ensures { result ≡ 2 }
 {
     tell_named(errors, fault, missing_again(fault))

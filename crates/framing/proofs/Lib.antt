@@ -1,2 +1,3 @@
 mod Versions
 pub mod Remakes
+mod Rechecks

@@ -2,6 +2,7 @@
 use Rattle.std.specs.Prelude.{◌≡◌, ℕ, Bool, true, false, ◌||◌, List, [], ◌∷◌, ◌++◌, Option, Some, None, Result, Ok, Err, option_map, if◌then◌else◌}
 use Rattle.cachefile.specs.Cache.{cache_of, vars_after}
 use Rattle.cachefile.specs.Line.{Setting}
+use Rattle.commandline.specs.Kept.{kept_args}
 use Rattle.deftable.specs.declared.note.Note.{Note}
 use Rattle.making.specs.Choice.{missing}
 use Rattle.options.specs.Opening.{opening}
@@ -38,10 +39,10 @@ abbrev pub old_of : Option (List ℕ) → Option (List ℕ) → Result (List Set
 old_of (Some name) (Some text) = named of_cache (cache_of text)
 old_of name text = Ok []
 
--- What a run begins with: the precious variables are checked against the cache, which is then poured over the variables.
--- (Autoconf's manual, "Cache Files" and "Setting Output Variables")
-unfoldable pub started : Option (List ℕ) → List (List ℕ × List ℕ) → Script → Settings → Result Start Fault
-started cache templates script settings = do
+-- What a run with these arguments begins with: the precious variables are checked against the cache, which is then poured over
+-- the variables. (Autoconf's manual, "Cache Files" and "Setting Output Variables")
+unfoldable pub started : List (List ℕ) → Option (List ℕ) → List (List ℕ × List ℕ) → Script → Settings → Result Start Fault
+started arguments cache templates script settings = do
   old ← old_of settings.cache_name cache
   result ← named of_precious (checked (lists_of script).precious settings.vars old)
   _ ← present settings.no_create templates (lists_of script).files (lists_of script).headers
@@ -49,6 +50,7 @@ started cache templates script settings = do
     cache_name = settings.cache_name;
     srcdir = settings.srcdir;
     no_create = settings.no_create;
+    args = kept_args arguments;
     vars = vars_after old result.0;
     notes = settings.notes ++ result.1;
   })
@@ -58,7 +60,7 @@ unfoldable pub accepted : List (List ℕ) → List (List ℕ × List ℕ) → Op
 accepted arguments environment cache templates script = do
   settings ← named of_option (opening (lists_of script).features (lists_of script).packages (lists_of script).precious arguments environment)
   if settings.help || settings.version then Ok (Shows script settings)
-      else (started cache templates script settings >>= λ start. Ok (Starts script start))
+      else (started arguments cache templates script settings >>= λ start. Ok (Starts script start))
 
 -- What a function found, given the statements. (own)
 abbrev pub seen : Script → found.Found → Accepted

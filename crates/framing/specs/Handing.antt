@@ -17,10 +17,10 @@ abbrev pub cache_things : Option (List ℕ) → List (List ℕ × List ℕ) → 
 cache_things None vars = []
 cache_things (Some name) vars = record { kind = Cache; name = name; text = cache_text_of vars } ∷ []
 
--- The record of a run that leaves these variables and definitions. (own)
-abbrev pub run_record : Script → List ℕ → List (List ℕ × List ℕ) → List (List ℕ × List ℕ) → Record
-run_record script srcdir vars defs =
-    record_of_run vars defs (lists_of script).substituted srcdir (lists_of script).files (lists_of script).headers
+-- The record of a run that keeps these arguments and leaves these variables and definitions. (own)
+abbrev pub run_record : Script → List ℕ → List (List ℕ) → List (List ℕ × List ℕ) → List (List ℕ × List ℕ) → Record
+run_record script srcdir args vars defs =
+    record_of_run vars defs (lists_of script).substituted srcdir args (lists_of script).files (lists_of script).headers
 
 -- The record. (Autoconf's manual, "config.status Invocation")
 abbrev pub record_thing : Record → Thing

@@ -3,4 +3,5 @@ pub mod Faults
 pub mod Shown
 pub mod Given
 pub mod Handing
+pub mod Rechecked
 pub mod Remade

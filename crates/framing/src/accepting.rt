@@ -17,7 +17,8 @@ ghost use Rattle.framing.specs.declared.fault.Fault.TheVariants.{Plan as Unplann
 use crate::fault::Fault;
 use crate::noting::joined;
 use cachefile::{OldCache, read_cache};
-use deftable::{Bytes, Notes, Vars};
+use commandline::kept_args;
+use deftable::{Bytes, Notes, Texts, Vars};
 use making::find_missing;
 use options::{Settings, check_precious, read_args};
 use outputlist::Output;
@@ -116,6 +117,8 @@ pub struct Start {
     pub cache_name: Option<Bytes>,
     pub srcdir: Bytes,
     pub no_create: bool,
+    /// The arguments that its record keeps.
+    pub args: Texts,
     /// The variables, once the cache is poured over them.
     pub vars: Vars,
     /// The notes about arguments and precious variables.
@@ -127,11 +130,12 @@ pub struct Start {
 fn started(
     alloc: Global,
     source: &Source,
+    args: &[Bytes],
     settings: Settings,
     cache: Option<&[u8]>,
     templates: &[(Bytes, Bytes)],
 ) -> Result<Start, Fault>
-    ensures { Gives (λ s. s) result (given.started (option_map (λ t. t.now) cache.entry) templates.now (script_of source.now) settings) }
+    ensures { Gives (λ s. s) result (given.started args.now (option_map (λ t. t.now) cache.entry) templates.now (script_of source.now) settings) }
 {
     let Settings {
         mut vars,
@@ -146,10 +150,12 @@ fn started(
     check_templates(alloc, no_create, templates, source)?;
     old.pour(&mut vars)?;
     let notes = joined(alloc, &notes, more)?;
+    let args = kept_args(alloc, args)?;
     Ok(Start {
         cache_name,
         srcdir,
         no_create,
+        args,
         vars,
         notes,
     })
@@ -180,6 +186,6 @@ pub fn accepted(
     if settings.help || settings.version {
         return Ok(Found::Shows(settings));
     }
-    let start = started(alloc, source, settings, cache, templates)?;
+    let start = started(alloc, source, args, settings, cache, templates)?;
     Ok(Found::Starts(start))
 }

@@ -54,7 +54,7 @@ impl fmt::Debug for Fault {
     }
 }
 
-/// Why outputs are not made again, or not all of them: the first fault, in this order.
+/// Why outputs are not made again, or not all of them, or a run can't be done again: the first fault, in this order.
 ///
 /// It prints as its kind, with the numbers of the fault that it holds. The name of a template, which may be any bytes, is left
 /// out.
@@ -72,6 +72,9 @@ pub enum RemakeFault {
     /// The put of this number, counted from 1, was refused.
     #[error("put {0}")]
     PutRefused(u64),
+    /// The record is of the first version, which has no arguments.
+    #[error("recheck")]
+    NoArguments,
     /// Memory ran out. Nothing was handed over.
     #[error("memory")]
     OutOfMemory,

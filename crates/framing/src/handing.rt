@@ -10,7 +10,7 @@ ghost use Rattle.framing.specs.Handing as hands;
 
 use crate::report::Outcome;
 use cachefile::cache_text;
-use deftable::{Bytes, Defs, Vars};
+use deftable::{Bytes, Defs, Texts, Vars};
 use making::{add_outputs, record_of};
 use outputs::{Kind, Thing, Things};
 use status_record::{Record, write_record};
@@ -98,11 +98,12 @@ fn run_record(
     alloc: Global,
     source: &Source,
     srcdir: &[u8],
+    args: &Texts,
     vars: &Vars,
     defs: &Defs,
 ) -> Result<Record, AllocError>
     requires { AreOutputs (lists_of (script_of source.now)).files (lists_of (script_of source.now)).headers }
-    ensures is { IfOk result (λ r. r ≡ hands.run_record (script_of source.now) srcdir.now vars.now defs.now) }
+    ensures is { IfOk result (λ r. r ≡ hands.run_record (script_of source.now) srcdir.now args.now vars.now defs.now) }
     ensures record { IfOk result IsRecord }
 {
     record_of(
@@ -111,6 +112,7 @@ fn run_record(
         defs,
         source.substituted(),
         srcdir,
+        args,
         source.files(),
         source.headers(),
     )
@@ -123,6 +125,7 @@ pub fn things_of(
     source: &Source,
     cache_name: Option<&Bytes>,
     srcdir: &[u8],
+    args: &Texts,
     no_create: bool,
     templates: &[(Bytes, Bytes)],
     outcome: Outcome,
@@ -131,14 +134,14 @@ pub fn things_of(
 ) -> Result<Things, AllocError>
     requires { AreOutputs (lists_of (script_of source.now)).files (lists_of (script_of source.now)).headers }
     ensures all { IfOk result (λ t. t ≡ hands.things_of (option_map (λ n. n.now) cache_name.entry) no_create templates.now outcome vars.now
-        (hands.run_record (script_of source.now) srcdir.now vars.now defs.now)) }
-    ensures reads_back { OnOk result (hands.IfCompleted outcome (hands.ReadsBack (hands.run_record (script_of source.now) srcdir.now vars.now defs.now))) }
+        (hands.run_record (script_of source.now) srcdir.now args.now vars.now defs.now)) }
+    ensures reads_back { OnOk result (hands.IfCompleted outcome (hands.ReadsBack (hands.run_record (script_of source.now) srcdir.now args.now vars.now defs.now))) }
 {
     let mut things = Things::new(alloc);
     add_cache(alloc, &mut things, cache_name, vars)?;
     match outcome {
         Outcome::Completed => {
-            let record = run_record(alloc, source, srcdir, vars, defs)?;
+            let record = run_record(alloc, source, srcdir, args, vars, defs)?;
             add_completed(alloc, &mut things, &record, no_create, templates)?;
             Ok(things)
         }

@@ -3,19 +3,21 @@
 //!
 //! [`accepted`] goes over the arguments, the environment, the cache and the templates of a source, up to the first fault, and
 //! says what a run begins with, or that a text is to be [`shown`]. [`things_of`] makes the cache, the record, the files and the
-//! headers that a run hands over. [`remake`] makes files and headers again from a record, and puts them. The crate `engine` puts
-//! the run in between.
+//! headers that a run hands over. [`remake`] makes files and headers again from a record, and puts them, and
+//! [`recheck_args`] returns the arguments with which a run is done again. The crate `engine` puts the run in between.
 //!
 //! "own" marks a rule that no manual gives.
 //!
-//! In `specs`, read `Given` (what is accepted), `Handing` (what is handed over) and `Remade`. `Shown`, `Told` and `Faults` are
-//! small. In `src`, read `accepting`, `handing` and `remaking`; `showing`, `noting`, `report` and `fault` are small.
+//! In `specs`, read `Given` (what is accepted), `Handing` (what is handed over), `Remade` and `Rechecked`. `Shown`, `Told` and
+//! `Faults` are small. In `src`, read `accepting`, `handing`, `remaking` and `rechecking`; `showing`, `noting`, `report` and
+//! `fault` are small.
 #![tactic(auto)]
 
 mod accepting;
 mod fault;
 mod handing;
 mod noting;
+mod rechecking;
 mod remaking;
 mod report;
 mod showing;
@@ -24,6 +26,7 @@ pub use accepting::{Found, Start, accepted, planned};
 pub use fault::{Fault, RemakeFault};
 pub use handing::things_of;
 pub use noting::{joined, with_notes};
+pub use rechecking::recheck_args;
 pub use remaking::remake;
 pub use report::{Outcome, Report, status_of};
 pub use showing::shown;

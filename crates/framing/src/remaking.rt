@@ -17,7 +17,7 @@ use status_record::{Record, read_record};
 use std::alloc::Global;
 
 /// Reads a record.
-fn read(alloc: Global, text: &[u8]) -> Result<Record, RemakeFault>
+pub(crate) fn read(alloc: Global, text: &[u8]) -> Result<Record, RemakeFault>
     ensures { GivesAgain (λ r. r) result (named of_record (record_in text.now)) }
 {
     Ok(read_record(alloc, text)?)

@@ -1,13 +1,15 @@
 -- What the program is asked to do (own).
-use Rattle.std.specs.Prelude.{ℕ, ◌≤◌, Bool, false, List, [], ◌∷◌, Option, Some, None, bytes_eq, codes, if◌then◌else◌}
+use Rattle.std.specs.Prelude.{ℕ, ◌≤◌, ◌==◌, Bool, false, List, [], ◌∷◌, length, Option, Some, None, bytes_eq, codes, if◌then◌else◌}
 
 -- What the program is asked to do: to filter its input; to answer in a compiler's place; to run a configure.ac with at most
--- `window` children at once; to make the outputs of a record again; or it doesn't know. (own)
+-- `window` children at once; to make the outputs of a record again; to run the configure.ac again with the arguments of a record;
+-- or it doesn't know. (own)
 pub data Call : Type 0 where
   Filter : Call
   StandIn : (words : List (List ℕ)) → Call
   Configure : (window : ℕ) (arguments : List (List ℕ)) → Call
   Status : (tags : List (List ℕ)) → Call
+  Recheck : Call
   Unknown : Call
 
 -- The options for the number of children at once, each with that number. (own)
@@ -33,14 +35,18 @@ windowed None words = Unknown
 windowed (Some window) [] = Unknown
 windowed (Some window) (word ∷ arguments) = if is_configure word then Configure window arguments else Unknown
 
--- The words after `status` begin with `--recheck`, which is no command yet. (own)
+-- The words after `status` begin with `--recheck`. (Autoconf's manual, "config.status Invocation")
 abbrev pub asks_recheck : List (List ℕ) → Bool
 asks_recheck [] = false
 asks_recheck (word ∷ words) = bytes_eq word (codes "--recheck")
 
+-- The call with these words after `status`, the first of which is `--recheck`: it takes no further word. (own)
+abbrev pub recheck_call : List (List ℕ) → Call
+recheck_call words = if length words == 1 then Recheck else Unknown
+
 -- The call with these words after `status`. (own)
 abbrev pub status_call : List (List ℕ) → Call
-status_call words = if asks_recheck words then Unknown else Status words
+status_call words = if asks_recheck words then recheck_call words else Status words
 
 -- The call with this first word. (own)
 abbrev pub named_call : List ℕ → List (List ℕ) → Call
@@ -75,9 +81,15 @@ abbrev pub IfStatus : Call → (List (List ℕ) → Type 0) → Type 0
 IfStatus (Status tags) goes_on = goes_on tags
 IfStatus call goes_on = Unit {0}
 
+-- If it is asked to run the configure.ac of a record again, this holds. (own)
+abbrev pub IfRecheck : Call → Type 0 → Type 0
+IfRecheck Recheck goes_on = goes_on
+IfRecheck call goes_on = Unit {0}
+
 -- The program is asked for no run. (own)
 abbrev pub HasNoRun : Call → Type 0
 HasNoRun (Configure window arguments) = ⊥
+HasNoRun Recheck = ⊥
 HasNoRun call = Unit {0}
 
 -- The program is asked for nothing that writes to standard output. (own)

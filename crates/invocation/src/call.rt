@@ -17,6 +17,8 @@ pub enum Call<'a> {
     Configure(usize, &'a [Bytes]),
     /// To make the outputs with these names again, or all if there are no names.
     Status(&'a [Bytes]),
+    /// To run the configure.ac again with the arguments of its record, and to make no outputs.
+    Recheck,
     /// It doesn't know.
     Unknown,
 }
@@ -94,13 +96,24 @@ fn asks_recheck(words: &[Bytes]) -> bool
     }
 }
 
+/// Returns the call with these words after `status`, the first of which is `--recheck`.
+fn recheck_call(words: &[Bytes]) -> Call<'_>
+    ensures call { call_seen result ≡ meant.recheck_call words.now }
+    ensures window { meant.HasWindow (call_seen result) }
+{
+    if words.len() == 1 {
+        return Call::Recheck;
+    }
+    Call::Unknown
+}
+
 /// Returns the call with these words after `status`.
 fn status_call(words: &[Bytes]) -> Call<'_>
     ensures call { call_seen result ≡ meant.status_call words.now }
     ensures window { meant.HasWindow (call_seen result) }
 {
     if asks_recheck(words) {
-        return Call::Unknown;
+        return recheck_call(words);
     }
     Call::Status(words)
 }

@@ -1,5 +1,5 @@
 -- The record of a run, and the files and headers that are made of it.
-use Rattle.std.specs.Prelude.{ℕ, ◌==◌, not, List, ◌++◌, length, map, codes}
+use Rattle.std.specs.Prelude.{ℕ, ◌==◌, not, List, ◌++◌, length, map, Some, codes}
 use Rattle.deftable.specs.Table.{with_entry}
 use Rattle.outputlist.specs.declared.output.Output.{Output}
 use Rattle.outputs.specs.declared.thing.Kind.TheVariants as kind
@@ -12,10 +12,12 @@ use Rattle.template.specs.declared.placing.Place.{Place}
 use Rattle.making.specs.Choice.{template_of, chosen}
 use Rattle.making.specs.Variables.{output_variables}
 
--- The record of a run that ends with these variables and definitions. The names are the source's own output variables. (own)
-unfoldable pub record_of_run : List (List ℕ × List ℕ) → List (List ℕ × List ℕ) → List (List ℕ) → List ℕ → List Output → List Output → Record
-record_of_run vars defs names srcdir files headers = record {
+-- The record of a run that is given these arguments and ends with these variables and definitions. The names are the source's
+-- own output variables. (own)
+unfoldable pub record_of_run : List (List ℕ × List ℕ) → List (List ℕ × List ℕ) → List (List ℕ) → List ℕ → List (List ℕ) → List Output → List Output → Record
+record_of_run vars defs names srcdir args files headers = record {
   srcdir = srcdir;
+  args = Some args;
   vars = output_variables vars (not (length headers == 0)) names;
   defs = defs;
   files = files;

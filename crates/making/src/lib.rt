@@ -1,12 +1,12 @@
 //! The record of a run, and the files and headers that are made of it.
 //!
-//! [`record_of`] returns the record of a run: its output variables with their values, its definitions, and its files and
-//! headers. [`make_outputs`] makes the files and headers of a record of their templates, and needs nothing else of the run. So a
+//! [`record_of`] returns the record of a run: its arguments, its output variables with their values, its definitions, and its
+//! files and headers. [`make_outputs`] makes the files and headers of a record of their templates, and needs nothing else of the run. So a
 //! record that is read back gives the same files and headers. [`add_outputs`] appends them to a list, and [`make_file`] makes
 //! one file.
 //!
 //! ```text
-//! let record = record_of(alloc, &vars, &defs, &names, b".", &files, &headers)?;
+//! let record = record_of(alloc, &vars, &defs, &names, b".", &args, &files, &headers)?;
 //! let things = make_outputs(alloc, &record, templates, &[])?;   // each file and then each header
 //! let things = make_outputs(alloc, &record, templates, tags)?;  // those whose names are tags
 //! ```

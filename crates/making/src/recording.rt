@@ -7,7 +7,7 @@ ghost use Rattle.outputlist.specs.Output.{AreOutputs};
 ghost use Rattle.status_record.specs.RecordText.{IsRecord};
 
 use crate::variables::output_variables;
-use deftable::{Bytes, Defs, SubstList, Vars};
+use deftable::{Bytes, Defs, SubstList, Texts, Vars};
 use outputlist::Outputs;
 use status_record::Record;
 use std::alloc::{AllocError, Global};
@@ -33,8 +33,8 @@ fn copy_of_outputs(alloc: Global, outputs: &Outputs) -> Result<Outputs, AllocErr
     Ok(copy)
 }
 
-/// Returns the record of a run that ends with these variables and definitions: the output variables with their values, the
-/// definitions, and the files and headers.
+/// Returns the record of a run that ends with these variables and definitions: its arguments, the output variables with their
+/// values, the definitions, and the files and headers.
 ///
 /// `names` are the source's own output variables (Autoconf's manual, "Setting Output Variables"). `srcdir` is the directory of
 /// the source, absolute or relative to the directory of the build. If there is a header, DEFS is an output variable, and its
@@ -50,10 +50,11 @@ pub fn record_of(
     defs: &Defs,
     names: &SubstList,
     srcdir: &[u8],
+    args: &Texts,
     files: &Outputs,
     headers: &Outputs,
 ) -> Result<Record, AllocError>
-    ensures record { IfOk result (λ r. r ≡ words.record_of_run vars.now defs.now names.now srcdir.now files.now headers.now) }
+    ensures record { IfOk result (λ r. r ≡ words.record_of_run vars.now defs.now names.now srcdir.now args.now files.now headers.now) }
     // It has each output variable once, with its value, and no other variable.
     ensures variables { IfOk result (λ r. AreOutputVariables vars.now (not (length headers.now == 0)) names.now r.vars) }
     // The record may be written.
@@ -64,8 +65,10 @@ pub fn record_of(
     let files = copy_of_outputs(alloc, files)?;
     let headers = copy_of_outputs(alloc, headers)?;
     let srcdir = Bytes::from_slice(alloc, srcdir)?;
+    let args = args.copy(alloc)?;
     Ok(Record {
         srcdir,
+        args: Some(args),
         vars,
         defs,
         files,

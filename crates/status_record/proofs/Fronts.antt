@@ -8,11 +8,14 @@ use Rattle.outputlist.specs.Output.{output_names}
 use Rattle.status_record.specs.declared.fault.RecordFault.{RecordFault}
 use Rattle.status_record.specs.declared.fault.RecordFault.TheVariants.{BadMagic, BadLine, Truncated, UnknownVersion, DuplicateName}
 use Rattle.status_record.specs.declared.record.Record.{Record}
+use Rattle.status_record.specs.declared.read.Version.{Version}
+use Rattle.status_record.specs.declared.read.Version.TheVariants.{First, Second}
 use Rattle.status_record.specs.Escape.{escaped, unescaped}
 use Rattle.status_record.specs.Line.{after_prefix, entry_in, entry_fields, output_in, output_fields}
-use Rattle.status_record.specs.RecordText.{first_line, lines_of, IsRecord}
-use Rattle.status_record.specs.Reading.{◌>>=◌, either, or_bad, with_item, several, is_entry, is_output, is_magic, entries_in, outputs_in, version_in, srcdir_in, ending, body_in, lines_in, last_of, front_of, record_in, IsTruncated}
-use Rattle.status_record.proofs.Only.{version_only, srcdir_only, entries_only, outputs_only, body_lines}
+use Rattle.status_record.specs.RecordText.{version_line, arg_lines, lines_of, body_lines, record_lines, IsRecord}
+use Rattle.status_record.specs.Reading.{◌>>=◌, either, or_bad, with_item, several, is_entry, is_output, is_magic, entries_in, outputs_in, is_repeated, texts_in, args_in, version_in, srcdir_in, ending, body_in, lines_in, last_of, front_of, record_in, IsTruncated, Read}
+use Rattle.status_record.proofs.Only.{line_of, line_of_version, version_only, srcdir_only, args_only, entries_only, outputs_only}
+use Rattle.status_record.proofs.Whole.{version_of}
 
 abbrev failed : {A : Type 0} → RecordFault → Result A RecordFault
 failed f = Err f
@@ -73,9 +76,19 @@ ending_truncated rest n (line ∷ next ∷ more) e = absurd (choice (bytes_eq li
     choice true h = cc
     choice false h = cc
 
+-- the arguments have no end that is too early
+args_truncated : (version : Version) (lines : List (List ℕ)) → args_in version lines ≡ Err Truncated → ⊥
+args_truncated First lines e = cc
+args_truncated Second lines e =
+    ⊎_elim (λ h. several_of_line (codes "arg ") unescaped is_repeated [] 2 lines Truncated h) (λ p. done_some p.0 p.2)
+    (bind_err (texts_in lines) (λ args. Ok (Some args.0, args.1)) Truncated e)
+  where
+    done_some : (args : List (List ℕ) × (ℕ × List (List ℕ))) → Ok (Some args.0, args.1) ≡ failed {A = Option (List (List ℕ)) × (ℕ × List (List ℕ))} Truncated → ⊥
+    done_some args h = cc
+
 -- the record that has been read so far
-abbrev SoFar : List ℕ → List (List ℕ) → Type 0
-SoFar srcdir lines = (r : Record) × (srcdir ≡ r.srcdir) × (body_lines r ≡ lines ++ codes "end" ∷ []) × IsRecord r
+abbrev SoFar : Version → List ℕ → List (List ℕ) → Type 0
+SoFar version srcdir lines = (r : Record) × (version ≡ version_of r.args) × (srcdir ≡ r.srcdir) × (arg_lines r.args ++ body_lines r ≡ lines ++ codes "end" ∷ []) × IsRecord r
 
 four : {X : Type 0} (a b c d e : List X) → a ++ (b ++ (c ++ (d ++ e))) ≡ (a ++ (b ++ (c ++ d))) ++ e
 four a b c d e =
@@ -89,16 +102,29 @@ joined_up lines l1 l2 l3 l4 v d f h e e1 e2 e3 e4 e5 =
     let h1 : lines ≡ v ++ (d ++ (f ++ h)) = e1 ∙ ap (λ t. v ++ t) h2 in
     four v d f h e ∙ ap (λ t. t ++ e) (sym h1)
 
-body_truncated : (rest srcdir : List ℕ) (lines : List (List ℕ)) → body_in rest srcdir lines ≡ Err Truncated → SoFar srcdir lines
-unfolding body_in
-body_truncated rest srcdir lines e =
-    ⊎_elim (λ h. absurd (several_of_line (codes "var ") entry_in is_entry [] 2 lines Truncated h)) (λ p1.
+-- the lines after the arguments, which are before line n + 1
+abbrev after_args : List ℕ → List ℕ → Option (List (List ℕ)) → ℕ → List (List ℕ) → Result Record RecordFault
+after_args rest srcdir args n lines = do
+  vars ← entries_in (codes "var ") n lines
+  defs ← entries_in (codes "def ") vars.1.0 vars.1.1
+  files ← outputs_in (codes "file ") [] defs.1.0 defs.1.1
+  headers ← outputs_in (codes "header ") (output_names files.0) files.1.0 files.1.1
+  _ ← ending rest headers.1.0 headers.1.1
+  Ok (record { srcdir = srcdir; args = args; vars = vars.0; defs = defs.0; files = files.0; headers = headers.0 })
+
+-- the record that has been read after its arguments
+abbrev AfterArgs : List ℕ → Option (List (List ℕ)) → List (List ℕ) → Type 0
+AfterArgs srcdir args lines = (r : Record) × (args ≡ r.args) × (srcdir ≡ r.srcdir) × (body_lines r ≡ lines ++ codes "end" ∷ []) × IsRecord r
+
+after_args_truncated : (rest srcdir : List ℕ) (args : Option (List (List ℕ))) (n : ℕ) (lines : List (List ℕ)) → after_args rest srcdir args n lines ≡ Err Truncated → AfterArgs srcdir args lines
+after_args_truncated rest srcdir args n lines e =
+    ⊎_elim (λ h. absurd (several_of_line (codes "var ") entry_in is_entry [] n lines Truncated h)) (λ p1.
     ⊎_elim (λ h. absurd (several_of_line (codes "def ") entry_in is_entry [] p1.0.1.0 p1.0.1.1 Truncated h)) (λ p2.
     ⊎_elim (λ h. absurd (several_of_line (codes "file ") output_in (is_output []) [] p2.0.1.0 p2.0.1.1 Truncated h)) (λ p3.
     ⊎_elim (λ h. absurd (several_of_line (codes "header ") output_in (is_output (output_names p3.0.0)) [] p3.0.1.0 p3.0.1.1 Truncated h)) (λ p4.
     ⊎_elim (λ h.
-    let made : Record = record { srcdir = srcdir; vars = p1.0.0; defs = p2.0.0; files = p3.0.0; headers = p4.0.0 } in
-    let v = entries_only (codes "var ") 2 lines p1.0 p1.1 in
+    let made : Record = record { srcdir = srcdir; args = args; vars = p1.0.0; defs = p2.0.0; files = p3.0.0; headers = p4.0.0 } in
+    let v = entries_only (codes "var ") n lines p1.0 p1.1 in
     let d = entries_only (codes "def ") p1.0.1.0 p1.0.1.1 p2.0 p2.1 in
     let f = outputs_only (codes "file ") [] p2.0.1.0 p2.0.1.1 p3.0 p3.1 AreDistinct-[] in
     let k = outputs_only (codes "header ") (output_names p3.0.0) p3.0.1.0 p3.0.1.1 p4.0 p4.1 f.2 in
@@ -108,25 +134,41 @@ body_truncated rest srcdir lines e =
     let hf = lines_of (codes "file ") output_fields p3.0.0 in
     let hh = lines_of (codes "header ") output_fields p4.0.0 in
     let is : IsRecord made = record { vars = v.1; defs = d.1; outputs = record { file_paths = f.1; header_paths = k.1; names = k.2 } } in
-    (made, refl, joined_up lines _ _ _ _ hv hd hf hh (codes "end" ∷ []) v.0 d.0 f.0 k.0 z, is))
+    (made, refl, refl, joined_up lines _ _ _ _ hv hd hf hh (codes "end" ∷ []) v.0 d.0 f.0 k.0 z, is))
     (λ p5. absurd (done_err p5.2))
     (bind_err (ending rest p4.0.1.0 p4.0.1.1) _ Truncated p4.2))
     (bind_err (outputs_in (codes "header ") (output_names p3.0.0) p3.0.1.0 p3.0.1.1) _ Truncated p3.2))
     (bind_err (outputs_in (codes "file ") [] p2.0.1.0 p2.0.1.1) _ Truncated p2.2))
     (bind_err (entries_in (codes "def ") p1.0.1.0 p1.0.1.1) _ Truncated p1.2))
-    (bind_err (entries_in (codes "var ") 2 lines) _ Truncated e)
+    (bind_err (entries_in (codes "var ") n lines) _ Truncated e)
   where
     done_err : {r : Record} → Ok r ≡ failed {A = Record} Truncated → ⊥
     done_err h = cc
 
+so_far : (version : Version) (srcdir : List ℕ) (lines : List (List ℕ)) (args : Read (Option (List (List ℕ)))) → args_in version lines ≡ Ok args
+    → AfterArgs srcdir args.0 args.1.1 → SoFar version srcdir lines
+so_far version srcdir lines args e s =
+    let a = args_only version lines args e in
+    let r = s.0 in
+    let text : arg_lines args.0 ++ body_lines r ≡ lines ++ codes "end" ∷ [] =
+    ap (λ t. arg_lines args.0 ++ t) s.3 ∙ sym (append_assoc (arg_lines args.0) args.1.1 (codes "end" ∷ [])) ∙ ap (λ t. t ++ codes "end" ∷ []) (sym a.1) in
+    (r, a.0 ∙ ap version_of s.1, s.2, ap (λ t. arg_lines t ++ body_lines r) (sym s.1) ∙ text, s.4)
+
+body_truncated : (rest : List ℕ) (version : Version) (srcdir : List ℕ) (lines : List (List ℕ)) → body_in rest version srcdir lines ≡ Err Truncated → SoFar version srcdir lines
+unfolding body_in
+body_truncated rest version srcdir lines e =
+    ⊎_elim (λ h. absurd (args_truncated version lines h)) (λ p. so_far version srcdir lines p.0 p.1 (after_args_truncated rest srcdir p.0.0 p.0.1.0 p.0.1.1 p.2))
+    (bind_err (args_in version lines) (λ args. after_args rest srcdir args.0 args.1.0 args.1.1) Truncated e)
+
 version_truncated : (line : List ℕ) → version_in line ≡ Err Truncated → ⊥
 unfolding version_in
-version_truncated line e = choice (bytes_eq line first_line) (is_magic line) e
+version_truncated line e = choice (bytes_eq line (codes "acrun-record 1")) (bytes_eq line (codes "acrun-record 2")) (is_magic line) e
   where
-    choice : (a b : Bool) → cond a over (cond b (Err UnknownVersion) (failed BadMagic)) ≡ Err Truncated → ⊥
-    choice true b h = cc
-    choice false true h = cc
-    choice false false h = cc
+    choice : (a b m : Bool) → cond a (Ok First) (cond b (Ok Second) (cond m (Err UnknownVersion) (failed BadMagic))) ≡ failed Truncated → ⊥
+    choice true b m h = cc
+    choice false true m h = cc
+    choice false false true h = cc
+    choice false false false h = cc
 
 srcdir_truncated : (line : List ℕ) → srcdir_in line ≡ Err Truncated → ⊥
 unfolding srcdir_in
@@ -137,32 +179,44 @@ srcdir_truncated line e = choice (after_prefix (codes "srcdir ") line) e
     choice (Some t) h = or_bad_of_line 2 (unescaped t) Truncated h
 
 -- a record of nothing
-abbrev bare : Record
-bare = record { srcdir = []; vars = []; defs = []; files = []; headers = [] }
+abbrev bare : Version → Record
+bare First = record { srcdir = []; args = None; vars = []; defs = []; files = []; headers = [] }
+bare Second = record { srcdir = []; args = Some []; vars = []; defs = []; files = []; headers = [] }
 
-bare_is : IsRecord bare
-bare_is = record { vars = (tt, AreDistinct-[]); defs = (tt, AreDistinct-[]); outputs = record { file_paths = tt; header_paths = tt; names = AreDistinct-[] } }
+bare_is : (version : Version) → IsRecord (bare version)
+bare_is First = record { vars = (tt, AreDistinct-[]); defs = (tt, AreDistinct-[]); outputs = record { file_paths = tt; header_paths = tt; names = AreDistinct-[] } }
+bare_is Second = record { vars = (tt, AreDistinct-[]); defs = (tt, AreDistinct-[]); outputs = record { file_paths = tt; header_paths = tt; names = AreDistinct-[] } }
+
+bare_lines : (version : Version) → record_lines (bare version) ≡ line_of version ∷ codes "srcdir " ∷ codes "end" ∷ []
+bare_lines First = refl
+bare_lines Second = refl
 
 lines_truncated : (rest : List ℕ) (lines : List (List ℕ)) → lines_in rest lines ≡ Err Truncated → IsTruncated lines
 unfolding lines_in
 lines_truncated rest [] e = absurd cc
 lines_truncated rest (first ∷ []) e =
     ⊎_elim (λ h. absurd (version_truncated first h))
-    (λ p. record { whole = bare; next = codes "srcdir "; more = codes "end" ∷ []; holds = bare_is; begins = ap (λ l. l ∷ codes "srcdir " ∷ codes "end" ∷ []) (sym (version_only first p.0 p.1)) })
+    (λ p. record {
+      whole = bare p.0;
+      next = codes "srcdir ";
+      more = codes "end" ∷ [];
+      holds = bare_is p.0;
+      begins = bare_lines p.0 ∙ ap (λ l. l ∷ codes "srcdir " ∷ codes "end" ∷ []) (sym (version_only first p.0 p.1));
+    })
     (bind_err (version_in first) (λ _. Err Truncated) Truncated e)
 lines_truncated rest (first ∷ second ∷ more) e =
     ⊎_elim (λ h. absurd (version_truncated first h)) (λ p.
     ⊎_elim (λ h. absurd (srcdir_truncated second h)) (λ q.
-    let s = body_truncated rest q.0 more q.2 in
+    let s = body_truncated rest p.0 q.0 more q.2 in
     let r = s.0 in
-    let one : first ≡ first_line = version_only first p.0 p.1 in
-    let two : second ≡ codes "srcdir " ++ escaped r.srcdir = srcdir_only second q.0 q.1 ∙ ap (λ v. codes "srcdir " ++ escaped v) s.1 in
+    let one : first ≡ version_line r.args = version_only first p.0 p.1 ∙ ap line_of s.1 ∙ line_of_version r.args in
+    let two : second ≡ codes "srcdir " ++ escaped r.srcdir = srcdir_only second q.0 q.1 ∙ ap (λ v. codes "srcdir " ++ escaped v) s.2 in
     record {
       whole = r;
       next = codes "end";
       more = [];
-      holds = s.3;
-      begins = ap (λ l. first_line ∷ (codes "srcdir " ++ escaped r.srcdir) ∷ l) s.2 ∙ ap (λ l. l ∷ (codes "srcdir " ++ escaped r.srcdir) ∷ (more ++ codes "end" ∷ [])) (sym one)
+      holds = s.4;
+      begins = ap (λ l. version_line r.args ∷ (codes "srcdir " ++ escaped r.srcdir) ∷ l) s.3 ∙ ap (λ l. l ∷ (codes "srcdir " ++ escaped r.srcdir) ∷ (more ++ codes "end" ∷ [])) (sym one)
           ∙ ap (λ l. first ∷ l ∷ (more ++ codes "end" ∷ [])) (sym two);
     })
     (bind_err (srcdir_in second) _ Truncated p.2))

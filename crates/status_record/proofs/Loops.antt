@@ -11,7 +11,7 @@ use Rattle.std.specs.Prelude.{codes}
 use Rattle.status_record.specs.declared.record.Record.{Record}
 use Rattle.status_record.specs.Escape.{escaped}
 use Rattle.status_record.specs.Line.{after_prefix, ended, entry_fields, output_fields}
-use Rattle.status_record.specs.RecordText.{lines_of, first_line, record_text}
+use Rattle.status_record.specs.RecordText.{lines_of, version_line, arg_lines, record_text}
 use Rattle.status_record.specs.Reading.{several, with_item, either, Fails, Read, last_of, front_of, ◌>>=◌}
 
 pub fails_bind : {A B : Type 0} (e : RecordFault) (r : Result A RecordFault) (f : A → Result B RecordFault) → Fails e r → Fails e (r >>= f)
@@ -107,25 +107,29 @@ texts-end items front x e = ap texts e ∙ map-append (λ (t : Bor (List ℕ)). 
 put_more : (l m : List (List ℕ)) (now next : List ℕ) → now ≡ ended l → next ≡ now ++ ended m → next ≡ ended (l ++ m)
 put_more l m now next is put = put ∙ ap (λ t. t ++ ended m) is ∙ sym (flat_map-append (λ (t : List ℕ). t ++ 10 ∷ []) l m)
 
-in_order : {X : Type 0} (a b c d e : List X) → (((a ++ b) ++ c) ++ d) ++ e ≡ a ++ (b ++ (c ++ (d ++ e)))
-in_order a b c d e =
-    append_assoc ((a ++ b) ++ c) d e ∙ append_assoc (a ++ b) c (d ++ e) ∙ append_assoc a b (c ++ (d ++ e))
+in_order : {X : Type 0} (z a b c d e : List X) → ((((z ++ a) ++ b) ++ c) ++ d) ++ e ≡ z ++ (a ++ (b ++ (c ++ (d ++ e))))
+in_order z a b c d e =
+    append_assoc (((z ++ a) ++ b) ++ c) d e ∙ append_assoc ((z ++ a) ++ b) c (d ++ e) ∙ append_assoc (z ++ a) b (c ++ (d ++ e)) ∙ append_assoc z a (b ++ (c ++ (d ++ e)))
 
-pub written : (r : Record) (o0 o1 o2 o3 o4 o5 o6 o7 : List ℕ) → o0 ≡ [] → o1 ≡ o0 ++ ended (first_line ∷ []) → o2 ≡ o1 ++ ended ((codes "srcdir " ++ escaped r.srcdir) ∷ [])
-    → o3 ≡ o2 ++ ended (lines_of (codes "var ") entry_fields r.vars) → o4 ≡ o3 ++ ended (lines_of (codes "def ") entry_fields r.defs)
-    → o5 ≡ o4 ++ ended (lines_of (codes "file ") output_fields r.files) → o6 ≡ o5 ++ ended (lines_of (codes "header ") output_fields r.headers)
-    → o7 ≡ o6 ++ ended (codes "end" ∷ []) → o7 ≡ record_text r
+pub written : (r : Record) (o0 o1 o2 o3 o4 o5 o6 o7 o8 : List ℕ) → o0 ≡ [] → o1 ≡ o0 ++ ended (version_line r.args ∷ []) → o2 ≡ o1 ++ ended ((codes "srcdir " ++ escaped r.srcdir) ∷ [])
+    → o3 ≡ o2 ++ ended (arg_lines r.args)
+    → o4 ≡ o3 ++ ended (lines_of (codes "var ") entry_fields r.vars) → o5 ≡ o4 ++ ended (lines_of (codes "def ") entry_fields r.defs)
+    → o6 ≡ o5 ++ ended (lines_of (codes "file ") output_fields r.files) → o7 ≡ o6 ++ ended (lines_of (codes "header ") output_fields r.headers)
+    → o8 ≡ o7 ++ ended (codes "end" ∷ []) → o8 ≡ record_text r
 unfolding record_text
-written r o0 o1 o2 o3 o4 o5 o6 o7 e0 e1 e2 e3 e4 e5 e6 e7 =
+written r o0 o1 o2 o3 o4 o5 o6 o7 o8 e0 e1 e2 e3 e4 e5 e6 e7 e8 =
+    let first = version_line r.args in
     let second = codes "srcdir " ++ escaped r.srcdir in
+    let z = arg_lines r.args in
     let a = lines_of (codes "var ") entry_fields r.vars in
     let b = lines_of (codes "def ") entry_fields r.defs in
     let c = lines_of (codes "file ") output_fields r.files in
     let d = lines_of (codes "header ") output_fields r.headers in
-    let f2 = put_more (first_line ∷ []) (second ∷ []) o1 o2 (e1 ∙ ap (λ t. t ++ ended (first_line ∷ [])) e0) e2 in
-    let f3 = put_more (first_line ∷ second ∷ []) a o2 o3 f2 e3 in
-    let f4 = put_more (first_line ∷ second ∷ a) b o3 o4 f3 e4 in
-    let f5 = put_more (first_line ∷ second ∷ (a ++ b)) c o4 o5 f4 e5 in
-    let f6 = put_more (first_line ∷ second ∷ ((a ++ b) ++ c)) d o5 o6 f5 e6 in
-    let f7 = put_more (first_line ∷ second ∷ (((a ++ b) ++ c) ++ d)) (codes "end" ∷ []) o6 o7 f6 e7 in
-    f7 ∙ ap (λ t. ended (first_line ∷ second ∷ t)) (in_order a b c d (codes "end" ∷ []))
+    let f2 = put_more (first ∷ []) (second ∷ []) o1 o2 (e1 ∙ ap (λ t. t ++ ended (first ∷ [])) e0) e2 in
+    let f3 = put_more (first ∷ second ∷ []) z o2 o3 f2 e3 in
+    let f4 = put_more (first ∷ second ∷ z) a o3 o4 f3 e4 in
+    let f5 = put_more (first ∷ second ∷ (z ++ a)) b o4 o5 f4 e5 in
+    let f6 = put_more (first ∷ second ∷ ((z ++ a) ++ b)) c o5 o6 f5 e6 in
+    let f7 = put_more (first ∷ second ∷ (((z ++ a) ++ b) ++ c)) d o6 o7 f6 e7 in
+    let f8 = put_more (first ∷ second ∷ ((((z ++ a) ++ b) ++ c) ++ d)) (codes "end" ∷ []) o7 o8 f7 e8 in
+    f8 ∙ ap (λ t. ended (first ∷ second ∷ t)) (in_order z a b c d (codes "end" ∷ []))

@@ -1,23 +1,25 @@
 -- Whole texts: a record's text is read as the record, and what is read is a record's text.
-use Rattle.std.proofs.Common.{◌≡◌, ℕ, ◌+◌, true, false, List, [], ◌∷◌, ◌++◌, length, None, Ok, Err, refl, ap, ◌∙◌}
-use Rattle.std.specs.Prelude.{codes, bytes_eq}
+use Rattle.std.proofs.Common.{◌≡◌, ℕ, ◌+◌, true, false, List, [], ◌∷◌, ◌++◌, length, Option, Some, None, Ok, Err, refl, ap, ◌∙◌}
+use Rattle.std.specs.Prelude.{codes, bytes_eq, ⊤}
 use Rattle.std.specs.List.{AllByRecursion, IsDistinct}
 use Rattle.deftable.specs.ShellName.{IsShellName}
 use Rattle.deftable.specs.NameList.{AreDistinct}
 use Rattle.deftable.specs.Table.{HasShellNames, HasDistinctNames}
 use Rattle.status_record.specs.declared.fault.RecordFault.TheVariants.{BadLine}
 use Rattle.status_record.specs.declared.record.Record.{Record}
+use Rattle.status_record.specs.declared.read.Version.{Version}
+use Rattle.status_record.specs.declared.read.Version.TheVariants.{First, Second}
 use Rattle.outputlist.specs.declared.output.Output.{Output}
 use Rattle.outputlist.specs.Output.{output_names, IsOutput}
 use Rattle.status_record.specs.Escape.{escaped, unescaped}
 use Rattle.status_record.specs.Line.{after_prefix, entry_in, entry_fields, output_in, output_fields, two_fields}
-use Rattle.status_record.specs.RecordText.{first_line, lines_of, record_lines, record_text, IsRecord}
-use Rattle.status_record.specs.Reading.{either, or_bad, is_entry, is_output, entries_in, outputs_in, version_in, srcdir_in, ending, body_in, lines_in, last_of, front_of, record_in}
+use Rattle.status_record.specs.RecordText.{version_line, arg_lines, lines_of, body_lines, record_lines, record_text, IsRecord}
+use Rattle.status_record.specs.Reading.{either, or_bad, is_entry, is_output, entries_in, outputs_in, is_repeated, texts_in, args_in, version_in, srcdir_in, ending, body_in, lines_in, last_of, front_of, record_in}
 use Rattle.status_record.proofs.Escapes.{unescaped-escaped}
 use Rattle.status_record.proofs.Fields.{entry_back, output_back}
 use Rattle.status_record.proofs.Lines.{after_prefix-append}
 use Rattle.status_record.proofs.Loops.{last_of-end, front_of-end}
-use Rattle.status_record.proofs.Sections.{then_ok, Apart, several_back, May-from}
+use Rattle.status_record.proofs.Sections.{then_ok, Apart, May, several_back, May-from}
 use Rattle.status_record.proofs.Texts.{lacks, lacks-append, shell_lacks_newline, escaped_lacks_newline, AreLines, parts_ended}
 
 -- ---- the sections of a record
@@ -61,10 +63,34 @@ end_back : (n : ℕ) → ending [] n (codes "end" ∷ []) ≡ Ok tt
 unfolding ending
 end_back n = refl
 
+-- ---- the arguments
+
+-- the version of a record with these arguments
+abbrev pub version_of : Option (List (List ℕ)) → Version
+version_of None = First
+version_of (Some args) = Second
+
+abbrev pub IsAny : List ℕ → Type 0
+IsAny arg = ⊤
+
+-- arguments may come after any others
+may_follow : (before args : List (List ℕ)) → May (codes "arg ") escaped unescaped is_repeated IsAny before args
+may_follow before [] = tt
+may_follow before (arg ∷ args) = (tt, refl, may_follow (before ++ arg ∷ []) args)
+
+-- the number of lines up to the end of the arguments
+abbrev args_end : Option (List (List ℕ)) → ℕ
+args_end None = 2
+args_end (Some args) = 2 + length args
+
+args_back : (args : Option (List (List ℕ))) (rest : List (List ℕ)) → Apart (codes "arg ") rest → args_in (version_of args) (arg_lines args ++ rest) ≡ Ok (args, (args_end args, rest))
+args_back None rest apart = refl
+args_back (Some args) rest apart =
+    then_ok (texts_in (arg_lines (Some args) ++ rest)) _ (args, (2 + length args, rest)) _
+    (several_back (codes "arg ") escaped unescaped is_repeated IsAny (λ arg any. unescaped-escaped arg) [] args 2 rest (may_follow [] args) apart) refl
+
 -- the lines after the second are read
-body_back : (r : Record) → IsRecord r
-    → body_in [] r.srcdir (lines_of (codes "var ") entry_fields r.vars ++ (lines_of (codes "def ") entry_fields r.defs
-    ++ (lines_of (codes "file ") output_fields r.files ++ (lines_of (codes "header ") output_fields r.headers ++ codes "end" ∷ [])))) ≡ Ok r
+body_back : (r : Record) → IsRecord r → body_in [] (version_of r.args) r.srcdir (arg_lines r.args ++ body_lines r) ≡ Ok r
 unfolding body_in after_prefix
 body_back r is =
     let l5 = codes "end" ∷ [] in
@@ -74,22 +100,28 @@ body_back r is =
     let l1 = lines_of (codes "var ") entry_fields r.vars ++ l2 in
     let headers_apart : (keyword : List ℕ) → after_prefix keyword (codes "end") ≡ None → ((t : List ℕ) → after_prefix keyword (codes "header " ++ t) ≡ None) → Apart keyword l4 = λ keyword e h.
     apart_lines keyword (codes "header ") output_fields r.headers l5 h e in
+    let apart_args : Apart (codes "arg ") l1 =
+    apart_lines (codes "arg ") (codes "var ") entry_fields r.vars l2 (λ t. refl)
+    (apart_lines (codes "arg ") (codes "def ") entry_fields r.defs l3 (λ t. refl)
+    (apart_lines (codes "arg ") (codes "file ") output_fields r.files l4 (λ t. refl) (headers_apart (codes "arg ") refl (λ t. refl)))) in
     let apart_vars : Apart (codes "var ") l2 =
     apart_lines (codes "var ") (codes "def ") entry_fields r.defs l3 (λ t. refl)
     (apart_lines (codes "var ") (codes "file ") output_fields r.files l4 (λ t. refl) (headers_apart (codes "var ") refl (λ t. refl))) in
     let apart_defs : Apart (codes "def ") l3 =
     apart_lines (codes "def ") (codes "file ") output_fields r.files l4 (λ t. refl) (headers_apart (codes "def ") refl (λ t. refl)) in
     let apart_files : Apart (codes "file ") l4 = headers_apart (codes "file ") refl (λ t. refl) in
-    let m2 = 2 + length r.vars in
+    let m1 = args_end r.args in
+    let m2 = m1 + length r.vars in
     let m3 = m2 + length r.defs in
     let m4 = m3 + length r.files in
     let m5 = m4 + length r.headers in
     let o = is.outputs in
-    then_ok _ _ (r.vars, (m2, l2)) _ (entries_back (codes "var ") r.vars 2 l2 is.vars apart_vars)
+    then_ok _ _ (r.args, (m1, l1)) _ (args_back r.args l1 apart_args)
+    (then_ok _ _ (r.vars, (m2, l2)) _ (entries_back (codes "var ") r.vars m1 l2 is.vars apart_vars)
     (then_ok _ _ (r.defs, (m3, l3)) _ (entries_back (codes "def ") r.defs m2 l3 is.defs apart_defs)
     (then_ok _ _ (r.files, (m4, l4)) _ (outputs_back (codes "file ") [] r.files m3 l4 o.file_paths (distinct-front (output_names r.files) (output_names r.headers) o.names) apart_files)
     (then_ok _ _ (r.headers, (m5, l5)) _ (outputs_back (codes "header ") (output_names r.files) r.headers m4 l5 o.header_paths o.names refl)
-    (then_ok _ _ tt _ (end_back m5) refl))))
+    (then_ok _ _ tt _ (end_back m5) refl)))))
 
 -- the second line
 srcdir_back : (v : List ℕ) → srcdir_in (codes "srcdir " ++ escaped v) ≡ Ok v
@@ -97,14 +129,15 @@ unfolding srcdir_in
 srcdir_back v =
     ap (λ o. either o (λ value. or_bad 2 (unescaped value)) (Err (BadLine 2))) (after_prefix-append (codes "srcdir ") (escaped v)) ∙ ap (or_bad 2) (unescaped-escaped v)
 
-version_back : version_in first_line ≡ Ok tt
+version_back : (args : Option (List (List ℕ))) → version_in (version_line args) ≡ Ok (version_of args)
 unfolding version_in
-version_back = refl
+version_back None = refl
+version_back (Some args) = refl
 
 lines_back : (r : Record) → IsRecord r → lines_in [] (record_lines r) ≡ Ok r
 unfolding lines_in
 lines_back r is =
-    then_ok _ _ tt _ version_back (then_ok _ _ r.srcdir _ (srcdir_back r.srcdir) (body_back r is))
+    then_ok _ _ (version_of r.args) _ (version_back r.args) (then_ok _ _ r.srcdir _ (srcdir_back r.srcdir) (body_back r is))
 
 -- ---- no line of a record has a newline
 
@@ -126,16 +159,29 @@ output_lacks o is = two_lack (escaped o.name) (escaped o.template) (escaped_lack
 entry_lacks : (e : List ℕ × List ℕ) → IsShellName e.0 → lacks 10 (entry_fields e) ≡ true
 entry_lacks e is = two_lack e.0 (escaped e.1) (shell_lacks_newline e.0 is) (escaped_lacks_newline e.1)
 
+version_lacks : (args : Option (List (List ℕ))) → lacks 10 (version_line args) ≡ true
+version_lacks None = refl
+version_lacks (Some args) = refl
+
+any_all : (args : List (List ℕ)) → AllByRecursion IsAny args
+any_all [] = tt
+any_all (arg ∷ args) = (tt, any_all args)
+
+args_are_lines : (args : Option (List (List ℕ))) → AreLines (arg_lines args)
+args_are_lines None = tt
+args_are_lines (Some args) = all_lines (codes "arg ") escaped IsAny refl (λ arg any. escaped_lacks_newline arg) args (any_all args)
+
 are_lines : (r : Record) → IsRecord r → AreLines (record_lines r)
 are_lines r is = (
-  refl,
+  version_lacks r.args,
   (
     lacks-append 10 (codes "srcdir ") (escaped r.srcdir) refl (escaped_lacks_newline r.srcdir),
-    all_append (lines_of (codes "var ") entry_fields r.vars) _ (all_lines (codes "var ") entry_fields (λ e. IsShellName e.0) refl entry_lacks r.vars (named_all r.vars is.vars.0))
+    all_append (arg_lines r.args) _ (args_are_lines r.args)
+        (all_append (lines_of (codes "var ") entry_fields r.vars) _ (all_lines (codes "var ") entry_fields (λ e. IsShellName e.0) refl entry_lacks r.vars (named_all r.vars is.vars.0))
         (all_append (lines_of (codes "def ") entry_fields r.defs) _ (all_lines (codes "def ") entry_fields (λ e. IsShellName e.0) refl entry_lacks r.defs (named_all r.defs is.defs.0))
         (all_append (lines_of (codes "file ") output_fields r.files) _ (all_lines (codes "file ") output_fields IsOutput refl output_lacks r.files is.outputs.file_paths)
         (all_append (lines_of (codes "header ") output_fields r.headers) _ (all_lines (codes "header ") output_fields IsOutput refl output_lacks r.headers is.outputs.header_paths)
-        (refl, tt)))),
+        (refl, tt))))),
   ),
 )
 

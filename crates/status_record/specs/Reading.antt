@@ -9,11 +9,13 @@ use Rattle.textcut.specs.Cuts.{parts}
 use Rattle.status_record.specs.declared.fault.RecordFault.{RecordFault}
 use Rattle.status_record.specs.declared.fault.RecordFault.TheVariants.{BadMagic, BadLine, Truncated, UnknownVersion, DuplicateName, OutOfMemory}
 use Rattle.status_record.specs.declared.record.Record.{Record}
+use Rattle.status_record.specs.declared.read.Version.{Version}
+use Rattle.status_record.specs.declared.read.Version.TheVariants.{First, Second}
 use Rattle.outputlist.specs.declared.output.Output.{Output}
 use Rattle.outputlist.specs.Output.{output_names}
 use Rattle.status_record.specs.Escape.{unescaped}
 use Rattle.status_record.specs.Line.{after_prefix, entry_in, output_in}
-use Rattle.status_record.specs.RecordText.{first_line, record_lines, IsRecord}
+use Rattle.status_record.specs.RecordText.{record_lines, IsRecord}
 
 infixl 10 ◌>>=◌
 -- a reading, and then one of its value, up to the first fault (own)
@@ -76,6 +78,19 @@ entries_in keyword n lines = several keyword entry_in is_entry [] n lines
 abbrev pub outputs_in : List ℕ → List (List ℕ) → ℕ → List (List ℕ) → Result (Read (List Output)) RecordFault
 outputs_in keyword before n lines = several keyword output_in (is_output before) [] n lines
 
+-- no argument repeats another one (own)
+abbrev pub is_repeated : List (List ℕ) → List ℕ → Bool
+is_repeated args arg = false
+
+-- the arguments, after the first two lines (own)
+abbrev pub texts_in : List (List ℕ) → Result (Read (List (List ℕ))) RecordFault
+texts_in lines = several (codes "arg ") unescaped is_repeated [] 2 lines
+
+-- the arguments after the first two lines, if the version has them (own)
+abbrev pub args_in : Version → List (List ℕ) → Result (Read (Option (List (List ℕ)))) RecordFault
+args_in First lines = Ok (None, (2, lines))
+args_in Second lines = texts_in lines >>= λ args. Ok (Some args.0, args.1)
+
 -- ---- a whole text
 
 -- whether the text is a decimal number without leading zeros (own)
@@ -88,10 +103,12 @@ is_number (b ∷ c ∷ more) = not (b == 48) && list_all is_ascii_digit (b ∷ c
 abbrev pub is_magic : List ℕ → Bool
 is_magic line = either (after_prefix (codes "acrun-record ") line) is_number false
 
--- the first line is that of the version (own)
-unfoldable pub version_in : List ℕ → Result (Unit {0}) RecordFault
+-- the version of the first line (own)
+unfoldable pub version_in : List ℕ → Result Version RecordFault
 version_in line =
-    if bytes_eq line first_line then Ok tt else (if is_magic line then Err UnknownVersion else Err BadMagic)
+    if bytes_eq line (codes "acrun-record 1") then Ok First
+    else (if bytes_eq line (codes "acrun-record 2") then Ok Second
+    else (if is_magic line then Err UnknownVersion else Err BadMagic))
 
 -- the source directory of the second line (own)
 unfoldable pub srcdir_in : List ℕ → Result (List ℕ) RecordFault
@@ -105,23 +122,24 @@ ending rest n (line ∷ []) =
 ending rest n (line ∷ next ∷ more) = if bytes_eq line (codes "end") then Err (BadLine (n + 2)) else Err (BadLine (n + 1))
 
 -- the lines after the second, and the text after the last newline (own)
-unfoldable pub body_in : List ℕ → List ℕ → List (List ℕ) → Result Record RecordFault
-body_in rest srcdir lines = do
-  vars ← entries_in (codes "var ") 2 lines
+unfoldable pub body_in : List ℕ → Version → List ℕ → List (List ℕ) → Result Record RecordFault
+body_in rest version srcdir lines = do
+  args ← args_in version lines
+  vars ← entries_in (codes "var ") args.1.0 args.1.1
   defs ← entries_in (codes "def ") vars.1.0 vars.1.1
   files ← outputs_in (codes "file ") [] defs.1.0 defs.1.1
   headers ← outputs_in (codes "header ") (output_names files.0) files.1.0 files.1.1
   _ ← ending rest headers.1.0 headers.1.1
-  Ok (record { srcdir = srcdir; vars = vars.0; defs = defs.0; files = files.0; headers = headers.0 })
+  Ok (record { srcdir = srcdir; args = args.0; vars = vars.0; defs = defs.0; files = files.0; headers = headers.0 })
 
 -- the lines that a newline ends, and the text after the last newline (own)
 unfoldable pub lines_in : List ℕ → List (List ℕ) → Result Record RecordFault
 lines_in rest [] = Err BadMagic
 lines_in rest (first ∷ []) = version_in first >>= λ _. Err Truncated
 lines_in rest (first ∷ second ∷ more) = do
-  _ ← version_in first
+  version ← version_in first
   srcdir ← srcdir_in second
-  body_in rest srcdir more
+  body_in rest version srcdir more
 
 -- the last of several texts (own)
 unfoldable pub last_of : List (List ℕ) → List ℕ

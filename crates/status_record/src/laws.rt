@@ -2,7 +2,7 @@
 
 ghost use Rattle.std.specs.Prelude.{◌≡◌, ℕ, List, Some, Ok, Err};
 ghost use Rattle.status_record.specs.Escape.{escaped, unescaped};
-ghost use Rattle.status_record.specs.RecordText.{IsRecordText};
+ghost use Rattle.status_record.specs.RecordText.{IsFirstText, IsSecondText, IsRecordText};
 ghost use Rattle.status_record.specs.Reading.{record_in, front_of, IsTruncated};
 ghost use Rattle.textcut.specs.Cuts.{parts};
 ghost use Rattle.status_record.specs.declared.fault.RecordFault.TheVariants.{Truncated};
@@ -14,10 +14,11 @@ pub fn escapes()
     ensures sound { (text v : List ℕ) → unescaped text ≡ Some v → text ≡ escaped v }
 {}
 
-/// A record has one text, a text is that of at most one record, and exactly the texts of records are read.
+/// A record has one text, in one version, a text is that of at most one record, and exactly the texts of records are read.
 pub fn records()
     ensures one_record { (text : List ℕ) (r s : RecordValue) → IsRecordText text r → IsRecordText text s → r ≡ s }
     ensures one_text { (a b : List ℕ) (r : RecordValue) → IsRecordText a r → IsRecordText b r → a ≡ b }
+    ensures one_version { (text : List ℕ) (r s : RecordValue) → IsFirstText text r → ¬ (IsSecondText text s) }
     ensures sound { (text : List ℕ) (r : RecordValue) → record_in text ≡ Ok r → IsRecordText text r }
     ensures complete { (text : List ℕ) (r : RecordValue) → IsRecordText text r → record_in text ≡ Ok r }
 {}

@@ -2,7 +2,7 @@
 //!
 //! [`write_record`] returns the text of a [`Record`], and [`read_record`] the record of a text, or the first fault of a text
 //! that is no record's. A record that is written is read back, and a text that is read is written again with the same
-//! bytes. The format has one version.
+//! bytes. The format has two versions: a record without arguments has the first, and one with arguments the second.
 //!
 //! In a contract, a record is its fields: texts as lists of bytes, tables as lists of entries, and outputs as a list. A call
 //! that returns a `Result` runs out of memory or fails as it says, and no other call allocates. "own" marks a rule that no

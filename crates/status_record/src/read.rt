@@ -7,6 +7,7 @@ ghost use Rattle.status_record.specs.declared.fault.RecordFault.TheVariants.{Out
 ghost use Rattle.deftable.specs.NameList.{has_name};
 ghost use Rattle.deftable.specs.Table.{names_of};
 ghost use Rattle.outputlist.specs.Output.{output_names};
+ghost use Rattle.status_record.specs.Escape.{unescaped};
 ghost use Rattle.status_record.specs.Line.{entry_in, output_in};
 ghost use Rattle.status_record.specs.RecordText.{IsRecordText};
 ghost use Rattle.status_record.specs.declared.record.Record.{Record as RecordValue};
@@ -16,10 +17,30 @@ use crate::escape::unescaped;
 use crate::fault::RecordFault;
 use crate::line::{after_prefix, entry_in, output_in};
 use crate::record::Record;
-use deftable::{Bytes, Defs, Vars};
+use deftable::{Bytes, Defs, Texts, Vars};
 use outputlist::Outputs;
 use std::alloc::{AllocError, Global};
 use textcut::parts;
+
+/// The version of a record.
+#[derive(Clone, Copy)]
+pub enum Version {
+    /// The first, which has no arguments.
+    First,
+    /// The second, which has them.
+    Second,
+}
+
+/// Appends the argument of line `number`.
+fn add_arg(alloc: Global, args: &mut Texts, number: u64, text: &[u8]) -> Result<(), RecordFault>
+    ensures { specs.Gives (λ _. args.new) result (specs.with_item unescaped specs.is_repeated args.old number text.now) }
+{
+    let Some(arg) = unescaped(alloc, text)? else {
+        return Err(RecordFault::BadLine(number));
+    };
+    args.push(arg.as_slice())?;
+    Ok(())
+}
 
 /// Appends the name and the value of line `number`.
 #[tactic(auto, using(crate::proofs::Tables::at_end))]
@@ -73,6 +94,41 @@ fn add_output(
     add_name(names, output.name.as_slice())?;
     outputs.push(output)?;
     Ok(())
+}
+
+/// Reads the lines of arguments after the first two lines.
+fn read_texts(alloc: Global, lines: &[&[u8]]) -> Result<(Texts, usize), RecordFault>
+    requires { 2 ≤ length lines.now }
+    ensures reads { specs.Gives (λ r. (r.0, (r.1, drop r.1 (map (λ t. t.now) lines.now)))) result (specs.texts_in (drop 2 (map (λ t. t.now) lines.now))) }
+    ensures within { IfOk result (λ r. r.1 ≤ length lines.now) }
+{
+    let mut args = Texts::new(alloc);
+    for i in 2..lines.len() {
+        let Some(text) = after_prefix(b"arg ", lines[i]) else {
+            return Ok((args, i));
+        };
+        add_arg(alloc, &mut args, i as u64 + 1, text)?;
+    }
+    Ok((args, lines.len()))
+}
+
+/// Reads the arguments, if the version has them.
+fn read_args(
+    alloc: Global,
+    version: Version,
+    lines: &[&[u8]],
+) -> Result<(Option<Texts>, usize), RecordFault>
+    requires { 2 ≤ length lines.now }
+    ensures reads { specs.Gives (λ r. (r.0, (r.1, drop r.1 (map (λ t. t.now) lines.now)))) result (specs.args_in version (drop 2 (map (λ t. t.now) lines.now))) }
+    ensures within { IfOk result (λ r. r.1 ≤ length lines.now) }
+{
+    match version {
+        Version::First => Ok((None, 2)),
+        Version::Second => {
+            let (args, at) = read_texts(alloc, lines)?;
+            Ok((Some(args), at))
+        }
+    }
 }
 
 /// Reads the variables or the definitions from index `from` on.
@@ -147,11 +203,14 @@ fn is_magic(line: &[u8]) -> bool
 
 /// Reads the first line, the version.
 #[tactic(auto, unfolding(crate::specs::Reading::version_in))]
-fn read_version(line: &[u8]) -> Result<(), RecordFault>
-    ensures { specs.Gives (λ u. u) result (specs.version_in line.now) }
+fn read_version(line: &[u8]) -> Result<Version, RecordFault>
+    ensures { specs.Gives (λ v. v) result (specs.version_in line.now) }
 {
     if line == b"acrun-record 1".as_slice() {
-        return Ok(());
+        return Ok(Version::First);
+    }
+    if line == b"acrun-record 2".as_slice() {
+        return Ok(Version::Second);
     }
     if is_magic(line) {
         return Err(RecordFault::UnknownVersion);
@@ -220,13 +279,15 @@ fn read_rest(rest: &[u8], lines: &[&[u8]], at: usize) -> Result<(), RecordFault>
 fn read_body(
     alloc: Global,
     rest: &[u8],
+    version: Version,
     srcdir: Bytes,
     lines: &[&[u8]],
 ) -> Result<Record, RecordFault>
     requires { 2 ≤ length lines.now }
-    ensures { specs.Gives (λ r. r) result (specs.body_in rest.now srcdir (drop 2 (map (λ t. t.now) lines.now))) }
+    ensures { specs.Gives (λ r. r) result (specs.body_in rest.now version srcdir (drop 2 (map (λ t. t.now) lines.now))) }
 {
-    let (vars, at) = read_entries(alloc, b"var ", lines, 2)?;
+    let (args, at) = read_args(alloc, version, lines)?;
+    let (vars, at) = read_entries(alloc, b"var ", lines, at)?;
     let (defs, at) = read_entries(alloc, b"def ", lines, at)?;
     let mut names = Vars::new(alloc);
     let (files, at) = read_outputs(alloc, b"file ", &mut names, lines, at)?;
@@ -234,6 +295,7 @@ fn read_body(
     read_rest(rest, lines, at)?;
     Ok(Record {
         srcdir,
+        args,
         vars,
         defs,
         files,
@@ -253,9 +315,9 @@ fn read_lines(alloc: Global, rest: &[u8], lines: &[&[u8]]) -> Result<Record, Rec
             Err(RecordFault::Truncated)
         }
         [first, second, ..] => {
-            read_version(first)?;
+            let version = read_version(first)?;
             let srcdir = read_srcdir(alloc, second)?;
-            read_body(alloc, rest, srcdir, lines)
+            read_body(alloc, rest, version, srcdir, lines)
         }
     }
 }
@@ -277,7 +339,7 @@ fn read_text(alloc: Global, text: &[u8]) -> Result<Record, RecordFault>
 /// The errors come in this order:
 ///
 /// - `BadMagic`, if the text has no newline or its first line isn't `acrun-record` and a number;
-/// - `UnknownVersion`, if that number is not 1;
+/// - `UnknownVersion`, if that number is neither 1 nor 2;
 /// - `BadLine` or `DuplicateName`, for the first line that has none of the forms or gives a name again;
 /// - `Truncated`, if the text ends before the line `end` and its newline.
 pub fn read_record(alloc: Global, text: &[u8]) -> Result<Record, RecordFault>

@@ -3,12 +3,12 @@
 ghost use Rattle.std.specs.Prelude.{◌≡◌, ◌++◌, ◌∷◌, [], List, ℕ, OnOk, IfOk, Ok, codes, map};
 ghost use Rattle.status_record.specs.Escape.{escaped};
 ghost use Rattle.status_record.specs.Line.{ended, two_fields, entry_fields, output_fields};
-ghost use Rattle.status_record.specs.RecordText.{lines_of, record_text, IsRecord, IsRecordText};
+ghost use Rattle.status_record.specs.RecordText.{lines_of, version_line, arg_lines, record_text, IsRecord, IsRecordText};
 ghost use Rattle.status_record.specs.Reading.{record_in};
 
 use crate::escape::put_escaped;
 use crate::record::Record;
-use deftable::{Bytes, Defs};
+use deftable::{Bytes, Defs, Texts};
 use outputlist::Output;
 use std::alloc::{AllocError, Global};
 
@@ -46,6 +46,36 @@ fn put_output(out: &mut Vec<u8>, keyword: &[u8], output: &Output) -> Result<(), 
     Ok(())
 }
 
+/// Appends a line for each argument.
+fn put_texts(out: &mut Vec<u8>, args: &[Bytes]) -> Result<(), AllocError>
+    ensures { OnOk result (out.new.items ≡ out.old.items ++ ended (lines_of (codes "arg ") escaped args.now)) }
+{
+    for arg in args {
+        put_value(out, b"arg ", arg.as_slice())?;
+    }
+    Ok(())
+}
+
+/// Appends the first line, the version.
+fn put_version(out: &mut Vec<u8>, args: &Option<Texts>) -> Result<(), AllocError>
+    ensures { OnOk result (out.new.items ≡ out.old.items ++ ended (version_line args.now ∷ [])) }
+{
+    match args {
+        None => out.extend_from_slice(b"acrun-record 1\n"),
+        Some(_) => out.extend_from_slice(b"acrun-record 2\n"),
+    }
+}
+
+/// Appends the lines of the arguments, if the record has them.
+fn put_args(out: &mut Vec<u8>, args: &Option<Texts>) -> Result<(), AllocError>
+    ensures { OnOk result (out.new.items ≡ out.old.items ++ ended (arg_lines args.now)) }
+{
+    match args {
+        None => Ok(()),
+        Some(args) => put_texts(out, args.as_slice()),
+    }
+}
+
 /// Appends a line for each entry of a table.
 fn put_entries(out: &mut Vec<u8>, keyword: &[u8], table: &Defs) -> Result<(), AllocError>
     ensures { OnOk result (out.new.items ≡ out.old.items ++ ended (lines_of keyword.now entry_fields table.now)) }
@@ -72,8 +102,9 @@ fn text_of(alloc: Global, status: &Record) -> Result<Bytes, AllocError>
     ensures { IfOk result (λ t. t ≡ record_text status.now) }
 {
     let mut out = Vec::new(alloc);
-    out.extend_from_slice(b"acrun-record 1\n")?;
+    put_version(&mut out, &status.args)?;
     put_value(&mut out, b"srcdir ", status.srcdir.as_slice())?;
+    put_args(&mut out, &status.args)?;
     put_entries(&mut out, b"var ", &status.vars)?;
     put_entries(&mut out, b"def ", &status.defs)?;
     put_outputs(&mut out, b"file ", status.files.as_slice())?;
@@ -82,7 +113,7 @@ fn text_of(alloc: Global, status: &Record) -> Result<Bytes, AllocError>
     Ok(Bytes::from_vec(out))
 }
 
-/// Returns the text of a record (own).
+/// Returns the text of a record (own): that of the second version if the record has arguments, and of the first otherwise.
 ///
 /// In a record that may be written, the names of the variables and of the definitions are shell names, the names and the
 /// templates of the outputs are paths ([`is_path`](crate::is_path)), and no name occurs twice. Files and headers share

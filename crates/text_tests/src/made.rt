@@ -1,6 +1,6 @@
 //! making: records of runs, and the files and headers that are made of them.
 
-use deftable::{Bytes, Defs, SubstList, Vars};
+use deftable::{Bytes, Defs, SubstList, Texts, Vars};
 use making::{add_outputs, find_missing, find_unknown, make_file, make_outputs, record_of};
 use outputs::{Kind, Thing, Things};
 use status_record::{Output, Outputs, Record};
@@ -9,13 +9,14 @@ use std::test::Fail;
 use testrows::{Call, Page, cut, try_rows};
 
 /// After the call, with bars between them: variables with their values, files and headers with their templates, templates with
-/// their texts, and tags. The source's own output variables are V, CC and srcdir, X is defined as `1`, and the source is in `../s`.
+/// their texts, and tags. The source's own output variables are V, CC and srcdir, X is defined as `1`, the
+/// arguments are `-C` and `x y`, and the source is in `../s`.
 ///
 /// `record`: the record. `make`: what is made of it. `append`: the same twice, in one list. `file`: what is made of the first
 /// file. `missing`: the output whose template is missing. `unknown`: the index of the tag that is no output.
 const MADE: &[u8] = b"
-record V=x;W=y;LIBS=-lm;DEFS=-DX;prefix=/usr|file b t;header h k||h => PACKAGE_NAME[]PACKAGE_TARNAME[]PACKAGE_VERSION[]PACKAGE_STRING[]PACKAGE_BUGREPORT[]PACKAGE_URL[]prefix[/usr]exec_prefix[]bindir[]sbindir[]libexecdir[]libdir[]datarootdir[]datadir[]sysconfdir[]sharedstatedir[]localstatedir[]runstatedir[]includedir[]oldincludedir[]docdir[]infodir[]htmldir[]dvidir[]pdfdir[]psdir[]localedir[]mandir[]LIBS[-lm]DEFS[-DHAVE_CONFIG_H]V[x]CC[]srcdir[];../s;X[1];b[t];h[k]
-record DEFS=-DX;CC=;PACKAGE_URL=u||| => PACKAGE_NAME[]PACKAGE_TARNAME[]PACKAGE_VERSION[]PACKAGE_STRING[]PACKAGE_BUGREPORT[]PACKAGE_URL[u]prefix[]exec_prefix[]bindir[]sbindir[]libexecdir[]libdir[]datarootdir[]datadir[]sysconfdir[]sharedstatedir[]localstatedir[]runstatedir[]includedir[]oldincludedir[]docdir[]infodir[]htmldir[]dvidir[]pdfdir[]psdir[]localedir[]mandir[]LIBS[]V[]CC[]srcdir[];../s;X[1];;
+record V=x;W=y;LIBS=-lm;DEFS=-DX;prefix=/usr|file b t;header h k||h => PACKAGE_NAME[]PACKAGE_TARNAME[]PACKAGE_VERSION[]PACKAGE_STRING[]PACKAGE_BUGREPORT[]PACKAGE_URL[]prefix[/usr]exec_prefix[]bindir[]sbindir[]libexecdir[]libdir[]datarootdir[]datadir[]sysconfdir[]sharedstatedir[]localstatedir[]runstatedir[]includedir[]oldincludedir[]docdir[]infodir[]htmldir[]dvidir[]pdfdir[]psdir[]localedir[]mandir[]LIBS[-lm]DEFS[-DHAVE_CONFIG_H]V[x]CC[]srcdir[];../s[-C][x y];X[1];b[t];h[k]
+record DEFS=-DX;CC=;PACKAGE_URL=u||| => PACKAGE_NAME[]PACKAGE_TARNAME[]PACKAGE_VERSION[]PACKAGE_STRING[]PACKAGE_BUGREPORT[]PACKAGE_URL[u]prefix[]exec_prefix[]bindir[]sbindir[]libexecdir[]libdir[]datarootdir[]datadir[]sysconfdir[]sharedstatedir[]localstatedir[]runstatedir[]includedir[]oldincludedir[]docdir[]infodir[]htmldir[]dvidir[]pdfdir[]psdir[]localedir[]mandir[]LIBS[]V[]CC[]srcdir[];../s[-C][x y];X[1];;
 
 make V=x|file a/b t.in;header c.h d/c.in|t.in @V@-@W@-@CC@-@top_srcdir@^J;d/c.in #undef X^J#undef Y^J => file a/b[x-@W@--../../s^J]header c.h[/* c.h.  Generated from c.in by configure.  */^J#define X 1^J/* #undef Y */^J]
 // A value isn't read again, in a file or in a header.
@@ -122,23 +123,32 @@ fn own_defs(alloc: Global) -> Result<Defs, AllocError> {
     Ok(defs)
 }
 
+fn own_args(alloc: Global) -> Result<Texts, AllocError> {
+    let mut args = Texts::new(alloc);
+    args.push(b"-C")?;
+    args.push(b"x y")?;
+    Ok(args)
+}
+
 fn record_with(
     alloc: Global,
     vars: &Vars,
     names: &SubstList,
     defs: &Defs,
+    args: &Texts,
     outputs: &[u8],
 ) -> Result<Record, AllocError> {
     let files = outputs_of(alloc, outputs, b"file")?;
     let headers = outputs_of(alloc, outputs, b"header")?;
-    record_of(alloc, vars, defs, names, b"../s", &files, &headers)
+    record_of(alloc, vars, defs, names, b"../s", args, &files, &headers)
 }
 
 fn record_given(alloc: Global, vars: &[u8], outputs: &[u8]) -> Result<Record, AllocError> {
     let vars = vars_of(alloc, vars)?;
     let names = own_names(alloc)?;
     let defs = own_defs(alloc)?;
-    record_with(alloc, &vars, &names, &defs, outputs)
+    let args = own_args(alloc)?;
+    record_with(alloc, &vars, &names, &defs, &args, outputs)
 }
 
 fn put_defs(page: &mut Page, defs: &Defs) {
@@ -156,10 +166,19 @@ fn put_outputs(page: &mut Page, outputs: &Outputs) {
     }
 }
 
+fn put_args(page: &mut Page, args: &Texts) {
+    for arg in args.as_slice() {
+        page.put_text(arg.as_slice());
+    }
+}
+
 fn put_record(page: &mut Page, record: &Record) {
     put_defs(page, &record.vars);
     page.put(b";");
     page.put(record.srcdir.as_slice());
+    if let Some(args) = &record.args {
+        put_args(page, args);
+    }
     page.put(b";");
     put_defs(page, &record.defs);
     page.put(b";");

@@ -1,18 +1,22 @@
 //! status_record: records that are read and written again, and the faults of other texts.
 
-use deftable::{Bytes, Defs};
+use deftable::{Bytes, Defs, Texts};
 use status_record::{Outputs, Record, RecordFault, read_record, write_record};
 use std::alloc::Global;
 use std::test::Fail;
 use testrows::{Call, Page, cut, try_rows};
 
-/// `read` and a text: what the record holds, or its fault. `v1` and lines: the same of a record of version 1 whose source
-/// directory is `.`, with these lines before `end`. What isn't written again with the same bytes is marked.
+/// `read` and a text: what the record holds, or its fault; `args` begins the arguments of version 2. `v1` or `v2` and lines: the
+/// same of a record of that version whose source directory is `.`, with these lines before `end`. What isn't written again with
+/// the same bytes is marked.
 const READ: &[u8] = b"
 read acrun-record 1^Jsrcdir .^Jvar A x\\ny^Jend^J => .;A[x^Jy];
 read acrun-record 1^Jsrcdir .^Jvar A x\\ny^J => 3
 read acrun-record 1^Jsrcdir .^Jvar A x\\ny^Jvar A x\\ny^Jend^J => 5 at 4
-read acrun-record 2^Jsrcdir .^Jvar A x\\ny^Jend^J => 4
+read acrun-record 2^Jsrcdir .^Jvar A x\\ny^Jend^J => .;args;A[x^Jy];
+read acrun-record 2^Jsrcdir .^Jarg --enable-x^Jend^J => .;args[--enable-x];
+read acrun-record 1^Jsrcdir .^Jarg --enable-x^Jend^J => 2 at 3
+read acrun-record 2^Jsrcdir .^Jend^J => .;args;
 read  => 1
 
 read acrun-record 1^Jsrcdir ^Jend^J => ;
@@ -31,9 +35,11 @@ read acrun-record +1^J => 1
 read acrun-record 1x^J => 1
 read Acrun-record 1^J => 1
 read acrun-record 0^J => 4
-read acrun-record 2^J => 4
-read acrun-record 2^Jsrcdir .^Jarg --enable-x^Jend^J => 4
+read acrun-record 02^J => 1
+read acrun-record 2 ^J => 1
+read acrun-record 3^J => 4
 read acrun-record 9^J => 4
+read acrun-record 20^J => 4
 read acrun-record 10^Jx => 4
 read acrun-record 99999999999999999999999^J => 4
 
@@ -67,6 +73,21 @@ v1 file a//b c => 2 at 3
 v1 file a$b c => 2 at 3
 v1 header a b:c => 2 at 3
 
+// Arguments, which may be any texts, and come before all else.
+v2 arg a\\\\b\\nc^Jarg -n^Jarg x y^Jarg -n => .;args[a\\b^Jc][-n][x y][-n];
+v2 arg ^Jvar A x^Jdef A y^Jfile a b^Jheader c d => .;args[];A[x];A[y];a[b];c[d];
+v2 arg a^Jvar A x^Jarg b => 2 at 5
+v2 def A x^Jarg a => 2 at 4
+v2 file a b^Jarg a => 2 at 4
+v2 header a b^Jarg a => 2 at 4
+v2 arg => 2 at 3
+v2 arg \\x => 2 at 3
+v2 arg a\\ => 2 at 3
+v2 arg a^Jvar A x^Jvar A y => 5 at 5
+read acrun-record 2^Jarg a^Jsrcdir .^Jend^J => 2 at 2
+read acrun-record 2^Jsrcdir .^Jarg a^J => 3
+read acrun-record 2^Jsrcdir .^Jarg a^Jend^Jarg b^J => 2 at 5
+
 // After `end`.
 read acrun-record 1^Jsrcdir .^Jend^J^J => 2 at 4
 read acrun-record 1^Jsrcdir .^Jend^Jx => 2 at 4
@@ -85,14 +106,16 @@ v1 var A x^Jvar A x^Jx => 5 at 4
 /// `fronts` and a text: from which length on a front of the text is read, or has a fault.
 const FRONTS: &[u8] = b"
 fronts acrun-record 1^Jsrcdir .^Jvar A x\\ny^Jend^J => 0 1;15 3;39 read;
+fronts acrun-record 2^Jsrcdir .^Jarg -C^Jvar A x^Jend^J => 0 1;15 3;43 read;
 fronts acrun-record 1^Jsrcdir .^Jdef A x^Jfile a b^Jheader c d^Jend^J => 0 1;15 3;56 read;
 ";
 
-/// `value` alone: the bytes that aren't written as themselves in a value, or can't be at its end. `path` alone: the same of the
-/// name of a file. `many` alone: how a record with 1,024 variables is read.
+/// `value` alone: the bytes that aren't written as themselves in a value, or can't be at its end. `arg` and `path` alone: the same
+/// of an argument and of the name of a file. `many` alone: how a record with 1,024 variables is read.
 const BYTES: &[u8] = b"
 many => read
 value => 10 92
+arg => 10 92
 path => 9 10 32 36 47 58 92
 ";
 
@@ -113,9 +136,20 @@ fn put_outputs(page: &mut Page, outputs: &Outputs) {
     }
 }
 
+fn put_args(page: &mut Page, args: &Texts) {
+    page.put(b"args");
+    for arg in args.as_slice() {
+        page.put_text(arg.as_slice());
+    }
+    page.put(b";");
+}
+
 fn put_record(page: &mut Page, status: &Record) {
     page.put(status.srcdir.as_slice());
     page.put(b";");
+    if let Some(args) = &status.args {
+        put_args(page, args);
+    }
     put_defs(page, &status.vars);
     put_defs(page, &status.defs);
     put_outputs(page, &status.files);
@@ -173,10 +207,12 @@ fn put_outcome(page: &mut Page, text: &[u8]) {
     }
 }
 
-/// Puts what is read of a record with these lines.
-fn put_lines(page: &mut Page, lines: &[u8]) {
+/// Puts what is read of a record of this version with these lines.
+fn put_lines(page: &mut Page, version: &[u8], lines: &[u8]) {
     let mut text = Page::new(page.alloc());
-    text.put(b"acrun-record 1\nsrcdir .\n");
+    text.put(b"acrun-record ");
+    text.put(version);
+    text.put(b"\nsrcdir .\n");
     text.put(lines);
     text.put(b"\nend\n");
     put_read(page, text.text());
@@ -243,7 +279,9 @@ impl Call for Records {
             [b'm', ..] => put_many(page, 1024),
             [b'p', ..] => put_bytes(page, b"acrun-record 1\nsrcdir .\nfile a/b", b" b\nend\n"),
             [b'v', b'a', ..] => put_bytes(page, b"acrun-record 1\nsrcdir .\nvar A ", b"\nend\n"),
-            _ => put_lines(page, text),
+            [b'a', ..] => put_bytes(page, b"acrun-record 2\nsrcdir .\narg ", b"\nend\n"),
+            [b'v', b'2'] => put_lines(page, b"2", text),
+            _ => put_lines(page, b"1", text),
         }
     }
 }

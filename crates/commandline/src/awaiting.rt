@@ -1,0 +1,28 @@
+//! Options that take the next argument as their value.
+
+ghost use Rattle.std.specs.Prelude.{◌≡◌};
+ghost use Rattle.commandline.specs.Arguments as words;
+ghost use Rattle.commandline.specs.Said.{said_of};
+
+use crate::argument::{Said, Target, said_by};
+use deftable::Bytes;
+
+/// Returns the option that needs the next argument as its value, after an argument with this reading.
+fn awaited_by(said: Said<'_>) -> Option<Target>
+    ensures { result ≡ words.awaited_by (said_of said.entry) }
+{
+    match said {
+        Said::Awaits(target) => Some(target),
+        _ => None,
+    }
+}
+
+/// Returns the option that needs the next argument as its value, after an argument that may be such a value itself.
+pub(crate) fn awaited_after(awaited: Option<Target>, argument: &Bytes) -> Option<Target>
+    ensures { result ≡ words.awaited_after awaited argument.now }
+{
+    match awaited {
+        Some(_) => None,
+        None => awaited_by(said_by(argument.as_slice())),
+    }
+}
