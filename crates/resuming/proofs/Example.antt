@@ -1,6 +1,6 @@
 -- The premises of the law can be met. A batch of the functions f, g and f is cut at g; after it are a list with actions,
 -- AC_CACHE_CHECK, and a definition of its value.
-use Rattle.std.proofs.Common.{◌≡◌, ℕ, codes, List, [], ◌∷◌, Bool, true, false, cond, Option, Some, None, inl, inr, refl, sym, ap, ◌∙◌, arith}
+use Rattle.std.proofs.Common.{◌≡◌, ℕ, codes, List, [], ◌∷◌, Bool, true, false, cond, Option, Some, None, inl, inr, length, refl, sym, ap, ◌∙◌, arith}
 use Rattle.std.specs.Prelude.{bytes_eq, ◌&&◌}
 use Rattle.cachefile.specs.Text.{saved_value}
 use Rattle.crew_trait.specs.declared.reply.Reply.{Reply}
@@ -11,14 +11,15 @@ use Rattle.jobs.specs.Probe.{words_of, job_of}
 use Rattle.shellword.specs.Truth.{truth}
 use Rattle.shellword.specs.Value.{word_value}
 use Rattle.textcut.specs.Cuts.{fields, parts_by}
-use Rattle.syntax.specs.declared.listed.Listed.TheVariants.{Function}
+use Rattle.syntax.specs.declared.listed.Listed.TheVariants.{Header, Function}
 use Rattle.syntax.specs.declared.listed.Sought.TheVariants.{Entry}
 use Rattle.syntax.specs.declared.statement.Plain.TheVariants.{Batch, DefineUnquoted}
-use Rattle.syntax.specs.declared.statement.Question.TheVariants.{ChecksEach}
+use Rattle.syntax.specs.declared.statement.Question.TheVariants.{Checks, ChecksEach}
 use Rattle.syntax.specs.declared.tree.Subject.TheVariants.{Asked}
 use Rattle.syntax.specs.declared.tree.When.TheVariants.{Yes}
 use Rattle.syntax.specs.Script.{Script, Done, Then, Choice, No_case, Case}
 use Rattle.meaning.specs.State.{Goes_on, Cut}
+use Rattle.meaning.specs.Play.{all_jobs}
 use Rattle.meaning.specs.Meaning.{effect, begun, is_taken, meaning, chosen}
 use Rattle.laws.proofs.Values.{same_text}
 use Rattle.resuming.specs.Finished.{finish}
@@ -26,7 +27,9 @@ use Rattle.resuming.specs.Poured.{poured}
 use Rattle.resuming.specs.Joint.{joint, joint_cases, joint_plain, begins, scope_at, joint_replies}
 use Rattle.resuming.specs.Same.{SameAgain, SameCases}
 use Rattle.resuming.specs.Law.{Begun}
-use Rattle.resuming.proofs.Counter.{vars_with, good, bad, value, if_set, maybe, f_is}
+use Rattle.resuming.specs.Plays.{played, StartedAgain}
+use Rattle.resuming.specs.Asked.{tests_made, tests_made_in}
+use Rattle.resuming.proofs.Counter.{vars_with, good, bad, value, sets, if_set, maybe, f_is}
 
 abbrev example : Script
 example = Then (Batch Function (codes "f" ∷ codes "g" ∷ codes "f" ∷ []) None)
@@ -95,3 +98,49 @@ premises = record {
 joint_is : joint_replies (joint example (record { first = vars_with []; replies = replies; second = vars_with f_is; again = again })) ≡ good ∷ bad ∷ good ∷ bad ∷ good ∷ []
 unfolding effect begun is_taken meaning chosen joint joint_cases joint_plain begins scope_at value_of with_entry without_entry words_of job_of truth word_value fields parts_by
 joint_is = refl
+
+-- So can those of the law for whole runs.
+whole_premises : StartedAgain example (vars_with []) (vars_with f_is) replies again
+unfolding effect begun is_taken meaning chosen joint joint_cases joint_plain begins scope_at SameAgain SameCases value_of with_entry without_entry words_of job_of truth word_value fields parts_by is_cache_name has_cv
+whole_premises = record {
+  resumable = premises.resumable;
+  commands = premises.commands;
+  names = premises.names;
+  alone = premises.alone;
+  cut = refl;
+  enough = refl;
+  poured = record { defs = refl; value = premises.poured.value };
+  uncut = λ e. let h : (played example (vars_with f_is) again).how ≡ Goes_on = refl in let z : Goes_on ≡ Cut = sym h ∙ e in cc;
+  enough_again = refl;
+  same = premises.same;
+}
+
+-- AC_CHECK_HEADER([a.h],[x=1]) and AC_CHECK_FUNC([f],[y=1]): the first run is cut at the function.
+abbrev two_tests : Script
+two_tests =
+    Choice (Asked (Checks (Entry Header) (codes "a.h") None)) (Case Yes (sets (codes "x") (codes "1")) No_case)
+    (Choice (Asked (Checks (Entry Function) (codes "f") None)) (Case Yes (sets (codes "y") (codes "1")) No_case) Done)
+
+abbrev header_is : List (List ℕ × List ℕ)
+header_is = (codes "ac_cv_header_a_h", codes "yes") ∷ []
+
+two_joint : joint_replies (joint two_tests (record { first = vars_with []; replies = good ∷ StartRefused ∷ []; second = vars_with header_is; again = good ∷ [] })) ≡ good ∷ good ∷ []
+unfolding effect begun is_taken meaning chosen joint joint_cases joint_plain begins scope_at value_of with_entry without_entry words_of job_of truth word_value fields parts_by
+two_joint = refl
+
+two_jobs : length (all_jobs (played two_tests (vars_with header_is) (good ∷ [])).groups) ≡ 1
+unfolding effect begun is_taken meaning chosen value_of with_entry without_entry words_of job_of truth word_value fields parts_by
+two_jobs = refl
+
+two_x : value_of (played two_tests (vars_with header_is) (good ∷ [])).state.vars (codes "x") ≡ Some (codes "1")
+unfolding effect begun is_taken meaning chosen value_of with_entry without_entry words_of job_of truth word_value fields parts_by
+two_x = refl
+
+two_y : value_of (played two_tests (vars_with header_is) (good ∷ [])).state.vars (codes "y") ≡ Some (codes "1")
+unfolding effect begun is_taken meaning chosen value_of with_entry without_entry words_of job_of truth word_value fields parts_by
+two_y = refl
+
+-- The second run makes the test of the function alone.
+two_made : tests_made two_tests (vars_with header_is) (good ∷ []) ≡ codes "ac_cv_func_f" ∷ []
+unfolding effect begun is_taken meaning chosen tests_made tests_made_in value_of with_entry without_entry words_of job_of truth word_value fields parts_by
+two_made = refl

@@ -56,11 +56,12 @@ tested_plain (statements.Batch listed entries includes) st =
     tested_entries batch (asking batch 1 [] entries st)
 tested_plain s st = []
 
--- The test at the beginning of a round.
+-- A test, if there is one.
 abbrev pub tested_kind : Option Kind → State → List (List ℕ)
 tested_kind None st = []
 tested_kind (Some kind) st = tested_one (name_of kind) st
 
+-- The test at the beginning of a round.
 abbrev pub tested_at : Subject → State → List (List ℕ)
 tested_at Nothing st = []
 tested_at (Word word) st = []

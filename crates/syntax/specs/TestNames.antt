@@ -60,7 +60,7 @@ abbrev mutual
   HasTestNames (Choice subject cases rest) = HasTestNamesIn cases × HasTestNames rest
   HasTestNames (Check message name commands rest) = HasTestNames commands × HasTestNames rest
 
-  -- The same in all cases.
+  -- The same in all cases. (own)
   pub HasTestNamesIn : Cases → Type 0
   HasTestNamesIn No_case = Unit {0}
   HasTestNamesIn (Case when body more) = HasTestNames body × HasTestNamesIn more
