@@ -38,7 +38,7 @@ const LIMIT: usize = 4_194_304;
 
 // Returns the entry of the line with this number, if it has one.
 #[tactic(auto, unfolding(crate::specs::Cache::entry_of))]
-fn entry(alloc: Global, number: usize, text: &[u8]) -> Result<Option<Entry>, CacheFault>
+fn entry(alloc: Global, number: u64, text: &[u8]) -> Result<Option<Entry>, CacheFault>
     ensures { Gives result (words.entry_of number text.now) }
 {
     let Some(found) = line(alloc, text)? else {
@@ -68,7 +68,7 @@ fn read_lines(alloc: Global, lines: &[&[u8]]) -> Result<OldCache, CacheFault>
 {
     let mut entries = Vec::new(alloc);
     for i in 0..lines.len() {
-        let setting = entry(alloc, i + 1, lines[i])?;
+        let setting = entry(alloc, i as u64 + 1, lines[i])?;
         push_entry(&mut entries, setting)?;
     }
     Ok(OldCache { entries })

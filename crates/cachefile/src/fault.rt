@@ -14,10 +14,10 @@ use thiserror::Error;
 pub enum CacheFault {
     /// The line has none of the forms of a line.
     #[error("1 at {0}")]
-    BadLine(usize),
+    BadLine(u64),
     /// The line sets a name that is no shell name or doesn't contain `_cv_`.
     #[error("2 at {0}")]
-    BadName(usize),
+    BadName(u64),
     /// The text has more than 4,194,304 bytes.
     #[error("3")]
     TooLarge,

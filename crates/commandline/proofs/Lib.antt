@@ -5,3 +5,4 @@ pub mod SlashLemmas
 pub mod Turns
 pub mod SourceDirectories
 pub mod Cuttings
+pub mod Keepings

@@ -2,6 +2,7 @@ pub mod Arguments
 pub mod CommandLine
 pub mod Directories
 pub mod Kept
+pub mod KeptSettings
 pub mod Parts
 pub mod Reading
 pub mod Said

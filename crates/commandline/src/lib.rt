@@ -6,7 +6,7 @@
 //! `specs/Arguments.antt` follows the code, and `proofs/Words.antt`, `proofs/Lines.antt` and `proofs/Cuttings.antt` prove
 //! that it agrees with the rules. The crate `options` makes the variables of a run of the settings.
 //!
-//! In the code, read `directory` and `argument`, then `slashes`, `awaiting`, `srcdir` and `kept`.
+//! In the code, read `directory` and `argument`, then `slashes`, `awaiting`, `srcdir` and `kept`. `laws` has no code.
 #![tactic(auto)]
 
 pub mod argument;
@@ -14,6 +14,7 @@ mod awaiting;
 pub mod directory;
 pub mod fault;
 pub mod kept;
+pub mod laws;
 pub mod slashes;
 pub mod srcdir;
 

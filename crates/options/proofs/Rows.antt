@@ -11,7 +11,6 @@ use Rattle.options.specs.Opening.{cache_named, source_directory, setters, set_by
 use Rattle.commandline.specs.Slashes.{unslashed, without_slashes}
 use Rattle.commandline.specs.Srcdir.{srcdir_from, srcdir_of}
 use Rattle.options.specs.Precious.{old_value, restored, restored_variable, restored_from, blanks_note, checked}
-use Rattle.options.specs.WholeOpening.{OpeningFault, OfArguments, OfPrecious, with_cache, opened_with}
 use Rattle.options.specs.Unrecognized.{after_comma, listed, warning, notes_of}
 use Rattle.commandline.specs.declared.fault.OptionFault.{OptionFault}
 use Rattle.commandline.specs.declared.fault.OptionFault.TheVariants.{Unknown, BadFeature, BadVariable, MissingValue, FatalUnrecognized}
@@ -200,28 +199,3 @@ precious_faults :
     × (checked (codes "LD" ∷ codes "CC" ∷ codes "AR" ∷ []) (run_with (codes "cc")) (Sets (codes "ac_cv_env_AR_set") (codes "set") ∷ cache_of (codes "gcc")) ≡ Err (Changed 2))
 unfolding checked restored_from restored_variable restored old_value blanks_note value_of with_entry fields parts_by
 precious_faults = (refl, refl, refl, refl)
-
--- ---- the whole opening
-
-abbrev whole : List (List ℕ) → List Setting → Result Settings OpeningFault
-whole arguments cache = opened_with [] [] (codes "CC" ∷ []) arguments [] cache
-
-abbrev whole_variable : List ℕ → Result Settings OpeningFault → Option (List ℕ)
-whole_variable name (Ok settings) = value_of settings.vars name
-whole_variable name (Err fault) = None
-
-abbrev whole_notes : Result Settings OpeningFault → List (List ℕ)
-whole_notes (Ok settings) = note_texts settings.notes
-whole_notes (Err fault) = []
-
--- The cache is poured over the checked variables, and the notes of the check are last.
-whole_openings :
-    (whole_variable (codes "CC") (whole (codes "CC=gcc -O" ∷ []) (cache_of (codes "gcc  -O"))) ≡ Some (codes "gcc  -O"))
-    × (whole_variable (codes "ac_cv_env_CC_value") (whole (codes "CC=gcc -O" ∷ []) (cache_of (codes "gcc  -O"))) ≡ Some (codes "gcc  -O"))
-    × (whole_variable (codes "v_cv_a") (whole [] (Defaults (codes "v_cv_a") (codes "1") ∷ [])) ≡ Some (codes "1"))
-    × (whole_notes (whole (codes "--with-x" ∷ codes "CC=gcc -O" ∷ []) (cache_of (codes "gcc  -O")))
-    ≡ codes "configure: WARNING: unrecognized options: --with-x\n" ∷ codes "configure: WARNING: blanks of CC have changed, old value used\n" ∷ [])
-    × (whole (codes "CC=cc" ∷ []) (cache_of (codes "gcc")) ≡ Err (OfPrecious (Changed 1)))
-    × (whole (codes "CC=cc" ∷ codes "1=2" ∷ []) (cache_of (codes "gcc")) ≡ Err (OfArguments (BadVariable 2)))
-unfolding opened_with with_cache checked restored_from restored_variable restored old_value blanks_note fields parts_by opening given said_by dashed_of switch_of said_with_value target_of install_directory_of choice_of package_of value_in rest_after key_of directory_named directories variable_of default_of option_of opened_by run_settings source_directory setters set_by finished with_unslashed with_marks is_declared cache_named unslashed without_slashes notes_of warning listed after_comma value_of with_entry has_name
-whole_openings = (refl, refl, refl, refl, refl, refl)

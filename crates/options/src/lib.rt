@@ -19,8 +19,7 @@
 //!
 //! The crate `commandline` reads each argument: its rules say which settings arguments give, and which argument has an
 //! error. The rules here are `specs/Opening.antt` (what a run begins with), `specs/Precious.antt` (precious variables and a
-//! cache), `specs/WholeOpening.antt` (both together, which no call does yet), `specs/Unrecognized.antt` and
-//! `specs/HelpText.antt`. `specs/Stepwise.antt` follows the code. `proofs/Laws.antt` and `proofs/Steps.antt` prove that it
+//! cache), `specs/Unrecognized.antt` and `specs/HelpText.antt`. `specs/Stepwise.antt` follows the code. `proofs/Laws.antt` and `proofs/Steps.antt` prove that it
 //! agrees with the rules, `proofs/Checks.antt` the same of precious variables, and `proofs/Rows.antt` has worked examples.
 //!
 //! In the code, read `reader`, `opening` and `settings`, then `precious`, and the rest in any order.
