@@ -145,7 +145,7 @@ WORDS = [
     b"\0", b"\xff", b"\xc3", b"\r", b"\t", b" ", b"\n\n", b":", b"test", b"test -n ", b" = ", b" != ", b"true", b"false",
     b"x=1\n", b"x=$x$y\n", b"v_cv_x=1\n", b"ac_cv_", b"_cv_", b"enable_x", b"a.h", b"sys/stat.h", b"f", b"f:g", b"../f", b"/f", b"a/../b",
     b"yes", b"no", b"NONE", b"0", b"1", b"2", b"3", b"77", b"255", b"256", b"999999999999999999999", b"2.71", b"2.72",
-    b"acrun-record 1\n", b"srcdir ", b"var ", b"def ", b"file ", b"header ", b"end\n", b"arg ", b"\\n", b"\\x",
+    b"acrun-record 1\n", b"acrun-record 2\n", b"srcdir ", b"var ", b"def ", b"file ", b"header ", b"end\n", b"arg ", b"\\n", b"\\x",
     b"${v_cv_a=1}", b"test ${v_cv_a+y} || v_cv_a=", b'test "${v_cv_a+set}" = set || v_cv_a=', b"v_cv_a=",
     b"ac_cv_env_CC_set=set\n", b"ac_cv_env_CC_value='acrun standin'\n", b"#undef ", b"#define ", b"# define X 1",
     b"CC=", b"CC='acrun standin'\n", b"CC=/nowhere/cc\n", b"PATH=:/x:\n", b"prefix=", b"LIBS=",
@@ -166,6 +166,9 @@ RECORDS = [
     b"acrun-record 1\nsrcdir .\nvar PACKAGE_NAME demo\nvar CC cc\ndef HAVE_A 1\ndef B \"x\"\nfile f f.in\nheader c.h c.h.in\nend\n",
     b"acrun-record 1\nsrcdir ..\nvar A a\\\\b\ndef A 1\nfile a/b/f sub/f.in\nfile out f.in\nend\n",
     b"acrun-record 1\nsrcdir /nowhere\nend\n",
+    b"acrun-record 2\nsrcdir .\narg -C\narg --enable-x\narg CC=acrun standin\nvar A x\ny\nfile f f.in\nend\n",
+    b"acrun-record 2\nsrcdir .\narg --prefix\narg a\\\\b\\nc\nheader c.h c.h.in\nend\n",
+    b"acrun-record 2\nsrcdir .\nend\n",
 ]
 
 COMMANDS = [
@@ -333,6 +336,9 @@ def make_input(number, corpus):
         return configure_input(rng, corpus)
     if kind < 0.97:
         text = mutated(rng, rng.choice(RECORDS), corpus, RECORDS)
+        if rng.random() < 0.2:
+            files = {"config.status": text, "configure.ac": any_source(rng, corpus), "c.h.in": b"#undef HAVE_A\n@A@\n"}
+            return Input("recheck", [b"status", b"--recheck"], files=files)
         tags = rng.choices([b"f", b"c.h", b"out", b"zz", b"", b"a/b/f", b"\xff", b"--recheck"], k=rng.choice([0, 0, 0, 1, 2]))
         return Input("status", [b"status"] + tags, files={"config.status": text, "c.h.in": b"#undef HAVE_A\n@A@\n"})
     words = [rng.choice(COMMANDS) for _ in range(rng.choice([1, 1, 2, 3]))]
@@ -365,11 +371,13 @@ FAULTS = {
     "configure": PARSE + rb"|option [1-5] at \d+|cache [12] at \d+|cache 3|precious [123] [^\n]+|template [^\n]+|put \d+"
                  rb"|file (?s:.*)configure\.ac|file config\.log",
     "status": rb"record (?:[14]|[25] at \d+|3)|tag \d+|template [^\n]+|put \d+|file config\.status|usage",
+    "recheck": PARSE + rb"|option [1-5] at \d+|cache [12] at \d+|cache 3|precious [123] [^\n]+|template [^\n]+|put \d+"
+               rb"|record (?:[14]|[25] at \d+|3)|recheck|file (?s:.*)configure\.ac|file config\.(?:log|status)",
     "words": rb"usage|file \./configure\.ac|file config\.status|file [^\n]+",
 }
 FAULTS = {kind: re.compile(rb"acrun: (?:" + it + rb")\n\Z") for kind, it in FAULTS.items()}
 NOTHING_WRITTEN = re.compile(
-    rb"acrun: (?:parse|plan|option|cache|precious|template|record|tag|usage|file (?s:.*)configure\.ac|file config\.status)")
+    rb"acrun: (?:parse|plan|option|cache|precious|template|record|recheck|tag|usage|file (?s:.*)configure\.ac|file config\.status)")
 FIXED = {
     "f.in": b"@PACKAGE_NAME@ @x@ @CC@\n", "out.in": b"@PACKAGE_STRING@\n", "Makefile.in": b"@CC@ @DEFS@ @srcdir@\n",
     "config.h.in": b"#undef HAVE_F\n", "c.h.in": b"#undef HAVE_F\n#define X 1\n", "version.in": b"@kind@\n",
@@ -533,6 +541,11 @@ def judge_status(it, status, output, errors):
     judge_place(it, errors)
 
 
+def arguments_of(it):
+    """The number of arguments of a run: its words, or those of its record and one more."""
+    return it.files["config.status"].count(b"\narg ") + 1 if it.kind == "recheck" else len(it.words)
+
+
 def judge_place(it, errors):
     """Raises Wrong if an error line names a place that is not there."""
     found = re.search(rb"acrun: (parse|option|cache|record|tag) ?(?:[\d.]* at )?(\d+)\n\Z", errors)
@@ -544,7 +557,7 @@ def judge_place(it, errors):
         most = max(len(text) for text in texts)
         if place > most:
             raise Wrong("an offset after the end of the source")
-    elif found[1] == b"option" and not 1 <= place <= len(it.words):
+    elif found[1] == b"option" and not 1 <= place <= arguments_of(it):
         raise Wrong("an argument that is not there")
     elif found[1] == b"cache" and b" at " in found[0] and not 1 <= place <= max(text.count(b"\n") for text in it.files.values()) + 1:
         raise Wrong("a line of the cache that is not there")
@@ -564,7 +577,7 @@ def judge_files(room, it, before, errors):
     for name in after:
         if name.endswith(".acrun") and name not in before and b".acrun" not in texts:
             raise Wrong(f"it leaves {name}")
-    wrote_nothing = it.kind == "filter" or it.kind in ("configure", "status") and NOTHING_WRITTEN.search(errors)
+    wrote_nothing = it.kind == "filter" or it.kind in ("configure", "status", "recheck") and NOTHING_WRITTEN.search(errors)
     if wrote_nothing and after != before:
         raise Wrong("it writes a file where it should write nothing")
 

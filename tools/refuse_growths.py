@@ -1,11 +1,12 @@
 #!/usr/bin/env python3
-"""Refuses each allocation of `acrun configure`, of the same with a cache, and of `acrun status` in turn, and checks what comes of it.
+"""Refuses each allocation of `acrun configure`, of the same with a cache, of `acrun status` and of `acrun status --recheck` in turn, and
+checks what comes of it.
 
     tools/refuse_growths.py PROGRAM [--jobs N] [--from N] [--count N]
     tools/refuse_growths.py PROGRAM --replay COMMAND N       refuses one allocation, and shows what comes of it
 
-The commands are `configure`, `cached`, which is `configure` with the cache of such a run, and `status`. The package is
-examples/tally, in a new directory for each run, with real children: the compiler is `acrun standin`. The library
+The commands are `configure`, `cached`, which is `configure` with the cache of such a run, `status`, and `recheck`, which is `status
+--recheck` with the cache and the record of such a run. The package is examples/tally, in a new directory for each run, with real children: the compiler is `acrun standin`. The library
 tools/refuse_growth.c, which is built with cc, makes one allocation of acrun itself fail. With allocation N refused, a run has to
 have one of these results:
 
@@ -34,14 +35,16 @@ from concurrent.futures import ProcessPoolExecutor
 ROOT = pathlib.Path(__file__).resolve().parent.parent
 PACKAGE = ROOT / "examples/tally"
 PUTS = ["config.cache", "config.status", "Makefile", "doc/tally.1", "config.h"]
-COMMANDS = ["configure", "cached", "status"]  # a first run, the same with the cache of the first, and the outputs again
+# a first run, the same with the cache of the first, the outputs again, and the run again
+COMMANDS = ["configure", "cached", "status", "recheck"]
+WORDS_OF = {"status": ["status"], "recheck": ["status", "--recheck"]}
 SOURCES = ["configure.ac", "Makefile.in", "doc/tally.1.in", "config.h.in"]
 LINE = re.compile(rb"acrun: put (\d+)\n\Z")
 CUT = re.compile(rb"configure: cut short at child [1-9]\d*\n\Z")
 
 
 class Bench:
-    """The program, the library, and what the two commands do if nothing is refused."""
+    """The program, the library, and what the commands do if nothing is refused."""
 
     def __init__(self, place, program):
         self.place = pathlib.Path(place)
@@ -60,11 +63,11 @@ class Bench:
                 sys.exit(f"no allocation of {command} is seen, so none can be refused")
 
     def puts(self, command):
-        return PUTS[2:] if command == "status" else PUTS
+        return {"status": PUTS[2:], "recheck": PUTS[:2]}.get(command, PUTS)
 
     def texts_before(self, command):
         """The names and texts that the first run left, and that a command needs."""
-        names = {"configure": [], "cached": ["config.cache"], "status": ["config.status"]}[command]
+        names = {"configure": [], "cached": PUTS[:1], "status": PUTS[1:2], "recheck": PUTS[:2]}[command]
         return {name: self.wanted["configure"]["texts"][name] for name in names}
 
     def prepare(self, command, room):
@@ -83,7 +86,7 @@ class Bench:
             count = pathlib.Path(name) / "count"
             env = {"PATH": str(self.bin), "LC_ALL": "C", "LD_PRELOAD": str(self.library)}
             env |= {"REFUSE_AT": str(number), "REFUSE_COUNT": str(count)}
-            words = ["acrun", "status"] if command == "status" else ["acrun", "configure", "-C", "CC=acrun standin"]
+            words = ["acrun", *WORDS_OF.get(command, ["configure", "-C", "CC=acrun standin"])]
             done = subprocess.run(words, executable=self.bin / "acrun", cwd=room, env=env, stdin=subprocess.DEVNULL,
                                   capture_output=True, timeout=120)
             left = children_left()

@@ -11,7 +11,8 @@ if ! command -v cc > /dev/null || ! command -v make > /dev/null; then
 fi
 work=$(mktemp -d) || exit 2
 trap 'rm -rf "$work"' EXIT
-cp -R "$package" "$work/tally" && cd "$work/tally" || exit 2
+mkdir "$work/bin" && ln -s "$acrun" "$work/bin/acrun" && cp -R "$package" "$work/tally" && cd "$work/tally" || exit 2
+PATH=$work/bin:$PATH
 unset CC CFLAGS CPPFLAGS LDFLAGS LIBS MAKEFLAGS MFLAGS
 wrong=0
 
@@ -77,6 +78,23 @@ same Makefile first.mk
 echo "--- tally: another compiler than the cache's is refused"
 configure 2 configure -C CC='cc -g'
 says errors 'acrun: precious 3 CC'
+
+echo "--- tally: configured again by make, with the same arguments, after edits of configure.ac and of a template"
+make distclean > made 2>&1 || fail "make distclean fails: $(cat made)"
+configure 0 -j4 configure --with-top=4 --no-create CC=cc
+configure 0 status
+sleep 1
+cp configure.ac configure.before && cp Makefile.in Makefile.before
+sed 's/\[1\.0\]/[1.1]/' configure.before > configure.ac
+echo '# edited' >> Makefile.in
+build
+says config.status 'arg --with-top=4'
+says config.status 'var PACKAGE_VERSION 1.1'
+says config.h '#define TOP_WORDS 4'
+says Makefile '# edited'
+make > made 2>&1
+grep -q acrun made && fail "make configures again though nothing has changed: $(cat made)"
+cp configure.before configure.ac && cp Makefile.before Makefile.in
 
 echo "--- tally: in a directory of its own, with options, four children at once"
 make distclean > made 2>&1 || fail "make distclean fails: $(cat made)"

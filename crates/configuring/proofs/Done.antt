@@ -47,7 +47,7 @@ quiet_accepted : (a : List (List ℕ)) (e : List (List ℕ × List ℕ)) (c : Op
     → accepted a e c t script ≡ Ok (Shows shown_script settings) → quiet_for a e (Ok script) ≡ false
 unfolding accepted
 quiet_accepted a e c t script shown_script settings is =
-    quiet_opened (opening (lists_of script).features (lists_of script).packages (lists_of script).precious a e) script shown_script settings (started c t script) is
+    quiet_opened (opening (lists_of script).features (lists_of script).packages (lists_of script).precious a e) script shown_script settings (started a c t script) is
 
 quiet_wanted : (w : Result (Unit {0}) Fault) (a : List (List ℕ)) (e : List (List ℕ × List ℕ)) (c : Option (List ℕ)) (t : List (List ℕ × List ℕ)) (script shown_script : Script) (settings : Settings)
     → (w >>= λ _. accepted a e c t script) ≡ Ok (Shows shown_script settings) → quiet_for a e (Ok script) ≡ false

@@ -6,6 +6,7 @@ use Rattle.diskfiles.specs.Lines.{AreLines}
 use Rattle.engine.specs.Configured.{IsMeant, things}
 use Rattle.engine.specs.Judged.{judged}
 use Rattle.framing.specs.Given.{Shows, Starts}
+use Rattle.framing.specs.Rechecked as again
 use Rattle.framing.specs.Shown.{shown_text}
 use Rattle.framing.specs.declared.accepting.Start.{Start}
 use Rattle.framing.specs.declared.report.Report.{Report}
@@ -25,3 +26,11 @@ pub data IsConfigured (window : ℕ) (arguments : List (List ℕ)) (environment 
       → judged source arguments environment cache templates ≡ Ok (Starts script start) → IsMeant window script start before now report
       → AreLines (things script start templates report) lines → out ≡ printed (quiet_in source arguments environment) report.messages lines
       → IsConfigured window arguments environment before now out (status_of report.outcome)
+
+-- For some text of a record of the second version, the program does what it does if it is asked to run a configure.ac with the
+-- arguments of the record and then `--no-create`, with one child at once. (own)
+pub record IsRechecked (environment : List (List ℕ × List ℕ)) (before now : Account) (out : List ℕ) (status : ℕ) : Type 0 where
+  pub text : List ℕ
+  pub arguments : List (List ℕ)
+  pub rechecked : again.IsRechecked text arguments
+  pub configured : IsConfigured 1 arguments environment before now out status

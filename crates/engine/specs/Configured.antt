@@ -68,7 +68,7 @@ pub record IsMeant (window : ℕ) (script : Script) (start : Start) (before now 
 
 -- The record of a run that has this report. (own)
 abbrev pub record_after : Script → Start → Report → Record
-record_after script start report = run_record script start.srcdir report.vars report.defs
+record_after script start report = run_record script start.srcdir start.args report.vars report.defs
 
 -- What a run that has this report hands over. (own)
 abbrev pub things : Script → Start → List (List ℕ × List ℕ) → Report → List Thing

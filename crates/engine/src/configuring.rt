@@ -58,6 +58,7 @@ fn run_ready<C: Crew>(
         cache_name,
         srcdir,
         no_create,
+        args,
         vars,
         notes,
     } = start;
@@ -68,6 +69,7 @@ fn run_ready<C: Crew>(
         source,
         cache_name.as_ref(),
         srcdir.as_slice(),
+        &args,
         no_create,
         templates,
         outcome,

@@ -1,10 +1,11 @@
 //! Whole runs: what is given is accepted or refused, the source is run, and what it leaves is handed over.
 //!
 //! [`configure`] is a run from the text of a configure.ac to the texts that it hands over to a receiver, and [`remake`] makes
-//! files and headers again from the record of such a run. What a run is given is a value, and what it hands over is put to
+//! files and headers again from the record of such a run. [`recheck_args`] returns the arguments with which the run of a record is
+//! done again. What a run is given is a value, and what it hands over is put to
 //! [`Outputs`], so nothing here opens a file.
 //!
-//! What comes before and after the run is in the crate `framing`, which has [`remake`] too. In `specs`, read `Judged` (what
+//! What comes before and after the run is in the crate `framing`, which has [`remake`] and [`recheck_args`] too. In `specs`, read `Judged` (what
 //! follows from all that is given), `Configured` (the whole) and `Agreeing` (two runs under the same replies); `Told` is small. In
 //! `src`, read `configuring`; `reading` and `outcome` are small, and `agreeing` has a law.
 #![tactic(auto)]
@@ -16,5 +17,5 @@ mod reading;
 
 pub use agreeing::configures_agree;
 pub use configuring::configure;
-pub use framing::{Fault, Outcome, RemakeFault, Report, remake, status_of};
+pub use framing::{Fault, Outcome, RemakeFault, Report, recheck_args, remake, status_of};
 pub use outputs::{Kind, MemoryOutputs, Outputs, PutRefused, Thing};

@@ -1,4 +1,4 @@
-//! Outputs that are made again, of the record of a run and of other texts.
+//! Outputs that are made again, of the record of a run and of other texts, and the arguments with which a run is done again.
 
 use crate::calls::Whole;
 use std::test::Fail;
@@ -50,6 +50,8 @@ remake acrun-record 1^Jsrcdir .^Jvar V x^Jfile b t^Jfile a t^Jend^J|templates t 
 remake acrun-record 1^Jsrcdir .^Jvar V x^Jfile b t^Jfile a t^Jend^J|templates t <@V@>|then 3 => 2; file b[<x>]; file a[<x>]
 // nothing to be made
 remake acrun-record 1^Jsrcdir .^Jvar V x^Jend^J => 0
+// Arguments change nothing.
+remake acrun-record 2^Jsrcdir .^Jarg --enable-x^Jarg -n^Jvar V x^Jfile a t^Jend^J|templates t <@V@> => 1; file a[<x>]
 ";
 
 #[test]
@@ -69,4 +71,31 @@ remake acrun-record 1^Jsrcdir .^Jvar V x^Jend^J|tags V => tag 1
 #[test]
 fn unknown_tags(rt: HostRuntime) -> Result<(), Fail> {
     try_rows(rt.alloc(), &Whole, UNKNOWN)
+}
+
+const ARGUMENTS: &[u8] = b"
+// of a run: all but `-n` and `--no-create`, and the values of options whatever they are
+args a=1 => [--no-create]
+args AC_CONFIG_FILES([f])|args -C;--enable-x;-n => [-C][--enable-x][--no-create]
+args a=1|args --prefix;-n;-n;--no-create;V=-n => [--prefix][-n][V=-n][--no-create]
+args a=1|args --srcdir;--no-create;-q => [--srcdir][--no-create][-q][--no-create]
+args AC_MSG_ERROR([no])|args -C => record 1
+// of a record
+recheck acrun-record 2^Jsrcdir .^Jarg --enable-x^Jend^J => [--enable-x][--no-create]
+recheck acrun-record 2^Jsrcdir .^Jend^J => [--no-create]
+recheck acrun-record 2^Jsrcdir .^Jarg a\\\\b\\nc^Jarg ^Jend^J => [a\\b^Jc][][--no-create]
+recheck acrun-record 2^Jsrcdir .^Jarg --no-create^Jend^J => [--no-create][--no-create]
+// An option without its value at the end takes what is appended as its value.
+recheck acrun-record 2^Jsrcdir .^Jarg --prefix^Jend^J => [--prefix][--no-create]
+// no arguments, and no record
+recheck acrun-record 1^Jsrcdir .^Jvar A x^Jend^J => no arguments
+recheck acrun-record 1^Jsrcdir .^Jarg --enable-x^Jend^J => record 2 at 3
+recheck acrun-record 3^J => record 4
+recheck acrun-record 2^Jsrcdir .^Jarg a^J => record 3
+recheck  => record 1
+";
+
+#[test]
+fn arguments_of_records(rt: HostRuntime) -> Result<(), Fail> {
+    try_rows(rt.alloc(), &Whole, ARGUMENTS)
 }

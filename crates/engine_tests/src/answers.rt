@@ -2,7 +2,7 @@
 
 use cfglog::log_text;
 use crew::Event;
-use deftable::{Bytes, Defs, Note, Stream, Vars};
+use deftable::{Bytes, Defs, Note, Stream, Texts, Vars};
 use engine::{Fault, Kind, Outcome, RemakeFault, Report, Thing};
 use std::fmt::Display;
 use testrows::Page;
@@ -151,13 +151,14 @@ fn put_fault(page: &mut Page, fault: &Fault, view: View, shown: &[u8]) {
     }
 }
 
-/// Puts a fault of making outputs again.
+/// Puts a fault of making outputs again, or of the arguments of a record.
 fn put_remake_fault(page: &mut Page, fault: &RemakeFault) {
     match fault {
         RemakeFault::Record(fault) => put_named(page, b"record ", fault),
         RemakeFault::UnknownTag(number) => put_named(page, b"tag ", number),
         RemakeFault::NoTemplate(name) => put_template(page, name),
         RemakeFault::PutRefused(number) => put_named(page, b"put ", number),
+        RemakeFault::NoArguments => page.put(b"no arguments"),
         RemakeFault::OutOfMemory => page.cut(),
     }
 }
@@ -185,6 +186,14 @@ impl Answer for Fault {
 impl Answer for usize {
     fn put(&self, page: &mut Page, _view: View, _shown: &[u8]) {
         page.put_number(*self);
+    }
+}
+
+impl Answer for Texts {
+    fn put(&self, page: &mut Page, _view: View, _shown: &[u8]) {
+        for text in self.as_slice() {
+            page.put_text(text.as_slice());
+        }
     }
 }
 

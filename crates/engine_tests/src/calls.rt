@@ -5,7 +5,7 @@ ghost use Rattle.crew_trait.specs.Events.{IsIdle};
 
 use crate::answers::{View, put_answer, put_events, put_things, text_of};
 use crate::given::{Given, given_of, number_of, order_of, replies_of, section, section_or_empty};
-use crate::remakes::{put_remade, put_remade_of};
+use crate::remakes::{put_rechecked, put_remade, put_remade_of};
 use crew::{Crew, MemoryCrew};
 use engine::{Fault, Kind, MemoryOutputs, Outputs, Report, configure};
 use testrows::{Call, Page, cut};
@@ -150,6 +150,13 @@ fn put_again(page: &mut Page, given: &Given, row: &[u8]) {
     put_remade(page, text, given.templates.as_slice(), row);
 }
 
+/// Puts the arguments with which a run is done again, of the record that it handed over.
+fn put_recheck(page: &mut Page, given: &Given, row: &[u8]) {
+    let mut first = Page::new(page.alloc());
+    let outputs = put_viewed(&mut first, given, row, View::Log);
+    put_rechecked(page, text_of(outputs.handed(), Kind::Record).unwrap_or(b""));
+}
+
 // ---- windows
 
 /// Windows, each with an order of ends.
@@ -198,6 +205,7 @@ fn put_ways(page: &mut Page, given: &Given, row: &[u8]) {
 fn put_call(page: &mut Page, call: &[u8], given: &Given, row: &[u8]) {
     match call {
         b"again" => put_again(page, given, row),
+        b"args" => put_recheck(page, given, row),
         b"twice" => put_twice(page, given, row),
         b"ways" => put_ways(page, given, row),
         b"log" => put_seen(page, given, row, View::Log),
@@ -216,8 +224,8 @@ fn put_source(page: &mut Page, call: &[u8], lines: &[u8], row: &[u8]) {
 ///
 /// `run`: what the run leaves, the calls of the crew and what is handed over, but for the text of the record. `log` and
 /// `record`: those texts. `twice`: the run and a second one with its cache. `ways`: the run, and the windows and orders that
-/// leave something else. `again`: what is made again of its record. `remake`, with the text of a record in place of a source:
-/// what is made again of it.
+/// leave something else. `again`: what is made again of its record. `args`: the arguments with which the run of its record is done
+/// again. `remake` and `recheck`, with the text of a record in place of a source: what is made again of it, and its arguments.
 pub struct Whole;
 
 impl Call for Whole {
@@ -226,6 +234,7 @@ impl Call for Whole {
         let (text, row) = cut(rest, b"|");
         match call {
             b"remake" => put_remade_of(page, text, row),
+            b"recheck" => put_rechecked(page, text),
             _ => put_source(page, call, text, row),
         }
     }

@@ -68,7 +68,7 @@ fn files_and_headers(rt: HostRuntime) -> Result<(), Fail> {
 
 const RECORDS: &[u8] = b"
 record AC_DEFINE([A],[x\\y])^JAC_SUBST([Q],['a b\\c'])^JAC_CONFIG_HEADERS([h:k])^JAC_CONFIG_FILES([f a/g])|args --srcdir=../s/;LIBS=-lm;-n => \
-acrun-record 1^Jsrcdir ../s^Jvar PACKAGE_NAME demo^Jvar PACKAGE_TARNAME demo^Jvar PACKAGE_VERSION 1.0^Jvar PACKAGE_STRING demo 1.0^J\
+acrun-record 2^Jsrcdir ../s^Jarg --srcdir=../s/^Jarg LIBS=-lm^Jvar PACKAGE_NAME demo^Jvar PACKAGE_TARNAME demo^Jvar PACKAGE_VERSION 1.0^Jvar PACKAGE_STRING demo 1.0^J\
 var PACKAGE_BUGREPORT ^Jvar PACKAGE_URL ^Jvar prefix /usr/local^Jvar exec_prefix ${prefix}^Jvar bindir ${exec_prefix}/bin^J\
 var sbindir ${exec_prefix}/sbin^Jvar libexecdir ${exec_prefix}/libexec^Jvar libdir ${exec_prefix}/lib^J\
 var datarootdir ${prefix}/share^Jvar datadir ${datarootdir}^Jvar sysconfdir ${prefix}/etc^Jvar sharedstatedir ${prefix}/com^J\

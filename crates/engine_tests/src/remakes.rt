@@ -1,11 +1,11 @@
-//! Calls of `remake`, as a row has them.
+//! Calls of `remake` and `recheck_args`, as a row has them.
 
 ghost use Rattle.std.specs.Prelude.{◌≡◌};
 
 use crate::answers::{View, put_answer, put_whole_things};
 use crate::given::{number_of, pairs_of, section_or_empty, texts_of};
 use deftable::Bytes;
-use engine::{MemoryOutputs, Outputs, remake};
+use engine::{MemoryOutputs, Outputs, recheck_args, remake};
 use testrows::Page;
 
 /// Puts the number of outputs that are made again for a receiver that has done nothing, or the fault.
@@ -35,4 +35,10 @@ pub fn put_remade(page: &mut Page, text: &[u8], templates: &[(Bytes, Bytes)], ro
 pub fn put_remade_of(page: &mut Page, text: &[u8], row: &[u8]) {
     let templates = pairs_of(page, section_or_empty(row, b"templates"), b" ");
     put_remade(page, text, templates.as_slice(), row);
+}
+
+/// Puts the arguments with which the run of a record is done again, or the fault.
+pub fn put_rechecked(page: &mut Page, text: &[u8]) {
+    let answer = recheck_args(page.alloc(), text);
+    put_answer(page, answer, View::Whole, b"");
 }

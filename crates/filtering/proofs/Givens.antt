@@ -28,7 +28,7 @@ abbrev bare : Script → Settings
 bare s = run_settings (lists_of s).precious (set_by (setters [] [])) [] []
 
 -- without arguments no text is shown
-accepted_alone : (templates : List (List ℕ × List ℕ)) (s : Script) → accepted [] [] None templates s ≡ (started None templates s (bare s) >>= λ start. Ok (Starts s start))
+accepted_alone : (templates : List (List ℕ × List ℕ)) (s : Script) → accepted [] [] None templates s ≡ (started [] None templates s (bare s) >>= λ start. Ok (Starts s start))
 unfolding accepted opening given opened_by notes_of run_settings
 accepted_alone templates s = refl
 
@@ -36,7 +36,7 @@ abbrev after_source : List (List ℕ × List ℕ) → Script → Result Accepted
 after_source templates s = wants (nat_le (weight s) heaviest) (Plan TooLong) >>= λ _. accepted [] [] None templates s
 
 judged_is : (source : List ℕ) (templates : List (List ℕ × List ℕ)) (s : Script) → source_of source ≡ Ok s
-    → judged_alone source templates ≡ (wants (nat_le (weight s) heaviest) (Plan TooLong) >>= λ _. (started None templates s (bare s) >>= λ start. Ok (Starts s start)))
+    → judged_alone source templates ≡ (wants (nat_le (weight s) heaviest) (Plan TooLong) >>= λ _. (started [] None templates s (bare s) >>= λ start. Ok (Starts s start)))
 unfolding judged
 judged_is source templates s is =
     ap (λ r. named of_parse r >>= after_source templates) is ∙ ap (λ a. wants (nat_le (weight s) heaviest) (Plan TooLong) >>= λ _. a) (accepted_alone templates s)

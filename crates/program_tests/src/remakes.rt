@@ -1,4 +1,4 @@
-//! Outputs that are made again, and records from which none is made.
+//! Outputs that are made again, records from which none is made, and runs with the arguments of a record.
 
 use crate::steps::Steps;
 use std::test::Fail;
@@ -18,9 +18,6 @@ h[/* h.  Generated from h.in by configure.  */^J#define D 2^J/* #undef E */^J]; 
 source AC_CONFIG_FILES([f])|write f.in 1|run configure,-q|write f.in 2|run status,zz|run status,f,f.in|run status,f,--recheck|read f\
 |run status|read f => \
 0; 2 err[acrun: tag 1^J]; 2 err[acrun: tag 2^J]; 2 err[acrun: tag 2^J]; f[1]; 0 [config.status: creating f^J]; f[2]
-// There is no --recheck.
-source AC_CONFIG_FILES([f])|write f.in 1|run configure,-q|remove f|run status,--recheck|run status,--recheck,f|list => \
-0; 2 err[acrun: usage^J]; 2 err[acrun: usage^J]; here config.log config.status configure.ac f.in
 // no record
 source AC_CONFIG_FILES([f])|write f.in 1|run status|run status,f|list => \
 2 err[acrun: file config.status^J]; 2 err[acrun: file config.status^J]; here configure.ac f.in
@@ -28,7 +25,7 @@ directory config.status|run status|list => 2 err[acrun: file config.status^J]; h
 // texts that are no records
 write f.in 1|write config.status |run status|write config.status acrun-record 1^Jsrcdir .^Jvar 9 x^Jend^J|run status\
 |write config.status acrun-record 1^Jsrcdir .^Jfile f f.in^J\
-|run status|write config.status acrun-record 2^J|run status|write config.status acrun-record 1^Jsrcdir .^Jvar A x^Jvar A y^Jend^J|run status,zz\
+|run status|write config.status acrun-record 3^J|run status|write config.status acrun-record 1^Jsrcdir .^Jvar A x^Jvar A y^Jend^J|run status,zz\
 |write config.status acrun-record 1^Jsrcdir .^Jfile f f.in^Jend^Jmore^J|run status|list => \
 2 err[acrun: record 1^J]; 2 err[acrun: record 2 at 3^J]; 2 err[acrun: record 3^J]; 2 err[acrun: record 4^J]; 2 err[acrun: record 5 at 4^J]; \
 2 err[acrun: record 2 at 5^J]; here config.status f.in
@@ -50,4 +47,37 @@ source AC_CONFIG_FILES([f])|write f.in 1|run configure,-q|write f.in 2|full|run 
 #[test]
 fn outputs_made_again(rt: HostRuntime) -> Result<(), Fail> {
     try_rows_in(&rt, "outputs_made_again", &Steps { rt: &rt }, REMAKES)
+}
+
+const RECHECKS: &[u8] = b"\
+// The run is done again without its outputs, and leaves the same record. A further word is refused.
+source AC_ARG_ENABLE([x],[],[Q=$enableval])^JAC_SUBST([Q])^JAC_CONFIG_FILES([f])|write f.in <@Q@>|run configure,-C,--enable-x=a,-n|list\
+|run status,--recheck,f|run status,--recheck,--recheck|run status,--recheck|list|run status|read f|run status,--recheck|run status => \
+0; here config.cache config.log config.status configure.ac f.in; 2 err[acrun: usage^J]; 2 err[acrun: usage^J]; \
+0; here config.cache config.log config.status configure.ac f.in; 0 [config.status: creating f^J]; f[<a>]; 0; 0 [config.status: creating f^J]
+// The environment and the source are those of now. Messages are printed, and the log is written again.
+source AC_MSG_NOTICE([one])^JAC_SUBST([Q])^JAC_CONFIG_FILES([f])|write f.in <@Q@>|env Q=a|run configure,-n|env Q=b\
+|source AC_MSG_NOTICE([two])^JAC_SUBST([Q])^JAC_CONFIG_FILES([f g])|write g.in @Q@|run status,--recheck|read config.log|run status|read f|read g => \
+0 [configure: one^J]; 0 [configure: two^J]; config.log[configure: two^J]; 0 [config.status: creating f^Jconfig.status: creating g^J]; f[<b>]; g[b]
+// A run that is stopped keeps the record.
+source a=1|run configure,-q,--prefix,-n,-n|source AC_MSG_ERROR([no],[3])|run status,--recheck|run status|source AC_SUBST([prefix])^JAC_CONFIG_FILES([f])\
+|write f.in <@prefix@>|run status,--recheck|list|run status|read f => \
+0; 3 err[configure: error: no^J]; 0; 0; here config.log config.status configure.ac f.in; 0 [config.status: creating f^J]; f[<-n>]
+// An argument with a newline and a backslash, by hand
+source AC_SUBST([Q])^JAC_CONFIG_FILES([f])|write f.in <@Q@>|write config.status acrun-record 2^Jsrcdir .^Jarg Q=a\\\\b\\nc^Jend^J|run status,--recheck\
+|run status|read f => 0; 0 [config.status: creating f^J]; f[<a\\b^Jc>]
+// By hand, an option without its value at the end takes --no-create as its value. So the file is made.
+source AC_SUBST([prefix])^JAC_CONFIG_FILES([f])|write f.in <@prefix@>|write config.status acrun-record 2^Jsrcdir .^Jarg --prefix^Jend^J\
+|run status,--recheck|read f => 0 [config.status: creating f^J]; f[<--no-create>]
+// a record without arguments, no record, and arguments with an error
+source a=1|write config.status acrun-record 1^Jsrcdir .^Jend^J|run status,--recheck|run status|write config.status acrun-record 3^J\
+|run status,--recheck|write config.status acrun-record 2^Jsrcdir .^Jarg --zz^Jend^J|run status,--recheck|remove config.status|run status,--recheck\
+|write config.status acrun-record 2^Jsrcdir nowhere^Jarg --srcdir=t^Jend^J|run status,--recheck|list => \
+2 err[acrun: recheck^J]; 0; 2 err[acrun: record 4^J]; 2 err[acrun: option 1 at 1^J]; 2 err[acrun: file config.status^J]; \
+2 err[acrun: file t/configure.ac^J]; here config.status configure.ac
+";
+
+#[test]
+fn runs_done_again(rt: HostRuntime) -> Result<(), Fail> {
+    try_rows_in(&rt, "runs_done_again", &Steps { rt: &rt }, RECHECKS)
 }

@@ -27,7 +27,7 @@ source AC_DEFINE([A],[x\\y])^JAC_SUBST([Q],['a b'])^JAC_CONFIG_HEADERS([h:k])^JA
 |write d/f.in @Q@|write g.in @LIBS@|run configure,LIBS=-lm|read d/f|read g|read h|read config.log|read config.status => \
 0 [config.status: creating d/f^Jconfig.status: creating g^Jconfig.status: creating h^J]; \
 d/f[a b]; g[-lm]; h[/* h.  Generated from k by configure.  */^J#define A x\\y^J]; config.log[]; \
-config.status[acrun-record 1^Jsrcdir .^Jvar PACKAGE_NAME demo^Jvar PACKAGE_TARNAME demo^Jvar PACKAGE_VERSION 1.0^J\
+config.status[acrun-record 2^Jsrcdir .^Jarg LIBS=-lm^Jvar PACKAGE_NAME demo^Jvar PACKAGE_TARNAME demo^Jvar PACKAGE_VERSION 1.0^J\
 var PACKAGE_STRING demo 1.0^Jvar PACKAGE_BUGREPORT ^Jvar PACKAGE_URL ^Jvar prefix /usr/local^Jvar exec_prefix ${prefix}^J\
 var bindir ${exec_prefix}/bin^Jvar sbindir ${exec_prefix}/sbin^Jvar libexecdir ${exec_prefix}/libexec^Jvar libdir ${exec_prefix}/lib^J\
 var datarootdir ${prefix}/share^Jvar datadir ${datarootdir}^Jvar sysconfdir ${prefix}/etc^Jvar sharedstatedir ${prefix}/com^J\

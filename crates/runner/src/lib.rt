@@ -1,7 +1,7 @@
 //! The program's commands, apart from the process that they run in.
 //!
-//! [`command`] chooses by the program's words, as the crate `invocation` reads them: a whole run over files (`configure`), the crate
-//! `configuring`; the outputs of a record made again (`status`), or the stand-in for a compiler, the crate `commands`; and without
+//! [`command`] chooses by the program's words, as the crate `invocation` reads them: a whole run over files (`configure`), or such a
+//! run again (`status --recheck`), the crate `configuring`; the outputs of a record made again (`status`), or the stand-in for a compiler, the crate `commands`; and without
 //! words the filter, the crate `filtering`.
 //!
 //! "own" marks a rule that no manual gives.

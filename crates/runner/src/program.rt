@@ -3,15 +3,15 @@
 ghost use Rattle.std.specs.Prelude.{◌≡◌, ◌≢◌, ◌⊎◌, ◌+◌, ◌^◌, ◌≤◌, ℕ, List, [], IfSome};
 ghost use Rattle.std.specs.Io.KnownBytes.{Appends};
 ghost use Rattle.commands.specs.MadeAgain.{IsMadeAgain};
-ghost use Rattle.configuring.specs.Configures.{IsConfigured};
+ghost use Rattle.configuring.specs.Configures.{IsConfigured, IsRechecked};
 ghost use Rattle.crew_trait.specs.Events.{IsIdle};
 ghost use Rattle.filtering.specs.Filtered.{IsFiltered};
-ghost use Rattle.invocation.specs.Calls.{call_of, Unknown, IfFilter, IfStandIn, IfConfigure, IfStatus, HasNoRun, HasNoOutput};
+ghost use Rattle.invocation.specs.Calls.{call_of, Unknown, IfFilter, IfStandIn, IfConfigure, IfStatus, IfRecheck, HasNoRun, HasNoOutput};
 ghost use Rattle.standin.specs.Standin.{IsAnswered};
 
 use crate::telling::tell;
 use commands::{run_standin, run_status};
-use configuring::run_configure;
+use configuring::{run_configure, run_recheck};
 use crew_trait::Crew;
 use deftable::Bytes;
 use filtering::{Filtered, filter};
@@ -50,8 +50,9 @@ fn run_filter<R: Read, W: Write, E: Write>(
 ///
 /// Without words, it filters its input, and the status is that of the source's run. After `standin` they are the command line
 /// of a compiler, which the stand-in answers. After `configure` they are the arguments of a run, which has at most one child at
-/// once, or N after `-jN`. After `status` they are the names of outputs of the run's record, which are made again. There is no
-/// other command. If anything is wrong, also with the words, the status is 2 (own).
+/// once, or N after `-jN`. After `status` they are the names of outputs of the run's record, which are made again; but `status
+/// --recheck` is the run again, with the arguments of its record. There is no other command. If anything is wrong, also with the
+/// words, the status is 2 (own).
 ///
 /// Each error is reported as one line on standard error. If that can't be written, only the status reports it.
 pub fn run<F: Files, C: Crew, R: Read, W: Write, E: Write>(
@@ -79,6 +80,9 @@ pub fn run<F: Files, C: Crew, R: Read, W: Write, E: Write>(
         × Appends (W.contents output.old) (W.contents output.new) out) }
     // Unless the status is 2, it is 0, and the outputs of some record with these names are made.
     ensures status { IfStatus (call_of words.now) (λ tags. result ≢ 2 → (result ≡ 0) × (out : List ℕ) × IsMadeAgain tags out × Appends (W.contents output.old) (W.contents output.new) out) }
+    // Unless the status is 2, the same holds of the run with the arguments of some record, and then `--no-create`.
+    ensures recheck { IfRecheck (call_of words.now) (result ≢ 2 → (out : List ℕ) × IsRechecked env.now (C.account crew.old) (C.account crew.new) out result
+        × Appends (W.contents output.old) (W.contents output.new) out) }
     ensures unknown { call_of words.now ≡ Unknown → result ≡ 2 }
     // Only a run starts children, only the filter reads the input, and the stand-in writes no output.
     ensures crew { HasNoRun (call_of words.now) → crew.new ≡ crew.old }
@@ -94,6 +98,7 @@ pub fn run<F: Files, C: Crew, R: Read, W: Write, E: Write>(
             run_configure(alloc, files, window, args, env, crew, output, errors)
         }
         Call::Status(tags) => run_status(alloc, files, tags, output, errors),
+        Call::Recheck => run_recheck(alloc, files, env, crew, output, errors),
         Call::Unknown => tell_usage(errors),
     }
 }

@@ -1,0 +1,16 @@
+use Rattle.std.proofs.Common.{subst, sym}
+use Rattle.framing.specs.Rechecked.{IsRechecked}
+use Rattle.configuring.proofs.rechecking.run_again.Goals as goal
+
+pub returns-in-Ok-clause-run : goal.returns-in-Ok-clause-run
+returns-in-Ok-clause-run g c = λ other.
+    let told = c.run_configure-status.ensures.run other in (
+      told.0,
+      record {
+        text = c.args.text.now;
+        arguments = c.as_slice.result.now;
+        rechecked = subst (λ a. IsRechecked c.args.text.now a) (sym c.as_slice.ensures) c.in-Ok.ensures.sound;
+        configured = told.1;
+      },
+      told.2,
+    )
