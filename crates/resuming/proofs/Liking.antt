@@ -3,7 +3,7 @@ use Rattle.std.proofs.Common.{◌≡◌, ℕ, List, [], ◌∷◌, ◌++◌, cod
 use Rattle.std.specs.Prelude.{is_some, unwrap_or, not, ◌&&◌, bytes_eq, ◌==◌}
 use Rattle.jobs.specs.declared.job.Job.{Job}
 use Rattle.jobs.specs.Probe as probe
-use Rattle.jobs.specs.Probe.{words_of, compile_words, link_words, preprocessor, preprocess_words, job_if, run_of, job_of}
+use Rattle.jobs.specs.Probe.{words_of, compile_words, link_words, link_words_with, preprocessor, preprocess_words, job_if, run_of, job_of}
 use Rattle.crew_trait.specs.declared.reply.Reply.{Reply}
 use Rattle.deftable.specs.Table.{value_of, with_entry, without_entry}
 use Rattle.shellword.specs.declared.element.Condition.{Condition}
@@ -278,7 +278,7 @@ unfolding compile_words
 compile_same number s t h = cc (words_same s t (codes "CC") h.cc_is, words_same s t (codes "CFLAGS") h.cflags, words_same s t (codes "CPPFLAGS") h.cppflags)
 
 link_same : (number : ℕ) (s t : Variables) → SameTools s t → link_words number s ≡ link_words number t
-unfolding link_words
+unfolding link_words_with
 link_same number s t h =
     cc (words_same s t (codes "CC") h.cc_is, words_same s t (codes "CFLAGS") h.cflags, words_same s t (codes "CPPFLAGS") h.cppflags, words_same s t (codes "LDFLAGS") h.ldflags, words_same s t (codes "LIBS") h.libs)
 
