@@ -340,7 +340,9 @@ def make_input(number, corpus):
             files = {"config.status": text, "configure.ac": any_source(rng, corpus), "c.h.in": b"#undef HAVE_A\n@A@\n"}
             return Input("recheck", [b"status", b"--recheck"], files=files)
         tags = rng.choices([b"f", b"c.h", b"out", b"zz", b"", b"a/b/f", b"\xff", b"--recheck"], k=rng.choice([0, 0, 0, 1, 2]))
-        return Input("status", [b"status"] + tags, files={"config.status": text, "c.h.in": b"#undef HAVE_A\n@A@\n"})
+        # A lone tag `--recheck` is no tag.
+        kind = "recheck" if tags == [b"--recheck"] else "status"
+        return Input(kind, [b"status"] + tags, files={"config.status": text, "c.h.in": b"#undef HAVE_A\n@A@\n"})
     words = [rng.choice(COMMANDS) for _ in range(rng.choice([1, 1, 2, 3]))]
     files = {"standin.txt": mutated(rng, b"sys/stat.h\n\n#include\n", corpus, corpus.sources)[:5000], "a.c": rng.choice(corpus.sources)}
     return Input("words", words, files=files)
