@@ -11,7 +11,7 @@
 //! `broken_check_leaves_variables` all variables and definitions are as they were.
 #![tactic(auto)]
 
-ghost use Rattle.laws.specs.Batched.{BatchCommits, BatchAsksUnset, BatchStops, BatchAsksFew};
+ghost use Rattle.laws.specs.Batched.{BatchCommits, BatchAsksUnset, BatchStops, BatchAsksFew, BatchAsksOnce};
 ghost use Rattle.laws.specs.Cached.{NamesStandOnce, BrokenIsUnset, BrokenRowIsUnset, BrokenCheckIsUnset, SetStaysSet, SetRowAsksNothing};
 ghost use Rattle.laws.specs.Commands.{BrokenLeavesVariables, BrokenRowLeavesVariables, CommandsWriteAlone, BrokenCheckLeavesVariables};
 ghost use Rattle.laws.specs.Deeds.{DeedsAccount, CommandsHaveNoDeeds};
@@ -105,7 +105,8 @@ pub fn children_are_logged()
 {}
 
 /// If there is a compiler, a batch is cut exactly if one of its children is refused. Each name has its value from before, or
-/// the one that the reply to its child gives. The children are logged in the order of the list.
+/// the one that the reply to its child gives. By these values the entries are defined and printed, one after the other, and
+/// an entry whose child was refused is not defined. The children are logged in the order of the list.
 pub fn batch_commits()
     ensures commits { BatchCommits }
 {}
@@ -125,4 +126,9 @@ pub fn batch_stops()
 /// A batch asks for no more children than it has entries.
 pub fn batch_asks_few()
     ensures few { BatchAsksFew }
+{}
+
+/// A batch asks for at most one child for a name, also if the name is listed twice.
+pub fn batch_asks_once()
+    ensures once { BatchAsksOnce }
 {}

@@ -22,7 +22,7 @@ use Rattle.meaning.specs.Batches.{Batch, is_known, job_for, asking, jobs_in, ask
 use Rattle.meaning.specs.Play.{first_refused, refused_here}
 use Rattle.laws.specs.Ends.{AtEnds}
 use Rattle.laws.specs.Cached.{StandsOnce, KeepsOnce}
-use Rattle.laws.specs.Batched.{lacks_compiler, answer_to, value_by, cut_by, IsEntry}
+use Rattle.laws.specs.Batched.{lacks_compiler, answer_to, value_by, entry_defs, defs_all, cut_by, IsEntry}
 use Rattle.laws.proofs.Values.{same_text, same_self, cond_true, cond_false, once_with}
 use Rattle.laws.proofs.BatchEntries.{row_at, how_if, flag_of, refused_in, one_set, or_false}
 use Rattle.laws.proofs.BatchLemmas.{batch_commits, batch_asks_unset}
@@ -31,7 +31,6 @@ use Rattle.resuming.specs.Joint.{answer_or, joint_entries}
 use Rattle.resuming.proofs.Near.{IsCached, Alike, Every, Like}
 use Rattle.resuming.proofs.Names.{same_or_not, entry_cached}
 use Rattle.resuming.proofs.Liking.{like_then, cached_like, heard_like, child_alike, variable_alike, after_alike, entry_same, row_same}
-use Rattle.resuming.proofs.BatchDefinitions.{entry_defs, defs_all, batch_defines}
 
 -- ---- batches in states that are alike
 
@@ -149,10 +148,6 @@ cut_is : (rs : List Reply) → cut_by (first_refused rs) ≡ how_if (refused_in 
 cut_is [] = refl
 cut_is (r ∷ rs) = cut_first (success r) rs (cut_is rs)
 
-how_goes : (b : Bool) → (how_if b ≡ Goes_on) ⊎ (how_if b ≡ Cut)
-how_goes true = inr refl
-how_goes false = inl refl
-
 pub with_replies : (batch : Batch) (st : State) (rs : List Reply) → lacks_compiler st ≡ false → length (jobs_in (asking batch 1 [] batch.entries st)) ≤ length rs
     → DoneWith batch st (take (length (jobs_in (asking batch 1 [] batch.entries st))) rs) (drop (length (jobs_in (asking batch 1 [] batch.entries st))) rs) (finish (batched batch st) rs)
 with_replies batch st rs c h =
@@ -168,8 +163,7 @@ with_replies batch st rs c h =
       end = go.now;
       is = is;
       value = go.value;
-      defined = subst (λ (x : State). x.defs ≡ defs_all batch.listed batch.entries (value_of x.vars) st.defs) (ap (λ (f : Finished). f.state) is)
-          (batch_defines batch st rs (how_if (refused_in t)) (ap (λ (f : Finished). f.how) is) (how_goes (refused_in t)));
+      defined = go.defs;
     }
 
 enough_all : (js : List Job) (next : List Reply → Run) (rs : List Reply) → length js ≤ length rs → Enough (next (take (length js) rs)) (drop (length js) rs) → Enough (asks_all js next) rs
@@ -201,13 +195,14 @@ AllOf batch entries st = (n : List ℕ) → Among n (map (entry_name batch.liste
 abbrev pub AllThere : Batch → State → Type 0
 AllThere batch st = AllOf batch batch.entries st
 
-record Quiet (now : State) (run : Run) : Type 0 where
+record Quiet (batch : Batch) (entries : List (List ℕ)) (now : State) (run : Run) : Type 0 where
   end : State
   is : run ≡ Ends Goes_on end
   vars : end.vars ≡ now.vars
+  defined : end.defs ≡ defs_all batch.listed entries (value_of now.vars) now.defs
 
-cached_batch : (batch : Batch) (entries : List (List ℕ)) (place : ℕ) (earlier : List (List ℕ)) (first now : State) (replies : List Reply) → AllOf batch entries first → now.vars ≡ first.vars → Quiet now (committed batch first (asking batch place earlier entries first) replies false now)
-cached_batch batch [] place earlier first now replies all same = record { end = now; is = refl; vars = refl }
+cached_batch : (batch : Batch) (entries : List (List ℕ)) (place : ℕ) (earlier : List (List ℕ)) (first now : State) (replies : List Reply) → AllOf batch entries first → now.vars ≡ first.vars → Quiet batch entries now (committed batch first (asking batch place earlier entries first) replies false now)
+cached_batch batch [] place earlier first now replies all same = record { end = now; is = refl; vars = refl; defined = refl }
 cached_batch batch (entry ∷ more) place earlier first now replies all same =
     let name = entry_name batch.listed entry in
     let job = job_for batch place earlier entry first in
@@ -219,6 +214,8 @@ cached_batch batch (entry ∷ more) place earlier first now replies all same =
       end = later.end;
       is = ap (λ run. commits run false (committed batch first tail (replies_after job replies))) one.is ∙ later.is;
       vars = later.vars ∙ one.after;
+      defined = later.defined ∙ ap (λ l. defs_all batch.listed more (value_of l) one.end.defs) one.after
+          ∙ ap (defs_all batch.listed more (value_of now.vars)) (one.defs ∙ ap (λ l. entry_defs batch.listed entry (value_of l name) now.defs) one.after);
     }
 
 job_true : (batch : Batch) (entry : List ℕ) (place : ℕ) (earlier : List (List ℕ)) (st : State) → is_known (entry_name batch.listed entry) earlier st ≡ true → job_for batch place earlier entry st ≡ None
@@ -237,15 +234,7 @@ cached_run batch st all =
     let a = asking batch 1 [] batch.entries st in
     let go = cached_batch batch batch.entries 1 [] st st [] all refl in
     let is : batched batch st ≡ Ends Goes_on go.end = ap (λ jobs. asks_all jobs (λ replies. committed batch st a replies false st)) (nothing_asked batch batch.entries 1 [] st all) ∙ go.is in
-    let ended : finish (batched batch st) [] ≡ record { how = Goes_on; state = go.end; taken = []; left = [] } = ap (λ r. finish r []) is in
-    let defined : go.end.defs ≡ defs_all batch.listed batch.entries (value_of go.end.vars) st.defs =
-    subst (λ (x : State). x.defs ≡ defs_all batch.listed batch.entries (value_of x.vars) st.defs) (ap (λ (f : Finished). f.state) ended) (batch_defines batch st [] Goes_on (ap (λ (f : Finished). f.how) ended) (inl refl)) in
-    record {
-      end = go.end;
-      is = is;
-      vars = go.vars;
-      defined = defined ∙ ap (λ l. defs_all batch.listed batch.entries (value_of l) st.defs) go.vars;
-    }
+    record { end = go.end; is = is; vars = go.vars; defined = go.defined }
 
 -- The definitions are those of the values.
 pub defs_same : (listed : Listed) (entries : List (List ℕ)) (v w : List ℕ → Option (List ℕ)) (d : List (List ℕ × List ℕ)) → ((n : List ℕ) → Among n (map (entry_name listed) entries) → v n ≡ w n) → defs_all listed entries v d ≡ defs_all listed entries w d

@@ -7,7 +7,6 @@ mod Forms
 mod Parts
 mod Single
 mod Programs
-mod BatchDefinitions
 mod Batched
 mod BatchPart
 mod Statements
