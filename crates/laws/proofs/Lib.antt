@@ -15,3 +15,5 @@ pub mod OtherDeeds
 pub mod BatchEntries
 pub mod BatchLemmas
 pub mod Logged
+pub mod Plays
+pub mod Refusals

@@ -4,7 +4,8 @@
 //! Read `specs/Ends.antt` (what holds at the ends of a run), `specs/Cached.antt` (cached tests: their names),
 //! `specs/Commands.antt` (tests that set their name alone), `specs/Questions.antt` (questions that test: their answer),
 //! `specs/Linking.antt` (tests of libraries: what they leave in LIBS), `specs/Deeds.antt` (what each name that is set at the end comes from), `specs/Logged.antt` (the children in the log),
-//! then `specs/Batched.antt` (batches: lists of tests whose children are asked for at once).
+//! then `specs/Batched.antt` (batches: lists of tests whose children are asked for at once), and `specs/Finished.antt` and
+//! `specs/Refusals.antt` (runs under given replies: which are cut).
 //!
 //! For example, say that AC_CACHE_CHECK of the name `v_cv_x` has the commands `v_cv_x=no` and then a program that is
 //! compiled, and that the compiler can't be started. By `broken_check_is_unset` the name is unset at the end, and by
@@ -18,6 +19,7 @@ ghost use Rattle.laws.specs.Deeds.{DeedsAccount, CommandsHaveNoDeeds};
 ghost use Rattle.laws.specs.Linking.{LibsChecked, LibsSearched};
 ghost use Rattle.laws.specs.Logged.{ChildrenAreLogged};
 ghost use Rattle.laws.specs.Questions.{FoundByValue, FoundByCached};
+ghost use Rattle.laws.specs.Refusals.{CutsAtRefusals, CutsAreTold};
 
 /// Statements never give a name a second entry in the variables.
 pub fn names_stand_once()
@@ -131,4 +133,11 @@ pub fn batch_asks_few()
 /// A batch asks for at most one child for a name, also if the name is listed twice.
 pub fn batch_asks_once()
     ensures once { BatchAsksOnce }
+{}
+
+/// A whole run that is played with as many replies as jobs is cut exactly if one of them is refused. Its last message is then
+/// the line with the place of the first refused reply. A run that isn't cut prints what its statements print.
+pub fn cuts_at_refusals()
+    ensures law { CutsAtRefusals }
+    ensures told { CutsAreTold }
 {}

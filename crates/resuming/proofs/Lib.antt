@@ -15,7 +15,5 @@ mod Whole
 mod Unasked
 mod Counter
 mod Example
-mod Plays
-mod Refusals
 mod WholeRuns
 mod Pouring
