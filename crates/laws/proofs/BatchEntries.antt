@@ -172,7 +172,7 @@ set_kids batch entry v now =
     ∙ told_kids ((codes "(cached) " ++ v) ++ codes "\n") (begins batch entry now) ∙ begins_kids batch entry now
 
 -- The run of a test whose name is unset, if it may begin.
-unset_run : (r : Row) (st : State) → IsUnset r.test.name st.vars → r.ready ≡ true
+pub unset_run : (r : Row) (st : State) → IsUnset r.test.name st.vars → r.ready ≡ true
     → tested r st ≡ then_run (then_run (guarded r.test.name (r.test.body (checking r.test.message st))) (λ now. Ends Goes_on (with_result (r.test.shown (value_of now.vars r.test.name)) now))) (λ now. Ends Goes_on (r.after (value_of now.vars r.test.name) now))
 unset_run r st e ready =
     ap (λ o. tested_by (may_begin o r.ready) r st) e

@@ -17,3 +17,4 @@ pub mod BatchLemmas
 pub mod Logged
 pub mod Plays
 pub mod Refusals
+pub mod Types

@@ -8,3 +8,4 @@ pub mod Deeds
 pub mod Batched
 pub mod Finished
 pub mod Refusals
+pub mod Types

@@ -5,7 +5,7 @@
 //! `specs/Commands.antt` (tests that set their name alone), `specs/Questions.antt` (questions that test: their answer),
 //! `specs/Linking.antt` (tests of libraries: what they leave in LIBS), `specs/Deeds.antt` (what each name that is set at the end comes from), `specs/Logged.antt` (the children in the log),
 //! then `specs/Batched.antt` (batches: lists of tests whose children are asked for at once), and `specs/Finished.antt` and
-//! `specs/Refusals.antt` (runs under given replies: which are cut).
+//! `specs/Refusals.antt` (runs under given replies: which are cut), and `specs/Types.antt` (the test of a type).
 //!
 //! For example, say that AC_CACHE_CHECK of the name `v_cv_x` has the commands `v_cv_x=no` and then a program that is
 //! compiled, and that the compiler can't be started. By `broken_check_is_unset` the name is unset at the end, and by
@@ -20,6 +20,7 @@ ghost use Rattle.laws.specs.Linking.{LibsChecked, LibsSearched};
 ghost use Rattle.laws.specs.Logged.{ChildrenAreLogged};
 ghost use Rattle.laws.specs.Questions.{FoundByValue, FoundByCached};
 ghost use Rattle.laws.specs.Refusals.{CutsAtRefusals, CutsAreTold};
+ghost use Rattle.laws.specs.Types.{TypeByReplies};
 
 /// Statements never give a name a second entry in the variables.
 pub fn names_stand_once()
@@ -140,4 +141,10 @@ pub fn batch_asks_once()
 pub fn cuts_at_refusals()
     ensures law { CutsAtRefusals }
     ensures told { CutsAreTold }
+{}
+
+/// The test of a type whose name is unset asks for one child or two: for the second only if the first succeeds. Its value is
+/// `yes` exactly if the first succeeds and the second fails, and otherwise `no`.
+pub fn type_by_replies()
+    ensures replies { TypeByReplies }
 {}
