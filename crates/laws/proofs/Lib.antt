@@ -18,3 +18,5 @@ pub mod Logged
 pub mod Plays
 pub mod Refusals
 pub mod Types
+pub mod Searches
+pub mod Programs

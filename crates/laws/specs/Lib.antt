@@ -9,3 +9,4 @@ pub mod Batched
 pub mod Finished
 pub mod Refusals
 pub mod Types
+pub mod Programs

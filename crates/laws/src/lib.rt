@@ -5,7 +5,8 @@
 //! `specs/Commands.antt` (tests that set their name alone), `specs/Questions.antt` (questions that test: their answer),
 //! `specs/Linking.antt` (tests of libraries: what they leave in LIBS), `specs/Deeds.antt` (what each name that is set at the end comes from), `specs/Logged.antt` (the children in the log),
 //! then `specs/Batched.antt` (batches: lists of tests whose children are asked for at once), and `specs/Finished.antt` and
-//! `specs/Refusals.antt` (runs under given replies: which are cut), and `specs/Types.antt` (the test of a type).
+//! `specs/Refusals.antt` (runs under given replies: which are cut), `specs/Types.antt` (the test of a type), and
+//! `specs/Programs.antt` (AC_CHECK_PROGS and AC_PROG_CC).
 //!
 //! For example, say that AC_CACHE_CHECK of the name `v_cv_x` has the commands `v_cv_x=no` and then a program that is
 //! compiled, and that the compiler can't be started. By `broken_check_is_unset` the name is unset at the end, and by
@@ -18,6 +19,7 @@ ghost use Rattle.laws.specs.Commands.{BrokenLeavesVariables, BrokenRowLeavesVari
 ghost use Rattle.laws.specs.Deeds.{DeedsAccount, CommandsHaveNoDeeds};
 ghost use Rattle.laws.specs.Linking.{LibsChecked, LibsSearched};
 ghost use Rattle.laws.specs.Logged.{ChildrenAreLogged};
+ghost use Rattle.laws.specs.Programs.{ProgramsAreSought, CachedIsNotSought, OwnIsNotSought};
 ghost use Rattle.laws.specs.Questions.{FoundByValue, FoundByCached};
 ghost use Rattle.laws.specs.Refusals.{CutsAtRefusals, CutsAreTold};
 ghost use Rattle.laws.specs.Types.{TypeByReplies};
@@ -147,4 +149,13 @@ pub fn cuts_at_refusals()
 /// `yes` exactly if the first succeeds and the second fails, and otherwise `no`.
 pub fn type_by_replies()
     ensures replies { TypeByReplies }
+{}
+
+/// AC_CHECK_PROGS and AC_PROG_CC look for the first program in all directories of PATH, then for the next, up to the first
+/// that is found. The variable gets the name of that program. If none is found it gets the default, or the empty text. If the
+/// cache name is set, or else if the variable has a value that isn't empty, nothing is asked for, and that value counts.
+pub fn programs_are_sought()
+    ensures sought { ProgramsAreSought }
+    ensures cached { CachedIsNotSought }
+    ensures own { OwnIsNotSought }
 {}
