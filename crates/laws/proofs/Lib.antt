@@ -20,3 +20,4 @@ pub mod Refusals
 pub mod Types
 pub mod Searches
 pub mod Programs
+mod Examples

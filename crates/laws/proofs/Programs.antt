@@ -1,5 +1,5 @@
 -- AC_CHECK_PROGS and AC_PROG_CC.
-use Rattle.std.proofs.Common.{◌≡◌, ℕ, Option, Some, None, List, [], ◌∷◌, ◌++◌, length, map, codes, Bool, true, false, cond, ◌⊎◌, inl, inr, refl, sym, ap, ◌∙◌, subst, ⊎_elim, append_assoc, arith, length-append}
+use Rattle.std.proofs.Common.{◌≡◌, ℕ, Option, Some, None, List, [], ◌∷◌, ◌++◌, length, map, codes, Bool, true, false, cond, inl, inr, refl, sym, ap, ◌∙◌, subst, ⊎_elim, append_assoc, arith, length-append}
 use Rattle.std.specs.Prelude.{◌||◌, ◌==◌, not, option_map, unwrap_or, bytes_eq}
 use Rattle.std.specs.List.{AllByRecursion}
 use Rattle.std.proofs.lemmas.Bool.{cases_Bool}
@@ -14,20 +14,19 @@ use Rattle.deftable.specs.declared.note.Stream.TheVariants.{Out}
 use Rattle.shellword.specs.declared.part.Part.{Part}
 use Rattle.shellword.specs.Value.{word_value}
 use Rattle.syntax.specs.declared.statement.Plain as plain
-use Rattle.syntax.specs.declared.statement.Plain.TheVariants.{CheckProgs, ProgCc}
 use Rattle.syntax.specs.TestNames.{program_name}
 use Rattle.meaning.specs.State.{State, piece, with_child, with_variable, Goes_on, Completed, Stopped, Cut, Run, Ends, Asks, then_run, as_is}
-use Rattle.meaning.specs.Asking.{success, only_reply, heard, same, attempted}
+use Rattle.meaning.specs.Asking.{success, heard, same, attempted}
 use Rattle.meaning.specs.Directories.{directories_of}
 use Rattle.meaning.specs.Tests.{guarded, checking, with_result, with_value, Row, tested}
 use Rattle.meaning.specs.Rows.{Program, attempts_in, value_or_empty, value_if, row_of}
-use Rattle.meaning.specs.Meaning.{check_prog, has_value, looks, looks_all, defaulted, effect}
+use Rattle.meaning.specs.Meaning.{check_prog, has_value, looks_all, defaulted, effect}
 use Rattle.meaning.specs.Play.{first_refused}
 use Rattle.laws.specs.Cached.{with_cached}
 use Rattle.laws.specs.Finished.{finish, Enough}
 use Rattle.laws.specs.Logged.{children_of}
-use Rattle.laws.specs.Programs.{places, found_at, searched, found_or, default_of, SearchEnds, IsSearch, AreNamed, IsSought, places_in, Searches, ProgramsAreSought, named_by, SearchesNothing, CachedIsNotSought, OwnIsNotSought}
-use Rattle.laws.proofs.Values.{same_text, not_same, cases_value, value_here, value_there, rewritten}
+use Rattle.laws.specs.Programs.{found_or, default_of, SearchEnds, IsSearch, AreNamed, IsSought, places_in, Searches, ProgramsAreSought, named_by, SearchesNothing, CachedIsNotSought, OwnIsNotSought}
+use Rattle.laws.proofs.Values.{same_text, not_same, value_here, value_there, rewritten}
 use Rattle.laws.proofs.CachedTests.{set_row}
 use Rattle.laws.proofs.BatchEntries.{said, added, unset_run}
 use Rattle.laws.proofs.Searches.{Ending, Answered, Hunt, hunted}

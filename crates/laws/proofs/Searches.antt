@@ -1,13 +1,12 @@
 -- Programs that are looked for, one place after the other.
-use Rattle.std.proofs.Common.{◌≡◌, ℕ, suc, ◌≤◌, Option, Some, None, List, [], ◌∷◌, ◌++◌, length, take, drop, codes, Bool, true, false, cond, refl, sym, ap, ◌∙◌, subst, append_assoc, arith}
-use Rattle.std.specs.Prelude.{◌||◌, not, option_map}
+use Rattle.std.proofs.Common.{◌≡◌, ℕ, suc, Option, Some, None, List, [], ◌∷◌, ◌++◌, Bool, true, false, refl, sym, subst, append_assoc, arith}
+use Rattle.std.specs.Prelude.{option_map}
 use Rattle.std.proofs.lemmas.List.{append-nil}
 use Rattle.jobs.specs.declared.job.Job.{Job}
 use Rattle.jobs.specs.Probe.{path_of}
 use Rattle.crew_trait.specs.declared.reply.Reply.{Reply}
-use Rattle.deftable.specs.Table.{value_of, with_entry}
-use Rattle.meaning.specs.State.{State, with_child, Goes_on, Run, Ends, Asks}
-use Rattle.meaning.specs.Asking.{success, only_reply}
+use Rattle.meaning.specs.State.{State, Goes_on, Run, Ends, Asks}
+use Rattle.meaning.specs.Asking.{success}
 use Rattle.meaning.specs.Play.{first_refused, refused_here}
 use Rattle.laws.specs.Finished.{finish, Enough}
 use Rattle.laws.specs.Programs.{if_found, found_at, searched}

@@ -1,7 +1,7 @@
 -- The test of a type under two replies.
-use Rattle.std.proofs.Common.{◌≡◌, ℕ, Option, Some, None, List, [], ◌∷◌, ◌++◌, codes, Bool, true, false, cond, refl, sym, ap, ◌∙◌, subst, append_assoc}
+use Rattle.std.proofs.Common.{◌≡◌, ℕ, Option, Some, List, [], ◌∷◌, ◌++◌, codes, Bool, true, false, cond, refl, sym, ap, ◌∙◌, subst, append_assoc}
 use Rattle.std.specs.Prelude.{◌==◌, is_some}
-use Rattle.csource.specs.Sources.{type_source, second_type_source}
+use Rattle.csource.specs.Sources.{second_type_source}
 use Rattle.jobs.specs.declared.job.Job.{Job}
 use Rattle.crew_trait.specs.declared.reply.Reply.{Reply}
 use Rattle.crew_trait.specs.declared.reply.Reply.TheVariants.{Answer, StartRefused, EndRefused}
@@ -10,12 +10,12 @@ use Rattle.deftable.specs.declared.note.Stream.TheVariants.{Out}
 use Rattle.shellword.specs.declared.part.Part.{Part}
 use Rattle.syntax.specs.TestNames.{type_name}
 use Rattle.meaning.specs.State.{State, piece, with_child, Goes_on, Run, Ends, then_run, as_is}
-use Rattle.meaning.specs.Asking.{success, same, Attempt, attempted}
+use Rattle.meaning.specs.Asking.{success, same, attempted}
 use Rattle.meaning.specs.Tests.{guarded, checking, with_result, with_value, Row, tested}
 use Rattle.meaning.specs.Rows.{Sized, is_yes, after_of, type_job, row_of}
 use Rattle.laws.specs.Logged.{children_of}
-use Rattle.laws.specs.Finished.{Finished, finish, with_taken}
-use Rattle.laws.specs.Types.{type_value, type_children, TypeEnds, TypeByReplies}
+use Rattle.laws.specs.Finished.{finish, with_taken}
+use Rattle.laws.specs.Types.{TypeEnds, TypeByReplies}
 use Rattle.laws.proofs.Values.{value_here}
 use Rattle.laws.proofs.BatchEntries.{said, added, defined_vars, defined_log, unset_run}
 
