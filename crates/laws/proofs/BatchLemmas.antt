@@ -1,5 +1,5 @@
 -- All entries of a batch.
-use Rattle.std.proofs.Common.{◌≡◌, ℕ, suc, ◌≤◌, Option, Some, None, List, [], ◌∷◌, length, drop, Bool, true, false, cond, ◌⊎◌, inl, inr, refl, sym, ap, ◌∙◌, subst, ⊎_elim, arith}
+use Rattle.std.proofs.Common.{◌≡◌, ℕ, suc, ◌≤◌, Option, Some, None, List, [], ◌∷◌, length, drop, Bool, true, false, cond, ◌⊎◌, inl, inr, refl, sym, ap, ◌∙◌, subst, ⊎_elim, arith, ◌++◌, append_assoc}
 use Rattle.std.specs.Prelude.{◌||◌, option_map, bytes_eq, is_some}
 use Rattle.std.proofs.lemmas.Bool.{cases_Bool}
 use Rattle.std.proofs.lemmas.List.{append-nil}
@@ -12,15 +12,15 @@ use Rattle.deftable.specs.declared.note.Stream.TheVariants.{Err}
 use Rattle.shellword.specs.declared.part.Part.{Part}
 use Rattle.syntax.specs.declared.listed.Listed.{Listed}
 use Rattle.syntax.specs.declared.listed.Listed.TheVariants.{Header, Function, Declaration}
-use Rattle.meaning.specs.State.{piece, told, State, Goes_on, Stopped, Ends}
+use Rattle.meaning.specs.State.{piece, told, State, Goes_on, Stopped, Run, Ends}
 use Rattle.meaning.specs.Asking.{success, only_reply, no_compiler}
 use Rattle.meaning.specs.Rows.{entry_name, entry_job}
 use Rattle.meaning.specs.Batches.{Batch, is_known, job_for, asks_all, asking, jobs_in, replies_after, commits, committed}
 use Rattle.meaning.specs.Play.{first_refused, refused_here}
 use Rattle.laws.specs.Logged.{children_of}
-use Rattle.laws.specs.Batched.{lacks_compiler, answer_to, cut_by, BatchCommits, IsEntry, BatchAsksUnset, all_set, StopsUnless, BatchStops, BatchAsksFew, names_asked, BatchAsksOnce}
+use Rattle.laws.specs.Batched.{lacks_compiler, answer_to, entry_defs, defs_all, entry_pieces, cut_by, BatchCommits, IsEntry, BatchAsksUnset, all_set, StopsUnless, BatchStops, BatchKeepsSet, BatchAsksFew, names_asked, BatchAsksOnce}
 use Rattle.laws.proofs.Values.{same_text, same_self, not_same, apart, cond_true, cond_false, cases_value}
-use Rattle.laws.proofs.BatchEntries.{row_at, how_if, flag_of, set_by, refused_in, Stands, Comes, quiet, asked, or_cases, or_false, by_none, all_committed, set_here, set_there, said, unset_flag, unset_stops, one_set}
+use Rattle.laws.proofs.BatchEntries.{row_at, how_if, flag_of, set_by, asks_line, result_line, refused_in, Stands, Comes, quiet, asked, or_cases, or_false, by_none, all_committed, set_here, set_there, said, unset_flag, unset_stops, one_set}
 use Rattle.std.specs.List.{list_any, AllByRecursion, IsDistinct}
 
 -- ---- what is asked for
@@ -289,6 +289,69 @@ pub batch_stops : BatchStops
 batch_stops batch st c =
     let s = stops batch st c batch.entries 1 [] [] st refl refl in
     record { now = s.now; is = ap (λ jobs. asks_all jobs (λ replies. committed batch st (asking batch 1 [] batch.entries st) replies false st)) (no_jobs batch batch.entries 1 [] st c) ∙ s.is; vars = s.vars; logged = s.logged }
+
+-- ---- a batch whose names are set
+
+both_true : (a b : Bool) → cond a b false ≡ true → (a ≡ true) × (b ≡ true)
+both_true true b e = (refl, e)
+both_true false b e = cc
+
+no_job_set : (batch : Batch) (entry : List ℕ) (place : ℕ) (earlier : List (List ℕ)) (st : State) → is_some (value_of st.vars (entry_name batch.listed entry)) ≡ true → job_for batch place earlier entry st ≡ None
+no_job_set batch entry place earlier st e =
+    let name = entry_name batch.listed entry in
+    job_true batch entry place earlier st (or_first (is_some (value_of st.vars name)) (list_any (bytes_eq name) earlier) e)
+
+none_asked : (batch : Batch) (entries : List (List ℕ)) (place : ℕ) (earlier : List (List ℕ)) (st : State) → all_set batch entries st ≡ true → jobs_in (asking batch place earlier entries st) ≡ []
+none_asked batch [] place earlier st e = refl
+none_asked batch (entry ∷ more) place earlier st e =
+    let name = entry_name batch.listed entry in
+    let set = both_true (is_some (value_of st.vars name)) (all_set batch more st) e in
+    ap (λ j. jobs_in ((entry, j) ∷ asking batch (suc place) (name ∷ earlier) more st)) (no_job_set batch entry place earlier st set.0) ∙ none_asked batch more (suc place) (name ∷ earlier) st set.1
+
+record Kept (batch : Batch) (entries : List (List ℕ)) (asks : List (List ℕ × Option Job)) (now : State) (run : Run) : Type 0 where
+  end : State
+  is : run ≡ Ends Goes_on end
+  vars : end.vars ≡ now.vars
+  defs : end.defs ≡ defs_all batch.listed entries (value_of now.vars) now.defs
+  said : end.messages ≡ now.messages ++ entry_pieces batch.listed asks (value_of now.vars)
+  logged : children_of end.log ≡ children_of now.log
+
+kept_set : (batch : Batch) (first : State) (entries : List (List ℕ)) (place : ℕ) (earlier : List (List ℕ)) (replies : List Reply) (now : State) → all_set batch entries first ≡ true → now.vars ≡ first.vars
+    → Kept batch entries (asking batch place earlier entries first) now (committed batch first (asking batch place earlier entries first) replies false now)
+kept_set batch first [] place earlier replies now e same = record { end = now; is = refl; vars = refl; defs = refl; said = sym (append-nil now.messages); logged = refl }
+kept_set batch first (entry ∷ more) place earlier replies now e same =
+    let name = entry_name batch.listed entry in
+    let set = both_true (is_some (value_of first.vars name)) (all_set batch more first) e in
+    let job = job_for batch place earlier entry first in
+    let tail = asking batch (suc place) (name ∷ earlier) more first in
+    let v = some_value (value_of first.vars name) set.0 in
+    let one = one_set batch entry job (only_reply replies) first now v.0 (ap (λ l. value_of l name) same ∙ v.1) in
+    let later = kept_set batch first more (suc place) (name ∷ earlier) (replies_after job replies) one.end set.1 (one.after ∙ same) in
+    let line = asks_line batch.listed entry in
+    record {
+      end = later.end;
+      is = ap (λ run. commits run false (committed batch first tail (replies_after job replies))) one.is ∙ later.is;
+      vars = later.vars ∙ one.after;
+      defs = later.defs ∙ ap (λ l. defs_all batch.listed more (value_of l) one.end.defs) one.after
+          ∙ ap (defs_all batch.listed more (value_of now.vars)) (one.defs ∙ ap (λ l. entry_defs batch.listed entry (value_of l name) now.defs) one.after);
+      said = later.said ∙ ap (λ l. one.end.messages ++ entry_pieces batch.listed tail (value_of l)) one.after
+          ∙ ap (λ m. m ++ entry_pieces batch.listed tail (value_of now.vars)) (one.said ∙ ap (λ l. now.messages ++ line ∷ result_line None (value_of l name) ∷ []) one.after)
+          ∙ append_assoc now.messages (line ∷ result_line None (value_of now.vars name) ∷ []) (entry_pieces batch.listed tail (value_of now.vars))
+          ∙ ap (λ j. now.messages ++ entry_pieces batch.listed ((entry, j) ∷ tail) (value_of now.vars)) (sym (no_job_set batch entry place earlier first set.0));
+      logged = later.logged ∙ one.logged;
+    }
+
+pub batch_keeps_set : BatchKeepsSet
+batch_keeps_set batch st e =
+    let k = kept_set batch st batch.entries 1 [] [] st e refl in
+    record {
+      now = k.end;
+      is = ap (λ jobs. asks_all jobs (λ replies. committed batch st (asking batch 1 [] batch.entries st) replies false st)) (none_asked batch batch.entries 1 [] st e) ∙ k.is;
+      vars = k.vars;
+      defs = k.defs;
+      said = k.said;
+      logged = k.logged;
+    }
 
 -- ---- how many jobs
 

@@ -121,6 +121,20 @@ pub record StopsUnless (continues : Bool) (st : State) (run : Run) : Type 0 wher
 abbrev pub BatchStops : Type 0
 BatchStops = (batch : Batch) (st : State) → lacks_compiler st ≡ true → StopsUnless (all_set batch batch.entries st) st (batched batch st)
 
+-- The run asks for nothing, continues, and leaves the variables as they were. What their values say is defined and printed, an
+-- entry after the other. (own)
+pub record KeepsSet (batch : Batch) (st : State) (run : Run) : Type 0 where
+  pub now : State
+  pub is : run ≡ Ends Goes_on now
+  pub vars : now.vars ≡ st.vars
+  pub defs : now.defs ≡ defs_all batch.listed batch.entries (value_of st.vars) st.defs
+  pub said : now.messages ≡ st.messages ++ entry_pieces batch.listed (asking batch 1 [] batch.entries st) (value_of st.vars)
+  pub logged : children_of now.log ≡ children_of st.log
+
+-- If each of its names is set, a batch does so, whether or not there is a compiler. (Autoconf's manual, "Caching Results")
+abbrev pub BatchKeepsSet : Type 0
+BatchKeepsSet = (batch : Batch) (st : State) → all_set batch batch.entries st ≡ true → KeepsSet batch st (batched batch st)
+
 -- A batch asks for no more children than it has entries. (own)
 abbrev pub BatchAsksFew : Type 0
 BatchAsksFew = (batch : Batch) (st : State) → length (jobs_in (asking batch 1 [] batch.entries st)) ≤ length batch.entries

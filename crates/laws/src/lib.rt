@@ -13,7 +13,7 @@
 //! `broken_check_leaves_variables` all variables and definitions are as they were.
 #![tactic(auto)]
 
-ghost use Rattle.laws.specs.Batched.{BatchCommits, BatchAsksUnset, BatchStops, BatchAsksFew, BatchAsksOnce};
+ghost use Rattle.laws.specs.Batched.{BatchCommits, BatchAsksUnset, BatchStops, BatchKeepsSet, BatchAsksFew, BatchAsksOnce};
 ghost use Rattle.laws.specs.Cached.{NamesStandOnce, BrokenIsUnset, BrokenRowIsUnset, BrokenCheckIsUnset, SetStaysSet, SetRowAsksNothing};
 ghost use Rattle.laws.specs.Commands.{BrokenLeavesVariables, BrokenRowLeavesVariables, CommandsWriteAlone, BrokenCheckLeavesVariables};
 ghost use Rattle.laws.specs.Deeds.{DeedsAccount, CommandsHaveNoDeeds};
@@ -126,6 +126,12 @@ pub fn batch_asks_unset()
 /// unless the name of each entry is set.
 pub fn batch_stops()
     ensures stops { BatchStops }
+{}
+
+/// If each of its names is set, a batch asks for nothing and leaves the variables as they were, whether or not there is a
+/// compiler. It defines and prints what the values say, an entry after the other.
+pub fn batch_keeps_set()
+    ensures set { BatchKeepsSet }
 {}
 
 /// A batch asks for no more children than it has entries.
