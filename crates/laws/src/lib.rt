@@ -1,12 +1,13 @@
-//! Laws of the meaning: theorems on what a run of statements leaves in its variables and its log.
+//! Laws of the meaning: theorems on what a run of statements asks for, prints, defines and leaves set.
 //!
 //! There is no code here. Each function does nothing, and its contract is a theorem on the definitions of `meaning`.
 //! Read `specs/Ends.antt` (what holds at the ends of a run), `specs/Cached.antt` (cached tests: their names),
 //! `specs/Commands.antt` (tests that set their name alone), `specs/Questions.antt` (questions that test: their answer),
-//! `specs/Linking.antt` (tests of libraries: what they leave in LIBS), `specs/Deeds.antt` (what each name that is set at the end comes from), `specs/Logged.antt` (the children in the log),
-//! then `specs/Batched.antt` (batches: lists of tests whose children are asked for at once), and `specs/Finished.antt` and
-//! `specs/Refusals.antt` (runs under given replies: which are cut), `specs/Types.antt` (the test of a type), and
-//! `specs/Programs.antt` (AC_CHECK_PROGS and AC_PROG_CC).
+//! `specs/Linking.antt` (tests of libraries: what they leave in LIBS), `specs/Deeds.antt` (what each name that is set at the
+//! end comes from), `specs/Logged.antt` (the children in the log), then `specs/Batched.antt` (batches: lists of tests whose
+//! children are asked for at once). `specs/Finished.antt` is a run under given replies, with which `specs/Refusals.antt` says
+//! which runs are cut, `specs/Types.antt` what the test of a type finds, and `specs/Programs.antt` what AC_CHECK_PROGS and
+//! AC_PROG_CC find.
 //!
 //! For example, say that AC_CACHE_CHECK of the name `v_cv_x` has the commands `v_cv_x=no` and then a program that is
 //! compiled, and that the compiler can't be started. By `broken_check_is_unset` the name is unset at the end, and by
