@@ -7,7 +7,8 @@
 
 A source is a function of the seed and its number. It is run with `-C` and without a cut. Then, for each child of that run, it is
 run once with the start of this child refused and once with the wait for it refused, each time in a new directory; and then again,
-with the same arguments and the cache that the cut run left. The windows are -j1, -j4 and -j16 at random. So is examples/tally,
+with the same arguments and the cache that the cut run left. Where children are asked for at once, it is also run with some of
+them refused together. The windows are -j1, -j4 and -j16 at random. So is examples/tally,
 with the real compiler `gcc`.
 
 The second run has to be as the uncut one, byte for byte: the exit status, each output, the record config.status, the cache; and how
@@ -55,8 +56,8 @@ PROGRAMS = 200
 # tests that leave a value whatever their children answer
 ALWAYS_SAVED = re.compile("ac_cv_(header|func|have_decl|type|lib|search)_")
 # kinds of cuts that many sources have to reach
-IN_LIST, IN_TEST, UNSAVED, SAVED = CUTS = [
-    "in a list that is asked for at once", "after earlier children of their test", "after a test that left no value", "with saved tests"]
+IN_LIST, TOGETHER, IN_TEST, UNSAVED, SAVED = CUTS = [
+    "in a list that is asked for at once", "at several of its children", "after earlier children of their test", "after a test that left no value", "with saved tests"]
 
 # ---- sources
 
@@ -407,10 +408,8 @@ class Maker:
         source, rng = self.source, self.rng
         with_header, with_file = rng.random() < 0.8, rng.random() < 0.9
         head = "AC_INIT([made], [1.0])\n"
-        names = []
         if with_header:
             head += "AC_CONFIG_HEADERS([config.h])\n"
-            names.append("config.h")
         if with_file:
             head += rng.choice(["AC_CONFIG_FILES([out])\n", "AC_CONFIG_FILES([out sub/second:out.in])\n"])
         if rng.random() < 0.3:
@@ -471,7 +470,7 @@ def broken_sources():
         "AC_CHECK_HEADERS([a.h b.h], [{0}], [{0}])\n".format(seen_if('test -n "$ac_cv_header_b_h"').strip()) + LAST)
     found["a cache name is assigned"] = source(
         CHECK.format(1, "my_cv_thing_1=yes") + "v0=$my_cv_thing_1\nmy_cv_thing_1=other\n" + LAST)
-    found["a program is tried outside AC_CACHE_CHECK"] = source(
+    tried = found["a program is tried outside AC_CACHE_CHECK"] = source(
         "AC_COMPILE_IFELSE([AC_LANG_PROGRAM([], [unsteady])], [v0=yes], [v0=no])\n" + LAST)
     found["the name of AC_CACHE_CHECK is tested twice"] = source(
         CHECK.format(1, ":") + seen_if('test -n "$my_cv_thing_1"') + CHECK.format(1, "my_cv_thing_1=yes") + LAST)
@@ -481,7 +480,7 @@ def broken_sources():
     moved = found["a test without a saved value gets other replies"] = source(
         CHECK.format(1, "AC_COMPILE_IFELSE([AC_LANG_PROGRAM([], [unsteady])], [my_cv_thing_1='a\nb'], [my_cv_thing_1='b\na'])")
         + "AC_SUBST([my_cv_thing_1])\nAC_DEFINE_UNQUOTED([D0], [\"$my_cv_thing_1\"])\nv0=$my_cv_thing_1\n" + LAST)
-    moved.before_again = set_moved
+    tried.before_again = moved.before_again = set_moved
     doubled = "v1=$v1$v1\n" * 16
     found["the cache is over its limit"] = source(
         "v1=" + "x" * 64 + "\n" + doubled + CHECK.format(1, "my_cv_thing_1=$v1") + "v1=\n" + LAST)
@@ -505,11 +504,12 @@ class Bench:
         shutil.copy(program, self.program)
         for name in ("sh", "true", "false"):
             (first / name).symlink_to(os.path.realpath(shutil.which(name)))
-        self.compiler = first / "stcc"
-        subprocess.run(["gcc", "-O1", "-static", "-o", self.compiler, ROOT / "tools/checksum_compiler.c"], check=True)
+        self.compiler = "../../first/stcc"
+        subprocess.run(["gcc", "-O1", "-static", "-o", first / "stcc", ROOT / "tools/checksum_compiler.c"], check=True)
         for number in range(PROGRAMS):
             (second if number % 2 else first).joinpath(f"here{number}").symlink_to(os.path.realpath(shutil.which("true")))
-        self.path = f"{first}:{second}"
+        # seen from the directory of a run; so what a run finds does not depend on the place
+        self.path = "../../first:../../second"
         self.library = self.place / "refuse_children.so"
         subprocess.run(["gcc", "-shared", "-fPIC", "-O1", "-o", self.library, ROOT / "tools/refuse_children.c", "-ldl"], check=True)
 
@@ -517,10 +517,10 @@ class Bench:
 class Run:
     """What can be seen of a run: its status, what it printed, the files that it left, its starts, and to which tests they belong."""
 
-    def __init__(self, bench, source, room, window, refused=(), is_again=False):
+    def __init__(self, bench, source, room, window, refused=None, is_again=False):
         log = room.parent / "starts"
         env = {"PATH": source.path or bench.path, "LC_ALL": "C", "LD_PRELOAD": str(bench.library), "REFUSE_LOG": str(log)}
-        env |= refused and {refused[0]: str(refused[1])} or {}
+        env |= {kind: ",".join(map(str, numbers)) for kind, numbers in (refused or {}).items()}
         words = [it.format(compiler=bench.compiler) for it in source.words]
         words += source.words_again if is_again and source.words_again else []
         done = subprocess.run([bench.program, window, "configure", "-C", *words], cwd=room, env=env, stdin=subprocess.DEVNULL,
@@ -598,9 +598,9 @@ def tests_in(log):
 # ---- the comparison
 
 
-def about_cut(source, uncut, cut, number):
-    """What is wrong with a run that was cut at the child of this number."""
-    wrong = []
+def about_cut(source, uncut, cut, refused):
+    """What is wrong with a run in which the children of these numbers were refused."""
+    wrong, number = [], min(refused)
     if cut.left:
         wrong.append("the cut run left a child")
     if cut.status != 3 or cut.end()[0] != [b"configure: cut short at child %d" % number]:
@@ -613,9 +613,9 @@ def about_cut(source, uncut, cut, number):
     names = set(uncut.tests[number - 1:asked])
     if asked != number and not any(names <= batch for batch in source.batches):
         wrong.append(f"after the cut {asked - number} more children are asked")
-    refused = uncut.tests[number - 1]
+    cut_tests = {uncut.tests[it - 1] for it in refused}
     kept = {it for it in uncut.saved() if it not in uncut.tests}
-    whole = {it for it in uncut.tests[:asked] if it != refused and it in uncut.saved()}
+    whole = {it for it in uncut.tests[:asked] if it not in cut_tests and it in uncut.saved()}
     # what the opening sets, or the cache from before, is saved too
     if cut.saved() - kept != whole:
         wrong.append(f"the cut run saves {sorted(cut.saved() - kept)} and not {sorted(whole)}")
@@ -695,22 +695,33 @@ def compare(bench, source, rng):
         found.wrong.append(f"the source is refused: {uncut.errors!r}")
         return found
 
-    def both(room, refused):
-        cut = Run(bench, source, room, rng.choice(WINDOWS), refused)
-        source.before_again(room)
-        return cut, Run(bench, source, room, rng.choice(WINDOWS), (), True)
+    def one(refused):
+        """Cuts a run, starts it again, and returns how many children the cut run asked."""
+        def both(room):
+            cut = Run(bench, source, room, rng.choice(WINDOWS), refused)
+            source.before_again(room)
+            return cut, Run(bench, source, room, rng.choice(WINDOWS), None, True)
+
+        cut, again = room_for(bench, source, cache, both)
+        numbers = sorted(it for kind in refused.values() for it in kind)
+        number = numbers[0]
+        found.cuts += 1
+        found.again += len(again.starts)
+        found.kinds[IN_LIST] += any(uncut.tests[number - 1] in it for it in source.batches)
+        found.kinds[TOGETHER] += len(numbers) > 1
+        found.kinds[IN_TEST] += uncut.tests[number - 1] in uncut.tests[:number - 1]
+        found.kinds[UNSAVED] += not set(uncut.tests[:number]) - {uncut.tests[number - 1]} <= cut.saved()
+        found.kinds[SAVED] += bool(set(uncut.tests) & cut.saved())
+        wrong = about_cut(source, uncut, cut, numbers) + about_again(uncut, cut, again)
+        found.wrong.extend(f"{refused}: {it}" for it in wrong)
+        return len(cut.starts)
 
     for number in range(1, len(uncut.starts) + 1):
-        for kind in KINDS:
-            cut, again = room_for(bench, source, cache, lambda room: both(room, (kind, number)))
-            found.cuts += 1
-            found.again += len(again.starts)
-            found.kinds[IN_LIST] += any(uncut.tests[number - 1] in it for it in source.batches)
-            found.kinds[IN_TEST] += uncut.tests[number - 1] in uncut.tests[:number - 1]
-            found.kinds[UNSAVED] += not set(uncut.tests[:number]) - {uncut.tests[number - 1]} <= cut.saved()
-            found.kinds[SAVED] += bool(set(uncut.tests) & cut.saved())
-            wrong = about_cut(source, uncut, cut, number) + about_again(uncut, cut, again)
-            found.wrong += [f"{kind} {number}: {it}" for it in wrong]
+        asked = min(one({kind: [number]}) for kind in KINDS)
+        if asked > number:
+            chosen = [it for it in range(number, asked + 1) if rng.random() < 0.6] or [number, asked]
+            starts = [it for it in chosen if rng.random() < 0.5]
+            one({"REFUSE_START": starts, "REFUSE_WAIT": [it for it in chosen if it not in starts]})
     return found
 
 
@@ -826,7 +837,7 @@ def try_broken(bench):
     is_right = True
     for kind, source in broken_sources().items():
         found = compare(bench, source, random.Random(0))
-        is_seen = any(re.match(r"REFUSE_", it) for it in found.wrong)
+        is_seen = any("REFUSE_" in it for it in found.wrong)
         is_right &= is_seen
         print(f"broken, {kind}: {found.cuts} cuts, {len(found.wrong)} differences{'' if is_seen else ', so the test is at fault'}")
     return is_right
