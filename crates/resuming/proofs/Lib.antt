@@ -1,4 +1,4 @@
-mod Near
+pub mod Near
 mod Names
 mod Runs
 mod Liking
@@ -12,11 +12,11 @@ mod Batched
 mod BatchPart
 mod Statements
 mod Rounds
-mod Whole
+pub mod Whole
 mod Unasked
 mod Counter
 mod Example
-mod Plays
+pub mod Plays
 mod Refusals
 mod WholeRuns
 mod Pouring
