@@ -1,5 +1,5 @@
 -- No name has two entries in the variables, from the opening of a run to its end.
-use Rattle.std.proofs.Common.{◌≡◌, ℕ, Bool, true, false, List, [], ◌∷◌, ◌++◌, Option, Some, None, Result, Ok, Err, length, take, drop, map, filter, refl, sym, ap, ◌∙◌, subst}
+use Rattle.std.proofs.Common.{ℕ, Bool, true, false, List, [], ◌∷◌, Option, Some, None, length, take, drop, sym, subst}
 use Rattle.std.specs.Prelude.{fold, is_some, if◌then◌else◌}
 use Rattle.cachefile.specs.Cache.{with_setting, vars_after}
 use Rattle.cachefile.specs.Line.{Setting, Sets, Defaults}
@@ -13,8 +13,8 @@ use Rattle.deftable.proofs.Tables.{HasDistinctNames-with_entry, HasDistinctNames
 use Rattle.laws.specs.Ends.{AtEnds}
 use Rattle.laws.proofs.Kept.{Closed, meaning_keeps}
 use Rattle.meaning.specs.Meaning.{meaning}
-use Rattle.meaning.specs.State.{State, Run, Ends, Asks, opened}
-use Rattle.options.specs.Opening.{with_variable, set_by, with_unslashed, with_marks, finished, set_mark}
+use Rattle.meaning.specs.State.{Run, Ends, Asks, opened}
+use Rattle.options.specs.Opening.{with_variable, set_by, with_unslashed, with_marks, finished}
 use Rattle.resuming.specs.Finished.{finish}
 use Rattle.resuming.specs.Plays.{played}
 use Rattle.resuming.proofs.Plays.{same_end}

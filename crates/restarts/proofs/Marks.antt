@@ -9,14 +9,14 @@ use Rattle.cachefile.specs.Name.{is_mark}
 use Rattle.cachefile.proofs.Orders.{Entries, decided}
 use Rattle.commandline.specs.Directories.{directories}
 use Rattle.deftable.specs.NameList.{has_name}
-use Rattle.deftable.specs.Table.{value_of, with_entry, names_of, HasDistinctNames}
+use Rattle.deftable.specs.Table.{value_of, with_entry, HasDistinctNames}
 use Rattle.deftable.proofs.Tables.{value_of-with_entry, value_of-with_entry-same}
 use Rattle.deftable.specs.declared.note.Note.{Note}
-use Rattle.options.specs.Opening.{with_variable, with_unslashed, with_marks, set_mark, finished, set_by}
+use Rattle.options.specs.Opening.{with_variable, with_unslashed, with_marks, set_mark, finished}
 use Rattle.options.specs.Precious.{old_value, restored, restored_variable, restored_from, blanks_note, checked}
 use Rattle.options.specs.Reading.{◌>>=◌}
 use Rattle.options.specs.declared.fault.PreciousFault.{PreciousFault}
-use Rattle.options.proofs.Checks.{Found, found, values_after}
+use Rattle.options.proofs.Checks.{found, values_after}
 use Rattle.restarts.proofs.Distinct.{fold_distinct}
 
 -- ---- marks

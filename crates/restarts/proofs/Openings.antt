@@ -1,11 +1,10 @@
 -- With what variables a run is opened: the precious ones are marked.
-use Rattle.std.proofs.Common.{◌≡◌, ℕ, List, None, Result, Ok, Err, refl, sym, ap, ◌∙◌}
+use Rattle.std.proofs.Common.{◌≡◌, ℕ, List, None, Result, Ok, Err, sym, ap}
 use Rattle.cachefile.proofs.Orders.{Entries}
 use Rattle.commandline.specs.Arguments.{given}
 use Rattle.commandline.specs.CommandLine.{Setting}
 use Rattle.commandline.specs.Reading.{◌>>=◌}
 use Rattle.commandline.specs.declared.fault.OptionFault.{OptionFault}
-use Rattle.deftable.specs.declared.note.Note.{Note}
 use Rattle.options.specs.Opening.{setters, set_by, finished, run_settings, opened_by, opening}
 use Rattle.options.specs.declared.settings.Settings.{Settings}
 

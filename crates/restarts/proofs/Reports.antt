@@ -2,7 +2,6 @@
 use Rattle.std.proofs.Common.{◌≡◌, ℕ, List, [], Option, Some, None, Result, Ok, refl, sym, ap, ◌∙◌, subst}
 use Rattle.std.specs.Prelude.{option_map}
 use Rattle.cachefile.specs.Text.{saved_value}
-use Rattle.cachefile.proofs.Orders.{Entries}
 use Rattle.deftable.specs.Table.{value_of, HasDistinctNames}
 use Rattle.engine.specs.Configured.{things}
 use Rattle.engine.specs.Told.{outcome_of}
@@ -11,14 +10,12 @@ use Rattle.framing.specs.Handing.{run_record, things_of}
 use Rattle.framing.specs.declared.accepting.Start.{Start}
 use Rattle.framing.specs.declared.fault.Fault.{Fault}
 use Rattle.framing.specs.declared.report.Outcome.{Outcome}
-use Rattle.framing.specs.declared.report.Report.{Report}
 use Rattle.meaning.specs.Play.{first_refused}
 use Rattle.meaning.specs.State.{How, Goes_on, Completed, Stopped, Cut, opened}
 use Rattle.outputs.specs.declared.thing.Thing.{Thing}
 use Rattle.proberun.specs.Outcomes as run
 use Rattle.proberun.specs.Ran.{outcome_from}
 use Rattle.resuming.specs.Asked.{AsksNoSaved}
-use Rattle.resuming.specs.Joint.{joint, joint_replies}
 use Rattle.resuming.specs.Plays.{played, WholeRunsResume}
 use Rattle.resuming.specs.Poured.{Poured, poured}
 use Rattle.syntax.specs.Script.{Script}
@@ -98,8 +95,7 @@ configures_resume resume asks given cache script start second window other_windo
     ∙ ap (λ r. option_map outcome_of (outcome_from q.how r)) (law.answered ∙ sym (none_refused q.how (first_refused more) report.outcome two.outcome uncut))
     ∙ two.outcome in
     let first_distinct = start_distinct given cache script start saves.accepted in
-    let second_distinct = start_distinct given _ script second again.accepted in
-    (
+    let second_distinct = start_distinct given _ script second again.accepted in (
       record {
         uncut = law.answered;
         one = record { outcome = report.outcome; vars = p.state.vars; defs = p.state.defs; messages = []; log = []; handed = 0 };

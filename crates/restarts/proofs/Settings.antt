@@ -1,10 +1,10 @@
 -- What the settings of saved entries make of a variable: a mark is set, and another name gets a default.
-use Rattle.std.proofs.Common.{◌≡◌, ◌⊎◌, ℕ, Bool, true, false, cond, ◌&&◌, List, [], ◌∷◌, Option, Some, None, inl, inr, map, refl, sym, ap, ◌∙◌, subst}
+use Rattle.std.proofs.Common.{◌≡◌, ℕ, Bool, true, false, cond, ◌&&◌, List, [], ◌∷◌, Option, Some, None, inl, inr, map, refl, sym, ap, ◌∙◌, subst}
 use Rattle.std.specs.Prelude.{bytes_eq, is_some, if◌then◌else◌}
 use Rattle.std.specs.List.{IsDistinct, AllByRecursion}
 use Rattle.std.proofs.lemmas.Slice.Eq.{bytes_eq-Decides}
 use Rattle.cachefile.specs.Cache.{with_setting, vars_after, value_after}
-use Rattle.cachefile.specs.Line.{Setting, Sets, Defaults}
+use Rattle.cachefile.specs.Line.{Sets, Defaults}
 use Rattle.cachefile.specs.Name.{is_mark}
 use Rattle.cachefile.specs.Text.{is_one_line, is_saved, saved_value}
 use Rattle.cachefile.proofs.Orders.{Entries, AreSaved, decided}

@@ -1,8 +1,8 @@
 -- A second call with the cache that a first one saved is accepted.
-use Rattle.std.proofs.Common.{◌≡◌, ℕ, ◌≤◌, Bool, true, false, List, [], ◌∷◌, ◌++◌, map, length, Option, Some, None, Result, Ok, Err, refl, sym, ap, ◌∙◌, subst, nat_lt}
+use Rattle.std.proofs.Common.{◌≡◌, ℕ, ◌≤◌, Bool, true, false, List, [], ◌∷◌, map, length, Option, Some, None, Result, Ok, Err, refl, sym, ap, ◌∙◌, subst, nat_lt}
 use Rattle.std.specs.Prelude.{is_some, if◌then◌else◌}
 use Rattle.std.specs.List.{AllByRecursion}
-use Rattle.cachefile.specs.Cache.{limit, cache_of, lines_from, vars_after}
+use Rattle.cachefile.specs.Cache.{limit, cache_of, vars_after}
 use Rattle.cachefile.specs.Line.{Setting}
 use Rattle.cachefile.specs.Name.{is_mark}
 use Rattle.cachefile.specs.Text.{saved_value, saved_entries, cache_text_of}
@@ -18,22 +18,21 @@ use Rattle.deftable.proofs.Tables.{HasDistinctNames-[]}
 use Rattle.framing.specs.Faults.{of_option, of_cache, of_precious, named}
 use Rattle.framing.specs.Given.{Starts, old_of}
 use Rattle.framing.specs.declared.accepting.Start.{Start}
-use Rattle.framing.specs.declared.fault.Fault.{Fault}
 use Rattle.framing.specs.declared.report.Report.{Report}
 use Rattle.meaning.specs.Meaning.{meaning}
 use Rattle.meaning.specs.State.{opened}
-use Rattle.options.specs.Opening.{opening, finished, set_by}
+use Rattle.options.specs.Opening.{opening, set_by}
 use Rattle.options.specs.Precious.{checked}
 use Rattle.resuming.specs.Poured.{poured}
 use Rattle.resuming.proofs.Plays.{same_end, whole_enough}
 use Rattle.resuming.proofs.Whole.{script_part}
 use Rattle.syntax.specs.Lists.{lists_of}
 use Rattle.syntax.specs.Script.{Script}
-use Rattle.restarts.specs.Calls.{Given, follows, replies_to, IsOwnCache, no_cache, saved_cache, HasPlainPrecious, CanResume, Saved, Tells}
-use Rattle.restarts.specs.Second.{StartsAgain, SecondCallStarts}
+use Rattle.restarts.specs.Calls.{Given, follows, replies_to, IsOwnCache, no_cache, saved_cache, Saved}
+use Rattle.restarts.specs.Second.{SecondCallStarts}
 use Rattle.restarts.proofs.Distinct.{finished_distinct, settings_distinct, played_distinct}
 use Rattle.restarts.proofs.Judging.{Way, way, named_ok, start_of, comparison}
-use Rattle.restarts.proofs.Marks.{set_name, value_name, is_mark-set_name, is_mark-value_name, IsMarked, finished_marked, SameMarks, same_checked, IsLeft, checked_leaves, mark_stays}
+use Rattle.restarts.proofs.Marks.{set_name, value_name, is_mark-set_name, is_mark-value_name, IsMarked, finished_marked, SameMarks, same_checked, checked_leaves, mark_stays}
 use Rattle.restarts.proofs.Openings.{opening_finished}
 use Rattle.restarts.proofs.Settings.{over, value_over, saved_there, poured_again, mark_again}
 use Rattle.restarts.proofs.Sorting.{saved_distinct, values_saved}
@@ -129,8 +128,7 @@ same_marks : (script : Script) (start : Start) (report : Report) (vars below : E
 same_marks script start report vars below old f all plain value [] h = tt
 same_marks script start report vars below old f all plain value (name ∷ more) h =
     let a = is_mark-set_name name in
-    let b = is_mark-value_name name in
-    (
+    let b = is_mark-value_name name in (
       (
         same_mark script start report vars below old f (set_name name) a h.0.0 (value (set_name name) (mark_stays all plain (set_name name) a)),
         same_mark script start report vars below old f (value_name name) b h.0.1 (value (value_name name) (mark_stays all plain (value_name name) b)),

@@ -1,16 +1,11 @@
 -- The report of a run tells of it.
-use Rattle.std.proofs.Common.{◌≡◌, ℕ, List, length, Option, Some, None, refl, sym, ap, ◌∙◌}
+use Rattle.std.proofs.Common.{length, Some, sym, ap, ◌∙◌}
 use Rattle.std.specs.Prelude.{option_map}
-use Rattle.crew_trait.specs.Events.{Account, replies_in}
-use Rattle.engine.specs.Configured.{IsMeant, report_of}
 use Rattle.engine.specs.Told.{outcome_of}
-use Rattle.framing.specs.declared.accepting.Start.{Start}
-use Rattle.framing.specs.declared.report.Report.{Report}
 use Rattle.meaning.specs.Play.{all_jobs, first_refused}
 use Rattle.proberun.specs.Ran.{outcome_from}
 use Rattle.proberun.proofs.RunLemmas.{length-replies}
-use Rattle.syntax.specs.Script.{Script}
-use Rattle.restarts.specs.Calls.{replies_to, Tells, ReportsTell}
+use Rattle.restarts.specs.Calls.{replies_to, ReportsTell}
 
 pub tells : ReportsTell
 tells window script start before now report meant =

@@ -1,5 +1,5 @@
 -- Calls of `configure`: what each is given, and what it reports.
-use Rattle.std.specs.Prelude.{◌≡◌, ℕ, true, false, List, [], length, ◌≤◌, Option, Some, None, is_some, option_map, Result, Ok}
+use Rattle.std.specs.Prelude.{◌≡◌, ℕ, true, false, List, length, ◌≤◌, Option, Some, None, is_some, option_map, Result, Ok}
 use Rattle.std.specs.List.{AllByRecursion}
 use Rattle.cachefile.specs.Cache.{limit}
 use Rattle.cachefile.specs.Name.{is_mark}
