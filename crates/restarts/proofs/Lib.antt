@@ -8,3 +8,4 @@ mod Judging
 mod Tellings
 mod Starting
 mod Reports
+mod Counter
