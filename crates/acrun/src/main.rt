@@ -1,10 +1,11 @@
 //! The program: calls `runner` with the arguments, the environment and a crew of real children.
 //!
-//! If standard error is a terminal, the crew shows there how far it is.
+//! If standard error is a terminal, the crew shows there how far it is. The log of an earlier run is removed before the first child is
+//! started, so that a run that is interrupted leaves none that looks like its own.
 #![tactic(auto)]
 
 use crew::ProcessCrew;
-use runner::{FilterFault, command, environment, may_show_progress, tell, words};
+use runner::{FilterFault, LOG, command, environment, may_show_progress, tell, words};
 use std::alloc::AllocError;
 use std::io::IsTerminal;
 use std::process::ExitCode;
@@ -16,7 +17,8 @@ fn run(rt: HostRuntime) -> Result<u8, AllocError> {
     let env = environment(rt.alloc(), &rt)?;
     let errors = rt.stderr();
     let is_shown = may_show_progress(words.as_slice()) && errors.is_terminal();
-    let mut crew = Watched::new(ProcessCrew::new(rt, rt.alloc())?, errors, is_shown);
+    let children = ProcessCrew::removing(rt, rt.alloc(), LOG)?;
+    let mut crew = Watched::new(children, errors, is_shown);
     Ok(command(rt, rt.alloc(), words.as_slice(), env.as_slice(), &mut crew))
 }
 

@@ -8,7 +8,9 @@ use crate::telling::tell_remake;
 use deftable::Bytes;
 use diskfiles::{FileOutputs, read_text};
 use framing::{RemakeFault, remake};
-use invocation::{FAULT, print_lines, record_templates, tell_file, tell_memory};
+use invocation::{
+    FAULT, RecordSupplies, keep_inputs, print_lines, record_supplies, tell_file, tell_memory,
+};
 use std::alloc::{AllocError, Global};
 use std::io::Write;
 use std::rt::Files;
@@ -40,12 +42,25 @@ fn tell_answer<E: Write>(answer: &Result<usize, RemakeFault>, errors: &mut E) ->
     }
 }
 
+/// Has puts to the files refused that the outputs of a record are made of, and to the record.
+fn keep_all<F: Files>(
+    alloc: Global,
+    outputs: &mut FileOutputs<'_, F>,
+    supplies: &RecordSupplies,
+) -> Result<(), AllocError>
+    ensures { outputs.new ≡ outputs.old }
+{
+    outputs.keep(RECORD)?;
+    let templates = supplies.templates.as_slice();
+    keep_inputs(alloc, outputs, supplies.srcdir.as_slice(), templates)
+}
+
 /// Makes the outputs of a record with these templates, and returns the exit status.
 fn make_supplied<F: Files, W: Write, E: Write>(
     alloc: Global,
     files: &F,
     text: &[u8],
-    templates: &[(Bytes, Bytes)],
+    supplies: &RecordSupplies,
     tags: &[Bytes],
     output: &mut W,
     errors: &mut E,
@@ -53,6 +68,10 @@ fn make_supplied<F: Files, W: Write, E: Write>(
     ensures { result ≢ 2 → (result ≡ 0) × (out : List ℕ) × IsMadeAgain tags.now out × Appends (W.contents output.old) (W.contents output.new) out }
 {
     let mut outputs = FileOutputs::new(alloc, files);
+    if keep_all(alloc, &mut outputs, supplies).is_err() {
+        return tell_memory(errors);
+    }
+    let templates = supplies.templates.as_slice();
     let answer = remake(alloc, text, templates, tags, &mut outputs);
     let is_printed = print_made(outputs.lines(), output, errors);
     let is_whole = tell_answer(&answer, errors);
@@ -70,16 +89,8 @@ fn make_text<F: Files, W: Write, E: Write>(
 ) -> Result<u8, AllocError>
     ensures { IfOk result (λ status. status ≢ 2 → (status ≡ 0) × (out : List ℕ) × IsMadeAgain tags.now out × Appends (W.contents output.old) (W.contents output.new) out) }
 {
-    let templates = record_templates(alloc, files, text)?;
-    Ok(make_supplied(
-        alloc,
-        files,
-        text,
-        templates.as_slice(),
-        tags,
-        output,
-        errors,
-    ))
+    let supplies = record_supplies(alloc, files, text)?;
+    Ok(make_supplied(alloc, files, text, &supplies, tags, output, errors))
 }
 
 /// Reads the record, makes its outputs, and returns the exit status.

@@ -9,9 +9,9 @@ ghost use Rattle.invocation.specs.Quiet.{quiet_in};
 use commands::tell_result;
 use crew_trait::Crew;
 use deftable::Bytes;
-use diskfiles::{FileOutputs, path_in, read_text};
+use diskfiles::{FileOutputs, path_in, read_limited};
 use engine::configure;
-use invocation::{Supplies, read_supplies, tell_file, tell_memory};
+use invocation::{Supplies, keep_inputs, read_supplies, tell_file, tell_memory};
 use options::srcdir_of;
 use std::alloc::{AllocError, Global};
 use std::io::Write;
@@ -41,13 +41,17 @@ fn run_supplied<F: Files, C: Crew, W: Write, E: Write>(
         × Appends (W.contents output.old) (W.contents output.new) out }
 {
     let mut outputs = FileOutputs::new(alloc, files);
+    let templates = supplies.templates.as_slice();
+    if keep_inputs(alloc, &mut outputs, srcdir_of(args), templates).is_err() {
+        return tell_memory(errors);
+    }
     let answer = configure(
         alloc,
         text,
         args,
         env,
         supplies.cache.as_ref().map(|cache| cache.as_slice()),
-        supplies.templates.as_slice(),
+        templates,
         crew,
         &mut outputs,
         window,
@@ -112,7 +116,7 @@ fn run_source<F: Files, C: Crew, W: Write, E: Write>(
         × Appends (W.contents output.old) (W.contents output.new) out) }
 {
     let path = path_in(alloc, srcdir_of(args), b"configure.ac")?;
-    match read_text(alloc, files, path.as_slice())? {
+    match read_limited(alloc, files, path.as_slice())? {
         Some(text) => run_text(
             alloc,
             files,

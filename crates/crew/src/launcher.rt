@@ -4,9 +4,10 @@ ghost use Rattle.std.specs.Prelude.{[], ◌∷◌, None, Option, List, OnOk, OnE
 ghost use Rattle.std.specs.Process.{command_args, command_program};
 ghost use Rattle.crew.specs.Launch.{Adds, Call, Failed, Spawned, Wrote};
 
+use std::fs::{self, File};
+use std::io::{self, Write};
 use std::process::{Child, Command, OpenProcess, Processes, Stdio};
 use std::rt::Files;
-use std::{fs, io};
 
 /// Writes files and starts commands.
 pub(crate) trait Launcher {
@@ -27,11 +28,13 @@ pub(crate) trait Launcher {
         ensures refused { OnErr result (Adds (calls self.old) (calls self.new) (Failed ∷ [])) };
 }
 
-/// Returns whether the name itself is that of a regular file, and not of a link to one.
-fn is_regular<F: Files>(files: &F, name: &str) -> bool {
+/// Removes a regular file or a link of this name, and nothing else. That it can't be removed is not reported.
+fn remove<F: Files>(files: &F, name: &str) {
     match fs::symlink_metadata(files, name) {
-        Ok(found) => found.is_file(),
-        Err(_) => false,
+        Ok(found) if found.is_file() || found.is_symlink() => {
+            let _ = fs::remove_file(files, name);
+        }
+        _ => {}
     }
 }
 
@@ -39,27 +42,41 @@ fn is_regular<F: Files>(files: &F, name: &str) -> bool {
 #[derive(Drop)]
 pub(crate) struct Host<R: Files + Processes + Drop> {
     rt: R,
+    stale: Option<&'static str>,
 }
 
 impl<R: Files + Processes + Drop> Host<R> {
-    pub(crate) fn new(rt: R) -> Host<R> {
-        Host { rt }
+    /// Returns a launcher. Before it first writes a file or starts a command, it removes the file that is stale, if there is one.
+    pub(crate) fn new(rt: R, stale: Option<&'static str>) -> Host<R> {
+        Host { rt, stale }
+    }
+
+    /// Removes the file that is stale, once.
+    fn clear(&mut self) {
+        if let Some(name) = self.stale {
+            self.stale = None;
+            remove(&self.rt, name);
+        }
     }
 }
 
 impl<R: Files + Processes + Drop> Launcher for Host<R> {
     type Process = R::Started;
 
-    // A regular file of this name is removed first: ext4 writes a file to the disk when it was truncated and is closed, which
-    // takes milliseconds, and leaves a new one in memory. Anything else, such as a link or a device, is written in place.
+    // The file is new: one of this name is removed first, and so is a link. So nothing is written through a link, and a pipe or a
+    // device is not opened. A new file is also faster: ext4 writes one that was truncated to the disk when it is closed.
     fn write(&mut self, name: &str, text: &[u8]) -> io::Result<()> {
-        if is_regular(&self.rt, name) {
-            let _ = fs::remove_file(&self.rt, name);
-        }
-        fs::write(&self.rt, name, text)
+        self.clear();
+        remove(&self.rt, name);
+        let mut file = File::options()
+            .write(true)
+            .create_new(true)
+            .open(&self.rt, name)?;
+        file.write_all(text)
     }
 
     fn spawn(&mut self, command: &mut Command) -> io::Result<Child<R::Started>> {
+        self.clear();
         command
             .stdin(Stdio::null())
             .stdout(Stdio::null())

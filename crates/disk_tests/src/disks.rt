@@ -3,6 +3,7 @@
 use std::alloc::Allocator;
 use std::fs::{File, FileTimes, Files, Metadata, OpenFile, OpenOptions, Permissions};
 use std::io::{self, Error, ErrorKind, Read, Seek, SeekFrom, Write};
+use std::path::PathBuf;
 
 /// The files of the system, of which one operation fails: `open`, `look`, `rename`, `read`, `write`, `permit`, or `memory`,
 /// which is an open that finds no memory. If it is empty, none fails.
@@ -128,6 +129,10 @@ impl Files for Disk<'_> {
     fn rename(&self, from: &str, to: &str) -> io::Result<()> {
         self.check(b"rename")?;
         self.rt.rename(from, to)
+    }
+
+    fn read_link<B: Allocator>(&self, alloc: B, path: &str) -> io::Result<PathBuf<B>> {
+        self.rt.read_link(alloc, path)
     }
 
     fn remove_file(&self, path: &str) -> io::Result<()> {

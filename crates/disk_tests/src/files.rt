@@ -2,8 +2,9 @@
 
 use crate::disks::Disk;
 use deftable::Bytes;
-use diskfiles::{FileOutputs, path_in, read_text, write_text};
+use diskfiles::{FileOutputs, path_in, read_limited, read_text, write_text};
 use outputs::{Kind, Thing, Things, put_all};
+use std::alloc::AllocError;
 use std::fs::{self, File, Metadata, OpenFile, Permissions};
 use std::os::unix::fs::{MetadataExt, PermissionsExt, symlink};
 use std::test::Fail;
@@ -46,9 +47,22 @@ fn put_done<E: Drop>(page: &mut Page, done: &Result<(), E>) {
     page.put_yes(done.is_ok());
 }
 
+/// Reads a text whole, or its front.
+fn read_by(
+    page: &Page,
+    disk: &Disk<'_>,
+    verb: &[u8],
+    name: &[u8],
+) -> Result<Option<Bytes>, AllocError> {
+    match verb {
+        b"front" => read_limited(page.alloc(), disk, name),
+        _ => read_text(page.alloc(), disk, name),
+    }
+}
+
 /// Puts a text in brackets, or its length if it has more than 99 bytes.
-fn put_read(page: &mut Page, disk: &Disk<'_>, name: &[u8]) {
-    match &read_text(page.alloc(), disk, name) {
+fn put_read(page: &mut Page, disk: &Disk<'_>, verb: &[u8], name: &[u8]) {
+    match &read_by(page, disk, verb, name) {
         Ok(Some(text)) if text.len() > 99 => page.put_number(text.len()),
         Ok(Some(text)) => page.put_text(text.as_slice()),
         Ok(None) => page.put(b"none"),
@@ -83,9 +97,10 @@ fn add_thing(page: &mut Page, things: &mut Things, words: &[u8]) {
     }
 }
 
-/// Puts whether the things were taken, or which was refused, and the lines.
-fn put_put(page: &mut Page, disk: &Disk<'_>, things: &[Thing]) {
+/// Puts whether the things were taken, or which was refused, and the lines. A put to the file that is kept is refused.
+fn put_put(page: &mut Page, disk: &Disk<'_>, kept: &[u8], things: &[Thing]) {
     let mut outputs = FileOutputs::new(page.alloc(), disk);
+    page.given(outputs.keep(kept));
     match put_all(&mut outputs, things) {
         Ok(()) => page.put(b"all"),
         Err(number) => {
@@ -97,12 +112,12 @@ fn put_put(page: &mut Page, disk: &Disk<'_>, things: &[Thing]) {
 }
 
 /// Hands over things, with semicolons between them.
-fn put_handed(page: &mut Page, disk: &Disk<'_>, words: &[u8]) {
+fn put_handed(page: &mut Page, disk: &Disk<'_>, kept: &[u8], words: &[u8]) {
     let mut things = Things::new(page.alloc());
     for thing in words.split(|byte| *byte == b';') {
         add_thing(page, &mut things, thing);
     }
-    put_put(page, disk, things.as_slice());
+    put_put(page, disk, kept, things.as_slice());
 }
 
 // ---- the system
@@ -117,11 +132,21 @@ fn sized(rt: &HostRuntime, name: &str, more: &[u8]) -> io::Result<()> {
     File::create(rt, name)?.set_len(len)
 }
 
+/// Makes 1,000 files in a directory, under the names that new files get.
+fn crowd(rt: &HostRuntime, directory: &str) -> io::Result<()> {
+    for number in 1..=1000u32 {
+        let name = format!(in rt.alloc(); "{directory}/acrun-{number}.tmp")?;
+        File::create(rt, name.as_str())?;
+    }
+    Ok(())
+}
+
 fn permissions_of(word: &[u8]) -> Permissions {
     Permissions::from_mode(match word {
         b"private" => 0o600,
         b"open" => 0o666,
         b"program" => 0o755,
+        b"special" => 0o6755,
         _ => 0o444,
     })
 }
@@ -133,13 +158,14 @@ fn done_by(rt: &HostRuntime, verb: &[u8], name: &str, word: &[u8]) -> io::Result
         b"link" => symlink(rt, str::from_utf8(word).unwrap_or(""), name),
         b"permit" => fs::set_permissions(rt, name, permissions_of(word)),
         b"sized" => sized(rt, name, word),
+        b"crowd" => crowd(rt, name),
         _ => fs::remove_file(rt, name),
     }
 }
 
 fn put_metadata(page: &mut Page, verb: &[u8], found: &Metadata) {
     match verb {
-        b"mode" => page.put_shown(&(found.mode() & 0o777)),
+        b"mode" => page.put_shown(&(found.mode() & 0o7777)),
         _ if found.is_symlink() => page.put(b"link"),
         _ if found.is_dir() => page.put(b"directory"),
         _ => page.put(b"file"),
@@ -186,6 +212,7 @@ fn stamp_of(rt: &HostRuntime, name: &str) -> Stamp {
 struct Scene<'a> {
     disk: Disk<'a>,
     stamp: Stamp,
+    kept: &'a [u8],
 }
 
 /// Does a step of the system, or puts what the system says of a name.
@@ -206,9 +233,10 @@ fn put_step<'a>(page: &mut Page, scene: &mut Scene<'a>, step: &'a [u8]) {
     let (verb, words) = cut(step, b" ");
     match verb {
         b"fails" => scene.disk.fails = words,
-        b"read" => put_read(page, &scene.disk, words),
+        b"keep" => scene.kept = words,
+        b"read" | b"front" => put_read(page, &scene.disk, verb, words),
         b"write" => put_written(page, &scene.disk, words),
-        b"hand" => put_handed(page, &scene.disk, words),
+        b"hand" => put_handed(page, &scene.disk, scene.kept, words),
         _ => put_system(page, scene, verb, words),
     }
 }
@@ -227,6 +255,7 @@ impl Call for Steps<'_> {
                 fails: b"",
             },
             stamp: NO_STAMP,
+            kept: b"",
         };
         for step in given.split(|byte| *byte == b'|') {
             put_step(page, &mut scene, step);
@@ -236,8 +265,8 @@ impl Call for Steps<'_> {
 
 const TEXTS: &[u8] = b"\
 // a new file, and the same with another text
-write a one^J|read a|look a.acrun => yes[one^J]none
-write a two|read a|look a.acrun => yes[two]none
+write a one^J|read a|look acrun-1.tmp => yes[one^J]none
+write a two|read a|look acrun-1.tmp => yes[two]none
 // an empty text, NULs, and bytes that are no UTF-8
 write b |read b => yes[]
 write b ^@\xff^@|read b => yes[^@\xff^@]
@@ -254,38 +283,43 @@ read |write  x => noneno
 // The largest text, one byte less, and one more
 sized e less|read e => 67108863
 sized e|read e => 67108864
-sized e more|read e => none
+sized e more|read e|front e => none67108865
 remove e =>
-// A new file is another one, which keeps the permissions. Neither is opened for writing if it may not be written.
+// A new file is another one, which keeps the permissions but for the special bits. Neither is opened for writing if it may not
+// be written.
 write f x|mark f|write f y|same f|read f => yesyesno[y]
 write g x|permit g private|write g y|mode g|read g => yesyes384[y]
 permit g program|write g z|mode g => yes493
+permit g special|mode g|write g z|mode g => 3565yes493
 permit g locked|write g no matter|mode g|read g => yes292[no matter]
-// A link is written in place, and so is the file that it names. It may name none.
-write h x|link i h|write i y|look i|look h|read h|look i.acrun => yesyeslinkfile[y]none
-link j k|write j new|look j|read k => yeslink[new]
-link l /dev/null|write l lost|look l|read l => yeslink[]
-link m /dev/full|write m x|look m|look m.acrun => nolinknone
-mark h|write i z|same h|read h => yesno[z]
+// A link is replaced, whatever it leads to.
+write h x|link i h|write i y|look i|read i|look h|read h => yesyesfile[y]file[x]
+link j k|write j new|look j|read j|look k => yesfile[new]none
+link l /dev/null|write l kept|look l|read l => yesfile[kept]
+// What is no regular file is not opened. A link to one is no file either.
+read /dev/null|write /dev/null x|look acrun-1.tmp => nonenonone
+link m /dev/zero|read m|front m => nonenone
 // a directory in the place of the file
-directory o|write o x|look o|look o.acrun => nodirectorynone
-write p/q x|look p|look p.acrun => nononenone
+directory o|write o x|look o|look acrun-1.tmp => nodirectorynone
+write p/q x|look p|look acrun-1.tmp => nononenone
 write a/b x|read a => no[two]
-// What is left of another run is removed. What can't be removed makes the put fail.
-write r x|write r.acrun left|write r y|read r|look r.acrun => yesyesyes[y]none
-write s.acrun left|write s z|read s|look s.acrun => yesyes[z]none
-link t.acrun h|write t x|look t|read t|read h|look t.acrun => yesfile[x][z]none
-write u x|directory u.acrun|write u y|read u|look u.acrun => yesno[x]directory
+// A file that is under the name of a new file stays, and so does a link or a directory. The next name is taken.
+write r x|write acrun-1.tmp left|write r y|read r|read acrun-1.tmp|look acrun-2.tmp => yesyesyes[y][left]none
+remove acrun-1.tmp|link acrun-1.tmp h|write t x|look t|read t|read h|look acrun-1.tmp => yesfile[x][x]link
+remove acrun-1.tmp|directory u|directory u/acrun-1.tmp|write u/v y|read u/v|look u/acrun-1.tmp|look u/acrun-2.tmp => yes[y]directorynone
+directory s|crowd s|write s/t x|look s/t|look s/acrun-1001.tmp|look s/acrun-1000.tmp => nononenonefile
+// the longest name
+write nnnnnnnnnnnnnnnnnnnnnnnnnnnnnnnnnnnnnnnnnnnnnnnnnnnnnnnnnnnnnnnnnnnnnnnnnnnnnnnnnnnnnnnnnnnnnnnnnnnnnnnnnnnnnnnnnnnnnnnnnnnnnnnnnnnnnnnnnnnnnnnnnnnnnnnnnnnnnnnnnnnnnnnnnnnnnnnnnnnnnnnnnnnnnnnnnnnnnnnnnnnnnnnnnnnnnnnnnnnnnnnnnnnnnnnnnnnnnnnnnnnnnnnnnnnnnnn x|read nnnnnnnnnnnnnnnnnnnnnnnnnnnnnnnnnnnnnnnnnnnnnnnnnnnnnnnnnnnnnnnnnnnnnnnnnnnnnnnnnnnnnnnnnnnnnnnnnnnnnnnnnnnnnnnnnnnnnnnnnnnnnnnnnnnnnnnnnnnnnnnnnnnnnnnnnnnnnnnnnnnnnnnnnnnnnnnnnnnnnnnnnnnnnnnnnnnnnnnnnnnnnnnnnnnnnnnnnnnnnnnnnnnnnnnnnnnnnnnnnnnnnnnnnnnnnnn|write nnnnnnnnnnnnnnnnnnnnnnnnnnnnnnnnnnnnnnnnnnnnnnnnnnnnnnnnnnnnnnnnnnnnnnnnnnnnnnnnnnnnnnnnnnnnnnnnnnnnnnnnnnnnnnnnnnnnnnnnnnnnnnnnnnnnnnnnnnnnnnnnnnnnnnnnnnnnnnnnnnnnnnnnnnnnnnnnnnnnnnnnnnnnnnnnnnnnnnnnnnnnnnnnnnnnnnnnnnnnnnnnnnnnnnnnnnnnnnnnnnnnnnnnnnnnnnn y|read nnnnnnnnnnnnnnnnnnnnnnnnnnnnnnnnnnnnnnnnnnnnnnnnnnnnnnnnnnnnnnnnnnnnnnnnnnnnnnnnnnnnnnnnnnnnnnnnnnnnnnnnnnnnnnnnnnnnnnnnnnnnnnnnnnnnnnnnnnnnnnnnnnnnnnnnnnnnnnnnnnnnnnnnnnnnnnnnnnnnnnnnnnnnnnnnnnnnnnnnnnnnnnnnnnnnnnnnnnnnnnnnnnnnnnnnnnnnnnnnnnnnnnnnnnnnnnn => yes[x]yes[y]
 // failures of the system
-write v old|fails open|write v new|read v|fails |read v|look v.acrun => yesnonone[old]none
-write w old|fails write|write w new|fails |read w|look w.acrun => yesno[old]none
-write x old|fails rename|write x new|read x|look x.acrun => yesno[old]none
-write y old|fails permit|write y new|read y|look y.acrun => yesno[old]none
-fails rename|write new x|look new|look new.acrun => nononenone
-fails write|write new x|look new|look new.acrun => nononenone
-fails look|write a x|fails |read a|look a.acrun => no[two]none
+write v old|fails open|write v new|read v|fails |read v|look acrun-1.tmp => yesnonone[old]none
+write w old|fails write|write w new|fails |read w|look acrun-1.tmp => yesno[old]none
+write x old|fails rename|write x new|read x|look acrun-1.tmp => yesno[old]none
+write y old|fails permit|write y new|read y|look acrun-1.tmp => yesno[old]none
+fails rename|write new x|look new|look acrun-1.tmp => nononenone
+fails write|write new x|look new|look acrun-1.tmp => nononenone
+fails look|write a x|fails |read a|look acrun-1.tmp => no[two]none
 fails read|read a => none
-fails memory|read a|write a x|fails |read a|look a.acrun => memoryno[two]none
+fails memory|read a|write a x|fails |read a|look acrun-1.tmp => memoryno[two]none
 ";
 
 #[test]
@@ -305,12 +339,32 @@ mark config.cache|hand cache config.cache c|same config.cache => all[]yes
 mark config.cache|hand cache config.cache cc|same config.cache|read config.cache => all[]no[cc]
 mark config.status|hand record config.status r|same config.status => all[]no
 mark config.h|hand header config.h hh|same config.h|read config.h => all[config.status: creating config.h^J]no[hh]
-hand header config.h h;header config.h h => all[config.status: creating config.h^Jconfig.status: config.h is unchanged^J]
 hand header empty.h |hand header empty.h |read empty.h => all[config.status: creating empty.h^J]all[config.status: empty.h is unchanged^J][]
 write config.h hx|hand header config.h h|read config.h => yesall[config.status: creating config.h^J][h]
-// a header that is a link
+// A header that is a link stays if the file that it leads to has its text, and is replaced otherwise.
 link link.h config.h|hand header link.h h|look link.h => all[config.status: link.h is unchanged^J]link
-hand header link.h new|look link.h|read config.h => all[config.status: creating link.h^J]link[new]
+hand header link.h new|look link.h|read link.h|read config.h => all[config.status: creating link.h^J]file[new][h]
+// Of a cache that is a link, the file that it leads to is written, over any links between. It may not be there yet.
+write real c|link cache.1 real|hand cache cache.1 d|look cache.1|look real|read real => yesall[]linkfile[d]
+link cache.2 later|hand cache cache.2 d|look cache.2|read later => all[]link[d]
+directory cd|link cd/3 ../cache.1|hand cache cd/3 e|look cd/3|look cache.1|read real => all[]linklink[e]
+link loop.1 loop.2|link loop.2 loop.1|hand cache loop.1 x|look loop.1 => not 1[]link
+link cache.4 /dev/null|hand cache cache.4 x|look cache.4 => not 1[]link
+// A put to a file of an earlier put is refused, under any of its names, and what it has stays.
+hand file taken 1;file taken 2|read taken => not 2[config.status: creating taken^J][1]
+hand file ./taken 1;header .//taken 2|read taken => not 2[config.status: creating ./taken^J][1]
+hand header taken.h 1;header taken.h 1 => not 2[config.status: creating taken.h^J]
+hand cache taken 1;record taken 2|read taken => not 2[][1]
+hand record taken 3;file taken 2|read taken => not 2[][3]
+directory one.d|link two.d one.d|hand file one.d/x 1;file two.d/x 2|read one.d/x => not 2[config.status: creating one.d/x^J][1]
+hand file one.d/y 1;file one.d/z 2;file y 3 => all[config.status: creating one.d/y^Jconfig.status: creating one.d/z^Jconfig.status: creating y^J]
+hand cache cache.1 1;file real 2|read real => not 2[][1]
+hand cache cache.1 2;file cache.1 2|look cache.1|read real => not 2[]link[2]
+// So is a put to a file that is kept for the run itself. A name without a directory keeps nothing.
+write in T|keep in|hand file in x|read in => yesnot 1[][T]
+keep ./in|hand file a.out 1;header in x|read in => not 2[config.status: creating a.out^J][T]
+keep none/in|hand file in x|read in => all[config.status: creating in^J][x]
+keep config.log|hand cache config.log x|look config.log => not 1[]none
 // Directories are made for a file and a header, and for nothing else.
 hand file a/b/out x;header a/c/config.h y;file a/b/out2 z|read a/b/out|read a/c/config.h|read a/b/out2 => \
 all[config.status: creating a/b/out^Jconfig.status: creating a/c/config.h^Jconfig.status: creating a/b/out2^J][x][y][z]
@@ -325,8 +379,8 @@ hand file one/two 2|read one => not 1[][1]
 hand file a 1|look a => not 1[]directory
 hand file four/ 1|look four => not 1[]directory
 hand file one 1;cache  2 => not 2[config.status: creating one^J]
-fails rename|hand file one new;file two 2|read one|look one.acrun => not 1[][1]none
-fails write|hand header config.h other|look config.h.acrun => not 1[]none
+fails rename|hand file one new;file two 2|read one|look acrun-1.tmp => not 1[][1]none
+fails write|hand header config.h other|look acrun-1.tmp => not 1[]none
 // A header that is there and can't be read is written. If there is no memory to read it, the put is refused.
 fails read|hand header config.h new|fails |read config.h => all[config.status: creating config.h^J][new]
 fails memory|hand header config.h new => not 1[]

@@ -1,2 +1,2 @@
-mod Shorter
+mod Front
 mod Kept

@@ -1,8 +1,8 @@
 //! Whole texts that the program reads from files and writes to files, and the receiver that writes what a run hands over.
 //!
 //! A name of a file is a byte text. It is UTF-8 and has no NUL; under any other name nothing is read or written. A text that is
-//! written replaces the file whole, or the file stays as it was. This can't be done for what is no regular file, such as
-//! `/dev/stdout` or a link, which is written in place.
+//! written replaces the file whole, or the file stays as it was. Only regular files are read, and only regular files and links are
+//! replaced: a pipe, a socket or a device is never opened.
 //!
 //! ```text
 //! let name = path_in(alloc, srcdir, b"configure.ac")?;       // ./configure.ac, if srcdir is .
@@ -16,16 +16,19 @@
 //! receipt of a receiver is, and what its lines say; tests show what is read and written. "own" marks a rule that no manual
 //! gives.
 //!
-//! Read `specs/Names` and `specs/Lines`, then `names`, `reading`, `writing`, `saying`, which has the lines, and `receiver`.
+//! Read `specs/Names` and `specs/Lines`, then `names`, `reading`, `writing`, `links`, `places`, `saying`, which has the lines, and
+//! `receiver`.
 #![tactic(auto)]
 
+mod links;
 mod names;
+mod places;
 mod reading;
 mod receiver;
 mod saying;
 mod writing;
 
 pub use names::path_in;
-pub use reading::{LARGEST_TEXT, read_text};
+pub use reading::{LARGEST_TEXT, read_limited, read_text};
 pub use receiver::FileOutputs;
 pub use writing::{WriteRefused, write_text};

@@ -49,3 +49,19 @@ pub(crate) fn directory_of(name: &str) -> Option<&str> {
         None => None,
     }
 }
+
+/// Returns the front of a name up to its last slash, with it. If the name has no slash, it is empty.
+pub(crate) fn front_of(name: &str) -> &str {
+    match name.rfind('/') {
+        Some(at) => &name[..at + 1],
+        None => "",
+    }
+}
+
+/// Returns what is after the last slash of a name, or the whole of it.
+pub(crate) fn last_of(name: &str) -> &str {
+    match name.rsplit_once('/') {
+        Some((_, last)) => last,
+        None => name,
+    }
+}

@@ -1,34 +1,76 @@
 //! Reading whole texts.
 
-ghost use Rattle.std.specs.Prelude.{◌≡◌, ◌≤◌, ◌^◌, length, IfOk, IfSome};
+ghost use Rattle.std.specs.Prelude.{◌≡◌, ◌+◌, ◌≤◌, ◌^◌, length, take, IfOk, IfSome};
 ghost use Rattle.diskfiles.specs.Names.{IsFileName};
 
 use crate::names::file_name;
 use deftable::Bytes;
 use std::alloc::{AllocError, Global};
 use std::fs;
-use std::io::{ErrorKind, Read};
+use std::io::{self, ErrorKind, Read};
 use std::rt::Files;
 
 /// The largest number of bytes of a text that is read, 64 MiB.
 pub const LARGEST_TEXT: usize = 67_108_864;
 
-/// Returns all that a reader gives. It doesn't read on after one byte too many.
-fn read_whole<R: Read>(alloc: Global, reader: &mut R) -> Result<Option<Bytes>, AllocError>
-    ensures known { IfOk result (λ o. IfSome o (λ text. IfSome (R.remaining reader.old) (λ all. text ≡ all))) }
-    ensures limit { IfOk result (λ o. IfSome o (λ text. length text ≤ 2 ^ 26)) }
+/// Returns all that a reader gives, but no more than one byte too many.
+fn read_front<R: Read>(alloc: Global, reader: &mut R) -> Result<Option<Bytes>, AllocError>
+    ensures { IfOk result (λ o. IfSome o (λ text. IfSome (R.remaining reader.old) (λ all. text ≡ take (2 ^ 26 + 1) all))) }
 {
     let mut text = Vec::new(alloc);
     match reader.take(LARGEST_TEXT as u64 + 1).read_to_end(&mut text) {
-        Ok(_) if text.len() <= LARGEST_TEXT => Ok(Some(Bytes::from_vec(text))),
-        Ok(_) => Ok(None),
+        Ok(_) => Ok(Some(Bytes::from_vec(text))),
         Err(e) if e.kind() == ErrorKind::OutOfMemory => Err(AllocError),
         Err(_) => Ok(None),
     }
 }
 
-/// Returns the text of a file, or `None` if it can't be read: there is no such file, it is a directory, it may not be read, a
-/// read of it fails, it has more than 64 MiB, or no file can have this name (own).
+/// Opens a regular file. Nothing else is opened, since a read of a pipe or of a device may wait.
+fn open_regular<F: Files>(files: &F, name: &str) -> io::Result<F::File> {
+    if !fs::metadata(files, name)?.is_file() {
+        return Err(io::Error::from(ErrorKind::Unsupported));
+    }
+    fs::open(files, name)
+}
+
+/// Returns the text of a file, or its first 64 MiB and one byte more, or `None` if it can't be read: there is no such file, it is
+/// no regular file, it may not be read, a read of it fails, or no file can have this name (own).
+///
+/// So a text that is too large for who reads it is found to be so, however large it is.
+///
+/// # Errors
+///
+/// Fails only if memory runs out.
+pub fn read_limited<F: Files>(
+    alloc: Global,
+    files: &F,
+    name: &[u8],
+) -> Result<Option<Bytes>, AllocError>
+    ensures name { IfOk result (λ o. IfSome o (λ _. IsFileName name.now)) }
+{
+    let Some(name) = file_name(name) else {
+        return Ok(None);
+    };
+    match open_regular(files, name) {
+        Ok(mut file) => read_front(alloc, &mut file),
+        Err(e) if e.kind() == ErrorKind::OutOfMemory => Err(AllocError),
+        Err(_) => Ok(None),
+    }
+}
+
+/// Returns the text, unless it has more than 64 MiB.
+fn if_whole(text: Bytes) -> Option<Bytes>
+    ensures same { IfSome result (λ whole. whole ≡ text) }
+    ensures limit { IfSome result (λ whole. length whole ≤ 2 ^ 26) }
+{
+    if text.len() <= LARGEST_TEXT {
+        Some(text)
+    } else {
+        None
+    }
+}
+
+/// Returns the text of a file, or `None` if it can't be read, as [`read_limited`] says, or has more than 64 MiB (own).
 ///
 /// # Errors
 ///
@@ -41,12 +83,8 @@ pub fn read_text<F: Files>(
     ensures name { IfOk result (λ o. IfSome o (λ _. IsFileName name.now)) }
     ensures limit { IfOk result (λ o. IfSome o (λ text. length text ≤ 2 ^ 26)) }
 {
-    let Some(name) = file_name(name) else {
-        return Ok(None);
-    };
-    match fs::open(files, name) {
-        Ok(mut file) => read_whole(alloc, &mut file),
-        Err(e) if e.kind() == ErrorKind::OutOfMemory => Err(AllocError),
-        Err(_) => Ok(None),
+    match read_limited(alloc, files, name)? {
+        Some(text) => Ok(if_whole(text)),
+        None => Ok(None),
     }
 }

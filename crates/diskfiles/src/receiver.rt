@@ -7,26 +7,31 @@ ghost use Rattle.diskfiles.specs.Names.{IsFileName};
 ghost use Rattle.diskfiles.specs.Sayings.{said};
 ghost use Rattle.diskfiles.specs.Keeping.{IsKept, AreSame};
 
+use crate::links::end_of;
 use crate::names::{directory_of, file_name};
+use crate::places::{Place, is_among, place_of};
 use crate::reading::read_text;
 use crate::saying::{Saying, say, saying_of};
 use crate::writing::write_text;
 use outputs::{Kind, Outputs, PutRefused, Thing};
 use std::alloc::{AllocError, Global};
-use std::fs;
 use std::marker::Model;
 use std::rt::Files;
+use std::{fs, io};
 
 /// A receiver that writes each thing to the file of its name (own).
 ///
 /// For a file and a header it makes the directories of the name. A header or a cache whose file has this text already isn't
-/// written, and its file isn't touched. It keeps a copy of what it took, and the lines that are to be printed.
+/// written, and its file isn't touched. If a cache is a link, the file that the link leads to is written; any other link is
+/// replaced. The receiver keeps a copy of what it took, and the lines that are to be printed.
 ///
-/// A put is refused if memory runs out, no file can have the name, or the system refuses to write. Then the file is as it was,
-/// as [`write_text`] says, but directories that were made for it stay.
+/// A put is refused if memory runs out, no file can have the name, the system refuses to write, or the file is that of an
+/// earlier put or one that [`FileOutputs::keep`] names. Then the file is as it was, as [`write_text`] says, but directories that
+/// were made for it stay.
 pub struct FileOutputs<'a, F: Files> {
     alloc: Global,
     files: &'a F,
+    places: Vec<Place>,
     things: Vec<Thing>,
     failures: u64,
     lines: Vec<u8>,
@@ -37,6 +42,7 @@ impl<'a, F: Files> Drop for FileOutputs<'a, F> {
         let FileOutputs {
             alloc: _alloc,
             files: _files,
+            places: _places,
             things: _things,
             failures: _failures,
             lines: _lines,
@@ -63,28 +69,56 @@ fn make_directories<F: Files>(files: &F, name: &str) -> bool {
     }
 }
 
-/// Writes a thing, if it isn't unchanged. Returns whether its file has its text then.
-fn is_written<F: Files>(
-    alloc: Global,
-    files: &F,
-    saying: Saying,
-    unchanged: bool,
-    name: &str,
-    text: &[u8],
-) -> bool {
-    match saying {
-        _ if unchanged => true,
-        Saying::Creating if !make_directories(files, name) => false,
-        _ => write_text(alloc, files, name.as_bytes(), text).is_ok(),
+/// Adds the place of a name, if it has one and it is not added yet. Returns whether it does.
+fn is_added<F: Files>(alloc: Global, files: &F, places: &mut Vec<Place>, name: &str) -> bool {
+    match place_of(alloc, files, name) {
+        Ok(Some(place)) => !is_among(&place, places.as_slice()) && places.push(place).is_ok(),
+        _ => false,
     }
 }
 
-/// Returns whether this names a regular file. Nothing else is read, since a read of a pipe may wait.
-fn is_regular<F: Files>(files: &F, name: &str) -> bool {
-    match fs::metadata(files, name) {
-        Ok(found) => found.is_file(),
-        Err(_) => false,
+/// Makes the directories of a file or a header that is to be made, and adds the place of a thing. If its name is that of a link which
+/// leads to the file, adds the place of the file too. Returns whether it does all that.
+fn is_placed<F: Files>(
+    alloc: Global,
+    files: &F,
+    places: &mut Vec<Place>,
+    saying: Saying,
+    name: &str,
+    file: &str,
+    is_linked: bool,
+) -> bool {
+    match saying {
+        Saying::Creating if !make_directories(files, name) => return false,
+        _ => {}
     }
+    if is_linked && !is_added(alloc, files, places, file) {
+        return false;
+    }
+    is_added(alloc, files, places, name)
+}
+
+/// Writes a thing, if it isn't unchanged, and adds its places. Returns whether its file has its text then. If it hasn't, no place
+/// is added.
+fn is_written<F: Files>(
+    alloc: Global,
+    files: &F,
+    places: &mut Vec<Place>,
+    saying: Saying,
+    unchanged: bool,
+    name: &str,
+    file: &str,
+    is_linked: bool,
+    text: &[u8],
+) -> bool {
+    let count = places.len();
+    if is_placed(alloc, files, places, saying, name, file, is_linked)
+        && (unchanged || write_text(alloc, files, file.as_bytes(), text).is_ok())
+    {
+        return true;
+    }
+    places.truncate(count);
+    false
 }
 
 /// Returns whether the file of a header or a cache has this text already. It is false for what is written in any case: a file,
@@ -97,12 +131,25 @@ fn is_unchanged<F: Files>(
     text: &[u8],
 ) -> Result<bool, AllocError> {
     let is_compared = kind == Kind::Header || kind == Kind::Cache;
-    if !is_compared || !is_regular(files, name) {
+    if !is_compared {
         return Ok(false);
     }
     match read_text(alloc, files, name.as_bytes())? {
         Some(found) => Ok(found.as_slice() == text),
         None => Ok(false),
+    }
+}
+
+/// Returns the name of the file that a link leads to, if a cache is a link. Any other link is replaced.
+fn end_for<F: Files>(
+    alloc: Global,
+    files: &F,
+    kind: Kind,
+    name: &str,
+) -> io::Result<Option<String>> {
+    match kind {
+        Kind::Cache => end_of(alloc, files, name),
+        _ => Ok(None),
     }
 }
 
@@ -131,12 +178,15 @@ fn keep(
 fn keep_written<F: Files>(
     alloc: Global,
     files: &F,
+    places: &mut Vec<Place>,
     things: &mut Vec<Thing>,
     lines: &mut Vec<u8>,
     thing: Thing,
     saying: Saying,
     unchanged: bool,
     name: &str,
+    file: &str,
+    is_linked: bool,
     text: &[u8],
 ) -> Result<(), PutRefused>
     ensures ok { OnOk result (IsKept things.old.items lines.old.items things.new.items lines.new.items thing (said saying name.now)) }
@@ -147,7 +197,9 @@ fn keep_written<F: Files>(
     if keep(alloc, things, lines, thing, saying, name.as_bytes()).is_err() {
         return Err(PutRefused);
     }
-    if !is_written(alloc, files, saying, unchanged, name, text) {
+    if !is_written(
+        alloc, files, places, saying, unchanged, name, file, is_linked, text,
+    ) {
         things.truncate(count);
         lines.truncate(len);
         return Err(PutRefused);
@@ -163,6 +215,7 @@ impl<'a, F: Files> FileOutputs<'a, F> {
         FileOutputs {
             alloc,
             files,
+            places: Vec::new(alloc),
             things: Vec::new(alloc),
             failures: 0,
             lines: Vec::new(alloc),
@@ -177,6 +230,24 @@ impl<'a, F: Files> FileOutputs<'a, F> {
         self.lines.as_slice()
     }
 
+    /// Has each later put to this file refused, because the run reads it or writes it by itself. If no file can have the name, or
+    /// there is no such directory, does nothing.
+    ///
+    /// # Errors
+    ///
+    /// Fails only if memory runs out.
+    pub fn keep(&mut self, name: &[u8]) -> Result<(), AllocError>
+        ensures { self.new ≡ self.old }
+    {
+        let Some(name) = file_name(name) else {
+            return Ok(());
+        };
+        if let Some(place) = place_of(self.alloc, self.files, name)? {
+            self.places.push(place)?;
+        }
+        Ok(())
+    }
+
     /// Takes a thing. If the put is refused, it isn't counted yet.
     fn take(&mut self, kind: Kind, name: &[u8], text: &[u8]) -> Result<(), PutRefused>
         ensures taken { OnOk result (self.new ≡ with_thing self.old (record { kind = kind; name = name.now; text = text.now })) }
@@ -189,13 +260,22 @@ impl<'a, F: Files> FileOutputs<'a, F> {
         let Ok(unchanged) = is_unchanged(self.alloc, self.files, kind, path, text) else {
             return Err(PutRefused);
         };
+        let Ok(end) = end_for(self.alloc, self.files, kind, path) else {
+            return Err(PutRefused);
+        };
         let saying = saying_of(kind, unchanged);
         let Ok(thing) = Thing::from_slices(self.alloc, kind, name, text) else {
             return Err(PutRefused);
         };
-        let (things, lines) = (&mut self.things, &mut self.lines);
+        let file = match &end {
+            Some(end) => end.as_str(),
+            None => path,
+        };
+        let is_linked = end.is_some();
+        let (places, things, lines) = (&mut self.places, &mut self.things, &mut self.lines);
         keep_written(
-            self.alloc, self.files, things, lines, thing, saying, unchanged, path, text,
+            self.alloc, self.files, places, things, lines, thing, saying, unchanged, path, file,
+            is_linked, text,
         )
     }
 }

@@ -3,12 +3,13 @@
 ghost use Rattle.std.specs.Prelude.{IfOk};
 ghost use Rattle.diskfiles.specs.Names.{IsFileName};
 
-use crate::names::file_name;
+use crate::names::{file_name, front_of};
 use std::alloc::Global;
 use std::error::Error;
 use std::fmt;
-use std::fs::{self, File, OpenFile, Permissions};
+use std::fs::{self, File, Metadata, OpenFile, Permissions};
 use std::io::{self, ErrorKind, Write};
+use std::os::unix::fs::PermissionsExt;
 use std::rt::Files;
 
 /// The error of a text that was not written.
@@ -23,24 +24,47 @@ impl fmt::Display for WriteRefused {
 
 impl Error for WriteRefused {}
 
-/// Writes a text to a new file. If `permissions` has some, the file has them before it has the text.
-fn write_new<F: Files>(
-    files: &F,
-    name: &str,
+/// How many names are tried for a new file.
+const MOST_NAMES: u32 = 1000;
+
+/// A file that was just made, with its name.
+#[derive(Drop)]
+struct Made<T: Drop> {
+    file: T,
+    name: String,
+}
+
+/// Makes a new file in the directory of a file, under the first name `acrun-N.tmp` that is not there, N from 1 on.
+fn make_beside<F: Files>(alloc: Global, files: &F, name: &str) -> io::Result<Made<F::File>> {
+    let front = front_of(name);
+    for number in 1..=MOST_NAMES {
+        let name = format!(in alloc; "{front}acrun-{number}.tmp")?;
+        match File::options()
+            .write(true)
+            .create_new(true)
+            .open(files, name.as_str())
+        {
+            Ok(file) => return Ok(Made { file, name }),
+            Err(e) if e.kind() == ErrorKind::AlreadyExists => {}
+            Err(e) => return Err(e),
+        }
+    }
+    Err(io::Error::from(ErrorKind::AlreadyExists))
+}
+
+/// Writes a text to a new file, and closes it. If `permissions` has some, the file has them before it has the text.
+fn fill<T: OpenFile + Write + Drop>(
+    mut file: T,
     permissions: Option<Permissions>,
     text: &[u8],
 ) -> io::Result<()> {
-    let mut file = File::options()
-        .write(true)
-        .create_new(true)
-        .open(files, name)?;
     if let Some(permissions) = permissions {
         file.set_permissions(permissions)?;
     }
     file.write_all(text)
 }
 
-/// Puts a new file with this text in the place of a file, or of none. If that fails, the file is as it was.
+/// Puts a new file with this text in the place of a file, of a link, or of none. If that fails, what was there is as it was.
 fn replace<F: Files>(
     alloc: Global,
     files: &F,
@@ -48,10 +72,8 @@ fn replace<F: Files>(
     permissions: Option<Permissions>,
     text: &[u8],
 ) -> io::Result<()> {
-    let other = format!(in alloc; "{name}.acrun")?;
-    // A run that was interrupted may have left it.
-    let _ = fs::remove_file(files, other.as_str());
-    let mut done = write_new(files, other.as_str(), permissions, text);
+    let Made { file, name: other } = make_beside(alloc, files, name)?;
+    let mut done = fill(file, permissions, text);
     if done.is_ok() {
         done = fs::rename(files, other.as_str(), name);
     }
@@ -61,13 +83,20 @@ fn replace<F: Files>(
     done
 }
 
+/// Returns the permissions of a file, without the bits that would give its owner's rights to others.
+fn permissions_of(found: &Metadata) -> Permissions {
+    Permissions::from_mode(found.permissions().mode() & 0o777)
+}
+
 /// Writes a text to a file as [`write_text`] says.
 fn write_to<F: Files>(alloc: Global, files: &F, name: &str, text: &[u8]) -> io::Result<()> {
     match fs::symlink_metadata(files, name) {
         Ok(found) if found.is_file() => {
-            replace(alloc, files, name, Some(found.permissions()), text)
+            replace(alloc, files, name, Some(permissions_of(&found)), text)
         }
-        Ok(_) => fs::write(files, name, text),
+        Ok(found) if found.is_symlink() => replace(alloc, files, name, None, text),
+        Ok(found) if found.is_dir() => Err(io::Error::from(ErrorKind::IsADirectory)),
+        Ok(_) => Err(io::Error::from(ErrorKind::Unsupported)),
         Err(e) if e.kind() == ErrorKind::NotFound => replace(alloc, files, name, None, text),
         Err(e) => Err(e),
     }
@@ -75,16 +104,15 @@ fn write_to<F: Files>(alloc: Global, files: &F, name: &str, text: &[u8]) -> io::
 
 /// Writes a text to a file (own).
 ///
-/// If `name` names a regular file or none, the text is written to a new file, under `name` with `.acrun` after it, and that file
-/// is renamed. So the file holds what it held or the whole text, at each moment, unless the power fails. It keeps its permissions;
-/// if there was none, it has those that the system gives to a new file. What was there under the other name is removed.
-///
-/// If `name` names anything else, such as a symbolic link or `/dev/stdout`, the text is written in place.
+/// The text is written to a new file in the same directory, under the first name `acrun-N.tmp` that is not there, and that file is
+/// renamed. So the name has what it had or the whole text, at each moment, unless the power fails. A regular file keeps its
+/// permissions, but for the set-user-ID, set-group-ID and sticky bits. If `name` names a symbolic link or nothing, the new file has the permissions that the
+/// system gives. A link is replaced, and what it names is not touched.
 ///
 /// # Errors
 ///
-/// Fails if memory runs out, no file can have this name, or the system refuses one of these steps. Then a regular file is as it
-/// was, and there is no file under the other name. What is written in place may hold a part of the text.
+/// Fails if memory runs out, no file can have this name, `name` names a directory, a pipe, a socket or a device, 1,000 names are taken, or the system refuses
+/// one of these steps. Then what is under the name is as it was, and the new file is gone.
 pub fn write_text<F: Files>(
     alloc: Global,
     files: &F,

@@ -1,7 +1,7 @@
 //! What the program is asked to do, what it reads for that, and how it prints. Nothing here runs a source.
 //!
 //! [`words`] and [`environment`] are what the process is given, and [`call_of`] says which command the words name. [`read_supplies`]
-//! and [`record_templates`] read what a command needs besides its source or its record. [`print_pieces`], [`print_lines`] and
+//! and [`record_supplies`] read what a command needs besides its source or its record. [`print_pieces`], [`print_lines`] and
 //! [`write_log`] leave what a run has for its user. Each error is one line on standard error, by a function `tell_..`, which
 //! returns [`FAULT`].
 //!
@@ -25,8 +25,8 @@ mod supplies;
 mod telling;
 
 pub use call::{Call, call_of};
-pub use printing::{print_lines, print_pieces, write_log};
+pub use printing::{LOG, print_lines, print_pieces, write_log};
 pub use process::{environment, words};
 pub use progress::may_show_progress;
-pub use supplies::{Supplies, read_supplies, record_templates};
+pub use supplies::{RecordSupplies, Supplies, keep_inputs, read_supplies, record_supplies};
 pub use telling::{FAULT, tell_file, tell_memory, tell_named, tell_precious, tell_put, tell_usage};

@@ -9,12 +9,12 @@ use cfglog::log_text;
 use crew_trait::Entry;
 use deftable::{Note, Stream};
 use std::alloc::Global;
-use std::fs;
+use std::fs::{self, File};
 use std::io::{self, BufWriter, Write};
 use std::rt::Files;
 
 /// The name of the log.
-const LOG: &str = "config.log";
+pub const LOG: &str = "config.log";
 
 /// Prints a piece on its stream. Quiet drops what is for standard output.
 fn print_piece<W: Write, E: Write>(
@@ -104,15 +104,15 @@ fn write_entries<L: Write>(alloc: Global, entries: &[Entry], log: &mut L) -> io:
     Ok(())
 }
 
-/// Creates the log. A regular file of its name is removed first: ext4 writes a file to the disk when it was truncated and is
-/// closed, which takes milliseconds, and leaves a new one in memory.
+/// Creates the log. A regular file of its name is removed first, and so is a link. So nothing is written through a link, and a pipe or
+/// a device is not opened. A new file is also faster: ext4 writes one that was truncated to the disk when it is closed.
 fn create_log<F: Files>(files: &F) -> io::Result<F::File> {
     if let Ok(found) = fs::symlink_metadata(files, LOG) {
-        if found.is_file() {
+        if found.is_file() || found.is_symlink() {
             let _ = fs::remove_file(files, LOG);
         }
     }
-    fs::create(files, LOG)
+    File::options().write(true).create_new(true).open(files, LOG)
 }
 
 /// Writes the log of a run. It makes the text of one entry at a time, and hands the system 8 KiB at once.

@@ -6,7 +6,8 @@ ghost use Rattle.syntax.specs.Script.{script_of};
 
 use acparse::{ParseFault, parse};
 use deftable::Bytes;
-use diskfiles::{path_in, read_text};
+use crate::printing::LOG;
+use diskfiles::{FileOutputs, path_in, read_limited, read_text};
 use options::{OptionFault, Settings, read_args};
 use outputlist::Output;
 use status_record::{Record, RecordFault, read_record};
@@ -100,7 +101,7 @@ fn read_cache<F: Files>(
     let Some(name) = name else {
         return Ok(None);
     };
-    read_text(alloc, files, name.as_slice())
+    read_limited(alloc, files, name.as_slice())
 }
 
 /// Reads the templates that a run with these settings wants.
@@ -184,6 +185,15 @@ pub fn read_supplies<F: Files>(
     }
 }
 
+/// What the outputs of a record are made of, besides the record.
+#[derive(Drop)]
+pub struct RecordSupplies {
+    /// The directory of the sources.
+    pub srcdir: Bytes,
+    /// The templates that are there, by their names.
+    pub templates: Vec<(Bytes, Bytes)>,
+}
+
 /// Reads the templates of a record, each once, with its name. If the text is no record, nothing is read.
 ///
 /// A template that can't be read is left out, so who makes its output finds it missing.
@@ -191,31 +201,71 @@ pub fn read_supplies<F: Files>(
 /// # Errors
 ///
 /// Fails only if memory runs out.
-pub fn record_templates<F: Files>(
+pub fn record_supplies<F: Files>(
     alloc: Global,
     files: &F,
     text: &[u8],
-) -> Result<Vec<(Bytes, Bytes)>, AllocError> {
+) -> Result<RecordSupplies, AllocError> {
     match read_record(alloc, text) {
-        Ok(record) => templates_of(alloc, files, &record),
+        Ok(record) => supplies_of(alloc, files, &record),
         Err(RecordFault::OutOfMemory) => Err(AllocError),
-        Err(_) => Ok(Vec::new(alloc)),
+        Err(_) => Ok(RecordSupplies {
+            srcdir: Bytes::new(alloc),
+            templates: Vec::new(alloc),
+        }),
     }
 }
 
 /// Reads the templates of this record.
-fn templates_of<F: Files>(
+fn supplies_of<F: Files>(
     alloc: Global,
     files: &F,
     record: &Record,
-) -> Result<Vec<(Bytes, Bytes)>, AllocError> {
-    read_templates(
+) -> Result<RecordSupplies, AllocError> {
+    let srcdir = record.srcdir.copy(alloc)?;
+    let templates = read_templates(
         alloc,
         files,
         record.srcdir.as_slice(),
         record.files.as_slice(),
         record.headers.as_slice(),
-    )
+    )?;
+    Ok(RecordSupplies { srcdir, templates })
+}
+
+/// Has puts to a file of the source directory refused.
+fn keep_in<F: Files>(
+    alloc: Global,
+    outputs: &mut FileOutputs<'_, F>,
+    srcdir: &[u8],
+    name: &[u8],
+) -> Result<(), AllocError>
+    ensures { outputs.new ≡ outputs.old }
+{
+    let path = path_in(alloc, srcdir, name)?;
+    outputs.keep(path.as_slice())
+}
+
+/// Has puts to the files refused that a run reads, or writes by itself: the source, these templates, and the log. So no output of the
+/// run replaces one of them.
+///
+/// # Errors
+///
+/// Fails only if memory runs out.
+pub fn keep_inputs<F: Files>(
+    alloc: Global,
+    outputs: &mut FileOutputs<'_, F>,
+    srcdir: &[u8],
+    templates: &[(Bytes, Bytes)],
+) -> Result<(), AllocError>
+    ensures { outputs.new ≡ outputs.old }
+{
+    outputs.keep(LOG.as_bytes())?;
+    keep_in(alloc, outputs, srcdir, b"configure.ac")?;
+    'templates: for template in templates {
+        keep_in(alloc, outputs, srcdir, template.0.as_slice())?;
+    }
+    Ok(())
 }
 
 /// Returns the name of the precious variable of this number, counted from 1.

@@ -1,5 +1,5 @@
 -- One entry of a batch, and those after it.
-use Rattle.std.proofs.Common.{◌≡◌, ℕ, Option, Some, None, List, [], ◌∷◌, ◌++◌, codes, Bool, true, false, ◌⊎◌, inl, inr, refl, sym, ap, ◌∙◌, subst, ⊎_elim, append_assoc}
+use Rattle.std.proofs.Common.{◌≡◌, ℕ, Option, Some, None, List, [], ◌∷◌, ◌++◌, codes, Bool, true, false, cond, ◌⊎◌, inl, inr, refl, sym, ap, ◌∙◌, subst, ⊎_elim, append_assoc}
 use Rattle.std.specs.Prelude.{◌||◌, ◌==◌, option_map, bytes_eq, unwrap_or}
 use Rattle.std.proofs.lemmas.Bool.{cases_Bool}
 use Rattle.std.proofs.lemmas.List.{append-nil}
@@ -8,7 +8,7 @@ use Rattle.crew_trait.specs.declared.entry.Entry.{Entry}
 use Rattle.crew_trait.specs.declared.entry.Entry.TheVariants.{Said, Child}
 use Rattle.crew_trait.specs.declared.reply.Reply.{Reply}
 use Rattle.crew_trait.specs.declared.reply.Reply.TheVariants.{Answer, StartRefused, EndRefused}
-use Rattle.deftable.specs.Table.{value_of, with_entry}
+use Rattle.deftable.specs.Table.{value_of, with_entry, without_entry}
 use Rattle.deftable.specs.declared.note.Note.{Note}
 use Rattle.deftable.specs.declared.note.Stream.TheVariants.{Out}
 use Rattle.syntax.specs.declared.listed.Listed.{Listed}
@@ -20,7 +20,7 @@ use Rattle.meaning.specs.Rows.{Single, entry_name, entry_message, symbol_part, d
 use Rattle.meaning.specs.Batches.{Batch, jobs_in, with_body, yes_or_no, replied, commits, committed}
 use Rattle.laws.specs.Logged.{children_of, paired}
 use Rattle.laws.specs.Cached.{IsUnset}
-use Rattle.laws.specs.Batched.{answer_to, value_by}
+use Rattle.laws.specs.Batched.{answer_to, value_by, entry_defs, defs_all, entry_result, entry_pieces}
 use Rattle.laws.proofs.Values.{same_text, cond_true, cond_false, cases_value, value_here, value_there, without_unset}
 use Rattle.laws.proofs.CachedTests.{set_row, unset_cached}
 use Rattle.std.specs.List.{list_any}
@@ -58,10 +58,20 @@ one_kids (Some v) job reply = []
 one_kids None None reply = []
 one_kids None (Some job) reply = (job, reply) ∷ []
 
-pub record One (run : Run) (flag : Bool) (vars : List (List ℕ × List ℕ)) (kids : List (Job × Reply)) : Type 0 where
+-- What is checked of an entry, and its result by its job and the value of its name.
+abbrev pub asks_line : Listed → List ℕ → Note
+asks_line listed entry = piece Out (codes "checking " ++ entry_message listed entry ++ codes "... ")
+
+abbrev pub result_line : Option Job → Option (List ℕ) → Note
+result_line job value = piece Out (entry_result job value ++ codes "\n")
+
+-- The end of one entry.
+pub record One (batch : Batch) (entry : List ℕ) (asked : Option Job) (now : State) (run : Run) (flag : Bool) (vars : List (List ℕ × List ℕ)) (kids : List (Job × Reply)) : Type 0 where
   pub end : State
   pub is : run ≡ Ends (how_if flag) end
   pub after : end.vars ≡ vars
+  pub defs : end.defs ≡ entry_defs batch.listed entry (value_of end.vars (entry_name batch.listed entry)) now.defs
+  pub said : end.messages ≡ now.messages ++ asks_line batch.listed entry ∷ result_line asked (value_of end.vars (entry_name batch.listed entry)) ∷ []
   pub logged : children_of end.log ≡ kids
 
 children_both : (a b : List Entry) → children_of (a ++ b) ≡ children_of a ++ children_of b
@@ -93,6 +103,47 @@ have_vars Header entry found st = defined_vars found (codes "HAVE_" ++ symbol_pa
 have_vars Function entry found st = defined_vars found (codes "HAVE_" ++ symbol_part entry) st
 have_vars Declaration entry found st = refl
 
+defined_messages : (b : Bool) (name : List ℕ) (st : State) → (defined_if b name st).messages ≡ st.messages
+defined_messages true name st = refl
+defined_messages false name st = refl
+
+have_messages : (listed : Listed) (entry : List ℕ) (found : Bool) (st : State) → (with_entry_defined listed entry found st).messages ≡ st.messages
+have_messages Header entry found st = defined_messages found (codes "HAVE_" ++ symbol_part entry) st
+have_messages Function entry found st = defined_messages found (codes "HAVE_" ++ symbol_part entry) st
+have_messages Declaration entry found st = refl
+
+if_defs : (b : Bool) (name : List ℕ) (st : State) → (defined_if b name st).defs ≡ cond b (with_entry st.defs name (codes "1")) st.defs
+if_defs true name st = refl
+if_defs false name st = refl
+
+defined_as : (listed : Listed) (entry v : List ℕ) (st : State) → (with_entry_defined listed entry (is_yes (Some v)) st).defs ≡ entry_defs listed entry (Some v) st.defs
+defined_as Header entry v st = if_defs (is_yes (Some v)) (codes "HAVE_" ++ symbol_part entry) st
+defined_as Function entry v st = if_defs (is_yes (Some v)) (codes "HAVE_" ++ symbol_part entry) st
+defined_as Declaration entry v st = refl
+
+-- An entry whose name has this value, once the result is printed: what is defined then.
+value_defined : (listed : Listed) (entry v : List ℕ) (st : State) → value_of st.vars (entry_name listed entry) ≡ Some v → value_of (with_entry_defined listed entry (is_yes (Some v)) st).vars (entry_name listed entry) ≡ Some v
+value_defined listed entry v st e = ap (λ l. value_of l (entry_name listed entry)) (have_vars listed entry (is_yes (Some v)) st) ∙ e
+
+found_defs : (listed : Listed) (entry v : List ℕ) (st : State) → value_of st.vars (entry_name listed entry) ≡ Some v
+    → (with_entry_defined listed entry (is_yes (Some v)) st).defs ≡ entry_defs listed entry (value_of (with_entry_defined listed entry (is_yes (Some v)) st).vars (entry_name listed entry)) st.defs
+found_defs listed entry v st e = defined_as listed entry v st ∙ ap (λ o. entry_defs listed entry o st.defs) (sym (value_defined listed entry v st e))
+
+found_said : (listed : Listed) (entry v : List ℕ) (job : Option Job) (st : State) (before : List Note) → value_of st.vars (entry_name listed entry) ≡ Some v → st.messages ≡ (before ++ asks_line listed entry ∷ []) ++ result_line job (Some v) ∷ []
+    → (with_entry_defined listed entry (is_yes (Some v)) st).messages ≡ before ++ asks_line listed entry ∷ result_line job (value_of (with_entry_defined listed entry (is_yes (Some v)) st).vars (entry_name listed entry)) ∷ []
+found_said listed entry v job st before e m =
+    have_messages listed entry (is_yes (Some v)) st ∙ m ∙ append_assoc before (asks_line listed entry ∷ []) (result_line job (Some v) ∷ [])
+    ∙ ap (λ o. before ++ asks_line listed entry ∷ result_line job o ∷ []) (sym (value_defined listed entry v st e))
+
+-- An entry whose name is unset: nothing is defined, and `refused` is printed.
+unset_defs : (listed : Listed) (entry : List ℕ) (value : Option (List ℕ)) (defs : List (List ℕ × List ℕ)) → value ≡ None → defs ≡ entry_defs listed entry value defs
+unset_defs listed entry value defs e = ap (λ o. entry_defs listed entry o defs) (sym e)
+
+unset_said : (listed : Listed) (entry : List ℕ) (job : Option Job) (value : Option (List ℕ)) (before : List Note) → value ≡ None
+    → (before ++ asks_line listed entry ∷ []) ++ piece Out (codes "refused\n") ∷ [] ≡ before ++ asks_line listed entry ∷ result_line job value ∷ []
+unset_said listed entry job value before e =
+    append_assoc before (asks_line listed entry ∷ []) (piece Out (codes "refused\n") ∷ []) ∙ ap (λ o. before ++ asks_line listed entry ∷ result_line job o ∷ []) (sym e)
+
 -- The children in the log after pieces and a child.
 abbrev begins : Batch → List ℕ → State → State
 begins batch entry now = checking (entry_message batch.listed entry) now
@@ -121,7 +172,7 @@ set_kids batch entry v now =
     ∙ told_kids ((codes "(cached) " ++ v) ++ codes "\n") (begins batch entry now) ∙ begins_kids batch entry now
 
 -- The run of a test whose name is unset, if it may begin.
-unset_run : (r : Row) (st : State) → IsUnset r.test.name st.vars → r.ready ≡ true
+pub unset_run : (r : Row) (st : State) → IsUnset r.test.name st.vars → r.ready ≡ true
     → tested r st ≡ then_run (then_run (guarded r.test.name (r.test.body (checking r.test.message st))) (λ now. Ends Goes_on (with_result (r.test.shown (value_of now.vars r.test.name)) now))) (λ now. Ends Goes_on (r.after (value_of now.vars r.test.name) now))
 unset_run r st e ready =
     ap (λ o. tested_by (may_begin o r.ready) r st) e
@@ -131,21 +182,83 @@ unset_run r st e ready =
 pub unset_stops : (r : Row) (st : State) → IsUnset r.test.name st.vars → r.ready ≡ false → tested r st ≡ without_compiler as_is st
 unset_stops r st e ready = ap (λ o. tested_by (may_begin o r.ready) r st) e ∙ ap (λ b. tested_by b r st) ready
 
+-- Its name is unset after the test, too.
+still_unset : (batch : Batch) (entry : List ℕ) (now : State) → value_of now.vars (entry_name batch.listed entry) ≡ None → value_of (without_entry now.vars (entry_name batch.listed entry)) (entry_name batch.listed entry) ≡ None
+still_unset batch entry now e = ap (λ l. value_of l (entry_name batch.listed entry)) (without_unset now.vars (entry_name batch.listed entry) e) ∙ e
+
+-- The state in which an entry has its answer, and its end.
+abbrev heard_at : Batch → List ℕ → Job → Reply → Bool → State → State
+heard_at batch entry job reply b now = with_variable (entry_name batch.listed entry) (yes_or_no b) (with_child job reply (begins batch entry now))
+
+abbrev ends_by : Batch → List ℕ → State → Option (List ℕ) → State
+ends_by batch entry st value = with_entry_defined batch.listed entry (is_yes value) (with_result (unwrap_or value []) st)
+
+answered_defs : (batch : Batch) (entry : List ℕ) (st : State) (value : Option (List ℕ)) (v : List ℕ) → value_of st.vars (entry_name batch.listed entry) ≡ Some v → value ≡ Some v
+    → (ends_by batch entry st value).defs ≡ entry_defs batch.listed entry (value_of (ends_by batch entry st value).vars (entry_name batch.listed entry)) st.defs
+answered_defs batch entry st value v e is =
+    subst (λ o. (ends_by batch entry st o).defs ≡ entry_defs batch.listed entry (value_of (ends_by batch entry st o).vars (entry_name batch.listed entry)) st.defs) (sym is)
+    (found_defs batch.listed entry v (with_result v st) e)
+
+answered_said : (batch : Batch) (entry : List ℕ) (job : Job) (st : State) (before : List Note) (value : Option (List ℕ)) (v : List ℕ) → value_of st.vars (entry_name batch.listed entry) ≡ Some v → value ≡ Some v
+    → st.messages ≡ before ++ asks_line batch.listed entry ∷ []
+    → (ends_by batch entry st value).messages ≡ before ++ asks_line batch.listed entry ∷ result_line (Some job) (value_of (ends_by batch entry st value).vars (entry_name batch.listed entry)) ∷ []
+answered_said batch entry job st before value v e is m =
+    subst (λ o. (ends_by batch entry st o).messages ≡ before ++ asks_line batch.listed entry ∷ result_line (Some job) (value_of (ends_by batch entry st o).vars (entry_name batch.listed entry)) ∷ []) (sym is)
+    (found_said batch.listed entry v (Some job) (with_result v st) before e (ap (λ l. l ++ result_line (Some job) (Some v) ∷ []) m))
+
 pub one_unset : (batch : Batch) (entry : List ℕ) (job : Option Job) (reply : Reply) (first now : State) → (row_at batch entry job reply first).ready ≡ true → value_of now.vars (entry_name batch.listed entry) ≡ None
-    → One (tested (row_at batch entry job reply first) now) (one_flag None job reply) (one_vars None job reply (entry_name batch.listed entry) now.vars) (children_of now.log ++ one_kids None job reply)
+    → One batch entry job now (tested (row_at batch entry job reply first) now) (one_flag None job reply) (one_vars None job reply (entry_name batch.listed entry) now.vars) (children_of now.log ++ one_kids None job reply)
 one_unset batch entry None reply first now ready e =
-    record { end = _; is = unset_run (row_at batch entry None reply first) now e ready; after = without_unset now.vars (entry_name batch.listed entry) e; logged = told_kids (codes "refused\n") (begins batch entry now) ∙ begins_kids batch entry now ∙ sym (append-nil (children_of now.log)) }
+    record {
+      end = _;
+      is = unset_run (row_at batch entry None reply first) now e ready;
+      after = without_unset now.vars (entry_name batch.listed entry) e;
+      defs = unset_defs batch.listed entry _ now.defs (still_unset batch entry now e);
+      said = unset_said batch.listed entry None _ now.messages (still_unset batch entry now e);
+      logged = told_kids (codes "refused\n") (begins batch entry now) ∙ begins_kids batch entry now ∙ sym (append-nil (children_of now.log));
+    }
 one_unset batch entry (Some job) (Answer status text) first now ready e =
-    record { end = _; is = unset_run (row_at batch entry (Some job) (Answer status text) first) now e ready; after = have_vars batch.listed entry _ _; logged = answered_kids batch entry job (Answer status text) (status == 0) now }
+    let st = heard_at batch entry job (Answer status text) (status == 0) now in
+    let here = value_here now.vars (entry_name batch.listed entry) (yes_or_no (status == 0)) in
+    record {
+      end = _;
+      is = unset_run (row_at batch entry (Some job) (Answer status text) first) now e ready;
+      after = have_vars batch.listed entry _ _;
+      defs = answered_defs batch entry st (value_of st.vars (entry_name batch.listed entry)) (yes_or_no (status == 0)) here here;
+      said = answered_said batch entry job st now.messages (value_of st.vars (entry_name batch.listed entry)) (yes_or_no (status == 0)) here here refl;
+      logged = answered_kids batch entry job (Answer status text) (status == 0) now;
+    }
 one_unset batch entry (Some job) StartRefused first now ready e =
-    record { end = _; is = unset_run (row_at batch entry (Some job) StartRefused first) now e ready; after = without_unset now.vars (entry_name batch.listed entry) e; logged = told_kids (codes "refused\n") (with_child job StartRefused (begins batch entry now)) ∙ child_kids batch entry job StartRefused now }
+    record {
+      end = _;
+      is = unset_run (row_at batch entry (Some job) StartRefused first) now e ready;
+      after = without_unset now.vars (entry_name batch.listed entry) e;
+      defs = unset_defs batch.listed entry _ now.defs (still_unset batch entry now e);
+      said = unset_said batch.listed entry (Some job) _ now.messages (still_unset batch entry now e);
+      logged = told_kids (codes "refused\n") (with_child job StartRefused (begins batch entry now)) ∙ child_kids batch entry job StartRefused now;
+    }
 one_unset batch entry (Some job) EndRefused first now ready e =
-    record { end = _; is = unset_run (row_at batch entry (Some job) EndRefused first) now e ready; after = without_unset now.vars (entry_name batch.listed entry) e; logged = told_kids (codes "refused\n") (with_child job EndRefused (begins batch entry now)) ∙ child_kids batch entry job EndRefused now }
+    record {
+      end = _;
+      is = unset_run (row_at batch entry (Some job) EndRefused first) now e ready;
+      after = without_unset now.vars (entry_name batch.listed entry) e;
+      defs = unset_defs batch.listed entry _ now.defs (still_unset batch entry now e);
+      said = unset_said batch.listed entry (Some job) _ now.messages (still_unset batch entry now e);
+      logged = told_kids (codes "refused\n") (with_child job EndRefused (begins batch entry now)) ∙ child_kids batch entry job EndRefused now;
+    }
 
 pub one_set : (batch : Batch) (entry : List ℕ) (job : Option Job) (reply : Reply) (first now : State) (v : List ℕ) → value_of now.vars (entry_name batch.listed entry) ≡ Some v
-    → One (tested (row_at batch entry job reply first) now) false now.vars (children_of now.log)
+    → One batch entry None now (tested (row_at batch entry job reply first) now) false now.vars (children_of now.log)
 one_set batch entry job reply first now v e =
-    record { end = _; is = set_row (row_at batch entry job reply first) v now e; after = have_vars batch.listed entry _ _; logged = set_kids batch entry v now }
+    let st = with_result (codes "(cached) " ++ v) (begins batch entry now) in
+    record {
+      end = _;
+      is = set_row (row_at batch entry job reply first) v now e;
+      after = have_vars batch.listed entry _ _;
+      defs = found_defs batch.listed entry v st e;
+      said = found_said batch.listed entry v None st now.messages e refl;
+      logged = set_kids batch entry v now;
+    }
 
 pub commit_one : (b refused : Bool) (run : Run) (s : State) (rest : Bool → State → Run) → run ≡ Ends (how_if b) s → commits run refused rest ≡ rest (b || refused) s
 commit_one true refused run s rest e = ap (λ r. commits r refused rest) e
@@ -164,10 +277,12 @@ pub record Stands (earlier : List (List ℕ)) (refused : Bool) (first now : Stat
   pub kept : (n v : List ℕ) → value_of first.vars n ≡ Some v → value_of now.vars n ≡ Some v
   pub others : (n : List ℕ) → list_any (bytes_eq n) earlier ≡ false → value_of now.vars n ≡ value_of first.vars n
 
-pub record Comes (batch : Batch) (asks : List (List ℕ × Option Job)) (replies : List Reply) (refused : Bool) (now : State) (run : Run) : Type 0 where
+pub record Comes (batch : Batch) (entries : List (List ℕ)) (asks : List (List ℕ × Option Job)) (replies : List Reply) (refused : Bool) (now : State) (run : Run) : Type 0 where
   pub end : State
   pub is : run ≡ Ends (how_if (refused || refused_in replies)) end
   pub value : (n : List ℕ) → value_of end.vars n ≡ value_by (value_of now.vars n) (answer_to n batch asks replies)
+  pub defs : end.defs ≡ defs_all batch.listed entries (value_of end.vars) now.defs
+  pub said : end.messages ≡ now.messages ++ entry_pieces batch.listed asks (value_of end.vars)
   pub logged : children_of end.log ≡ children_of now.log ++ paired (jobs_in asks) replies
 
 pub or_right : (b : Bool) → b || false ≡ b
@@ -205,28 +320,54 @@ none_flag None reply refused h = sym (h refl)
 none_flag (Some v) reply refused h = refl
 
 one_quiet : (batch : Batch) (entry : List ℕ) (reply : Reply) (first now : State) → (row_at batch entry None reply first).ready ≡ true
-    → One (tested (row_at batch entry None reply first) now) (one_flag (value_of now.vars (entry_name batch.listed entry)) None reply) now.vars (children_of now.log)
+    → One batch entry None now (tested (row_at batch entry None reply first) now) (one_flag (value_of now.vars (entry_name batch.listed entry)) None reply) now.vars (children_of now.log)
 one_quiet batch entry reply first now ready =
     ⊎_elim
-    (λ e. subst (λ o. One (tested (row_at batch entry None reply first) now) (one_flag o None reply) now.vars (children_of now.log)) (sym e)
-    (subst (One (tested (row_at batch entry None reply first) now) true now.vars) (append-nil (children_of now.log)) (one_unset batch entry None reply first now ready e)))
-    (λ s. subst (λ o. One (tested (row_at batch entry None reply first) now) (one_flag o None reply) now.vars (children_of now.log)) (sym s.1) (one_set batch entry None reply first now s.0 s.1))
+    (λ e. subst (λ o. One batch entry None now (tested (row_at batch entry None reply first) now) (one_flag o None reply) now.vars (children_of now.log)) (sym e)
+    (subst (One batch entry None now (tested (row_at batch entry None reply first) now) true now.vars) (append-nil (children_of now.log)) (one_unset batch entry None reply first now ready e)))
+    (λ s. subst (λ o. One batch entry None now (tested (row_at batch entry None reply first) now) (one_flag o None reply) now.vars (children_of now.log)) (sym s.1) (one_set batch entry None reply first now s.0 s.1))
     (cases_value (value_of now.vars (entry_name batch.listed entry)))
 
-pub quiet : (batch : Batch) (entry : List ℕ) (tail : List (List ℕ × Option Job)) (replies : List Reply) (refused : Bool) (first now : State) → (row_at batch entry None (only_reply replies) first).ready ≡ true
+-- What an entry defines and prints, and then those after it. None of them has its name.
+value_stays : (batch : Batch) (entry : List ℕ) (tail : List (List ℕ × Option Job)) (replies : List Reply) (now end : State) → answer_to (entry_name batch.listed entry) batch tail replies ≡ None
+    → value_of end.vars (entry_name batch.listed entry) ≡ value_by (value_of now.vars (entry_name batch.listed entry)) (answer_to (entry_name batch.listed entry) batch tail replies)
+    → value_of end.vars (entry_name batch.listed entry) ≡ value_of now.vars (entry_name batch.listed entry)
+value_stays batch entry tail replies now end once is =
+    is ∙ ap (value_by (value_of now.vars (entry_name batch.listed entry))) once ∙ sym (by_none (value_of now.vars (entry_name batch.listed entry)))
+
+defs_joined : (batch : Batch) (entry : List ℕ) (more : List (List ℕ)) (now mid end : State) → value_of end.vars (entry_name batch.listed entry) ≡ value_of mid.vars (entry_name batch.listed entry)
+    → mid.defs ≡ entry_defs batch.listed entry (value_of mid.vars (entry_name batch.listed entry)) now.defs → end.defs ≡ defs_all batch.listed more (value_of end.vars) mid.defs
+    → end.defs ≡ defs_all batch.listed (entry ∷ more) (value_of end.vars) now.defs
+defs_joined batch entry more now mid end at_end one rest =
+    rest ∙ ap (defs_all batch.listed more (value_of end.vars)) (one ∙ ap (λ o. entry_defs batch.listed entry o now.defs) (sym at_end))
+
+said_joined : (batch : Batch) (entry : List ℕ) (job : Option Job) (tail : List (List ℕ × Option Job)) (now mid end : State) → value_of end.vars (entry_name batch.listed entry) ≡ value_of mid.vars (entry_name batch.listed entry)
+    → mid.messages ≡ now.messages ++ asks_line batch.listed entry ∷ result_line job (value_of mid.vars (entry_name batch.listed entry)) ∷ []
+    → end.messages ≡ mid.messages ++ entry_pieces batch.listed tail (value_of end.vars)
+    → end.messages ≡ now.messages ++ entry_pieces batch.listed ((entry, job) ∷ tail) (value_of end.vars)
+said_joined batch entry job tail now mid end at_end one rest =
+    rest
+    ∙ ap (λ l. l ++ entry_pieces batch.listed tail (value_of end.vars)) (one ∙ ap (λ o. now.messages ++ asks_line batch.listed entry ∷ result_line job o ∷ []) (sym at_end))
+    ∙ append_assoc now.messages (asks_line batch.listed entry ∷ result_line job (value_of end.vars (entry_name batch.listed entry)) ∷ []) (entry_pieces batch.listed tail (value_of end.vars))
+
+pub quiet : (batch : Batch) (entry : List ℕ) (more : List (List ℕ)) (tail : List (List ℕ × Option Job)) (replies : List Reply) (refused : Bool) (first now : State) → (row_at batch entry None (only_reply replies) first).ready ≡ true
     → (value_of now.vars (entry_name batch.listed entry) ≡ None → refused ≡ true)
-    → ((s : State) → s.vars ≡ now.vars → Comes batch tail replies refused s (committed batch first tail replies refused s))
-    → Comes batch ((entry, None) ∷ tail) replies refused now (committed batch first ((entry, None) ∷ tail) replies refused now)
-quiet batch entry tail replies refused first now ready known rest =
+    → answer_to (entry_name batch.listed entry) batch tail replies ≡ None
+    → ((s : State) → s.vars ≡ now.vars → Comes batch more tail replies refused s (committed batch first tail replies refused s))
+    → Comes batch (entry ∷ more) ((entry, None) ∷ tail) replies refused now (committed batch first ((entry, None) ∷ tail) replies refused now)
+quiet batch entry more tail replies refused first now ready known once rest =
     let name = entry_name batch.listed entry in
     let one = one_quiet batch entry (only_reply replies) first now ready in
     let go = rest one.end one.after in
+    let stays = value_stays batch entry tail replies one.end go.end once (go.value name) in
     record {
       end = go.end;
       is = commit_one (one_flag (value_of now.vars name) None (only_reply replies)) refused _ one.end (committed batch first tail replies) one.is
           ∙ ap (λ b. committed batch first tail replies b one.end) (none_flag (value_of now.vars name) (only_reply replies) refused known)
           ∙ go.is;
       value = λ n. go.value n ∙ ap (λ l. value_by (value_of l n) (answer_to n batch tail replies)) one.after;
+      defs = defs_joined batch entry more now one.end go.end stays one.defs go.defs;
+      said = said_joined batch entry None tail now one.end go.end stays one.said go.said;
       logged = go.logged ∙ ap (λ l. l ++ paired (jobs_in tail) replies) one.logged;
     }
 
@@ -246,21 +387,24 @@ unset_flag (Some b) e = cc
 by_answer : (s : Option Bool) (reply : Reply) → success reply ≡ s → option_map yes_or_no s ≡ value_by None (Some reply)
 by_answer s reply e = ap (option_map yes_or_no) (sym e)
 
-pub asked : (batch : Batch) (entry : List ℕ) (job : Job) (tail : List (List ℕ × Option Job)) (r : Reply) (rs : List Reply) (refused : Bool) (first now : State) → (row_at batch entry (Some job) r first).ready ≡ true
+pub asked : (batch : Batch) (entry : List ℕ) (job : Job) (more : List (List ℕ)) (tail : List (List ℕ × Option Job)) (r : Reply) (rs : List Reply) (refused : Bool) (first now : State) → (row_at batch entry (Some job) r first).ready ≡ true
     → value_of now.vars (entry_name batch.listed entry) ≡ None
     → answer_to (entry_name batch.listed entry) batch tail rs ≡ None
-    → ((s : State) → s.vars ≡ set_by (success r) (entry_name batch.listed entry) now.vars → Comes batch tail rs (flag_of (success r) || refused) s (committed batch first tail rs (flag_of (success r) || refused) s))
-    → Comes batch ((entry, Some job) ∷ tail) (r ∷ rs) refused now (committed batch first ((entry, Some job) ∷ tail) (r ∷ rs) refused now)
-asked batch entry job tail r rs refused first now ready e once rest =
+    → ((s : State) → s.vars ≡ set_by (success r) (entry_name batch.listed entry) now.vars → Comes batch more tail rs (flag_of (success r) || refused) s (committed batch first tail rs (flag_of (success r) || refused) s))
+    → Comes batch (entry ∷ more) ((entry, Some job) ∷ tail) (r ∷ rs) refused now (committed batch first ((entry, Some job) ∷ tail) (r ∷ rs) refused now)
+asked batch entry job more tail r rs refused first now ready e once rest =
     let name = entry_name batch.listed entry in
     let one = one_unset batch entry (Some job) r first now ready e in
     let go = rest one.end one.after in
+    let stays = value_stays batch entry tail rs one.end go.end once (go.value name) in
     record {
       end = go.end;
       is = commit_one (flag_of (success r)) refused _ one.end (committed batch first tail rs) one.is
           ∙ go.is ∙ ap (λ b. Ends (how_if b) go.end) (or_swap (flag_of (success r)) refused (refused_in rs));
       value = λ n. go.value n ∙ ap (λ l. value_by (value_of l n) (answer_to n batch tail rs)) one.after
           ∙ ⊎_elim (λ t. here n t) (λ f. there n f) (cases_Bool (bytes_eq n name));
+      defs = defs_joined batch entry more now one.end go.end stays one.defs go.defs;
+      said = said_joined batch entry (Some job) tail now one.end go.end stays one.said go.said;
       logged = go.logged ∙ ap (λ l. l ++ paired (jobs_in tail) rs) one.logged ∙ append_assoc (children_of now.log) ((job, r) ∷ []) (paired (jobs_in tail) rs);
     }
   where

@@ -1,26 +1,27 @@
 -- All entries of a batch.
-use Rattle.std.proofs.Common.{◌≡◌, ℕ, suc, ◌≤◌, Option, Some, None, List, [], ◌∷◌, length, drop, Bool, true, false, cond, ◌⊎◌, inl, inr, refl, sym, ap, ◌∙◌, subst, ⊎_elim, arith}
+use Rattle.std.proofs.Common.{◌≡◌, ℕ, suc, ◌≤◌, Option, Some, None, List, [], ◌∷◌, length, drop, Bool, true, false, cond, ◌⊎◌, inl, inr, refl, sym, ap, ◌∙◌, subst, ⊎_elim, arith, ◌++◌, append_assoc}
 use Rattle.std.specs.Prelude.{◌||◌, option_map, bytes_eq, is_some}
 use Rattle.std.proofs.lemmas.Bool.{cases_Bool}
 use Rattle.std.proofs.lemmas.List.{append-nil}
 use Rattle.jobs.specs.declared.job.Job.{Job}
 use Rattle.jobs.specs.Probe.{job_of}
 use Rattle.crew_trait.specs.declared.reply.Reply.{Reply}
+use Rattle.deftable.specs.NameList.{AreDistinct}
 use Rattle.deftable.specs.Table.{value_of}
 use Rattle.deftable.specs.declared.note.Stream.TheVariants.{Err}
 use Rattle.shellword.specs.declared.part.Part.{Part}
 use Rattle.syntax.specs.declared.listed.Listed.{Listed}
 use Rattle.syntax.specs.declared.listed.Listed.TheVariants.{Header, Function, Declaration}
-use Rattle.meaning.specs.State.{piece, told, State, Goes_on, Stopped, Ends}
+use Rattle.meaning.specs.State.{piece, told, State, Goes_on, Stopped, Run, Ends}
 use Rattle.meaning.specs.Asking.{success, only_reply, no_compiler}
 use Rattle.meaning.specs.Rows.{entry_name, entry_job}
 use Rattle.meaning.specs.Batches.{Batch, is_known, job_for, asks_all, asking, jobs_in, replies_after, commits, committed}
 use Rattle.meaning.specs.Play.{first_refused, refused_here}
 use Rattle.laws.specs.Logged.{children_of}
-use Rattle.laws.specs.Batched.{lacks_compiler, answer_to, cut_by, BatchCommits, IsEntry, BatchAsksUnset, all_set, StopsUnless, BatchStops, BatchAsksFew}
+use Rattle.laws.specs.Batched.{lacks_compiler, answer_to, entry_defs, defs_all, entry_pieces, cut_by, BatchCommits, IsEntry, BatchAsksUnset, all_set, StopsUnless, BatchStops, BatchKeepsSet, BatchAsksFew, names_asked, BatchAsksOnce}
 use Rattle.laws.proofs.Values.{same_text, same_self, not_same, apart, cond_true, cond_false, cases_value}
-use Rattle.laws.proofs.BatchEntries.{row_at, how_if, flag_of, set_by, refused_in, Stands, Comes, quiet, asked, or_cases, or_false, by_none, all_committed, set_here, set_there, said, unset_flag, unset_stops, one_set}
-use Rattle.std.specs.List.{list_any}
+use Rattle.laws.proofs.BatchEntries.{row_at, how_if, flag_of, set_by, asks_line, result_line, refused_in, Stands, Comes, quiet, asked, or_cases, or_false, by_none, all_committed, set_here, set_there, said, unset_flag, unset_stops, one_set}
+use Rattle.std.specs.List.{list_any, AllByRecursion, IsDistinct}
 
 -- ---- what is asked for
 
@@ -144,13 +145,13 @@ abbrev Later : Batch → State → List ℕ → List (List ℕ) → ℕ → List
 Later batch first entry earlier place more =
     (replies : List Reply) (refused : Bool) (now : State) → Stands (entry_name batch.listed entry ∷ earlier) refused first now
     → length replies ≡ length (jobs_in (asking batch (suc place) (entry_name batch.listed entry ∷ earlier) more first))
-    → Comes batch (asking batch (suc place) (entry_name batch.listed entry ∷ earlier) more first) replies refused now (committed batch first (asking batch (suc place) (entry_name batch.listed entry ∷ earlier) more first) replies refused now)
+    → Comes batch more (asking batch (suc place) (entry_name batch.listed entry ∷ earlier) more first) replies refused now (committed batch first (asking batch (suc place) (entry_name batch.listed entry ∷ earlier) more first) replies refused now)
 
 -- What is to be known of an entry with a job, and of those after it.
 abbrev Whole : Batch → State → List ℕ → Option Job → List (List ℕ) → ℕ → List (List ℕ) → List Reply → Bool → State → Type 0
 Whole batch first entry job earlier place more replies refused now =
     length replies ≡ length (jobs_in ((entry, job) ∷ asking batch (suc place) (entry_name batch.listed entry ∷ earlier) more first))
-    → Comes batch ((entry, job) ∷ asking batch (suc place) (entry_name batch.listed entry ∷ earlier) more first) replies refused now
+    → Comes batch (entry ∷ more) ((entry, job) ∷ asking batch (suc place) (entry_name batch.listed entry ∷ earlier) more first) replies refused now
     (committed batch first ((entry, job) ∷ asking batch (suc place) (entry_name batch.listed entry ∷ earlier) more first) replies refused now)
 
 -- Its name was set when the batch began, or is that of an earlier entry.
@@ -174,7 +175,8 @@ no_job batch first entry earlier place more replies refused now c s later t =
       others = λ n h. ap (λ l. value_of l n) same ∙ s.others n (or_false (bytes_eq n name) (list_any (bytes_eq n) earlier) h).1;
     } in
     subst (λ job. Whole batch first entry job earlier place more replies refused now) (sym (job_true batch entry place earlier first t))
-    (λ len. quiet batch entry (asking batch (suc place) (name ∷ earlier) more first) replies refused first now (ready_is batch entry None (only_reply replies) first c) known
+    (λ len. quiet batch entry more (asking batch (suc place) (name ∷ earlier) more first) replies refused first now (ready_is batch entry None (only_reply replies) first c) known
+    (unasked batch more (suc place) (name ∷ earlier) first name replies (or_here_too (is_some (value_of first.vars name)) (bytes_eq name name) (list_any (bytes_eq name) earlier) (same_self name)))
     (λ x same. later replies refused x (stands x same) len))
 
 -- Its name is unset, and this is the first entry of it.
@@ -202,14 +204,14 @@ own_job batch first entry earlier place more (r ∷ rs) refused now c s later f 
           ap (λ l. value_of l n) same ∙ set_there (success r) now.vars name n apart_both.0 ∙ s.others n apart_both.1;
     } in
     let shorter : length rs ≡ length (jobs_in tail) = omega (arith, len) in
-    asked batch entry job tail r rs refused first now (ready_is batch entry (Some job) r first c) unset
+    asked batch entry job more tail r rs refused first now (ready_is batch entry (Some job) r first c) unset
     (unasked batch more (suc place) (name ∷ earlier) first name rs (or_here_too (is_some (value_of first.vars name)) (bytes_eq name name) (list_any (bytes_eq name) earlier) (same_self name)))
     (λ x same. later rs (flag_of (success r) || refused) x (stands x same) shorter)
 
 pub comes : (batch : Batch) (first : State) → lacks_compiler first ≡ false → (entries : List (List ℕ)) (place : ℕ) (earlier : List (List ℕ)) (replies : List Reply) (refused : Bool) (now : State) → Stands earlier refused first now
     → length replies ≡ length (jobs_in (asking batch place earlier entries first))
-    → Comes batch (asking batch place earlier entries first) replies refused now (committed batch first (asking batch place earlier entries first) replies refused now)
-comes batch first c [] place earlier [] refused now s len = record { end = now; is = all_committed batch first [] refused now; value = λ n. by_none (value_of now.vars n); logged = sym (append-nil (children_of now.log)) }
+    → Comes batch entries (asking batch place earlier entries first) replies refused now (committed batch first (asking batch place earlier entries first) replies refused now)
+comes batch first c [] place earlier [] refused now s len = record { end = now; is = all_committed batch first [] refused now; value = λ n. by_none (value_of now.vars n); defs = refl; said = sym (append-nil now.messages); logged = sym (append-nil (children_of now.log)) }
 comes batch first c [] place earlier (r ∷ rs) refused now s len = cc
 comes batch first c (entry ∷ more) place earlier replies refused now s len =
     let later : Later batch first entry earlier place more = λ rs b x k l. comes batch first c more (suc place) (entry_name batch.listed entry ∷ earlier) rs b x k l in
@@ -235,7 +237,7 @@ how_is (r ∷ rs) = by_first (success r) rs (how_is rs)
 pub batch_commits : BatchCommits
 batch_commits batch st replies c len =
     let go = comes batch st c batch.entries 1 [] replies false st (record { early = λ n h e. cc; kept = λ n v e. e; others = λ n h. refl }) len in
-    record { now = go.end; is = go.is ∙ ap (λ h. Ends h go.end) (how_is replies); value = go.value; logged = go.logged }
+    record { now = go.end; is = go.is ∙ ap (λ h. Ends h go.end) (how_is replies); value = go.value; defs = go.defs; said = go.said; logged = go.logged }
 
 -- ---- without a compiler
 
@@ -288,6 +290,69 @@ batch_stops batch st c =
     let s = stops batch st c batch.entries 1 [] [] st refl refl in
     record { now = s.now; is = ap (λ jobs. asks_all jobs (λ replies. committed batch st (asking batch 1 [] batch.entries st) replies false st)) (no_jobs batch batch.entries 1 [] st c) ∙ s.is; vars = s.vars; logged = s.logged }
 
+-- ---- a batch whose names are set
+
+both_true : (a b : Bool) → cond a b false ≡ true → (a ≡ true) × (b ≡ true)
+both_true true b e = (refl, e)
+both_true false b e = cc
+
+no_job_set : (batch : Batch) (entry : List ℕ) (place : ℕ) (earlier : List (List ℕ)) (st : State) → is_some (value_of st.vars (entry_name batch.listed entry)) ≡ true → job_for batch place earlier entry st ≡ None
+no_job_set batch entry place earlier st e =
+    let name = entry_name batch.listed entry in
+    job_true batch entry place earlier st (or_first (is_some (value_of st.vars name)) (list_any (bytes_eq name) earlier) e)
+
+none_asked : (batch : Batch) (entries : List (List ℕ)) (place : ℕ) (earlier : List (List ℕ)) (st : State) → all_set batch entries st ≡ true → jobs_in (asking batch place earlier entries st) ≡ []
+none_asked batch [] place earlier st e = refl
+none_asked batch (entry ∷ more) place earlier st e =
+    let name = entry_name batch.listed entry in
+    let set = both_true (is_some (value_of st.vars name)) (all_set batch more st) e in
+    ap (λ j. jobs_in ((entry, j) ∷ asking batch (suc place) (name ∷ earlier) more st)) (no_job_set batch entry place earlier st set.0) ∙ none_asked batch more (suc place) (name ∷ earlier) st set.1
+
+record Kept (batch : Batch) (entries : List (List ℕ)) (asks : List (List ℕ × Option Job)) (now : State) (run : Run) : Type 0 where
+  end : State
+  is : run ≡ Ends Goes_on end
+  vars : end.vars ≡ now.vars
+  defs : end.defs ≡ defs_all batch.listed entries (value_of now.vars) now.defs
+  said : end.messages ≡ now.messages ++ entry_pieces batch.listed asks (value_of now.vars)
+  logged : children_of end.log ≡ children_of now.log
+
+kept_set : (batch : Batch) (first : State) (entries : List (List ℕ)) (place : ℕ) (earlier : List (List ℕ)) (replies : List Reply) (now : State) → all_set batch entries first ≡ true → now.vars ≡ first.vars
+    → Kept batch entries (asking batch place earlier entries first) now (committed batch first (asking batch place earlier entries first) replies false now)
+kept_set batch first [] place earlier replies now e same = record { end = now; is = refl; vars = refl; defs = refl; said = sym (append-nil now.messages); logged = refl }
+kept_set batch first (entry ∷ more) place earlier replies now e same =
+    let name = entry_name batch.listed entry in
+    let set = both_true (is_some (value_of first.vars name)) (all_set batch more first) e in
+    let job = job_for batch place earlier entry first in
+    let tail = asking batch (suc place) (name ∷ earlier) more first in
+    let v = some_value (value_of first.vars name) set.0 in
+    let one = one_set batch entry job (only_reply replies) first now v.0 (ap (λ l. value_of l name) same ∙ v.1) in
+    let later = kept_set batch first more (suc place) (name ∷ earlier) (replies_after job replies) one.end set.1 (one.after ∙ same) in
+    let line = asks_line batch.listed entry in
+    record {
+      end = later.end;
+      is = ap (λ run. commits run false (committed batch first tail (replies_after job replies))) one.is ∙ later.is;
+      vars = later.vars ∙ one.after;
+      defs = later.defs ∙ ap (λ l. defs_all batch.listed more (value_of l) one.end.defs) one.after
+          ∙ ap (defs_all batch.listed more (value_of now.vars)) (one.defs ∙ ap (λ l. entry_defs batch.listed entry (value_of l name) now.defs) one.after);
+      said = later.said ∙ ap (λ l. one.end.messages ++ entry_pieces batch.listed tail (value_of l)) one.after
+          ∙ ap (λ m. m ++ entry_pieces batch.listed tail (value_of now.vars)) (one.said ∙ ap (λ l. now.messages ++ line ∷ result_line None (value_of l name) ∷ []) one.after)
+          ∙ append_assoc now.messages (line ∷ result_line None (value_of now.vars name) ∷ []) (entry_pieces batch.listed tail (value_of now.vars))
+          ∙ ap (λ j. now.messages ++ entry_pieces batch.listed ((entry, j) ∷ tail) (value_of now.vars)) (sym (no_job_set batch entry place earlier first set.0));
+      logged = later.logged ∙ one.logged;
+    }
+
+pub batch_keeps_set : BatchKeepsSet
+batch_keeps_set batch st e =
+    let k = kept_set batch st batch.entries 1 [] [] st e refl in
+    record {
+      now = k.end;
+      is = ap (λ jobs. asks_all jobs (λ replies. committed batch st (asking batch 1 [] batch.entries st) replies false st)) (none_asked batch batch.entries 1 [] st e) ∙ k.is;
+      vars = k.vars;
+      defs = k.defs;
+      said = k.said;
+      logged = k.logged;
+    }
+
 -- ---- how many jobs
 
 one_job : (entry : List ℕ) (job : Option Job) (tail : List (List ℕ × Option Job)) (n : ℕ) → length (jobs_in tail) ≤ n → length (jobs_in ((entry, job) ∷ tail)) ≤ suc n
@@ -301,3 +366,45 @@ few batch (entry ∷ more) place earlier st =
 
 pub batch_asks_few : BatchAsksFew
 batch_asks_few batch st = few batch batch.entries 1 [] st
+
+-- ---- each name is asked for once
+
+abbrev Others : List ℕ → List (List ℕ) → Type 0
+Others n names = AllByRecursion (λ m. bytes_eq n m ≡ false) names
+
+-- An entry of another name, or one that asks for nothing.
+not_here : (batch : Batch) (entry : List ℕ) (job : Option Job) (tail : List (List ℕ × Option Job)) (n : List ℕ) → (bytes_eq n (entry_name batch.listed entry) ≡ false) ⊎ (job ≡ None)
+    → Others n (names_asked batch.listed tail) → Others n (names_asked batch.listed ((entry, job) ∷ tail))
+not_here batch entry None tail n h later = later
+not_here batch entry (Some job) tail n h later = ⊎_elim (λ f. (f, later)) (λ z. cc) h
+
+-- If the name is that of an earlier entry, no child is asked for it.
+not_again : (batch : Batch) (entries : List (List ℕ)) (place : ℕ) (earlier : List (List ℕ)) (st : State) (n : List ℕ) → list_any (bytes_eq n) earlier ≡ true
+    → Others n (names_asked batch.listed (asking batch place earlier entries st))
+not_again batch [] place earlier st n h = tt
+not_again batch (entry ∷ more) place earlier st n h =
+    let name = entry_name batch.listed entry in
+    not_here batch entry (job_for batch place earlier entry st) (asking batch (suc place) (name ∷ earlier) more st) n
+    (⊎_elim
+    (λ t. inr (job_true batch entry place earlier st (or_second (is_some (value_of st.vars name)) (list_any (bytes_eq name) earlier) (subst (λ x. list_any (bytes_eq x) earlier ≡ true) (same_text n name t) h))))
+    (λ f. inl f)
+    (cases_Bool (bytes_eq n name)))
+    (not_again batch more (suc place) (name ∷ earlier) st n (or_second (bytes_eq n name) (list_any (bytes_eq n) earlier) h))
+
+asks_apart : (batch : Batch) (entry : List ℕ) (job : Option Job) (tail : List (List ℕ × Option Job)) → Others (entry_name batch.listed entry) (names_asked batch.listed tail) → AreDistinct (names_asked batch.listed tail)
+    → AreDistinct (names_asked batch.listed ((entry, job) ∷ tail))
+unfolding IsDistinct
+asks_apart batch entry None tail apart_all rest = rest
+asks_apart batch entry (Some job) tail apart_all rest = (apart_all, rest)
+
+once_each : (batch : Batch) (entries : List (List ℕ)) (place : ℕ) (earlier : List (List ℕ)) (st : State) → AreDistinct (names_asked batch.listed (asking batch place earlier entries st))
+unfolding IsDistinct
+once_each batch [] place earlier st = tt
+once_each batch (entry ∷ more) place earlier st =
+    let name = entry_name batch.listed entry in
+    asks_apart batch entry (job_for batch place earlier entry st) (asking batch (suc place) (name ∷ earlier) more st)
+    (not_again batch more (suc place) (name ∷ earlier) st name (or_first (bytes_eq name name) (list_any (bytes_eq name) earlier) (same_self name)))
+    (once_each batch more (suc place) (name ∷ earlier) st)
+
+pub batch_asks_once : BatchAsksOnce
+batch_asks_once batch st = once_each batch batch.entries 1 [] st

@@ -15,3 +15,9 @@ pub mod OtherDeeds
 pub mod BatchEntries
 pub mod BatchLemmas
 pub mod Logged
+pub mod Plays
+pub mod Refusals
+pub mod Types
+pub mod Searches
+pub mod Programs
+mod Examples

@@ -6,3 +6,7 @@ pub mod Linking
 pub mod Commands
 pub mod Deeds
 pub mod Batched
+pub mod Finished
+pub mod Refusals
+pub mod Types
+pub mod Programs

@@ -1,23 +1,29 @@
-//! Laws of the meaning: theorems on what a run of statements leaves in its variables and its log.
+//! Laws of the meaning: theorems on what a run of statements asks for, prints, defines and leaves set.
 //!
 //! There is no code here. Each function does nothing, and its contract is a theorem on the definitions of `meaning`.
 //! Read `specs/Ends.antt` (what holds at the ends of a run), `specs/Cached.antt` (cached tests: their names),
 //! `specs/Commands.antt` (tests that set their name alone), `specs/Questions.antt` (questions that test: their answer),
-//! `specs/Linking.antt` (tests of libraries: what they leave in LIBS), `specs/Deeds.antt` (what each name that is set at the end comes from), `specs/Logged.antt` (the children in the log),
-//! then `specs/Batched.antt` (batches: lists of tests whose children are asked for at once).
+//! `specs/Linking.antt` (tests of libraries: what they leave in LIBS), `specs/Deeds.antt` (what each name that is set at the
+//! end comes from), `specs/Logged.antt` (the children in the log), then `specs/Batched.antt` (batches: lists of tests whose
+//! children are asked for at once). `specs/Finished.antt` is a run under given replies, with which `specs/Refusals.antt` says
+//! which runs are cut, `specs/Types.antt` what the test of a type finds, and `specs/Programs.antt` what AC_CHECK_PROGS and
+//! AC_PROG_CC find.
 //!
 //! For example, say that AC_CACHE_CHECK of the name `v_cv_x` has the commands `v_cv_x=no` and then a program that is
 //! compiled, and that the compiler can't be started. By `broken_check_is_unset` the name is unset at the end, and by
 //! `broken_check_leaves_variables` all variables and definitions are as they were.
 #![tactic(auto)]
 
-ghost use Rattle.laws.specs.Batched.{BatchCommits, BatchAsksUnset, BatchStops, BatchAsksFew};
+ghost use Rattle.laws.specs.Batched.{BatchCommits, BatchAsksUnset, BatchStops, BatchKeepsSet, BatchAsksFew, BatchAsksOnce};
 ghost use Rattle.laws.specs.Cached.{NamesStandOnce, BrokenIsUnset, BrokenRowIsUnset, BrokenCheckIsUnset, SetStaysSet, SetRowAsksNothing};
 ghost use Rattle.laws.specs.Commands.{BrokenLeavesVariables, BrokenRowLeavesVariables, CommandsWriteAlone, BrokenCheckLeavesVariables};
 ghost use Rattle.laws.specs.Deeds.{DeedsAccount, CommandsHaveNoDeeds};
 ghost use Rattle.laws.specs.Linking.{LibsChecked, LibsSearched};
 ghost use Rattle.laws.specs.Logged.{ChildrenAreLogged};
+ghost use Rattle.laws.specs.Programs.{ProgramsAreSought, CachedIsNotSought, OwnIsNotSought};
 ghost use Rattle.laws.specs.Questions.{FoundByValue, FoundByCached};
+ghost use Rattle.laws.specs.Refusals.{CutsAtRefusals, CutsAreTold};
+ghost use Rattle.laws.specs.Types.{TypeByReplies};
 
 /// Statements never give a name a second entry in the variables.
 pub fn names_stand_once()
@@ -105,7 +111,8 @@ pub fn children_are_logged()
 {}
 
 /// If there is a compiler, a batch is cut exactly if one of its children is refused. Each name has its value from before, or
-/// the one that the reply to its child gives. The children are logged in the order of the list.
+/// the one that the reply to its child gives. By these values the entries are defined and printed, one after the other, and
+/// an entry whose child was refused is not defined. The children are logged in the order of the list.
 pub fn batch_commits()
     ensures commits { BatchCommits }
 {}
@@ -122,7 +129,40 @@ pub fn batch_stops()
     ensures stops { BatchStops }
 {}
 
+/// If each of its names is set, a batch asks for nothing and leaves the variables as they were, whether or not there is a
+/// compiler. It defines and prints what the values say, an entry after the other.
+pub fn batch_keeps_set()
+    ensures set { BatchKeepsSet }
+{}
+
 /// A batch asks for no more children than it has entries.
 pub fn batch_asks_few()
     ensures few { BatchAsksFew }
+{}
+
+/// A batch asks for at most one child for a name, also if the name is listed twice.
+pub fn batch_asks_once()
+    ensures once { BatchAsksOnce }
+{}
+
+/// A whole run that is played with as many replies as jobs is cut exactly if one of them is refused. Its last message is then
+/// the line with the place of the first refused reply. A run that isn't cut prints what its statements print.
+pub fn cuts_at_refusals()
+    ensures law { CutsAtRefusals }
+    ensures told { CutsAreTold }
+{}
+
+/// The test of a type whose name is unset asks for one child or two: for the second only if the first succeeds. Its value is
+/// `yes` exactly if the first succeeds and the second fails, and otherwise `no`.
+pub fn type_by_replies()
+    ensures replies { TypeByReplies }
+{}
+
+/// AC_CHECK_PROGS and AC_PROG_CC look for the first program in all directories of PATH, then for the next, up to the first
+/// that is found. The variable gets the name of that program. If none is found it gets the default, or the empty text. If the
+/// cache name is set, or else if the variable has a value that isn't empty, nothing is asked for, and that value counts.
+pub fn programs_are_sought()
+    ensures sought { ProgramsAreSought }
+    ensures cached { CachedIsNotSought }
+    ensures own { OwnIsNotSought }
 {}

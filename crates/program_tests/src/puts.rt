@@ -35,11 +35,30 @@ source AC_CONFIG_FILES([f])|write f.in 1|directory config.log|run configure|read
 source AC_CONFIG_FILES([f])|write f.in 1|directory config.log|directory f|run configure => 2 err[acrun: put 2^Jacrun: file config.log^J]
 source AC_MSG_ERROR([no],[7])|directory config.log|run configure|list => \
 2 err[configure: error: no^Jacrun: file config.log^J]; here config.log configure.ac
-// A log that is a link is written in place, and one that is a file is replaced.
+// A log is a new file, in the place of a link or of a file.
 source AC_MSG_NOTICE([n])|write there old log^J|link config.log there|run configure,-q|read there|source AC_MSG_NOTICE([m])\
 |run configure,-q|read config.log|read there|list => \
-0; there[configure: n^J]; 0; config.log[configure: m^J]; there[configure: m^J]; here config.log config.status configure.ac there
+0; there[old log^J]; 0; config.log[configure: m^J]; there[old log^J]; here config.log config.status configure.ac there
 source AC_MSG_NOTICE([n])|write config.log a long old log^J|run configure,-q|read config.log => 0; config.log[configure: n^J]
+// An output is refused if its name is that of the record, the log, a template, the source or the cache. What is there stays.
+source AC_CONFIG_FILES([f config.status:f.in g:f.in])|write f.in 1|run configure|list => \
+2 [config.status: creating f^J] err[acrun: put 3^J]; here config.log config.status configure.ac f f.in
+source AC_CONFIG_FILES([config.log:f.in])|write f.in 1|run configure|read config.log => 2 err[acrun: put 2^J]; config.log[]
+source AC_CONFIG_FILES([f.in])|write f.in.in @X@|write f.in old|run configure|read f.in => 0 [config.status: creating f.in^J]; f.in[@X@]
+source AC_CONFIG_FILES([f.in:f.in])|write f.in @X@|run configure|read f.in => 2 err[acrun: put 2^J]; f.in[@X@]
+source AC_CONFIG_FILES([f g.in:f.in h:g.in])|write f.in 1|write g.in 2|run configure|read g.in => \
+2 [config.status: creating f^J] err[acrun: put 3^J]; g.in[2]
+source AC_CONFIG_FILES([configure.ac:f.in])|write f.in 1|run configure => 2 err[acrun: put 2^J]
+source AC_CONFIG_FILES([c:f.in])|write f.in 1|run configure,--cache-file=c|read c => 2 err[acrun: put 3^J]; c[# config.cache of configure^J]
+source AC_CONFIG_FILES([f])|write f.in 1|run configure,--cache-file=config.log|list => 2 err[acrun: put 1^J]; here config.log configure.ac f.in
+// It is refused too if outputs are made again.
+source AC_CONFIG_FILES([f config.log:f.in])|write f.in 1|run configure,-q,-n|run status|read f|read config.log => \
+0; 2 [config.status: creating f^J] err[acrun: put 2^J]; f[1]; config.log[]
+source AC_CONFIG_FILES([config.status:f.in])|write f.in 1|run configure,-q,-n|run status => 0; 2 err[acrun: put 1^J]
+source AC_CONFIG_FILES([f.in:f.in])|write f.in 1|run configure,-q,-n|run status|read f.in => 0; 2 err[acrun: put 1^J]; f.in[1]
+// A source or a cache that is too large is a fault, however large it is.
+sized configure.ac|run configure => 2 err[acrun: parse 1.5^J]
+source a=1|sized c|run configure,--cache-file=c|remove c|list => 2 err[acrun: cache 3^J]; here configure.ac
 // standard output
 source AC_MSG_NOTICE([n])^JAC_MSG_WARN([w])^JAC_CONFIG_FILES([f])|write f.in 1|full|run configure|read f|read config.log|list => \
 2 err[configure: WARNING: w^Jacrun: file standard output^J]; f[1]; config.log[configure: n^Jconfigure: WARNING: w^J]; \

@@ -3,14 +3,14 @@
 //! The steps of a row have bars between them. Each is a verb, a blank and words.
 //!
 //! - `source` writes a configure.ac with these lines between AC_INIT and AC_OUTPUT, `write` a file: its name, a blank and its text.
-//!   `link` makes a symbolic link: its name, a blank and what it names. `directory` makes a directory, `remove` removes a file, and
-//!   `in` goes to a directory. They put `!` if they fail, and nothing otherwise.
+//!   `link` makes a symbolic link: its name, a blank and what it names. `directory` makes a directory, `remove` removes a file, `sized`
+//!   makes a file of 64 MiB and one byte, and `in` goes to a directory. They put `!` if they fail, and nothing otherwise.
 //! - `env` and `replies` say what the commands after them are given, `children` that their children are real, and `full` that nothing
 //!   can be written to their standard output.
 //! - `run` puts the status and the streams of a command, `read` the name and the text of a file, and `list` the names in the directory.
 
 use crate::calls::{Given, NOTHING, put_run};
-use std::fs::DirEntry;
+use std::fs::{DirEntry, File};
 use std::os::unix::fs::symlink;
 use std::{env, fs, io, str};
 use testrows::{Call, Page, cut};
@@ -26,6 +26,7 @@ enum Change {
     Directory,
     Remove,
     In,
+    Sized,
 }
 
 /// Writes a configure.ac with these lines.
@@ -44,6 +45,7 @@ fn change_named(rt: &HostRuntime, change: Change, name: &str, text: &[u8]) -> io
         Change::Directory => fs::create_dir(rt, name),
         Change::Remove => fs::remove_file(rt, name),
         Change::In => env::set_current_dir(rt, name),
+        Change::Sized => File::create(rt, name)?.set_len(67_108_865),
         _ => fs::write(rt, name, text),
     }
 }
@@ -146,7 +148,8 @@ enum Verb {
 
 /// The verbs.
 #[rattlefmt::skip]
-const VERBS: [(&[u8], Verb); 13] = [
+const VERBS: [(&[u8], Verb); 14] = [
+    (b"sized", Verb::Change(Change::Sized)),
     (b"source", Verb::Change(Change::Source)), (b"write", Verb::Change(Change::Write)), (b"link", Verb::Change(Change::Link)),
     (b"directory", Verb::Change(Change::Directory)), (b"remove", Verb::Change(Change::Remove)), (b"in", Verb::Change(Change::In)),
     (b"run", Verb::Answer(Answer::Run)), (b"read", Verb::Answer(Answer::Read)), (b"list", Verb::Answer(Answer::List)),

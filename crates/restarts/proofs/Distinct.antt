@@ -17,7 +17,7 @@ use Rattle.meaning.specs.State.{Run, Ends, Asks, opened}
 use Rattle.options.specs.Opening.{with_variable, set_by, with_unslashed, with_marks, finished}
 use Rattle.resuming.specs.Finished.{finish}
 use Rattle.resuming.specs.Plays.{played}
-use Rattle.resuming.proofs.Plays.{same_end}
+use Rattle.laws.proofs.Plays.{same_end}
 use Rattle.syntax.specs.Script.{Script}
 
 pub fold_distinct : (es base : Entries) → HasDistinctNames base → HasDistinctNames (fold with_variable base es)

@@ -24,7 +24,7 @@ use Rattle.meaning.specs.State.{opened}
 use Rattle.options.specs.Opening.{opening, set_by}
 use Rattle.options.specs.Precious.{checked}
 use Rattle.resuming.specs.Poured.{poured}
-use Rattle.resuming.proofs.Plays.{same_end, whole_enough}
+use Rattle.laws.proofs.Plays.{same_end, whole_enough}
 use Rattle.resuming.proofs.Whole.{script_part}
 use Rattle.syntax.specs.Lists.{lists_of}
 use Rattle.syntax.specs.Script.{Script}

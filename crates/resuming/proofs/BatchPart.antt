@@ -16,7 +16,7 @@ use Rattle.syntax.specs.TestNames.{entry_name}
 use Rattle.meaning.specs.State.{State, How, Goes_on, Completed, Stopped, Cut, Run}
 use Rattle.meaning.specs.Asking.{success}
 use Rattle.meaning.specs.Batches.{Batch, asking, jobs_in, yes_or_no, batched}
-use Rattle.laws.specs.Batched.{lacks_compiler, answer_to, value_by, all_set}
+use Rattle.laws.specs.Batched.{lacks_compiler, answer_to, value_by, all_set, defs_all}
 use Rattle.laws.proofs.Values.{cases_value}
 use Rattle.laws.proofs.BatchEntries.{how_if, flag_of, refused_in}
 use Rattle.laws.proofs.BatchLemmas.{batch_stops}
@@ -25,7 +25,6 @@ use Rattle.resuming.specs.Joint.{Pair, joint_by, answer_or, joint_entries, joint
 use Rattle.resuming.proofs.Near.{IsCached, Near, Sets, leads_by, EndsAlike, Ready, Comes, IsPart}
 use Rattle.resuming.proofs.Names.{among_either, cached_apart, cc_plain}
 use Rattle.resuming.proofs.Parts.{sets_none}
-use Rattle.resuming.proofs.BatchDefinitions.{defs_all}
 use Rattle.resuming.proofs.Batched.{ReadsBatch, DoneWith, Cached, names_in, AllThere, with_replies, batch_enough, enough_asks, batch_like, cached_run, defs_same, names_cached, among_or_not, other_name, unset_asks, answered_well, answer_value, joint_length, joint_answer, joint_ok}
 
 -- A batch that continued.

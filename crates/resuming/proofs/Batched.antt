@@ -22,16 +22,15 @@ use Rattle.meaning.specs.Batches.{Batch, is_known, job_for, asking, jobs_in, ask
 use Rattle.meaning.specs.Play.{first_refused, refused_here}
 use Rattle.laws.specs.Ends.{AtEnds}
 use Rattle.laws.specs.Cached.{StandsOnce, KeepsOnce}
-use Rattle.laws.specs.Batched.{lacks_compiler, answer_to, value_by, cut_by, IsEntry}
+use Rattle.laws.specs.Batched.{lacks_compiler, answer_to, value_by, entry_defs, defs_all, cut_by, all_set, IsEntry}
 use Rattle.laws.proofs.Values.{same_text, same_self, cond_true, cond_false, once_with}
-use Rattle.laws.proofs.BatchEntries.{row_at, how_if, flag_of, refused_in, one_set, or_false}
-use Rattle.laws.proofs.BatchLemmas.{batch_commits, batch_asks_unset}
+use Rattle.laws.proofs.BatchEntries.{row_at, how_if, flag_of, refused_in, or_false}
+use Rattle.laws.proofs.BatchLemmas.{batch_commits, batch_asks_unset, batch_keeps_set}
 use Rattle.resuming.specs.Finished.{Finished, finish, with_taken, Enough}
 use Rattle.resuming.specs.Joint.{answer_or, joint_entries}
 use Rattle.resuming.proofs.Near.{IsCached, Alike, Every, Like}
 use Rattle.resuming.proofs.Names.{same_or_not, entry_cached}
 use Rattle.resuming.proofs.Liking.{like_then, cached_like, heard_like, child_alike, variable_alike, after_alike, entry_same, row_same}
-use Rattle.resuming.proofs.BatchDefinitions.{entry_defs, defs_all, batch_defines}
 
 -- ---- batches in states that are alike
 
@@ -149,10 +148,6 @@ cut_is : (rs : List Reply) → cut_by (first_refused rs) ≡ how_if (refused_in 
 cut_is [] = refl
 cut_is (r ∷ rs) = cut_first (success r) rs (cut_is rs)
 
-how_goes : (b : Bool) → (how_if b ≡ Goes_on) ⊎ (how_if b ≡ Cut)
-how_goes true = inr refl
-how_goes false = inl refl
-
 pub with_replies : (batch : Batch) (st : State) (rs : List Reply) → lacks_compiler st ≡ false → length (jobs_in (asking batch 1 [] batch.entries st)) ≤ length rs
     → DoneWith batch st (take (length (jobs_in (asking batch 1 [] batch.entries st))) rs) (drop (length (jobs_in (asking batch 1 [] batch.entries st))) rs) (finish (batched batch st) rs)
 with_replies batch st rs c h =
@@ -168,8 +163,7 @@ with_replies batch st rs c h =
       end = go.now;
       is = is;
       value = go.value;
-      defined = subst (λ (x : State). x.defs ≡ defs_all batch.listed batch.entries (value_of x.vars) st.defs) (ap (λ (f : Finished). f.state) is)
-          (batch_defines batch st rs (how_if (refused_in t)) (ap (λ (f : Finished). f.how) is) (how_goes (refused_in t)));
+      defined = go.defs;
     }
 
 enough_all : (js : List Job) (next : List Reply → Run) (rs : List Reply) → length js ≤ length rs → Enough (next (take (length js) rs)) (drop (length js) rs) → Enough (asks_all js next) rs
@@ -201,51 +195,19 @@ AllOf batch entries st = (n : List ℕ) → Among n (map (entry_name batch.liste
 abbrev pub AllThere : Batch → State → Type 0
 AllThere batch st = AllOf batch batch.entries st
 
-record Quiet (now : State) (run : Run) : Type 0 where
-  end : State
-  is : run ≡ Ends Goes_on end
-  vars : end.vars ≡ now.vars
-
-cached_batch : (batch : Batch) (entries : List (List ℕ)) (place : ℕ) (earlier : List (List ℕ)) (first now : State) (replies : List Reply) → AllOf batch entries first → now.vars ≡ first.vars → Quiet now (committed batch first (asking batch place earlier entries first) replies false now)
-cached_batch batch [] place earlier first now replies all same = record { end = now; is = refl; vars = refl }
-cached_batch batch (entry ∷ more) place earlier first now replies all same =
-    let name = entry_name batch.listed entry in
-    let job = job_for batch place earlier entry first in
-    let tail = asking batch (suc place) (name ∷ earlier) more first in
-    let here = all name (inl refl) in
-    let one = one_set batch entry job (only_reply replies) first now here.0 (ap (λ l. value_of l name) same ∙ here.1) in
-    let later = cached_batch batch more (suc place) (name ∷ earlier) first one.end (replies_after job replies) (λ n a. all n (inr a)) (one.after ∙ same) in
-    record {
-      end = later.end;
-      is = ap (λ run. commits run false (committed batch first tail (replies_after job replies))) one.is ∙ later.is;
-      vars = later.vars ∙ one.after;
-    }
-
 job_true : (batch : Batch) (entry : List ℕ) (place : ℕ) (earlier : List (List ℕ)) (st : State) → is_known (entry_name batch.listed entry) earlier st ≡ true → job_for batch place earlier entry st ≡ None
 job_true batch entry place earlier st t = cond_true (is_known (entry_name batch.listed entry) earlier st) None (entry_job batch.listed entry batch.includes place st) t
 
-nothing_asked : (batch : Batch) (entries : List (List ℕ)) (place : ℕ) (earlier : List (List ℕ)) (st : State) → AllOf batch entries st → jobs_in (asking batch place earlier entries st) ≡ []
-nothing_asked batch [] place earlier st all = refl
-nothing_asked batch (entry ∷ more) place earlier st all =
-    let name = entry_name batch.listed entry in
-    let here = all name (inl refl) in
-    ap (λ j. jobs_in ((entry, j) ∷ asking batch (suc place) (name ∷ earlier) more st)) (job_true batch entry place earlier st (ap (λ o. is_some o || list_any (bytes_eq name) earlier) here.1))
-    ∙ nothing_asked batch more (suc place) (name ∷ earlier) st (λ n a. all n (inr a))
+all_set_of : (batch : Batch) (entries : List (List ℕ)) (st : State) → AllOf batch entries st → all_set batch entries st ≡ true
+all_set_of batch [] st all = refl
+all_set_of batch (entry ∷ more) st all =
+    let here = all (entry_name batch.listed entry) (inl refl) in
+    ap (λ o. cond (is_some o) (all_set batch more st) false) here.1 ∙ all_set_of batch more st (λ n a. all n (inr a))
 
 pub cached_run : (batch : Batch) (st : State) → AllThere batch st → Cached batch st (batched batch st)
 cached_run batch st all =
-    let a = asking batch 1 [] batch.entries st in
-    let go = cached_batch batch batch.entries 1 [] st st [] all refl in
-    let is : batched batch st ≡ Ends Goes_on go.end = ap (λ jobs. asks_all jobs (λ replies. committed batch st a replies false st)) (nothing_asked batch batch.entries 1 [] st all) ∙ go.is in
-    let ended : finish (batched batch st) [] ≡ record { how = Goes_on; state = go.end; taken = []; left = [] } = ap (λ r. finish r []) is in
-    let defined : go.end.defs ≡ defs_all batch.listed batch.entries (value_of go.end.vars) st.defs =
-    subst (λ (x : State). x.defs ≡ defs_all batch.listed batch.entries (value_of x.vars) st.defs) (ap (λ (f : Finished). f.state) ended) (batch_defines batch st [] Goes_on (ap (λ (f : Finished). f.how) ended) (inl refl)) in
-    record {
-      end = go.end;
-      is = is;
-      vars = go.vars;
-      defined = defined ∙ ap (λ l. defs_all batch.listed batch.entries (value_of l) st.defs) go.vars;
-    }
+    let go = batch_keeps_set batch st (all_set_of batch batch.entries st all) in
+    record { end = go.now; is = go.is; vars = go.vars; defined = go.defs }
 
 -- The definitions are those of the values.
 pub defs_same : (listed : Listed) (entries : List (List ℕ)) (v w : List ℕ → Option (List ℕ)) (d : List (List ℕ × List ℕ)) → ((n : List ℕ) → Among n (map (entry_name listed) entries) → v n ≡ w n) → defs_all listed entries v d ≡ defs_all listed entries w d

@@ -7,7 +7,6 @@ mod Forms
 mod Parts
 mod Single
 mod Programs
-mod BatchDefinitions
 mod Batched
 mod BatchPart
 mod Statements
@@ -16,7 +15,5 @@ pub mod Whole
 mod Unasked
 mod Counter
 mod Example
-pub mod Plays
-mod Refusals
 mod WholeRuns
 mod Pouring

@@ -13,7 +13,7 @@ use Rattle.resuming.specs.Plays.{played}
 use Rattle.resuming.specs.Poured.{poured}
 use Rattle.resuming.specs.Opening.{HadCached, CachePours}
 use Rattle.resuming.proofs.Names.{saved_or_not}
-use Rattle.resuming.proofs.Plays.{same_end, whole_enough}
+use Rattle.laws.proofs.Plays.{same_end, whole_enough}
 use Rattle.resuming.proofs.Whole.{script_part}
 
 abbrev Variables : Type 0

@@ -1,6 +1,6 @@
 -- Runs that continue.
 use Rattle.std.proofs.Common.{◌≡◌, ℕ, ◌≤◌, List, ◌++◌, length, take, drop, refl, sym, ap, ◌∙◌, append_assoc, subst, arith, length-append}
-use Rattle.std.proofs.lemmas.List.{length-take-le, take-append-drop}
+use Rattle.std.proofs.lemmas.List.{length-take-le}
 use Rattle.std.proofs.Math.Seq.{take-append_seam, drop-append_seam}
 use Rattle.crew_trait.specs.declared.reply.Reply.{Reply}
 use Rattle.meaning.specs.State.{State, How, Goes_on, Completed, Stopped, Cut, Run, Ends, Asks, then_run}
@@ -53,13 +53,6 @@ finish_again (Asks jobs next) rs more h =
     ∙ ap (λ x. with_taken x (finish (next x) (drop (length jobs) (r ++ (g.taken ++ more))))) (take_front (length jobs) rs g.taken more h.0)
     ∙ ap (λ x. with_taken r (finish (next r) x)) (drop_front (length jobs) rs g.taken more h.0)
     ∙ ap (with_taken r) (finish_again (next r) (drop (length jobs) rs) more h.1)
-
--- The replies that it took, and those that it left, are all.
-pub taken_left : (run : Run) (rs : List Reply) → (finish run rs).taken ++ (finish run rs).left ≡ rs
-taken_left (Ends how st) rs = refl
-taken_left (Asks jobs next) rs =
-    let f = finish (next (take (length jobs) rs)) (drop (length jobs) rs) in
-    append_assoc (take (length jobs) rs) f.taken f.left ∙ ap (λ l. take (length jobs) rs ++ l) (taken_left (next (take (length jobs) rs)) (drop (length jobs) rs)) ∙ take-append-drop (length jobs) rs
 
 -- There are enough of them, too.
 pub enough_again : (run : Run) (rs more : List Reply) → Enough run rs → Enough run ((finish run rs).taken ++ more)

@@ -7,8 +7,8 @@ use Rattle.resuming.specs.Poured.{poured}
 use Rattle.resuming.specs.Joint.{joint, joint_replies}
 use Rattle.resuming.specs.Plays.{WholeRunsResume}
 use Rattle.resuming.proofs.Whole.{resumes}
-use Rattle.resuming.proofs.Plays.{same_end, enough_of, none_left, as_many}
-use Rattle.resuming.proofs.Refusals.{cuts_at_refusals}
+use Rattle.laws.proofs.Plays.{same_end, enough_of, none_left, as_many}
+use Rattle.laws.proofs.Refusals.{cuts_at_refusals}
 
 pub whole_runs_resume : WholeRunsResume
 whole_runs_resume script before second replies again h =

@@ -1,5 +1,5 @@
 -- The law for whole runs, as they are played: a whole run that is cut has a line about it at its end.
-use Rattle.std.specs.Prelude.{◌≡◌, ℕ, List, [], None, length}
+use Rattle.std.specs.Prelude.{◌≡◌, ℕ, List, [], None}
 use Rattle.crew_trait.specs.declared.reply.Reply.{Reply}
 use Rattle.deftable.specs.Table.{value_of}
 use Rattle.syntax.specs.Commands.{HasCommands}
@@ -7,20 +7,12 @@ use Rattle.syntax.specs.Resumable.{IsResumable}
 use Rattle.syntax.specs.Script.{Script}
 use Rattle.syntax.specs.TestNames.{HasTestNames}
 use Rattle.meaning.specs.State.{State, Cut}
-use Rattle.meaning.specs.Meaning.{meaning}
-use Rattle.meaning.specs.Play.{Played, play, all_jobs, whole, first_refused}
+use Rattle.meaning.specs.Play.{Played, first_refused}
+pub use Rattle.laws.specs.Refusals.{played, HasReplies}
 use Rattle.resuming.specs.Poured.{Poured}
 use Rattle.resuming.specs.Alone.{Alone}
 use Rattle.resuming.specs.Joint.{joint, joint_replies}
 use Rattle.resuming.specs.Same.{SameAgain}
-
--- A source as a whole run, played with these replies. (own)
-abbrev pub played : Script → State → List Reply → Played
-played script st replies = play (whole (meaning script st)) replies
-
--- There are as many replies as jobs. (own)
-abbrev pub HasReplies : Played → List Reply → Type 0
-HasReplies p replies = length replies ≡ length (all_jobs p.groups)
 
 -- A whole run was cut, and its cache was saved. A second one that begins with the saved values is not cut. The source can be
 -- resumed, and has the form that the parser gives it. (own)

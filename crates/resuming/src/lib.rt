@@ -1,11 +1,11 @@
 //! Laws of runs that are cut and started again.
 //!
 //! There is no code here. Each function does nothing, and its contract is a theorem on the definitions of `meaning`. Read
-//! `specs/Finished.antt` (a run under given replies), `specs/Poured.antt` (with what a second run begins),
+//! `Finished` in `laws` (a run under given replies), `specs/Poured.antt` (with what a second run begins),
 //! `specs/Joint.antt` (the joint replies of a run that was cut and of a second one), `specs/Alone.antt` and
 //! `specs/Same.antt` (what is asked of tests that may leave their names unset), and then `specs/Law.antt`.
 //! `specs/Plays.antt` has the same law for whole runs. `specs/Opening.antt` is about the cache text that leads from the first
-//! to the second, `specs/Asked.antt` about the tests that a run makes, and `specs/Refusals.antt` about the replies that cut it.
+//! to the second, and `specs/Asked.antt` about the tests that a run makes. Which replies cut a run is a law of `laws`.
 //!
 //! For example, say that a source checks the header `a.h` and then the function `f`, and that the first child answers and
 //! the second can't be started. The cache then has `ac_cv_header_a_h`. A second run that begins with it, and whose first

@@ -15,6 +15,6 @@ mod telling;
 
 pub use filtering::{FilterFault, Filtered, filter};
 pub use framing::Fault;
-pub use invocation::{environment, may_show_progress, words};
+pub use invocation::{LOG, environment, may_show_progress, words};
 pub use program::{command, run};
 pub use telling::tell;

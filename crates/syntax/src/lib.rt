@@ -8,7 +8,8 @@
 //! Contracts see a list of statements as its first statement and what follows: `specs/Script.antt`. `specs/Lists.antt`
 //! says which lists statements declare, also in cases that a run does not take. `specs/Commands.antt` says what the
 //! commands of AC_CACHE_CHECK hold, `specs/Resumable.antt` which sources can be cut and started again, and
-//! `specs/TestNames.antt` the names under which tests are cached. `resumable` has a law that the crates above use.
+//! `specs/TestNames.antt` the names under which tests are cached, which `test_names` makes. `resumable` has a law that the crates
+//! above use.
 //!
 //! `AS_IF([test x = y], [a=1], [a=2])` is a `Choose` of two cases: one decided by the test, and one that is always
 //! taken.
@@ -24,6 +25,7 @@ pub mod program;
 pub mod resumable;
 pub mod source;
 pub mod statement;
+pub mod test_names;
 pub mod tree;
 
 pub use declarations::{Declarations, Stage};

@@ -1,7 +1,9 @@
-//! A whole source: its statements and its lists.
+//! A whole source: its statements, its lists, and whether it can be resumed.
 
-ghost use Rattle.std.specs.Prelude.{◌≡◌};
+ghost use Rattle.std.specs.Prelude.{◌≡◌, ◌↔◌, true};
+ghost use Rattle.syntax.specs.Decide as decide;
 ghost use Rattle.syntax.specs.Lists.{lists_of};
+ghost use Rattle.syntax.specs.Resumable.{IsResumable};
 ghost use Rattle.syntax.specs.Script.{script_of};
 
 use crate::declarations::Declarations;
@@ -15,6 +17,7 @@ use std::marker::Model;
 pub struct Source {
     statements: Vec<Stmt>,
     lists: Declarations,
+    resumes: bool,
 }
 
 impl Drop for Source {
@@ -22,6 +25,7 @@ impl Drop for Source {
         let Source {
             statements: _statements,
             lists: _lists,
+            resumes: _resumes,
         } = self;
     }
 }
@@ -31,6 +35,7 @@ impl Model for Source {
     ghost use Rattle.std.specs.Coded.{codes};
     ghost use Rattle.syntax.specs.contracts.tree.Stmt as stmt;
     ghost use Rattle.syntax.specs.declared.tree.Stmt.{Stmt};
+    ghost use Rattle.syntax.specs.Decide as decide;
     ghost use Rattle.syntax.specs.Lists.{lists_of};
     ghost use Rattle.syntax.specs.Script.{script_of};
 
@@ -40,16 +45,21 @@ impl Model for Source {
 
     ghost view = { λ s. s.statements.items };
 
-    ghost invariant = { λ s. s.lists ≡ lists_of (script_of s.statements.items) };
+    ghost invariant = { λ s. (s.lists ≡ lists_of (script_of s.statements.items)) × (s.resumes ≡ decide.is_resumable (script_of s.statements.items)) };
 }
 
 impl Source {
-    /// Makes a source from its statements and the lists that they declare.
-    pub fn new(statements: Vec<Stmt>, lists: Declarations) -> Source
-        requires { lists ≡ lists_of (script_of statements.items) }
+    /// Makes a source from its statements, the lists that they declare, and whether it can be resumed.
+    pub fn new(statements: Vec<Stmt>, lists: Declarations, resumes: bool) -> Source
+        requires declared { lists ≡ lists_of (script_of statements.items) }
+        requires decided { resumes ≡ decide.is_resumable (script_of statements.items) }
         ensures { result ≡ statements.items }
     {
-        Source { statements, lists }
+        Source {
+            statements,
+            lists,
+            resumes,
+        }
     }
 
     /// Returns the statements of the file's own list, in order.
@@ -57,6 +67,15 @@ impl Source {
         ensures { result.now ≡ self.now }
     {
         self.statements.as_slice()
+    }
+
+    /// Returns whether the source can be resumed: if a run is cut, and is started again with the cache that it saved, it
+    /// ends as an uncut run does.
+    pub fn is_resumable(&self) -> bool
+        ensures rules { (result ≡ true) ↔ IsResumable (script_of self.now) }
+        ensures exact { result ≡ decide.is_resumable (script_of self.now) }
+    {
+        self.resumes
     }
 
     /// Returns the output variables of AC_SUBST, AC_ARG_VAR, AC_CHECK_PROG, AC_CHECK_PROGS, AC_PATH_PROG and

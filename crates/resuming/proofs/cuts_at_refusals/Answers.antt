@@ -1,4 +1,4 @@
-use Rattle.resuming.proofs.Refusals as lemmas
+use Rattle.laws.proofs.Refusals as lemmas
 use Rattle.resuming.proofs.cuts_at_refusals.Goals as goal
 
 pub returns : goal.returns

@@ -2,7 +2,7 @@
 use Rattle.std.proofs.Common.{◌≡◌, ℕ, suc, Option, Some, None, List, [], ◌∷◌, ◌++◌, length, take, drop, Bool, true, false, cond, refl, sym, ap, ◌∙◌, subst, ⊎_elim}
 use Rattle.std.specs.Prelude.{◌||◌, not, option_map}
 use Rattle.std.proofs.lemmas.Bool.{cases_Bool}
-use Rattle.std.proofs.lemmas.List.{length-take-le, append-nil}
+use Rattle.std.proofs.lemmas.List.{length-take-le}
 use Rattle.jobs.specs.declared.job.Job.{Job}
 use Rattle.jobs.specs.Probe.{run_of, job_of}
 use Rattle.crew_trait.specs.declared.reply.Reply.{Reply}
@@ -32,11 +32,9 @@ use Rattle.meaning.specs.Play.{first_refused, refused_here}
 use Rattle.laws.specs.Batched.{lacks_compiler, cut_by, all_set}
 use Rattle.laws.proofs.BatchEntries.{flag_of, refused_in, or_right}
 use Rattle.laws.proofs.BatchLemmas.{batch_commits, batch_stops}
-use Rattle.resuming.specs.Finished.{finish, Enough}
-use Rattle.resuming.specs.Plays.{played}
-use Rattle.resuming.specs.Refusals.{CutsAtRefusals}
-use Rattle.resuming.proofs.Runs.{taken_left}
-use Rattle.resuming.proofs.Plays.{whole_how, whole_enough, whole_left}
+use Rattle.laws.specs.Finished.{finish, Enough}
+use Rattle.laws.specs.Refusals.{played, CutsAtRefusals, CutsAreTold}
+use Rattle.laws.proofs.Plays.{whole_how, whole_enough, whole_taken, with_line, whole_line}
 
 -- Each end tells whether a reply was refused, here or before.
 abbrev Tells : Bool → Run → Type 0
@@ -270,9 +268,25 @@ pub cuts_at_refusals : CutsAtRefusals
 cuts_at_refusals script st replies e =
     let f = finish (meaning script st) replies in
     let how : (played script st replies).how ≡ f.how = whole_how (meaning script st) replies in
-    let all : f.taken ≡ replies = sym (append-nil f.taken) ∙ ap (λ l. f.taken ++ l) (sym (whole_left (meaning script st) replies e)) ∙ taken_left (meaning script st) replies in
-    let told : refused_in replies ≡ is_cut f.how = ap refused_in (sym all) ∙ tells_all false (meaning script st) replies (meaning_tells script st) (whole_enough (meaning script st) replies e) in
+    let told : refused_in replies ≡ is_cut f.how = ap refused_in (sym (whole_taken (meaning script st) replies e)) ∙ tells_all false (meaning script st) replies (meaning_tells script st) (whole_enough (meaning script st) replies e) in
     record {
       cut = λ c. number_there replies (told ∙ ap is_cut (sym how ∙ c));
       uncut = λ u. no_number replies (told ∙ cut_or_not f.how (λ c. u (how ∙ c)));
+    }
+
+no_line : (how : How) (o : Option ℕ) (st : State) → (how ≡ Cut → ⊥) → (with_line how o st).messages ≡ st.messages
+no_line Goes_on o st u = refl
+no_line Completed o st u = refl
+no_line (Stopped s) o st u = refl
+no_line Cut o st u = absurd (u refl)
+
+pub cuts_are_told : CutsAreTold
+cuts_are_told script st replies e =
+    let run = meaning script st in
+    let f = finish run replies in
+    let how : (played script st replies).how ≡ f.how = whole_how run replies in
+    let line : (played script st replies).state.messages ≡ (with_line f.how (first_refused replies) f.state).messages = ap (λ (s : State). s.messages) (whole_line run replies e) in
+    record {
+      cut = λ number c is. line ∙ ap (λ h. (with_line h (first_refused replies) f.state).messages) (sym how ∙ c) ∙ ap (λ o. (with_line Cut o f.state).messages) is;
+      uncut = λ u. line ∙ no_line f.how (first_refused replies) f.state (λ c. u (how ∙ c));
     }

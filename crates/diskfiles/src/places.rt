@@ -1,0 +1,52 @@
+//! Where files are: which names are names of one file.
+
+use crate::names::{file_name, front_of, last_of};
+use deftable::Bytes;
+use std::alloc::{AllocError, Global};
+use std::fs;
+use std::os::unix::fs::MetadataExt;
+use std::rt::Files;
+
+/// The place of a file: its directory, by device and number, and the last part of its name. Two names are of one place exactly
+/// if their directories are one, and their last parts are equal.
+#[derive(Drop)]
+pub(crate) struct Place {
+    device: u64,
+    directory: u64,
+    name: Bytes,
+}
+
+/// Returns the place of a name, or `None` if there is no such directory. Fails only if memory runs out.
+pub(crate) fn place_of<F: Files>(
+    alloc: Global,
+    files: &F,
+    name: &str,
+) -> Result<Option<Place>, AllocError> {
+    let front = front_of(name);
+    let directory = if front.is_empty() { "." } else { front };
+    match fs::metadata(files, directory) {
+        Ok(found) => {
+            let name = Bytes::from_slice(alloc, last_of(name).as_bytes())?;
+            Ok(Some(Place {
+                device: found.dev(),
+                directory: found.ino(),
+                name,
+            }))
+        }
+        Err(_) => Ok(None),
+    }
+}
+
+impl Place {
+    /// Returns whether two places are one.
+    fn is(&self, other: &Place) -> bool {
+        self.directory == other.directory
+            && self.device == other.device
+            && self.name.as_slice() == other.name.as_slice()
+    }
+}
+
+/// Returns whether the place is one of these.
+pub(crate) fn is_among(place: &Place, places: &[Place]) -> bool {
+    places.iter().any(|other| place.is(other))
+}

@@ -1,0 +1,4 @@
+pub mod NameLists
+pub mod Reading
+pub mod Same
+pub mod Steps

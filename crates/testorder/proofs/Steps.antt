@@ -1,0 +1,129 @@
+-- The steps of the loops over statements and cases, and of a choice.
+use Rattle.std.proofs.Common.{◌≡◌, ℕ, ◌+◌, ◌<◌, List, [], ◌∷◌, ◌++◌, Bool, true, false, ◌||◌, Option, Some, Result, Ok, Err, Vec, Global, refl, sym, ap, ◌∙◌, length, take, drop, get_or}
+use Rattle.std.specs.Prelude.{◌&&◌, IfOk, bytes_eq}
+use Rattle.std.specs.declared.alloc.AllocError.{AllocError}
+use Rattle.std.proofs.lemmas.List.{drop_more}
+use Rattle.deftable.specs.NameList.{has_name}
+use Rattle.shellword.specs.declared.part.Part.{Part}
+use Rattle.syntax.specs.declared.tree.Case as case
+use Rattle.syntax.specs.declared.tree.Stmt.{Stmt, Choose, CacheCheck}
+use Rattle.syntax.specs.declared.tree.Subject.{Subject}
+use Rattle.syntax.specs.declared.statement.Plain as plain
+use Rattle.syntax.specs.Decide.{reads_text, reads_when, resumable, resumable_in, resumable_plain}
+use Rattle.syntax.specs.Resumable.{first_alone, tests_of}
+use Rattle.syntax.specs.Script.{Script, Choice, Check, Cases, stmt_then, script_of, cases_of}
+use Rattle.syntax.proofs.ScriptLemmas.{choice_is, check_is}
+use Rattle.testorder.specs.Tested.{HasSameNames}
+use Rattle.testorder.proofs.NameLists.{has_joined}
+use Rattle.testorder.proofs.Same.{script_same, cases_same}
+
+-- What is found of a statement, whatever follows it.
+abbrev pub Found : Option (List ℕ) → List (List ℕ) → List (List ℕ) → (Script → Script) → Bool → Type 0
+Found own old new whole b = (rest : Script) → resumable own old (whole rest) ≡ b && resumable own new rest
+
+pub choice_found : (own : Option (List ℕ)) (old new : List (List ℕ)) (r : Result Bool AllocError) (s : Stmt) (subject : Subject) (cases : Vec case.Case Global) (seen : List case.Case)
+    → s ≡ Choose subject cases → seen ≡ cases.items → IfOk r (Found own old new (Choice subject (cases_of seen))) → IfOk r (Found own old new (stmt_then s))
+choice_found own old new (Ok b) s subject cases seen is same h =
+    λ rest. ap (resumable own old) (ap (λ x. stmt_then x rest) is ∙ choice_is subject cases rest ∙ ap (λ l. Choice subject (cases_of l) rest) (sym same)) ∙ h rest
+choice_found own old new (Err e) s subject cases seen is same h = h
+
+pub check_found : (own : Option (List ℕ)) (old new : List (List ℕ)) (r : Result Bool AllocError) (s : Stmt) (message : List Part) (name : List ℕ) (commands : Vec Stmt Global) (called : List ℕ) (seen : List Stmt)
+    → s ≡ CacheCheck message name commands → called ≡ name → seen ≡ commands.items → IfOk r (Found own old new (Check message called (script_of seen))) → IfOk r (Found own old new (stmt_then s))
+check_found own old new (Ok b) s message name commands called seen is names same h =
+    λ rest. ap (resumable own old) (ap (λ x. stmt_then x rest) is ∙ check_is message name commands rest ∙ ap (λ l. Check message name (script_of l) rest) (sym same) ∙ ap (λ n. Check message n (script_of seen) rest) (sym names)) ∙ h rest
+check_found own old new (Err e) s message name commands called seen is names same h = h
+
+-- ---- lists
+
+at_rest : (list : List Stmt) (i : ℕ) (s : Stmt) → i < length list → s ≡ get_or list i s → script_of (drop i list) ≡ stmt_then s (script_of (drop (i + 1) list))
+at_rest list i s lt is = ap script_of (drop_more list i s lt) ∙ ap (λ x. stmt_then x (script_of (drop (i + 1) list))) (sym is)
+
+pub all_on : (own : Option (List ℕ)) (start : Bool) (old new : List (List ℕ)) (list : List Stmt) (i : ℕ) (s : Stmt) (b : Bool) → i < length list → s ≡ get_or list i s
+    → Found own old new (stmt_then s) b → b ≡ true → start ≡ resumable own old (script_of (drop i list)) → start ≡ resumable own new (script_of (drop (i + 1) list))
+all_on own start old new list i s b lt is found e h =
+    let rest = script_of (drop (i + 1) list) in
+    h ∙ ap (resumable own old) (at_rest list i s lt is) ∙ found rest ∙ ap (λ x. x && resumable own new rest) e
+
+pub all_no : (own : Option (List ℕ)) (start : Bool) (old new : List (List ℕ)) (list : List Stmt) (i : ℕ) (s : Stmt) (b : Bool) → i < length list → s ≡ get_or list i s
+    → Found own old new (stmt_then s) b → b ≡ false → start ≡ resumable own old (script_of (drop i list)) → false ≡ start
+all_no own start old new list i s b lt is found e h =
+    let rest = script_of (drop (i + 1) list) in
+    sym (h ∙ ap (resumable own old) (at_rest list i s lt is) ∙ found rest ∙ ap (λ x. x && resumable own new rest) e)
+
+-- What is found of a case.
+abbrev pub case_kept : Option (List ℕ) → List (List ℕ) → case.Case → Bool
+case_kept own tested k = reads_when tested k.when && resumable own tested (script_of k.body.items)
+
+and_assoc : (a b c : Bool) → a && (b && c) ≡ (a && b) && c
+and_assoc true b c = refl
+and_assoc false b c = refl
+
+at_case : (own : Option (List ℕ)) (tested : List (List ℕ)) (list : List case.Case) (i : ℕ) (k : case.Case) → i < length list → k ≡ get_or list i k
+    → resumable_in own tested (cases_of (drop i list)) ≡ case_kept own tested k && resumable_in own tested (cases_of (drop (i + 1) list))
+at_case own tested list i k lt is =
+    let more = resumable_in own tested (cases_of (drop (i + 1) list)) in
+    ap (λ l. resumable_in own tested (cases_of l)) (drop_more list i k lt)
+    ∙ and_assoc (reads_when tested (get_or list i k).when) (resumable own tested (script_of (get_or list i k).body.items)) more
+    ∙ ap (λ x. case_kept own tested x && more) (sym is)
+
+pub cases_on : (own : Option (List ℕ)) (start b : Bool) (first old : List (List ℕ)) (list : List case.Case) (i : ℕ) (k : case.Case) → i < length list → k ≡ get_or list i k
+    → old ≡ first → b ≡ case_kept own old k → b ≡ true → start ≡ resumable_in own first (cases_of (drop i list)) → start ≡ resumable_in own first (cases_of (drop (i + 1) list))
+cases_on own start b first old list i k lt is same kept e h =
+    h ∙ at_case own first list i k lt is
+    ∙ ap (λ x. x && resumable_in own first (cases_of (drop (i + 1) list))) (ap (λ t. case_kept own t k) (sym same) ∙ sym kept ∙ e)
+
+pub cases_no : (own : Option (List ℕ)) (start b : Bool) (first old : List (List ℕ)) (list : List case.Case) (i : ℕ) (k : case.Case) → i < length list → k ≡ get_or list i k
+    → old ≡ first → b ≡ case_kept own old k → b ≡ false → start ≡ resumable_in own first (cases_of (drop i list)) → false ≡ start
+cases_no own start b first old list i k lt is same kept e h =
+    sym (h ∙ at_case own first list i k lt is
+    ∙ ap (λ x. x && resumable_in own first (cases_of (drop (i + 1) list))) (ap (λ t. case_kept own t k) (sym same) ∙ sym kept ∙ e))
+
+-- ---- a choice
+
+among_all : (names old : List (List ℕ)) (q : List ℕ) → has_name names q || has_name (first_alone names ++ old) q ≡ has_name names q || has_name old q
+unfolding has_name
+among_all [] old q = refl
+among_all (x ∷ more) old q = by (bytes_eq q x) (has_name more q) (has_name old q)
+  where
+    by : (a b c : Bool) → (a || b) || (a || c) ≡ (a || b) || c
+    by true b c = refl
+    by false b c = refl
+
+-- All names are added to those in which the first was added.
+pub same_all : (names old mid new : List (List ℕ)) → HasSameNames (first_alone names ++ old) mid → HasSameNames (names ++ mid) new → HasSameNames (names ++ old) new
+same_all names old mid new h k =
+    λ q. has_joined names old q ∙ sym (among_all names old q) ∙ ap (λ b. has_name names q || b) (h q) ∙ sym (has_joined names mid q) ∙ k q
+
+same_first : (names firsts old mid : List (List ℕ)) → firsts ≡ first_alone names → HasSameNames (firsts ++ old) mid → HasSameNames (first_alone names ++ old) mid
+same_first names firsts old mid at h = λ q. ap (λ l. has_name (l ++ old) q) (sym at) ∙ h q
+
+pub asked_no : (own : Option (List ℕ)) (names firsts old mid : List (List ℕ)) (cases : Cases) (b : Bool) → firsts ≡ first_alone names → HasSameNames (firsts ++ old) mid → b ≡ resumable_in own mid cases → b ≡ false
+    → (rest : Script) → resumable_in own (first_alone names ++ old) cases && resumable own (names ++ old) rest ≡ false
+asked_no own names firsts old mid cases b at h is e rest =
+    ap (λ x. x && resumable own (names ++ old) rest) (cases_same own (first_alone names ++ old) mid (same_first names firsts old mid at h) cases ∙ sym is ∙ e)
+
+pub asked_yes : (own : Option (List ℕ)) (names firsts old mid later new : List (List ℕ)) (cases : Cases) (b : Bool) → firsts ≡ first_alone names → HasSameNames (firsts ++ old) mid → b ≡ resumable_in own mid cases → b ≡ true
+    → later ≡ mid → HasSameNames (names ++ later) new
+    → (rest : Script) → resumable_in own (first_alone names ++ old) cases && resumable own (names ++ old) rest ≡ resumable own new rest
+asked_yes own names firsts old mid later new cases b at found is e same added rest =
+    let h = same_first names firsts old mid at found in
+    ap (λ x. x && resumable own (names ++ old) rest) (cases_same own (first_alone names ++ old) mid h cases ∙ sym is ∙ e)
+    ∙ script_same own (names ++ old) new (same_all names old later new (λ q. h q ∙ ap (λ t. has_name t q) (sym same)) added) rest
+
+-- ---- a statement, and a check
+
+pub simple_yes : (own : Option (List ℕ)) (names old new : List (List ℕ)) (s : plain.Plain) (listed : List (List ℕ)) (b : Bool) → b ≡ resumable_plain own old s → b ≡ true → listed ≡ names → names ≡ tests_of s
+    → HasSameNames (listed ++ old) new
+    → (rest : Script) → resumable_plain own old s && resumable own (tests_of s ++ old) rest ≡ resumable own new rest
+simple_yes own names old new s listed b is e seen same added rest =
+    ap (λ x. x && resumable own (tests_of s ++ old) rest) (sym is ∙ e)
+    ∙ ap (λ l. resumable own (l ++ old) rest) (sym (seen ∙ same)) ∙ script_same own (listed ++ old) new added rest
+
+pub check_yes : (own : Option (List ℕ)) (old mid new : List (List ℕ)) (message parts : List Part) (name : List ℕ) (commands : Script) (b kept : Bool) → b ≡ reads_text old parts → parts ≡ message → b ≡ true
+    → kept ≡ resumable (Some name) old commands → kept ≡ true → mid ≡ old → HasSameNames (name ∷ mid) new
+    → (rest : Script) → reads_text old message && (resumable (Some name) old commands && resumable own (name ∷ old) rest) ≡ resumable own new rest
+check_yes own old mid new message parts name commands b kept is seen e holds f same added rest =
+    let more = resumable own (name ∷ old) rest in
+    ap (λ x. x && (resumable (Some name) old commands && more)) (ap (reads_text old) (sym seen) ∙ sym is ∙ e)
+    ∙ ap (λ x. x && more) (sym holds ∙ f)
+    ∙ ap (λ t. resumable own (name ∷ t) rest) (sym same) ∙ script_same own (name ∷ mid) new added rest

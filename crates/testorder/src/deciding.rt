@@ -1,0 +1,225 @@
+//! The rules for lists of statements.
+
+ghost use Rattle.std.specs.Prelude.{◌≡◌, ◌&&◌, ◌++◌, IfOk, OnOk, option_map};
+ghost use Rattle.syntax.specs.Decide as decide;
+ghost use Rattle.syntax.specs.Resumable.{first_alone};
+ghost use Rattle.syntax.specs.Script.{Script, Then, Choice, Check, cases_of, script_of, stmt_then};
+ghost use Rattle.testorder.specs.Tested.{Extends};
+
+use crate::names::{tests_at, tests_of};
+use crate::reads::{reads_text, reads_when};
+use crate::rules::{keeps_plain, keeps_subject};
+use crate::tested::Tested;
+use deftable::Bytes;
+use shellword::HereText;
+use std::alloc::{AllocError, Global};
+use syntax::{Case, Plain, Stmt, Subject};
+
+/// Returns whether the statements keep the rules, and adds what they test.
+#[cycle(list)]
+fn keeps_all(
+    alloc: Global,
+    own: Option<&[u8]>,
+    tested: &mut Tested,
+    statements: &[Stmt],
+) -> Result<bool, AllocError>
+    ensures value { IfOk result (λ b. b ≡ decide.resumable (option_map (λ x. x.now) own.entry) tested.old (script_of statements.now)) }
+    ensures grown { OnOk result (Extends tested.old tested.new) }
+{
+    for statement in statements {
+        if !keeps(alloc, own, tested, statement)? {
+            return Ok(false);
+        }
+    }
+    Ok(true)
+}
+
+/// Returns whether the statements keep the rules. What they test is forgotten.
+#[cycle(list)]
+fn keeps_apart(
+    alloc: Global,
+    own: Option<&[u8]>,
+    tested: &mut Tested,
+    statements: &[Stmt],
+) -> Result<bool, AllocError>
+    ensures value { IfOk result (λ b. b ≡ decide.resumable (option_map (λ x. x.now) own.entry) tested.old (script_of statements.now)) }
+    ensures same { OnOk result (tested.new ≡ tested.old) }
+{
+    let length = tested.len();
+    let kept = keeps_all(alloc, own, tested, statements)?;
+    tested.cut(length);
+    Ok(kept)
+}
+
+/// Returns whether a case keeps the rules.
+#[cycle(list)]
+fn keeps_case(
+    alloc: Global,
+    own: Option<&[u8]>,
+    tested: &mut Tested,
+    case: &Case,
+) -> Result<bool, AllocError>
+    ensures value { IfOk result (λ b. b ≡ decide.reads_when tested.old case.now.when && decide.resumable (option_map (λ x. x.now) own.entry) tested.old (script_of case.now.body.items)) }
+    ensures same { OnOk result (tested.new ≡ tested.old) }
+{
+    if !reads_when(tested, &case.when) {
+        return Ok(false);
+    }
+    keeps_apart(alloc, own, tested, case.body.as_slice())
+}
+
+/// Returns whether all cases keep the rules.
+#[cycle(list)]
+fn keeps_cases(
+    alloc: Global,
+    own: Option<&[u8]>,
+    tested: &mut Tested,
+    cases: &[Case],
+) -> Result<bool, AllocError>
+    ensures value { IfOk result (λ b. b ≡ decide.resumable_in (option_map (λ x. x.now) own.entry) tested.old (cases_of cases.now)) }
+    ensures same { OnOk result (tested.new ≡ tested.old) }
+{
+    for case in cases {
+        if !keeps_case(alloc, own, tested, case)? {
+            return Ok(false);
+        }
+    }
+    Ok(true)
+}
+
+/// Returns the first name alone.
+fn first_of(names: &[Bytes]) -> &[Bytes]
+    ensures { result.now ≡ first_alone names.now }
+{
+    &names[..names.len().min(1)]
+}
+
+/// Returns whether the cases of a choice keep the rules, whose subject tests these names, and adds the names.
+#[cycle(list)]
+fn keeps_asked(
+    alloc: Global,
+    own: Option<&[u8]>,
+    tested: &mut Tested,
+    names: &[Bytes],
+    cases: &[Case],
+) -> Result<bool, AllocError>
+    ensures value { IfOk result (λ b. (rest : Script)
+        → decide.resumable_in (option_map (λ x. x.now) own.entry) (first_alone names.now ++ tested.old) (cases_of cases.now) && decide.resumable (option_map (λ x. x.now) own.entry) (names.now ++ tested.old) rest
+        ≡ b && decide.resumable (option_map (λ x. x.now) own.entry) tested.new rest) }
+    ensures grown { OnOk result (Extends tested.old tested.new) }
+{
+    // In the cases the first name alone is sure to have been tested.
+    tested.add_all(alloc, first_of(names))?;
+    if !keeps_cases(alloc, own, tested, cases)? {
+        return Ok(false);
+    }
+    tested.add_all(alloc, names)?;
+    Ok(true)
+}
+
+/// Returns whether a choice keeps the rules, and adds what its subject tests.
+#[cycle(list)]
+fn keeps_choice(
+    alloc: Global,
+    own: Option<&[u8]>,
+    tested: &mut Tested,
+    subject: &Subject,
+    cases: &[Case],
+) -> Result<bool, AllocError>
+    ensures value { IfOk result (λ b. (rest : Script)
+        → decide.resumable (option_map (λ x. x.now) own.entry) tested.old (Choice subject.now (cases_of cases.now) rest)
+        ≡ b && decide.resumable (option_map (λ x. x.now) own.entry) tested.new rest) }
+    ensures grown { OnOk result (Extends tested.old tested.new) }
+{
+    if !keeps_subject(own, tested, subject) {
+        return Ok(false);
+    }
+    let names = tests_at(alloc, subject)?;
+    keeps_asked(alloc, own, tested, names.as_slice(), cases)
+}
+
+/// Returns whether AC_CACHE_CHECK keeps the rules, and adds its name.
+#[cycle(list)]
+fn keeps_check(
+    alloc: Global,
+    own: Option<&[u8]>,
+    tested: &mut Tested,
+    message: &HereText,
+    name: &[u8],
+    commands: &[Stmt],
+) -> Result<bool, AllocError>
+    ensures value { IfOk result (λ b. (rest : Script)
+        → decide.resumable (option_map (λ x. x.now) own.entry) tested.old (Check message.now name.now (script_of commands.now) rest)
+        ≡ b && decide.resumable (option_map (λ x. x.now) own.entry) tested.new rest) }
+    ensures grown { OnOk result (Extends tested.old tested.new) }
+{
+    if !reads_text(tested, message.parts()) {
+        return Ok(false);
+    }
+    if !keeps_apart(alloc, Some(name), tested, commands)? {
+        return Ok(false);
+    }
+    tested.add_one(alloc, name)?;
+    Ok(true)
+}
+
+/// Returns whether a statement with no statements in it keeps the rules, and adds what it tests.
+fn keeps_simple(
+    alloc: Global,
+    own: Option<&[u8]>,
+    tested: &mut Tested,
+    statement: &Plain,
+) -> Result<bool, AllocError>
+    ensures value { IfOk result (λ b. (rest : Script)
+        → decide.resumable (option_map (λ x. x.now) own.entry) tested.old (Then statement.now rest)
+        ≡ b && decide.resumable (option_map (λ x. x.now) own.entry) tested.new rest) }
+    ensures grown { OnOk result (Extends tested.old tested.new) }
+{
+    if !keeps_plain(own, tested, statement) {
+        return Ok(false);
+    }
+    let names = tests_of(alloc, statement)?;
+    tested.add_all(alloc, names.as_slice())?;
+    Ok(true)
+}
+
+/// Returns whether a statement keeps the rules, and adds what it tests.
+#[cycle(list)]
+fn keeps(
+    alloc: Global,
+    own: Option<&[u8]>,
+    tested: &mut Tested,
+    statement: &Stmt,
+) -> Result<bool, AllocError>
+    ensures value { IfOk result (λ b. (rest : Script)
+        → decide.resumable (option_map (λ x. x.now) own.entry) tested.old (stmt_then statement.now rest)
+        ≡ b && decide.resumable (option_map (λ x. x.now) own.entry) tested.new rest) }
+    ensures grown { OnOk result (Extends tested.old tested.new) }
+{
+    match statement {
+        Stmt::Plain(plain) => keeps_simple(alloc, own, tested, plain),
+        Stmt::Choose { subject, cases } => {
+            keeps_choice(alloc, own, tested, subject, cases.as_slice())
+        }
+        Stmt::CacheCheck {
+            message,
+            name,
+            commands,
+        } => keeps_check(
+            alloc,
+            own,
+            tested,
+            message,
+            name.as_slice(),
+            commands.as_slice(),
+        ),
+    }
+}
+
+/// Returns whether a source with these statements can be resumed. It takes time in proportion to the length of the source.
+pub fn is_resumable(alloc: Global, statements: &[Stmt]) -> Result<bool, AllocError>
+    ensures { IfOk result (λ b. b ≡ decide.is_resumable (script_of statements.now)) }
+{
+    let mut tested = Tested::new(alloc);
+    keeps_all(alloc, None, &mut tested, statements)
+}
