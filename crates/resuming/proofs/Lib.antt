@@ -1,4 +1,4 @@
-mod Near
+pub mod Near
 mod Names
 mod Runs
 mod Liking
@@ -11,7 +11,7 @@ mod Batched
 mod BatchPart
 mod Statements
 mod Rounds
-mod Whole
+pub mod Whole
 mod Unasked
 mod Counter
 mod Example

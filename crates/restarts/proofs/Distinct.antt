@@ -1,0 +1,80 @@
+-- No name has two entries in the variables, from the opening of a run to its end.
+use Rattle.std.proofs.Common.{ℕ, Bool, true, false, List, [], ◌∷◌, Option, Some, None, length, take, drop, sym, subst}
+use Rattle.std.specs.Prelude.{fold, is_some, if◌then◌else◌}
+use Rattle.cachefile.specs.Cache.{with_setting, vars_after}
+use Rattle.cachefile.specs.Line.{Setting, Sets, Defaults}
+use Rattle.cachefile.proofs.Orders.{Entries}
+use Rattle.commandline.specs.Directories.{directories, variable_of}
+use Rattle.commandline.specs.Slashes.{without_slashes}
+use Rattle.commandline.specs.declared.directory.Directory.{Directory}
+use Rattle.crew_trait.specs.declared.reply.Reply.{Reply}
+use Rattle.deftable.specs.Table.{value_of, with_entry, HasDistinctNames}
+use Rattle.deftable.proofs.Tables.{HasDistinctNames-with_entry, HasDistinctNames-without_entry, HasDistinctNames-[]}
+use Rattle.laws.specs.Ends.{AtEnds}
+use Rattle.laws.proofs.Kept.{Closed, meaning_keeps}
+use Rattle.meaning.specs.Meaning.{meaning}
+use Rattle.meaning.specs.State.{Run, Ends, Asks, opened}
+use Rattle.options.specs.Opening.{with_variable, set_by, with_unslashed, with_marks, finished}
+use Rattle.resuming.specs.Finished.{finish}
+use Rattle.resuming.specs.Plays.{played}
+use Rattle.laws.proofs.Plays.{same_end}
+use Rattle.syntax.specs.Script.{Script}
+
+pub fold_distinct : (es base : Entries) → HasDistinctNames base → HasDistinctNames (fold with_variable base es)
+fold_distinct [] base h = h
+fold_distinct (e ∷ es) base h = fold_distinct es (with_variable base e) (HasDistinctNames-with_entry base e.0 e.1 h)
+
+one_unslashed : (base : Entries) (d : Directory) → HasDistinctNames base → HasDistinctNames (with_unslashed base d)
+unfolding with_unslashed
+one_unslashed base d h = by (value_of base (variable_of d))
+  where
+    by : (o : Option (List ℕ)) → HasDistinctNames (elim o [ None ↦ base | Some value ↦ with_entry base (variable_of d) (without_slashes value) ])
+    by None = h
+    by (Some value) = HasDistinctNames-with_entry base (variable_of d) (without_slashes value) h
+
+unslashed : (ds : List Directory) (base : Entries) → HasDistinctNames base → HasDistinctNames (fold with_unslashed base ds)
+unslashed [] base h = h
+unslashed (d ∷ ds) base h = unslashed ds (with_unslashed base d) (one_unslashed base d h)
+
+one_marked : (base : Entries) (name : List ℕ) → HasDistinctNames base → HasDistinctNames (with_marks base name)
+unfolding with_marks
+one_marked base name h = HasDistinctNames-with_entry _ _ _ (HasDistinctNames-with_entry _ _ _ h)
+
+marked : (names : List (List ℕ)) (base : Entries) → HasDistinctNames base → HasDistinctNames (fold with_marks base names)
+marked [] base h = h
+marked (name ∷ names) base h = marked names (with_marks base name) (one_marked base name h)
+
+pub finished_distinct : (precious : List (List ℕ)) (es : Entries) → HasDistinctNames (finished precious (set_by es))
+unfolding finished set_by
+finished_distinct precious es =
+    marked precious (fold with_unslashed (fold with_variable [] es) directories) (unslashed directories (fold with_variable [] es) (fold_distinct es [] HasDistinctNames-[]))
+
+one_setting : (base : Entries) (s : Setting) → HasDistinctNames base → HasDistinctNames (with_setting base s)
+one_setting base (Sets name value) h = HasDistinctNames-with_entry base name value h
+one_setting base (Defaults name value) h = by (is_some (value_of base name))
+  where
+    by : (b : Bool) → HasDistinctNames (if b then base else with_entry base name value)
+    by true = h
+    by false = HasDistinctNames-with_entry base name value h
+
+pub settings_distinct : (settings : List Setting) (base : Entries) → HasDistinctNames base → HasDistinctNames (vars_after settings base)
+settings_distinct [] base h = h
+settings_distinct (s ∷ more) base h = settings_distinct more (with_setting base s) (one_setting base s h)
+
+closed : Closed (λ st. HasDistinctNames st.vars)
+closed = record {
+  tells = λ stream text st h. h;
+  children = λ job reply st h. h;
+  variables = λ name value st h. HasDistinctNames-with_entry st.vars name value h;
+  definitions = λ name value st h. h;
+  unsets = λ name before st e b h. HasDistinctNames-without_entry st.vars name h;
+}
+
+at_finish : (run : Run) (rs : List Reply) → AtEnds (λ how now. HasDistinctNames now.vars) run → HasDistinctNames (finish run rs).state.vars
+at_finish (Ends how st) rs h = h
+at_finish (Asks jobs next) rs h = at_finish (next (take (length jobs) rs)) (drop (length jobs) rs) (h (take (length jobs) rs))
+
+pub played_distinct : (script : Script) (vars : Entries) (rs : List Reply) → HasDistinctNames vars → HasDistinctNames (played script (opened vars) rs).state.vars
+played_distinct script vars rs h =
+    subst HasDistinctNames (sym (same_end (meaning script (opened vars)) 0 None rs).vars)
+    (at_finish (meaning script (opened vars)) rs (meaning_keeps (λ st. HasDistinctNames st.vars) closed script (opened vars) h))

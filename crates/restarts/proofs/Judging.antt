@@ -1,0 +1,179 @@
+-- How a call was accepted, and what the same call with another cache takes.
+use Rattle.std.proofs.Common.{◌≡◌, ℕ, ◌||◌, Bool, true, false, List, ◌++◌, Option, Result, Ok, Err, refl, sym, ap, ◌∙◌, subst}
+use Rattle.std.specs.Prelude.{nat_le, if◌then◌else◌}
+use Rattle.acparse.specs.Profile.{source_of}
+use Rattle.cachefile.specs.Cache.{vars_after}
+use Rattle.cachefile.specs.Line.{Setting}
+use Rattle.cachefile.proofs.Orders.{Entries}
+use Rattle.commandline.specs.Kept.{kept_args}
+use Rattle.deftable.specs.declared.note.Note.{Note}
+use Rattle.engine.specs.Judged.{judged}
+use Rattle.framing.specs.Faults.{of_parse, of_option, of_precious, named, ◌>>=◌, wants}
+use Rattle.framing.specs.Given.{Accepted, Shows, Starts, old_of, present, started, accepted}
+use Rattle.framing.specs.declared.accepting.Start.{Start}
+use Rattle.framing.specs.declared.fault.Fault.{Fault}
+use Rattle.framing.specs.declared.fault.Fault.TheVariants.{Plan}
+use Rattle.options.specs.Opening.{opening}
+use Rattle.options.specs.Precious.{checked}
+use Rattle.options.specs.declared.settings.Settings.{Settings}
+use Rattle.plan.specs.Weight.{heaviest, weight}
+use Rattle.plan.specs.declared.fault.PlanFault.TheVariants.{TooLong}
+use Rattle.syntax.specs.Lists.{lists_of}
+use Rattle.syntax.specs.Script.{Script}
+use Rattle.restarts.specs.Calls.{Given, follows}
+
+bind_ok : {A B F : Type 0} (r : Result A F) (f : A → Result B F) (y : B) → (r >>= f) ≡ Ok y → (x : A) × ((r ≡ Ok x) × (f x ≡ Ok y))
+bind_ok (Ok x) f y e = (x, (refl, e))
+bind_ok (Err g) f y e = absurd cc
+
+ok_bind : {A B F : Type 0} (r : Result A F) (f : A → Result B F) (x : A) (y : B) → r ≡ Ok x → f x ≡ Ok y → (r >>= f) ≡ Ok y
+ok_bind r f x y e h = ap (λ z. z >>= f) e ∙ h
+
+pub named_ok : {A E F : Type 0} (fault : E → F) (r : Result A E) (x : A) → named fault r ≡ Ok x → r ≡ Ok x
+named_ok fault (Ok y) x e = let same : y ≡ x = cc in ap Ok same
+named_ok fault (Err f) x e = absurd cc
+
+-- The settings of the call.
+abbrev pub settled : Script → Given → Result Settings Fault
+settled script given = named of_option (opening (lists_of script).features (lists_of script).packages (lists_of script).precious given.arguments given.environment)
+
+-- The check of its precious variables against these settings of a cache.
+abbrev pub comparison : Script → Settings → List Setting → Result (Entries × List Note) Fault
+comparison script settings old = named of_precious (checked (lists_of script).precious settings.vars old)
+
+-- With what it starts.
+abbrev pub start_of : Given → Settings → List Setting → Entries × List Note → Start
+start_of given settings old left = record {
+  cache_name = settings.cache_name;
+  srcdir = settings.srcdir;
+  no_create = settings.no_create;
+  args = kept_args given.arguments;
+  vars = vars_after old left.0;
+  notes = settings.notes ++ left.1;
+}
+
+-- How the call was accepted; with another cache it is accepted if that one is read, and the check leaves the same.
+pub record Way (given : Given) (cache : Option (List ℕ)) (script : Script) (start : Start) : Type 0 where
+  pub settings : Settings
+  pub old : List Setting
+  pub left : Entries × List Note
+  pub settles : settled script given ≡ Ok settings
+  pub read : old_of settings.cache_name cache ≡ Ok old
+  pub check : comparison script settings old ≡ Ok left
+  pub is : start ≡ start_of given settings old left
+  pub again : (other : Option (List ℕ)) (more : List Setting) → old_of settings.cache_name other ≡ Ok more → comparison script settings more ≡ Ok left
+      → follows given other ≡ Ok (Starts script (start_of given settings more left))
+
+-- ---- one step after the other
+
+abbrev ended : Given → Settings → List Setting → Entries × List Note → Unit {0} → Result Start Fault
+ended given settings old left u = Ok (start_of given settings old left)
+
+abbrev compared : Given → Script → Settings → List Setting → Entries × List Note → Result Start Fault
+compared given script settings old left = present settings.no_create given.templates (lists_of script).files (lists_of script).headers >>= ended given settings old left
+
+abbrev poured : Given → Script → Settings → List Setting → Result Start Fault
+poured given script settings old = comparison script settings old >>= compared given script settings old
+
+abbrev begun : Script → Start → Result Accepted Fault
+begun script start = Ok (Starts script start)
+
+abbrev chosen : Given → Option (List ℕ) → Script → Settings → Bool → Result Accepted Fault
+chosen given cache script settings b = if b then Ok (Shows script settings) else (started given.arguments cache given.templates script settings >>= begun script)
+
+abbrev opened : Given → Option (List ℕ) → Script → Settings → Result Accepted Fault
+opened given cache script settings = chosen given cache script settings (settings.help || settings.version)
+
+abbrev weighed : Given → Option (List ℕ) → Script → Unit {0} → Result Accepted Fault
+weighed given cache script u = accepted given.arguments given.environment cache given.templates script
+
+abbrev parsed : Given → Option (List ℕ) → Script → Result Accepted Fault
+parsed given cache script = wants (nat_le (weight script) heaviest) (Plan TooLong) >>= weighed given cache script
+
+is_started : (given : Given) (cache : Option (List ℕ)) (script : Script) (settings : Settings) → started given.arguments cache given.templates script settings ≡ (old_of settings.cache_name cache >>= poured given script settings)
+unfolding started
+is_started given cache script settings = refl
+
+is_accepted : (given : Given) (cache : Option (List ℕ)) (script : Script) → accepted given.arguments given.environment cache given.templates script ≡ (settled script given >>= opened given cache script)
+unfolding accepted
+is_accepted given cache script = refl
+
+is_followed : (given : Given) (cache : Option (List ℕ)) → follows given cache ≡ (named of_parse (source_of given.source) >>= parsed given cache)
+unfolding judged
+is_followed given cache = refl
+
+-- ---- all steps
+
+record Started (given : Given) (cache : Option (List ℕ)) (script : Script) (settings : Settings) (start : Start) : Type 0 where
+  pub old : List Setting
+  pub left : Entries × List Note
+  pub read : old_of settings.cache_name cache ≡ Ok old
+  pub check : comparison script settings old ≡ Ok left
+  pub is : start ≡ start_of given settings old left
+  pub again : (other : Option (List ℕ)) (more : List Setting) → old_of settings.cache_name other ≡ Ok more → comparison script settings more ≡ Ok left
+      → started given.arguments other given.templates script settings ≡ Ok (start_of given settings more left)
+
+start_steps : (given : Given) (cache : Option (List ℕ)) (script : Script) (settings : Settings) (start : Start) → started given.arguments cache given.templates script settings ≡ Ok start → Started given cache script settings start
+start_steps given cache script settings start e =
+    let old = bind_ok (old_of settings.cache_name cache) (poured given script settings) start (sym (is_started given cache script settings) ∙ e) in
+    let left = bind_ok (comparison script settings old.0) (compared given script settings old.0) start old.1.1 in
+    let there = bind_ok (present settings.no_create given.templates (lists_of script).files (lists_of script).headers) (ended given settings old.0 left.0) start left.1.1 in
+    let is : start_of given settings old.0 left.0 ≡ start = let h = there.1.1 in cc in
+    record {
+      old = old.0;
+      left = left.0;
+      read = old.1.0;
+      check = left.1.0;
+      is = sym is;
+      again = λ other more reads compares.
+          let begins = start_of given settings more left.0 in
+          is_started given other script settings
+          ∙ ok_bind (old_of settings.cache_name other) (poured given script settings) more begins reads
+          (ok_bind (comparison script settings more) (compared given script settings more) left.0 begins compares
+          (ok_bind (present settings.no_create given.templates (lists_of script).files (lists_of script).headers) (ended given settings more left.0) there.0 begins there.1.0 refl));
+    }
+
+-- A choice that is run.
+record Chosen (given : Given) (cache : Option (List ℕ)) (script : Script) (settings : Settings) (b : Bool) (final : Script) (start : Start) : Type 0 where
+  pub same : script ≡ final
+  pub is : started given.arguments cache given.templates script settings ≡ Ok start
+  pub shows : b ≡ false
+
+choice_steps : (given : Given) (cache : Option (List ℕ)) (script : Script) (settings : Settings) (b : Bool) (final : Script) (start : Start) → chosen given cache script settings b ≡ Ok (Starts final start) → Chosen given cache script settings b final start
+choice_steps given cache script settings true final start e = absurd cc
+choice_steps given cache script settings false final start e =
+    let begins = bind_ok (started given.arguments cache given.templates script settings) (begun script) (Starts final start) e in
+    let same : script ≡ final = let h = begins.1.1 in cc in
+    let is : begins.0 ≡ start = let h = begins.1.1 in cc in
+    record { same = same; is = begins.1.0 ∙ ap Ok is; shows = refl }
+
+way_by : (given : Given) (cache : Option (List ℕ)) (script final : Script) (start : Start) → script ≡ final → named of_parse (source_of given.source) ≡ Ok script → (u : Unit {0}) → wants (nat_le (weight script) heaviest) (Plan TooLong) ≡ Ok u
+    → (settings : Settings) → settled script given ≡ Ok settings → settings.help || settings.version ≡ false → started given.arguments cache given.templates script settings ≡ Ok start → Way given cache script start
+way_by given cache script final start same read u light settings settles shows starts =
+    let s = start_steps given cache script settings start starts in
+    record {
+      settings = settings;
+      old = s.old;
+      left = s.left;
+      settles = settles;
+      read = s.read;
+      check = s.check;
+      is = s.is;
+      again = λ other more reads compares.
+          let begins = start_of given settings more s.left in
+          let answer : Accepted = Starts script begins in
+          is_followed given other
+          ∙ ok_bind (named of_parse (source_of given.source)) (parsed given other) script answer read
+          (ok_bind (wants (nat_le (weight script) heaviest) (Plan TooLong)) (weighed given other script) u answer light
+          (is_accepted given other script
+          ∙ ok_bind (settled script given) (opened given other script) settings answer settles
+          (ap (chosen given other script settings) shows ∙ ok_bind (started given.arguments other given.templates script settings) (begun script) begins answer (s.again other more reads compares) refl)));
+    }
+
+pub way : (given : Given) (cache : Option (List ℕ)) (script : Script) (start : Start) → follows given cache ≡ Ok (Starts script start) → Way given cache script start
+way given cache script start e =
+    let read = bind_ok (named of_parse (source_of given.source)) (parsed given cache) (Starts script start) (sym (is_followed given cache) ∙ e) in
+    let light = bind_ok (wants (nat_le (weight read.0) heaviest) (Plan TooLong)) (weighed given cache read.0) (Starts script start) read.1.1 in
+    let settles = bind_ok (settled read.0 given) (opened given cache read.0) (Starts script start) (sym (is_accepted given cache read.0) ∙ light.1.1) in
+    let c = choice_steps given cache read.0 settles.0 (settles.0.help || settles.0.version) script start settles.1.1 in
+    subst (λ s. Way given cache s start) c.same (way_by given cache read.0 script start c.same read.1.0 light.0 light.1.0 settles.0 settles.1.0 c.shows c.is)

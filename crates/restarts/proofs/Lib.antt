@@ -1,0 +1,11 @@
+mod Texts
+mod Sorting
+mod Distinct
+mod Settings
+mod Marks
+mod Openings
+mod Judging
+mod Tellings
+mod Starting
+mod Reports
+mod Counter

@@ -1,0 +1,5 @@
+use Rattle.restarts.proofs.Starting as lemmas
+use Rattle.restarts.proofs.second_call_starts.Goals as goal
+
+pub returns : goal.returns
+returns c = record { law = lemmas.second_call_starts }
