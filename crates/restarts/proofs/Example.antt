@@ -1,5 +1,6 @@
--- The calls of the laws: a source that can be resumed, with a precious variable. Its first call is accepted; if that is cut at the
--- function, so is the second with the saved cache, and the joint replies are two answers.
+-- The calls of the laws: a source that can be resumed, with a precious variable. Its first call is
+-- accepted; if that is cut at the function, so is the second with the saved cache, and the joint
+-- replies are two answers.
 use Rattle.acparse.specs.Profile.{source_of}
 use Rattle.cachefile.proofs.Orders.{Entries}
 use Rattle.cachefile.specs.Cache.{entry_of, lines_from, cache_of, vars_after}
@@ -64,7 +65,8 @@ text t = map parts.Plain t
 abbrev sets : List ℕ → Script
 sets name = Then (Assign name (text (codes "1"))) Done
 
--- AC_INIT([a],[1]), AC_ARG_VAR([V],[help]), AC_CHECK_HEADER([a.h],[x=1]), AC_CHECK_FUNC([f],[y=1]) and AC_OUTPUT.
+-- AC_INIT([a],[1]), AC_ARG_VAR([V],[help]), AC_CHECK_HEADER([a.h],[x=1]), AC_CHECK_FUNC([f],[y=1])
+-- and AC_OUTPUT.
 abbrev example : Script
 example =
     Then (Init (codes "a") (codes "1") [] (codes "a") [])
