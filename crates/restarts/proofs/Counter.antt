@@ -1,5 +1,6 @@
--- Why no precious variable may have the name of a mark: with AC_ARG_VAR([ac_cv_env_CC_value]) and then AC_ARG_VAR([CC]), the
--- check of the second call finds another value of CC than the first one did.
+-- Why no precious variable may have the name of a mark: with AC_ARG_VAR([ac_cv_env_CC_value]) and
+-- then AC_ARG_VAR([CC]), the check of the second call finds another value of CC than the first one
+-- did.
 use Rattle.std.proofs.Common.{◌≡◌, ℕ, List, [], ◌∷◌, map, Some, Result, Ok, Err, refl}
 use Rattle.std.specs.Prelude.{codes}
 use Rattle.cachefile.specs.Name.{is_mark}

@@ -52,7 +52,8 @@ start_of given settings old left = record {
   notes = settings.notes ++ left.1;
 }
 
--- How the call was accepted; with another cache it is accepted if that one is read, and the check leaves the same.
+-- How the call was accepted; with another cache it is accepted if that one is read, and the check
+-- leaves the same.
 pub record Way (given : Given) (cache : Option (List ℕ)) (script : Script) (start : Start) : Type 0 where
   pub settings : Settings
   pub old : List Setting

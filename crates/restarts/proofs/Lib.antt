@@ -9,3 +9,4 @@ mod Tellings
 mod Starting
 mod Reports
 mod Counter
+mod Example

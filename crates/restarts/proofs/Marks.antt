@@ -1,4 +1,5 @@
--- Precious variables, by their marks: if these are as before, so is what the check of precious variables finds.
+-- Precious variables, by their marks: if these are as before, so is what the check of precious
+-- variables finds.
 use Rattle.std.proofs.Common.{◌≡◌, ℕ, ◌+◌, Bool, true, false, cond, ◌||◌, List, [], ◌∷◌, ◌++◌, map, Option, Some, None, Result, Ok, Err, inl, inr, refl, sym, ap, ◌∙◌, subst}
 use Rattle.std.specs.Prelude.{bytes_eq, codes, fold, is_some, option_map, option_to_list, unwrap_or, if◌then◌else◌}
 use Rattle.std.specs.List.{AllByRecursion}

@@ -1,4 +1,5 @@
--- What the settings of saved entries make of a variable: a mark is set, and another name gets a default.
+-- What the settings of saved entries make of a variable: a mark is set, and another name gets a
+-- default.
 use Rattle.std.proofs.Common.{◌≡◌, ℕ, Bool, true, false, cond, ◌&&◌, List, [], ◌∷◌, Option, Some, None, inl, inr, map, refl, sym, ap, ◌∙◌, subst}
 use Rattle.std.specs.Prelude.{bytes_eq, is_some, if◌then◌else◌}
 use Rattle.std.specs.List.{IsDistinct, AllByRecursion}
@@ -15,7 +16,8 @@ use Rattle.resuming.specs.Poured.{poured}
 use Rattle.restarts.proofs.Sorting.{absent}
 use Rattle.restarts.proofs.Texts.{setting_of}
 
--- The value of a name after the settings of saved entries, by whether it is a mark, its saved value, and its value before.
+-- The value of a name after the settings of saved entries, by whether it is a mark, its saved
+-- value, and its value before.
 abbrev pub over : Bool → Option (List ℕ) → Option (List ℕ) → Option (List ℕ)
 over true None old = old
 over true (Some value) old = Some value
@@ -101,8 +103,9 @@ ordinary_unsaved : (q : List ℕ) (o : Option (List ℕ)) → is_cache_name q �
 ordinary_unsaved q None e = refl
 ordinary_unsaved q (Some v) e = ap (λ b. cond (b && is_one_line v) (Some v) None) e
 
--- A second pouring over the same base gives the value that was saved, or else the one with which the first run began. `s` is
--- the value of the first run's own cache, `r` the one below it, and `o` that of the first run's end.
+-- A second pouring over the same base gives the value that was saved, or else the one with which
+-- the first run began. `s` is the value of the first run's own cache, `r` the one below it, and `o`
+-- that of the first run's end.
 pub poured_again : (m : Bool) (q : List ℕ) (s saved r o : Option (List ℕ)) → saved ≡ saved_value q o → ((v : List ℕ) → s ≡ Some v → is_saved (q, v) ≡ true)
     → ((v : List ℕ) → is_cache_name q ≡ true → over m s r ≡ Some v → o ≡ Some v) → over m saved r ≡ poured saved (over m s r)
 poured_again true q s (Some w) r o is ok keeps = refl

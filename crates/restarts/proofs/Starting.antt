@@ -106,7 +106,8 @@ first_call given cache window script start before now report h w =
       keeps = λ q v c e. ap (λ vs. value_of vs q) (told.vars ∙ (same_end (meaning script (opened start.vars)) 0 None replies).vars) ∙ sets.keeps q v c e;
     }
 
--- A mark that the opening sets has the same value over the first call's own cache and over the saved one.
+-- A mark that the opening sets has the same value over the first call's own cache and over the
+-- saved one.
 same_mark : (script : Script) (start : Start) (report : Report) (vars below : Entries) (old : List Setting) → (f : First script start report below old) → (q : List ℕ) → is_mark q ≡ true
     → is_some (value_of vars q) ≡ true → value_of below q ≡ value_of vars q
     → value_of (vars_after (map setting_of (saved_entries report.vars)) vars) q ≡ value_of (vars_after old vars) q

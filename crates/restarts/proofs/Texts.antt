@@ -1,4 +1,5 @@
--- The text that is written for variables is read as the settings of their lines: marks are set, and other names get defaults.
+-- The text that is written for variables is read as the settings of their lines: marks are set, and
+-- other names get defaults.
 use Rattle.std.proofs.Common.{◌≡◌, ℕ, ◌+◌, ◌≤◌, nat_lt, Bool, true, false, not, ◌==◌, ◌||◌, ◌<◌, arith, List, [], ◌∷◌, ◌++◌, Some, None, Ok, inl, inr, length, map, refl, sym, ap, ◌∙◌, append_assoc}
 use Rattle.std.specs.Prelude.{codes, if◌then◌else◌}
 use Rattle.std.specs.List.{onto_first, list_all}

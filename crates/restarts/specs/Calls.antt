@@ -25,7 +25,8 @@ use Rattle.syntax.specs.Resumable.{IsResumable}
 use Rattle.syntax.specs.Script.{Script}
 use Rattle.syntax.specs.TestNames.{HasTestNames}
 
--- What a call is given beside a cache: the text of a source, arguments, an environment and templates. (own)
+-- What a call is given beside a cache: the text of a source, arguments, an environment and
+-- templates. (own)
 pub record Given : Type 0 where
   pub source : List ℕ
   pub arguments : List (List ℕ)
@@ -52,36 +53,48 @@ pub data IsOwnCache : Option (List ℕ) → Type 0 where
   no_cache : IsOwnCache None
   saved_cache : (vars : List (List ℕ × List ℕ)) → IsOwnCache (Some (cache_text_of vars))
 
--- No precious variable has the name of a mark, under which configure saves the value of another. (own; Autoconf's manual,
--- "Setting Output Variables", has the precious variables)
+-- No precious variable has the name of a mark, under which configure saves the value of another.
+-- (own; Autoconf's manual, "Setting Output Variables", has the precious variables)
 abbrev pub HasPlainPrecious : Script → Type 0
 HasPlainPrecious script = AllByRecursion (λ name. is_mark name ≡ false) (lists_of script).precious
 
--- The source can be resumed, and has the form that the parser gives it: its commands, and the names of its tests. (own)
+-- The source can be resumed, and has the form that the parser gives it: its commands, and the names
+-- of its tests. (own)
 pub record CanResume (script : Script) : Type 0 where
+  -- what `is_resumable` says of a source
   pub resumable : IsResumable script
+  -- what `parse` promises of each source
   pub commands : HasCommands script
+  -- the variables of AC_CHECK_PROG, AC_CHECK_PROGS and AC_PATH_PROG are shell names
   pub names : HasTestNames script
+  -- what AC_ARG_VAR and AC_PROG_CC declare
   pub precious : HasPlainPrecious script
 
--- A call of such a source was run, and its cache is saved: the call names a cache, and the text is within the limit of cache
--- texts. What it was given as its own cache, if anything, was saved by a call too. (own)
+-- A call of such a source was run, and its cache is saved: the call names a cache, and the text is
+-- within the limit of cache texts. What it was given as its own cache, if anything, was saved by a
+-- call too. (own)
 pub record Saved (given : Given) (cache : Option (List ℕ)) (window : ℕ) (script : Script) (start : Start) (before now : Account) (report : Report) : Type 0 where
+  -- what is judged before anything is run
   pub accepted : follows given cache ≡ Ok (Starts script start)
+  -- what `configure` promises of each report, also with a refused put
   pub meant : IsMeant window script start before now report
   pub form : CanResume script
+  -- an argument names the cache
   pub named : is_some start.cache_name ≡ true
   pub own : IsOwnCache cache
+  -- the length of the text that was handed over
   pub small : length (cache_text_of report.vars) ≤ limit
 
--- The report tells of the run that begins so, under these replies, which are as many as its jobs. (own)
+-- The report tells of the run that begins so, under these replies, which are as many as its jobs.
+-- (own)
 pub record Tells (script : Script) (start : Start) (replies : List Reply) (report : Report) : Type 0 where
   pub enough : HasReplies (played script (opened start.vars) replies) replies
   pub outcome : option_map outcome_of (outcome_from (played script (opened start.vars) replies).how (first_refused replies)) ≡ Some report.outcome
   pub vars : report.vars ≡ (played script (opened start.vars) replies).state.vars
   pub defs : report.defs ≡ (played script (opened start.vars) replies).state.defs
 
--- The report of each run tells of it, under the replies of its crew, at any window and in any order of ends. (own)
+-- The report of each run tells of it, under the replies of its crew, at any window and in any order
+-- of ends. (own)
 abbrev pub ReportsTell : Type 0
 ReportsTell = (window : ℕ) (script : Script) (start : Start) (before now : Account) (report : Report)
     → (meant : IsMeant window script start before now report) → Tells script start (replies_to before meant) report

@@ -14,8 +14,9 @@ use Rattle.restarts.specs.Calls.{Given, follows, Saved}
 abbrev pub end_of : Report → State
 end_of report = record { vars = report.vars; defs = report.defs; messages = []; log = [] }
 
--- A second call with the saved cache is accepted: no precious variable is at fault, and it begins as the first one did but for
--- its variables. These are those of the first, with each value that the cache saves. (own)
+-- A second call with the saved cache is accepted: no precious variable is at fault, and it begins
+-- as the first one did but for its variables. These are those of the first, with each value that
+-- the cache saves. (own)
 pub record StartsAgain (given : Given) (script : Script) (start : Start) (report : Report) : Type 0 where
   pub second : Start
   pub accepted : follows given (Some (cache_text_of report.vars)) ≡ Ok (Starts script second)
