@@ -7,3 +7,4 @@ pub mod Broken
 pub mod Whole
 pub mod ListLimits
 pub mod Owning
+pub mod TestNaming

@@ -260,7 +260,7 @@ body_held zero scene c arg s i = absurd i
 body_held (suc room) scene c arg s i = items_held scene (IsBody room) (body_held room) i.2.2
 
 -- The commands in a source.
-source_held : (text : List ℕ) (s : Script) → IsSource text s → HasCommands s
+pub source_held : (text : List ℕ) (s : Script) → IsSource text s → HasCommands s
 source_held text s is = items_held Top (IsBody 31) (body_held 31) is.list.statements
 
 pub commands_held : (text : List ℕ) (r : Result (List Stmt) ParseFault) → Gives script_of r (source_of text) → IfOk r (λ s. HasCommands (script_of s))

@@ -8,6 +8,9 @@
 //! `specs/Statements.antt`. A list of statements is read with its scene (`acmacros::scene`): the file's own list and the
 //! commands of AC_CACHE_CHECK differ from other lists in what they may hold.
 //!
+//! `parse` also decides whether the source can be resumed (`testorder`), and `is_resumable` tells it. `forms` has a law on
+//! sources that were read, for the crates above.
+//!
 //! `parse(alloc, b"AC_INIT([demo],[1.0])\nAC_OUTPUT\n")` gives a source of two statements.
 //!
 //! Every function fails with `OutOfMemory` if memory runs out.
@@ -15,10 +18,11 @@
 
 mod asked;
 pub mod bare;
+pub mod forms;
 pub mod read;
 pub mod source;
 
 pub use acargs::ParseFault;
 pub use outputlist::{Output, Outputs};
-pub use source::parse;
+pub use source::{is_resumable, parse};
 pub use syntax::{Case, Help, HelpList, Plain, Question, Source, Stmt, Subject, When};

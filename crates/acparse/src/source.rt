@@ -1,6 +1,6 @@
 //! A whole source.
 
-ghost use Rattle.std.specs.Prelude.{◌≡◌, ◌≢◌, IfOk, IfErr, Ok};
+ghost use Rattle.std.specs.Prelude.{◌≡◌, ◌≢◌, ◌↔◌, true, IfOk, IfErr, Ok};
 ghost use Rattle.acstatement.specs.declared.fault.ParseFault.TheVariants.{OutOfMemory};
 ghost use Rattle.acstatement.specs.Reading.{Gives};
 ghost use Rattle.syntax.specs.Lists.{after_all, lists_of, start};
@@ -8,6 +8,9 @@ ghost use Rattle.acparse.specs.Profile.{ended, source_of};
 ghost use Rattle.syntax.specs.Script.{Script, script_of};
 ghost use Rattle.acparse.specs.Source.{IsSource, IsSourceFault};
 ghost use Rattle.syntax.specs.Commands.{HasCommands};
+ghost use Rattle.syntax.specs.Decide as decide;
+ghost use Rattle.syntax.specs.Resumable.{IsResumable};
+ghost use Rattle.syntax.specs.TestNames.{HasTestNames};
 ghost use Rattle.syntax.specs.Limits.{HasShortLists};
 ghost use Rattle.outputlist.specs.Output.{AreOutputs};
 
@@ -46,12 +49,28 @@ fn read_whole(alloc: Global, known: &mut Declarations, text: &[u8]) -> Result<Ve
     Ok(statements)
 }
 
+/// Reads the statements of a whole source, and decides whether it can be resumed. `known` becomes what they declare.
+fn read_decided(
+    alloc: Global,
+    known: &mut Declarations,
+    text: &[u8],
+) -> Result<(Vec<Stmt>, bool), ParseFault>
+    requires { known.now ≡ start }
+    ensures value { Gives (λ v. script_of v.0.items) result (source_of text.now) }
+    ensures after { IfOk result (λ v. known.new ≡ after_all start (script_of v.0.items)) }
+    ensures decided { IfOk result (λ v. v.1 ≡ decide.is_resumable (script_of v.0.items)) }
+{
+    let statements = read_whole(alloc, known, text)?;
+    let decided = testorder::is_resumable(alloc, statements.as_slice());
+    Ok(decided.map(|resumes| (statements, resumes))?)
+}
+
 fn read_source(alloc: Global, text: &[u8]) -> Result<Source, ParseFault>
     ensures { Gives script_of result (source_of text.now) }
 {
     let mut lists = Declarations::new(alloc);
-    let read = read_whole(alloc, &mut lists, text);
-    read.map(|statements| Source::new(statements, lists))
+    let read = read_decided(alloc, &mut lists, text);
+    read.map(|(statements, resumes)| Source::new(statements, lists, resumes))
 }
 
 /// Reads the text of a configure.ac.
@@ -69,6 +88,8 @@ pub fn parse(alloc: Global, text: &[u8]) -> Result<Source, ParseFault>
     ensures outputs { IfOk result (λ s. AreOutputs (lists_of (script_of s)).files (lists_of (script_of s)).headers) }
     // Each AC_CACHE_CHECK has a cache name, and commands that set it and do nothing else.
     ensures commands { IfOk result (λ s. HasCommands (script_of s)) }
+    // The variable of each program that is looked for is a shell name.
+    ensures names { IfOk result (λ s. HasTestNames (script_of s)) }
     // If a source has statements, they are returned, unless memory runs out.
     ensures complete { (s : Script) → IsSource text.now s → Gives script_of result (Ok s) }
     // An error names what is wrong at its offset, and everything before it is right.
@@ -77,4 +98,15 @@ pub fn parse(alloc: Global, text: &[u8]) -> Result<Source, ParseFault>
     ensures exact { Gives script_of result (source_of text.now) }
 {
     read_source(alloc, text)
+}
+
+/// Returns whether a source can be resumed: if a run is cut, and is started again with the cache that it saved, it ends as an
+/// uncut run does (`syntax::specs::Resumable` has the rules). `parse` has decided it.
+pub fn is_resumable(source: &Source) -> bool
+    // It is true exactly if the statements keep the rules.
+    ensures rules { (result ≡ true) ↔ IsResumable (script_of source.now) }
+    // The same as a function of the statements.
+    ensures exact { result ≡ decide.is_resumable (script_of source.now) }
+{
+    source.is_resumable()
 }

@@ -1,6 +1,6 @@
 //! What the engine makes of what a case gives, as text.
 
-use crate::calls::{help_of, put_fault_line, read_source, run_filter, srcdir_in};
+use crate::calls::{can_resume, help_of, put_fault_line, read_source, run_filter, srcdir_in};
 use crate::given::{Given, arguments_of, lines_of, number_in, put_source_of};
 use crate::kinds::Kind;
 use crate::pages::{note_cut, put_error, put_fault, put_text};
@@ -24,6 +24,10 @@ fn put_help(page: &mut Page, source: &Source) {
     }
 }
 
+fn yes_or_no(answer: bool) -> &'static [u8] {
+    if answer { b"yes" } else { b"no" }
+}
+
 /// Puts what a source that is read gives of these kinds.
 fn put_read(page: &mut Page, kind: Kind, given: &Given, source: &Source) {
     match kind {
@@ -39,6 +43,7 @@ fn put_read(page: &mut Page, kind: Kind, given: &Given, source: &Source) {
             page.put_number(source.statements().len());
             page.put(b" statements");
         }
+        Kind::Resumable => page.put(yes_or_no(can_resume(source))),
         Kind::Filtered | Kind::Srcdir => {}
         _ => put_run(page, kind, given, source),
     }

@@ -3,7 +3,7 @@
 
 use crate::pieces::Pieces;
 use crate::recorder::Recorder;
-use acparse::{ParseFault, Source, parse};
+use acparse::{ParseFault, Source, is_resumable, parse};
 use crew::{MemoryCrew, Order, Reply};
 use deftable::{Bytes, Vars};
 use options::{OptionFault, Settings, help_text, read_args, srcdir_of};
@@ -15,6 +15,10 @@ use testrows::Page;
 
 pub fn read_source(alloc: Global, text: &[u8]) -> Result<Source, ParseFault> {
     parse(alloc, text)
+}
+
+pub fn can_resume(source: &Source) -> bool {
+    is_resumable(source)
 }
 
 pub fn read_settings(

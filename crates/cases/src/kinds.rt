@@ -11,6 +11,8 @@ pub enum Kind {
     Fronts,
     /// The lengths of those fronts that are sources.
     Sources,
+    /// Whether the source can be resumed.
+    Resumable,
     /// What the filter writes.
     Filtered,
     /// All variables that a run begins with, without arguments and environment.
@@ -34,11 +36,12 @@ pub enum Kind {
 }
 
 /// The sections that are answers.
-const ANSWERS: [(&[u8], Kind); 13] = [
+const ANSWERS: [(&[u8], Kind); 14] = [
     (b"parsed", Kind::Parsed),
     (b"counted", Kind::Counted),
     (b"fronts", Kind::Fronts),
     (b"sources", Kind::Sources),
+    (b"resumable", Kind::Resumable),
     (b"filtered", Kind::Filtered),
     (b"variables", Kind::Variables),
     (b"opened", Kind::Opened),

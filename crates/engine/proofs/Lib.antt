@@ -1,2 +1,5 @@
 pub mod Wholes
 mod Agreements
+mod Keeping
+mod Remakings
+mod Begun

@@ -1,5 +1,5 @@
 -- What follows from all of a call, clause by clause.
-use Rattle.std.proofs.Common.{◌≡◌, ℕ, Bool, List, Option, length, Result, Ok, Err, refl, sym, subst, ap, ◌∙◌}
+use Rattle.std.proofs.Common.{◌≡◌, ℕ, List, Option, Some, None, length, Result, Ok, Err, refl, sym, subst, ap, ◌∙◌}
 use Rattle.std.specs.Prelude.{IfOk, IsErrAnd, nat_le}
 use Rattle.outputs.specs.Receipt.{Receipt, with_things}
 use Rattle.acparse.specs.Profile.{source_of}
@@ -11,8 +11,12 @@ use Rattle.syntax.specs.Script.{Script}
 use Rattle.framing.specs.Faults.{Fails, ◌>>=◌, named, wants, of_parse}
 use Rattle.engine.specs.Judged.{judged}
 use Rattle.framing.specs.Given.{Accepted, Shows, Starts, accepted, seen}
-use Rattle.engine.specs.Configured.{IsWhole, refused, memory, shown, ran, IsAnswer, IsNotRun, IfStarts, IfReport, IfPutRefused, IsMeant, IsDone, IsCut, HasReport, things, record_after}
-use Rattle.framing.specs.Handing.{IfCompleted, ReadsBack}
+use Rattle.engine.specs.Configured.{IsWhole, refused, memory, shown, ran, IsAnswer, IsNotRun, IfStarts, IfReport, IfPutRefused, IsMeant, IsDone, IsCut, HasRunPart, not_begun, things, record_after}
+use Rattle.engine.specs.Kept.{IsKept}
+use Rattle.engine.specs.Remaking.{Remakes}
+use Rattle.engine.proofs.Keeping.{kept_if_named}
+use Rattle.engine.proofs.Remakings.{remakes_completed}
+use Rattle.framing.specs.Handing.{IfCompleted, ReadsBack, IfNamed, CacheReadsBack}
 use Rattle.framing.specs.Shown.{shown_report}
 use Rattle.framing.specs.declared.accepting.Start.{Start}
 use Rattle.framing.specs.declared.accepting.Found.{Found}
@@ -72,6 +76,12 @@ pub fails_memory : (same : Type 0) (window : ℕ) (j : Result Accepted Fault) (t
 fails_memory same window j templates before now old new (Ok x) h s = absurd h
 fails_memory same window j templates before now old new (Err e) h s = subst (λ e. IsWhole same window j templates before now old new (Err e)) (sym h) (memory s)
 
+-- memory ran out in a run, or after it
+pub unfinished : (window : ℕ) (script : Script) (start : Start) (templates : List (List ℕ × List ℕ)) (before now : Account) (old new : Receipt) (result : Result Report Fault)
+    → IsErrAnd result (λ e. e ≡ OutOfMemory) → HasRunPart window script start before now → IsDone window script start templates before now old new result
+unfinished window script start templates before now old new (Ok report) h part = absurd h
+unfinished window script start templates before now old new (Err e) h part = subst (λ e. IsDone window script start templates before now old new (Err e)) (sym h) (refl, part)
+
 -- ---- the clauses
 
 all_starts : (Q : Script → Start → Type 0) (j : Result Accepted Fault) → ((script : Script) (start : Start) → Q script start) → IfStarts j Q
@@ -93,7 +103,7 @@ answer_done : (window : ℕ) (script : Script) (start : Start) (templates : List
 answer_done window script start templates before now old new (Ok report) done = tt
 answer_done window script start templates before now old new (Err (PutRefused k report)) done = tt
 answer_done window script start templates before now old new (Err OutOfMemory) done = tt
-answer_done window script start templates before now old new (Err f) done = absurd cc
+answer_done window script start templates before now old new (Err f) done = let is : f ≡ OutOfMemory = done.0 in absurd cc
 
 pub is_answer : (same : Type 0) (window : ℕ) (j : Result Accepted Fault) (templates : List (List ℕ × List ℕ)) (before now : Account) (old new : Receipt) (result : Result Report Fault)
     → IsWhole same window j templates before now old new result → IsAnswer j result
@@ -147,6 +157,34 @@ cut_done window script start templates before now old new (Ok report) done = tt
 cut_done window script start templates before now old new (Err (PutRefused k report)) done = done.1
 cut_done window script start templates before now old new (Err f) done = tt
 
+if_named : {P Q : Type 0} (name : Option (List ℕ)) → (P → Q) → IfNamed name P → IfNamed name Q
+if_named None more p = tt
+if_named (Some name) more p = more p
+
+kept_done : (window : ℕ) (script : Script) (start : Start) (templates : List (List ℕ × List ℕ)) (before now : Account) (old new : Receipt) (result : Result Report Fault)
+    → IsDone window script start templates before now old new result → IfReport result (λ report. IfNamed start.cache_name (IsKept window script start before now report))
+kept_done window script start templates before now old new (Ok report) done = kept_if_named start.cache_name done.0 done.4
+kept_done window script start templates before now old new (Err (PutRefused k report)) done = kept_if_named start.cache_name done.0 done.3
+kept_done window script start templates before now old new (Err f) done = tt
+
+read_done : (window : ℕ) (script : Script) (start : Start) (templates : List (List ℕ × List ℕ)) (before now : Account) (old new : Receipt) (result : Result Report Fault)
+    → IsDone window script start templates before now old new result → IfReport result (λ report. IfNamed start.cache_name (CacheReadsBack report.vars))
+read_done window script start templates before now old new (Ok report) done = if_named start.cache_name (λ cache. cache.reads_back) done.4
+read_done window script start templates before now old new (Err (PutRefused k report)) done = if_named start.cache_name (λ cache. cache.reads_back) done.3
+read_done window script start templates before now old new (Err f) done = tt
+
+remakes_done : (window : ℕ) (script : Script) (start : Start) (templates : List (List ℕ × List ℕ)) (before now : Account) (old new : Receipt) (result : Result Report Fault)
+    → IsDone window script start templates before now old new result → IfReport result (λ report. IfCompleted report.outcome (Remakes script start templates report))
+remakes_done window script start templates before now old new (Ok report) done = remakes_completed script start templates report done.3
+remakes_done window script start templates before now old new (Err (PutRefused k report)) done = remakes_completed script start templates report done.2
+remakes_done window script start templates before now old new (Err f) done = tt
+
+begun_done : (window : ℕ) (script : Script) (start : Start) (templates : List (List ℕ × List ℕ)) (before now : Account) (old new : Receipt) (result : Result Report Fault)
+    → IsDone window script start templates before now old new result → result ≡ Err OutOfMemory → HasRunPart window script start before now
+begun_done window script start templates before now old new (Ok report) done is = absurd cc
+begun_done window script start templates before now old new (Err (PutRefused k report)) done is = absurd cc
+begun_done window script start templates before now old new (Err f) done is = done.1
+
 pub is_meant : (same : Type 0) (window : ℕ) (j : Result Accepted Fault) (templates : List (List ℕ × List ℕ)) (before now : Account) (old new : Receipt) (result : Result Report Fault)
     → IsWhole same window j templates before now old new result → IfStarts j (λ script start. IfReport result (IsMeant window script start before now))
 is_meant same window j templates before now old new result whole =
@@ -181,3 +219,38 @@ is_cut same window j templates before now old new result whole =
     when_starts (λ script start. IfPutRefused result (λ number report. IsCut (things script start templates report) old new number report)) same window j templates before now old new result whole
     (λ script start d. cut_done window script start templates before now old new result d)
     (λ e script start. subst (λ (r : Result Report Fault). IfPutRefused r (λ number report. IsCut (things script start templates report) old new number report)) (sym e) tt)
+
+pub holds_set : (same : Type 0) (window : ℕ) (j : Result Accepted Fault) (templates : List (List ℕ × List ℕ)) (before now : Account) (old new : Receipt) (result : Result Report Fault)
+    → IsWhole same window j templates before now old new result → IfStarts j (λ script start. IfReport result (λ report. IfNamed start.cache_name (IsKept window script start before now report)))
+holds_set same window j templates before now old new result whole =
+    when_starts (λ script start. IfReport result (λ report. IfNamed start.cache_name (IsKept window script start before now report))) same window j templates before now old new result whole
+    (λ script start d. kept_done window script start templates before now old new result d)
+    (λ e script start. subst (λ (r : Result Report Fault). IfReport r (λ report. IfNamed start.cache_name (IsKept window script start before now report))) (sym e) tt)
+
+pub reads_back : (same : Type 0) (window : ℕ) (j : Result Accepted Fault) (templates : List (List ℕ × List ℕ)) (before now : Account) (old new : Receipt) (result : Result Report Fault)
+    → IsWhole same window j templates before now old new result → IfStarts j (λ script start. IfReport result (λ report. IfNamed start.cache_name (CacheReadsBack report.vars)))
+reads_back same window j templates before now old new result whole =
+    when_starts (λ script start. IfReport result (λ report. IfNamed start.cache_name (CacheReadsBack report.vars))) same window j templates before now old new result whole
+    (λ script start d. read_done window script start templates before now old new result d)
+    (λ e script start. subst (λ (r : Result Report Fault). IfReport r (λ report. IfNamed start.cache_name (CacheReadsBack report.vars))) (sym e) tt)
+
+pub is_remakable : (same : Type 0) (window : ℕ) (j : Result Accepted Fault) (templates : List (List ℕ × List ℕ)) (before now : Account) (old new : Receipt) (result : Result Report Fault)
+    → IsWhole same window j templates before now old new result → IfStarts j (λ script start. IfReport result (λ report. IfCompleted report.outcome (Remakes script start templates report)))
+is_remakable same window j templates before now old new result whole =
+    when_starts (λ script start. IfReport result (λ report. IfCompleted report.outcome (Remakes script start templates report))) same window j templates before now old new result whole
+    (λ script start d. remakes_done window script start templates before now old new result d)
+    (λ e script start. subst (λ (r : Result Report Fault). IfReport r (λ report. IfCompleted report.outcome (Remakes script start templates report))) (sym e) tt)
+
+-- If memory ran out, this was done of the run.
+abbrev run_part : ℕ → Account → Account → Result Report Fault → Script → Start → Type 0
+run_part window before now result script start = result ≡ Err OutOfMemory → HasRunPart window script start before now
+
+-- What was done before memory ran out, if `same` says that nothing was started.
+pub has_run_part : (same : Type 0) (window : ℕ) (j : Result Accepted Fault) (templates : List (List ℕ × List ℕ)) (before now : Account) (old new : Receipt) (result : Result Report Fault)
+    → IsWhole same window j templates before now old new result → (same → now ≡ before)
+    → IfStarts j (λ script start. result ≡ Err OutOfMemory → HasRunPart window script start before now)
+has_run_part same window j templates before now old new result (refused {f} is s) unstarted = subst (λ j. IfStarts j (run_part window before now result)) (sym is) tt
+has_run_part same window j templates before now old new result (memory s) unstarted = all_starts (run_part window before now result) j (λ script start e. not_begun (unstarted s))
+has_run_part same window j templates before now old new result (shown is s) unstarted = subst (λ j. IfStarts j (run_part window before now result)) (sym is) tt
+has_run_part same window j templates before now old new result (ran {script} {start} is d) unstarted =
+    subst (λ j. IfStarts j (run_part window before now result)) (sym is) (begun_done window script start templates before now old new result d)

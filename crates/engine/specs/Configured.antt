@@ -7,11 +7,12 @@ use Rattle.meaning.specs.State.{opened}
 use Rattle.options.specs.declared.settings.Settings.{Settings}
 use Rattle.outputs.specs.Receipt.{Receipt, with_things, IsCutAt}
 use Rattle.outputs.specs.declared.thing.Thing.{Thing}
+use Rattle.proberun.specs.Progress.{HasBegun}
 pub use Rattle.proberun.specs.Ran.{Ran, RunEnd, outcome_from, state_of}
 use Rattle.status_record.specs.declared.record.Record.{Record}
 use Rattle.syntax.specs.Script.{Script}
 use Rattle.framing.specs.Given.{Accepted, Shows, Starts}
-use Rattle.framing.specs.Handing.{things_of, run_record, IfCompleted, ReadsBack}
+use Rattle.framing.specs.Handing.{things_of, run_record, IfCompleted, ReadsBack, IfNamed, IsCacheOf}
 use Rattle.framing.specs.Shown.{shown_report}
 use Rattle.framing.specs.Told.{entries_of}
 use Rattle.engine.specs.Told.{outcome_of}
@@ -66,6 +67,14 @@ pub record IsMeant (window : ℕ) (script : Script) (start : Start) (before now 
   pub ran : Ran window (whole (meaning script (opened start.vars))) before now end
   pub told : report ≡ report_of start end report.handed
 
+-- What was done of a run before memory ran out: nothing was started; or the run had begun, and its
+-- starts so far, and their replies, are those of the run; or it had come to its end, and what it
+-- left was being made into what it hands over. (own)
+pub data HasRunPart (window : ℕ) (script : Script) (start : Start) (before now : Account) : Type 0 where
+  not_begun : now ≡ before → HasRunPart window script start before now
+  begun : HasBegun window (whole (meaning script (opened start.vars))) before now → HasRunPart window script start before now
+  ended : {end : RunEnd} → Ran window (whole (meaning script (opened start.vars))) before now end → HasRunPart window script start before now
+
 -- The record of a run that has this report. (own)
 abbrev pub record_after : Script → Start → Report → Record
 record_after script start report = run_record script start.srcdir start.args report.vars report.defs
@@ -95,11 +104,13 @@ IsDone window script start templates before now old new (Ok report) =
     × (new ≡ with_things old (things script start templates report))
     × (report.handed ≡ length (things script start templates report))
     × IfCompleted report.outcome (ReadsBack (record_after script start report))
+    × IfNamed start.cache_name (IsCacheOf report.vars)
 IsDone window script start templates before now old new (Err (PutRefused number report)) =
     IsMeant window script start before now report
     × IsCut (things script start templates report) old new number report
     × IfCompleted report.outcome (ReadsBack (record_after script start report))
-IsDone window script start templates before now old new (Err f) = f ≡ OutOfMemory
+    × IfNamed start.cache_name (IsCacheOf report.vars)
+IsDone window script start templates before now old new (Err f) = (f ≡ OutOfMemory) × HasRunPart window script start before now
 
 -- A whole call: it is refused, or memory runs out, or a text is shown, and then `same` holds; or a run is done. (own)
 pub data IsWhole (same : Type 0) (window : ℕ) (judged : Result Accepted Fault) (templates : List (List ℕ × List ℕ)) (before now : Account) (old new : Receipt) : Result Report Fault → Type 0 where

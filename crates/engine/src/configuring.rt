@@ -1,15 +1,17 @@
 //! A whole run.
 
-ghost use Rattle.std.specs.Prelude.{◌≡◌, ◌+◌, ◌^◌, ◌<◌, ◌≤◌, length, IfOk, IfErr, Ok, Err, option_map};
-ghost use Rattle.crew_trait.specs.Events.{IsIdle};
+ghost use Rattle.std.specs.Prelude.{◌≡◌, ◌+◌, ◌^◌, ◌<◌, ◌≤◌, length, IfOk, IfErr, OnErr, Ok, Err, option_map};
+ghost use Rattle.crew_trait.specs.Events.{IsIdle, in_flight};
 ghost use Rattle.outputlist.specs.Output.{AreOutputs};
 ghost use Rattle.outputs.specs.Receipt.{with_things};
 ghost use Rattle.plan.specs.Walk.{DoesWhat};
 ghost use Rattle.syntax.specs.Lists.{lists_of};
 ghost use Rattle.syntax.specs.Script.{script_of};
 ghost use Rattle.engine.specs.Judged.{judged};
-ghost use Rattle.framing.specs.Handing.{IfCompleted, ReadsBack};
-ghost use Rattle.engine.specs.Configured.{IfStarts, IsNotRun, IfReport, IfPutRefused, IsAnswer, IsDone, IsWhole, IsRefusedPut, IsMeant, IsCut, things, record_after};
+ghost use Rattle.framing.specs.Handing.{IfCompleted, ReadsBack, IfNamed, IsCacheOf, CacheReadsBack};
+ghost use Rattle.engine.specs.Configured.{IfStarts, IsNotRun, IfReport, IfPutRefused, IsAnswer, IsDone, IsWhole, IsRefusedPut, IsMeant, IsCut, HasRunPart, things, record_after};
+ghost use Rattle.engine.specs.Kept.{IsKept};
+ghost use Rattle.engine.specs.Remaking.{Remakes};
 ghost use Rattle.framing.specs.declared.fault.Fault.TheVariants.{OutOfMemory};
 
 use crate::outcome::outcome_of;
@@ -49,10 +51,13 @@ fn run_ready<C: Crew>(
     requires attempts { (C.account crew.old).attempts + 2 ^ 36 ≤ 2 ^ 62 }
     requires failures { (C.account crew.old).failures + 256 ≤ 2 ^ 62 }
     ensures idle { IsIdle (C.account crew.new).events }
+    ensures landed { in_flight (C.account crew.new).events ≡ in_flight (C.account crew.old).events }
+    ensures begun { OnErr result (HasRunPart window (script_of source.now) start (C.account crew.old) (C.account crew.new)) }
     ensures meant { IfOk result (λ r. IsMeant window (script_of source.now) start (C.account crew.old) (C.account crew.new) r.report) }
     ensures things { IfOk result (λ r. r.things ≡ things (script_of source.now) start templates.now r.report) }
     ensures handed { IfOk result (λ r. r.report.handed ≡ length r.things) }
     ensures reads_back { IfOk result (λ r. IfCompleted r.report.outcome (ReadsBack (record_after (script_of source.now) start r.report))) }
+    ensures saved { IfOk result (λ r. IfNamed start.cache_name (IsCacheOf r.report.vars)) }
 {
     let Start {
         cache_name,
@@ -127,6 +132,7 @@ fn configured<C: Crew, O: Outputs>(
     requires failures { (C.account crew.old).failures + 256 ≤ 2 ^ 62 }
     requires puts { (O.receipt outputs.old).failures + 256 ≤ 2 ^ 62 }
     ensures idle { IsIdle (C.account crew.new).events }
+    ensures landed { in_flight (C.account crew.new).events ≡ in_flight (C.account crew.old).events }
     ensures done { IsDone window (script_of source.now) start templates.now (C.account crew.old) (C.account crew.new) (O.receipt outputs.old) (O.receipt outputs.new) result }
     ensures memory { result ≡ Err OutOfMemory → outputs.new ≡ outputs.old }
 {
@@ -156,6 +162,7 @@ fn whole<C: Crew, O: Outputs>(
         templates.now (C.account crew.old) (C.account crew.new) (O.receipt outputs.old) (O.receipt outputs.new) result }
     ensures memory { result ≡ Err OutOfMemory → outputs.new ≡ outputs.old }
     ensures idle { IsIdle (C.account crew.new).events }
+    ensures landed { in_flight (C.account crew.new).events ≡ in_flight (C.account crew.old).events }
 {
     let source = parsed(alloc, source)?;
     let plan = planned(alloc, &source)?;
@@ -219,8 +226,24 @@ pub fn configure<C: Crew, O: Outputs>(
     // If a put was refused, the things before it were handed over, each whole, and nothing after them.
     ensures cut { IfStarts (judged source.now args.now env.now (option_map (λ c. c.now) cache.entry) templates.now) (λ script start.
         IfPutRefused result (λ number report. IsCut (things script start templates.now report) (O.receipt outputs.old) (O.receipt outputs.new) number report)) }
+    // If a cache is named, its text holds each cache name that was set when the run began, that a
+    // statement assigned, or that a test which came to its end left set, with its value at the end,
+    // unless that has a newline. It holds nothing else.
+    ensures kept { IfStarts (judged source.now args.now env.now (option_map (λ c. c.now) cache.entry) templates.now) (λ script start.
+        IfReport result (λ report. IfNamed start.cache_name (IsKept window script start (C.account crew.old) (C.account crew.new) report))) }
+    // That text is read, if it isn't too large, and sets these names again.
+    ensures reads_back { IfStarts (judged source.now args.now env.now (option_map (λ c. c.now) cache.entry) templates.now) (λ script start.
+        IfReport result (λ report. IfNamed start.cache_name (CacheReadsBack report.vars))) }
+    // The record that a completed run hands over, given to `remake` with any templates and tags,
+    // gives the outputs that the run makes of those templates.
+    ensures remakes { IfStarts (judged source.now args.now env.now (option_map (λ c. c.now) cache.entry) templates.now) (λ script start.
+        IfReport result (λ report. IfCompleted report.outcome (Remakes script start templates.now report))) }
     ensures memory { result ≡ Err OutOfMemory → outputs.new ≡ outputs.old }
+    // If memory runs out, nothing was started, or the starts so far, and their replies, are those of the run.
+    ensures begun { IfStarts (judged source.now args.now env.now (option_map (λ c. c.now) cache.entry) templates.now) (λ script start.
+        result ≡ Err OutOfMemory → HasRunPart window script start (C.account crew.old) (C.account crew.new)) }
     ensures idle { IsIdle (C.account crew.new).events }
+    ensures landed { in_flight (C.account crew.new).events ≡ in_flight (C.account crew.old).events }
 {
     whole(
         alloc, source, args, env, cache, templates, crew, outputs, window,

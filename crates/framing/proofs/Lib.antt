@@ -1,3 +1,4 @@
 mod Versions
 pub mod Remakes
 mod Rechecks
+mod Caches

@@ -1,6 +1,8 @@
 -- What a run hands over, in order.
-use Rattle.std.specs.Prelude.{◌≡◌, ℕ, Bool, List, [], ◌∷◌, ◌++◌, Option, Some, None, Ok, codes, if◌then◌else◌}
-use Rattle.cachefile.specs.Text.{cache_text_of}
+use Rattle.std.specs.Prelude.{◌≡◌, ◌≤◌, ℕ, Bool, List, [], ◌∷◌, ◌++◌, Option, Some, None, Ok, codes, length, if◌then◌else◌}
+use Rattle.cachefile.specs.Cache.{limit}
+use Rattle.cachefile.specs.Text as cachefile
+pub use Rattle.cachefile.specs.Text.{cache_text_of, AreInOrder, lines_for, is_one_line, saved_value}
 use Rattle.making.specs.Making.{made, record_of_run}
 use Rattle.outputs.specs.declared.thing.Thing.{Thing}
 use Rattle.outputs.specs.declared.thing.Kind.TheVariants.{Cache, Record as Recorded}
@@ -16,6 +18,23 @@ use Rattle.framing.specs.declared.report.Outcome.TheVariants.{Completed, Stopped
 abbrev pub cache_things : Option (List ℕ) → List (List ℕ × List ℕ) → List Thing
 cache_things None vars = []
 cache_things (Some name) vars = record { kind = Cache; name = name; text = cache_text_of vars } ∷ []
+
+-- If a cache is named, this holds. (own)
+abbrev pub IfNamed : Option (List ℕ) → Type 0 → Type 0
+IfNamed None goes_on = Unit {0}
+IfNamed (Some name) goes_on = goes_on
+
+-- The cache text of variables is read, if it isn't too large. Its settings, made where nothing is
+-- set, give each variable that is saved its value, and set nothing else. (Autoconf's manual, "Cache
+-- Files")
+abbrev pub CacheReadsBack : List (List ℕ × List ℕ) → Type 0
+CacheReadsBack vars = length (cache_text_of vars) ≤ limit → cachefile.ReadsBack vars (cache_text_of vars)
+
+-- The cache text of variables has a line for each variable that is saved, in order, and is read.
+-- (Autoconf's manual, "Cache Files")
+pub record IsCacheOf (vars : List (List ℕ × List ℕ)) : Type 0 where
+  pub is_text : cachefile.IsCacheText vars (cache_text_of vars)
+  pub reads_back : CacheReadsBack vars
 
 -- The record of a run that keeps these arguments and leaves these variables and definitions. (own)
 abbrev pub run_record : Script → List ℕ → List (List ℕ) → List (List ℕ × List ℕ) → List (List ℕ × List ℕ) → Record

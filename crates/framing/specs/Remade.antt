@@ -1,7 +1,8 @@
 -- Outputs that are made again from a record.
 use Rattle.std.specs.Prelude.{◌≡◌, ℕ, ◌+◌, List, length, Option, Some, None, Result, Ok, Err}
-use Rattle.making.specs.Choice.{missing, unknown}
-use Rattle.making.specs.Making.{made}
+use Rattle.making.specs.Choice.{missing}
+pub use Rattle.making.specs.Choice.{unknown, is_chosen, chosen}
+unfoldable pub use Rattle.making.specs.Making.{made, made_file, made_header}
 use Rattle.outputlist.specs.declared.output.Output.{Output}
 use Rattle.outputs.specs.Receipt.{Receipt, with_things, IsCutAt}
 use Rattle.outputs.specs.declared.thing.Thing.{Thing}

@@ -17,6 +17,14 @@ use status_record::{Record, write_record};
 use std::alloc::{AllocError, Global};
 use syntax::Source;
 
+/// Returns the cache text of variables.
+fn saved_text(alloc: Global, vars: &Vars) -> Result<Bytes, AllocError>
+    ensures is { IfOk result (λ t. t ≡ hands.cache_text_of vars.now) }
+    ensures saved { IfOk result (λ t. hands.IsCacheOf vars.now) }
+{
+    cache_text(alloc, vars)
+}
+
 /// Appends the cache, if one is named.
 fn add_cache(
     alloc: Global,
@@ -24,12 +32,13 @@ fn add_cache(
     name: Option<&Bytes>,
     vars: &Vars,
 ) -> Result<(), AllocError>
-    ensures { OnOk result (things.new ≡ things.old ++ hands.cache_things (option_map (λ n. n.now) name.entry) vars.now) }
+    ensures added { OnOk result (things.new ≡ things.old ++ hands.cache_things (option_map (λ n. n.now) name.entry) vars.now) }
+    ensures saved { OnOk result (hands.IfNamed (option_map (λ n. n.now) name.entry) (hands.IsCacheOf vars.now)) }
 {
     let Some(name) = name else {
         return Ok(());
     };
-    let text = cache_text(alloc, vars)?;
+    let text = saved_text(alloc, vars)?;
     let name = name.copy(alloc)?;
     things.push(Thing {
         kind: Kind::Cache,
@@ -135,6 +144,7 @@ pub fn things_of(
     requires { AreOutputs (lists_of (script_of source.now)).files (lists_of (script_of source.now)).headers }
     ensures all { IfOk result (λ t. t ≡ hands.things_of (option_map (λ n. n.now) cache_name.entry) no_create templates.now outcome vars.now
         (hands.run_record (script_of source.now) srcdir.now args.now vars.now defs.now)) }
+    ensures saved { IfOk result (λ t. hands.IfNamed (option_map (λ n. n.now) cache_name.entry) (hands.IsCacheOf vars.now)) }
     ensures reads_back { OnOk result (hands.IfCompleted outcome (hands.ReadsBack (hands.run_record (script_of source.now) srcdir.now args.now vars.now defs.now))) }
 {
     let mut things = Things::new(alloc);

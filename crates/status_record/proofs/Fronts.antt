@@ -17,13 +17,13 @@ use Rattle.status_record.specs.Reading.{◌>>=◌, either, or_bad, with_item, se
 use Rattle.status_record.proofs.Only.{line_of, line_of_version, version_only, srcdir_only, args_only, entries_only, outputs_only}
 use Rattle.status_record.proofs.Whole.{version_of}
 
-abbrev failed : {A : Type 0} → RecordFault → Result A RecordFault
+abbrev pub failed : {A : Type 0} → RecordFault → Result A RecordFault
 failed f = Err f
 
-err_is : {A : Type 0} (f g : RecordFault) → failed {A = A} f ≡ failed {A = A} g → f ≡ g
+pub err_is : {A : Type 0} (f g : RecordFault) → failed {A = A} f ≡ failed {A = A} g → f ≡ g
 err_is f g e = cc
 
-bind_err : {A B : Type 0} (r : Result A RecordFault) (f : A → Result B RecordFault) (d : RecordFault) → (r >>= f) ≡ Err d → (r ≡ Err d) ⊎ ((x : A) × (r ≡ Ok x) × (f x ≡ Err d))
+pub bind_err : {A B : Type 0} (r : Result A RecordFault) (f : A → Result B RecordFault) (d : RecordFault) → (r >>= f) ≡ Err d → (r ≡ Err d) ⊎ ((x : A) × (r ≡ Ok x) × (f x ≡ Err d))
 bind_err (Ok x) f d e = inr (x, refl, e)
 bind_err (Err g) f d e = inl (ap failed (err_is g d e))
 
@@ -90,11 +90,11 @@ args_truncated Second lines e =
 abbrev SoFar : Version → List ℕ → List (List ℕ) → Type 0
 SoFar version srcdir lines = (r : Record) × (version ≡ version_of r.args) × (srcdir ≡ r.srcdir) × (arg_lines r.args ++ body_lines r ≡ lines ++ codes "end" ∷ []) × IsRecord r
 
-four : {X : Type 0} (a b c d e : List X) → a ++ (b ++ (c ++ (d ++ e))) ≡ (a ++ (b ++ (c ++ d))) ++ e
+pub four : {X : Type 0} (a b c d e : List X) → a ++ (b ++ (c ++ (d ++ e))) ≡ (a ++ (b ++ (c ++ d))) ++ e
 four a b c d e =
     ap (λ t. a ++ (b ++ t)) (sym (append_assoc c d e)) ∙ ap (λ t. a ++ t) (sym (append_assoc b (c ++ d) e)) ∙ sym (append_assoc a (b ++ (c ++ d)) e)
 
-joined_up : {X : Type 0} (lines l1 l2 l3 l4 v d f h e : List X) → lines ≡ v ++ l1 → l1 ≡ d ++ l2 → l2 ≡ f ++ l3 → l3 ≡ h ++ l4 → l4 ≡ [] → v ++ (d ++ (f ++ (h ++ e))) ≡ lines ++ e
+pub joined_up : {X : Type 0} (lines l1 l2 l3 l4 v d f h e : List X) → lines ≡ v ++ l1 → l1 ≡ d ++ l2 → l2 ≡ f ++ l3 → l3 ≡ h ++ l4 → l4 ≡ [] → v ++ (d ++ (f ++ (h ++ e))) ≡ lines ++ e
 joined_up lines l1 l2 l3 l4 v d f h e e1 e2 e3 e4 e5 =
     let h4 : l3 ≡ h = e4 ∙ ap (λ t. h ++ t) e5 ∙ append-nil h in
     let h3 : l2 ≡ f ++ h = e3 ∙ ap (λ t. f ++ t) h4 in
@@ -103,7 +103,7 @@ joined_up lines l1 l2 l3 l4 v d f h e e1 e2 e3 e4 e5 =
     four v d f h e ∙ ap (λ t. t ++ e) (sym h1)
 
 -- the lines after the arguments, which are before line n + 1
-abbrev after_args : List ℕ → List ℕ → Option (List (List ℕ)) → ℕ → List (List ℕ) → Result Record RecordFault
+abbrev pub after_args : List ℕ → List ℕ → Option (List (List ℕ)) → ℕ → List (List ℕ) → Result Record RecordFault
 after_args rest srcdir args n lines = do
   vars ← entries_in (codes "var ") n lines
   defs ← entries_in (codes "def ") vars.1.0 vars.1.1
@@ -191,7 +191,7 @@ bare_lines : (version : Version) → record_lines (bare version) ≡ line_of ver
 bare_lines First = refl
 bare_lines Second = refl
 
-lines_truncated : (rest : List ℕ) (lines : List (List ℕ)) → lines_in rest lines ≡ Err Truncated → IsTruncated lines
+pub lines_truncated : (rest : List ℕ) (lines : List (List ℕ)) → lines_in rest lines ≡ Err Truncated → IsTruncated lines
 unfolding lines_in
 lines_truncated rest [] e = absurd cc
 lines_truncated rest (first ∷ []) e =

@@ -26,7 +26,7 @@ use Rattle.status_record.proofs.Escapes.{escaped-unescaped}
 use Rattle.status_record.proofs.Fields.{entry_only, output_only}
 use Rattle.status_record.proofs.Lines.{after_prefix-some}
 use Rattle.status_record.proofs.Loops.{none_of}
-use Rattle.status_record.proofs.Sections.{bind_ok, then_ok, ok_is, or_bad_ok, several_only, May-all, May-distinct}
+use Rattle.status_record.proofs.Sections.{bind_ok, ok_is, or_bad_ok, several_only, May-all, May-distinct}
 use Rattle.status_record.proofs.Texts.{parts_joined}
 use Rattle.status_record.proofs.Whole.{all_named, version_of, IsAny, reads_back}
 
@@ -155,7 +155,7 @@ body_only rest version srcdir lines r e =
     let is : IsRecord made = record { vars = v.1; defs = d.1; outputs = record { file_paths = f.1; header_paths = h.1; names = h.2 } } in
     subst (λ q. Body rest version srcdir lines q) same (z.0, a.0, refl, a.1 ∙ ap (λ t. arg_lines p0.0.0 ++ t) text, is)
 
-lines_only : (rest : List ℕ) (lines : List (List ℕ)) (r : Record) → lines_in rest lines ≡ Ok r → (rest ≡ []) × (lines ≡ record_lines r) × IsRecord r
+pub lines_only : (rest : List ℕ) (lines : List (List ℕ)) (r : Record) → lines_in rest lines ≡ Ok r → (rest ≡ []) × (lines ≡ record_lines r) × IsRecord r
 unfolding lines_in
 lines_only rest [] r e = absurd cc
 lines_only rest (first ∷ []) r e = let p = bind_ok (version_in first) (λ _. Err Truncated) r e in let h : Err Truncated ≡ read_ok r = p.2 in absurd cc

@@ -53,7 +53,7 @@ module _ {A : Type 0} (keyword : List ℕ) (fields : A → List ℕ) (read : Lis
     with_back before n x is new =
         ap (λ o. or_bad n o >>= λ y. cond (given before y) (Err (DuplicateName n)) (Ok (before ++ y ∷ []))) (reads x is) ∙ cond-false _ _ _ new
 
-    one_back : (before : List A) (n : ℕ) (x : A) (more : List (List ℕ)) (y : Result (Read (List A)) RecordFault) → Is x → given before x ≡ false
+    pub one_back : (before : List A) (n : ℕ) (x : A) (more : List (List ℕ)) (y : Result (Read (List A)) RecordFault) → Is x → given before x ≡ false
         → several keyword read given (before ++ x ∷ []) (n + 1) more ≡ y → several keyword read given before n ((keyword ++ fields x) ∷ more) ≡ y
     unfolding several
     one_back before n x more y is new later =
@@ -80,7 +80,7 @@ module _ {A : Type 0} (keyword : List ℕ) (fields : A → List ℕ) (read : Lis
     chosen before now n x true e = absurd cc
     chosen before now n x false e = (refl, ok_is _ _ e)
 
-    one_only : (before now : List A) (n : ℕ) (f : List ℕ) → with_item read given before n f ≡ Ok now
+    pub one_only : (before now : List A) (n : ℕ) (f : List ℕ) → with_item read given before n f ≡ Ok now
         → (x : A) × (now ≡ before ++ x ∷ []) × (given before x ≡ false) × Is x × (f ≡ fields x)
     one_only before now n f e =
         let p = bind_ok (or_bad n (read f)) (λ x. cond (given before x) (Err (DuplicateName n)) (Ok (before ++ x ∷ []))) now e in

@@ -45,7 +45,7 @@ outputs_back keyword before os n rest all distinct apart =
     (May-from keyword output_fields output_in (λ o. o.name) before IsOutput [] os all distinct) apart
 
 -- lines of another kind
-apart_lines : {A : Type 0} (keyword other : List ℕ) (fields : A → List ℕ) (items : List A) (rest : List (List ℕ)) → ((t : List ℕ) → after_prefix keyword (other ++ t) ≡ None)
+pub apart_lines : {A : Type 0} (keyword other : List ℕ) (fields : A → List ℕ) (items : List A) (rest : List (List ℕ)) → ((t : List ℕ) → after_prefix keyword (other ++ t) ≡ None)
     → Apart keyword rest → Apart keyword (lines_of other fields items ++ rest)
 apart_lines keyword other fields [] rest none h = h
 apart_lines keyword other fields (x ∷ items) rest none h = none (fields x)
@@ -124,17 +124,17 @@ body_back r is =
     (then_ok _ _ tt _ (end_back m5) refl)))))
 
 -- the second line
-srcdir_back : (v : List ℕ) → srcdir_in (codes "srcdir " ++ escaped v) ≡ Ok v
+pub srcdir_back : (v : List ℕ) → srcdir_in (codes "srcdir " ++ escaped v) ≡ Ok v
 unfolding srcdir_in
 srcdir_back v =
     ap (λ o. either o (λ value. or_bad 2 (unescaped value)) (Err (BadLine 2))) (after_prefix-append (codes "srcdir ") (escaped v)) ∙ ap (or_bad 2) (unescaped-escaped v)
 
-version_back : (args : Option (List (List ℕ))) → version_in (version_line args) ≡ Ok (version_of args)
+pub version_back : (args : Option (List (List ℕ))) → version_in (version_line args) ≡ Ok (version_of args)
 unfolding version_in
 version_back None = refl
 version_back (Some args) = refl
 
-lines_back : (r : Record) → IsRecord r → lines_in [] (record_lines r) ≡ Ok r
+pub lines_back : (r : Record) → IsRecord r → lines_in [] (record_lines r) ≡ Ok r
 unfolding lines_in
 lines_back r is =
     then_ok _ _ (version_of r.args) _ (version_back r.args) (then_ok _ _ r.srcdir _ (srcdir_back r.srcdir) (body_back r is))
@@ -163,7 +163,7 @@ version_lacks : (args : Option (List (List ℕ))) → lacks 10 (version_line arg
 version_lacks None = refl
 version_lacks (Some args) = refl
 
-any_all : (args : List (List ℕ)) → AllByRecursion IsAny args
+pub any_all : (args : List (List ℕ)) → AllByRecursion IsAny args
 any_all [] = tt
 any_all (arg ∷ args) = (tt, any_all args)
 
@@ -171,7 +171,7 @@ args_are_lines : (args : Option (List (List ℕ))) → AreLines (arg_lines args)
 args_are_lines None = tt
 args_are_lines (Some args) = all_lines (codes "arg ") escaped IsAny refl (λ arg any. escaped_lacks_newline arg) args (any_all args)
 
-are_lines : (r : Record) → IsRecord r → AreLines (record_lines r)
+pub are_lines : (r : Record) → IsRecord r → AreLines (record_lines r)
 are_lines r is = (
   version_lacks r.args,
   (

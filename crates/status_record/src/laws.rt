@@ -4,6 +4,8 @@ ghost use Rattle.std.specs.Prelude.{◌≡◌, ℕ, List, Some, Ok, Err};
 ghost use Rattle.status_record.specs.Escape.{escaped, unescaped};
 ghost use Rattle.status_record.specs.RecordText.{IsFirstText, IsSecondText, IsRecordText};
 ghost use Rattle.status_record.specs.Reading.{record_in, front_of, IsTruncated};
+ghost use Rattle.status_record.specs.Faults.{IsRecordFault};
+ghost use Rattle.status_record.specs.declared.fault.RecordFault.{RecordFault as FaultValue};
 ghost use Rattle.textcut.specs.Cuts.{parts};
 ghost use Rattle.status_record.specs.declared.fault.RecordFault.TheVariants.{Truncated};
 ghost use Rattle.status_record.specs.declared.record.Record.{Record as RecordValue};
@@ -26,4 +28,12 @@ pub fn records()
 /// If a text is truncated, its lines are the first of some record that has more.
 pub fn fronts()
     ensures truncated { (text : List ℕ) → record_in text ≡ Err Truncated → IsTruncated (front_of (parts 10 text)) }
+{}
+
+/// A text has at most one first fault, the text of a record has none, and exactly these faults are found.
+pub fn faults()
+    ensures has_one_fault { (text : List ℕ) (f g : FaultValue) → IsRecordFault text f → IsRecordFault text g → f ≡ g }
+    ensures has_none { (text : List ℕ) (r : RecordValue) (f : FaultValue) → IsRecordText text r → ¬ (IsRecordFault text f) }
+    ensures sound { (text : List ℕ) (f : FaultValue) → record_in text ≡ Err f → IsRecordFault text f }
+    ensures complete { (text : List ℕ) (f : FaultValue) → IsRecordFault text f → record_in text ≡ Err f }
 {}

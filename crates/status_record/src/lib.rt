@@ -15,8 +15,8 @@
 //! ```
 //!
 //! In `specs`, read `RecordText` for the text and for what a record may hold, `Line` and `Escape` for its lines and their
-//! values, and `Reading` for the order of the faults. What outputs a record may hold is `AreOutputs` of `outputlist`. In `src`,
-//! read `record`, then `write` and `read`. `laws` has no code.
+//! values, and `Faults` for the first fault of another text. `Reading` has both as functions. What outputs a record may hold is
+//! `AreOutputs` of `outputlist`. In `src`, read `record`, then `write` and `read`. `laws` has no code.
 #![tactic(auto)]
 
 mod escape;

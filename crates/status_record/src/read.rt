@@ -1,6 +1,6 @@
 //! Records that are read.
 
-ghost use Rattle.std.specs.Prelude.{◌≡◌, ◌≤◌, ◌<◌, ◌+◌, ℕ, IfOk, OnOk, Ok, Err, length, drop, map, codes, ◌≢◌, ◌^◌, ◌++◌, List, [], ◌∷◌, ◌-◌, false};
+ghost use Rattle.std.specs.Prelude.{◌≡◌, ◌≤◌, ◌<◌, ◌+◌, ℕ, IfOk, IfErr, OnOk, Ok, Err, length, drop, map, codes, ◌≢◌, ◌^◌, ◌++◌, List, [], ◌∷◌, ◌-◌, false};
 ghost use Rattle.std.specs.List.{list_all};
 ghost use Rattle.std.specs.Char.{is_ascii_digit};
 ghost use Rattle.status_record.specs.declared.fault.RecordFault.TheVariants.{OutOfMemory};
@@ -9,7 +9,9 @@ ghost use Rattle.deftable.specs.Table.{names_of};
 ghost use Rattle.outputlist.specs.Output.{output_names};
 ghost use Rattle.status_record.specs.Escape.{unescaped};
 ghost use Rattle.status_record.specs.Line.{entry_in, output_in};
+ghost use Rattle.status_record.specs.Faults.{IsRecordFault};
 ghost use Rattle.status_record.specs.RecordText.{IsRecordText};
+ghost use Rattle.status_record.specs.declared.fault.RecordFault.{RecordFault as FaultValue};
 ghost use Rattle.status_record.specs.declared.record.Record.{Record as RecordValue};
 ghost use Rattle.status_record.specs.Reading as specs;
 
@@ -347,6 +349,10 @@ pub fn read_record(alloc: Global, text: &[u8]) -> Result<Record, RecordFault>
     ensures sound { IfOk result (λ r. IsRecordText text.now r) }
     // The text of a record is read as that record, unless memory runs out.
     ensures complete { (r : RecordValue) → IsRecordText text.now r → specs.Gives (λ r. r) result (Ok r) }
+    // An error other than out of memory is the first fault of the text.
+    ensures error_sound { IfErr result (λ fault. fault ≢ OutOfMemory → IsRecordFault text.now fault) }
+    // If the text has a fault, the first one is returned, unless memory runs out.
+    ensures error_complete { (fault : FaultValue) → IsRecordFault text.now fault → specs.Gives (λ r. r) result (Err fault) }
     // The same as a function: any other text has its first fault returned, unless memory runs out.
     ensures exact { specs.Gives (λ r. r) result (specs.record_in text.now) }
 {

@@ -3,6 +3,7 @@ use Rattle.acstatement.specs.Reading.{Gives}
 use Rattle.syntax.specs.Script.{script_of}
 use Rattle.acparse.proofs.ListLimits.{lists_fit, outputs_fit}
 use Rattle.acparse.proofs.Owning.{commands_held}
+use Rattle.acparse.proofs.TestNaming.{names_held}
 use Rattle.acparse.proofs.Whole.{is_found, is_fault, source_only}
 use Rattle.acparse.proofs.source.parse.Goals as goal
 
@@ -17,6 +18,9 @@ returns-clause-outputs c = outputs_fit c.args.text.now c.read_source.result c.re
 
 pub returns-clause-commands : goal.returns-clause-commands
 returns-clause-commands c = commands_held c.args.text.now c.read_source.result c.read_source.ensures
+
+pub returns-clause-names : goal.returns-clause-names
+returns-clause-names c = names_held c.args.text.now c.read_source.result c.read_source.ensures
 
 pub returns-clause-complete : goal.returns-clause-complete
 returns-clause-complete c = λ s h. subst (Gives script_of c.read_source.result) (source_only c.args.text.now s h) c.read_source.ensures

@@ -1,5 +1,5 @@
-use Rattle.std.proofs.Common.{◌≡◌}
-use Rattle.engine.proofs.Wholes.{is_answer, is_untouched, is_meant, is_handed, is_reported, is_remade, is_cut}
+use Rattle.std.proofs.Common.{ap}
+use Rattle.engine.proofs.Wholes.{is_answer, is_untouched, is_meant, is_handed, is_reported, is_remade, is_cut, holds_set, reads_back, is_remakable, has_run_part}
 use Rattle.engine.proofs.configuring.configure.Goals as goal
 
 pub returns-clause-accepted : goal.returns-clause-accepted
@@ -22,3 +22,15 @@ returns-clause-remade g c = is_remade _ _ _ _ _ _ _ _ _ c.whole.ensures.whole
 
 pub returns-clause-cut : goal.returns-clause-cut
 returns-clause-cut g c = is_cut _ _ _ _ _ _ _ _ _ c.whole.ensures.whole
+
+pub returns-clause-kept : goal.returns-clause-kept
+returns-clause-kept g c = holds_set _ _ _ _ _ _ _ _ _ c.whole.ensures.whole
+
+pub returns-clause-reads_back : goal.returns-clause-reads_back
+returns-clause-reads_back g c = reads_back _ _ _ _ _ _ _ _ _ c.whole.ensures.whole
+
+pub returns-clause-remakes : goal.returns-clause-remakes
+returns-clause-remakes g c = is_remakable _ _ _ _ _ _ _ _ _ c.whole.ensures.whole
+
+pub returns-clause-begun : goal.returns-clause-begun
+returns-clause-begun g c = has_run_part _ _ _ _ _ _ _ _ _ c.whole.ensures.whole (λ s. ap g.C.Crew.account s.0)

@@ -1,4 +1,4 @@
-use Rattle.std.proofs.Common.{◌≡◌, Ok, Err, refl, ◌∙◌}
+use Rattle.std.proofs.Common.{refl, ◌∙◌}
 use Rattle.engine.proofs.Wholes.{judged_first, judged_second, judged_third, fails_first, fails_last, fails_memory, shows, starts}
 use Rattle.engine.proofs.configuring.whole.Goals as goal
 

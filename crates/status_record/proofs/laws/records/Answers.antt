@@ -1,4 +1,3 @@
-use Rattle.std.proofs.Common.{◌∙◌, sym}
 use Rattle.status_record.proofs.Only.{record_in-sound, record_in-complete, one_record, one_text, one_version}
 use Rattle.status_record.proofs.laws.records.Goals as goal
 

@@ -1,0 +1,72 @@
+-- What the cache of a run holds.
+use Rattle.std.proofs.Common.{◌≡◌, ℕ, Bool, true, false, cond, List, Option, Some, None, refl, sym, ap, subst, ◌∙◌}
+use Rattle.std.specs.Prelude.{◌&&◌}
+use Rattle.crew_trait.specs.Events.{Account}
+use Rattle.deftable.specs.CacheName.{is_cache_name}
+use Rattle.deftable.specs.Table.{value_of}
+use Rattle.laws.specs.Deeds.{deeds, Accounts}
+use Rattle.laws.proofs.Accounting.{deeds_account}
+use Rattle.meaning.specs.Meaning.{meaning}
+use Rattle.meaning.specs.Play.{Played, play, whole}
+use Rattle.meaning.specs.State.{opened}
+use Rattle.syntax.specs.Script.{Script}
+use Rattle.framing.specs.Handing.{IfNamed, IsCacheOf, is_one_line, saved_value}
+use Rattle.framing.specs.declared.accepting.Start.{Start}
+use Rattle.framing.specs.declared.report.Report.{Report}
+use Rattle.engine.specs.Configured.{IsMeant}
+use Rattle.engine.specs.Kept.{replies_of, IsKept}
+
+some_is : (a b : List ℕ) → Some a ≡ Some b → a ≡ b
+some_is a b e = cc
+
+-- A value that is saved is that of a cache name, and has no newline.
+saved_is : (name value : List ℕ) (now : Option (List ℕ)) → saved_value name now ≡ Some value
+    → (is_cache_name name ≡ true) × (now ≡ Some value) × (is_one_line value ≡ true)
+saved_is name value None e = absurd cc
+saved_is name value (Some v) e = by_tests (is_cache_name name) (is_one_line v) refl refl e
+  where
+    by_tests : (named one_line : Bool) → is_cache_name name ≡ named → is_one_line v ≡ one_line → cond (named && one_line) (Some v) None ≡ Some value
+        → (is_cache_name name ≡ true) × (Some v ≡ Some value) × (is_one_line value ≡ true)
+    by_tests true true named one_line e = (named, e, subst (λ w. is_one_line w ≡ true) (some_is v value e) one_line)
+    by_tests true false named one_line e = absurd cc
+    by_tests false one_line named line e = absurd cc
+
+-- A value of a cache name without a newline is saved.
+is_saved_value : (name value : List ℕ) → is_cache_name name ≡ true → is_one_line value ≡ true → saved_value name (Some value) ≡ Some value
+is_saved_value name value named one_line =
+    ap (λ b. cond (b && is_one_line value) (Some value) None) named ∙ ap (λ b. cond b (Some value) None) one_line
+
+-- The deeds of a run account for the variables of its report.
+accounted : {window : ℕ} {script : Script} {start : Start} {before now : Account} {report : Report} (meant : IsMeant window script start before now report)
+    → Accounts start.vars (deeds script (opened start.vars) (replies_of meant)) report.vars
+accounted {window} {script} {start} {before} {now} {report} meant =
+    let played : Played = play (whole (meaning script (opened start.vars))) (replies_of meant) in
+    let at_end : played.state.vars ≡ report.vars = ap (λ p. p.state.vars) meant.ran.meaning ∙ sym (ap (λ r. r.vars) meant.told) in
+    subst (λ vars. Accounts start.vars (deeds script (opened start.vars) (replies_of meant)) vars) at_end
+    (deeds_account script (opened start.vars) (replies_of meant))
+
+pub is_kept : {window : ℕ} {script : Script} {start : Start} {before now : Account} {report : Report} (meant : IsMeant window script start before now report)
+    → IsCacheOf report.vars → IsKept window script start before now report
+is_kept {window} {script} {start} {before} {now} {report} meant cache =
+    let accounts = accounted meant in
+    let text = cache.is_text in
+    record {
+      meant = meant;
+      holds = record {
+        entries = text.entries;
+        in_order = text.in_order;
+        lines = text.lines;
+        only = λ name value e.
+            let saved = saved_is name value (value_of report.vars name) (sym (text.values name) ∙ e) in
+            (accounts.only name (value, saved.1), saved.0, saved.1, saved.2);
+        all = λ name was_set named.
+            let at_end = accounts.all name was_set in
+            (at_end.0, at_end.1, λ one_line. text.values name ∙ ap (saved_value name) at_end.1 ∙ is_saved_value name at_end.0 named one_line);
+      };
+    }
+
+-- The same, if a cache is named.
+pub kept_if_named : {window : ℕ} {script : Script} {start : Start} {before now : Account} {report : Report} (name : Option (List ℕ))
+    → IsMeant window script start before now report → IfNamed name (IsCacheOf report.vars) → IfNamed name (IsKept window script start before now report)
+kept_if_named None meant cache = tt
+kept_if_named (Some name) meant cache = is_kept meant cache
