@@ -112,7 +112,10 @@ fn create_log<F: Files>(files: &F) -> io::Result<F::File> {
             let _ = fs::remove_file(files, LOG);
         }
     }
-    File::options().write(true).create_new(true).open(files, LOG)
+    File::options()
+        .write(true)
+        .create_new(true)
+        .open(files, LOG)
 }
 
 /// Writes the log of a run. It makes the text of one entry at a time, and hands the system 8 KiB at once.

@@ -4,9 +4,9 @@ ghost use Rattle.std.specs.Prelude.{◌≡◌, false, Ok, IfOk};
 ghost use Rattle.invocation.specs.Quiet as words;
 ghost use Rattle.syntax.specs.Script.{script_of};
 
+use crate::printing::LOG;
 use acparse::{ParseFault, parse};
 use deftable::Bytes;
-use crate::printing::LOG;
 use diskfiles::{FileOutputs, path_in, read_limited, read_text};
 use options::{OptionFault, Settings, read_args};
 use outputlist::Output;
