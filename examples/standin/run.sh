@@ -34,4 +34,22 @@ rm -f ./*.seen
 "$acrun" standin -c conftest2.c &
 expect 0 '' -c conftest1.c
 wait
+
+# meet WINDOW ANSWER: of two headers that are checked at once, the first has this answer. It is yes only if both children run
+# at one time.
+meet() {
+    mkdir "run$1" && cd "run$1" || exit 2
+    printf 'AC_INIT([demo],[1.0])\nAC_CHECK_HEADERS([a.h b.h])\nAC_OUTPUT\n' > configure.ac
+    echo '!meet' > standin.txt
+    said=$("$acrun" "$1" configure CC="$acrun standin" 2>&1)
+    if [ "$said" != "checking for a.h... $2
+checking for b.h... yes" ]; then
+        wrong=1
+        echo "standin: with $1 the run says '$said'"
+    fi
+    cd .. || exit 2
+}
+
+meet -j2 yes
+meet -j1 no
 [ "$wrong" -eq 0 ] && echo "standin: as it should be"

@@ -35,6 +35,8 @@ here cc.sh config.cache config.log configure.ac conftest1.c f.in; 0 [checking fo
 children |source AC_CHECK_FUNCS([e])|write cc.sh kill -9 $$^J|env CC=sh cc.sh|run configure|directory d|in d|directory conftest1.c\
 |run configure,--srcdir=..|in .. => \
 0 [checking for e... no^J]; 3 [checking for e... refused^J] err[configure: cut short at child 1^J]
+// a compiler that writes 8 MiB of diagnostics and succeeds
+children |source AC_CHECK_HEADERS([a.h])|write big.sh head -c 8388608 /dev/zero > big^Jcat big >&2^Jexit 0^J|env CC=sh big.sh|run configure => 0 [checking for a.h... yes^J]
 ";
 
 #[test]
