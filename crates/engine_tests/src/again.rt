@@ -52,6 +52,7 @@ remake acrun-record 1^Jsrcdir .^Jvar V x^Jfile b t^Jfile a t^Jend^J|templates t 
 remake acrun-record 1^Jsrcdir .^Jvar V x^Jend^J => 0
 // Arguments change nothing.
 remake acrun-record 2^Jsrcdir .^Jarg --enable-x^Jarg -n^Jvar V x^Jfile a t^Jend^J|templates t <@V@> => 1; file a[<x>]
+remake acrun-record 1^Jsrcdir .^Jvar A x\\ny^Jend^J => 0
 ";
 
 #[test]
@@ -93,6 +94,7 @@ recheck acrun-record 1^Jsrcdir .^Jarg --enable-x^Jend^J => record 2 at 3
 recheck acrun-record 3^J => record 4
 recheck acrun-record 2^Jsrcdir .^Jarg a^J => record 3
 recheck  => record 1
+recheck acrun-record 1^Jsrcdir .^Jvar A x\\ny^Jend^J => no arguments
 ";
 
 #[test]

@@ -59,6 +59,11 @@ run AC_CONFIG_FILES([f a/b/f])|args --srcdir=..|templates f.in @srcdir@ @top_src
 completed 3; record config.status; file f[.. .. . .]; file a/b/f[../../../a/b ../../.. . ../..]
 run AC_CONFIG_FILES([f a/b/f])|args --srcdir=/s/|templates f.in @srcdir@ @top_srcdir@ @builddir@ @top_builddir@;a/b/f.in @srcdir@ @top_srcdir@ @builddir@ @top_builddir@ => \
 completed 3; record config.status; file f[/s /s . .]; file a/b/f[/s/a/b /s . ../..]
+// headers with blanks before and after `#`
+run AC_DEFINE([HAVE_X])^JAC_CONFIG_HEADERS([h])|templates h.in   # undef HAVE_X^J => \
+completed 2 HAVE_X=1; record config.status; header h[/* h.  Generated from h.in by configure.  */^J  # define HAVE_X 1^J]
+run AC_CONFIG_HEADERS([h])|templates h.in   # undef HAVE_X^J#define Y 2^J => \
+completed 2; record config.status; header h[/* h.  Generated from h.in by configure.  */^J/*   # undef HAVE_X */^J#define Y 2^J]
 ";
 
 #[test]

@@ -56,6 +56,20 @@ cache config.cache[# config.cache of configure^Jac_cv_header_a_h=${ac_cv_header_
 // no compiler
 run AC_CHECK_FUNCS([f])|args -C => stopped 1, 1 err[configure: error: no acceptable C compiler found in $PATH^J]; \
 cache config.cache[# config.cache of configure^J]
+// A list that is cut and run again with its cache, and the same list in one run
+twice AC_CHECK_FUNCS([f g f])|args -C|env CC=cc|replies 0: S|then 1:|shown ac_cv_func_f;ac_cv_func_g => \
+cut 2, 1 [checking for f... ][yes^J][checking for g... ][refused^J][checking for f... ][(cached) yes^J]err[configure: cut short at child 2^J] \
+HAVE_F=1 ac_cv_func_f=yes, start 0, end 0, refused 0; cache config.cache[# config.cache of configure^Jac_cv_func_f=${ac_cv_func_f=yes}^J] / \
+completed 2 [checking for f... ][(cached) yes^J][checking for g... ][no^J][checking for f... ][(cached) yes^J] \
+HAVE_F=1 ac_cv_func_f=yes ac_cv_func_g=no, start 0, end 0; \
+cache config.cache[# config.cache of configure^Jac_cv_func_f=${ac_cv_func_f=yes}^Jac_cv_func_g=${ac_cv_func_g=no}^J]; record config.status
+run AC_CHECK_FUNCS([f g f])|args -C|env CC=cc|replies 0: 1:|shown ac_cv_func_f;ac_cv_func_g => \
+completed 2 [checking for f... ][yes^J][checking for g... ][no^J][checking for f... ][(cached) yes^J] \
+HAVE_F=1 ac_cv_func_f=yes ac_cv_func_g=no, start 0, end 0, start 0, end 0; \
+cache config.cache[# config.cache of configure^Jac_cv_func_f=${ac_cv_func_f=yes}^Jac_cv_func_g=${ac_cv_func_g=no}^J]; record config.status
+run AC_SEARCH_LIBS([f],[a b])|args -C|env CC=cc|replies 1: 1: 0:|shown LIBS => \
+completed 2 [checking for library containing f... ][-lb^J] LIBS=-lb , start 0, end 0, start 0, end 0, start 0, end 0; \
+cache config.cache[# config.cache of configure^Jac_cv_search_f=${ac_cv_search_f=-lb}^J]; record config.status
 ";
 
 #[test]
@@ -76,6 +90,14 @@ checking x... ^J$ cc -c conftest.c^Jwait refused^Jrefused^Jconfigure: cut short 
 // also if a put is refused, and empty if a text is shown
 log AC_MSG_NOTICE([n])|refuse 1 => put 1, configure: n^J
 log AC_MSG_NOTICE([n])|args --version =>
+// a stopped run, a search for a program, a list that is cut, and no compiler
+log AC_CHECK_HEADERS([a.h])^JAS_IF([test x = y],[AC_SUBST([Q],[1])])^JAC_MSG_ERROR([no],[7])|args -C|env CC=cc|replies 0: => \
+checking for a.h... ^J$ cc -c conftest1.c^Jstatus 0^Jyes^Jconfigure: error: no^J
+log AC_CHECK_PROG([P],[p],[p])|env PATH=:/x/|replies 1: 1: => checking for p... ^J$ sh -c 'test -f \"$1\" && test -x \"$1\"' sh ./p^Jstatus 1^J\
+$ sh -c 'test -f \"$1\" && test -x \"$1\"' sh /x/p^Jstatus 1^Jno^J
+log AC_CHECK_FUNCS([f g f])|env CC=cc|replies 0: S => checking for f... ^J$ cc -o conftest1 conftest1.c^Jstatus 0^Jyes^J\
+checking for g... ^J$ cc -o conftest2 conftest2.c^Jstart refused^Jrefused^Jchecking for f... ^J(cached) yes^Jconfigure: cut short at child 2^J
+log AC_CHECK_FUNCS([f]) => configure: error: no acceptable C compiler found in $PATH^J
 ";
 
 #[test]

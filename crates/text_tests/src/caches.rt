@@ -130,6 +130,8 @@ name a_CV_b => no
 name 9_cv_ => no
 name a-b_cv_c => no
 name  => no
+// read back
+back v_cv_b=a}b => v_cv_b[a}b];
 ";
 
 /// `fronts` alone: from which length on a front of the text of one header is read, or has an error. `newlines` alone: what a

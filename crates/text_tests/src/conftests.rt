@@ -39,6 +39,7 @@ path /x/p => sh|-c|test -f \"$1\" && test -x \"$1\"|sh|/x/p|
 
 // A word of a vector, one that is pushed after it, and a copy of both; and no words.
 list cc -c => cc|-c|^J
+words CC=cc;CFLAGS=-O;LIBS=-lm;CPP=cpp => cc|-c|-O|conftest.c|^Jcc|-o|conftest|-O|conftest.c|-lm|^Jcpp|conftest.c|
 ";
 
 /// Puts each word with a bar after it.

@@ -33,6 +33,9 @@ quiet o checking... ;o yes^J;e configure: WARNING: w^J;o a^J => |configure: WARN
 out e a => 
 err o a => 
 quiet e a;e b => |ab
+out e configure: WARNING: w^J => 
+err e configure: WARNING: w^J => configure: WARNING: w^J
+quiet e configure: WARNING: w^J => |configure: WARNING: w^J
 ";
 
 fn note_of(alloc: Global, kind: &[u8], text: &[u8]) -> Result<Note, AllocError> {

@@ -101,6 +101,7 @@ v1 file a b^Jheader a c => 5 at 4
 v1 header a b^Jheader a b => 5 at 4
 v1 var A x^Jvar A \\x => 2 at 4
 v1 var A x^Jvar A x^Jx => 5 at 4
+read acrun-record 9^Jsrcdir .^Jvar A x\\ny^Jend^J => 4
 ";
 
 /// `fronts` and a text: from which length on a front of the text is read, or has a fault.
