@@ -5,11 +5,20 @@
 # make check    the gate: every proof, every test, every must-fail edit, and the checks of tools/repository.py
 # make edits    tries the wrong bodies of every crate, or of those that NAMES names: make edits NAMES="crew plan"
 # make edits-test  tries the script that does it
-# make install  puts the built program at $(prefix)/bin/acrun
+# make install  puts the program, its manual page, completions and share/configure below $(DESTDIR)$(prefix)
+# make uninstall  removes them
+# make dist     makes an archive of the program for machines without the toolchain, out/acrun-VERSION-x86_64-linux.tar.gz
+# make deb      makes a Debian package of the same files
 
 prefix = /usr/local
+bindir = $(prefix)/bin
+datadir = $(prefix)/share
+mandir = $(datadir)/man
+bashdir = $(datadir)/bash-completion/completions
+zshdir = $(datadir)/zsh/site-functions
+fishdir = $(datadir)/fish/vendor_completions.d
 
-.PHONY: all try demo compile check edits edits-test install
+.PHONY: all try demo compile check edits edits-test install install-files uninstall dist deb
 
 # tools/build.sh looks at what has changed, and builds nothing anew if nothing has.
 all:
@@ -39,6 +48,24 @@ edits:
 edits-test:
 	@python3 tools/edits_together.py --selftest
 
-install: all
-	mkdir -p "$(DESTDIR)$(prefix)/bin"
-	install -m 755 out/acrun "$(DESTDIR)$(prefix)/bin/acrun"
+install: all install-files
+
+install-files:
+	mkdir -p "$(DESTDIR)$(bindir)" "$(DESTDIR)$(mandir)/man1" "$(DESTDIR)$(datadir)/acrun" "$(DESTDIR)$(bashdir)" "$(DESTDIR)$(zshdir)" "$(DESTDIR)$(fishdir)"
+	install -m 755 out/acrun "$(DESTDIR)$(bindir)/acrun"
+	install -m 755 share/configure "$(DESTDIR)$(datadir)/acrun/configure"
+	install -m 644 share/acrun.1 "$(DESTDIR)$(mandir)/man1/acrun.1"
+	install -m 644 share/completions/acrun.bash "$(DESTDIR)$(bashdir)/acrun"
+	install -m 644 share/completions/_acrun "$(DESTDIR)$(zshdir)/_acrun"
+	install -m 644 share/completions/acrun.fish "$(DESTDIR)$(fishdir)/acrun.fish"
+
+uninstall:
+	rm -f "$(DESTDIR)$(bindir)/acrun" "$(DESTDIR)$(datadir)/acrun/configure" "$(DESTDIR)$(mandir)/man1/acrun.1"
+	rm -f "$(DESTDIR)$(bashdir)/acrun" "$(DESTDIR)$(zshdir)/_acrun" "$(DESTDIR)$(fishdir)/acrun.fish"
+	-rmdir "$(DESTDIR)$(datadir)/acrun"
+
+dist: all
+	@sh tools/package.sh dist
+
+deb: all
+	@sh tools/package.sh deb

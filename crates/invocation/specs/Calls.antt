@@ -1,8 +1,10 @@
 -- What the program is asked to do (own).
-use Rattle.std.specs.Prelude.{ℕ, ◌≤◌, ◌==◌, Bool, false, List, [], ◌∷◌, length, Option, Some, None, bytes_eq, codes, if◌then◌else◌}
+use Rattle.std.specs.Prelude.{ℕ, ◌≤◌, ◌==◌, ◌||◌, ◌≡◌, Bool, false, List, [], ◌∷◌, length, Option, Some, None, bytes_eq, codes, if◌then◌else◌}
+use Rattle.std.specs.List.{list_any}
 
 -- What the program is asked to do: to filter its input; to answer in a compiler's place; to run a configure.ac with at most
 -- `window` children at once; to make the outputs of a record again; to run the configure.ac again with the arguments of a record;
+-- to say what is wrong with sources; to say why a check has its answer; to explain itself or one of its commands; to name its version;
 -- or it doesn't know. (own)
 pub data Call : Type 0 where
   Filter : Call
@@ -10,6 +12,10 @@ pub data Call : Type 0 where
   Configure : (window : ℕ) (arguments : List (List ℕ)) → Call
   Status : (tags : List (List ℕ)) → Call
   Recheck : Call
+  Lint : (words : List (List ℕ)) → Call
+  Why : (words : List (List ℕ)) → Call
+  Help : (words : List (List ℕ)) → Call
+  Version : Call
   Unknown : Call
 
 -- The options for the number of children at once, each with that number. (own)
@@ -48,13 +54,33 @@ recheck_call words = if length words == 1 then Recheck else Unknown
 abbrev pub status_call : List (List ℕ) → Call
 status_call words = if asks_recheck words then recheck_call words else Status words
 
+-- The call of an option that takes no further word. (own)
+abbrev pub alone : Call → List (List ℕ) → Call
+alone call [] = call
+alone call (word ∷ words) = Unknown
+
+-- The call with this first word, if it is an option of the program itself. (own)
+abbrev pub option_call : List ℕ → List (List ℕ) → Call
+option_call word words =
+    if bytes_eq word (codes "--help") || bytes_eq word (codes "-h") then alone (Help []) words
+    else if bytes_eq word (codes "--version") || bytes_eq word (codes "-V") then alone Version words
+    else windowed (window_of word) words
+
+-- The call with this first word, which runs no source. (own)
+abbrev pub asking_call : List ℕ → List (List ℕ) → Call
+asking_call word words =
+    if bytes_eq word (codes "lint") then Lint words
+    else if bytes_eq word (codes "why") then Why words
+    else if bytes_eq word (codes "help") then Help words
+    else option_call word words
+
 -- The call with this first word. (own)
 abbrev pub named_call : List ℕ → List (List ℕ) → Call
 named_call word words =
     if bytes_eq word (codes "standin") then StandIn words
     else if is_configure word then Configure 1 words
     else if bytes_eq word (codes "status") then status_call words
-    else windowed (window_of word) words
+    else asking_call word words
 
 -- What the program is asked to do with these words after its name. (own)
 abbrev pub call_of : List (List ℕ) → Call
@@ -91,6 +117,21 @@ abbrev pub HasNoRun : Call → Type 0
 HasNoRun (Configure window arguments) = ⊥
 HasNoRun Recheck = ⊥
 HasNoRun call = Unit {0}
+
+-- If it is asked to explain itself, this holds of the words after `help`. (own)
+abbrev pub IfHelp : Call → (List (List ℕ) → Type 0) → Type 0
+IfHelp (Help words) goes_on = goes_on words
+IfHelp call goes_on = Unit {0}
+
+-- A word that names standard input in place of a file. (own)
+abbrev pub is_input : List ℕ → Bool
+is_input word = bytes_eq word (codes "-")
+
+-- The program is asked for nothing that reads standard input: only the filter does, and `lint` if `-` is one of its words. (own)
+abbrev pub HasNoInput : Call → Type 0
+HasNoInput Filter = ⊥
+HasNoInput (Lint words) = list_any is_input words ≡ false
+HasNoInput call = Unit {0}
 
 -- The program is asked for nothing that writes to standard output. (own)
 abbrev pub HasNoOutput : Call → Type 0

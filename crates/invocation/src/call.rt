@@ -19,6 +19,14 @@ pub enum Call<'a> {
     Status(&'a [Bytes]),
     /// To run the configure.ac again with the arguments of its record, and to make no outputs.
     Recheck,
+    /// To say what is wrong with the sources that these words name.
+    Lint(&'a [Bytes]),
+    /// To say why a check has its answer.
+    Why(&'a [Bytes]),
+    /// To explain itself, or the command that these words name.
+    Help(&'a [Bytes]),
+    /// To name its version.
+    Version,
     /// It doesn't know.
     Unknown,
 }
@@ -118,6 +126,49 @@ fn status_call(words: &[Bytes]) -> Call<'_>
     Call::Status(words)
 }
 
+/// Returns the call of an option, unless words follow it.
+fn alone<'a>(call: Call<'a>, words: &[Bytes]) -> Call<'a>
+    requires { meant.HasWindow (call_seen call) }
+    ensures call { call_seen result ≡ meant.alone (call_seen call) words.now }
+    ensures window { meant.HasWindow (call_seen result) }
+{
+    if words.is_empty() {
+        return call;
+    }
+    Call::Unknown
+}
+
+/// Returns the call with this first word, if it is an option of the program itself.
+fn option_call<'a>(word: &[u8], words: &'a [Bytes]) -> Call<'a>
+    ensures call { call_seen result ≡ meant.option_call word.now words.now }
+    ensures window { meant.HasWindow (call_seen result) }
+{
+    if is(word, b"--help") || is(word, b"-h") {
+        return alone(Call::Help(&[]), words);
+    }
+    if is(word, b"--version") || is(word, b"-V") {
+        return alone(Call::Version, words);
+    }
+    windowed(window_of(word), words)
+}
+
+/// Returns the call with this first word, which runs no source.
+fn asking_call<'a>(word: &[u8], words: &'a [Bytes]) -> Call<'a>
+    ensures call { call_seen result ≡ meant.asking_call word.now words.now }
+    ensures window { meant.HasWindow (call_seen result) }
+{
+    if is(word, b"lint") {
+        return Call::Lint(words);
+    }
+    if is(word, b"why") {
+        return Call::Why(words);
+    }
+    if is(word, b"help") {
+        return Call::Help(words);
+    }
+    option_call(word, words)
+}
+
 /// Returns the call with this first word.
 fn named_call<'a>(word: &[u8], words: &'a [Bytes]) -> Call<'a>
     ensures call { call_seen result ≡ meant.named_call word.now words.now }
@@ -132,7 +183,7 @@ fn named_call<'a>(word: &[u8], words: &'a [Bytes]) -> Call<'a>
     if is(word, b"status") {
         return status_call(words);
     }
-    windowed(window_of(word), words)
+    asking_call(word, words)
 }
 
 /// Returns what the program is asked to do with these words after its name (own).

@@ -45,6 +45,6 @@ pub fn may_show_progress(words: &[Bytes]) -> bool
 {
     match call_of(words) {
         Call::Configure(_, arguments) => !has_quiet(arguments),
-        Call::Filter | Call::StandIn(_) | Call::Status(_) | Call::Recheck | Call::Unknown => false,
+        _ => false,
     }
 }

@@ -6,7 +6,7 @@ ghost use Rattle.commands.specs.MadeAgain.{IsMadeAgain};
 ghost use Rattle.configuring.specs.Configures.{IsConfigured, IsRechecked};
 ghost use Rattle.crew_trait.specs.Events.{IsIdle};
 ghost use Rattle.filtering.specs.Filtered.{IsFiltered};
-ghost use Rattle.invocation.specs.Calls.{call_of, Unknown, IfFilter, IfStandIn, IfConfigure, IfStatus, IfRecheck, HasNoRun, HasNoOutput};
+ghost use Rattle.invocation.specs.Calls.{call_of, Unknown, IfFilter, IfStandIn, IfConfigure, IfStatus, IfRecheck, HasNoRun, HasNoInput, HasNoOutput};
 ghost use Rattle.standin.specs.Standin.{IsAnswered};
 
 use crate::telling::tell;
@@ -15,6 +15,7 @@ use configuring::{run_configure, run_recheck};
 use crew_trait::Crew;
 use deftable::Bytes;
 use filtering::{Filtered, filter};
+use helptext::{run_help, run_version};
 use invocation::{Call, call_of, tell_usage};
 use std::alloc::Global;
 use std::io::{self, Input, Read, Write};
@@ -84,9 +85,9 @@ pub fn run<F: Files, C: Crew, R: Read, W: Write, E: Write>(
     ensures recheck { IfRecheck (call_of words.now) (result ≢ 2 → (out : List ℕ) × IsRechecked env.now (C.account crew.old) (C.account crew.new) out result
         × Appends (W.contents output.old) (W.contents output.new) out) }
     ensures unknown { call_of words.now ≡ Unknown → result ≡ 2 }
-    // Only a run starts children, only the filter reads the input, and the stand-in writes no output.
+    // Only a run starts children, only the filter and `lint` read the input, and the stand-in writes no output.
     ensures crew { HasNoRun (call_of words.now) → crew.new ≡ crew.old }
-    ensures input { words.now ≢ [] → input.new ≡ input.old }
+    ensures input { HasNoInput (call_of words.now) → input.new ≡ input.old }
     ensures output { HasNoOutput (call_of words.now) → output.new ≡ output.old }
     // No child is left in flight.
     ensures idle { IsIdle (C.account crew.new).events }
@@ -99,6 +100,9 @@ pub fn run<F: Files, C: Crew, R: Read, W: Write, E: Write>(
         }
         Call::Status(tags) => run_status(alloc, files, tags, output, errors),
         Call::Recheck => run_recheck(alloc, files, env, crew, output, errors),
+        Call::Help(words) => run_help(words, output, errors),
+        Call::Version => run_version(output, errors),
+        Call::Lint(_) | Call::Why(_) => tell_usage(errors),
         Call::Unknown => tell_usage(errors),
     }
 }

@@ -1,0 +1,105 @@
+//! The texts, and the version.
+
+/// The version of the program.
+pub const VERSION: &str = "0.1.0";
+
+/// What `acrun help` prints after the line of the version.
+const GENERAL: &str = "\
+Reads configure.ac itself, runs its checks, and makes the files and headers that it names.
+
+Usage:
+  acrun [-jN] configure [ARG]..   run a configure.ac and make its outputs; N children at once, 1 to 16
+  acrun status [NAME]..           make the outputs of the last run again: all, or those named
+  acrun status --recheck          run configure.ac again with the arguments of the last run
+  acrun lint [--json] [FILE]..    say what is wrong with a configure.ac and its templates
+  acrun why WORD [LOG]            say why a check in config.log has its answer
+  acrun standin [WORD]..          answer in a compiler's place, for trials
+  acrun                           fill one template: configure.ac, a line %%, a template on standard input
+  acrun help [COMMAND]            this text, or that of a command
+  acrun --version                 the version
+
+`acrun configure --help` lists the options of a package.
+";
+
+const CONFIGURE: &str = "\
+Usage: acrun [-jN] configure [ARG]..
+
+Runs ./configure.ac, or configure.ac in the directory that --srcdir names, and makes its outputs in the current directory. -jN, before
+the command, runs up to N children at once; N is from 1 to 16, and 1 by default. The result is the same for each N.
+
+  --srcdir=DIR            the directory of the source
+  --cache-file=FILE, -C   keep answers in FILE, or in config.cache
+  --prefix=DIR, --bindir=DIR, ..   directories of the installation
+  --enable-X[=VALUE], --disable-X, --with-X[=VALUE], --without-X   options of the package
+  -n, --no-create         make no outputs
+  -q, --quiet, --silent   print no messages
+  -h, --help              the options and variables of the package
+  -V, --version           the version of the package
+  VARIABLE=VALUE          CC, CFLAGS and others
+
+Exit status: 0 completed; 1 or another, as the source stops the run; 2 an error; 3 a child could not be run, and the run was cut.
+";
+
+const STATUS: &str = "\
+Usage: acrun status [NAME]..
+       acrun status --recheck
+
+Makes the outputs of the last run again, from its record config.status and the templates: all, or those that are named. With --recheck
+it runs configure.ac again with the arguments of the last run, and makes the record but no other output.
+
+Exit status: 0 done; 2 an error. With --recheck as `acrun configure`.
+";
+
+const LINT: &str = "\
+Usage: acrun lint [--json] [FILE]..
+
+Reads each FILE, a configure.ac or a directory of one (by default ./configure.ac; - is standard input), and its templates. Runs nothing,
+writes nothing, and prints all errors and warnings that it finds, each with its place. --json prints an object a line.
+
+Exit status: 0 no error; 1 errors; 2 a file can't be read, or the words are wrong.
+";
+
+const WHY: &str = "\
+Usage: acrun why WORD [LOG]
+
+Prints each check in LOG (by default config.log) that WORD is about, with its answer, and the commands, diagnostics and statuses that led
+to it. WORD is a part of the check's message (sys/stat.h), or a name made of its subject (HAVE_SYS_STAT_H, ac_cv_header_sys_stat_h).
+
+Exit status: 0 found; 1 nothing matches; 2 a file can't be read, or the words are wrong.
+";
+
+const STANDIN: &str = "\
+Usage: acrun standin [WORD]..
+
+Answers in a compiler's place, for trials without one: CC='acrun standin'. It takes the WORDs of a compiler, and answers as the file
+standin.txt in the current directory says.
+
+Exit status: 0 the conftest is accepted; 1 it is not; 2 an error.
+";
+
+const HELP: &str = "\
+Usage: acrun help [COMMAND]
+
+Prints the commands, or how COMMAND is called.
+";
+
+/// The commands, each with its text.
+#[rattlefmt::skip]
+const COMMANDS: [(&[u8], &str); 6] = [
+    (b"configure", CONFIGURE), (b"status", STATUS), (b"lint", LINT), (b"why", WHY), (b"standin", STANDIN), (b"help", HELP),
+];
+
+/// Returns what is printed of the program as a whole.
+pub(crate) fn general() -> &'static str {
+    GENERAL
+}
+
+/// Returns the text of the command of this name.
+pub(crate) fn text_of(name: &[u8]) -> Option<&'static str> {
+    for row in COMMANDS.iter() {
+        if row.0 == name {
+            return Some(row.1);
+        }
+    }
+    None
+}

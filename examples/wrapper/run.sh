@@ -1,0 +1,87 @@
+#!/bin/sh
+# Gives words to share/configure, and looks at the words with which it starts acrun.
+#   run.sh [SHELL]     the shell that runs it; by default each of sh, dash and bash that is there
+set -u
+script=$(dirname "$0")/../../share/configure
+folder=$(mktemp -d) || exit 2
+trap 'rm -rf "$folder"' EXIT
+mkdir "$folder/source" "$folder/source/build"
+cp "$script" "$folder/source/configure"
+printf '#!/bin/sh\nprintf "[%%s]" "$@"\n' > "$folder/acrun"
+chmod +x "$folder/acrun" "$folder/source/configure"
+cd "$folder/source" || exit 2
+PATH=$folder:$PATH
+unset ACRUN ACRUN_JOBS MAKEFLAGS DEB_BUILD_OPTIONS
+wrong=0 rows=0
+
+# row EXPECTED WORD..: the words with which acrun is started, each in brackets, or else the message.
+row() {
+    expected=$1
+    shift
+    said=$($shell ./configure "$@" 2>&1)
+    rows=$((rows + 1))
+    if [ "$said" != "$expected" ]; then
+        wrong=1
+        printf '%s: configure %s\n  is       %s\n  expected %s\n' "$shell" "$*" "$said" "$expected"
+    fi
+}
+
+rows_of_one_shell() {
+    row '[-j1][configure]'
+    # Debian: dh_auto_configure
+    row '[-j1][configure][--prefix=/usr][--includedir=${prefix}/include][--mandir=${prefix}/share/man][--infodir=${prefix}/share/info][--sysconfdir=/etc][--localstatedir=/var][--disable-option-checking][--disable-silent-rules][--libdir=${prefix}/lib/x86_64-linux-gnu][--runstatedir=/run][--disable-maintainer-mode][--disable-dependency-tracking]' \
+        --build=x86_64-linux-gnu --prefix=/usr '--includedir=${prefix}/include' '--mandir=${prefix}/share/man' '--infodir=${prefix}/share/info' \
+        --sysconfdir=/etc --localstatedir=/var --disable-option-checking --disable-silent-rules '--libdir=${prefix}/lib/x86_64-linux-gnu' \
+        --runstatedir=/run --disable-maintainer-mode --disable-dependency-tracking
+    # RPM: %configure
+    row '[-j1][configure][--disable-dependency-tracking][--prefix=/usr][--exec-prefix=/usr][--bindir=/usr/bin][--sbindir=/usr/sbin][--sysconfdir=/etc][--datadir=/usr/share][--includedir=/usr/include][--libdir=/usr/lib64][--libexecdir=/usr/libexec][--localstatedir=/var][--runstatedir=/run][--sharedstatedir=/var/lib][--mandir=/usr/share/man][--infodir=/usr/share/info]' \
+        --build=x86_64-redhat-linux-gnu --host=x86_64-redhat-linux-gnu --program-prefix= --disable-dependency-tracking --prefix=/usr \
+        --exec-prefix=/usr --bindir=/usr/bin --sbindir=/usr/sbin --sysconfdir=/etc --datadir=/usr/share --includedir=/usr/include \
+        --libdir=/usr/lib64 --libexecdir=/usr/libexec --localstatedir=/var --runstatedir=/run --sharedstatedir=/var/lib \
+        --mandir=/usr/share/man --infodir=/usr/share/info
+    # Gentoo: econf
+    row '[-j1][configure][--prefix=/usr][--mandir=/usr/share/man][--infodir=/usr/share/info][--datadir=/usr/share][--sysconfdir=/etc][--localstatedir=/var/lib][--datarootdir=/usr/share][--disable-dependency-tracking][--disable-silent-rules][--docdir=/usr/share/doc/a-1][--htmldir=/usr/share/doc/a-1/html][--with-sysroot=/][--libdir=/usr/lib64]' \
+        --prefix=/usr --build=x86_64-pc-linux-gnu --host=x86_64-pc-linux-gnu --mandir=/usr/share/man --infodir=/usr/share/info --datadir=/usr/share \
+        --sysconfdir=/etc --localstatedir=/var/lib --datarootdir=/usr/share --disable-dependency-tracking --disable-silent-rules \
+        --docdir=/usr/share/doc/a-1 --htmldir=/usr/share/doc/a-1/html --with-sysroot=/ --libdir=/usr/lib64
+    # Abbreviations, one dash, values in the next word
+    row '[-j1][configure][--prefix=/x][--bindir][/y][--exec-prefix=/z]' --pref=/x -bindir /y --exec_prefix=/z
+    row '[-j1][configure][--help]' --hel
+    row '[-j1][configure][--help]' --help=short
+    row '[-j1][configure][--libdir=/y][--lib=/y]' --libd=/y --lib=/y
+    row '[-j1][configure][--with-x][--enable-a=b][-q][-C]' -with-x -enable-a=b -q -C
+    row '[-j1][configure][CC=gcc -DX="a b"][CFLAGS=]' 'CC=gcc -DX="a b"' CFLAGS=
+    row '[-j1][configure][--no-such=1][cc]' --no-such=1 cc
+    # What has no meaning here
+    row '[-j1][configure]' --build a --host a --target=a --x-includes=/usr/X --x-libraries /usr/X --program-suffix= --site=/x --host=
+    # What may not be dropped
+    row 'configure: error: acrun compiles for the machine that it runs on: --host=arm is not --build=a' --build=a --host=arm
+    row 'configure: error: acrun compiles for the machine that it runs on: --host=arm is not --build=' --host arm
+    row 'configure: error: acrun compiles for the machine that it runs on: --target=b is not --build=a' --target=b --build=a
+    row 'configure: error: acrun does not rename programs: --program-prefix=g' --program-prefix=g
+    # The number of children at once
+    ACRUN_JOBS=4 row '[-j4][configure]'
+    ACRUN_JOBS=400 row '[-j16][configure]'
+    ACRUN_JOBS=x row '[-j1][configure]'
+    MAKEFLAGS=' -j8 --jobserver-auth=3,4' row '[-j8][configure]'
+    MAKEFLAGS='w' row '[-j1][configure]'
+    DEB_BUILD_OPTIONS='nocheck parallel=32' row '[-j16][configure]'
+    DEB_BUILD_OPTIONS='parallel=7,nocheck' MAKEFLAGS=k row '[-j7][configure]'
+    ACRUN_JOBS=2 MAKEFLAGS=' -j8' row '[-j2][configure]'
+    # In another directory
+    cd build || exit 2
+    said=$($shell ../configure -q)
+    [ "$said" = '[-j1][configure][--srcdir=..][-q]' ] || { wrong=1; echo "$shell: in build: $said"; }
+    said=$($shell ../configure --src=/s)
+    [ "$said" = '[-j1][configure][--srcdir=/s]' ] || { wrong=1; echo "$shell: --src: $said"; }
+    said=$(ACRUN=/nowhere/acrun $shell ../configure 2>&1)
+    [ "$said" = 'configure: error: the program acrun is not in PATH; its README says where to get it' ] || { wrong=1; echo "$shell: without acrun: $said"; }
+    cd ..
+}
+
+for shell in ${1-sh dash bash}; do
+    command -v "$shell" > /dev/null && rows_of_one_shell
+done
+if command -v shellcheck > /dev/null; then shellcheck ./configure || wrong=1; fi
+[ "$wrong" = 0 ] && echo "wrapper: $rows rows as they should be"
+exit $wrong

@@ -1,0 +1,78 @@
+#!/bin/sh
+# Makes an archive or a Debian package of out/acrun, for machines without the toolchain. The same files give the same bytes.
+#   package.sh dist    out/acrun-VERSION-x86_64-linux.tar.gz
+#   package.sh deb     out/acrun_VERSION_amd64.deb
+# The time of each file is that of the last commit, or SOURCE_DATE_EPOCH.
+set -e
+kind=$1
+version=$(sed -n 's/^pub const VERSION: &str = "\(.*\)";$/\1/p' crates/helptext/src/texts.rt)
+[ -n "$version" ] || { echo 'package.sh: crates/helptext/src/texts.rt names no version' >&2; exit 2; }
+SOURCE_DATE_EPOCH=${SOURCE_DATE_EPOCH:-$(git log -1 --format=%ct 2> /dev/null || echo 0)}
+export SOURCE_DATE_EPOCH
+folder=$(mktemp -d)
+trap 'rm -rf "$folder"' EXIT
+
+# The oldest version of the C library that has all that the program asks of it.
+glibc() {
+    LC_ALL=C objdump -T out/acrun | sed -n 's/.*GLIBC_\([0-9][0-9.]*\).*/\1/p' | sort -t. -k1,1n -k2,2n -k3,3n | tail -1
+}
+
+# Gives all files below $folder one time.
+date_files() {
+    find "$folder" -exec touch -h -d "@$SOURCE_DATE_EPOCH" {} +
+}
+
+make_dist() {
+    name=acrun-$version-x86_64-linux
+    MAKEFLAGS='' make -s install-files DESTDIR="$folder/" prefix="$name"
+    cp -R README.md CHANGELOG.md LICENSE docs "$folder/$name"
+    {
+        echo "acrun $version for x86_64 Linux"
+        echo "Needs the C library: glibc $(glibc) or later."
+        echo "Proved and built with: $(rt version 2> /dev/null | head -n 1)"
+        echo
+        echo 'Check the archive by the sum that was published with it, `sha256sum acrun-*.tar.gz`. To install, copy bin/ and share/ below'
+        echo '/usr/local or another prefix: cp -R bin share /usr/local'
+    } > "$folder/$name/INSTALL"
+    date_files
+    tar --sort=name --owner=0 --group=0 --numeric-owner --format=ustar -C "$folder" -cf - "$name" | gzip -9n > "out/$name.tar.gz"
+    sha256sum "out/$name.tar.gz"
+}
+
+make_deb() {
+    package=out/acrun_${version}_amd64.deb
+    share=$folder/usr/share
+    MAKEFLAGS='' make -s install-files DESTDIR="$folder" prefix=/usr
+    strip --strip-unneeded "$folder/usr/bin/acrun"
+    mkdir -p "$share/doc/acrun" "$folder/DEBIAN"
+    cp README.md docs/*.md "$share/doc/acrun"
+    cp LICENSE "$share/doc/acrun/copyright"
+    gzip -9n < CHANGELOG.md > "$share/doc/acrun/changelog.gz"
+    gzip -9n "$share/man/man1/acrun.1"
+    cat > "$folder/DEBIAN/control" << END
+Package: acrun
+Version: $version
+Section: devel
+Priority: optional
+Architecture: amd64
+Depends: libc6 (>= $(glibc))
+Installed-Size: $(du -sk "$folder/usr" | cut -f 1)
+Maintainer: $(git log -1 --format='%an <%ae>')
+Description: proved configure engine that reads configure.ac itself
+ acrun reads a configure.ac in the manner of GNU Autoconf, runs its checks
+ with up to sixteen children at once, and makes Makefiles and config
+ headers, with no shell script in between. A child that could not be run
+ is never taken for "no", and a run that was cut is taken up again from
+ its cache.
+END
+    chmod -R u+rwX,go+rX,go-w "$folder"
+    date_files
+    dpkg-deb --root-owner-group --build "$folder" "$package" > /dev/null
+    sha256sum "$package"
+}
+
+case $kind in
+dist) make_dist ;;
+deb) make_deb ;;
+*) echo 'package.sh: dist or deb' >&2; exit 2 ;;
+esac
