@@ -1,11 +1,14 @@
 # Completions of acrun for fish. Installed as vendor_completions.d/acrun.fish.
 
-# Succeeds while the command is still to be given.
-function __acrun_needs_command
+# Succeeds while no word is given.
+function __acrun_begins
+    test (count (commandline -opc)) -eq 1
+end
+
+# Succeeds after -jN, where only one command may follow.
+function __acrun_has_window
     set -l words (commandline -opc)
-    test (count $words) -eq 1; or begin
-        test (count $words) -eq 2; and string match -q -- '-j*' $words[2]
-    end
+    test (count $words) -eq 2; and string match -q -- '-j*' $words[2]
 end
 
 # Succeeds if the command is this one.
@@ -28,15 +31,16 @@ end
 
 complete -c acrun -f
 for n in 1 2 4 8 16
-    complete -c acrun -n __acrun_needs_command -a "-j$n" -d "$n children at once, at most"
+    complete -c acrun -n __acrun_begins -a "-j$n" -d "$n children at once, at most"
 end
-complete -c acrun -n __acrun_needs_command -a configure -d 'Run a configure.ac'
-complete -c acrun -n __acrun_needs_command -a status -d 'Make the outputs again'
-complete -c acrun -n __acrun_needs_command -a lint -d 'Say what is wrong with a configure.ac'
-complete -c acrun -n __acrun_needs_command -a why -d 'Say why a check has its answer'
-complete -c acrun -n __acrun_needs_command -a standin -d "Answer in a compiler's place"
-complete -c acrun -n __acrun_needs_command -a help -d 'Print the commands'
-complete -c acrun -n __acrun_needs_command -a '--help --version'
+complete -c acrun -n '__acrun_begins; or __acrun_has_window' -a configure -d 'Run a configure.ac'
+complete -c acrun -n __acrun_begins -a status -d 'Make the outputs again'
+complete -c acrun -n __acrun_begins -a lint -d 'Say what is wrong with a configure.ac'
+complete -c acrun -n __acrun_begins -a why -d 'Say why a check has its answer'
+complete -c acrun -n __acrun_begins -a standin -d "Answer in a compiler's place"
+complete -c acrun -n __acrun_begins -a help -d 'Print the commands'
+complete -c acrun -n __acrun_begins -l help -d 'Print the commands'
+complete -c acrun -n __acrun_begins -l version -d 'Print the version'
 
 for name in prefix exec-prefix bindir sbindir libexecdir libdir datarootdir datadir sysconfdir sharedstatedir localstatedir runstatedir includedir oldincludedir docdir infodir htmldir dvidir pdfdir psdir localedir mandir srcdir cache-file
     complete -c acrun -n '__acrun_uses configure' -l $name -r -F
