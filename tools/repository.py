@@ -54,12 +54,11 @@ def modules_named_as_crates():
 
 
 def unnamed_crates():
-    """A document that lists the crates lacks one."""
-    for file in ("README.md", "docs/architecture.md"):
-        text = pathlib.Path(file).read_text()
-        for crate in rows():
-            if f"`{crate}`" not in text:
-                yield f"{file} does not name the crate {crate}"
+    """The document that lists the crates lacks one."""
+    file = pathlib.Path("docs/architecture.md")
+    for crate in rows():
+        if f"`{crate}`" not in file.read_text():
+            yield f"{file} does not name the crate {crate}"
 
 
 def applied(edit):
