@@ -129,7 +129,7 @@ fn status_call(words: &[Bytes]) -> Call<'_>
 /// Returns the call of an option, unless words follow it.
 fn alone<'a>(call: Call<'a>, words: &[Bytes]) -> Call<'a>
     requires { meant.HasWindow (call_seen call) }
-    ensures call { call_seen result ≡ meant.alone (call_seen call) words.now }
+    ensures call { call_seen result ≡ meant.alone (call_seen call.entry) words.now }
     ensures window { meant.HasWindow (call_seen result) }
 {
     if words.is_empty() {
