@@ -8,16 +8,16 @@
 //!
 //! "own" marks a rule that no manual gives.
 //!
-//! In `src`, `texts` has the texts and [`VERSION`], the one place that names it. `printing` prints them, and `nearest` finds the word
+//! In `src`, `texts` has the texts and [`VERSION`], the one place that names it. `printing` prints them, and `words` finds the word
 //! that is nearest to another.
 #![tactic(auto)]
 
-mod nearest;
 mod printing;
 mod texts;
 mod usage;
+mod words;
 
-pub use nearest::nearest;
 pub use printing::{run_help, run_version};
 pub use texts::VERSION;
 pub use usage::write_usage;
+pub use words::nearest;

@@ -1,6 +1,6 @@
 //! What follows the line of words that the program doesn't know.
 
-use crate::nearest::nearest;
+use crate::words::nearest;
 use deftable::Bytes;
 use std::alloc::{AllocError, Global};
 use std::io::{self, Write};
