@@ -35,6 +35,19 @@ def cases(n):
     return source([b"AS_IF(", b",".join(b"false,a=%d" % (i % 10) for i in range(n)), b")\n"])
 
 
+def part_of_a_pattern(n):
+    """A part of a pattern that is found at no place, though all but its last byte are there at each."""
+    return source([b"AS_CASE([", b"a" * n, b"],[*", b"a" * (n // 2), b"b*],[y=1])\n"])
+
+
+def parts_of_a_pattern(n):
+    return source([b"AS_CASE([", b"ab" * n, b"],[", b"*ab" * n, b"],[y=1])\n"])
+
+
+def part_with_a_question_mark(n):
+    return source([b"AS_CASE([", b"a" * n, b"],[*?", b"a" * (n // 2), b"b*],[y=1])\n"])
+
+
 def output_variables(n):
     lines = [b"AC_CONFIG_FILES([f])\n"] + [b"AC_SUBST([v%04d],[value])\n" % i for i in range(1024)]
     return source(lines) + b"".join(b"@v%04d@ some plain text\n" % (i % 1024) for i in range(n))
@@ -57,6 +70,9 @@ ROWS = [
     ("assignments to different names", assignments, 30_000),
     ("assignments to one name", one_variable, 30_000),
     ("cases of AS_IF", cases, 15_000),
+    ("bytes of a part of a pattern", part_of_a_pattern, 40_000),
+    ("parts of a pattern", parts_of_a_pattern, 100_000),
+    ("bytes of a part with ?", part_with_a_question_mark, 10_000),
     ("uses of 1,024 output variables", output_variables, 1_000_000),
     ("lines of a template without keys", plain_template, 700_000),
     ("lines of a template with a key", few_keys, 1_000_000),

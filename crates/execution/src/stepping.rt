@@ -20,6 +20,7 @@ ghost use Rattle.searching.specs.declared.flow.Flow.TheVariants.{Complete, Pass,
 
 use crate::checks::{close_check, open_check};
 use batching::begin_batch;
+use casematch::matches_any;
 use deftable::Bytes;
 use jobs::Job;
 use plan::Step;
@@ -575,7 +576,7 @@ fn is_taken(alloc: Global, store: &Store, when: &When, about: &About) -> Result<
 {
     match when {
         When::Holds(test) => store.holds(alloc, test),
-        When::Matches(patterns) => Ok(patterns.matches(about.subject())),
+        When::Matches(patterns) => matches_any(alloc, patterns, about.subject()),
         When::Yes => Ok(about.is_yes()),
         When::No => Ok(!about.is_yes()),
         When::Always => Ok(true),
