@@ -5,7 +5,14 @@ ghost use Rattle.std.specs.Prelude.{◌≡◌, []};
 use crate::crews::{Work, job_of, order_of, put_work, replies_of};
 use crate::streams::Sheet;
 use crate::texts::number_of;
+use conftest::Job;
 use crew::{Crew, MemoryCrew};
+use csource::{
+    declaration_source, default_includes, function_source, header_source, program_source,
+    put_ended, second_type_source, type_source,
+};
+use deftable::Bytes;
+use std::alloc::AllocError;
 use std::test::Fail;
 use testrows::{Call, Page, cut, try_rows};
 use watching::Watched;
@@ -20,7 +27,43 @@ fn put_watched<C: Crew + Drop>(page: &mut Page, crew: C, sheet: Sheet, is_on: bo
     page.put(watched.stream().kept.text());
 }
 
-/// A crew in memory: whether its progress is shown, how many children it starts, the words of each, its replies and its order.
+/// Returns the source of a test: its kind, a blank, and what is tested. `program` has the body of `main`.
+fn source_of(page: &Page, test: &[u8]) -> Result<Bytes, AllocError> {
+    let alloc = page.alloc();
+    let (kind, name) = cut(test, b" ");
+    match kind {
+        b"header" => header_source(alloc, default_includes(), name),
+        b"function" => function_source(alloc, name),
+        b"declaration" => declaration_source(alloc, b"", name),
+        b"type" => type_source(alloc, default_includes(), name),
+        b"second" => second_type_source(alloc, b"", name),
+        _ => program_source(alloc, b"", name),
+    }
+}
+
+/// Returns the text of a conftest without definitions.
+fn text_of(page: &Page, test: &[u8]) -> Result<Bytes, AllocError> {
+    let source = source_of(page, test)?;
+    let mut text = Vec::from_slice(page.alloc(), b"/* confdefs.h */\n")?;
+    put_ended(&mut text, source.as_slice())?;
+    Ok(Bytes::from_vec(text))
+}
+
+/// Returns the job of these words, and of a conftest, if there is a test.
+fn test_job(page: &mut Page, words: &[u8], test: &[u8]) -> Job {
+    let Job { words, file } = job_of(page, words, b"");
+    if test.is_empty() {
+        return Job { words, file };
+    }
+    let text = text_of(page, test);
+    let file = page
+        .given(text)
+        .map(|text| (Bytes::new(page.alloc()), text));
+    Job { words, file }
+}
+
+/// A crew in memory: whether its progress is shown, how many children it starts, the words of each, its replies, its order, and the
+/// test of each.
 struct Progress;
 
 impl Call for Progress {
@@ -28,8 +71,9 @@ impl Call for Progress {
         let (shown, rest) = cut(given, b"|");
         let (count, rest) = cut(rest, b"|");
         let (words, rest) = cut(rest, b"|");
-        let (replies, order) = cut(rest, b"|");
-        let job = job_of(page, words, b"");
+        let (replies, rest) = cut(rest, b"|");
+        let (order, test) = cut(rest, b"|");
+        let job = test_job(page, words, test);
         let work = Work::Children {
             count: number_of(count),
             job: &job,
@@ -48,16 +92,27 @@ impl Call for Progress {
 }
 
 const LINES: &[u8] = b"\
-on|1|cc,-c,conftest.c|0:|oldest =>  0:0:;^M^[[K1 started, 0 ended: cc -c conftest.c^M^[[K
+on|1|cc,-c,conftest.c|0:|oldest =>  0:0:;^M^[[K^[[?7l1 started, 0 ended: cc -c conftest.c^[[?7h^M^[[K
 on|3|true|0: 1:x 256:|youngest =>  2:256: 1:1:x 0:0:;\
-^M^[[K1 started, 0 ended: true^M^[[K2 started, 0 ended: true^M^[[K3 started, 0 ended: true\
-^M^[[K3 started, 1 ended: true^M^[[K3 started, 2 ended: true^M^[[K
+^M^[[K^[[?7l1 started, 0 ended: true^[[?7h^M^[[K^[[?7l2 started, 0 ended: true^[[?7h^M^[[K^[[?7l3 started, 0 ended: true^[[?7h\
+^M^[[K^[[?7l3 started, 1 ended: true^[[?7h^M^[[K^[[?7l3 started, 2 ended: true^[[?7h^M^[[K
 // a start that is refused, and an end that is
 on|3|true|0: S E|oldest =>  1:S 0:0: 2:E;\
-^M^[[K1 started, 0 ended: true^M^[[K2 started, 0 ended: true^M^[[K2 started, 1 ended: true^M^[[K
+^M^[[K^[[?7l1 started, 0 ended: true^[[?7h^M^[[K^[[?7l2 started, 0 ended: true^[[?7h^M^[[K^[[?7l2 started, 1 ended: true^[[?7h^M^[[K
 on|1|true|S|oldest =>  0:S;
-// Bytes that could drive a terminal, and what is no ASCII, are not shown. 79 columns are.
-on|1|sh,^[[2J,,a^Jb,\x7f \xc3\xa4~|0:|oldest =>  0:0:;^M^[[K1 started, 0 ended: sh ?[2J  a?b ? ??aaaaaaaaaaaaaaaaaaaaaaaaaaaaaaaaaaaaaaaaaa^M^[[K
+// Bytes that could drive a terminal, and what is no ASCII, are shown by their numbers. 79 columns are, and no number is cut.
+on|1|sh,^[[2J,,a^Jb,\x7f \xc3\xa4~|0:|oldest =>  0:0:;^M^[[K^[[?7l1 started, 0 ended: sh \\x1b[2J  a\\x0ab \\x7f \\xc3\\xa4aaaaaaaaaaaaaaaaaaaaaaaaaaa^[[?7h^M^[[K
+on|1|0123456789012345678901234567890123456789012345678901234^[b|0:|oldest =>  0:0:;^M^[[K^[[?7l1 started, 0 ended: 0123456789012345678901234567890123456789012345678901234\\x1b^[[?7h^M^[[K
+on|1|01234567890123456789012345678901234567890123456789012345^[b|0:|oldest =>  0:0:;^M^[[K^[[?7l1 started, 0 ended: 01234567890123456789012345678901234567890123456789012345^[[?7h^M^[[K
+// What is tested has its name, and another program the words of its command.
+on|1|cc|0:|oldest|header sys/stat.h =>  0:0:;^M^[[K^[[?7l1 started, 0 ended: header sys/stat.h^[[?7h^M^[[K
+on|1|cc|0:|oldest|function getline =>  0:0:;^M^[[K^[[?7l1 started, 0 ended: function getline^[[?7h^M^[[K
+on|1|cc|0:|oldest|declaration strlcpy =>  0:0:;^M^[[K^[[?7l1 started, 0 ended: declaration strlcpy^[[?7h^M^[[K
+on|1|cc|0:|oldest|type struct stat =>  0:0:;^M^[[K^[[?7l1 started, 0 ended: type struct stat^[[?7h^M^[[K
+on|1|cc|0:|oldest|second struct stat =>  0:0:;^M^[[K^[[?7l1 started, 0 ended: type struct stat^[[?7h^M^[[K
+on|1|cc|0:|oldest|program return f (); =>  0:0:;^M^[[K^[[?7l1 started, 0 ended: function f^[[?7h^M^[[K
+on|1|cc|0:|oldest|program return !alloca (1); =>  0:0:;^M^[[K^[[?7l1 started, 0 ended: cc^[[?7h^M^[[K
+on|1|cc|0:|oldest|header ^[[2J =>  0:0:;^M^[[K^[[?7l1 started, 0 ended: header \\x1b[2J^[[?7h^M^[[K
 // Nothing is shown, and a write that fails changes nothing.
 off|2|true|0: 1:|oldest =>  0:0: 1:1:;
 fails|2|true|0: 1:|oldest =>  0:0: 1:1:;

@@ -12,7 +12,8 @@ use Rattle.crew_trait.specs.declared.event.CrewEvent.TheVariants.{Started, Ended
 use Rattle.crew_trait.specs.Events.{Account, busy, IsIdle}
 use Rattle.crew.specs.Sound.{times}
 use Rattle.crew.proofs.SlotLemmas.{lists_none, lists_start, lists_end}
-use Rattle.watching.specs.Progress.{started_after, ended_after, command_after, started_in, ended_in, command_in, command_of, line_of, text_of, text_after, erasure}
+use Rattle.watching.specs.Progress.{started_after, ended_after, subject_after, started_in, ended_in, subject_in, line_of, text_of, text_after, erasure, wrapping_off, wrapping_on}
+use Rattle.watching.specs.Subject.{subject_of}
 use Rattle.watching.specs.Watch.{IsCounted}
 
 abbrev one_if : Bool → ℕ
@@ -23,7 +24,7 @@ pub counted_none : (account : Account) (command : List ℕ) → account.events �
 counted_none account command none empty = record {
   starts = ap started_in none;
   ends = ap ended_in none;
-  latest = ap command_in none ∙ sym empty;
+  latest = ap subject_in none ∙ sym empty;
   attempted = omega arith;
   slots = [];
   lists = lists_none [] account.events refl none;
@@ -32,14 +33,14 @@ counted_none account command none empty = record {
 
 -- After a start that is taken.
 pub counted_start : (before now : Account) (started ended : ℕ) (command next : List ℕ) (slot : ℕ) (job : Job) → IsCounted before started ended command
-    → busy slot before.events ≡ false → now.attempts ≡ before.attempts + 1 → now.events ≡ before.events ++ Started slot job (before.attempts + 1) ∷ [] → next ≡ command_of job.words
+    → busy slot before.events ≡ false → now.attempts ≡ before.attempts + 1 → now.events ≡ before.events ++ Started slot job (before.attempts + 1) ∷ [] → next ≡ subject_of job
     → IsCounted now (started + 1) ended next
 counted_start before now started ended command next slot job h free attempts events next_is =
     let event : CrewEvent = Started slot job (before.attempts + 1) in
     record {
       starts = ap started_in events ∙ fold-append started_after 0 before.events (event ∷ []) ∙ ap (λ n. n + 1) h.starts;
       ends = ap ended_in events ∙ fold-append ended_after 0 before.events (event ∷ []) ∙ h.ends;
-      latest = ap command_in events ∙ fold-append command_after [] before.events (event ∷ []) ∙ sym next_is;
+      latest = ap subject_in events ∙ fold-append subject_after [] before.events (event ∷ []) ∙ sym next_is;
       attempted = let a = h.attempted in omega (arith, attempts);
       slots = h.slots ++ slot ∷ [];
       lists = lists_start h.slots _ before.events now.events slot job _ h.lists free refl events;
@@ -86,7 +87,7 @@ counted_end before now started ended command slot reply h was attempts events =
     record {
       starts = ap started_in events ∙ fold-append started_after 0 before.events (event ∷ []) ∙ h.starts;
       ends = ap ended_in events ∙ fold-append ended_after 0 before.events (event ∷ []) ∙ ap (λ n. n + 1) h.ends;
-      latest = ap command_in events ∙ fold-append command_after [] before.events (event ∷ []) ∙ h.latest;
+      latest = ap subject_in events ∙ fold-append subject_after [] before.events (event ∷ []) ∙ h.latest;
       attempted = let a = h.attempted in omega (arith, attempts);
       slots = remove h.slots place.place;
       lists = lists_end h.slots _ before.events now.events place.place slot reply _ h.lists place.within place.found refl events;
@@ -108,4 +109,4 @@ gone account started ended command h idle =
     let same : ended ≡ started = let f = h.flying in omega arith in
     let equal : ended_in account.events ≡ started_in account.events = h.ends ∙ same ∙ sym h.starts in
     let test : eqb (ended_in account.events) (started_in account.events) ≡ true = grind (arith, nat_tests) in
-    ap (λ b. erasure ++ cond b [] (line_of (started_in account.events) (ended_in account.events) (command_in account.events))) test
+    ap (λ b. erasure ++ cond b [] (wrapping_off ++ line_of (started_in account.events) (ended_in account.events) (subject_in account.events) ++ wrapping_on)) test

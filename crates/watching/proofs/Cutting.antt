@@ -1,88 +1,116 @@
 -- What a line shows of a text that grows.
-use Rattle.std.proofs.Common.{◌≡◌, ℕ, ◌+◌, ◌<◌, ◌≤◌, List, [], ◌∷◌, ◌++◌, length, map, take, flat_map, get_or, min, sym, ap, ◌∙◌, refl, cond, eqb, codes, true, false, arith, append_assoc, append-nil}
-use Rattle.std.specs.Prelude.{decimal}
+use Rattle.std.proofs.Common.{◌≡◌, ℕ, ◌+◌, ◌-◌, ◌<◌, ◌≤◌, List, [], ◌∷◌, ◌++◌, length, take, flat_map, get_or, sym, ap, ◌∙◌, refl, subst, cond, eqb, codes, Bool, true, false, arith, append_assoc, append-nil, length-append, take_all, ◌↔◌}
+use Rattle.std.specs.Prelude.{decimal, nat_le, IsOk, OnOk, Result, Ok, Err}
 use Rattle.std.proofs.lemmas.Bool.Decides.{nat_tests}
-use Rattle.std.proofs.lemmas.List.{take_all, take-append-le, take_more, map-append, length-take, length_push}
+use Rattle.std.proofs.lemmas.List.{take_more}
 use Rattle.std.proofs.lemmas.Grind.{flat_map-append}
-use Rattle.watching.specs.Progress.{printable, shown, command_of, line_of, text_of, erasure}
+use Rattle.watching.specs.Screen.{shown_byte, fitting, shown, IsShowing}
+use Rattle.watching.specs.Progress.{line_of, text_of, erasure, wrapping_off, wrapping_on}
 
--- If not all bytes fit, one more changes nothing.
-cut_push : (n : ℕ) (xs : List ℕ) (x : ℕ) → n ≤ length xs → take n (xs ++ x ∷ []) ≡ take n xs
-cut_push n xs x le = take-append-le n xs (x ∷ []) le
+le_is : (a b : ℕ) → a ≤ b → nat_le a b ≡ true
+le_is a b le = grind (arith, nat_tests)
 
--- If there is room, one more is appended.
-whole_push : (n : ℕ) (xs : List ℕ) (x : ℕ) → length xs < n → take n (xs ++ x ∷ []) ≡ take n xs ++ x ∷ []
-whole_push n xs x lt =
-    take_all n (xs ++ x ∷ []) (omega (arith, length_push xs x)) ∙ sym (ap (λ v. v ++ x ∷ []) (take_all n xs (omega arith)))
+gt_is : (a b : ℕ) → b < a → nat_le a b ≡ false
+gt_is a b lt = grind (arith, nat_tests)
 
-shown_by : (text : List ℕ) (byte : ℕ) → shown (text ++ byte ∷ []) ≡ take 79 (map printable text ++ printable byte ∷ [])
-unfolding shown
-shown_by text byte = ap (take 79) (map-append printable text (byte ∷ []))
+differ : true ≡ false → ⊥
+differ e = cc
 
-shown_is : (text : List ℕ) → shown text ≡ take 79 (map printable text)
-unfolding shown
-shown_is text = refl
+never : false ≡ true → ⊥
+never e = cc
 
-pub put_room : (line next text : List ℕ) (byte shown_byte : ℕ) → line ≡ shown text → eqb (length line) 79 ≡ false → length line ≤ 79 → shown_byte ≡ printable byte → next ≡ line ++ shown_byte ∷ [] → next ≡ shown (text ++ byte ∷ [])
-put_room line next text byte shown_byte is test le byte_is next_is =
-    let lt : length line < 79 = grind (arith, nat_tests) in
-    let cut = is ∙ shown_is text in
-    let len : length line ≡ min 79 (length (map printable text)) = ap length cut ∙ length-take 79 (map printable text) in
-    next_is ∙ ap (λ b. line ++ b ∷ []) byte_is ∙ ap (λ v. v ++ printable byte ∷ []) cut
-    ∙ sym (shown_by text byte ∙ whole_push 79 (map printable text) (printable byte) (omega (arith, len)))
+-- A text that fits is followed by what fits in the columns that are left.
+fitting_after : (n : ℕ) (xs ys : List ℕ) → length (flat_map shown_byte xs) ≤ n → fitting n (xs ++ ys) ≡ flat_map shown_byte xs ++ fitting (n - length (flat_map shown_byte xs)) ys
+fitting_after n [] ys le = let same : n ≡ n - 0 = omega arith in ap (λ m. fitting m ys) same
+fitting_after n (x ∷ xs) ys le =
+    let form : List ℕ = shown_byte x in
+    let rest : List ℕ = flat_map shown_byte xs in
+    let both : length (form ++ rest) ≡ length form + length rest = length-append form rest in
+    let whole : length (form ++ rest) ≤ n = le in
+    let first : nat_le (length form) n ≡ true = le_is (length form) n (omega arith) in
+    let left : (n - length form) - length rest ≡ n - length (form ++ rest) = omega arith in
+    ap (λ b. cond b (form ++ fitting (n - length form) (xs ++ ys)) []) first ∙ ap (λ v. form ++ v) (fitting_after (n - length form) xs ys (omega arith))
+    ∙ sym (append_assoc form rest (fitting ((n - length form) - length rest) ys)) ∙ ap (λ m. (form ++ rest) ++ fitting m ys) left
 
-pub put_full : (line text : List ℕ) (byte : ℕ) → line ≡ shown text → eqb (length line) 79 ≡ true → line ≡ shown (text ++ byte ∷ [])
-put_full line text byte is test =
-    let full : length line ≡ 79 = grind (arith, nat_tests) in
-    let cut = is ∙ shown_is text in
-    let len : length line ≡ min 79 (length (map printable text)) = ap length cut ∙ length-take 79 (map printable text) in
-    cut ∙ sym (shown_by text byte ∙ cut_push 79 (map printable text) (printable byte) (omega (arith, len)))
+-- Once something didn't fit, nothing more is shown.
+pub put_after_cut : (line : List ℕ) (is_cut : Bool) (text : List ℕ) (byte : ℕ) → is_cut ≡ true → IsShowing line is_cut text → IsShowing line is_cut (text ++ byte ∷ [])
+put_after_cut line is_cut text byte is h = record {
+  fits = h.fits;
+  whole = λ no. absurd (differ (sym is ∙ no));
+  cut = λ yes more. ap (fitting 79) (append_assoc text (byte ∷ []) more) ∙ h.cut yes (byte ∷ more);
+}
+
+-- A form for which there is no room.
+pub put_without_room : (line form : List ℕ) (was : Bool) (left : ℕ) (text : List ℕ) (byte : ℕ) → was ≡ false → left + length line ≡ 79 → left < length form → form ≡ shown_byte byte
+    → IsShowing line was text → IsShowing line true (text ++ byte ∷ [])
+put_without_room line form was left text byte was_is room lacks form_is h =
+    let all : line ≡ flat_map shown_byte text = h.whole was_is in
+    let len : length line ≡ length (flat_map shown_byte text) = ap length all in
+    let none : nat_le (length (shown_byte byte)) (79 - length (flat_map shown_byte text)) ≡ false =
+    gt_is (length (shown_byte byte)) (79 - length (flat_map shown_byte text)) (omega (arith, len, ap length form_is)) in
+    record {
+      fits = h.fits;
+      whole = λ no. absurd (differ no);
+      cut = λ _ more.
+          ap (fitting 79) (append_assoc text (byte ∷ []) more) ∙ fitting_after 79 text (byte ∷ more) (omega (arith, len))
+          ∙ ap (λ b. flat_map shown_byte text ++ cond b (shown_byte byte ++ fitting ((79 - length (flat_map shown_byte text)) - length (shown_byte byte)) more) []) none
+          ∙ append-nil (flat_map shown_byte text) ∙ sym all;
+    }
+
+-- A form for which there is room.
+pub put_with_room : {E : Type 0} (line next form : List ℕ) (was : Bool) (left : ℕ) (r : Result (Unit {0}) E) (text : List ℕ) (byte : ℕ) → was ≡ false → left + length line ≡ 79
+    → length form ≤ left → IsOk r ↔ (length line + length form ≤ 79) → OnOk r (next ≡ line ++ form) → form ≡ shown_byte byte → IsShowing line was text → IsShowing next was (text ++ byte ∷ [])
+put_with_room line next form was left (Err e) text byte was_is room fits variant next_is form_is h = absurd (never (variant.1 (omega arith)))
+put_with_room line next form was left (Ok u) text byte was_is room fits variant next_is form_is h = record {
+  fits = omega (arith, ap length next_is, length-append line form);
+  whole = λ no. next_is ∙ ap (λ v. v ++ form) (h.whole was_is) ∙ ap (λ v. flat_map shown_byte text ++ v) (form_is ∙ sym (append-nil (shown_byte byte)))
+      ∙ sym (flat_map-append shown_byte text (byte ∷ []));
+  cut = λ yes. absurd (differ (sym yes ∙ was_is));
+}
 
 -- One more turn of the loop over bytes.
-pub put_more : (next text more : List ℕ) (i : ℕ) → i < length more → next ≡ shown ((text ++ take i more) ++ get_or more i 0 ∷ []) → next ≡ shown (text ++ take (i + 1) more)
-put_more next text more i lt next_is =
-    next_is ∙ ap shown (append_assoc text (take i more) (get_or more i 0 ∷ []) ∙ ap (λ v. text ++ v) (sym (take_more more i 0 lt)))
+pub put_more : (line : List ℕ) (is_cut : Bool) (text more : List ℕ) (i : ℕ) → i < length more → IsShowing line is_cut ((text ++ take i more) ++ get_or more i 0 ∷ []) → IsShowing line is_cut (text ++ take (i + 1) more)
+put_more line is_cut text more i lt h =
+    subst (IsShowing line is_cut) (append_assoc text (take i more) (get_or more i 0 ∷ []) ∙ ap (λ v. text ++ v) (sym (take_more more i 0 lt))) h
 
-pub put_all : (line text more : List ℕ) (i : ℕ) → length more ≤ i → line ≡ shown (text ++ take i more) → line ≡ shown (text ++ more)
-put_all line text more i le is = is ∙ ap (λ v. shown (text ++ v)) (take_all i more le)
+pub put_none : (line : List ℕ) (is_cut : Bool) (text more : List ℕ) → IsShowing line is_cut text → IsShowing line is_cut (text ++ take 0 more)
+put_none line is_cut text more h = subst (IsShowing line is_cut) (sym (append-nil text)) h
 
--- One more turn of the loop over words.
-pub words_more : (next : List ℕ) (words : List (List ℕ)) (i : ℕ) (word : List ℕ) → i < length words → word ≡ get_or words i word
-    → next ≡ shown (flat_map (λ w. 32 ∷ w) (take i words) ++ 32 ∷ word) → next ≡ shown (flat_map (λ w. 32 ∷ w) (take (i + 1) words))
-words_more next words i word lt is next_is =
-    let blank : List ℕ → List ℕ = λ w. 32 ∷ w in
-    let more : flat_map blank (take (i + 1) words) ≡ flat_map blank (take i words) ++ 32 ∷ word =
-    ap (flat_map blank) (take_more words i word lt ∙ ap (λ w. take i words ++ w ∷ []) (sym is))
-    ∙ flat_map-append blank (take i words) (word ∷ []) ∙ ap (λ v. flat_map blank (take i words) ++ v) (append-nil (32 ∷ word)) in
-    next_is ∙ ap shown (sym more)
+pub put_all : (line : List ℕ) (is_cut : Bool) (text more : List ℕ) (i : ℕ) → length more ≤ i → IsShowing line is_cut (text ++ take i more) → IsShowing line is_cut (text ++ more)
+put_all line is_cut text more i le h = subst (λ v. IsShowing line is_cut (text ++ v)) (take_all i more le) h
 
-pub words_all : (line : List ℕ) (words : List (List ℕ)) (i : ℕ) → length words ≤ i → line ≡ shown (flat_map (λ w. 32 ∷ w) (take i words)) → line ≡ command_of words
-unfolding command_of
-words_all line words i le is = is ∙ ap (λ ws. shown (flat_map (λ w. 32 ∷ w) ws)) (take_all i words le)
+pub nothing_shown : (line : List ℕ) → line ≡ [] → IsShowing line false []
+nothing_shown line is = record { fits = omega (arith, ap length is); whole = λ _. is; cut = λ yes. absurd (differ (sym yes)) }
 
-pub nothing_shown : (line : List ℕ) → line ≡ [] → line ≡ shown []
+-- What a line shows.
+pub shown_is : (line : List ℕ) (is_cut : Bool) (text : List ℕ) → IsShowing line is_cut text → line ≡ shown text
 unfolding shown
-nothing_shown line is = is
+shown_is line true text h = sym (h.cut refl []) ∙ ap (fitting 79) (append-nil text)
+shown_is line false text h =
+    let all : line ≡ flat_map shown_byte text = h.whole refl in
+    let le = h.fits in
+    all ∙ sym (append-nil (flat_map shown_byte text)) ∙ sym (fitting_after 79 text [] (omega (arith, ap length all))) ∙ ap (fitting 79) (append-nil text)
 
 -- A line that five texts were put on, one after the other.
-pub line_is : (line a b c d e : List ℕ) (started ended : ℕ) (command : List ℕ) → a ≡ decimal started → b ≡ codes " started, " → c ≡ decimal ended → d ≡ codes " ended:" → e ≡ command
-    → line ≡ shown ((((([] ++ a) ++ b) ++ c) ++ d) ++ e) → line ≡ line_of started ended command
+pub line_is : (line : List ℕ) (is_cut : Bool) (a b c d e : List ℕ) (started ended : ℕ) (subject : List ℕ) → a ≡ decimal started → b ≡ codes " started, " → c ≡ decimal ended → d ≡ codes " ended:" → e ≡ subject
+    → IsShowing line is_cut ((((([] ++ a) ++ b) ++ c) ++ d) ++ e) → line ≡ line_of started ended subject
 unfolding line_of
-line_is line a b c d e started ended command a_is b_is c_is d_is e_is is =
-    is ∙ ap (λ x. shown (x ++ b ++ c ++ d ++ e)) a_is ∙ ap (λ x. shown (decimal started ++ x ++ c ++ d ++ e)) b_is
+line_is line is_cut a b c d e started ended subject a_is b_is c_is d_is e_is h =
+    shown_is line is_cut ((((([] ++ a) ++ b) ++ c) ++ d) ++ e) h
+    ∙ ap (λ x. shown (x ++ b ++ c ++ d ++ e)) a_is ∙ ap (λ x. shown (decimal started ++ x ++ c ++ d ++ e)) b_is
     ∙ ap (λ x. shown (decimal started ++ codes " started, " ++ x ++ d ++ e)) c_is
     ∙ ap (λ x. shown (decimal started ++ codes " started, " ++ decimal ended ++ x ++ e)) d_is
     ∙ ap (λ x. shown (decimal started ++ codes " started, " ++ decimal ended ++ codes " ended:" ++ x)) e_is
 
 -- What is written if all have ended, and otherwise.
-pub none_left : (text line : List ℕ) (started ended : ℕ) (command : List ℕ) → text ≡ erasure ++ line → line ≡ [] → ended ≡ started → text ≡ text_of started ended command
+pub none_left : (text : List ℕ) (started ended : ℕ) (subject : List ℕ) → text ≡ erasure → ended ≡ started → text ≡ text_of started ended subject
 unfolding text_of
-none_left text line started ended command is line_is same =
+none_left text started ended subject is same =
     let test : eqb ended started ≡ true = grind (arith, nat_tests) in
-    is ∙ ap (λ l. erasure ++ l) line_is ∙ sym (ap (λ b. erasure ++ cond b [] (line_of started ended command)) test)
+    is ∙ sym (ap (λ b. erasure ++ cond b [] (wrapping_off ++ line_of started ended subject ++ wrapping_on)) test)
 
-pub some_left : (text line : List ℕ) (started ended : ℕ) (command : List ℕ) → text ≡ erasure ++ line → line ≡ line_of started ended command → (ended ≡ started → ⊥) → text ≡ text_of started ended command
+pub some_left : (text line : List ℕ) (started ended : ℕ) (subject : List ℕ) → text ≡ erasure ++ (wrapping_off ++ line ++ wrapping_on) → line ≡ line_of started ended subject → (ended ≡ started → ⊥) → text ≡ text_of started ended subject
 unfolding text_of
-some_left text line started ended command is line_is other =
+some_left text line started ended subject is line_is other =
     let test : eqb ended started ≡ false = grind (arith, nat_tests) in
-    is ∙ ap (λ l. erasure ++ l) line_is ∙ sym (ap (λ b. erasure ++ cond b [] (line_of started ended command)) test)
+    is ∙ ap (λ l. erasure ++ (wrapping_off ++ l ++ wrapping_on)) line_is ∙ sym (ap (λ b. erasure ++ cond b [] (wrapping_off ++ line_of started ended subject ++ wrapping_on)) test)

@@ -1,2 +1,4 @@
 pub mod Progress
+pub mod Screen
+pub mod Subject
 pub mod Watch

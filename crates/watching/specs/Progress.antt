@@ -1,31 +1,31 @@
 -- The line of progress, and what is written after a list of events (own).
-use Rattle.std.specs.Prelude.{ℕ, ◌+◌, ◌==◌, ◌&&◌, nat_le, List, [], ◌∷◌, ◌++◌, codes, decimal, flat_map, fold, map, take, if◌then◌else◌}
+use Rattle.std.specs.Prelude.{ℕ, ◌+◌, ◌==◌, List, [], ◌∷◌, ◌++◌, codes, decimal, fold, if◌then◌else◌}
 use Rattle.crew_trait.specs.declared.event.CrewEvent.{CrewEvent}
 use Rattle.crew_trait.specs.declared.event.CrewEvent.TheVariants.{Started, Ended}
+use Rattle.watching.specs.Screen.{shown}
+use Rattle.watching.specs.Subject.{subject_of}
 
--- The byte if it is printable ASCII, and `?` otherwise. (own)
-abbrev pub printable : ℕ → ℕ
-printable b = if nat_le 32 b && nat_le b 126 then b else 63
-
--- The first 79 bytes of a text as a terminal is given them. (own)
-unfoldable pub shown : List ℕ → List ℕ
-shown text = take 79 (map printable text)
-
--- The words of a command, each after a blank, as a line shows them. (own)
-unfoldable pub command_of : List (List ℕ) → List ℕ
-command_of words = shown (flat_map (λ word. 32 ∷ word) words)
-
--- The line after so many starts and ends, with this command. (own)
+-- The line after so many starts and ends, with what it says of a job. (own)
 unfoldable pub line_of : ℕ → ℕ → List ℕ → List ℕ
-line_of started ended command = shown (decimal started ++ codes " started, " ++ decimal ended ++ codes " ended:" ++ command)
+line_of started ended subject = shown (decimal started ++ codes " started, " ++ decimal ended ++ codes " ended:" ++ subject)
 
 -- A carriage return and the control sequence `EL`: the line on which the cursor is, is empty. (ECMA-48, 8.3.41)
 abbrev pub erasure : List ℕ
 erasure = 13 ∷ 27 ∷ 91 ∷ 75 ∷ []
 
--- What is written after so many starts and ends: the erasure and, unless all that were started have ended, the line. (own)
+-- The control sequences after which a line that is wider than the terminal is cut at its edge, and after which it is continued
+-- below. (DEC's private mode 7, autowrap)
+abbrev pub wrapping_off : List ℕ
+wrapping_off = 27 ∷ 91 ∷ 63 ∷ 55 ∷ 108 ∷ []
+
+abbrev pub wrapping_on : List ℕ
+wrapping_on = 27 ∷ 91 ∷ 63 ∷ 55 ∷ 104 ∷ []
+
+-- What is written after so many starts and ends: the erasure and, unless all that were started have ended, the line, which isn't
+-- wrapped. (own)
 unfoldable pub text_of : ℕ → ℕ → List ℕ → List ℕ
-text_of started ended command = erasure ++ (if ended == started then [] else line_of started ended command)
+text_of started ended subject =
+    erasure ++ (if ended == started then [] else wrapping_off ++ line_of started ended subject ++ wrapping_on)
 
 -- The number of starts that were taken, after an event. (own)
 abbrev pub started_after : ℕ → CrewEvent → ℕ
@@ -37,10 +37,10 @@ abbrev pub ended_after : ℕ → CrewEvent → ℕ
 ended_after n (Started slot job number) = n
 ended_after n (Ended slot reply number) = n + 1
 
--- The command that was started last, after an event. (own)
-abbrev pub command_after : List ℕ → CrewEvent → List ℕ
-command_after command (Started slot job number) = command_of job.words
-command_after command (Ended slot reply number) = command
+-- What a line says of the job that was started last, after an event. (own)
+abbrev pub subject_after : List ℕ → CrewEvent → List ℕ
+subject_after subject (Started slot job number) = subject_of job
+subject_after subject (Ended slot reply number) = subject
 
 -- The number of starts that were taken. (own)
 abbrev pub started_in : List CrewEvent → ℕ
@@ -50,10 +50,10 @@ started_in events = fold started_after 0 events
 abbrev pub ended_in : List CrewEvent → ℕ
 ended_in events = fold ended_after 0 events
 
--- The command that was started last, or nothing. (own)
-abbrev pub command_in : List CrewEvent → List ℕ
-command_in events = fold command_after [] events
+-- What a line says of the job that was started last, or nothing. (own)
+abbrev pub subject_in : List CrewEvent → List ℕ
+subject_in events = fold subject_after [] events
 
 -- What is written once these events have happened. (own)
 abbrev pub text_after : List CrewEvent → List ℕ
-text_after events = text_of (started_in events) (ended_in events) (command_in events)
+text_after events = text_of (started_in events) (ended_in events) (subject_in events)

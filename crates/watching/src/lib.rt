@@ -6,20 +6,24 @@
 //!
 //! ```text
 //! let mut crew = Watched::new(ProcessCrew::new(rt, alloc)?, rt.stderr(), rt.stderr().is_terminal());
-//! crew.start(0, job)?;                       // 1 started, 0 ended: cc -c conftest.c
+//! crew.start(0, job)?;                       // 1 started, 0 ended: header sys/stat.h
 //! let (slot, reply) = crew.next();           // the line is gone
 //! ```
 //!
-//! The line has the number of children that were started, the number that have ended, and the words of the command that was started
-//! last. It has at most 79 columns, and each byte that isn't printable ASCII is shown as `?`, so a command can't drive the terminal.
+//! The line has the number of children that were started, the number that have ended, and what was started last: the header, function,
+//! declaration or type that the conftest tests, or the words of the command if the conftest's text doesn't tell that. It has at most
+//! 79 columns, and each byte that isn't printable ASCII is shown as `\xNN`, so that nothing in it drives the terminal. While it is
+//! written the terminal's wrapping is off, so that it is one line also if the terminal is narrower.
 //!
 //! "own" marks a rule that no manual gives.
 //!
-//! `specs/Progress.antt` defines the line, and what is written after a list of events. `specs/Watch.antt` has what contracts see
-//! of the crew. In the code, read `line` and then `watched`.
+//! `specs/Progress.antt` defines the line, and what is written after a list of events, `specs/Subject.antt` what a line says of a job,
+//! and `specs/Screen.antt` what fits in a line. `specs/Watch.antt` has what contracts see of the crew. In the code, read `line`,
+//! `subject` and then `watched`.
 #![tactic(auto)]
 
 mod line;
+mod subject;
 mod watched;
 
 pub use watched::Watched;

@@ -2,99 +2,115 @@
 
 ghost use Rattle.std.specs.Prelude.{◌≡◌, ℕ, List, ◌∷◌, ◌++◌, []};
 ghost use Rattle.watching.specs.Progress as progress;
+ghost use Rattle.watching.specs.Screen.{IsShowing, shown_byte};
 
 use arrayvec::ArrayVec;
-use deftable::Bytes;
 use itoa::Buffer;
+use shown::escape;
 
 /// The first column, and all that follows it erased (ECMA-48, CR and EL).
 const ERASURE: [u8; 4] = *b"\r\x1b[K";
 
+/// A line that is wider than the terminal is cut (DEC's private mode 7).
+const WRAPPING_OFF: [u8; 5] = *b"\x1b[?7l";
+
+/// A line that is wider than the terminal is continued below.
+const WRAPPING_ON: [u8; 5] = *b"\x1b[?7h";
+
 /// The text of a line, or a part of it.
 pub(crate) type Line = ArrayVec<u8, 79>;
 
-/// What is written at once: the erasure, and a line.
-pub(crate) type Text = ArrayVec<u8, 83>;
+/// What is written at once: the erasure, and a line that isn't wrapped.
+pub(crate) type Text = ArrayVec<u8, 93>;
 
-/// Returns the byte if it is printable ASCII, and `?` otherwise.
-fn printable(byte: u8) -> u8
-    ensures { result ≡ progress.printable byte }
-{
-    if byte >= b' ' && byte <= b'~' {
-        byte
-    } else {
-        b'?'
-    }
+/// A line that is written, and whether something that came last had no room.
+#[derive(Drop)]
+struct Screen {
+    line: Line,
+    is_cut: bool,
 }
 
-/// Appends a byte, if there is room.
-fn put_byte(line: &mut Line, byte: u8)
-    ensures { (text : List ℕ) → line.old.items ≡ progress.shown text → line.new.items ≡ progress.shown (text ++ byte ∷ []) }
+/// Appends the form of one byte, if there is room and there was room before.
+fn put_form(screen: &mut Screen, form: &[u8])
+    ensures { (text : List ℕ) (byte : ℕ) → form.now ≡ shown_byte byte → IsShowing screen.old.line.items screen.old.is_cut text
+        → IsShowing screen.new.line.items screen.new.is_cut (text ++ byte ∷ []) }
 {
-    if !line.is_full() {
-        line.push(printable(byte));
+    if screen.is_cut {
+        return;
+    }
+    if screen.line.remaining_capacity() < form.len() {
+        screen.is_cut = true;
+        return;
+    }
+    let _fits = screen.line.try_extend_from_slice(form);
+}
+
+/// Appends a byte, if it fits.
+#[tactic(auto, unfolding(crate::specs::Screen::shown_byte))]
+fn put_byte(screen: &mut Screen, byte: u8)
+    ensures { (text : List ℕ) → IsShowing screen.old.line.items screen.old.is_cut text
+        → IsShowing screen.new.line.items screen.new.is_cut (text ++ byte ∷ []) }
+{
+    if byte >= b' ' && byte <= b'~' {
+        put_form(screen, &[byte]);
+    } else {
+        put_form(screen, &escape(byte));
     }
 }
 
 /// Appends the bytes that fit.
-fn put(line: &mut Line, more: &[u8])
-    ensures { (text : List ℕ) → line.old.items ≡ progress.shown text → line.new.items ≡ progress.shown (text ++ more.now) }
+fn put(screen: &mut Screen, more: &[u8])
+    ensures { (text : List ℕ) → IsShowing screen.old.line.items screen.old.is_cut text
+        → IsShowing screen.new.line.items screen.new.is_cut (text ++ more.now) }
 {
     for byte in more {
-        put_byte(line, *byte);
+        put_byte(screen, *byte);
     }
 }
 
-/// Appends a word after a blank.
-fn put_word(line: &mut Line, word: &Bytes)
-    ensures { (text : List ℕ) → line.old.items ≡ progress.shown text → line.new.items ≡ progress.shown (text ++ 32 ∷ word.now) }
+/// Returns the line after so many starts and ends, with what it says of a job.
+fn line_of(started: u64, ended: u64, subject: &Line) -> Line
+    ensures { result.items ≡ progress.line_of started ended subject.now.items }
 {
-    put_byte(line, b' ');
-    put(line, word.as_slice());
-}
-
-/// Returns the words of a command as a line shows them.
-pub(crate) fn command_of(words: &[Bytes]) -> Line
-    ensures { result.items ≡ progress.command_of words.now }
-{
-    let mut line = Line::new();
-    for word in words {
-        put_word(&mut line, word);
-    }
-    line
-}
-
-/// Returns the line after so many starts and ends.
-fn line_of(started: u64, ended: u64, command: &Line) -> Line
-    ensures { result.items ≡ progress.line_of started ended command.now.items }
-{
-    let mut line = Line::new();
+    let mut screen = Screen {
+        line: Line::new(),
+        is_cut: false,
+    };
     let mut digits = Buffer::new();
-    put(&mut line, digits.format(started).as_bytes());
-    put(&mut line, b" started, ");
-    put(&mut line, digits.format(ended).as_bytes());
-    put(&mut line, b" ended:");
-    put(&mut line, command.as_slice());
-    line
+    put(&mut screen, digits.format(started).as_bytes());
+    put(&mut screen, b" started, ");
+    put(&mut screen, digits.format(ended).as_bytes());
+    put(&mut screen, b" ended:");
+    put(&mut screen, subject.as_slice());
+    screen.line
 }
 
-/// Returns the erasure, and then the line.
-fn after_erasure(line: &Line) -> Text
-    ensures { result.items ≡ progress.erasure ++ line.now.items }
+/// Returns the erasure.
+fn erasure() -> Text
+    ensures { result.items ≡ progress.erasure }
 {
     let mut text = Text::new();
     let _fits = text.try_extend_from_slice(&ERASURE);
-    let _fits = text.try_extend_from_slice(line.as_slice());
     text
 }
 
-/// Returns what is written after so many starts and ends. As long as fewer have ended, the line has the command that was started
-/// last.
-pub(crate) fn text_of(started: u64, ended: u64, command: &Line) -> Text
-    ensures { result.items ≡ progress.text_of started ended command.now.items }
+/// Returns the erasure, and then the line, which isn't wrapped.
+fn after_erasure(line: &Line) -> Text
+    ensures { result.items ≡ progress.erasure ++ (progress.wrapping_off ++ line.now.items ++ progress.wrapping_on) }
+{
+    let mut text = erasure();
+    let _fits = text.try_extend_from_slice(&WRAPPING_OFF);
+    let _fits = text.try_extend_from_slice(line.as_slice());
+    let _fits = text.try_extend_from_slice(&WRAPPING_ON);
+    text
+}
+
+/// Returns what is written after so many starts and ends. As long as fewer have ended, the line says what was started last.
+pub(crate) fn text_of(started: u64, ended: u64, subject: &Line) -> Text
+    ensures { result.items ≡ progress.text_of started ended subject.now.items }
 {
     if ended == started {
-        return after_erasure(&Line::new());
+        return erasure();
     }
-    after_erasure(&line_of(started, ended, command))
+    after_erasure(&line_of(started, ended, subject))
 }

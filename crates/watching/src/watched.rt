@@ -6,14 +6,15 @@ ghost use Rattle.crew_trait.specs.Events.{busy, IsSomeBusy, IsIdle, failure_of};
 ghost use Rattle.crew_trait.specs.declared.event.CrewEvent.TheVariants.{Started, Ended};
 ghost use Rattle.watching.specs.Progress.{text_after, erasure};
 
-use crate::line::{Line, Text, command_of, text_of};
+use crate::line::{Line, Text, text_of};
+use crate::subject::subject_of;
 use crew::{Crew, Refused, Reply};
 use jobs::Job;
 use std::io::Write;
 use std::marker::Model;
 
-/// A crew that shows on a stream how far it is: the number of its children that were started, the number that have ended, and the
-/// command that was started last (own).
+/// A crew that shows on a stream how far it is: the number of its children that were started, the number that have ended, and what
+/// was started last (own).
 ///
 /// Each change is one write. If a write fails, no further one is tried. What a call returns never depends on it.
 #[derive(Drop)]
@@ -89,7 +90,7 @@ impl<C: Crew + Drop, W: Write + Drop> Crew for Watched<C, W> {
         ensures written { OnOk result (IsTrue self.new.is_on
             → Appends (W.contents self.old.stream) (W.contents self.new.stream) (text_after self.new.account.events)) }
     {
-        let command = command_of(job.words.as_slice());
+        let command = subject_of(&job);
         self.crew.start(slot, job)?;
         self.started += 1;
         self.command = command;

@@ -1,8 +1,8 @@
-use Rattle.watching.proofs.Cutting.{nothing_shown, words_more, words_all}
-use Rattle.watching.proofs.line.command_of.Goals as goal
+use Rattle.watching.proofs.Parts.{nothing_yet, words_more, words_all}
+use Rattle.watching.proofs.subject.command_of.Goals as goal
 
 pub loop-word-init : goal.loop-word-init
-loop-word-init c = nothing_shown _ c.new-line.ensures
+loop-word-init c = nothing_yet _ c.new-line.ensures
 
 pub loop-word-preserved : goal.loop-word-preserved
 loop-word-preserved c = words_more _ _ _ _ c.loop-word-test.true c.word-item.is (c.put_word.ensures _ c.loop-word.invariant)

@@ -1,0 +1,23 @@
+-- What a line of a terminal is given of a text (own).
+use Rattle.std.specs.Prelude.{◌≡◌, ℕ, ◌-◌, ◌≤◌, ◌&&◌, nat_le, Bool, true, false, List, [], ◌∷◌, ◌++◌, flat_map, length, if◌then◌else◌}
+use Rattle.shown.specs.Form.{escape}
+
+-- The byte if it is printable ASCII, and otherwise `\x` and its two hexadecimal digits. (own)
+unfoldable pub shown_byte : ℕ → List ℕ
+shown_byte b = if nat_le 32 b && nat_le b 126 then b ∷ [] else escape b
+
+-- The bytes of a text that fit in so many columns, up to the first that doesn't. (own)
+abbrev pub fitting : ℕ → List ℕ → List ℕ
+fitting columns [] = []
+fitting columns (b ∷ bs) =
+    if nat_le (length (shown_byte b)) columns then shown_byte b ++ fitting (columns - length (shown_byte b)) bs else []
+
+-- A text in the columns of a line. (own)
+unfoldable pub shown : List ℕ → List ℕ
+shown text = fitting 79 text
+
+-- The line shows this text: whole if it isn't cut, and if it is, so much of it that nothing more fits, whatever follows. (own)
+pub record IsShowing (line : List ℕ) (is_cut : Bool) (text : List ℕ) : Type 0 where
+  pub fits : length line ≤ 79
+  pub whole : is_cut ≡ false → line ≡ flat_map shown_byte text
+  pub cut : is_cut ≡ true → (more : List ℕ) → fitting 79 (text ++ more) ≡ line
