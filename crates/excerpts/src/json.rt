@@ -1,0 +1,83 @@
+//! A finding as JSON.
+
+use crate::draft::Draft;
+use deftable::Bytes;
+use findings::{Finding, Severity};
+use places::place_of;
+use serde_json::Value;
+use std::alloc::{AllocError, Global};
+
+/// Returns a text as JSON has it. Bytes that aren't UTF-8 become U+FFFD.
+fn quoted(alloc: Global, text: &[u8]) -> Result<String, AllocError> {
+    let text = String::from_utf8_lossy(alloc, text)?;
+    Value::String(text).to_string(alloc)
+}
+
+/// Writes a member whose value is a text, with a comma after it.
+fn put_text(alloc: Global, draft: &mut Draft, key: &[u8], text: &[u8], end: &[u8]) {
+    draft.put(b"\"");
+    draft.put(key);
+    draft.put(b"\":");
+    match quoted(alloc, text) {
+        Ok(text) => draft.put(text.as_bytes()),
+        Err(_) => draft.cut(),
+    }
+    draft.put(end);
+}
+
+/// Writes a member whose value is a number, with a comma after it.
+fn put_number(draft: &mut Draft, key: &[u8], number: usize) {
+    draft.put(b"\"");
+    draft.put(key);
+    draft.put(b"\":");
+    draft.put_number(number);
+    draft.put(b",");
+}
+
+fn word_of(severity: Severity) -> &'static [u8] {
+    match severity {
+        Severity::Error => b"error".as_slice(),
+        Severity::Warning => b"warning".as_slice(),
+    }
+}
+
+/// Returns a finding as one line with an object: `file`, `line`, `column`, `end_line`, `end_column`, `severity`, `code`, `message` and
+/// `help`. Lines and columns count from 1, columns count bytes, and the end is after the last byte. The text is that of the file, and
+/// `name` is what the file is called.
+///
+/// # Errors
+///
+/// Fails only if memory runs out.
+pub fn json_of(
+    alloc: Global,
+    finding: &Finding,
+    name: &[u8],
+    text: &[u8],
+) -> Result<Bytes, AllocError> {
+    let start = place_of(text, finding.start);
+    let end = place_of(text, finding.end);
+    let mut draft = Draft::new(alloc);
+    draft.put(b"{");
+    put_text(alloc, &mut draft, b"file", name, b",");
+    put_number(&mut draft, b"line", start.line);
+    put_number(&mut draft, b"column", start.column);
+    put_number(&mut draft, b"end_line", end.line);
+    put_number(&mut draft, b"end_column", end.column);
+    put_text(
+        alloc,
+        &mut draft,
+        b"severity",
+        word_of(finding.severity),
+        b",",
+    );
+    put_text(alloc, &mut draft, b"code", finding.code.as_slice(), b",");
+    put_text(
+        alloc,
+        &mut draft,
+        b"message",
+        finding.message.as_slice(),
+        b",",
+    );
+    put_text(alloc, &mut draft, b"help", finding.help.as_slice(), b"}\n");
+    draft.finish()
+}

@@ -1,0 +1,28 @@
+//! Findings as they are shown: with the line of the file and a mark under it, or as JSON.
+//!
+//! ```text
+//! let shown = excerpt_of(alloc, &finding, b"configure.ac", source, false)?;
+//! ```
+//!
+//! gives, for a finding of a macro in line 24,
+//!
+//! ```text
+//! configure.ac:24:1: error: acrun does not know the macro AC_PROG_INSTALL
+//!    24 | AC_PROG_INSTALL
+//!       | ^^^^^^^^^^^^^^^
+//!    = help: write instead
+//!          AC_SUBST([INSTALL], ["install -c"])
+//! ```
+//!
+//! A call fails only if memory runs out. That it is safe and ends is proved; what it shows is tested.
+//!
+//! Read `draft`, on which texts are written, then `marked`, which shows a line and marks a part of it, and `excerpt` and `json`.
+#![tactic(auto)]
+
+mod draft;
+mod excerpt;
+mod json;
+mod marked;
+
+pub use excerpt::excerpt_of;
+pub use json::json_of;

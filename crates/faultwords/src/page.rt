@@ -1,0 +1,134 @@
+//! What is wrong and what to do, written piece by piece.
+
+ghost use Rattle.std.specs.Prelude.{◌≡◌, IfOk};
+ghost use Rattle.findings.specs.declared.finding.Severity.TheVariants.{Error};
+
+use deftable::Bytes;
+use findings::{Finding, Severity};
+use itoa::Buffer;
+use std::alloc::{AllocError, Global};
+
+/// What is wrong, in one line, and what to do, in any number of lines.
+#[derive(Debug, Drop)]
+pub struct Words {
+    /// What is wrong.
+    pub message: Bytes,
+    /// What to do. If it is empty, there is no advice.
+    pub help: Bytes,
+}
+
+/// The most bytes of a text that a message repeats.
+const LONGEST: usize = 60;
+
+/// The digits of a byte that is written as a number.
+const DIGITS: [u8; 16] = *b"0123456789abcdef";
+
+/// A message and its help. If memory runs out, what is written is lost, and the page is not whole.
+pub(crate) struct Page {
+    message: Vec<u8>,
+    help: Vec<u8>,
+    is_whole: bool,
+}
+
+impl Drop for Page {
+    fn drop(self) {
+        let Page {
+            message: _message,
+            help: _help,
+            is_whole: _is_whole,
+        } = self;
+    }
+}
+
+impl Page {
+    pub(crate) fn new(alloc: Global) -> Page {
+        Page {
+            message: Vec::new(alloc),
+            help: Vec::new(alloc),
+            is_whole: true,
+        }
+    }
+
+    /// Appends to the message.
+    pub(crate) fn say(&mut self, text: &[u8]) {
+        self.is_whole &= self.message.extend_from_slice(text).is_ok();
+    }
+
+    /// Appends a byte to the message, as `\xNN` if it is a control byte.
+    fn say_byte(&mut self, byte: u8) {
+        if byte >= 32 && byte != 127 {
+            self.say(&[byte]);
+        } else {
+            self.say(b"\\x");
+            self.say(&[
+                DIGITS[usize::from(byte >> 4)],
+                DIGITS[usize::from(byte & 15)],
+            ]);
+        }
+    }
+
+    /// Appends a text of the user to the message, between backquotes. A long one is cut.
+    pub(crate) fn say_text(&mut self, text: &[u8]) {
+        self.say(b"`");
+        for byte in &text[..text.len().min(LONGEST)] {
+            self.say_byte(*byte);
+        }
+        if text.len() > LONGEST {
+            self.say(b"..");
+        }
+        self.say(b"`");
+    }
+
+    /// Appends a number to the message.
+    pub(crate) fn say_number(&mut self, number: usize) {
+        let mut digits = Buffer::new();
+        let text = digits.format(number);
+        self.is_whole &= self.message.extend_from_slice(text.as_bytes()).is_ok();
+    }
+
+    /// Appends to the help.
+    pub(crate) fn advise(&mut self, text: &[u8]) {
+        self.is_whole &= self.help.extend_from_slice(text).is_ok();
+    }
+
+    /// Returns the words.
+    pub(crate) fn words(self) -> Result<Words, AllocError> {
+        let Page {
+            message,
+            help,
+            is_whole,
+        } = self;
+        if is_whole {
+            Ok(Words {
+                message: Bytes::from_vec(message),
+                help: Bytes::from_vec(help),
+            })
+        } else {
+            Err(AllocError)
+        }
+    }
+
+    /// Returns an error of the source with these words, at a place.
+    pub(crate) fn finding(
+        self,
+        code: Bytes,
+        start: usize,
+        end: usize,
+    ) -> Result<Finding, AllocError>
+        ensures file { IfOk result (λ finding. finding.file ≡ 0) }
+        ensures start { IfOk result (λ finding. finding.start ≡ start) }
+        ensures end { IfOk result (λ finding. finding.end ≡ end) }
+        ensures severity { IfOk result (λ finding. finding.severity ≡ Error) }
+    {
+        let Words { message, help } = self.words()?;
+        Ok(Finding {
+            file: 0,
+            start,
+            end,
+            severity: Severity::Error,
+            code,
+            message,
+            help,
+        })
+    }
+}

@@ -1,0 +1,453 @@
+//! The faults of a source.
+
+ghost use Rattle.std.specs.Prelude.{◌≡◌, IfOk};
+ghost use Rattle.findings.specs.declared.finding.Severity.TheVariants.{Error};
+
+use crate::arguments::{argument_words, macros};
+use crate::calls::{argument_count, first_argument, last_name, open_call, unquoted};
+use crate::lines::{
+    after_blanks, before, first_line, first_name, first_word, from, is_argument, without_end_blanks,
+};
+use crate::near::near_name;
+use crate::page::Page;
+use crate::shell::{Construct, shell_help, test_help};
+use acmacros::table::row_named;
+use acstatement::ParseFault;
+use bstr::ByteSlice;
+use deftable::Bytes;
+use findings::Finding;
+use m4quote::QuoteFault;
+use shellword::ShellFault;
+use std::alloc::{AllocError, Global};
+
+/// The text around a fault.
+#[derive(Clone, Copy)]
+struct Around<'a> {
+    text: &'a [u8],
+    at: usize,
+}
+
+impl<'a> Around<'a> {
+    /// Returns the text from the place on.
+    fn rest(&self) -> &'a [u8] {
+        from(self.text, self.at)
+    }
+
+    /// Returns the name at the place.
+    fn name(&self) -> &'a [u8] {
+        first_name(self.rest())
+    }
+
+    /// Returns the name of the call that the place is in.
+    fn call(&self) -> &'a [u8] {
+        open_call(before(self.text, self.at))
+    }
+
+    /// Returns the argument at the place, without the quotes around it.
+    fn argument(&self) -> &'a [u8] {
+        unquoted(first_argument(self.rest()))
+    }
+}
+
+/// Writes what a construct of the shell is.
+fn put_construct(page: &mut Page, found: Construct) {
+    page.say(found.what);
+    page.advise(found.help);
+}
+
+fn put_quote(page: &mut Page, around: Around<'_>, fault: QuoteFault) {
+    match fault {
+        QuoteFault::UnclosedQuote(_) => {
+            page.say(b"a quote is open at the end of the file: this `[` has no `]`");
+            page.advise(b"close the argument before the parenthesis or the comma that ends it");
+        }
+        QuoteFault::UnclosedParen(_) => {
+            page.say(b"a call is open at the end of the file: the parenthesis of ");
+            page.say_text(last_name(before(around.text, around.at)));
+            page.say(b" is not closed");
+            page.advise(b"close it after the last argument");
+        }
+        other => put_other_quote(page, other),
+    }
+}
+
+fn put_other_quote(page: &mut Page, fault: QuoteFault) {
+    match fault {
+        QuoteFault::StrayClose(_) => {
+            page.say(b"a `]` closes no quote");
+            page.advise(
+                b"remove it, or open a quote before it; within an argument write [[ and ]] for brackets that stay",
+            );
+        }
+        QuoteFault::Nul(_) => {
+            page.say(b"there is a NUL byte");
+            page.advise(b"a source is text: save it as UTF-8");
+        }
+        QuoteFault::TooLarge => page.say(b"the file has more than 1,048,576 bytes"),
+        _ => page.say(b"more than 64 brackets and parentheses are open at once"),
+    }
+}
+
+/// Writes that a macro isn't known, and the nearest one.
+fn put_unknown(alloc: Global, page: &mut Page, name: &[u8]) -> Result<(), AllocError> {
+    page.say(b"acrun does not know the macro ");
+    page.say(name);
+    if let Some(near) = near_name(alloc, name, macros())? {
+        page.advise(b"a macro of a similar name is ");
+        page.advise(near);
+    } else {
+        page.advise(b"docs/guide.md says what to write in place of many macros");
+    }
+    Ok(())
+}
+
+/// Writes that a name with a parenthesis is no macro, and the nearest one.
+fn put_no_macro(alloc: Global, page: &mut Page, name: &[u8]) -> Result<(), AllocError> {
+    page.say_text(name);
+    page.say(b" is no macro, and no command is run");
+    if let Some(near) = near_name(alloc, name, macros())? {
+        page.advise(b"a macro of a similar name is ");
+        page.advise(near);
+    } else {
+        page.advise(b"the macros of a package itself are not read: write out what they do");
+    }
+    Ok(())
+}
+
+/// Writes what is wrong with text that is no statement, and that has no construct by which to say it.
+fn put_plain_text(alloc: Global, page: &mut Page, around: Around<'_>) -> Result<(), AllocError> {
+    let rest = around.rest();
+    let name = first_name(rest);
+    if !name.is_empty() && from(rest, name.len()).starts_with(b"(") {
+        return put_no_macro(alloc, page, name);
+    }
+    if before(around.text, around.at).trim_end().ends_with(b"=") {
+        page.say(b"there is a blank after the `=` of an assignment");
+        page.advise(b"write NAME=VALUE without blanks, and a value with blanks in quotes");
+        return Ok(());
+    }
+    page.say_text(first_word(rest));
+    page.say(b" is no statement that acrun reads");
+    page.advise(
+        b"text between calls is assignments NAME=VALUE, and calls are on lines of their own; no command is run",
+    );
+    Ok(())
+}
+
+/// Returns whether the name is that of a macro that is an argument, and no statement.
+fn is_argument_macro(name: &[u8]) -> bool {
+    name == b"AS_HELP_STRING".as_slice()
+        || name == b"AC_LANG_PROGRAM".as_slice()
+        || name == b"AC_LANG_SOURCE".as_slice()
+}
+
+/// Writes what is wrong with an argument that is to hold statements, help or a program.
+fn put_no_statements(page: &mut Page, around: Around<'_>) {
+    page.say(b"the argument ");
+    page.say_text(around.argument());
+    page.say(b" of ");
+    page.say(around.call());
+    page.say(b" is not read");
+    if around.call().ends_with(b"_IFELSE") {
+        page.advise(
+            b"a program is AC_LANG_PROGRAM([includes], [statements]) or AC_LANG_SOURCE([text])",
+        );
+    } else {
+        page.advise(
+            b"put the whole argument in one pair of brackets; a list has blanks between its entries",
+        );
+    }
+}
+
+/// Writes what is wrong with text that is no statement.
+fn put_statement(alloc: Global, page: &mut Page, around: Around<'_>) -> Result<(), AllocError> {
+    let rest = around.rest();
+    if let Some(found) = shell_help(unquoted_front(rest)) {
+        put_construct(page, found);
+        return Ok(());
+    }
+    if is_argument_macro(around.name()) {
+        page.say(around.name());
+        page.say(b" is no statement by itself");
+        page.advise(
+            b"AS_HELP_STRING is an argument of AC_ARG_ENABLE and AC_ARG_WITH, and AC_LANG_PROGRAM and AC_LANG_SOURCE are arguments of AC_COMPILE_IFELSE and its like",
+        );
+        return Ok(());
+    }
+    if is_argument(around.text, around.at) {
+        put_no_statements(page, around);
+        return Ok(());
+    }
+    put_plain_text(alloc, page, around)
+}
+
+/// Returns a text without the bracket that it begins with.
+fn unquoted_front(text: &[u8]) -> &[u8] {
+    match text {
+        [b'[', inside @ ..] => inside,
+        _ => text,
+    }
+}
+
+/// Writes how many arguments a macro takes, and how many there are.
+fn put_counts(page: &mut Page, name: &[u8], count: usize) {
+    page.say(name);
+    page.say(b" takes ");
+    if let Some(row) = row_named(name) {
+        page.say_number(row.least);
+        if row.most > 1000 {
+            page.say(b" or more");
+        } else if row.most > row.least {
+            page.say(b" to ");
+            page.say_number(row.most);
+        }
+    }
+    page.say(b" arguments, and has ");
+    page.say_number(count);
+}
+
+/// Writes what is wrong with the number of arguments of the call at the place.
+fn put_count(page: &mut Page, around: Around<'_>) {
+    let name = around.name();
+    let rest = from(around.rest(), name.len());
+    let count = argument_count(around.rest());
+    if name == b"AC_OUTPUT".as_slice() {
+        page.say(b"AC_OUTPUT takes no argument");
+        page.advise(b"write instead\nAC_CONFIG_FILES([Makefile])\nAC_OUTPUT");
+        return;
+    }
+    put_counts(page, name, count);
+    if after_blanks(rest).starts_with(b"(") && !rest.starts_with(b"(") {
+        page.advise(b"no blank may be between the name and its parenthesis");
+    } else if count > 0 {
+        page.advise(
+            b"a comma ends an argument that is not in brackets: put each argument in [ and ]",
+        );
+    } else {
+        page.advise(b"docs/language.md has its arguments");
+    }
+}
+
+/// Writes what is wrong with an argument that is no name, list or number.
+fn put_bad_name(page: &mut Page, around: Around<'_>) {
+    let (what, help) = argument_words(around.call());
+    page.say_text(first_line(around.argument()));
+    page.say(b" ");
+    page.say(what);
+    page.say(b" in ");
+    page.say(around.call());
+    page.advise(help);
+}
+
+/// Writes what is wrong with a word, or with text that has variables.
+fn put_word(page: &mut Page, around: Around<'_>) {
+    if is_argument(around.text, around.at) {
+        match shell_help(around.argument()) {
+            Some(found) => put_construct(page, found),
+            None => {
+                page.say_text(around.argument());
+                page.say(b" is no shell word that is read");
+                page.advise(
+                    b"a word with blanks is in quotes, and variables are $name and ${name}",
+                );
+            }
+        }
+    } else {
+        match shell_help(around.rest()) {
+            Some(found) => put_construct(page, found),
+            None => {
+                page.say(b"the value of this assignment is not read");
+                page.advise(b"a value is a shell word: text, quotes, $name and ${name}");
+            }
+        }
+    }
+}
+
+/// Writes what is wrong with a test.
+fn put_test(page: &mut Page, around: Around<'_>) {
+    let argument = around.argument();
+    match test_help(argument) {
+        Some(found) => put_construct(page, found),
+        None => {
+            page.say_text(first_line(argument));
+            page.say(b" is no test that is read");
+            page.advise(
+                b"a test is made of test -n, test -z, test A = B, test A != B, `:`, true, false, !, && and ||; no other command is run",
+            );
+        }
+    }
+}
+
+/// Writes what is wrong with a list of patterns.
+fn put_pattern(page: &mut Page, around: Around<'_>) {
+    page.say_text(first_line(around.argument()));
+    page.say(b" is no list of patterns that is read");
+    page.advise(
+        b"patterns have * and ?, are joined by |, and have no variables and no bracket expressions; quote what is meant as it is",
+    );
+}
+
+fn put_shell(page: &mut Page, around: Around<'_>, fault: ShellFault) {
+    match fault {
+        ShellFault::BadTest(_) => put_test(page, around),
+        ShellFault::BadPattern(_) => put_pattern(page, around),
+        _ => put_word(page, around),
+    }
+}
+
+fn put_not_at_top(page: &mut Page, around: Around<'_>) {
+    if around.call().is_empty() {
+        page.say(around.name());
+        page.say(b" is called a second time");
+        page.advise(b"remove this call");
+    } else {
+        page.say(around.name());
+        page.say(b" is not allowed within ");
+        page.say(around.call());
+        page.advise(b"move it to the top of the file: what it says holds for the whole package");
+    }
+}
+
+/// Writes why there is no AC_INIT where one has to be.
+fn put_no_init(page: &mut Page, text: &[u8]) {
+    if text.starts_with(b"\xef\xbb\xbf") {
+        page.say(b"the file begins with a byte order mark");
+        page.advise(
+            b"remove its first three bytes\ntail -c +4 configure.ac > configure.new && mv configure.new configure.ac",
+        );
+    } else if text.trim_end().is_empty() {
+        page.say(b"the file is empty");
+        page.advise(b"a source begins with AC_INIT([package], [version]) and ends with AC_OUTPUT");
+    } else if text.contains_str(b"AC_INIT") {
+        page.say(b"something is before AC_INIT");
+        page.advise(
+            b"only AC_PREREQ, blanks and comments may be there: move AC_INIT to the top of the file",
+        );
+    } else {
+        page.say(b"there is no AC_INIT");
+        page.advise(b"begin with AC_INIT([package], [version])");
+    }
+}
+
+fn put_after_output(page: &mut Page, around: Around<'_>) {
+    page.say_text(first_word(around.rest()));
+    page.say(b" is after AC_OUTPUT");
+    page.advise(b"only blanks and comments may be there: move it before AC_OUTPUT");
+}
+
+fn put_too_many(page: &mut Page) {
+    page.say(b"there are too many entries");
+    page.advise(
+        b"at most 1,024 files, headers, output variables, features and packages, and 256 entries of one list",
+    );
+}
+
+/// Writes the words of the faults that concern a whole file, a call or a list.
+fn put_rest(page: &mut Page, around: Around<'_>, fault: ParseFault) {
+    match fault {
+        ParseFault::NotAtTop(_) => put_not_at_top(page, around),
+        ParseFault::NoInit => put_no_init(page, around.text),
+        ParseFault::NoOutput => {
+            page.say(b"there is no AC_OUTPUT");
+            page.advise(b"end the file with a line AC_OUTPUT");
+        }
+        ParseFault::AfterOutput(_) => put_after_output(page, around),
+        ParseFault::CacheBody(_) => {
+            page.say(b"the commands of AC_CACHE_CHECK may set their own name alone");
+            page.advise(
+                b"set the name of the second argument here, and do the rest after the check, by AS_IF",
+            );
+        }
+        ParseFault::TooDeep(_) => page.say(b"statements nest more than 32 deep"),
+        ParseFault::TooMany(_) => put_too_many(page),
+        ParseFault::NewerVersion(_) => {
+            page.say(b"a version of Autoconf after 2.71 is required");
+            page.advise(b"acrun follows 2.71: write AC_PREREQ([2.71])");
+        }
+        _ => page.say(b"memory ran out"),
+    }
+}
+
+/// Writes the words of a fault.
+fn put_fault(
+    alloc: Global,
+    page: &mut Page,
+    around: Around<'_>,
+    fault: ParseFault,
+) -> Result<(), AllocError> {
+    match fault {
+        ParseFault::Quote(fault) => put_quote(page, around, fault),
+        ParseFault::UnknownMacro(_) => return put_unknown(alloc, page, around.name()),
+        ParseFault::UnknownStatement(_) => return put_statement(alloc, page, around),
+        ParseFault::ArgCount(_) => put_count(page, around),
+        ParseFault::BadName(_) => put_bad_name(page, around),
+        ParseFault::Shell(fault, _) => put_shell(page, around, fault),
+        other => put_rest(page, around, other),
+    }
+    Ok(())
+}
+
+/// Returns the length of what is marked at the place of a fault.
+fn marked_len(around: Around<'_>, fault: ParseFault) -> usize {
+    match fault {
+        ParseFault::Quote(_) => 1,
+        ParseFault::NoInit => first_line(around.rest()).len(),
+        ParseFault::UnknownMacro(_) | ParseFault::ArgCount(_) | ParseFault::NotAtTop(_) => {
+            around.name().len()
+        }
+        _ if is_argument(around.text, around.at) => first_argument(around.rest()).len(),
+        _ => without_end_blanks(first_line(around.rest())).len(),
+    }
+}
+
+/// Returns the code of a fault, such as `parse-2`: its number, without its place.
+fn code_of(alloc: Global, fault: ParseFault) -> Result<Bytes, AllocError> {
+    let shown = format!(in alloc; "parse-{fault}")?;
+    let code = first_word(shown.as_bytes());
+    Bytes::from_slice(alloc, code)
+}
+
+/// Returns an error of the source, in words, at the offset `at`. If there is no help, it is empty.
+///
+/// The offset is that of the fault, or that of the statement at fault in text between calls. The end is that of the name, of the
+/// argument or of the line there.
+///
+/// # Errors
+///
+/// Fails only if memory runs out.
+pub fn parse_finding(
+    alloc: Global,
+    text: &[u8],
+    fault: ParseFault,
+    at: usize,
+) -> Result<Finding, AllocError>
+    ensures file { IfOk result (λ finding. finding.file ≡ 0) }
+    ensures start { IfOk result (λ finding. finding.start ≡ at) }
+    ensures severity { IfOk result (λ finding. finding.severity ≡ Error) }
+{
+    let around = Around { text, at };
+    let code = code_of(alloc, fault)?;
+    let mut page = Page::new(alloc);
+    put_fault(alloc, &mut page, around, fault)?;
+    let end = at.saturating_add(marked_len(around, fault)).min(text.len());
+    page.finding(code, at, end)
+}
+
+/// Returns that a source is too long, at its start.
+///
+/// # Errors
+///
+/// Fails only if memory runs out.
+pub fn too_long_finding(alloc: Global) -> Result<Finding, AllocError>
+    ensures file { IfOk result (λ finding. finding.file ≡ 0) }
+    ensures start { IfOk result (λ finding. finding.start ≡ 0) }
+    ensures severity { IfOk result (λ finding. finding.severity ≡ Error) }
+{
+    let code = Bytes::from_slice(alloc, b"plan-1")?;
+    let mut page = Page::new(alloc);
+    page.say(b"the source weighs more than 65,535 statements");
+    page.advise(
+        b"each statement counts, in cases too, and the cases of a list once for each of its entries: make lists shorter",
+    );
+    page.finding(code, 0, 0)
+}
