@@ -1,0 +1,181 @@
+//! Warnings about the templates of files.
+
+use crate::advice::variable_advice;
+use crate::given::Given;
+use crate::saying::{joined, near_question, warn};
+use bstr::ByteSlice;
+use deftable::{SubstList, is_shell_name};
+use findings::{Finding, Span};
+use std::alloc::{AllocError, Global};
+
+/// The variables whose usual values name `datarootdir`.
+#[rattlefmt::skip]
+const BELOW_DATAROOTDIR: [&[u8]; 9] = [
+    b"@mandir@", b"@datadir@", b"@localedir@", b"@docdir@", b"@infodir@", b"@htmldir@", b"@dvidir@", b"@pdfdir@", b"@psdir@",
+];
+
+/// Warns of a name between two `@` that is no output variable.
+fn warn_of_name(
+    alloc: Global,
+    given: &Given,
+    span: Span,
+    name: &[u8],
+    out: &mut Vec<Finding>,
+) -> Result<(), AllocError> {
+    let message = joined(
+        alloc,
+        b"no statement sets @",
+        name,
+        b"@, so it stays as it is",
+    )?;
+    let advice = variable_advice(name);
+    if !advice.is_empty() {
+        return warn(
+            alloc,
+            out,
+            span,
+            b"unset-variable",
+            message.as_slice(),
+            advice,
+        );
+    }
+    let question = near_question(
+        alloc,
+        out.len(),
+        name,
+        &given.variables,
+        b"did you mean @",
+        b"@?",
+    )?;
+    warn(
+        alloc,
+        out,
+        span,
+        b"unset-variable",
+        message.as_slice(),
+        question.as_slice(),
+    )
+}
+
+/// Warns of the name between two `@`, the first time that it occurs.
+fn warn_once(
+    alloc: Global,
+    given: &Given,
+    seen: &mut SubstList,
+    span: Span,
+    name: &[u8],
+    out: &mut Vec<Finding>,
+) -> Result<(), AllocError> {
+    if !is_shell_name(name) || given.variables.has(name) || seen.has(name) {
+        return Ok(());
+    }
+    seen.add(name)?;
+    warn_of_name(alloc, given, span, name, out)
+}
+
+/// Warns of each name between two `@` that is no output variable, once.
+fn warn_of_names(
+    alloc: Global,
+    given: &Given,
+    file: usize,
+    text: &[u8],
+    out: &mut Vec<Finding>,
+) -> Result<(), AllocError> {
+    let mut seen = SubstList::new(alloc);
+    let mut at = 0usize;
+    for piece in text.split(|byte| *byte == b'@') {
+        let end = at.saturating_add(piece.len());
+        // A piece with an `@` at both ends may be a name.
+        if at > 0 && end < text.len() {
+            let span = Span {
+                file,
+                start: at - 1,
+                end: end.saturating_add(1),
+            };
+            warn_once(alloc, given, &mut seen, span, piece, out)?;
+        }
+        at = end.saturating_add(1);
+    }
+    Ok(())
+}
+
+/// Returns the offset of the first of these texts that occurs, in their order, with its length.
+fn first_of(text: &[u8], texts: &[&[u8]]) -> Option<(usize, usize)> {
+    for sought in texts {
+        if let Some(at) = text.find(*sought) {
+            return Some((at, sought.len()));
+        }
+    }
+    None
+}
+
+/// Warns if a directory below `datarootdir` is used, and nothing sets that.
+fn warn_of_directories(
+    alloc: Global,
+    file: usize,
+    text: &[u8],
+    out: &mut Vec<Finding>,
+) -> Result<(), AllocError> {
+    if text.contains_str(b"datarootdir") {
+        return Ok(());
+    }
+    let Some((start, length)) = first_of(text, &BELOW_DATAROOTDIR) else {
+        return Ok(());
+    };
+    let span = Span {
+        file,
+        start,
+        end: start.saturating_add(length),
+    };
+    warn(
+        alloc,
+        out,
+        span,
+        b"no-datarootdir",
+        b"its value begins with ${datarootdir}, which this template does not set: files would go to /man, /doc and the like",
+        b"add the line\n  datarootdir = @datarootdir@",
+    )
+}
+
+/// Warns if the template runs `config.status`.
+fn warn_of_script(
+    alloc: Global,
+    file: usize,
+    text: &[u8],
+    out: &mut Vec<Finding>,
+) -> Result<(), AllocError> {
+    let Some(start) = text.find(b"./config.status") else {
+        return Ok(());
+    };
+    let span = Span {
+        file,
+        start,
+        end: start.saturating_add(15),
+    };
+    warn(
+        alloc,
+        out,
+        span,
+        b"config-status-script",
+        b"config.status is a record here, and no script that can be run",
+        b"write `acrun status NAME` in the rule, and `acrun status --recheck` for `./config.status --recheck`",
+    )
+}
+
+/// Adds the warnings about the template of a file: names between two `@` that no statement sets, a directory below `datarootdir`
+/// without that, and a rule that runs `config.status` (own).
+///
+/// # Errors
+///
+/// Fails only if memory runs out.
+pub fn warn_of_file(
+    alloc: Global,
+    given: &Given,
+    file: usize,
+    text: &[u8],
+    out: &mut Vec<Finding>,
+) -> Result<(), AllocError> {
+    warn_of_names(alloc, given, file, text, out)?;
+    warn_of_directories(alloc, file, text, out)?;
+    warn_of_script(alloc, file, text, out)
+}

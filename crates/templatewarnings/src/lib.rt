@@ -1,0 +1,24 @@
+//! Warnings about the templates of a source: names that nothing gives a value, and lines that do something else here than with
+//! Autoconf.
+//!
+//! ```text
+//! let given = Given::of(alloc, &source)?;
+//! warn_of_file(alloc, &given, 1, b"prefix = @prefx@\n", &mut found)?;   // @prefx@ is no output variable; is it @prefix@?
+//! warn_of_header(alloc, &given, 2, b"#undef HAVE_X\n", &mut found)?;    // nothing defines HAVE_X
+//! ```
+//!
+//! "own" marks a rule that no manual gives.
+//!
+//! [`Given`], in `given`, is what a source gives its templates. `files` reads the templates of files, and `headers` those of
+//! headers. `advice` has what is said of names that Autoconf sets and acrun doesn't, and `saying` writes the messages.
+#![tactic(auto)]
+
+mod advice;
+mod files;
+mod given;
+mod headers;
+mod saying;
+
+pub use files::warn_of_file;
+pub use given::Given;
+pub use headers::{warn_of_header, warn_of_unlisted};
