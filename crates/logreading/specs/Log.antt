@@ -3,7 +3,7 @@ use Rattle.std.specs.Prelude.{ℕ, Bool, true, false, not, ◌==◌, ◌&&◌, �
 use Rattle.std.specs.List.{list_all, starts_with, ends_with}
 use Rattle.bstr.specs.Text.{lines_of}
 use Rattle.logreading.specs.declared.forms.Part.{Part}
-use Rattle.logreading.specs.declared.forms.Part.TheVariants.{Message, Command, Diagnostics, Passed, Failed, Refused, Heading, Program}
+use Rattle.logreading.specs.declared.forms.Part.TheVariants.{Message, Command, Diagnostics, Status, Refused, Heading, Program}
 
 -- ---- the form of a line
 
@@ -31,6 +31,10 @@ is_status line = starts_with nat_eq line (codes "status ") && has_number line
 abbrev pub is_refusal : List ℕ → Bool
 is_refusal line = is line (codes "start refused\n") || is line (codes "wait refused\n")
 
+-- the line before the program that failed (own)
+abbrev pub is_heading : List ℕ → Bool
+is_heading line = is line (codes "failed program was:\n")
+
 -- a line of a program that failed (own)
 abbrev pub is_program : List ℕ → Bool
 is_program line = starts_with nat_eq line (codes "| ")
@@ -44,12 +48,11 @@ outside line = if is_command line then Command else Message
 -- what a line after a command is: the child's end, or diagnostics (own)
 abbrev pub inside : List ℕ → Part
 inside line =
-    if is line (codes "status 0\n") then Passed
-    else (if is_status line then Failed else (if is_refusal line then Refused else Diagnostics))
+    if is_status line then Status else (if is_refusal line then Refused else Diagnostics)
 
--- what the line after a status is that isn't 0 (own)
-abbrev pub after_failure : List ℕ → Part
-after_failure line = if is line (codes "failed program was:\n") then Heading else outside line
+-- what the line after a status is (own)
+abbrev pub after_status : List ℕ → Part
+after_status line = if is_heading line then Heading else outside line
 
 -- what a line after the heading of a program, or after a line of it, is (own)
 abbrev pub after_program : List ℕ → Part
@@ -60,8 +63,7 @@ unfoldable pub part_after : Part → List ℕ → Part
 part_after Message line = outside line
 part_after Command line = inside line
 part_after Diagnostics line = inside line
-part_after Passed line = outside line
-part_after Failed line = after_failure line
+part_after Status line = after_status line
 part_after Refused line = outside line
 part_after Heading line = after_program line
 part_after Program line = after_program line

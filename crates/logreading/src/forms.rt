@@ -13,10 +13,8 @@ pub enum Part {
     Command,
     /// A line that the child wrote to standard error.
     Diagnostics,
-    /// The status of a child, which is 0.
-    Passed,
-    /// The status of a child, which isn't 0.
-    Failed,
+    /// The status of a child.
+    Status,
     /// That the start or the end of a child was refused.
     Refused,
     /// The line before the program that failed.
@@ -93,11 +91,8 @@ fn outside(line: &[u8]) -> Part
 fn inside(line: &[u8]) -> Part
     ensures { result ≡ log.inside line.now }
 {
-    if is(line, b"status 0\n") {
-        return Part::Passed;
-    }
     if is_status(line) {
-        return Part::Failed;
+        return Part::Status;
     }
     if is_refusal(line) {
         return Part::Refused;
@@ -105,10 +100,16 @@ fn inside(line: &[u8]) -> Part
     Part::Diagnostics
 }
 
-fn after_failure(line: &[u8]) -> Part
-    ensures { result ≡ log.after_failure line.now }
+fn is_heading(line: &[u8]) -> bool
+    ensures { result ≡ log.is_heading line.now }
 {
-    if is(line, b"failed program was:\n") {
+    is(line, b"failed program was:\n")
+}
+
+fn after_status(line: &[u8]) -> Part
+    ensures { result ≡ log.after_status line.now }
+{
+    if is_heading(line) {
         return Part::Heading;
     }
     outside(line)
@@ -131,11 +132,10 @@ pub(crate) fn part_after(before: Part, line: &[u8]) -> Part
     match before {
         Part::Command => inside(line),
         Part::Diagnostics => inside(line),
-        Part::Failed => after_failure(line),
+        Part::Status => after_status(line),
         Part::Heading => after_program(line),
         Part::Program => after_program(line),
         Part::Message => outside(line),
-        Part::Passed => outside(line),
         Part::Refused => outside(line),
     }
 }
