@@ -1,0 +1,4 @@
+pub mod Marks
+mod OneLine
+mod Programs
+mod Readings

@@ -1,0 +1,225 @@
+//! The command.
+
+ghost use Rattle.std.specs.Prelude.{◌≡◌, ◌≢◌, ◌≤◌, ℕ, List, true, IfOk, IfSome};
+ghost use Rattle.logreading.specs.Log.{is_log};
+
+use crate::checks::{Check, checks_of};
+use crate::names::is_about;
+use crate::nearest::put_nearest;
+use crate::showing::put_check;
+use deftable::Bytes;
+use invocation::{LOG, tell_file, tell_memory, tell_named, tell_usage};
+use logreading::{Line, read_log};
+use std::alloc::Global;
+use std::io::{self, ErrorKind, Read, Write};
+use std::rt::Files;
+use std::{fs, str};
+
+/// The exit status if a check is shown.
+const FOUND: u8 = 0;
+
+/// The exit status if the word is about no check.
+const NONE: u8 = 1;
+
+/// The largest number of bytes of a log that is read, 4 GiB.
+const LARGEST_LOG: u64 = 4_294_967_296;
+
+/// Shows each check that the word is about. Returns whether there is one.
+fn show_matches<W: Write>(
+    alloc: Global,
+    lines: &[Line<'_>],
+    checks: &[Check<'_>],
+    word: &[u8],
+    output: &mut W,
+) -> io::Result<bool> {
+    let mut is_found = false;
+    for (index, check) in checks.iter().enumerate() {
+        if is_about(alloc, word, check.message)? {
+            show_check(alloc, lines, checks, index, check, output)?;
+            is_found = true;
+        }
+    }
+    Ok(is_found)
+}
+
+/// Shows a check.
+fn show_check<W: Write>(
+    alloc: Global,
+    lines: &[Line<'_>],
+    checks: &[Check<'_>],
+    index: usize,
+    check: &Check<'_>,
+    output: &mut W,
+) -> io::Result<()> {
+    let mut out = Vec::new(alloc);
+    put_check(alloc, &mut out, lines, checks, index, check)?;
+    output.write_all(out.as_slice())
+}
+
+/// Shows the checks that are nearest to the word.
+fn show_nearest<W: Write>(
+    alloc: Global,
+    checks: &[Check<'_>],
+    word: &[u8],
+    output: &mut W,
+) -> io::Result<()> {
+    let mut out = Vec::new(alloc);
+    put_nearest(alloc, &mut out, word, checks)?;
+    output.write_all(out.as_slice())
+}
+
+/// Shows the checks that the word is about, or else the nearest ones, and returns the exit status.
+fn show_checks<W: Write>(
+    alloc: Global,
+    lines: &[Line<'_>],
+    checks: &[Check<'_>],
+    word: &[u8],
+    output: &mut W,
+) -> io::Result<u8>
+    ensures { IfOk result (λ status. status ≤ 1) }
+{
+    if show_matches(alloc, lines, checks, word, output)? {
+        return Ok(FOUND);
+    }
+    show_nearest(alloc, checks, word, output)?;
+    Ok(NONE)
+}
+
+/// Shows what the word is about in the lines of a log, and returns the exit status, or `None` if no line begins a check.
+fn show_lines<W: Write>(
+    alloc: Global,
+    lines: &[Line<'_>],
+    word: &[u8],
+    output: &mut W,
+) -> io::Result<Option<u8>>
+    ensures { IfOk result (λ o. IfSome o (λ status. status ≤ 1)) }
+{
+    let checks = checks_of(alloc, lines)?;
+    if checks.is_empty() {
+        return Ok(None);
+    }
+    Ok(Some(show_checks(alloc, lines, checks.as_slice(), word, output)?))
+}
+
+/// Shows what the word is about in a text, and returns the exit status, or `None` if the text is no log.
+fn show_text<W: Write>(
+    alloc: Global,
+    text: &[u8],
+    word: &[u8],
+    output: &mut W,
+) -> io::Result<Option<u8>>
+    ensures status { IfOk result (λ o. IfSome o (λ status. status ≤ 1)) }
+    ensures log { IfOk result (λ o. IfSome o (λ _. is_log text.now ≡ true)) }
+{
+    match read_log(alloc, text)? {
+        Some(lines) => show_lines(alloc, lines.as_slice(), word, output),
+        None => Ok(None),
+    }
+}
+
+/// Reads the text of a log. Only a regular file is opened, since a read of a pipe or of a device may wait.
+fn read_file<F: Files>(alloc: Global, files: &F, name: &[u8]) -> io::Result<Vec<u8>> {
+    let Ok(name) = str::from_utf8(name) else {
+        return Err(io::Error::from(ErrorKind::NotFound));
+    };
+    if !fs::metadata(files, name)?.is_file() {
+        return Err(io::Error::from(ErrorKind::Unsupported));
+    }
+    let mut file = fs::open(files, name)?;
+    let mut text = Vec::new(alloc);
+    (&mut file).take(LARGEST_LOG).read_to_end(&mut text)?;
+    Ok(text)
+}
+
+/// Reports that a file can't be read or written, or that memory ran out, and returns the exit status.
+fn tell_failure<E: Write>(errors: &mut E, error: &io::Error, name: &[u8]) -> u8
+    ensures { result ≡ 2 }
+{
+    if error.kind() == ErrorKind::OutOfMemory {
+        return tell_memory(errors);
+    }
+    tell_file(errors, name)
+}
+
+/// Explains the word by a log with this text, and returns the exit status.
+fn explain<W: Write, E: Write>(
+    alloc: Global,
+    text: &[u8],
+    word: &[u8],
+    name: &[u8],
+    output: &mut W,
+    errors: &mut E,
+) -> u8
+    ensures status { result ≤ 2 }
+    ensures silent { result ≢ 2 → errors.new ≡ errors.old }
+    ensures log { result ≢ 2 → is_log text.now ≡ true }
+{
+    match show_text(alloc, text, word, output) {
+        Ok(Some(status)) => status,
+        Ok(None) => tell_named(errors, &"log", name),
+        Err(error) => tell_failure(errors, &error, b"standard output"),
+    }
+}
+
+/// Explains the word by a log, and returns the exit status.
+fn explain_file<F: Files, W: Write, E: Write>(
+    alloc: Global,
+    files: &F,
+    word: &[u8],
+    name: &[u8],
+    output: &mut W,
+    errors: &mut E,
+) -> u8
+    ensures status { result ≤ 2 }
+    ensures silent { result ≢ 2 → errors.new ≡ errors.old }
+    ensures log { result ≢ 2 → (text : List ℕ) × (is_log text ≡ true) }
+{
+    match read_file(alloc, files, name) {
+        Ok(text) => explain(alloc, text.as_slice(), word, name, output, errors),
+        Err(error) => tell_failure(errors, &error, name),
+    }
+}
+
+/// Shows why the checks that a word is about have their answers, and returns the exit status (own).
+///
+/// The words are WORD, and the name of the log, which is `config.log` if it isn't given. WORD is a part of a check's message, or a
+/// name that derives from a header, a function, a declaration, a type or a library: that of the cached value, or one with `HAVE_`.
+/// Each such check is printed with its answer, then the command, the diagnostics and the status of each of its children, with the
+/// child's number in the log, and last the program that failed last.
+///
+/// The status is 0 if a check is shown, and 1 if there is none: then the checks that are nearest to WORD are printed. It is 2 if the
+/// words aren't these, or if the log can't be read, is no log, or can't be explained on standard output. Then standard error has a
+/// line that says which.
+pub fn run_why<F: Files, W: Write, E: Write>(
+    alloc: Global,
+    files: &F,
+    words: &[Bytes],
+    output: &mut W,
+    errors: &mut E,
+) -> u8
+    ensures status { result ≤ 2 }
+    // Standard error has something only if the status is 2.
+    ensures silent { result ≢ 2 → errors.new ≡ errors.old }
+    // Unless the status is 2, the checks that are shown are those of some log.
+    ensures log { result ≢ 2 → (text : List ℕ) × (is_log text ≡ true) }
+{
+    match words {
+        [word] => explain_file(
+            alloc,
+            files,
+            word.as_slice(),
+            LOG.as_bytes(),
+            output,
+            errors,
+        ),
+        [word, log] => explain_file(
+            alloc,
+            files,
+            word.as_slice(),
+            log.as_slice(),
+            output,
+            errors,
+        ),
+        _ => tell_usage(errors),
+    }
+}
