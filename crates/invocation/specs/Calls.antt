@@ -118,6 +118,16 @@ HasNoRun (Configure window arguments) = ⊥
 HasNoRun Recheck = ⊥
 HasNoRun call = Unit {0}
 
+-- If it is asked to say what is wrong with sources, this holds of the words after `lint`. (own)
+abbrev pub IfLint : Call → (List (List ℕ) → Type 0) → Type 0
+IfLint (Lint words) goes_on = goes_on words
+IfLint call goes_on = Unit {0}
+
+-- If it is asked why a check has its answer, this holds of the words after `why`. (own)
+abbrev pub IfWhy : Call → (List (List ℕ) → Type 0) → Type 0
+IfWhy (Why words) goes_on = goes_on words
+IfWhy call goes_on = Unit {0}
+
 -- If it is asked to explain itself, this holds of the words after `help`. (own)
 abbrev pub IfHelp : Call → (List (List ℕ) → Type 0) → Type 0
 IfHelp (Help words) goes_on = goes_on words

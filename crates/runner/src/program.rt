@@ -6,7 +6,7 @@ ghost use Rattle.commands.specs.MadeAgain.{IsMadeAgain};
 ghost use Rattle.configuring.specs.Configures.{IsConfigured, IsRechecked};
 ghost use Rattle.crew_trait.specs.Events.{IsIdle};
 ghost use Rattle.filtering.specs.Filtered.{IsFiltered};
-ghost use Rattle.invocation.specs.Calls.{call_of, Unknown, IfFilter, IfStandIn, IfConfigure, IfStatus, IfRecheck, HasNoRun, HasNoInput, HasNoOutput};
+ghost use Rattle.invocation.specs.Calls.{call_of, Unknown, IfFilter, IfStandIn, IfConfigure, IfStatus, IfRecheck, IfWhy, IfHelp, HasNoRun, HasNoInput, HasNoOutput};
 ghost use Rattle.standin.specs.Standin.{IsAnswered};
 
 use crate::telling::tell;
@@ -20,6 +20,7 @@ use invocation::{Call, call_of, tell_usage};
 use std::alloc::Global;
 use std::io::{self, Input, Read, Write};
 use std::rt::Files;
+use whycommand::run_why;
 
 /// Filters the input, and returns the exit status.
 fn run_filter<R: Read, W: Write, E: Write>(
@@ -84,6 +85,9 @@ pub fn run<F: Files, C: Crew, R: Read, W: Write, E: Write>(
     // Unless the status is 2, the same holds of the run with the arguments of some record, and then `--no-create`.
     ensures recheck { IfRecheck (call_of words.now) (result ≢ 2 → (out : List ℕ) × IsRechecked env.now (C.account crew.old) (C.account crew.new) out result
         × Appends (W.contents output.old) (W.contents output.new) out) }
+    // What explains something has no other status than these. Unless it is 2, `why` writes nothing on standard error.
+    ensures why { IfWhy (call_of words.now) (λ asked. (result ≤ 2) × (result ≢ 2 → errors.new ≡ errors.old)) }
+    ensures help { IfHelp (call_of words.now) (λ asked. (result ≡ 0) ⊎ (result ≡ 2)) }
     ensures unknown { call_of words.now ≡ Unknown → result ≡ 2 }
     // Only a run starts children, only the filter and `lint` read the input, and the stand-in writes no output.
     ensures crew { HasNoRun (call_of words.now) → crew.new ≡ crew.old }
@@ -102,7 +106,8 @@ pub fn run<F: Files, C: Crew, R: Read, W: Write, E: Write>(
         Call::Recheck => run_recheck(alloc, files, env, crew, output, errors),
         Call::Help(words) => run_help(words, output, errors),
         Call::Version => run_version(output, errors),
-        Call::Lint(_) | Call::Why(_) => tell_usage(errors),
+        Call::Why(words) => run_why(alloc, files, words, output, errors),
+        Call::Lint(_) => tell_usage(errors),
         Call::Unknown => tell_usage(errors),
     }
 }
