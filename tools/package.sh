@@ -45,9 +45,13 @@ make_deb() {
     MAKEFLAGS='' make -s install-files DESTDIR="$folder" prefix=/usr
     strip --strip-unneeded "$folder/usr/bin/acrun"
     mkdir -p "$share/doc/acrun" "$folder/DEBIAN"
-    cp README.md docs/*.md "$share/doc/acrun"
+    cp README.md CONTRIBUTING.md docs/*.md "$share/doc/acrun"
     cp LICENSE "$share/doc/acrun/copyright"
-    gzip -9n < CHANGELOG.md > "$share/doc/acrun/changelog.gz"
+    cp CHANGELOG.md "$share/doc/acrun"
+    {
+        printf 'acrun (%s) unstable; urgency=medium\n\n  * CHANGELOG.md lists the changes.\n\n' "$version"
+        printf ' -- %s  %s\n' "$(git log -1 --format='%an <%ae>')" "$(LC_ALL=C date -u -R -d "@$SOURCE_DATE_EPOCH")"
+    } | gzip -9n > "$share/doc/acrun/changelog.gz"
     gzip -9n "$share/man/man1/acrun.1"
     cat > "$folder/DEBIAN/control" << END
 Package: acrun
