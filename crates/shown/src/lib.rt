@@ -17,6 +17,8 @@
 mod awaited;
 mod escaping;
 mod stream;
+#[cfg(test)]
+mod tests;
 
 pub use escaping::escape;
 pub use stream::Shown;
