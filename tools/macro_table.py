@@ -87,7 +87,7 @@ def bare(argument):
 def plain(argument):
     """Returns an argument without its brackets, or None if it is no plain word or list."""
     text = bare(argument)
-    return text if re.fullmatch(r"[A-Za-z0-9_./+*: \t\n-]+", text) else None
+    return text if re.fullmatch(r"[A-Za-z0-9_./+*=: \t\n-]+", text) else None
 
 
 def formed(sign, word, text):

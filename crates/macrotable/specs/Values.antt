@@ -28,9 +28,9 @@ unquoted t = if is_quoted t then slice_range t 1 (length t - 1) else t
 abbrev pub bare : List ℕ → List ℕ
 bare a = trimmed (unquoted (trimmed (unquoted (trimmed a))))
 
--- a blank, or one of `_ . / - + * :` (own)
+-- a blank, or one of `_ . / - + * = :` (own)
 abbrev pub is_plain_sign : ℕ → Bool
-is_plain_sign b = b == 95 || b == 46 || b == 47 || b == 45 || b == 43 || b == 42 || b == 58 || b == 32 || b == 9 || b == 10
+is_plain_sign b = b == 95 || b == 46 || b == 47 || b == 45 || b == 43 || b == 42 || b == 61 || b == 58 || b == 32 || b == 9 || b == 10
 
 -- a letter, a digit, or such a sign (own)
 abbrev pub is_plain_byte : ℕ → Bool

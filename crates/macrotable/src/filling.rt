@@ -175,7 +175,7 @@ fn put_signs(
 /// Returns the text with each of its places filled, for a call with these arguments.
 ///
 /// An argument is what is between the commas of a call, with its brackets or without. It is put into a place if it is a plain
-/// word or list: letters, digits, blanks, and the signs `_ . / - + * :`, without the blanks and up to two pairs of brackets
+/// word or list: letters, digits, blanks, and the signs `_ . / - + * = :`, without the blanks and up to two pairs of brackets
 /// around it. Otherwise the word of the place is written there.
 ///
 /// # Errors

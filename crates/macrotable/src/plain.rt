@@ -38,7 +38,7 @@ fn is_plain_sign(byte: u8) -> bool
 {
     matches!(
         byte,
-        b'_' | b'.' | b'/' | b'-' | b'+' | b'*' | b':' | b' ' | b'\t' | b'\n'
+        b'_' | b'.' | b'/' | b'-' | b'+' | b'*' | b'=' | b':' | b' ' | b'\t' | b'\n'
     )
 }
 

@@ -39,7 +39,8 @@ AC_INIT([PACKAGE], [VERSION])
 AC_CONFIG_SRCDIR([$1{FILE}])~idiom AC_OUTPUT(files)
 AC_CONFIG_FILES([$1{FILES}])
 AC_OUTPUT~none configure.in
-the source is called configure.ac: rename it~none ./config.status stamp-h CONFIG_FILES= CONFIG_HEADERS= config.status
+the source is called configure.ac: rename it~none AC_PREREQ(version)
+a version over 2.71 is refused: name the version that the source needs~none ./config.status stamp-h CONFIG_FILES= CONFIG_HEADERS= config.status
 a rule that runs ./config.status NAME runs `acrun status NAME`, also for CONFIG_FILES=NAME and for stamp-h with config.h; a rule for --recheck runs `acrun status --recheck`~none AC_CONFIG_FILES(templates) AC_OUTPUT(templates)
 a file has one template: join several before, or make the file by a rule of the Makefile~none AC_CONFIG_FILES(commands) AC_CONFIG_HEADERS(commands) AC_OUTPUT(commands)
 no commands are run at the end: write a rule of the Makefile~idiom AC_HEADER_STDC AC_STDC_HEADERS
