@@ -1,6 +1,6 @@
 use Rattle.std.proofs.Common.{◌≡◌, ◌++◌, ◌-◌, length, take, min, ap, ◌∙◌, rules}
-use Rattle.crew.proofs.ChildLemmas.{kept_on, kept_take}
-use Rattle.crew.proofs.diagnostics.keep.Goals as goal
+use Rattle.launching.proofs.ChildLemmas.{kept_on, kept_take}
+use Rattle.launching.proofs.diagnostics.keep.Goals as goal
 
 pub returns : goal.returns
 returns c =

@@ -1,27 +1,36 @@
-//! The launcher, which connects a crew of real children to the system.
+//! The launcher, which connects children to the system.
 
 ghost use Rattle.std.specs.Prelude.{[], ◌∷◌, None, Option, List, OnOk, OnErr};
 ghost use Rattle.std.specs.Process.{command_args, command_program};
-ghost use Rattle.crew.specs.Launch.{Adds, Call, Failed, Spawned, Wrote};
+ghost use Rattle.launching.specs.Launch.{Adds, Call, Failed, Spawned, Wrote};
 
 use std::fs::{self, File};
 use std::io::{self, Write};
 use std::process::{Child, Command, OpenProcess, Processes, Stdio};
 use std::rt::Files;
 
-/// Writes files and starts commands.
-pub(crate) trait Launcher {
+/// Writes files and starts commands. The meaning of a launcher is what it did (own).
+pub trait Launcher {
+    /// A child that was started.
     type Process: OpenProcess + Drop;
 
     // The files written and the commands started so far, in order, if they are known.
     ghost calls: { Self → Option (List Call) } = { λ _. None };
 
-    // Creates the file, or replaces it.
+    /// Creates the file, or replaces it.
+    ///
+    /// # Errors
+    ///
+    /// Fails if the system refuses that, and then the file may be there without its whole text.
     fn write(&mut self, name: &str, text: &[u8]) -> io::Result<()>
         ensures done { OnOk result (Adds (calls self.old) (calls self.new) (Wrote name.now text.now ∷ [])) }
         ensures refused { OnErr result (Adds (calls self.old) (calls self.new) []) };
 
-    // Starts the command with empty standard input. Its standard output is dropped, and its standard error can be read.
+    /// Starts the command with empty standard input. Its standard output is dropped, and its standard error can be read.
+    ///
+    /// # Errors
+    ///
+    /// Fails if the system refuses that.
     fn spawn(&mut self, command: &mut Command) -> io::Result<Child<Self::Process>>
         ensures done { OnOk result (Adds (calls self.old) (calls self.new)
             (Spawned (command_program command.old ∷ command_args command.old) ∷ [])) }
@@ -40,14 +49,14 @@ fn remove<F: Files>(files: &F, name: &str) {
 
 /// The launcher of a real system.
 #[derive(Drop)]
-pub(crate) struct Host<R: Files + Processes + Drop> {
+pub struct Host<R: Files + Processes + Drop> {
     rt: R,
     stale: Option<&'static str>,
 }
 
 impl<R: Files + Processes + Drop> Host<R> {
     /// Returns a launcher. Before it first writes a file or starts a command, it removes the file that is stale, if there is one.
-    pub(crate) fn new(rt: R, stale: Option<&'static str>) -> Host<R> {
+    pub fn new(rt: R, stale: Option<&'static str>) -> Host<R> {
         Host { rt, stale }
     }
 

@@ -1,6 +1,6 @@
 use Rattle.std.proofs.Common.{IsUtf8, subst, sym}
-use Rattle.crew.proofs.ChildLemmas.{not_all}
-use Rattle.crew.proofs.child.put_arguments.Goals as goal
+use Rattle.launching.proofs.ChildLemmas.{not_all}
+use Rattle.launching.proofs.starting.put_arguments.Goals as goal
 
 pub returns-in_default-clause-fault : goal.returns-in_default-clause-fault
 returns-in_default-clause-fault c =

@@ -1,6 +1,6 @@
 use Rattle.std.proofs.Common.{◌≡◌, ◌++◌, take, rules}
-use Rattle.crew.proofs.ChildLemmas.{kept_fits, read_more}
-use Rattle.crew.proofs.diagnostics.diagnostics.Goals as goal
+use Rattle.launching.proofs.ChildLemmas.{kept_fits, read_more}
+use Rattle.launching.proofs.diagnostics.diagnostics.Goals as goal
 
 pub keep-requires : goal.keep-requires
 keep-requires g c = kept_fits _ _ _ _ c.loop.invariant
