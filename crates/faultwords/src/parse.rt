@@ -387,6 +387,67 @@ fn put_fault(
     Ok(())
 }
 
+/// Returns where a fault of quotes is.
+fn quote_place(fault: QuoteFault) -> usize {
+    match fault {
+        QuoteFault::UnclosedQuote(at) => at,
+        QuoteFault::UnclosedParen(at) => at,
+        QuoteFault::StrayClose(at) => at,
+        QuoteFault::Nul(at) => at,
+        _ => 0,
+    }
+}
+
+/// Returns the offset of a fault, or of the end of the text if there is no AC_OUTPUT, or 0 if the fault has no place.
+fn offset_of(text: &[u8], fault: ParseFault) -> usize {
+    match fault {
+        ParseFault::Quote(fault) => quote_place(fault),
+        ParseFault::UnknownMacro(at) => at,
+        ParseFault::ArgCount(at) => at,
+        ParseFault::BadName(at) => at,
+        ParseFault::NotAtTop(at) => at,
+        ParseFault::CacheBody(at) => at,
+        ParseFault::NoOutput => text.len(),
+        other => offset_of_rest(other),
+    }
+}
+
+fn offset_of_rest(fault: ParseFault) -> usize {
+    match fault {
+        ParseFault::UnknownStatement(at) => at,
+        ParseFault::Shell(_, at) => at,
+        ParseFault::AfterOutput(at) => at,
+        ParseFault::TooDeep(at) => at,
+        ParseFault::TooMany(at) => at,
+        ParseFault::NewerVersion(at) => at,
+        _ => 0,
+    }
+}
+
+/// Returns the offset of the first byte, from this one on, that is in no blank, newline or comment.
+fn after_comments(text: &[u8], at: usize) -> usize {
+    let mut place = at;
+    let mut is_comment = false;
+    for byte in from(text, at) {
+        is_comment = *byte != b'\n' && (is_comment || *byte == b'#');
+        if !is_comment && !matches!(*byte, b' ' | b'\t' | b'\n' | b';') {
+            return place;
+        }
+        place = place.saturating_add(1);
+    }
+    at
+}
+
+/// Returns the offset at which a fault is shown: its own, or in text between calls that of the first byte that is no blank and no
+/// comment. A fault without an offset is shown at the start, or at the end if there is no AC_OUTPUT.
+pub fn fault_place(text: &[u8], fault: ParseFault) -> usize {
+    let at = offset_of(text, fault);
+    match fault {
+        ParseFault::UnknownStatement(_) | ParseFault::Shell(_, _) => after_comments(text, at),
+        _ => at,
+    }
+}
+
 /// Returns the length of what is marked at the place of a fault.
 fn marked_len(around: Around<'_>, fault: ParseFault) -> usize {
     match fault {
