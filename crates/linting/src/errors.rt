@@ -1,0 +1,112 @@
+//! The errors of a source.
+
+ghost use Rattle.std.specs.Prelude.{◌≡◌, ◌<◌, ◌∷◌, [], ◌↔◌, nat_lt, map, IfOk};
+ghost use Rattle.std.specs.List.Sorted.{IsSorted};
+ghost use Rattle.acparse.specs.Profile.{source_of};
+ghost use Rattle.findings.specs.Order.{place_cmp};
+ghost use Rattle.plan.specs.Weight.{heaviest, weight};
+ghost use Rattle.sourcecalls.specs.Calls.{calls_in, seen};
+ghost use Rattle.syntax.specs.Script.{script_of};
+ghost use Rattle.linting.specs.Errors as specs;
+
+use crate::fault::place_of_fault;
+use crate::foreign::push_calls;
+use acparse::parse;
+use acstatement::ParseFault;
+use faultwords::{parse_finding, too_long_finding};
+use findings::{Finding, put_in_order};
+use plan::{PlanFault, compile};
+use sourcecalls::{CallAt, calls_of};
+use std::alloc::{AllocError, Global};
+use syntax::Source;
+
+/// Returns whether a source weighs too much for a plan.
+fn is_too_long(alloc: Global, source: &Source) -> Result<bool, AllocError>
+    ensures { IfOk result (λ b. b ≡ nat_lt heaviest (weight (script_of source.now))) }
+{
+    match compile(alloc, source) {
+        Ok(_) => Ok(false),
+        Err(PlanFault::TooLong) => Ok(true),
+        Err(PlanFault::OutOfMemory) => Err(AllocError),
+    }
+}
+
+/// Returns a list of one error: that the source is too long.
+fn too_long(alloc: Global) -> Result<Vec<Finding>, AllocError>
+    ensures { IfOk result (λ v. map specs.shown v.items ≡ specs.error_at 0 ∷ []) }
+{
+    let finding = too_long_finding(alloc)?;
+    let mut out = Vec::new(alloc);
+    out.push(finding)?;
+    Ok(out)
+}
+
+/// Returns the errors of a source that was read.
+fn errors_read(alloc: Global, source: &Source) -> Result<Vec<Finding>, AllocError>
+    ensures { IfOk result (λ v. map specs.shown v.items ≡ specs.errors_read (script_of source.now)) }
+{
+    if is_too_long(alloc, source)? {
+        too_long(alloc)
+    } else {
+        Ok(Vec::new(alloc))
+    }
+}
+
+/// Returns the error of a fault at this place, and those of the other calls that have to go.
+fn found(
+    alloc: Global,
+    text: &[u8],
+    fault: ParseFault,
+    at: usize,
+    calls: &[CallAt],
+) -> Result<Vec<Finding>, AllocError>
+    ensures { IfOk result (λ v. map specs.shown v.items ≡ specs.errors_refused fault at (map seen calls.now)) }
+{
+    let first = parse_finding(alloc, text, fault, at)?;
+    let mut out = Vec::new(alloc);
+    out.push(first)?;
+    push_calls(alloc, text, fault, calls, &mut out)?;
+    Ok(out)
+}
+
+/// Returns the same in order of their places.
+fn ordered(
+    alloc: Global,
+    text: &[u8],
+    fault: ParseFault,
+    calls: &[CallAt],
+) -> Result<Vec<Finding>, AllocError>
+    ensures { IfOk result (λ v. specs.AreRefused text.now fault (map seen calls.now) v.items) }
+{
+    let at = place_of_fault(alloc, text, fault, calls)?;
+    let mut out = found(alloc, text, fault, at, calls)?;
+    put_in_order(&mut out)?;
+    Ok(out)
+}
+
+/// Returns the errors of a source that is refused with this fault.
+fn errors_refused(alloc: Global, text: &[u8], fault: ParseFault) -> Result<Vec<Finding>, AllocError>
+    ensures { IfOk result (λ v. specs.AreRefused text.now fault (calls_in text.now) v.items) }
+{
+    let calls = calls_of(alloc, text)?;
+    ordered(alloc, text, fault, &calls)
+}
+
+/// Returns the errors of a source, in order of their places.
+///
+/// If the source is refused, they are the reader's fault and the calls that have to go, each once. Otherwise there is at most one:
+/// that it weighs too much for a plan. The calls are those of `sourcecalls`, so none is looked for if the source's quotes have an
+/// error.
+///
+/// The place of a fault is its offset: 0 if it has none, and the end of the source if AC_OUTPUT is missing. In text between calls
+/// it is the start of the statement at fault, which is not before the fault's offset.
+pub fn errors_of(alloc: Global, text: &[u8]) -> Result<Vec<Finding>, AllocError>
+    // The errors are exactly these.
+    ensures exact { IfOk result (λ v. specs.AreErrors text.now (source_of text.now) v.items) }
+{
+    match parse(alloc, text) {
+        Ok(source) => errors_read(alloc, &source),
+        Err(ParseFault::OutOfMemory) => Err(AllocError),
+        Err(fault) => errors_refused(alloc, text, fault),
+    }
+}

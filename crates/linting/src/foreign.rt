@@ -1,0 +1,76 @@
+//! The calls of macros that the table of macros doesn't have.
+
+ghost use Rattle.std.specs.Prelude.{◌≡◌, [], ◌∷◌, ◌++◌, map, OnOk};
+ghost use Rattle.std.specs.List.{flat_map};
+ghost use Rattle.sourcecalls.specs.Calls.{seen};
+ghost use Rattle.linting.specs.Errors as specs;
+
+use acstatement::ParseFault;
+use faultwords::parse_finding;
+use findings::Finding;
+use sourcecalls::CallAt;
+use std::alloc::{AllocError, Global};
+
+/// Returns whether the fault is that the macro whose name is at this offset isn't known.
+fn is_unknown_at(fault: ParseFault, at: usize) -> bool
+    ensures { result ≡ specs.is_unknown_at fault at }
+{
+    match fault {
+        ParseFault::UnknownMacro(place) => place == at,
+        _ => false,
+    }
+}
+
+/// Returns whether the call has to go, and the fault doesn't say it.
+fn is_other(fault: ParseFault, call: &CallAt) -> bool
+    ensures { result ≡ specs.is_other fault (seen call.now) }
+{
+    !call.is_of_profile && !is_unknown_at(fault, call.start)
+}
+
+/// Appends the error of a call whose macro isn't known.
+fn push_unknown(
+    alloc: Global,
+    text: &[u8],
+    at: usize,
+    out: &mut Vec<Finding>,
+) -> Result<(), AllocError>
+    ensures { OnOk result (map specs.shown out.new.items ≡ map specs.shown out.old.items ++ specs.error_at at ∷ []) }
+{
+    let finding = parse_finding(alloc, text, ParseFault::UnknownMacro(at), at)?;
+    out.push(finding)?;
+    Ok(())
+}
+
+/// Appends the error of a call, if it has to go and the fault doesn't say it.
+fn push_call(
+    alloc: Global,
+    text: &[u8],
+    fault: ParseFault,
+    call: &CallAt,
+    out: &mut Vec<Finding>,
+) -> Result<(), AllocError>
+    ensures { OnOk result (map specs.shown out.new.items ≡ map specs.shown out.old.items ++ specs.of_call fault (seen call.now)) }
+{
+    if is_other(fault, call) {
+        push_unknown(alloc, text, call.start, out)
+    } else {
+        Ok(())
+    }
+}
+
+/// Appends the errors of the calls that have to go, but for the one that the fault is about.
+pub(crate) fn push_calls(
+    alloc: Global,
+    text: &[u8],
+    fault: ParseFault,
+    calls: &[CallAt],
+    out: &mut Vec<Finding>,
+) -> Result<(), AllocError>
+    ensures { OnOk result (map specs.shown out.new.items ≡ map specs.shown out.old.items ++ flat_map (specs.of_call fault) (map seen calls.now)) }
+{
+    for call in calls {
+        push_call(alloc, text, fault, call, out)?;
+    }
+    Ok(())
+}

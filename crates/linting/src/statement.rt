@@ -1,0 +1,262 @@
+//! Where the statement at fault begins, in text between calls.
+
+ghost use Rattle.std.specs.Prelude.{◌≡◌, ◌+◌, ◌≤◌, length, IfOk};
+ghost use Rattle.linting.specs.Errors as specs;
+
+use baretext::{BareFault, read_statements};
+use m4quote::{Item, QuoteFault, bare_value, read_items_at};
+use shellword::ShellFault;
+use std::alloc::{AllocError, Global};
+
+/// What a byte of shell text is in.
+#[derive(Clone, Copy)]
+enum Mode {
+    /// Nothing, before a word.
+    Start,
+    /// A word.
+    Word,
+    /// Single quotes.
+    Single,
+    /// Double quotes.
+    Double,
+    /// A comment.
+    Comment,
+}
+
+/// A walk over text between calls.
+#[derive(Clone, Copy)]
+struct Walk {
+    mode: Mode,
+    /// The number of brackets that are open.
+    depth: usize,
+    /// Whether the last byte is a backslash that quotes the next one.
+    escaped: bool,
+    /// The number of bytes of the text's value so far, without its line continuations.
+    kept: usize,
+    /// The offset after the last end of a statement.
+    start: usize,
+}
+
+fn is_blank(byte: u8) -> bool {
+    matches!(byte, b' ' | b'\t' | b'\n' | b';')
+}
+
+/// Returns what follows a byte that isn't quoted.
+fn mode_after(mode: Mode, byte: u8) -> Mode {
+    match (mode, byte) {
+        (Mode::Comment, b'\n') => Mode::Start,
+        (Mode::Comment, _) => Mode::Comment,
+        (Mode::Single, b'\'') => Mode::Word,
+        (Mode::Single, _) => Mode::Single,
+        (Mode::Double, b'"') => Mode::Word,
+        (Mode::Double, _) => Mode::Double,
+        (Mode::Start, b'#') => Mode::Comment,
+        (_, b'\'') => Mode::Single,
+        (_, b'"') => Mode::Double,
+        (_, byte) => {
+            if is_blank(byte) {
+                Mode::Start
+            } else {
+                Mode::Word
+            }
+        }
+    }
+}
+
+/// Returns whether the byte ends a statement.
+fn ends_statement(mode: Mode, byte: u8) -> bool {
+    match mode {
+        Mode::Start | Mode::Word => byte == b'\n' || byte == b';',
+        Mode::Comment => byte == b'\n',
+        Mode::Single | Mode::Double => false,
+    }
+}
+
+fn quotes_next(mode: Mode, byte: u8) -> bool {
+    byte == b'\\' && !matches!(mode, Mode::Single | Mode::Comment)
+}
+
+/// Returns the walk after the byte at index `i`, which is no bracket that is dropped.
+fn kept_step(walk: Walk, i: usize, byte: u8) -> Walk {
+    let mode = walk.mode;
+    if quotes_next(mode, byte) {
+        return Walk {
+            escaped: true,
+            ..walk
+        };
+    }
+    let start = if ends_statement(mode, byte) {
+        i.saturating_add(1)
+    } else {
+        walk.start
+    };
+    Walk {
+        mode: mode_after(mode, byte),
+        kept: walk.kept.saturating_add(1),
+        start,
+        ..walk
+    }
+}
+
+/// Returns the walk after a byte that a backslash quotes. A backslash and a newline are no part of the value.
+fn escaped_step(walk: Walk, byte: u8) -> Walk {
+    if byte == b'\n' {
+        return Walk {
+            escaped: false,
+            ..walk
+        };
+    }
+    Walk {
+        escaped: false,
+        mode: if matches!(walk.mode, Mode::Start) {
+            Mode::Word
+        } else {
+            walk.mode
+        },
+        kept: walk.kept.saturating_add(2),
+        ..walk
+    }
+}
+
+/// Returns the walk after an opening or closing bracket. Those of the outermost quotes are no part of the value.
+fn bracket_step(walk: Walk, i: usize, byte: u8) -> Walk {
+    let inner = byte == b'[' && walk.depth > 0 || byte == b']' && walk.depth > 1;
+    let depth = if byte == b'[' {
+        walk.depth.saturating_add(1)
+    } else {
+        walk.depth.saturating_sub(1)
+    };
+    let walk = Walk { depth, ..walk };
+    if inner {
+        kept_step(walk, i, byte)
+    } else {
+        walk
+    }
+}
+
+/// Returns the walk after the byte at index `i`.
+fn step(walk: Walk, i: usize, byte: u8) -> Walk {
+    if walk.escaped {
+        return escaped_step(walk, byte);
+    }
+    if matches!(byte, b'[' | b']') && !matches!(walk.mode, Mode::Comment) {
+        return bracket_step(walk, i, byte);
+    }
+    kept_step(walk, i, byte)
+}
+
+/// Returns the number of blanks at the front.
+fn blank_len(text: &[u8]) -> usize
+    ensures { result ≤ length text.now }
+{
+    text.iter().take_while(|byte| is_blank(**byte)).count()
+}
+
+/// Returns the start of the statement that has the byte `offset` of the piece's value, without its line continuations.
+fn statement_start(piece: &[u8], offset: usize) -> usize
+    ensures { result ≤ length piece.now }
+{
+    let mut walk = Walk {
+        mode: Mode::Start,
+        depth: 0,
+        escaped: false,
+        kept: 0,
+        start: 0,
+    };
+    for (i, byte) in piece.iter().enumerate() {
+        if walk.kept > offset {
+            break;
+        }
+        walk = step(walk, i, *byte);
+    }
+    let start = walk.start.min(piece.len());
+    start + blank_len(&piece[start..])
+}
+
+/// Returns the number of blanks and comments at the front.
+fn idle_len(piece: &[u8]) -> usize
+    ensures { result ≤ length piece.now }
+{
+    let mut in_comment = false;
+    for (i, byte) in piece.iter().enumerate() {
+        if in_comment {
+            in_comment = *byte != b'\n';
+        } else if *byte == b'#' {
+            in_comment = true;
+        } else if !is_blank(*byte) {
+            return i;
+        }
+    }
+    piece.len()
+}
+
+/// Returns the offset of the first error in a value, without its line continuations, or `None` if it has none.
+fn error_in(alloc: Global, value: &[u8]) -> Result<Option<usize>, AllocError> {
+    match read_statements(alloc, value) {
+        Ok(_) => Ok(None),
+        Err(BareFault::OutOfMemory) => Err(AllocError),
+        Err(BareFault::UnknownStatement(at)) => Ok(Some(at)),
+        Err(BareFault::Shell(ShellFault::BadWord(at))) => Ok(Some(at)),
+        Err(BareFault::Shell(_)) => Ok(None),
+    }
+}
+
+/// Returns the start of the first statement of a piece that isn't read, or of its first one if all are.
+fn refused_in(alloc: Global, piece: &[u8]) -> Result<usize, AllocError>
+    ensures { IfOk result (λ n. n ≤ length piece.now) }
+{
+    match bare_value(alloc, piece) {
+        Err(QuoteFault::OutOfMemory) => Err(AllocError),
+        Err(_) => Ok(0),
+        Ok(value) => match error_in(alloc, &value)? {
+            Some(offset) => Ok(statement_start(piece, offset)),
+            None => Ok(idle_len(piece)),
+        },
+    }
+}
+
+/// Returns the length of the text between calls at the front of the items of a text at `at`.
+fn first_len(items: &[Item<'_>], at: usize) -> usize {
+    match items.first() {
+        Some(Item::Bare { text, at: place }) if *place == at => text.len(),
+        _ => 0,
+    }
+}
+
+/// Returns the length of the text between calls at the front of a text at `at`: up to the first call, or up to the first error of
+/// quotes.
+fn piece_len(alloc: Global, text: &[u8], at: usize) -> Result<usize, AllocError>
+    requires { at + length text.now ≤ usize.MAX }
+{
+    match read_items_at(alloc, text, at) {
+        Ok(items) => Ok(first_len(&items, at)),
+        Err(QuoteFault::OutOfMemory) => Err(AllocError),
+        Err(QuoteFault::StrayClose(stop)) => stopped_len(alloc, text, at, stop.saturating_sub(at)),
+        Err(_) => Ok(0),
+    }
+}
+
+/// Returns the same for the first `len` bytes.
+fn stopped_len(alloc: Global, text: &[u8], at: usize, len: usize) -> Result<usize, AllocError>
+    requires { at + length text.now ≤ usize.MAX }
+{
+    match read_items_at(alloc, &text[..len.min(text.len())], at) {
+        Ok(items) => Ok(first_len(&items, at)),
+        Err(QuoteFault::OutOfMemory) => Err(AllocError),
+        Err(_) => Ok(0),
+    }
+}
+
+/// Returns the start of the first statement that isn't read in the text between calls that begins at `at`. If none begins there,
+/// returns `at`.
+pub(crate) fn statement_after(alloc: Global, text: &[u8], at: usize) -> Result<usize, AllocError>
+    ensures { IfOk result (specs.IsAfter at (length text.now)) }
+{
+    if at >= text.len() {
+        return Ok(at);
+    }
+    let rest = &text[at..];
+    let len = piece_len(alloc, rest, at)?.min(rest.len());
+    let start = refused_in(alloc, &rest[..len])?;
+    Ok(at + start)
+}
