@@ -10,7 +10,7 @@ use crate::lines::{
 };
 use crate::near::near_name;
 use crate::page::Page;
-use crate::shell::{Construct, shell_help, test_help};
+use crate::shell::{Construct, shell_help, test_help, word_help};
 use acmacros::table::row_named;
 use acstatement::ParseFault;
 use bstr::ByteSlice;
@@ -83,8 +83,14 @@ fn put_other_quote(page: &mut Page, fault: QuoteFault) {
             page.say(b"there is a NUL byte");
             page.advise(b"a source is text: save it as UTF-8");
         }
-        QuoteFault::TooLarge => page.say(b"the file has more than 1,048,576 bytes"),
-        _ => page.say(b"more than 64 brackets and parentheses are open at once"),
+        QuoteFault::TooLarge => {
+            page.say(b"the file has more than 1,048,576 bytes");
+            page.advise(b"no larger source is read");
+        }
+        _ => {
+            page.say(b"more than 64 brackets and parentheses are open at once");
+            page.advise(b"one of them may be closed nowhere: no call nests so deep");
+        }
     }
 }
 
@@ -114,10 +120,21 @@ fn put_no_macro(alloc: Global, page: &mut Page, name: &[u8]) -> Result<(), Alloc
     Ok(())
 }
 
+/// Writes that a call is no statement because of what is beside it.
+fn put_not_alone(page: &mut Page, name: &[u8]) {
+    page.say(name);
+    page.say(b" has other text beside it on its line");
+    page.advise(b"a call begins and ends its line: put it on a line of its own");
+}
+
 /// Writes what is wrong with text that is no statement, and that has no construct by which to say it.
 fn put_plain_text(alloc: Global, page: &mut Page, around: Around<'_>) -> Result<(), AllocError> {
     let rest = around.rest();
     let name = first_name(rest);
+    if row_named(name).is_some() {
+        put_not_alone(page, name);
+        return Ok(());
+    }
     if !name.is_empty() && from(rest, name.len()).starts_with(b"(") {
         return put_no_macro(alloc, page, name);
     }
@@ -166,16 +183,16 @@ fn put_statement(alloc: Global, page: &mut Page, around: Around<'_>) -> Result<(
         put_construct(page, found);
         return Ok(());
     }
+    if is_argument(around.text, around.at) {
+        put_no_statements(page, around);
+        return Ok(());
+    }
     if is_argument_macro(around.name()) {
         page.say(around.name());
         page.say(b" is no statement by itself");
         page.advise(
             b"AS_HELP_STRING is an argument of AC_ARG_ENABLE and AC_ARG_WITH, and AC_LANG_PROGRAM and AC_LANG_SOURCE are arguments of AC_COMPILE_IFELSE and its like",
         );
-        return Ok(());
-    }
-    if is_argument(around.text, around.at) {
-        put_no_statements(page, around);
         return Ok(());
     }
     put_plain_text(alloc, page, around)
@@ -186,6 +203,14 @@ fn unquoted_front(text: &[u8]) -> &[u8] {
     match text {
         [b'[', inside @ ..] => inside,
         _ => text,
+    }
+}
+
+/// Returns the largest number of arguments of a macro, or 0.
+fn most_of(name: &[u8]) -> usize {
+    match row_named(name) {
+        Some(row) => row.most,
+        None => 0,
     }
 }
 
@@ -202,7 +227,11 @@ fn put_counts(page: &mut Page, name: &[u8], count: usize) {
             page.say_number(row.most);
         }
     }
-    page.say(b" arguments, and has ");
+    page.say(if most_of(name) == 1 {
+        b" argument, and has ".as_slice()
+    } else {
+        b" arguments, and has ".as_slice()
+    });
     page.say_number(count);
 }
 
@@ -242,7 +271,7 @@ fn put_bad_name(page: &mut Page, around: Around<'_>) {
 /// Writes what is wrong with a word, or with text that has variables.
 fn put_word(page: &mut Page, around: Around<'_>) {
     if is_argument(around.text, around.at) {
-        match shell_help(around.argument()) {
+        match word_help(around.argument()) {
             Some(found) => put_construct(page, found),
             None => {
                 page.say_text(around.argument());
@@ -358,7 +387,10 @@ fn put_rest(page: &mut Page, around: Around<'_>, fault: ParseFault) {
                 b"set the name of the second argument here, and do the rest after the check, by AS_IF",
             );
         }
-        ParseFault::TooDeep(_) => page.say(b"statements nest more than 32 deep"),
+        ParseFault::TooDeep(_) => {
+            page.say(b"statements nest more than 32 deep");
+            page.advise(b"set a variable in the inner statements, and test it after them");
+        }
         ParseFault::TooMany(_) => put_too_many(page),
         ParseFault::NewerVersion(_) => {
             page.say(b"a version of Autoconf after 2.71 is required");
