@@ -4,7 +4,7 @@ ghost use Rattle.std.specs.Prelude.{◌≡◌, IfOk};
 ghost use Rattle.findings.specs.declared.finding.Severity.TheVariants.{Error};
 
 use crate::arguments::{argument_words, macros};
-use crate::calls::{argument_count, first_argument, last_name, open_call, unquoted};
+use crate::calls::{argument_count, before_close, first_argument, last_name, open_call, unquoted};
 use crate::lines::{
     after_blanks, before, first_line, first_name, first_word, from, is_argument, without_end_blanks,
 };
@@ -120,6 +120,11 @@ fn put_no_macro(alloc: Global, page: &mut Page, name: &[u8]) -> Result<(), Alloc
     Ok(())
 }
 
+/// Returns whether a text begins with `=` and a blank.
+fn has_blank_after_equals(text: &[u8]) -> bool {
+    text.starts_with(b"= ") || text.starts_with(b"=\t")
+}
+
 /// Writes that a call is no statement because of what is beside it.
 fn put_not_alone(page: &mut Page, name: &[u8]) {
     page.say(name);
@@ -138,7 +143,7 @@ fn put_plain_text(alloc: Global, page: &mut Page, around: Around<'_>) -> Result<
     if !name.is_empty() && from(rest, name.len()).starts_with(b"(") {
         return put_no_macro(alloc, page, name);
     }
-    if before(around.text, around.at).trim_end().ends_with(b"=") {
+    if has_blank_after_equals(from(rest, name.len())) {
         page.say(b"there is a blank after the `=` of an assignment");
         page.advise(b"write NAME=VALUE without blanks, and a value with blanks in quotes");
         return Ok(());
@@ -489,7 +494,7 @@ fn marked_len(around: Around<'_>, fault: ParseFault) -> usize {
             around.name().len()
         }
         _ if is_argument(around.text, around.at) => first_argument(around.rest()).len(),
-        _ => without_end_blanks(first_line(around.rest())).len(),
+        _ => without_end_blanks(before_close(first_line(around.rest()))).len(),
     }
 }
 
@@ -503,7 +508,7 @@ fn code_of(alloc: Global, fault: ParseFault) -> Result<Bytes, AllocError> {
 /// Returns an error of the source, in words, at the offset `at`. If there is no help, it is empty.
 ///
 /// The offset is that of the fault, or that of the statement at fault in text between calls. The end is that of the name, of the
-/// argument or of the line there.
+/// argument, of the quoted text or of the line there.
 ///
 /// # Errors
 ///
