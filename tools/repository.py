@@ -8,6 +8,8 @@ import pathlib
 import re
 import sys
 
+import macro_table
+
 CRATES = pathlib.Path("crates")
 # The budget of must-fail edits, which `rt ci` tries one by one.
 MOST_EDITS, MOST_CRATES = 90, 15
@@ -118,6 +120,11 @@ def headings(file):
     return {re.sub(r"[^\w\- ]", "", it.lower()).replace(" ", "-") for it in titles}
 
 
+def macros_that_do_not_agree():
+    """The crate macrotable or the guide is not what is written from macros.txt."""
+    yield from macro_table.differences()
+
+
 CHECKS = [
     unused_libraries,
     unlisted_crates,
@@ -126,6 +133,7 @@ CHECKS = [
     edits_that_do_not_apply,
     edits_over_the_budget,
     broken_links,
+    macros_that_do_not_agree,
 ]
 
 

@@ -6,6 +6,7 @@ use Rattle.m4quote.specs.declared.fault.QuoteFault.{QuoteFault}
 use Rattle.m4quote.specs.declared.fault.QuoteFault.TheVariants as quote
 use Rattle.acstatement.specs.declared.fault.ParseFault.{ParseFault}
 use Rattle.acstatement.specs.declared.fault.ParseFault.TheVariants as parse
+use Rattle.acparse.specs.Profile.{source_of}
 use Rattle.findings.specs.declared.finding.Finding.{Finding}
 use Rattle.findings.specs.declared.finding.Severity.{Severity}
 use Rattle.findings.specs.declared.finding.Severity.TheVariants.{Error}
@@ -106,3 +107,9 @@ pub record AreRefused (text : List ℕ) (fault : ParseFault) (calls : List Call)
 abbrev pub AreErrors : List ℕ → Result Script ParseFault → List Finding → Type 0
 AreErrors text (Ok s) list = map shown list ≡ errors_read s
 AreErrors text (Err fault) list = AreRefused text fault (calls_in text) list
+
+-- The source is accepted: it is read, and doesn't weigh too much for a plan.
+pub record IsAccepted (text : List ℕ) : Type 0 where
+  pub script : Script
+  pub read : source_of text ≡ Ok script
+  pub fits : weight script ≤ heaviest

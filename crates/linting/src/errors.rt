@@ -92,6 +92,17 @@ fn errors_refused(alloc: Global, text: &[u8], fault: ParseFault) -> Result<Vec<F
     ordered(alloc, text, fault, &calls)
 }
 
+/// Returns the errors of a source.
+fn find_errors(alloc: Global, text: &[u8]) -> Result<Vec<Finding>, AllocError>
+    ensures { IfOk result (λ v. specs.AreErrors text.now (source_of text.now) v.items) }
+{
+    match parse(alloc, text) {
+        Ok(source) => errors_read(alloc, &source),
+        Err(ParseFault::OutOfMemory) => Err(AllocError),
+        Err(fault) => errors_refused(alloc, text, fault),
+    }
+}
+
 /// Returns the errors of a source, in order of their places.
 ///
 /// If the source is refused, they are the reader's fault and the calls that have to go, each once. Otherwise there is at most one:
@@ -103,10 +114,8 @@ fn errors_refused(alloc: Global, text: &[u8], fault: ParseFault) -> Result<Vec<F
 pub fn errors_of(alloc: Global, text: &[u8]) -> Result<Vec<Finding>, AllocError>
     // The errors are exactly these.
     ensures exact { IfOk result (λ v. specs.AreErrors text.now (source_of text.now) v.items) }
+    // There is none exactly if the source is read and has a plan.
+    ensures none { IfOk result (λ v. (v.items ≡ []) ↔ specs.IsAccepted text.now) }
 {
-    match parse(alloc, text) {
-        Ok(source) => errors_read(alloc, &source),
-        Err(ParseFault::OutOfMemory) => Err(AllocError),
-        Err(fault) => errors_refused(alloc, text, fault),
-    }
+    find_errors(alloc, text)
 }

@@ -23,7 +23,7 @@ call_end name args at = end_after (at + length name) (map extent_of args)
 abbrev pub IsLaid : ℕ → ℕ → List Entry → Type 0
 IsLaid low high [] = Unit {0}
 IsLaid low high (bare text at ∷ items) = IsLaid low high items
-IsLaid low high (call name args at ∷ items) = (low ≤ at) × AreLaid (at + length name) args × (call_end name args at ≤ high) × IsLaid (call_end name args at) high items
+IsLaid low high (call name args at ∷ items) = (low ≤ at) × (0 < length name) × AreLaid (at + length name) args × (call_end name args at ≤ high) × IsLaid (call_end name args at) high items
 
 pub laid_end : (low : ℕ) (args : List Span) → AreLaid low args → low ≤ end_after low (map extent_of args)
 laid_end low [] laid = omega arith
@@ -32,7 +32,7 @@ laid_end low (arg ∷ args) laid = omega (arith, laid.0, laid_end (arg.at + leng
 laid_lower : (low new high : ℕ) (items : List Entry) → new ≤ low → IsLaid low high items → IsLaid new high items
 laid_lower low new high [] le laid = tt
 laid_lower low new high (bare text at ∷ items) le laid = laid_lower low new high items le laid
-laid_lower low new high (call name args at ∷ items) le laid = (omega (arith, laid.0), laid.1, laid.2, laid.3)
+laid_lower low new high (call name args at ∷ items) le laid = (omega (arith, laid.0), laid.1, laid.2, laid.3, laid.4)
 
 args_lower : (low new : ℕ) (args : List Span) → new ≤ low → AreLaid low args → AreLaid new args
 args_lower low new [] le laid = tt
@@ -78,7 +78,7 @@ items_laid (bare_name {at} {n} {text} {items} front no_args later) high le =
     let fits = front_fits front in
     let size : length (take n text) ≡ n = length-take-le n text fits.1 in
     let rest = items_laid later high (omega (arith, fits.1, length-drop n text)) in
-    (omega arith, tt, omega (arith, size, fits.1), laid_lower (at + n) (at + length (take n text)) high items (omega (arith, size)) rest)
+    (omega arith, omega (arith, size, fits.0), tt, omega (arith, size, fits.1), laid_lower (at + n) (at + length (take n text)) high items (omega (arith, size)) rest)
 items_laid (with_arguments {at} {n} {m} {text} {inside} {args} {items} front opens given later) high le =
     let fits = front_fits front in
     let size : length (take n text) ≡ n = length-take-le n text fits.1 in
@@ -87,6 +87,7 @@ items_laid (with_arguments {at} {n} {m} {text} {inside} {args} {items} front ope
     let within = arguments_laid given (at + length (take n text)) (omega (arith, size)) in
     let rest = items_laid later high (omega (arith, len, fit, length-drop m inside)) in (
       omega arith,
+      omega (arith, size, fits.0),
       within.laid,
       omega (arith, within.ends, len, fit),
       laid_lower (at + n + 1 + m) (call_end (take n text) args at) high items (omega (arith, within.ends)) rest,
@@ -96,8 +97,8 @@ placed : (low high : ℕ) (items : List Entry) → IsLaid low high items → hig
 placed low high [] laid lt = All-nil IsItemPlaced
 placed low high (bare text at ∷ items) laid lt = All-cons IsItemPlaced (bare text at) items tt (placed low high items laid lt)
 placed low high (call name args at ∷ items) laid lt =
-    let after = laid_end (at + length name) args laid.1 in
-    All-cons IsItemPlaced (call name args at) items (omega (arith, after, laid.2), omega (arith, laid.2)) (placed (call_end name args at) high items laid.3 lt)
+    let after = laid_end (at + length name) args laid.2 in
+    All-cons IsItemPlaced (call name args at) items (omega (arith, after, laid.3), omega (arith, laid.3)) (placed (call_end name args at) high items laid.4 lt)
 
 pub spelled_placed : {at : ℕ} {text : List ℕ} {items : List Entry} → Spells at text items → at + length text < 2 ^ 64 → ArePlaced items
 spelled_placed {at} {text} {items} spells lt = placed at (at + length text) items (items_laid spells (at + length text) (omega arith)) lt

@@ -1,3 +1,5 @@
 mod Ends
+pub mod Found
 pub mod Laid
+pub mod Order
 mod Turns

@@ -1,5 +1,5 @@
 -- The calls of a text, as a function of the text. `Standing` has the same as rules. All of this is own.
-use Rattle.std.specs.Prelude.{ℕ, zero, suc, ◌+◌, ◌<◌, ◌^◌, Bool, List, [], ◌∷◌, ◌++◌, length, map, Option, Some, None, Result, Ok, Err, is_some, if◌then◌else◌, All}
+use Rattle.std.specs.Prelude.{ℕ, zero, suc, ◌+◌, ◌<◌, ◌≤◌, ◌^◌, Bool, List, [], ◌∷◌, ◌++◌, length, map, Option, Some, None, Result, Ok, Err, is_some, if◌then◌else◌, All}
 use Rattle.std.specs.List.{flat_map}
 use Rattle.m4quote.specs.Entry.{Span, Entry, call, bare}
 use Rattle.m4quote.specs.Scan.{outcome}
@@ -105,3 +105,10 @@ in_argument (suc room) arg = in_denoted (in_argument room) (inside arg)
 -- The calls of a source, within whose own list others nest at most 31 deep.
 unfoldable pub calls_in : List ℕ → List Call
 calls_in text = in_items (in_argument 31) (items_of (outcome 0 text))
+
+-- ---- the order of calls
+
+-- Each call begins and ends between these offsets, and each after the first begins after the name of the one before it.
+abbrev pub AreInOrder : ℕ → ℕ → List Call → Type 0
+AreInOrder low high [] = low ≤ high
+AreInOrder low high (c ∷ cs) = (low ≤ c.start) × (c.start < c.name_end) × (c.name_end ≤ c.end) × (c.end ≤ high) × AreInOrder c.name_end high cs

@@ -1,11 +1,12 @@
 //! Finds the calls of a text.
 
-ghost use Rattle.std.specs.Prelude.{◌≡◌, ◌+◌, ◌≤◌, [], ◌∷◌, ◌++◌, if◌then◌else◌, map, length, IfOk, OnOk};
+ghost use Rattle.std.specs.Prelude.{◌≡◌, ◌+◌, ◌≤◌, [], ◌∷◌, ◌++◌, ◌↔◌, if◌then◌else◌, Contains, map, length, IfOk, OnOk};
 ghost use Rattle.m4quote.specs.Entry.{span, view, views};
 ghost use Rattle.m4quote.specs.Scan.{outcome};
 ghost use Rattle.acmacros.specs.Table.{row_named};
 ghost use Rattle.sourcecalls.specs.Calls as specs;
 ghost use Rattle.sourcecalls.specs.Holding as holding;
+ghost use Rattle.sourcecalls.specs.Standing.{IsCallOf};
 
 use crate::call::{CallAt, call_at};
 use crate::holding::holds_statements;
@@ -172,13 +173,27 @@ fn find_in_items(
     Ok(())
 }
 
-/// Returns the calls of a whole source, in order of their offsets.
+/// Returns the calls of a whole source.
 #[tactic(auto, unfolding(crate::specs::Calls::calls_in))]
-pub fn calls_of(alloc: Global, text: &[u8]) -> Result<Vec<CallAt>, AllocError>
-    ensures exact { IfOk result (λ v. map specs.seen v.items ≡ specs.calls_in text.now) }
+fn find_all(alloc: Global, text: &[u8]) -> Result<Vec<CallAt>, AllocError>
+    ensures { IfOk result (λ v. map specs.seen v.items ≡ specs.calls_in text.now) }
 {
     let items = items_at(alloc, text, 0)?;
     let mut out = Vec::new(alloc);
     find_in_items(alloc, MAX_LISTS, &items, &mut out)?;
     Ok(out)
+}
+
+/// Returns the calls of a whole source, in order of their offsets.
+///
+/// A call in an argument comes after the call of the argument.
+pub fn calls_of(alloc: Global, text: &[u8]) -> Result<Vec<CallAt>, AllocError>
+    // The calls that are returned are exactly those of the source.
+    ensures found { IfOk result (λ v. (c : specs.Call) → Contains (map specs.seen v.items) c ↔ IsCallOf text.now c) }
+    // Each is in the source, and each begins after the name of the one before it. So each is returned once.
+    ensures in_order { IfOk result (λ v. specs.AreInOrder 0 (length text.now) (map specs.seen v.items)) }
+    // The same as a function of the text.
+    ensures exact { IfOk result (λ v. map specs.seen v.items ≡ specs.calls_in text.now) }
+{
+    find_all(alloc, text)
 }

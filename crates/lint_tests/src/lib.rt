@@ -1,0 +1,10 @@
+//! Tests of the crates that find what is wrong with a source: `sourcecalls` (which calls are found) and `linting` (which errors, and
+//! what they are shown at).
+//!
+//! Each test is a table of rows, in the form that the crate `testrows` reads.
+#![tactic(auto)]
+
+#[cfg(test)]
+mod calls;
+#[cfg(test)]
+mod errors;

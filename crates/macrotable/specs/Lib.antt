@@ -1,0 +1,5 @@
+pub mod Around
+pub mod Entries
+pub mod Filling
+pub mod Places
+pub mod Values

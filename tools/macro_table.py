@@ -1,0 +1,294 @@
+#!/usr/bin/env python3
+"""Writes what is made of crates/macrotable/macros.txt: the text of the crate, and a part of docs/guide.md.
+  macro_table.py           writes both
+  macro_table.py --check   prints a line for each that is not what it would write, and ends with 1 if there is one
+  macro_table.py --fill NAME [ARGUMENT]..   prints the entry of a name, with these arguments in its places
+
+The lines of macros.txt, by how they begin:
+  `# `      a comment
+  `> `      a heading of the guide, under which the next entries are shown
+  `: `      a sentence below the heading
+  `| `      a line of the block that is shown there, as it stands; the idioms are shown where their entries are
+  KIND      begins an entry: idiom, drop, none or family, and then the names that it is of
+  `= `      the arguments of a call, for which the guide shows the idiom; none if there is no such line
+  `% `      a word that the idiom has for that call, a blank, and the text that is shown in its place
+  `@ `      what stands around the idiom in the guide, with an `@` in its place; alone: the idiom is not run
+  blanks    4 of them begin a line of the entry's text
+Empty lines mean nothing. `specs/Places` and `specs/Values` of the crate say what places are, and what they are filled with.
+"""
+import dataclasses
+import pathlib
+import re
+import sys
+
+ROOT = pathlib.Path(__file__).resolve().parent.parent
+DATA = ROOT / "crates/macrotable/macros.txt"
+TEXT = ROOT / "crates/macrotable/src/text.rt"
+GUIDE = ROOT / "docs/guide.md"
+PROFILE = ROOT / "crates/acmacros/src/table.rt"
+BEGIN = "## Macros that are not read\n"
+KINDS = ("idiom", "drop", "none", "family")
+PLACE = re.compile(r"\$([1-9@])([!_^<>]?)\{([^}]*)\}")
+
+
+@dataclasses.dataclass
+class Entry:
+    kind: str
+    names: list
+    lines: list = dataclasses.field(default_factory=list)
+    arguments: list = dataclasses.field(default_factory=list)
+    words: list = dataclasses.field(default_factory=list)
+    around: str = "@"
+
+    def text(self):
+        return "\n".join(self.lines)
+
+    def sample(self):
+        """Returns the idiom as the guide shows it, or None if it can't be run."""
+        text = fill(self.text(), self.arguments)
+        for word, shown in sorted(self.words, key=lambda it: -len(it[0])):
+            text = text.replace(word, shown)
+        return self.around.replace("@", text) if self.around else text
+
+    def is_run(self):
+        return self.kind == "idiom" and self.around != ""
+
+
+@dataclasses.dataclass
+class Section:
+    heading: str
+    prose: list = dataclasses.field(default_factory=list)
+    parts: list = dataclasses.field(default_factory=list)
+
+    def entries(self):
+        return [part for part in self.parts if isinstance(part, Entry)]
+
+
+def arguments_of(text):
+    """Returns the arguments of a call: the texts between commas that are in no brackets."""
+    depth, found = 0, [""]
+    for char in text:
+        depth += (char == "[") - (char == "]")
+        if char == "," and depth == 0:
+            found.append("")
+        else:
+            found[-1] += char
+    return found
+
+
+def bare(argument):
+    text = argument.strip(" \t\n")
+    for _ in range(2):
+        if len(text) >= 2 and text[0] == "[" and text[-1] == "]":
+            text = text[1:-1].strip(" \t\n")
+    return text
+
+
+def plain(argument):
+    """Returns an argument without its brackets, or None if it is no plain word or list."""
+    text = bare(argument)
+    return text if re.fullmatch(r"[A-Za-z0-9_./+*=: \t\n-]+", text) else None
+
+
+def formed(sign, word, text):
+    if sign == "!":
+        return word if re.search(r"[ \t\n]", text) else text
+    if sign == "_":
+        return re.sub(r"\W", "_", re.sub("[*+]", "p", text), flags=re.ASCII)
+    if sign == "^":
+        return re.sub(r"\W", "_", text.replace("*", "P"), flags=re.ASCII).upper()
+    if sign and "." not in text:
+        return word
+    return {"": text, "<": text.partition(".")[0], ">": text.partition(".")[2]}[sign]
+
+
+def fill(text, arguments):
+    """Returns the text with its places filled, as `fill` of the crate does it."""
+
+    def value(place):
+        which, sign, word = place.groups()
+        if which == "@":
+            known = arguments and all(plain(it) is not None for it in arguments)
+            return ", ".join(f"[{bare(it)}]" for it in arguments) if known else word
+        known = int(which) <= len(arguments) and plain(arguments[int(which) - 1])
+        return formed(sign, word, known) if known else word
+
+    return PLACE.sub(value, text)
+
+
+def sections():
+    """Reads the data: the sections in order, the last without a heading."""
+    found, entry = [], None
+    for number, line in enumerate(DATA.read_text().splitlines(), 1):
+        sign, rest = line[:2], line[2:]
+        first = line.split(" ")[0]
+        if line == "" or sign == "# ":
+            continue
+        if sign == "> ":
+            found.append(Section(rest))
+        elif sign == ": ":
+            found[-1].prose.append(rest)
+        elif line[0] == "|":
+            found[-1].parts.append(rest)
+        elif line.startswith("    "):
+            entry.lines.append(line[4:])
+        elif sign == "= ":
+            entry.arguments = arguments_of(rest)
+        elif sign == "% ":
+            word, _, shown = rest.partition(" " if not rest.startswith("#") else "> ")
+            entry.words.append((word + ">" if rest.startswith("#") else word, shown))
+        elif line[0] == "@":
+            entry.around = rest
+        elif first in KINDS:
+            entry = Entry(first, line.split()[1:])
+            found[-1].parts.append(entry)
+        else:
+            sys.exit(f"{DATA}:{number}: this line has no meaning: {line}")
+    return found
+
+
+def entries():
+    """Returns the entries in the order of the table: those of families are last, the longer name first."""
+    all_ = [entry for section in sections() for entry in section.entries()]
+    families = sorted((it for it in all_ if it.kind == "family"), key=lambda it: -len(it.names[0]))
+    return [it for it in all_ if it.kind != "family"] + families
+
+
+def profile():
+    """Returns the macros that are read."""
+    return {*re.findall(r'\(b"(\w+)", (?:Statement|Argument)', PROFILE.read_text()), "AC_INCLUDES_DEFAULT"}
+
+
+def wrong():
+    """Yields what is wrong with the data."""
+    seen = set()
+    for name in sorted({name for entry in entries() for name in entry.names} & profile()):
+        yield f"{name} is read, and needs no entry"
+    for entry in entries():
+        text = entry.text()
+        for name in entry.names:
+            if name in seen:
+                yield f"{name} has two entries"
+            seen.add(name)
+        if not text or not entry.names:
+            yield f"{' '.join(entry.names)}: an entry has a name and a text"
+        if "~" in text or "\t" in text or re.search(r"\$[0-9@]", PLACE.sub("", text)):
+            yield f"{entry.names[0]}: a text has no `~`, no tab, and no `$` with a digit that is no place"
+        if entry.kind != "idiom" and len(entry.lines) > 1:
+            yield f"{entry.names[0]}: only an idiom has more than one line"
+
+
+def text_of_crate():
+    """Returns the crate's file: the records, each a kind, names and a text."""
+    records = [f"{entry.kind} {' '.join(entry.names)}\n{entry.text()}" for entry in entries()]
+    text = "~".join(records).replace("\\", "\\\\").replace('"', '\\"')
+    return (
+        "//! The text of the table. `tools/macro_table.py` writes this file from `macros.txt`.\n\n"
+        "ghost use Rattle.std.specs.Prelude.{◌≡◌};\n\n"
+        "/// The table: records of a kind, names and a text, with a `~` between them.\n"
+        f'#[rattlefmt::skip]\npub const TABLE: &[u8] = b"\\\n{text}";\n\n'
+        "/// Returns the table.\npub(crate) fn table() -> &'static [u8]\n    ensures { result.now ≡ TABLE.now }\n{\n    TABLE\n}\n"
+    )
+
+
+def heading_link(heading):
+    return "#" + re.sub(r"[^\w\- ]", "", heading.lower()).replace(" ", "-")
+
+
+def in_words(names):
+    return ", ".join(f"`{name}`" if re.search(r"\W", name) else name for name in names)
+
+
+def is_shown(section):
+    return bool(section.prose) or any(isinstance(it, str) or it.kind == "idiom" for it in section.parts)
+
+
+def blocks(section):
+    """Yields the blocks of a section: whether it is run, and its lines."""
+    block, was_run = [], True
+    for part in section.parts:
+        if isinstance(part, Entry) and part.kind != "idiom":
+            continue
+        is_run = isinstance(part, str) or part.is_run()
+        if block and is_run != was_run:
+            yield was_run, block
+            block = []
+        block, was_run = block + (part if isinstance(part, str) else part.sample()).split("\n"), is_run
+    if block:
+        yield was_run, block
+
+
+def rows():
+    """Yields the rows of the guide's table."""
+    for section in sections():
+        for kind in ("idiom", "other"):
+            for entry in section.entries():
+                if kind == "idiom" and entry.kind == "idiom":
+                    names = [name for it in section.entries() if it.kind == "idiom" for name in it.names]
+                    yield f"| {in_words(names)} | [{section.heading}]({heading_link(section.heading)}) |"
+                    break
+                if kind == "other" and entry.kind in ("drop", "none"):
+                    yield f"| {in_words(entry.names)} | {entry.text()} |"
+    for entry in entries():
+        if entry.kind == "family":
+            yield f"| other macros that begin with `{entry.names[0]}` | {entry.text()} |"
+
+
+def part_of_guide():
+    """Returns the part of the guide: a table of all macros, and a section for each heading."""
+    lines = [
+        BEGIN.rstrip("\n"),
+        "",
+        "`crates/macrotable/macros.txt` has what is said here of each macro, and `tools/macro_table.py` writes this part of the guide from",
+        "it. What is used most comes first.",
+        "",
+        "| Macro | What to do |",
+        "|---|---|",
+        *rows(),
+    ]
+    for section in filter(is_shown, sections()):
+        lines += ["", f"### {section.heading}", *([""] + section.prose if section.prose else [])]
+        for is_run, block in blocks(section):
+            lines += ["", "```m4" if is_run else "```", *block, "```"]
+    return "\n".join(lines) + "\n"
+
+
+def guide():
+    """Returns the guide with that part at its end."""
+    return GUIDE.read_text().partition(BEGIN)[0] + part_of_guide()
+
+
+def differences():
+    """Yields a line for each thing that is wrong with the data, and for each file that is not what it would be."""
+    yield from wrong()
+    for file, text in ((TEXT, text_of_crate()), (GUIDE, guide())):
+        if file.read_text() != text:
+            yield f"{file.relative_to(ROOT)} is not what tools/macro_table.py writes"
+
+
+def about(name):
+    """Returns the entry of a name, as `entry_of` of the crate finds it."""
+    for entry in entries():
+        if name in entry.names or entry.kind == "family" and name.startswith(entry.names[0]):
+            return entry
+    return None
+
+
+def main(words):
+    if words == ["--check"]:
+        found = list(differences())
+        print("".join(f"{line}\n" for line in found), end="")
+        return int(bool(found))
+    if words[:1] == ["--fill"]:
+        entry = about(words[1])
+        print(f"{entry.kind} {words[1]}\n{fill(entry.text(), words[2:])}" if entry else f"nothing is said of {words[1]}")
+        return int(entry is None)
+    for line in wrong():
+        print(line)
+    TEXT.write_text(text_of_crate())
+    GUIDE.write_text(guide())
+    return 0
+
+
+if __name__ == "__main__":
+    sys.exit(main(sys.argv[1:]))
