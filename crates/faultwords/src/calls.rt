@@ -58,6 +58,21 @@ pub(crate) fn first_argument(text: &[u8]) -> &[u8] {
     without_end_blanks(text)
 }
 
+/// Returns what is before a bracket that closes more than the text opens, or the whole text.
+pub(crate) fn before_close(text: &[u8]) -> &[u8] {
+    let mut open: usize = 0;
+    let mut len: usize = 0;
+    for byte in text {
+        if *byte == b']' && open == 0 {
+            return before(text, len);
+        }
+        open = open.saturating_add(usize::from(*byte == b'['));
+        open = open.saturating_sub(usize::from(*byte == b']'));
+        len = len.saturating_add(1);
+    }
+    text
+}
+
 /// Returns how many arguments are before the parenthesis that ends a text of arguments.
 fn count_within(text: &[u8]) -> usize {
     let mut open = NOTHING;

@@ -25,7 +25,7 @@ mod shell;
 
 pub use near::near_name;
 pub use page::Words;
-pub use parse::{parse_finding, too_long_finding};
+pub use parse::{fault_place, parse_finding, too_long_finding};
 pub use running::{
     cache_words, option_words, precious_words, put_words, record_words, tag_words, usage_words,
 };

@@ -4,13 +4,13 @@ ghost use Rattle.std.specs.Prelude.{◌≡◌, IfOk};
 ghost use Rattle.findings.specs.declared.finding.Severity.TheVariants.{Error};
 
 use crate::arguments::{argument_words, macros};
-use crate::calls::{argument_count, first_argument, last_name, open_call, unquoted};
+use crate::calls::{argument_count, before_close, first_argument, last_name, open_call, unquoted};
 use crate::lines::{
     after_blanks, before, first_line, first_name, first_word, from, is_argument, without_end_blanks,
 };
 use crate::near::near_name;
 use crate::page::Page;
-use crate::shell::{Construct, shell_help, test_help};
+use crate::shell::{Construct, shell_help, test_help, word_help};
 use acmacros::table::row_named;
 use acstatement::ParseFault;
 use bstr::ByteSlice;
@@ -83,8 +83,14 @@ fn put_other_quote(page: &mut Page, fault: QuoteFault) {
             page.say(b"there is a NUL byte");
             page.advise(b"a source is text: save it as UTF-8");
         }
-        QuoteFault::TooLarge => page.say(b"the file has more than 1,048,576 bytes"),
-        _ => page.say(b"more than 64 brackets and parentheses are open at once"),
+        QuoteFault::TooLarge => {
+            page.say(b"the file has more than 1,048,576 bytes");
+            page.advise(b"no larger source is read");
+        }
+        _ => {
+            page.say(b"more than 64 brackets and parentheses are open at once");
+            page.advise(b"one of them may be closed nowhere: no call nests so deep");
+        }
     }
 }
 
@@ -114,14 +120,30 @@ fn put_no_macro(alloc: Global, page: &mut Page, name: &[u8]) -> Result<(), Alloc
     Ok(())
 }
 
+/// Returns whether a text begins with `=` and a blank.
+fn has_blank_after_equals(text: &[u8]) -> bool {
+    text.starts_with(b"= ") || text.starts_with(b"=\t")
+}
+
+/// Writes that a call is no statement because of what is beside it.
+fn put_not_alone(page: &mut Page, name: &[u8]) {
+    page.say(name);
+    page.say(b" has other text beside it on its line");
+    page.advise(b"a call begins and ends its line: put it on a line of its own");
+}
+
 /// Writes what is wrong with text that is no statement, and that has no construct by which to say it.
 fn put_plain_text(alloc: Global, page: &mut Page, around: Around<'_>) -> Result<(), AllocError> {
     let rest = around.rest();
     let name = first_name(rest);
+    if row_named(name).is_some() {
+        put_not_alone(page, name);
+        return Ok(());
+    }
     if !name.is_empty() && from(rest, name.len()).starts_with(b"(") {
         return put_no_macro(alloc, page, name);
     }
-    if before(around.text, around.at).trim_end().ends_with(b"=") {
+    if has_blank_after_equals(from(rest, name.len())) {
         page.say(b"there is a blank after the `=` of an assignment");
         page.advise(b"write NAME=VALUE without blanks, and a value with blanks in quotes");
         return Ok(());
@@ -166,16 +188,16 @@ fn put_statement(alloc: Global, page: &mut Page, around: Around<'_>) -> Result<(
         put_construct(page, found);
         return Ok(());
     }
+    if is_argument(around.text, around.at) {
+        put_no_statements(page, around);
+        return Ok(());
+    }
     if is_argument_macro(around.name()) {
         page.say(around.name());
         page.say(b" is no statement by itself");
         page.advise(
             b"AS_HELP_STRING is an argument of AC_ARG_ENABLE and AC_ARG_WITH, and AC_LANG_PROGRAM and AC_LANG_SOURCE are arguments of AC_COMPILE_IFELSE and its like",
         );
-        return Ok(());
-    }
-    if is_argument(around.text, around.at) {
-        put_no_statements(page, around);
         return Ok(());
     }
     put_plain_text(alloc, page, around)
@@ -186,6 +208,14 @@ fn unquoted_front(text: &[u8]) -> &[u8] {
     match text {
         [b'[', inside @ ..] => inside,
         _ => text,
+    }
+}
+
+/// Returns the largest number of arguments of a macro, or 0.
+fn most_of(name: &[u8]) -> usize {
+    match row_named(name) {
+        Some(row) => row.most,
+        None => 0,
     }
 }
 
@@ -202,7 +232,11 @@ fn put_counts(page: &mut Page, name: &[u8], count: usize) {
             page.say_number(row.most);
         }
     }
-    page.say(b" arguments, and has ");
+    page.say(if most_of(name) == 1 {
+        b" argument, and has ".as_slice()
+    } else {
+        b" arguments, and has ".as_slice()
+    });
     page.say_number(count);
 }
 
@@ -242,7 +276,7 @@ fn put_bad_name(page: &mut Page, around: Around<'_>) {
 /// Writes what is wrong with a word, or with text that has variables.
 fn put_word(page: &mut Page, around: Around<'_>) {
     if is_argument(around.text, around.at) {
-        match shell_help(around.argument()) {
+        match word_help(around.argument()) {
             Some(found) => put_construct(page, found),
             None => {
                 page.say_text(around.argument());
@@ -358,7 +392,10 @@ fn put_rest(page: &mut Page, around: Around<'_>, fault: ParseFault) {
                 b"set the name of the second argument here, and do the rest after the check, by AS_IF",
             );
         }
-        ParseFault::TooDeep(_) => page.say(b"statements nest more than 32 deep"),
+        ParseFault::TooDeep(_) => {
+            page.say(b"statements nest more than 32 deep");
+            page.advise(b"set a variable in the inner statements, and test it after them");
+        }
         ParseFault::TooMany(_) => put_too_many(page),
         ParseFault::NewerVersion(_) => {
             page.say(b"a version of Autoconf after 2.71 is required");
@@ -387,6 +424,67 @@ fn put_fault(
     Ok(())
 }
 
+/// Returns where a fault of quotes is.
+fn quote_place(fault: QuoteFault) -> usize {
+    match fault {
+        QuoteFault::UnclosedQuote(at) => at,
+        QuoteFault::UnclosedParen(at) => at,
+        QuoteFault::StrayClose(at) => at,
+        QuoteFault::Nul(at) => at,
+        _ => 0,
+    }
+}
+
+/// Returns the offset of a fault, or of the end of the text if there is no AC_OUTPUT, or 0 if the fault has no place.
+fn offset_of(text: &[u8], fault: ParseFault) -> usize {
+    match fault {
+        ParseFault::Quote(fault) => quote_place(fault),
+        ParseFault::UnknownMacro(at) => at,
+        ParseFault::ArgCount(at) => at,
+        ParseFault::BadName(at) => at,
+        ParseFault::NotAtTop(at) => at,
+        ParseFault::CacheBody(at) => at,
+        ParseFault::NoOutput => text.len(),
+        other => offset_of_rest(other),
+    }
+}
+
+fn offset_of_rest(fault: ParseFault) -> usize {
+    match fault {
+        ParseFault::UnknownStatement(at) => at,
+        ParseFault::Shell(_, at) => at,
+        ParseFault::AfterOutput(at) => at,
+        ParseFault::TooDeep(at) => at,
+        ParseFault::TooMany(at) => at,
+        ParseFault::NewerVersion(at) => at,
+        _ => 0,
+    }
+}
+
+/// Returns the offset of the first byte, from this one on, that is in no blank, newline or comment.
+fn after_comments(text: &[u8], at: usize) -> usize {
+    let mut place = at;
+    let mut is_comment = false;
+    for byte in from(text, at) {
+        is_comment = *byte != b'\n' && (is_comment || *byte == b'#');
+        if !is_comment && !matches!(*byte, b' ' | b'\t' | b'\n' | b';') {
+            return place;
+        }
+        place = place.saturating_add(1);
+    }
+    at
+}
+
+/// Returns the offset at which a fault is shown: its own, or in text between calls that of the first byte that is no blank and no
+/// comment. A fault without an offset is shown at the start, or at the end if there is no AC_OUTPUT.
+pub fn fault_place(text: &[u8], fault: ParseFault) -> usize {
+    let at = offset_of(text, fault);
+    match fault {
+        ParseFault::UnknownStatement(_) | ParseFault::Shell(_, _) => after_comments(text, at),
+        _ => at,
+    }
+}
+
 /// Returns the length of what is marked at the place of a fault.
 fn marked_len(around: Around<'_>, fault: ParseFault) -> usize {
     match fault {
@@ -396,7 +494,7 @@ fn marked_len(around: Around<'_>, fault: ParseFault) -> usize {
             around.name().len()
         }
         _ if is_argument(around.text, around.at) => first_argument(around.rest()).len(),
-        _ => without_end_blanks(first_line(around.rest())).len(),
+        _ => without_end_blanks(before_close(first_line(around.rest()))).len(),
     }
 }
 
@@ -410,7 +508,7 @@ fn code_of(alloc: Global, fault: ParseFault) -> Result<Bytes, AllocError> {
 /// Returns an error of the source, in words, at the offset `at`. If there is no help, it is empty.
 ///
 /// The offset is that of the fault, or that of the statement at fault in text between calls. The end is that of the name, of the
-/// argument or of the line there.
+/// argument, of the quoted text or of the line there.
 ///
 /// # Errors
 ///

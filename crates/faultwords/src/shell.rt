@@ -302,7 +302,7 @@ fn has_blank_before_equals(text: &[u8]) -> bool {
 }
 
 /// Returns what is said of words, as far as their parts tell it.
-fn word_help(text: &[u8]) -> Option<Construct> {
+pub(crate) fn word_help(text: &[u8]) -> Option<Construct> {
     if let Some(found) = row_of_part(&TEST_PARTS, text) {
         return Some(found);
     }
