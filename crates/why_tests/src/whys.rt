@@ -1,0 +1,96 @@
+//! The command, over a log in a file.
+
+use deftable::Bytes;
+use std::fs;
+use std::test::Fail;
+use testrows::{Call, Page, cut, try_rows_in};
+use whycommand::run_why;
+
+/// The words with commas between them, a bar, and the log: the exit status, standard output and standard error.
+const WHYS: &[u8] = b"
+// a header that is missing: by its message, the symbol, and the name of the cached value
+sys/stat.h|checking for sys/stat.h... ^J$ cc -c conftest1.c^Ja.c:6:10: none^Jstatus 1^Jfailed program was:^J| #include <sys/stat.h>^Jno^J => 0[checking for sys/stat.h... no^Jchild 1:^J$ cc -c conftest1.c^Ja.c:6:10: none^Jstatus 1^Jfailed program was:^J| #include <sys/stat.h>^J][]
+stat|checking for sys/stat.h... ^J$ cc -c conftest1.c^Ja.c:6:10: none^Jstatus 1^Jfailed program was:^J| #include <sys/stat.h>^Jno^J => 0[checking for sys/stat.h... no^Jchild 1:^J$ cc -c conftest1.c^Ja.c:6:10: none^Jstatus 1^Jfailed program was:^J| #include <sys/stat.h>^J][]
+HAVE_SYS_STAT_H|checking for sys/stat.h... ^J$ cc -c conftest1.c^Ja.c:6:10: none^Jstatus 1^Jfailed program was:^J| #include <sys/stat.h>^Jno^J => 0[checking for sys/stat.h... no^Jchild 1:^J$ cc -c conftest1.c^Ja.c:6:10: none^Jstatus 1^Jfailed program was:^J| #include <sys/stat.h>^J][]
+ac_cv_header_sys_stat_h|checking for sys/stat.h... ^J$ cc -c conftest1.c^Ja.c:6:10: none^Jstatus 1^Jfailed program was:^J| #include <sys/stat.h>^Jno^J => 0[checking for sys/stat.h... no^Jchild 1:^J$ cc -c conftest1.c^Ja.c:6:10: none^Jstatus 1^Jfailed program was:^J| #include <sys/stat.h>^J][]
+// a function, the second child of a list
+getline|checking for a.h... ^J$ cc -c conftest1.c^Jstatus 0^Jyes^Jchecking for getline... ^J$ cc -o conftest2 conftest2.c^Jx^Jstatus 1^Jno^J => 0[checking for getline... no^Jchild 2:^J$ cc -o conftest2 conftest2.c^Jx^Jstatus 1^J][]
+HAVE_GETLINE|checking for a.h... ^J$ cc -c conftest1.c^Jstatus 0^Jyes^Jchecking for getline... ^J$ cc -o conftest2 conftest2.c^Jx^Jstatus 1^Jno^J => 0[checking for getline... no^Jchild 2:^J$ cc -o conftest2 conftest2.c^Jx^Jstatus 1^J][]
+ac_cv_func_getline|checking for a.h... ^J$ cc -c conftest1.c^Jstatus 0^Jyes^Jchecking for getline... ^J$ cc -o conftest2 conftest2.c^Jx^Jstatus 1^Jno^J => 0[checking for getline... no^Jchild 2:^J$ cc -o conftest2 conftest2.c^Jx^Jstatus 1^J][]
+// both checks of a log, in its order
+for|checking for a.h... ^J$ cc -c conftest1.c^Jstatus 0^Jyes^Jchecking for getline... ^J$ cc -o conftest2 conftest2.c^Jx^Jstatus 1^Jno^J => 0[checking for a.h... yes^Jchild 1:^J$ cc -c conftest1.c^Jstatus 0^Jchecking for getline... no^Jchild 2:^J$ cc -o conftest2 conftest2.c^Jx^Jstatus 1^J][]
+// a check that is cut, by what it defines too
+strlcpy|checking whether strlcpy is declared... ^J$ cc -c conftest.c^Jstart refused^Jrefused^J => 0[checking whether strlcpy is declared... refused^Jchild 1:^J$ cc -c conftest.c^Jstart refused^J][]
+HAVE_DECL_STRLCPY|checking whether strlcpy is declared... ^J$ cc -c conftest.c^Jstart refused^Jrefused^J => 0[checking whether strlcpy is declared... refused^Jchild 1:^J$ cc -c conftest.c^Jstart refused^J][]
+ac_cv_have_decl_strlcpy|checking whether strlcpy is declared... ^J$ cc -c conftest.c^Jstart refused^Jrefused^J => 0[checking whether strlcpy is declared... refused^Jchild 1:^J$ cc -c conftest.c^Jstart refused^J][]
+a|checking for a... ^Jconfigure: error: none^J => 0[checking for a... ^JIt has no answer: the run ended before.^J][]
+// answers that came from a cache
+a.h|checking for a.h... ^J(cached) no^J => 0[checking for a.h... (cached) no^JThis answer came from a cache. To ask again, remove its line there: ac_cv_header_a_h^J][]
+HAVE_LIBZ|checking for inflate in -lz... ^J(cached) no^J => 0[checking for inflate in -lz... (cached) no^JThis answer came from a cache. To ask again, remove its line there: ac_cv_lib_z_inflate^J][]
+ac_cv_lib_z_inflate|checking for inflate in -lz... ^J(cached) no^J => 0[checking for inflate in -lz... (cached) no^JThis answer came from a cache. To ask again, remove its line there: ac_cv_lib_z_inflate^J][]
+ac_cv_search_f|checking for library containing f... ^J(cached) no^J => 0[checking for library containing f... (cached) no^JThis answer came from a cache. To ask again, remove its line there: ac_cv_search_f^J][]
+HAVE_DECL_X|checking whether x is declared... ^J(cached) no^J => 0[checking whether x is declared... (cached) no^JThis answer came from a cache. To ask again, remove its line there: ac_cv_have_decl_x^J][]
+HAVE_SIZE_T|checking for size_t... ^J(cached) no^J => 0[checking for size_t... (cached) no^JThis answer came from a cache. To ask again, remove its line there: ac_cv_func_size_t or ac_cv_type_size_t (of a program, ac_cv_prog_VARIABLE or ac_cv_path_VARIABLE)^J][]
+shell|checking shell... ^J(cached) no^J => 0[checking shell... (cached) no^JThis answer came from a cache. To ask again, remove its line there: the name that AC_CACHE_CHECK gives it^J][]
+// a check around another one: its own children, and the program that failed last
+working alloca|checking for working alloca... ^J$ cc 1^Jstatus 1^Jfailed program was:^J| int x^Jconfigure: note^Jchecking for alloca... ^J$ cc 2^Jstatus 0^Jyes^J$ cc 3^Jstatus 0^Jno^J => 0[checking for working alloca... no^Jchild 1:^J$ cc 1^Jstatus 1^Jchild 3:^J$ cc 3^Jstatus 0^Jfailed program was:^J| int x^J][]
+HAVE_ALLOCA|checking for working alloca... ^J$ cc 1^Jstatus 1^Jfailed program was:^J| int x^Jconfigure: note^Jchecking for alloca... ^J$ cc 2^Jstatus 0^Jyes^J$ cc 3^Jstatus 0^Jno^J => 0[checking for alloca... yes^Jchild 2:^J$ cc 2^Jstatus 0^J][]
+// a word that is nowhere, and what is nearest to it
+getlien|checking for getline... ^Jyes^Jchecking for a.h... ^Jno^J => 1[No check in the log is about getlien.^JThe nearest are:^J  checking for getline^J][]
+HAVE_SYS_STATS_H|checking for sys/stat.h... ^J$ cc -c conftest1.c^Ja.c:6:10: none^Jstatus 1^Jfailed program was:^J| #include <sys/stat.h>^Jno^Jchecking for sys/stat.h... ^J$ cc -c conftest1.c^Ja.c:6:10: none^Jstatus 1^Jfailed program was:^J| #include <sys/stat.h>^Jno^J => 1[No check in the log is about HAVE_SYS_STATS_H.^JThe nearest are:^J  checking for sys/stat.h^J][]
+gf9|checking for f10... ^Jno^Jchecking for f1... ^Jno^Jchecking for f2... ^Jno^Jchecking for f3... ^Jno^Jchecking for f4... ^Jno^Jchecking for f5... ^Jno^J => 1[No check in the log is about gf9.^JThe nearest are:^J  checking for f1^J  checking for f2^J  checking for f3^J  checking for f4^J  checking for f5^J][]
+qqqq|checking for a.h... ^Jno^J => 1[No check in the log is about qqqq.^J][]
+// no log, no file, and words that mean nothing
+a|hello => 2[][acrun: log config.log^J]
+a|hello^J => 2[][acrun: log config.log^J]
+a| => 2[][acrun: log config.log^J]
+a|checking for a... ^J$ cc^J => 2[][acrun: log config.log^J]
+a,missing| => 2[][acrun: file missing^J]
+a,.| => 2[][acrun: file .^J]
+| => 2[][acrun: usage^J]
+a,config.log,b| => 2[][acrun: usage^J]
+stat,config.log|checking for sys/stat.h... ^J$ cc -c conftest1.c^Ja.c:6:10: none^Jstatus 1^Jfailed program was:^J| #include <sys/stat.h>^Jno^J => 0[checking for sys/stat.h... no^Jchild 1:^J$ cc -c conftest1.c^Ja.c:6:10: none^Jstatus 1^Jfailed program was:^J| #include <sys/stat.h>^J][]
+";
+
+#[derive(Drop)]
+struct Whys<'a>(&'a HostRuntime);
+
+/// Adds the words of a text with commas between them. An empty text has none.
+fn add_words(page: &mut Page, words: &mut Vec<Bytes>, text: &[u8]) {
+    for piece in text.split(|byte| *byte == b',') {
+        if !piece.is_empty() {
+            let word = Bytes::from_slice(page.alloc(), piece);
+            if let Some(word) = page.given(word) {
+                if words.push(word).is_err() {
+                    page.cut();
+                }
+            }
+        }
+    }
+}
+
+fn put_answer(page: &mut Page, rt: &HostRuntime, words: &[Bytes]) {
+    let mut output = Vec::new(page.alloc());
+    let mut errors = Vec::new(page.alloc());
+    let status = run_why(page.alloc(), rt, words, &mut output, &mut errors);
+    page.put_number(usize::from(status));
+    page.put_text(output.as_slice());
+    page.put_text(errors.as_slice());
+}
+
+impl Call for Whys<'_> {
+    fn put(&self, page: &mut Page, given: &[u8]) {
+        let (words, log) = cut(given, b"|");
+        if fs::write(self.0, "config.log", log).is_err() {
+            page.put(b"no file");
+        }
+        let mut list = Vec::new(page.alloc());
+        add_words(page, &mut list, words);
+        put_answer(page, self.0, list.as_slice());
+    }
+}
+
+#[test]
+fn whys_of_answers(rt: HostRuntime) -> Result<(), Fail> {
+    try_rows_in(&rt, "whys_of_answers", &Whys(&rt), WHYS)
+}
