@@ -4,7 +4,7 @@ use crate::advice::definition_advice;
 use crate::given::{Given, add_name};
 use crate::saying::{joined, near_question, warn};
 use bstr::ByteSlice;
-use deftable::{Bytes, SubstList, is_shell_name};
+use deftable::{SubstList, is_shell_name};
 use findings::{Finding, Span};
 use std::alloc::{AllocError, Global};
 
@@ -125,23 +125,18 @@ pub fn warn_of_header(
     Ok(())
 }
 
-/// Adds the names that a template of a header undefines or defines.
-fn add_named(names: &mut SubstList, text: &[u8]) -> Result<(), AllocError> {
+/// Adds the names that the template of a header undefines or defines.
+///
+/// # Errors
+///
+/// Fails only if memory runs out.
+pub fn add_listed(names: &mut SubstList, text: &[u8]) -> Result<(), AllocError> {
     for line in text.split(|byte| *byte == b'\n') {
         if let Some((_, name)) = named(line, true) {
             add_name(names, name)?;
         }
     }
     Ok(())
-}
-
-/// Returns the names that the templates of headers undefine or define.
-fn names_in(alloc: Global, headers: &[Bytes]) -> Result<SubstList, AllocError> {
-    let mut names = SubstList::new(alloc);
-    for text in headers {
-        add_named(&mut names, text.as_slice())?;
-    }
-    Ok(names)
 }
 
 /// Returns where a source names a text first, or its start if it doesn't.
@@ -201,8 +196,7 @@ fn warn_of_definition(
     )
 }
 
-/// Adds a warning for each definition that a source may make and that none of these templates of headers has; none if there is no
-/// template (own).
+/// Adds a warning for each definition that a source may make and that is not listed by a template of a header (own).
 ///
 /// # Errors
 ///
@@ -211,15 +205,11 @@ pub fn warn_of_unlisted(
     alloc: Global,
     given: &Given,
     source: &[u8],
-    headers: &[Bytes],
+    listed: &SubstList,
     out: &mut Vec<Finding>,
 ) -> Result<(), AllocError> {
-    if headers.is_empty() {
-        return Ok(());
-    }
-    let names = names_in(alloc, headers)?;
     for name in given.defined.names() {
-        warn_of_definition(alloc, &names, source, name.as_slice(), out)?;
+        warn_of_definition(alloc, listed, source, name.as_slice(), out)?;
     }
     Ok(())
 }

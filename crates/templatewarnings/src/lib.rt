@@ -21,4 +21,4 @@ mod saying;
 
 pub use files::warn_of_file;
 pub use given::Given;
-pub use headers::{warn_of_header, warn_of_unlisted};
+pub use headers::{add_listed, warn_of_header, warn_of_unlisted};
