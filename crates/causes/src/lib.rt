@@ -10,13 +10,18 @@
 //!
 //! "own" marks a rule that no manual gives.
 //!
-//! Read `specs/Shown.antt` first, and then `showing`, `words` and `known`.
+//! Read `specs/Shown.antt` first, and then `showing`, `words` and `known`. [`Cause`], in `cause`, is a line that may not be known, and
+//! [`CauseList`], in `list`, keeps the first ones; `specs/Known.antt` defines which of them is that of a child.
 #![tactic(auto)]
 
+mod cause;
 mod known;
+mod list;
 mod showing;
 mod words;
 
+pub use cause::Cause;
 pub use known::Causes;
+pub use list::CauseList;
 pub use showing::shown;
 pub use words::{line_of, words_of};

@@ -4,7 +4,7 @@ use Rattle.std.specs.Prelude.{remove, All}
 use Rattle.std.proofs.lemmas.Bool.{cases_eq}
 use Rattle.std.proofs.lemmas.Bool.Decides.{nat_tests}
 use Rattle.std.proofs.lemmas.List.Sums.{fold-append}
-use Rattle.std.proofs.lemmas.List.Elements.{All-push}
+use Rattle.std.proofs.lemmas.List.Elements.{All-push, All-cons}
 use Rattle.jobs.specs.declared.job.Job.{Job}
 use Rattle.crew_trait.specs.declared.reply.Reply.{Reply}
 use Rattle.crew_trait.specs.declared.event.CrewEvent.{CrewEvent}
@@ -86,28 +86,60 @@ lists_end xs xs' es es' i slot reply number h lt is xs_is es_is =
           (cases_eq slot s);
     }
 
--- the slots in flight after a start, and after the oldest child's end
+-- the slots in flight after a start, and after an end
 pub slots_start : (xs xs' : List ℕ) (es es' : List CrewEvent) (slot : ℕ) (job : Job) (number : ℕ) → xs ≡ slots_in_flight es → xs' ≡ xs ++ slot ∷ [] → es' ≡ es ++ Started slot job number ∷ [] → xs' ≡ slots_in_flight es'
 slots_start xs xs' es es' slot job number flying more is =
     more ∙ ap (λ v. v ++ slot ∷ []) flying ∙ sym (ap slots_in_flight is ∙ fold-append slots_after [] es (Started slot job number ∷ []))
 
-without_first : (s : ℕ) (rest : List ℕ) → without_slot s (s ∷ rest) ≡ rest
-without_first s rest = let y : eqb s s ≡ true = grind (arith, nat_tests) in ap (λ b. cond b rest (s ∷ without_slot s rest)) y
+false_if : (b : Bool) (n : ℕ) → cond b 1 0 + n ≤ 1 → 1 ≤ n → b ≡ false
+false_if true n most some = absurd (omega arith)
+false_if false n most some = refl
 
-pub slots_end : (xs xs' : List ℕ) (es es' : List CrewEvent) (slot : ℕ) (reply : Reply) (number : ℕ) → xs ≡ slots_in_flight es → xs ≡ slot ∷ xs' → es' ≡ es ++ Ended slot reply number ∷ [] → xs' ≡ slots_in_flight es'
-slots_end xs xs' es es' slot reply number flying first is =
-    sym (ap slots_in_flight is ∙ fold-append slots_after [] es (Ended slot reply number ∷ []) ∙ ap (λ v. without_slot slot v) (sym flying ∙ first) ∙ without_first slot xs')
+one_most : (b : Bool) → cond b 1 0 ≤ 1
+one_most true = omega arith
+one_most false = omega arith
 
--- the same for the list of busy slots, if the first child ends
-pub lists_first : (xs xs' : List ℕ) (es es' : List CrewEvent) (slot : ℕ) (reply : Reply) (number : ℕ) → ListsBusy xs es → xs ≡ slot ∷ xs' → es' ≡ es ++ Ended slot reply number ∷ [] → ListsBusy xs' es'
-lists_first xs xs' es es' slot reply number h first is =
-    lists_end xs xs' es es' 0 slot reply number h (omega (arith, ap length first)) (sym (ap (λ v. get_or v 0 slot) first)) (sym (ap (λ v. remove v 0) first)) is
+-- a slot that occurs once is removed where it is
+without_at : (xs : List ℕ) (i x : ℕ) → i < length xs → x ≡ get_or xs i x → times x xs ≤ 1 → without_slot x xs ≡ remove xs i
+without_at [] i x lt is once = absurd (omega arith)
+without_at (y ∷ xs) zero x lt is once = let e : eqb y x ≡ true = grind (arith, nat_tests) in ap (λ b. cond b xs (y ∷ without_slot x xs)) e
+without_at (y ∷ xs) (suc i) x lt is once =
+    let gone = times-remove x xs i x (omega arith) is in
+    let same : eqb x x ≡ true = grind (arith, nat_tests) in
+    let one : one_if (eqb x x) ≡ 1 = ap one_if same in
+    let some : 1 ≤ times x xs = omega (arith, gone, one) in
+    let other : eqb y x ≡ false = false_if (eqb y x) (times x xs) once some in
+    ap (λ b. cond b xs (y ∷ without_slot x xs)) other ∙ ap (λ t. y ∷ t) (without_at xs i x (omega arith) is (omega (arith, once)))
 
-pub first_busy : (xs xs' : List ℕ) (es : List CrewEvent) (slot : ℕ) → ListsBusy xs es → xs ≡ slot ∷ xs' → busy slot es ≡ true
-first_busy xs xs' es slot h first = lists_busy xs es 0 slot h (omega (arith, ap length first)) (sym (ap (λ v. get_or v 0 slot) first))
+pub slots_end : (xs xs' : List ℕ) (es es' : List CrewEvent) (i slot : ℕ) (reply : Reply) (number : ℕ) → xs ≡ slots_in_flight es → ListsBusy xs es
+    → i < length xs → slot ≡ get_or xs i slot → xs' ≡ remove xs i → es' ≡ es ++ Ended slot reply number ∷ [] → xs' ≡ slots_in_flight es'
+slots_end xs xs' es es' i slot reply number flying h lt at xs_is is =
+    let once : times slot xs ≤ 1 = omega (arith, h.each slot, one_most (busy slot es)) in
+    xs_is ∙ sym (ap slots_in_flight is ∙ fold-append slots_after [] es (Ended slot reply number ∷ []) ∙ ap (λ v. without_slot slot v) (sym flying) ∙ without_at xs i slot lt at once)
 
-pub below_rest : (xs : List ℕ) (s : ℕ) (rest : List ℕ) → xs ≡ s ∷ rest → All (λ x. x < 16) xs → All (λ x. x < 16) rest
-below_rest xs s rest is h = let all : All (λ x. x < 16) (s ∷ rest) = subst (All (λ x. x < 16)) is h in λ k d lt. all (suc k) d (omega arith)
+taken : (xs xs' : List ℕ) (slot : ℕ) → 0 < length xs → slot ≡ get_or xs 0 slot → xs' ≡ remove xs 0 → xs ≡ slot ∷ xs'
+taken [] xs' slot lt at is = absurd (omega arith)
+taken (x ∷ xs) xs' slot lt at is = ap (λ s. s ∷ xs) (sym at) ∙ ap (λ t. slot ∷ t) (sym is)
+
+-- the first slot, and those that are left without it
+pub first_and_rest : (xs xs' : List ℕ) (i slot : ℕ) → i < length xs → slot ≡ get_or xs i slot → xs' ≡ remove xs i → i ≡ 0 → xs ≡ slot ∷ xs'
+first_and_rest xs xs' i slot lt at xs_is none = taken xs xs' slot (omega arith) (at ∙ ap (λ k. get_or xs k slot) none) (xs_is ∙ ap (remove xs) none)
+
+-- the place of the oldest is one of those in use
+in_use : (xs : List ℕ) (es : List CrewEvent) (place : ℕ) → ListsBusy xs es → IsSomeBusy es → (0 < place → place < length xs) → place < length xs
+in_use xs es place h some later = ⊎_elim (λ none. omega (arith, none, lists_some xs es h some)) (λ other. later (omega (arith, other))) (cases_eq place 0)
+
+pub place_within : (xs : List ℕ) (es es0 : List CrewEvent) (place : ℕ) → xs ≡ slots_in_flight es → ListsBusy xs es → es ≡ es0 → IsSomeBusy es0
+    → (0 < place → place < length (slots_in_flight es0)) → place < length xs
+place_within xs es es0 place flying h same some later =
+    let len : length xs ≡ length (slots_in_flight es0) = ap length flying ∙ ap (λ e. length (slots_in_flight e)) same in
+    in_use xs es place h (subst IsSomeBusy (sym same) some) (λ p. omega (arith, later p, len))
+
+pub below_rest : (xs : List ℕ) (i : ℕ) → All (λ x. x < 16) xs → All (λ x. x < 16) (remove xs i)
+below_rest [] zero h = h
+below_rest [] (suc i) h = h
+below_rest (x ∷ xs) zero h = λ k d lt. h (suc k) d (omega arith)
+below_rest (x ∷ xs) (suc i) h = All-cons (λ x. x < 16) x (remove xs i) (h 0 x (omega arith)) (below_rest xs i (λ k d lt. h (suc k) d (omega arith)))
 
 pub below_push : (xs : List ℕ) (s : ℕ) → All (λ x. x < 16) xs → s < 16 → All (λ x. x < 16) (xs ++ s ∷ [])
 below_push xs s h lt = All-push (λ x. x < 16) xs s h lt

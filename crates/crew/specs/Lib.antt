@@ -1,6 +1,5 @@
 pub mod Child
-pub mod Ending
 pub mod Fused
-pub mod Launch
+pub mod Runs
 pub mod Scripted
 pub mod Sound

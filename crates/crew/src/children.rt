@@ -1,19 +1,20 @@
 //! A crew of real children that a launcher starts.
 
-ghost use Rattle.std.specs.Prelude.{◌≡◌, ◌≢◌, ◌⊎◌, ◌+◌, ◌^◌, ◌<◌, ◌≤◌, [], ◌∷◌, ◌++◌, true, false, IfOk, IsSome, All, length, vec_capacity, vec_len};
-ghost use Rattle.std.specs.Bool.{OnFalse, OnTrue};
+ghost use Rattle.std.specs.Prelude.{◌≡◌, ◌≢◌, ◌⊎◌, ◌+◌, ◌^◌, ◌<◌, ◌≤◌, [], ◌∷◌, ◌++◌, true, false, IfOk, IsSome, OnErr, OnOk, All, get_or, length, remove, vec_capacity, vec_len};
+ghost use Rattle.std.specs.Bool.{OnTrue};
 ghost use Rattle.std.specs.VecDeque.{deque_capacity};
 ghost use Rattle.crew_trait.specs.Events.{IsSomeBusy, busy, failure_of, slots_in_flight};
-ghost use Rattle.crew.specs.Launch.{Adds, Runs, failing, launch};
+ghost use Rattle.crew.specs.Runs.{Runs};
+ghost use Rattle.launching.specs.Launch.{Adds, failing, launch};
 ghost use Rattle.crew_trait.specs.declared.reply.Reply.TheVariants.{StartRefused};
 ghost use Rattle.crew_trait.specs.declared.event.CrewEvent.TheVariants.{Started, Ended};
 
-use crate::child::{ended, is_started};
 use crate::failures::{failures_after, refusal};
-use crate::launcher::Launcher;
 use crate::room::put;
+use causes::{Cause, CauseList, Causes};
 use crew_trait::{Crew, CrewEvent, Refused, Reply};
 use jobs::Job;
+use launching::{Launcher, end_child, start_child};
 use std::alloc::{AllocError, Global};
 use std::collections::VecDeque;
 use std::marker::Model;
@@ -32,12 +33,13 @@ pub(crate) struct Children<L: Launcher + Drop> {
     events: Vec<CrewEvent>,
     attempts: u64,
     failures: u64,
+    causes: CauseList,
 }
 
 impl<L: Launcher + Drop> Model for Children<L> {
     ghost use Rattle.std.specs.Prelude.{◌≡◌, ◌+◌, ◌≤◌, ◌<◌, vec_len, vec_capacity, All, length};
     ghost use Rattle.crew_trait.specs.Events.{Account, slots_in_flight};
-    ghost use Rattle.crew.specs.Launch.{Runs};
+    ghost use Rattle.crew.specs.Runs.{Runs};
     ghost use Rattle.crew.specs.Sound.{ListsBusy};
 
     ghost Value = { Account };
@@ -67,7 +69,54 @@ impl<L: Launcher + Drop> Children<L> {
             events: Vec::new(alloc),
             attempts: 0,
             failures: 0,
+            causes: CauseList::new(alloc),
         })
+    }
+
+    /// Returns the place of the first child that has ended, in the order in which they were started, or 0 if none has.
+    ///
+    /// It looks once at each child, and waits for none.
+    pub(crate) fn place_of_ended(&mut self) -> usize
+        requires { IsSomeBusy self.old.events }
+        ensures within { result < length (slots_in_flight self.new.events) }
+        ensures same { self.new ≡ self.old }
+    {
+        place_of_ended(self.children.as_mut_slice(), &self.slots)
+    }
+
+    /// Waits for the end of the child in a place, counted from 0 in the order in which the children in flight were started. Frees its
+    /// slot, and returns the slot with the reply.
+    pub(crate) fn end_at(&mut self, place: usize) -> (usize, Reply)
+        requires flying { IsSomeBusy self.old.events }
+        requires place { 0 < place → place < length (slots_in_flight self.old.events) }
+        requires failures { self.old.failures < 2 ^ 62 }
+        ensures was_busy { busy result.0 self.old.events ≡ true }
+        ensures ended { self.new.events ≡ self.old.events ++ Ended result.0 result.1 self.old.attempts ∷ [] }
+        ensures number { self.new.attempts ≡ self.old.attempts }
+        ensures reply { result.1 ≢ StartRefused }
+        ensures count { self.new.failures ≡ self.old.failures + failure_of result.1 }
+        ensures slot { result.0 ≡ get_or (slots_in_flight self.old.events) place result.0 }
+        ensures others { slots_in_flight self.new.events ≡ remove (slots_in_flight self.old.events) place }
+        ensures oldest { place ≡ 0 → slots_in_flight self.old.events ≡ result.0 ∷ slots_in_flight self.new.events }
+    {
+        let slot = take_slot(&mut self.slots, place);
+        let (reply, kept, cause) = end_of(self.alloc, self.children[slot].take());
+        self.failures = failures_after(&reply, self.failures);
+        let child = number_of(self.events.as_slice(), slot);
+        self.causes.put(child, cause);
+        let end = CrewEvent::Ended {
+            slot,
+            reply: kept,
+            number: self.attempts,
+        };
+        put(&mut self.events, end);
+        (slot, reply)
+    }
+}
+
+impl<L: Launcher + Drop> Causes for Children<L> {
+    fn cause(&self, child: u64) -> Option<&[u8]> {
+        self.causes.cause(child)
     }
 }
 
@@ -77,7 +126,7 @@ impl<L: Launcher + Drop> Crew for Children<L> {
     fn start(&mut self, slot: usize, job: Job) -> Result<(), Refused> {
         self.attempts += 1;
         let child = &mut self.children[slot];
-        if !is_launched(
+        if let Err(cause) = launched(
             &mut self.launcher,
             self.alloc,
             &mut self.events,
@@ -85,6 +134,7 @@ impl<L: Launcher + Drop> Crew for Children<L> {
             &job,
             child,
         ) {
+            self.causes.put(self.attempts, cause);
             return Err(refusal(&mut self.failures));
         }
         let number = self.attempts;
@@ -103,16 +153,7 @@ impl<L: Launcher + Drop> Crew for Children<L> {
         ensures count { self.new.failures ≡ self.old.failures + failure_of result.1 }
         ensures oldest { slots_in_flight self.old.events ≡ result.0 ∷ slots_in_flight self.new.events }
     {
-        let slot = oldest(&mut self.slots);
-        let (reply, kept) = end_of(self.alloc, self.children[slot].take());
-        self.failures = failures_after(&reply, self.failures);
-        let end = CrewEvent::Ended {
-            slot,
-            reply: kept,
-            number: self.attempts,
-        };
-        put(&mut self.events, end);
-        (slot, reply)
+        self.end_at(0)
     }
 }
 
@@ -127,52 +168,97 @@ fn no_children<P: OpenProcess + Drop>(alloc: Global) -> Result<Vec<Option<Child<
     Ok(children)
 }
 
-/// Waits for a child, and returns its reply twice.
-fn end_of<P: OpenProcess + Drop>(alloc: Global, child: Option<Child<P>>) -> (Reply, Reply)
+/// Waits for a child. Returns its reply twice, and why its end was refused.
+fn end_of<P: OpenProcess + Drop>(alloc: Global, child: Option<Child<P>>) -> (Reply, Reply, Cause)
     ensures same { result.1 ≡ result.0 }
     ensures answer { result.0 ≢ StartRefused }
 {
     match child {
-        Some(mut child) => doubled(alloc, ended(alloc, &mut child)),
-        None => (Reply::EndRefused, Reply::EndRefused),
+        Some(mut child) => doubled(alloc, end_child(alloc, &mut child)),
+        None => (Reply::EndRefused, Reply::EndRefused, Cause::unknown()),
     }
 }
 
-/// Returns a reply twice. If memory runs out, both are [`Reply::EndRefused`].
-fn doubled(alloc: Global, reply: Reply) -> (Reply, Reply)
-    requires { reply ≢ StartRefused }
+/// Returns a reply twice, and its cause. If memory runs out, both are [`Reply::EndRefused`].
+fn doubled(alloc: Global, end: (Reply, Cause)) -> (Reply, Reply, Cause)
+    requires { end.0 ≢ StartRefused }
     ensures same { result.1 ≡ result.0 }
     ensures answer { result.0 ≢ StartRefused }
 {
+    let (reply, cause) = end;
     match reply.copy(alloc) {
-        Ok(kept) => (reply, kept),
-        Err(_) => (Reply::EndRefused, Reply::EndRefused),
+        Ok(kept) => (reply, kept, cause),
+        Err(_) => {
+            let cause = Cause::of_words(alloc, b"read", b"out of memory");
+            (Reply::EndRefused, Reply::EndRefused, cause)
+        }
     }
 }
 
-/// Reserves room for the records of a start, and starts the child. Returns whether it was started.
-fn is_launched<L: Launcher>(
+/// Returns the number of the child that was started last in a slot, or 0 if none was.
+fn number_of(events: &[CrewEvent], slot: usize) -> u64 {
+    for event in events.iter().rev() {
+        match event {
+            CrewEvent::Started {
+                slot: of,
+                number,
+                ..
+            } if *of == slot => return *number,
+            _ => {}
+        }
+    }
+    0
+}
+
+/// Returns the place of the first child that has ended, or 0 if none has.
+fn place_of_ended<P: OpenProcess + Drop>(
+    children: &mut [Option<Child<P>>],
+    slots: &VecDeque<usize>,
+) -> usize
+    requires some { 0 < length slots.now.items }
+    requires within { All (λ s. s < 16) slots.now.items }
+    requires children { length children.old ≡ 16 }
+    ensures { result < length slots.now.items }
+{
+    for place in 0..slots.len() {
+        if has_ended(&mut children[slots[place]]) {
+            return place;
+        }
+    }
+    0
+}
+
+/// Returns whether a child has ended, without waiting for it.
+fn has_ended<P: OpenProcess + Drop>(child: &mut Option<Child<P>>) -> bool {
+    match child {
+        Some(child) => matches!(child.try_wait(), Ok(Some(_))),
+        None => false,
+    }
+}
+
+/// Reserves room for the records of a start, and starts the child.
+fn launched<L: Launcher>(
     launcher: &mut L,
     alloc: Global,
     events: &mut Vec<CrewEvent>,
     slots: &mut VecDeque<usize>,
     job: &Job,
     child: &mut Option<Child<L::Process>>,
-) -> bool
-    ensures taken { OnTrue result (Adds (L.calls launcher.old) (L.calls launcher.new) (launch job.now)) }
-    ensures child { OnTrue result (IsSome child.new) }
-    ensures refused { OnFalse result (Adds (L.calls launcher.old) (L.calls launcher.new) []
+) -> Result<(), Cause>
+    ensures taken { OnOk result (Adds (L.calls launcher.old) (L.calls launcher.new) (launch job.now)) }
+    ensures child { OnOk result (IsSome child.new) }
+    ensures refused { OnErr result (Adds (L.calls launcher.old) (L.calls launcher.new) []
         ⊎ Adds (L.calls launcher.old) (L.calls launcher.new) (failing job.now)) }
     ensures events { events.new.items ≡ events.old.items }
     ensures slots { slots.new.items ≡ slots.old.items }
     ensures grown { vec_capacity events.old ≤ vec_capacity events.new }
-    ensures room { OnTrue result (length events.new.items + length slots.new.items + 2 ≤ vec_capacity events.new) }
-    ensures slot { OnTrue result (length slots.new.items < deque_capacity slots.new) }
+    ensures room { OnOk result (length events.new.items + length slots.new.items + 2 ≤ vec_capacity events.new) }
+    ensures slot { OnOk result (length slots.new.items < deque_capacity slots.new) }
 {
     if !make_room(events, slots) {
-        return false;
+        return Err(Cause::of_words(alloc, b"start", b"out of memory"));
     }
-    is_started(launcher, alloc, job, child)
+    start_child(launcher, alloc, job, child)
 }
 
 /// Reserves room for the event of a start, and for the ends of its child and of those in flight. Returns whether there is room.
@@ -198,12 +284,13 @@ fn put_slot(slots: &mut VecDeque<usize>, slot: usize)
     pushed.unwrap();
 }
 
-fn oldest(slots: &mut VecDeque<usize>) -> usize
-    requires some { 0 < length slots.old.items }
+fn take_slot(slots: &mut VecDeque<usize>, place: usize) -> usize
+    requires place { place < length slots.old.items }
     requires within { All (λ s. s < 16) slots.old.items }
-    ensures first { slots.old.items ≡ result ∷ slots.new.items }
-    ensures slot { result < 16 }
+    ensures slot { result ≡ get_or slots.old.items place result }
+    ensures others { slots.new.items ≡ remove slots.old.items place }
+    ensures low { result < 16 }
     ensures within { All (λ s. s < 16) slots.new.items }
 {
-    slots.pop_front().unwrap()
+    slots.remove(place).unwrap()
 }

@@ -8,6 +8,7 @@ ghost use Rattle.crew.specs.declared.fused.FuseKind.TheVariants.{Start, End};
 ghost use Rattle.crew_trait.specs.declared.reply.Reply.TheVariants.{EndRefused, StartRefused};
 ghost use Rattle.crew_trait.specs.declared.event.CrewEvent.TheVariants.{Started, Ended};
 
+use causes::Causes;
 use crew_trait::{Crew, Refused, Reply};
 use jobs::Job;
 use std::marker::Model;
@@ -127,6 +128,16 @@ impl<C: Crew + Drop> Crew for Fused<C> {
         }
         count(&mut self.later);
         (slot, reply)
+    }
+}
+
+impl<C: Crew + Causes + Drop> Causes for Fused<C> {
+    /// Returns what the crew inside knows. After a start that it didn't see nothing is known, because it counts its children otherwise.
+    fn cause(&self, child: u64) -> Option<&[u8]> {
+        match (self.kind, self.later) {
+            (FuseKind::Start, Some(_)) => None,
+            _ => self.inner.cause(child),
+        }
     }
 }
 

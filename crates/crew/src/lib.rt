@@ -1,6 +1,6 @@
 //! Crews: they run the jobs of a configure run as child processes, several at once.
 //!
-//! The crate `crew_trait` says what a crew is. This one has three.
+//! The crate `crew_trait` says what a crew is. This one has four.
 //!
 //! ```text
 //! let mut crew = ProcessCrew::new(rt, alloc)?;
@@ -12,31 +12,30 @@
 //!
 //! [`MemoryCrew`], in `memory`, is a crew for tests. It answers from a list of replies, in a given `order`, and lists its
 //! calls (`event`); `specs/Scripted.antt` defines the effect of each call, and `flight` is one of its children.
-//! [`ProcessCrew`], in `process`, starts real children. `launcher` writes its files and starts its commands, in two short
-//! functions that only tests check; what the crew asks of a launcher is proved for every launcher. `specs/Launch.antt`
-//! defines these requests for a job, and `specs/Ending.antt` the reply at the end of a child. `children` keeps the
-//! account, and uses `child` and `diagnostics`. Both crews use `failures`, which counts refused calls, and `room`.
+//! [`ProcessCrew`], in `process`, and [`ReadyCrew`], in `ready`, start real children by the crate `launching`. They differ in which
+//! child `next` ends. `children` keeps their account, and why calls were refused; `specs/Runs.antt` defines the jobs that were started.
+//! All crews use `failures`, which counts refused calls, and `room`.
 //!
 //! [`Fused`], in `fused`, is a crew around any other crew, for tests: it refuses one start or one end. `specs/Fused.antt`
 //! defines its account by the account of the crew inside.
 #![tactic(auto)]
 
-mod child;
 mod children;
-mod diagnostics;
 mod event;
 mod failures;
 mod flight;
 mod fused;
-mod launcher;
 mod memory;
 mod order;
 mod process;
+mod ready;
 mod room;
 
+pub use causes::Causes;
 pub use crew_trait::{Crew, CrewEvent, Entry, Log, Refused, Reply};
 pub use event::Event;
 pub use fused::{FuseKind, Fused};
 pub use memory::MemoryCrew;
 pub use order::{Order, SlotList};
 pub use process::ProcessCrew;
+pub use ready::ReadyCrew;

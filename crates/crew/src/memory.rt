@@ -10,6 +10,7 @@ use crate::failures::{failures_after, refusal};
 use crate::flight::Flight;
 use crate::order::{Order, next_place};
 use crate::room::put;
+use causes::Causes;
 use crew_trait::{Crew, CrewEvent, Refused, Reply};
 use jobs::Job;
 use std::alloc::{AllocError, Global};
@@ -209,5 +210,12 @@ impl Crew for MemoryCrew {
         };
         put(&mut self.events, end);
         (slot, reply)
+    }
+}
+
+impl Causes for MemoryCrew {
+    /// Returns nothing, because the list of replies has no causes.
+    fn cause(&self, _child: u64) -> Option<&[u8]> {
+        None
     }
 }

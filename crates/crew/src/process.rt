@@ -6,9 +6,10 @@ ghost use Rattle.crew_trait.specs.declared.reply.Reply.TheVariants.{StartRefused
 ghost use Rattle.crew_trait.specs.declared.event.CrewEvent.TheVariants.{Ended};
 
 use crate::children::Children;
-use crate::launcher::Host;
+use causes::Causes;
 use crew_trait::{Crew, Refused, Reply};
 use jobs::Job;
+use launching::Host;
 use std::alloc::{AllocError, Global};
 use std::marker::Model;
 use std::process::Processes;
@@ -82,5 +83,11 @@ impl<R: Files + Processes + Drop> Crew for ProcessCrew<R> {
         ensures oldest { slots_in_flight self.old.events ≡ result.0 ∷ slots_in_flight self.new.events }
     {
         self.children.next()
+    }
+}
+
+impl<R: Files + Processes + Drop> Causes for ProcessCrew<R> {
+    fn cause(&self, child: u64) -> Option<&[u8]> {
+        self.children.cause(child)
     }
 }

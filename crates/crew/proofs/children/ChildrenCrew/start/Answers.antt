@@ -10,22 +10,22 @@ use Rattle.crew.proofs.children.ChildrenCrew.start.Goals as goal
 pub invariant_of-self-2 : goal.invariant_of-self-2
 invariant_of-self-2 g c =
     let free = ap (λ m. busy c.args.slot m.events) c.self.view_is ∙ c.requires.free in
-    let events = moved _ _ _ _ c.put.ensures.items c.is_launched.ensures.events in
-    let slots = moved _ _ _ _ c.put_slot.ensures c.is_launched.ensures.slots in
-    let order : c.put_slot.new.slots.items ≡ slots_in_flight c.put.new.list.items = slots_start c.self.inside.slots.items _ c.self.inside.events.items _ c.args.slot _ _ c.self.invariant.1 slots events in
-    let lists : ListsBusy c.put_slot.new.slots.items c.put.new.list.items = lists_start c.self.inside.slots.items _ c.self.inside.events.items _ c.args.slot _ _ c.self.invariant.2 free slots events in
+    let events = moved _ _ _ _ c.put-2.ensures.items c.launched.ensures.events in
+    let slots = moved _ _ _ _ c.put_slot.ensures c.launched.ensures.slots in
+    let order : c.put_slot.new.slots.items ≡ slots_in_flight c.put-2.new.list.items = slots_start c.self.inside.slots.items _ c.self.inside.events.items _ c.args.slot _ _ c.self.invariant.1 slots events in
+    let lists : ListsBusy c.put_slot.new.slots.items c.put-2.new.list.items = lists_start c.self.inside.slots.items _ c.self.inside.events.items _ c.args.slot _ _ c.self.invariant.2 free slots events in
     let within : All (λ x. x < 16) c.put_slot.new.slots.items = subst (All (λ x. x < 16)) (sym slots) (below_push _ _ c.self.invariant.3 c.requires.slot) in
-    let n : length c.put_slot.new.slots.items ≡ length c.is_launched.new.slots.items + 1 = ap length c.put_slot.ensures ∙ length-append _ _ in
-    let m : length c.put.new.list.items ≡ length c.is_launched.new.events.items + 1 = ap length c.put.ensures.items ∙ length-append _ _ in
-    let room : length c.put.new.list.items + length c.put_slot.new.slots.items ≤ vec_capacity c.put.new.list = omega (arith, n, m, c.if-not-is_launched.ensures.room, c.put.ensures.room) in
-    (c.self.invariant.0, order, lists, within, room, runs_started _ _ _ _ _ _ _ _ c.self.invariant.5 c.if-not-is_launched.ensures.taken refl events)
+    let n : length c.put_slot.new.slots.items ≡ length c.launched.new.slots.items + 1 = ap length c.put_slot.ensures ∙ length-append _ _ in
+    let m : length c.put-2.new.list.items ≡ length c.launched.new.events.items + 1 = ap length c.put-2.ensures.items ∙ length-append _ _ in
+    let room : length c.put-2.new.list.items + length c.put_slot.new.slots.items ≤ vec_capacity c.put-2.new.list = omega (arith, n, m, c.in_default.ensures.room, c.put-2.ensures.room) in
+    (c.self.invariant.0, order, lists, within, room, runs_started _ _ _ _ _ _ _ _ c.self.invariant.5 c.in_default.ensures.taken refl events)
 
 pub invariant_of-self : goal.invariant_of-self
 invariant_of-self g c =
-    let events = c.is_launched.ensures.events in
-    let slots = c.is_launched.ensures.slots in
-    let order : c.is_launched.new.slots.items ≡ slots_in_flight c.is_launched.new.events.items = slots ∙ c.self.invariant.1 ∙ sym (ap slots_in_flight events) in
-    let lists : ListsBusy c.is_launched.new.slots.items c.is_launched.new.events.items = lists_same _ _ _ _ c.self.invariant.2 slots events in
-    let within : All (λ x. x < 16) c.is_launched.new.slots.items = subst (All (λ x. x < 16)) (sym slots) c.self.invariant.3 in
-    let room : length c.is_launched.new.events.items + length c.is_launched.new.slots.items ≤ vec_capacity c.is_launched.new.events = omega (arith, c.self.invariant.4, ap length events, ap length slots, c.is_launched.ensures.grown) in
-    (c.self.invariant.0, order, lists, within, room, runs_refused _ _ _ _ c.args.job c.self.invariant.5 c.if-not-is_launched.ensures.refused events)
+    let events = c.launched.ensures.events in
+    let slots = c.launched.ensures.slots in
+    let order : c.launched.new.slots.items ≡ slots_in_flight c.launched.new.events.items = slots ∙ c.self.invariant.1 ∙ sym (ap slots_in_flight events) in
+    let lists : ListsBusy c.launched.new.slots.items c.launched.new.events.items = lists_same _ _ _ _ c.self.invariant.2 slots events in
+    let within : All (λ x. x < 16) c.launched.new.slots.items = subst (All (λ x. x < 16)) (sym slots) c.self.invariant.3 in
+    let room : length c.launched.new.events.items + length c.launched.new.slots.items ≤ vec_capacity c.launched.new.events = omega (arith, c.self.invariant.4, ap length events, ap length slots, c.launched.ensures.grown) in
+    (c.self.invariant.0, order, lists, within, room, runs_refused _ _ _ _ c.args.job c.self.invariant.5 c.in-Err.ensures.refused events)

@@ -1,0 +1,55 @@
+use Rattle.std.proofs.Common.{◌≡◌, ◌+◌, ◌≤◌, ◌<◌, ◌∷◌, length, vec_capacity, ap, sym, ◌∙◌, arith, length-append}
+use Rattle.std.specs.Prelude.{remove}
+use Rattle.std.proofs.lemmas.List.Edits.{length-remove}
+use Rattle.crew_trait.specs.Events.{busy, slots_in_flight}
+use Rattle.crew.specs.Sound.{ListsBusy}
+use Rattle.crew.proofs.ChildLemmas.{runs_ended}
+use Rattle.crew.proofs.SlotLemmas.{lists_end, lists_busy, slots_end, place_within, first_and_rest}
+use Rattle.crew.proofs.children.Children.end_at.Goals as goal
+
+pub take_slot-slot-requires-clause-place : goal.take_slot-slot-requires-clause-place
+take_slot-slot-requires-clause-place g c =
+    place_within c.self.inside.slots.items c.self.inside.events.items _ _ c.self.invariant.1 c.self.invariant.2 (ap (λ m. m.events) c.self.view_is) c.requires.flying c.requires.place
+
+pub put-requires-2 : goal.put-requires-2
+put-requires-2 g c =
+    let within = place_within c.self.inside.slots.items c.self.inside.events.items _ _ c.self.invariant.1 c.self.invariant.2 (ap (λ m. m.events) c.self.view_is) c.requires.flying c.requires.place in
+    omega (arith, within, c.self.invariant.4)
+
+pub invariant_of-self : goal.invariant_of-self
+invariant_of-self g c =
+    let xs = c.self.inside.slots.items in
+    let es = c.self.inside.events.items in
+    let slot = c.take_slot-slot.result in
+    let at = c.take_slot-slot.ensures.slot in
+    let others = c.take_slot-slot.ensures.others in
+    let within : c.args.place < length xs = place_within xs es _ _ c.self.invariant.1 c.self.invariant.2 (ap (λ m. m.events) c.self.view_is) c.requires.flying c.requires.place in
+    let order : c.take_slot-slot.new.slots.items ≡ slots_in_flight c.put-2.new.list.items = slots_end xs _ es _ c.args.place slot _ _ c.self.invariant.1 c.self.invariant.2 within at others c.put-2.ensures.items in
+    let lists : ListsBusy c.take_slot-slot.new.slots.items c.put-2.new.list.items = lists_end xs _ es _ c.args.place slot _ _ c.self.invariant.2 within at others c.put-2.ensures.items in
+    let m : length c.put-2.new.list.items ≡ length es + 1 = ap length c.put-2.ensures.items ∙ length-append _ _ in
+    let n : length c.take_slot-slot.new.slots.items + 1 ≡ length xs = ap (λ l. length l + 1) others ∙ length-remove xs c.args.place within in
+    let room : length c.put-2.new.list.items + length c.take_slot-slot.new.slots.items ≤ vec_capacity c.put-2.new.list = omega (arith, c.self.invariant.4, m, n, c.put-2.ensures.room) in
+    (c.self.invariant.0, order, lists, c.take_slot-slot.ensures.within, room, runs_ended _ _ _ _ _ _ c.self.invariant.5 c.put-2.ensures.items)
+
+pub returns-clause-was_busy : goal.returns-clause-was_busy
+returns-clause-was_busy g c =
+    let xs = c.self.inside.slots.items in
+    let within : c.args.place < length xs = place_within xs c.self.inside.events.items _ _ c.self.invariant.1 c.self.invariant.2 (ap (λ m. m.events) c.self.view_is) c.requires.flying c.requires.place in
+    ap (λ m. busy c.take_slot-slot.result m.events) (sym c.self.view_is) ∙ lists_busy xs c.self.inside.events.items c.args.place c.take_slot-slot.result c.self.invariant.2 within c.take_slot-slot.ensures.slot
+
+pub returns-clause-others : goal.returns-clause-others
+returns-clause-others g c =
+    let xs = c.self.inside.slots.items in
+    let es = c.self.inside.events.items in
+    let within : c.args.place < length xs = place_within xs es _ _ c.self.invariant.1 c.self.invariant.2 (ap (λ m. m.events) c.self.view_is) c.requires.flying c.requires.place in
+    let order : c.take_slot-slot.new.slots.items ≡ slots_in_flight c.put-2.new.list.items = slots_end xs _ es _ c.args.place c.take_slot-slot.result _ _ c.self.invariant.1 c.self.invariant.2 within c.take_slot-slot.ensures.slot c.take_slot-slot.ensures.others c.put-2.ensures.items in
+    sym order ∙ c.take_slot-slot.ensures.others ∙ ap (λ s. remove s c.args.place) (c.self.invariant.1 ∙ ap (λ m. slots_in_flight m.events) c.self.view_is)
+
+pub returns-clause-oldest : goal.returns-clause-oldest
+returns-clause-oldest g c = λ none.
+    let xs = c.self.inside.slots.items in
+    let es = c.self.inside.events.items in
+    let slot = c.take_slot-slot.result in
+    let within : c.args.place < length xs = place_within xs es _ _ c.self.invariant.1 c.self.invariant.2 (ap (λ m. m.events) c.self.view_is) c.requires.flying c.requires.place in
+    let order : c.take_slot-slot.new.slots.items ≡ slots_in_flight c.put-2.new.list.items = slots_end xs _ es _ c.args.place slot _ _ c.self.invariant.1 c.self.invariant.2 within c.take_slot-slot.ensures.slot c.take_slot-slot.ensures.others c.put-2.ensures.items in
+    ap (λ m. slots_in_flight m.events) (sym c.self.view_is) ∙ sym c.self.invariant.1 ∙ first_and_rest xs _ c.args.place slot within c.take_slot-slot.ensures.slot c.take_slot-slot.ensures.others none ∙ ap (λ t. slot ∷ t) order
