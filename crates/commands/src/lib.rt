@@ -18,4 +18,4 @@ mod telling;
 pub use answering::run_standin;
 pub use remaking::{RECORD, run_status};
 pub use reporting::tell_result;
-pub use telling::{tell_fault, tell_remake};
+pub use telling::{tell_fault, tell_remake, tell_unread};

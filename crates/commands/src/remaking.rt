@@ -4,9 +4,10 @@ ghost use Rattle.std.specs.Prelude.{◌≡◌, ◌≢◌, ℕ, List, Ok, IfOk, I
 ghost use Rattle.std.specs.Io.KnownBytes.{Appends};
 ghost use Rattle.commands.specs.MadeAgain.{IsMadeAgain};
 
-use crate::telling::tell_remake;
+use crate::telling::{tell_remake, tell_unread};
 use deftable::Bytes;
 use diskfiles::{FileOutputs, read_text};
+use explaining::{Why, explain_error};
 use framing::{RemakeFault, remake};
 use invocation::{
     FAULT, RecordSupplies, keep_inputs, print_lines, record_supplies, tell_file, tell_memory,
@@ -18,25 +19,44 @@ use std::rt::Files;
 /// The name of the record.
 pub const RECORD: &[u8] = b"config.status";
 
+/// The name of standard output in the line of a fault.
+pub(crate) const OUTPUT: &[u8] = b"standard output";
+
 /// Prints the lines of the outputs. Returns whether standard output took them.
-fn print_made<W: Write, E: Write>(lines: &[u8], output: &mut W, errors: &mut E) -> bool
+fn print_made<W: Write, E: Write>(
+    alloc: Global,
+    why: &Why<'_>,
+    lines: &[u8],
+    output: &mut W,
+    errors: &mut E,
+) -> bool
     ensures { IsTrue result → Appends (W.contents output.old) (W.contents output.new) lines.now }
 {
-    if print_lines(lines, false, output).is_err() {
-        let _ = tell_file(errors, b"standard output");
-        return false;
+    match print_lines(lines, false, output) {
+        Ok(()) => true,
+        Err(e) => {
+            let _ = tell_file(errors, OUTPUT);
+            explain_error(alloc, why.is_asked, OUTPUT, &e, errors);
+            false
+        }
     }
-    true
 }
 
 /// Reports the fault of the answer, if there is one. Returns whether there is none.
-fn tell_answer<E: Write>(answer: &Result<usize, RemakeFault>, errors: &mut E) -> bool
+fn tell_answer<F: Files, E: Write>(
+    alloc: Global,
+    files: &F,
+    why: &Why<'_>,
+    cause: &[u8],
+    answer: &Result<usize, RemakeFault>,
+    errors: &mut E,
+) -> bool
     ensures { IsTrue result → (n : ℕ) × (answer.now ≡ Ok n) }
 {
     match answer {
         Ok(_) => true,
         Err(fault) => {
-            let _ = tell_remake(errors, fault);
+            let _ = tell_remake(alloc, files, why, cause, errors, fault);
             false
         }
     }
@@ -55,13 +75,25 @@ fn keep_all<F: Files>(
     keep_inputs(alloc, outputs, supplies.srcdir.as_slice(), templates)
 }
 
+/// Returns what the faults of a record are explained by.
+fn why_of<'a>(is_asked: bool, text: &'a [u8], srcdir: &'a [u8], tags: &'a [Bytes]) -> Why<'a> {
+    Why {
+        is_asked,
+        srcdir,
+        path: RECORD,
+        text,
+        args: tags,
+    }
+}
+
 /// Makes the outputs of a record with these templates, and returns the exit status.
-fn make_supplied<F: Files, W: Write, E: Write>(
+fn make_supplied<'a, F: Files, W: Write, E: Write>(
     alloc: Global,
     files: &F,
-    text: &[u8],
-    supplies: &RecordSupplies,
-    tags: &[Bytes],
+    is_asked: bool,
+    text: &'a [u8],
+    supplies: &'a RecordSupplies,
+    tags: &'a [Bytes],
     output: &mut W,
     errors: &mut E,
 ) -> u8
@@ -73,8 +105,9 @@ fn make_supplied<F: Files, W: Write, E: Write>(
     }
     let templates = supplies.templates.as_slice();
     let answer = remake(alloc, text, templates, tags, &mut outputs);
-    let is_printed = print_made(outputs.lines(), output, errors);
-    let is_whole = tell_answer(&answer, errors);
+    let why = why_of(is_asked, text, supplies.srcdir.as_slice(), tags);
+    let is_printed = print_made(alloc, &why, outputs.lines(), output, errors);
+    let is_whole = tell_answer(alloc, files, &why, outputs.cause(), &answer, errors);
     if is_printed && is_whole { 0 } else { FAULT }
 }
 
@@ -82,6 +115,7 @@ fn make_supplied<F: Files, W: Write, E: Write>(
 fn make_text<F: Files, W: Write, E: Write>(
     alloc: Global,
     files: &F,
+    is_asked: bool,
     text: &[u8],
     tags: &[Bytes],
     output: &mut W,
@@ -90,13 +124,16 @@ fn make_text<F: Files, W: Write, E: Write>(
     ensures { IfOk result (λ status. status ≢ 2 → (status ≡ 0) × (out : List ℕ) × IsMadeAgain tags.now out × Appends (W.contents output.old) (W.contents output.new) out) }
 {
     let supplies = record_supplies(alloc, files, text)?;
-    Ok(make_supplied(alloc, files, text, &supplies, tags, output, errors))
+    Ok(make_supplied(
+        alloc, files, is_asked, text, &supplies, tags, output, errors,
+    ))
 }
 
 /// Reads the record, makes its outputs, and returns the exit status.
 fn make_record<F: Files, W: Write, E: Write>(
     alloc: Global,
     files: &F,
+    is_asked: bool,
     tags: &[Bytes],
     output: &mut W,
     errors: &mut E,
@@ -104,25 +141,35 @@ fn make_record<F: Files, W: Write, E: Write>(
     ensures { IfOk result (λ status. status ≢ 2 → (status ≡ 0) × (out : List ℕ) × IsMadeAgain tags.now out × Appends (W.contents output.old) (W.contents output.new) out) }
 {
     match read_text(alloc, files, RECORD)? {
-        Some(text) => make_text(alloc, files, text.as_slice(), tags, output, errors),
-        None => Ok(tell_file(errors, RECORD)),
+        Some(text) => make_text(
+            alloc,
+            files,
+            is_asked,
+            text.as_slice(),
+            tags,
+            output,
+            errors,
+        ),
+        None => Ok(tell_unread(alloc, files, is_asked, RECORD, errors)),
     }
 }
 
 /// Makes the outputs of the record in the current directory that have these names, or all if there are no names, and returns the
 /// exit status.
 ///
-/// If anything is wrong, the status is 2, and standard error has a line for it (own); outputs may have been made before that.
+/// If anything is wrong, the status is 2, and standard error has a line for it (own); outputs may have been made before that. If
+/// `is_asked`, further lines may say why.
 pub fn run_status<F: Files, W: Write, E: Write>(
     alloc: Global,
     files: &F,
+    is_asked: bool,
     tags: &[Bytes],
     output: &mut W,
     errors: &mut E,
 ) -> u8
     ensures { result ≢ 2 → (result ≡ 0) × (out : List ℕ) × IsMadeAgain tags.now out × Appends (W.contents output.old) (W.contents output.new) out }
 {
-    match make_record(alloc, files, tags, output, errors) {
+    match make_record(alloc, files, is_asked, tags, output, errors) {
         Ok(status) => status,
         Err(_) => tell_memory(errors),
     }

@@ -1,46 +1,125 @@
 //! What a run leaves for its user: its messages, the lines on its outputs, its log, and its exit status.
 
-ghost use Rattle.std.specs.Prelude.{◌≡◌, ◌≢◌, None, Ok, IsTrue};
+ghost use Rattle.std.specs.Prelude.{◌≡◌, ◌≢◌, None, Ok, IsTrue, false};
 ghost use Rattle.std.specs.Io.KnownBytes.{Appends};
 ghost use Rattle.commands.specs.Printed.{printed};
 ghost use Rattle.framing.specs.declared.report.Report.{Report};
 ghost use Rattle.framing.specs.Told as words;
 
+use crate::remaking::OUTPUT;
 use crate::telling::tell_run;
+use causes::Causes;
+use explaining::{Why, explain_cut, explain_error, explain_words};
 use framing::{Fault, Outcome, Report, status_of};
-use invocation::{FAULT, print_lines, print_pieces, tell_file, tell_put, write_log};
+use invocation::{FAULT, LOG, Supplies, print_all, tell_file, tell_put, write_log};
 use std::alloc::Global;
-use std::io::Write;
+use std::io::{self, Write};
 use std::rt::Files;
 
-/// Prints the messages of a run and the lines of its outputs. Returns whether standard output took them.
-fn print_report<W: Write, E: Write>(
+/// Says why a run was cut, if it was, and if it is asked.
+fn explain_end<C: Causes, E: Write>(
+    alloc: Global,
+    is_asked: bool,
     report: &Report,
+    cache: &[u8],
+    crew: &C,
+    errors: &mut E,
+)
+    ensures silent { is_asked ≡ false → errors.new ≡ errors.old }
+{
+    if let Outcome::CutShort(number) = report.outcome {
+        explain_cut(
+            alloc,
+            is_asked,
+            number,
+            crew,
+            report.log.as_slice(),
+            cache,
+            errors,
+        );
+    }
+}
+
+/// Reports that standard output didn't take all, if it didn't. Returns whether it did.
+fn tell_output<E: Write>(
+    alloc: Global,
+    is_asked: bool,
+    done: io::Result<()>,
+    errors: &mut E,
+) -> bool
+    ensures { IsTrue result → done ≡ Ok tt }
+{
+    match done {
+        Ok(()) => true,
+        Err(e) => {
+            let _ = tell_file(errors, OUTPUT);
+            explain_error(alloc, is_asked, OUTPUT, &e, errors);
+            false
+        }
+    }
+}
+
+/// Prints the messages of a run and the lines of its outputs, and says why it was cut, if it is asked. Returns whether standard output
+/// took them.
+fn print_report<C: Causes, W: Write, E: Write>(
+    alloc: Global,
+    is_asked: bool,
+    supplies: &Supplies,
+    report: &Report,
+    crew: &C,
     lines: &[u8],
-    quiet: bool,
     output: &mut W,
     errors: &mut E,
 ) -> bool
-    ensures { IsTrue result → Appends (W.contents output.old) (W.contents output.new) (printed quiet report.now.messages lines.now) }
+    ensures { IsTrue result → Appends (W.contents output.old) (W.contents output.new) (printed supplies.now.quiet report.now.messages lines.now) }
 {
     let messages = report.messages.as_slice();
-    if print_pieces(messages, quiet, output, errors) && print_lines(lines, quiet, output).is_ok() {
-        return true;
-    }
-    let _ = tell_file(errors, b"standard output");
-    false
+    let done = print_all(alloc, messages, lines, supplies.quiet, output, errors);
+    explain_end(
+        alloc,
+        is_asked,
+        report,
+        supplies.cache_name.as_slice(),
+        crew,
+        errors,
+    );
+    tell_output(alloc, is_asked, done, errors)
 }
 
-/// Reports the put that was refused, if one was. Returns whether none was.
-fn tell_refused<E: Write>(refused: Option<u64>, errors: &mut E) -> bool
+/// Reports the put that was refused, if one was, and says why if it is asked. Returns whether none was.
+fn tell_refused<E: Write>(
+    alloc: Global,
+    is_asked: bool,
+    refused: Option<u64>,
+    cause: &[u8],
+    errors: &mut E,
+) -> bool
     ensures { IsTrue result → refused ≡ None }
 {
     match refused {
         Some(number) => {
             let _ = tell_put(errors, number);
+            explain_words(alloc, is_asked, cause, errors);
             false
         }
         None => true,
+    }
+}
+
+/// Reports that the log can't be written, if it can't be. Returns whether it was.
+fn tell_log<E: Write>(
+    alloc: Global,
+    is_asked: bool,
+    done: &io::Result<()>,
+    errors: &mut E,
+) -> bool {
+    match done {
+        Ok(()) => true,
+        Err(e) => {
+            let _ = tell_file(errors, LOG.as_bytes());
+            explain_error(alloc, is_asked, LOG.as_bytes(), e, errors);
+            false
+        }
     }
 }
 
@@ -48,36 +127,39 @@ fn tell_refused<E: Write>(refused: Option<u64>, errors: &mut E) -> bool
 fn log_report<F: Files, E: Write>(
     alloc: Global,
     files: &F,
+    is_asked: bool,
     report: &Report,
     errors: &mut E,
 ) -> bool {
     if report.outcome == Outcome::Shown {
         return true;
     }
-    if write_log(alloc, files, report.log.as_slice()).is_err() {
-        let _ = tell_file(errors, b"config.log");
-        return false;
-    }
-    true
+    let done = write_log(alloc, files, report.log.as_slice());
+    tell_log(alloc, is_asked, &done, errors)
 }
 
 /// Prints and writes what a run leaves for its user, and returns the exit status.
-fn tell_report<F: Files, W: Write, E: Write>(
+fn tell_report<F: Files, C: Causes, W: Write, E: Write>(
     alloc: Global,
     files: &F,
+    is_asked: bool,
+    supplies: &Supplies,
     report: &Report,
-    lines: &[u8],
-    quiet: bool,
     refused: Option<u64>,
+    crew: &C,
+    cause: &[u8],
+    lines: &[u8],
     output: &mut W,
     errors: &mut E,
 ) -> u8
     ensures { result ≢ 2 → (refused ≡ None) × (result ≡ words.status_of report.now.outcome)
-        × Appends (W.contents output.old) (W.contents output.new) (printed quiet report.now.messages lines.now) }
+        × Appends (W.contents output.old) (W.contents output.new) (printed supplies.now.quiet report.now.messages lines.now) }
 {
-    let is_printed = print_report(report, lines, quiet, output, errors);
-    let is_whole = tell_refused(refused, errors);
-    let is_logged = log_report(alloc, files, report, errors);
+    let is_printed = print_report(
+        alloc, is_asked, supplies, report, crew, lines, output, errors,
+    );
+    let is_whole = tell_refused(alloc, is_asked, refused, cause, errors);
+    let is_logged = log_report(alloc, files, is_asked, report, errors);
     if is_printed && is_whole && is_logged {
         status_of(report.outcome)
     } else {
@@ -88,32 +170,41 @@ fn tell_report<F: Files, W: Write, E: Write>(
 /// Prints and writes what follows from the result of a run of this source, and returns the exit status.
 ///
 /// A report leaves its messages, the lines on its outputs and its log, also if a put was refused, which is told then. Any other fault
-/// is told alone. The status is 2 if there is a fault, if the log can't be written, or if standard output doesn't take all of it.
-pub fn tell_result<F: Files, W: Write, E: Write>(
+/// is told alone. The status is 2 if there is a fault, if the log can't be written, or if standard output doesn't take all of it. If it
+/// is asked, it also says why: of a cut run by what the crew knows, and of a refused put by `cause`, which is empty if that is not known.
+pub fn tell_result<F: Files, C: Causes, W: Write, E: Write>(
     alloc: Global,
     files: &F,
-    text: &[u8],
-    quiet: bool,
+    why: &Why<'_>,
+    supplies: &Supplies,
     answer: Result<Report, Fault>,
+    crew: &C,
+    cause: &[u8],
     lines: &[u8],
     output: &mut W,
     errors: &mut E,
 ) -> u8
     ensures { result ≢ 2 → (report : Report) × (answer ≡ Ok report) × (result ≡ words.status_of report.outcome)
-        × Appends (W.contents output.old) (W.contents output.new) (printed quiet report.messages lines.now) }
+        × Appends (W.contents output.old) (W.contents output.new) (printed supplies.now.quiet report.messages lines.now) }
 {
+    let is_asked = why.is_asked;
     match answer {
-        Ok(report) => tell_report(alloc, files, &report, lines, quiet, None, output, errors),
+        Ok(report) => tell_report(
+            alloc, files, is_asked, supplies, &report, None, crew, cause, lines, output, errors,
+        ),
         Err(Fault::PutRefused(number, report)) => tell_report(
             alloc,
             files,
+            is_asked,
+            supplies,
             &report,
-            lines,
-            quiet,
             Some(number),
+            crew,
+            cause,
+            lines,
             output,
             errors,
         ),
-        Err(fault) => tell_run(alloc, text, errors, &fault),
+        Err(fault) => tell_run(alloc, files, why, errors, &fault),
     }
 }

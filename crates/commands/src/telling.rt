@@ -1,11 +1,13 @@
 //! The lines of the faults of a run, and of outputs that are not made again.
 
-ghost use Rattle.std.specs.Prelude.{◌≡◌};
+ghost use Rattle.std.specs.Prelude.{◌≡◌, false};
 
+use explaining::{Why, explain_file, explain_template, explain_words};
 use framing::{Fault, RemakeFault};
-use invocation::{tell_named, tell_precious};
+use invocation::{FAULT, tell_file, tell_named, tell_precious};
 use std::alloc::Global;
 use std::io::Write;
+use std::rt::Files;
 
 /// Returns the name of the template that is missing, or an empty text if none is.
 fn missing_name(fault: &Fault) -> &[u8] {
@@ -22,14 +24,38 @@ pub fn tell_fault<E: Write>(errors: &mut E, fault: &Fault) -> u8
     tell_named(errors, fault, missing_name(fault))
 }
 
-/// Reports what is wrong with what a run of this source is given.
-pub(crate) fn tell_run<E: Write>(alloc: Global, text: &[u8], errors: &mut E, fault: &Fault) -> u8
-    ensures { result ≡ 2 }
+/// Says more of a fault of a run, after its line, if it is asked.
+fn explain_fault<F: Files, E: Write>(
+    alloc: Global,
+    files: &F,
+    why: &Why<'_>,
+    errors: &mut E,
+    fault: &Fault,
+)
+    ensures silent { why.now.is_asked ≡ false → errors.new ≡ errors.old }
 {
     match fault {
-        Fault::Precious(inner) => tell_precious(alloc, text, errors, *inner),
-        other => tell_fault(errors, other),
+        Fault::NoTemplate(name) => explain_template(alloc, files, why, name.as_slice(), errors),
+        _ => {}
     }
+}
+
+/// Reports what is wrong with what a run of this source is given, and says more of it if it is asked.
+pub(crate) fn tell_run<F: Files, E: Write>(
+    alloc: Global,
+    files: &F,
+    why: &Why<'_>,
+    errors: &mut E,
+    fault: &Fault,
+) -> u8
+    ensures { result ≡ 2 }
+{
+    let _ = match fault {
+        Fault::Precious(inner) => tell_precious(alloc, why.text, errors, *inner),
+        other => tell_fault(errors, other),
+    };
+    explain_fault(alloc, files, why, errors, fault);
+    FAULT
 }
 
 /// Returns the name of the template that is missing, or an empty text if none is.
@@ -40,9 +66,54 @@ fn missing_again(fault: &RemakeFault) -> &[u8] {
     }
 }
 
-/// Reports why outputs are not made again, or a run is not done again, and returns the exit status.
-pub fn tell_remake<E: Write>(errors: &mut E, fault: &RemakeFault) -> u8
+/// Says more of why outputs are not made again, after its line, if it is asked. If a put was refused, `cause` says why.
+fn explain_remake<F: Files, E: Write>(
+    alloc: Global,
+    files: &F,
+    why: &Why<'_>,
+    cause: &[u8],
+    errors: &mut E,
+    fault: &RemakeFault,
+)
+    ensures silent { why.now.is_asked ≡ false → errors.new ≡ errors.old }
+{
+    match fault {
+        RemakeFault::NoTemplate(name) => {
+            explain_template(alloc, files, why, name.as_slice(), errors)
+        }
+        RemakeFault::PutRefused(_number) => explain_words(alloc, why.is_asked, cause, errors),
+        _ => {}
+    }
+}
+
+/// Reports why outputs are not made again, or a run is not done again, and returns the exit status. Says more of it if it is asked. If
+/// a put was refused, `cause` says why, and it is empty if that is not known.
+pub fn tell_remake<F: Files, E: Write>(
+    alloc: Global,
+    files: &F,
+    why: &Why<'_>,
+    cause: &[u8],
+    errors: &mut E,
+    fault: &RemakeFault,
+) -> u8
     ensures { result ≡ 2 }
 {
-    tell_named(errors, fault, missing_again(fault))
+    let _ = tell_named(errors, fault, missing_again(fault));
+    explain_remake(alloc, files, why, cause, errors, fault);
+    FAULT
+}
+
+/// Reports that the file at this path can't be read, and says why if it is asked. Returns the exit status.
+pub fn tell_unread<F: Files, E: Write>(
+    alloc: Global,
+    files: &F,
+    is_asked: bool,
+    path: &[u8],
+    errors: &mut E,
+) -> u8
+    ensures { result ≡ 2 }
+{
+    let _ = tell_file(errors, path);
+    explain_file(alloc, files, is_asked, path, path, errors);
+    FAULT
 }

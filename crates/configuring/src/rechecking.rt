@@ -6,20 +6,34 @@ ghost use Rattle.configuring.specs.Configures.{IsRechecked};
 ghost use Rattle.crew_trait.specs.Events.{IsIdle};
 
 use crate::running::run_configure;
-use commands::{RECORD, tell_remake};
+use causes::Causes;
+use commands::{RECORD, tell_remake, tell_unread};
 use crew_trait::Crew;
 use deftable::Bytes;
 use diskfiles::read_text;
+use explaining::Why;
 use framing::recheck_args;
-use invocation::{tell_file, tell_memory};
+use invocation::tell_memory;
 use std::alloc::{AllocError, Global};
 use std::io::Write;
 use std::rt::Files;
 
+/// Returns what the faults of a record with this text are explained by.
+fn why_of(is_asked: bool, text: &[u8]) -> Why<'_> {
+    Why {
+        is_asked,
+        srcdir: b"",
+        path: RECORD,
+        text,
+        args: &[],
+    }
+}
+
 /// Runs a configure.ac again with the arguments of the record that has this text, and returns the exit status.
-fn run_again<F: Files, C: Crew, W: Write, E: Write>(
+fn run_again<F: Files, C: Crew + Causes, W: Write, E: Write>(
     alloc: Global,
     files: &F,
+    is_asked: bool,
     text: &[u8],
     env: &[(Bytes, Bytes)],
     crew: &mut C,
@@ -35,17 +49,19 @@ fn run_again<F: Files, C: Crew, W: Write, E: Write>(
 {
     match recheck_args(alloc, text) {
         Ok(args) => {
-            let status = run_configure(alloc, files, 1, args.as_slice(), env, crew, output, errors);
+            let args = args.as_slice();
+            let status = run_configure(alloc, files, is_asked, 1, args, env, crew, output, errors);
             status
         }
-        Err(fault) => tell_remake(errors, &fault),
+        Err(fault) => tell_remake(alloc, files, &why_of(is_asked, text), b"", errors, &fault),
     }
 }
 
 /// Reads the record, runs its configure.ac again, and returns the exit status.
-fn run_record<F: Files, C: Crew, W: Write, E: Write>(
+fn run_record<F: Files, C: Crew + Causes, W: Write, E: Write>(
     alloc: Global,
     files: &F,
+    is_asked: bool,
     env: &[(Bytes, Bytes)],
     crew: &mut C,
     output: &mut W,
@@ -59,8 +75,12 @@ fn run_record<F: Files, C: Crew, W: Write, E: Write>(
         × Appends (W.contents output.old) (W.contents output.new) out) }
 {
     match read_text(alloc, files, RECORD)? {
-        Some(text) => Ok(run_again(alloc, files, text.as_slice(), env, crew, output, errors)),
-        None => Ok(tell_file(errors, RECORD)),
+        Some(text) => {
+            let text = text.as_slice();
+            let status = run_again(alloc, files, is_asked, text, env, crew, output, errors);
+            Ok(status)
+        }
+        None => Ok(tell_unread(alloc, files, is_asked, RECORD, errors)),
     }
 }
 
@@ -68,10 +88,12 @@ fn run_record<F: Files, C: Crew, W: Write, E: Write>(
 /// exit status.
 ///
 /// The environment is that of now, and at most one child runs at once. The record and the log are written again, and the cache if
-/// one is named, but no file and no header. If anything is wrong, the status is 2, and standard error has a line for it (own).
-pub fn run_recheck<F: Files, C: Crew, W: Write, E: Write>(
+/// one is named, but no file and no header. If anything is wrong, the status is 2, and standard error has a line for it (own). If
+/// `is_asked`, further lines may say why.
+pub fn run_recheck<F: Files, C: Crew + Causes, W: Write, E: Write>(
     alloc: Global,
     files: &F,
+    is_asked: bool,
     env: &[(Bytes, Bytes)],
     crew: &mut C,
     output: &mut W,
@@ -84,7 +106,7 @@ pub fn run_recheck<F: Files, C: Crew, W: Write, E: Write>(
     ensures run { result ≢ 2 → (out : List ℕ) × IsRechecked env.now (C.account crew.old) (C.account crew.new) out result
         × Appends (W.contents output.old) (W.contents output.new) out }
 {
-    match run_record(alloc, files, env, crew, output, errors) {
+    match run_record(alloc, files, is_asked, env, crew, output, errors) {
         Ok(status) => status,
         Err(_) => tell_memory(errors),
     }

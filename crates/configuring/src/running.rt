@@ -6,24 +6,25 @@ ghost use Rattle.configuring.specs.Configures.{IsConfigured};
 ghost use Rattle.crew_trait.specs.Events.{IsIdle};
 ghost use Rattle.invocation.specs.Quiet.{quiet_in};
 
-use commands::tell_result;
+use causes::Causes;
+use commands::{tell_result, tell_unread};
 use crew_trait::Crew;
 use deftable::Bytes;
 use diskfiles::{FileOutputs, path_in, read_limited};
 use engine::configure;
-use invocation::{Supplies, keep_inputs, read_supplies, tell_file, tell_memory};
+use explaining::Why;
+use invocation::{Supplies, keep_inputs, read_supplies, tell_memory};
 use options::srcdir_of;
 use std::alloc::{AllocError, Global};
 use std::io::Write;
 use std::rt::Files;
 
 /// Runs a source that was read, and returns the exit status.
-fn run_supplied<F: Files, C: Crew, W: Write, E: Write>(
+fn run_supplied<F: Files, C: Crew + Causes, W: Write, E: Write>(
     alloc: Global,
     files: &F,
     window: usize,
-    text: &[u8],
-    args: &[Bytes],
+    why: &Why<'_>,
     env: &[(Bytes, Bytes)],
     supplies: &Supplies,
     crew: &mut C,
@@ -35,20 +36,20 @@ fn run_supplied<F: Files, C: Crew, W: Write, E: Write>(
     requires idle { IsIdle (C.account crew.old).events }
     requires attempts { (C.account crew.old).attempts + 2 ^ 36 ≤ 2 ^ 62 }
     requires failures { (C.account crew.old).failures + 256 ≤ 2 ^ 62 }
-    requires quiet { supplies.now.quiet ≡ quiet_in text.now args.now env.now }
+    requires quiet { supplies.now.quiet ≡ quiet_in why.now.text.now why.now.args.now env.now }
     ensures idle { IsIdle (C.account crew.new).events }
-    ensures run { result ≢ 2 → (out : List ℕ) × IsConfigured window args.now env.now (C.account crew.old) (C.account crew.new) out result
+    ensures run { result ≢ 2 → (out : List ℕ) × IsConfigured window why.now.args.now env.now (C.account crew.old) (C.account crew.new) out result
         × Appends (W.contents output.old) (W.contents output.new) out }
 {
     let mut outputs = FileOutputs::new(alloc, files);
     let templates = supplies.templates.as_slice();
-    if keep_inputs(alloc, &mut outputs, srcdir_of(args), templates).is_err() {
+    if keep_inputs(alloc, &mut outputs, why.srcdir, templates).is_err() {
         return tell_memory(errors);
     }
     let answer = configure(
         alloc,
-        text,
-        args,
+        why.text,
+        why.args,
         env,
         supplies.cache.as_ref().map(|cache| cache.as_slice()),
         templates,
@@ -59,9 +60,11 @@ fn run_supplied<F: Files, C: Crew, W: Write, E: Write>(
     tell_result(
         alloc,
         files,
-        text,
-        supplies.quiet,
+        why,
+        supplies,
         answer,
+        crew,
+        outputs.cause(),
         outputs.lines(),
         output,
         errors,
@@ -69,12 +72,11 @@ fn run_supplied<F: Files, C: Crew, W: Write, E: Write>(
 }
 
 /// Reads what a run of this source is given, runs it, and returns the exit status.
-fn run_text<F: Files, C: Crew, W: Write, E: Write>(
+fn run_text<F: Files, C: Crew + Causes, W: Write, E: Write>(
     alloc: Global,
     files: &F,
     window: usize,
-    text: &[u8],
-    args: &[Bytes],
+    why: &Why<'_>,
     env: &[(Bytes, Bytes)],
     crew: &mut C,
     output: &mut W,
@@ -86,19 +88,34 @@ fn run_text<F: Files, C: Crew, W: Write, E: Write>(
     requires attempts { (C.account crew.old).attempts + 2 ^ 36 ≤ 2 ^ 62 }
     requires failures { (C.account crew.old).failures + 256 ≤ 2 ^ 62 }
     ensures idle { IsIdle (C.account crew.new).events }
-    ensures run { IfOk result (λ status. status ≢ 2 → (out : List ℕ) × IsConfigured window args.now env.now (C.account crew.old) (C.account crew.new) out status
+    ensures run { IfOk result (λ status. status ≢ 2 → (out : List ℕ) × IsConfigured window why.now.args.now env.now (C.account crew.old) (C.account crew.new) out status
         × Appends (W.contents output.old) (W.contents output.new) out) }
 {
-    let supplies = read_supplies(alloc, files, text, args, env)?;
+    let supplies = read_supplies(alloc, files, why.text, why.args, env)?;
     Ok(run_supplied(
-        alloc, files, window, text, args, env, &supplies, crew, output, errors,
+        alloc, files, window, why, env, &supplies, crew, output, errors,
     ))
 }
 
+/// Returns what the faults of a run with these arguments are explained by.
+fn why_of<'a>(is_asked: bool, path: &'a [u8], text: &'a [u8], args: &'a [Bytes]) -> Why<'a>
+    ensures text { result.text.now ≡ text.now }
+    ensures args { result.args.now ≡ args.now }
+{
+    Why {
+        is_asked,
+        srcdir: srcdir_of(args),
+        path,
+        text,
+        args,
+    }
+}
+
 /// Reads the source that the arguments name, runs it, and returns the exit status.
-fn run_source<F: Files, C: Crew, W: Write, E: Write>(
+fn run_source<F: Files, C: Crew + Causes, W: Write, E: Write>(
     alloc: Global,
     files: &F,
+    is_asked: bool,
     window: usize,
     args: &[Bytes],
     env: &[(Bytes, Bytes)],
@@ -117,18 +134,11 @@ fn run_source<F: Files, C: Crew, W: Write, E: Write>(
 {
     let path = path_in(alloc, srcdir_of(args), b"configure.ac")?;
     match read_limited(alloc, files, path.as_slice())? {
-        Some(text) => run_text(
-            alloc,
-            files,
-            window,
-            text.as_slice(),
-            args,
-            env,
-            crew,
-            output,
-            errors,
-        ),
-        None => Ok(tell_file(errors, path.as_slice())),
+        Some(text) => {
+            let why = why_of(is_asked, path.as_slice(), text.as_slice(), args);
+            run_text(alloc, files, window, &why, env, crew, output, errors)
+        }
+        None => Ok(tell_unread(alloc, files, is_asked, path.as_slice(), errors)),
     }
 }
 
@@ -136,10 +146,11 @@ fn run_source<F: Files, C: Crew, W: Write, E: Write>(
 ///
 /// The source is `configure.ac` in the directory that `--srcdir` names, or else in the current one. What the run hands over is
 /// written in the current directory, and then its log. If a text is shown, nothing is written. If anything is wrong, the status is 2,
-/// and standard error has a line for it (own); outputs may have been written before that.
-pub fn run_configure<F: Files, C: Crew, W: Write, E: Write>(
+/// and standard error has a line for it (own); outputs may have been written before that. If `is_asked`, further lines may say why.
+pub fn run_configure<F: Files, C: Crew + Causes, W: Write, E: Write>(
     alloc: Global,
     files: &F,
+    is_asked: bool,
     window: usize,
     args: &[Bytes],
     env: &[(Bytes, Bytes)],
@@ -156,7 +167,9 @@ pub fn run_configure<F: Files, C: Crew, W: Write, E: Write>(
     ensures run { result ≢ 2 → (out : List ℕ) × IsConfigured window args.now env.now (C.account crew.old) (C.account crew.new) out result
         × Appends (W.contents output.old) (W.contents output.new) out }
 {
-    match run_source(alloc, files, window, args, env, crew, output, errors) {
+    match run_source(
+        alloc, files, is_asked, window, args, env, crew, output, errors,
+    ) {
         Ok(status) => status,
         Err(_) => tell_memory(errors),
     }

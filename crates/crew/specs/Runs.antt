@@ -1,5 +1,5 @@
 -- The jobs that a crew of real children started.
-use Rattle.std.specs.Prelude.{◌≡◌, ℕ, List, [], ◌∷◌, ◌++◌, All, IsUtf8, Option, Some, None, ⊤, fold}
+use Rattle.std.specs.Prelude.{◌≡◌, ℕ, List, [], ◌∷◌, ◌++◌, Option, Some, None, fold}
 use Rattle.jobs.specs.declared.job.Job.{Job}
 use Rattle.launching.specs.Launch.{Call, Wrote, Spawned, Failed}
 use Rattle.crew_trait.specs.declared.event.CrewEvent.{CrewEvent}

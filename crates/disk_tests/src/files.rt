@@ -2,7 +2,7 @@
 
 use crate::disks::Disk;
 use deftable::Bytes;
-use diskfiles::{FileOutputs, path_in, read_limited, read_text, write_text};
+use diskfiles::{FileOutputs, Keeps, path_in, read_limited, read_text, write_text};
 use outputs::{Kind, Thing, Things, put_all};
 use std::alloc::AllocError;
 use std::fs::{self, File, Metadata, OpenFile, Permissions};
@@ -72,7 +72,7 @@ fn put_read(page: &mut Page, disk: &Disk<'_>, verb: &[u8], name: &[u8]) {
 
 fn put_written(page: &mut Page, disk: &Disk<'_>, words: &[u8]) {
     let (name, text) = cut(words, b" ");
-    let done = write_text(page.alloc(), disk, name, text);
+    let done = write_text(page.alloc(), disk, name, Keeps::Permissions, text);
     put_done(page, &done);
 }
 
@@ -328,6 +328,9 @@ fn texts_of_files(rt: HostRuntime) -> Result<(), Fail> {
 }
 
 const PUTS: &[u8] = b"\
+// A record is no program: it loses the bits to execute it, and an output keeps them.
+hand record rr x|permit rr program|hand record rr y|mode rr|read rr|hand file ff x|permit ff program|hand file ff y|mode ff => \
+all[]all[]420[y]all[config.status: creating ff^J]all[config.status: creating ff^J]493
 // each kind, in order
 hand cache config.cache c;record config.status r;file out f;header config.h h => \
 all[config.status: creating out^Jconfig.status: creating config.h^J]

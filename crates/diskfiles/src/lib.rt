@@ -29,6 +29,6 @@ mod saying;
 mod writing;
 
 pub use names::path_in;
-pub use reading::{LARGEST_TEXT, read_limited, read_text};
+pub use reading::{LARGEST_TEXT, read_limited, read_text, unread_cause};
 pub use receiver::FileOutputs;
-pub use writing::{WriteRefused, write_text};
+pub use writing::{Keeps, write_text};

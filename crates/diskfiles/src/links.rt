@@ -44,5 +44,8 @@ pub(crate) fn end_of<F: Files>(alloc: Global, files: &F, name: &str) -> io::Resu
         }
         end = next_of(alloc, files, end.as_str())?;
     }
-    Err(io::Error::from(ErrorKind::FilesystemLoop))
+    Err(io::Error::new(
+        ErrorKind::FilesystemLoop,
+        "Too many levels of symbolic links",
+    ))
 }

@@ -5,6 +5,7 @@ ghost use Rattle.diskfiles.specs.Names.{IsFileName, has_nul};
 
 use deftable::Bytes;
 use std::alloc::{AllocError, Global};
+use std::io::{self, ErrorKind};
 use std::str;
 
 /// Returns the name of a file in a directory: `directory`, a slash, and `name`. If `directory` is empty, the name begins with
@@ -40,6 +41,11 @@ pub(crate) fn file_name(name: &[u8]) -> Option<&str>
         Ok(text) => Some(text),
         Err(_) => None,
     }
+}
+
+/// Returns the error of a name that no file can have.
+pub(crate) fn no_name() -> io::Error {
+    io::Error::new(ErrorKind::InvalidFilename, "no file can have this name")
 }
 
 /// Returns the directory of a file: what is before the last slash of its name. If the name has no slash, returns `None`.

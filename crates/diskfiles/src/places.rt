@@ -2,10 +2,10 @@
 
 use crate::names::{file_name, front_of, last_of};
 use deftable::Bytes;
-use std::alloc::{AllocError, Global};
-use std::fs;
+use std::alloc::Global;
 use std::os::unix::fs::MetadataExt;
 use std::rt::Files;
+use std::{fs, io};
 
 /// The place of a file: its directory, by device and number, and the last part of its name. Two names are of one place exactly
 /// if their directories are one, and their last parts are equal.
@@ -16,25 +16,17 @@ pub(crate) struct Place {
     name: Bytes,
 }
 
-/// Returns the place of a name, or `None` if there is no such directory. Fails only if memory runs out.
-pub(crate) fn place_of<F: Files>(
-    alloc: Global,
-    files: &F,
-    name: &str,
-) -> Result<Option<Place>, AllocError> {
+/// Returns the place of a name. Fails if there is no such directory, or memory runs out.
+pub(crate) fn place_of<F: Files>(alloc: Global, files: &F, name: &str) -> io::Result<Place> {
     let front = front_of(name);
     let directory = if front.is_empty() { "." } else { front };
-    match fs::metadata(files, directory) {
-        Ok(found) => {
-            let name = Bytes::from_slice(alloc, last_of(name).as_bytes())?;
-            Ok(Some(Place {
-                device: found.dev(),
-                directory: found.ino(),
-                name,
-            }))
-        }
-        Err(_) => Ok(None),
-    }
+    let found = fs::metadata(files, directory)?;
+    let name = Bytes::from_slice(alloc, last_of(name).as_bytes())?;
+    Ok(Place {
+        device: found.dev(),
+        directory: found.ino(),
+        name,
+    })
 }
 
 impl Place {

@@ -3,10 +3,10 @@
 ghost use Rattle.std.specs.Prelude.{◌≡◌, ◌+◌, ◌≤◌, ◌^◌, length, take, IfOk, IfSome};
 ghost use Rattle.diskfiles.specs.Names.{IsFileName};
 
-use crate::names::file_name;
+use crate::names::{file_name, no_name};
 use deftable::Bytes;
 use std::alloc::{AllocError, Global};
-use std::fs;
+use std::fs::{self, Metadata, OpenFile};
 use std::io::{self, ErrorKind, Read};
 use std::rt::Files;
 
@@ -25,10 +25,19 @@ fn read_front<R: Read>(alloc: Global, reader: &mut R) -> Result<Option<Bytes>, A
     }
 }
 
+/// Returns the error of a file that is no regular one.
+pub(crate) fn not_regular(found: &Metadata) -> io::Error {
+    if found.is_dir() {
+        return io::Error::new(ErrorKind::IsADirectory, "Is a directory");
+    }
+    io::Error::new(ErrorKind::Unsupported, "is a pipe, a socket or a device")
+}
+
 /// Opens a regular file. Nothing else is opened, since a read of a pipe or of a device may wait.
 fn open_regular<F: Files>(files: &F, name: &str) -> io::Result<F::File> {
-    if !fs::metadata(files, name)?.is_file() {
-        return Err(io::Error::from(ErrorKind::Unsupported));
+    let found = fs::metadata(files, name)?;
+    if !found.is_file() {
+        return Err(not_regular(&found));
     }
     fs::open(files, name)
 }
@@ -86,5 +95,26 @@ pub fn read_text<F: Files>(
     match read_limited(alloc, files, name)? {
         Some(text) => Ok(if_whole(text)),
         None => Ok(None),
+    }
+}
+
+/// Returns the error of a file that was opened, if it has more than 64 MiB.
+fn if_too_large<T: OpenFile>(file: &T) -> Option<io::Error> {
+    match file.metadata() {
+        Ok(found) if found.len() <= LARGEST_TEXT as u64 => None,
+        Ok(_) => Some(io::Error::new(ErrorKind::FileTooLarge, "has more than 64 MiB")),
+        Err(e) => Some(e),
+    }
+}
+
+/// Returns why [`read_text`] reads nothing under a name, or `None` if the file can be opened and isn't too large. The file is looked at
+/// now, and may have been another one before (own).
+pub fn unread_cause<F: Files>(files: &F, name: &[u8]) -> Option<io::Error> {
+    let Some(name) = file_name(name) else {
+        return Some(no_name());
+    };
+    match &open_regular(files, name) {
+        Ok(file) => if_too_large(file),
+        Err(e) => Some(*e),
     }
 }

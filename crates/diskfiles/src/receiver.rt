@@ -8,13 +8,16 @@ ghost use Rattle.diskfiles.specs.Sayings.{said};
 ghost use Rattle.diskfiles.specs.Keeping.{IsKept, AreSame};
 
 use crate::links::end_of;
-use crate::names::{directory_of, file_name};
+use crate::names::{directory_of, file_name, no_name};
 use crate::places::{Place, is_among, place_of};
 use crate::reading::read_text;
 use crate::saying::{Saying, say, saying_of};
-use crate::writing::write_text;
+use crate::writing::{Keeps, write_text};
+use causes::words_of;
+use deftable::Bytes;
 use outputs::{Kind, Outputs, PutRefused, Thing};
 use std::alloc::{AllocError, Global};
+use std::io::ErrorKind;
 use std::marker::Model;
 use std::rt::Files;
 use std::{fs, io};
@@ -27,7 +30,7 @@ use std::{fs, io};
 ///
 /// A put is refused if memory runs out, no file can have the name, the system refuses to write, or the file is that of an
 /// earlier put or one that [`FileOutputs::keep`] names. Then the file is as it was, as [`write_text`] says, but directories that
-/// were made for it stay.
+/// were made for it stay. The receiver keeps why the last put was refused.
 pub struct FileOutputs<'a, F: Files> {
     alloc: Global,
     files: &'a F,
@@ -35,6 +38,7 @@ pub struct FileOutputs<'a, F: Files> {
     things: Vec<Thing>,
     failures: u64,
     lines: Vec<u8>,
+    cause: Bytes,
 }
 
 impl<'a, F: Files> Drop for FileOutputs<'a, F> {
@@ -46,6 +50,7 @@ impl<'a, F: Files> Drop for FileOutputs<'a, F> {
             things: _things,
             failures: _failures,
             lines: _lines,
+            cause: _cause,
         } = self;
     }
 }
@@ -61,25 +66,41 @@ impl<'a, F: Files> Model for FileOutputs<'a, F> {
     ghost invariant = { λ o. AreLines o.things.items o.lines.items };
 }
 
-/// Makes the directories of a file that don't exist. Returns whether they all exist then.
-fn make_directories<F: Files>(files: &F, name: &str) -> bool {
+/// Returns the error of an allocation that failed.
+fn no_memory() -> io::Error {
+    io::Error::from(ErrorKind::OutOfMemory)
+}
+
+/// Makes the directories of a file that don't exist.
+fn make_directories<F: Files>(files: &F, name: &str) -> io::Result<()> {
     match directory_of(name) {
-        Some(directory) => fs::create_dir_all(files, directory).is_ok(),
-        None => true,
+        Some(directory) => fs::create_dir_all(files, directory),
+        None => Ok(()),
     }
 }
 
-/// Adds the place of a name, if it has one and it is not added yet. Returns whether it does.
-fn is_added<F: Files>(alloc: Global, files: &F, places: &mut Vec<Place>, name: &str) -> bool {
-    match place_of(alloc, files, name) {
-        Ok(Some(place)) => !is_among(&place, places.as_slice()) && places.push(place).is_ok(),
-        _ => false,
+/// Adds a place, unless it is added already.
+fn add(places: &mut Vec<Place>, place: Place) -> io::Result<()> {
+    if is_among(&place, places.as_slice()) {
+        return Err(io::Error::other("has the name of another file of this run"));
     }
+    places.push(place)?;
+    Ok(())
+}
+
+/// Adds the place of a name, if it has one and it is not added yet.
+fn add_place<F: Files>(
+    alloc: Global,
+    files: &F,
+    places: &mut Vec<Place>,
+    name: &str,
+) -> io::Result<()> {
+    add(places, place_of(alloc, files, name)?)
 }
 
 /// Makes the directories of a file or a header that is to be made, and adds the place of a thing. If its name is that of a link which
-/// leads to the file, adds the place of the file too. Returns whether it does all that.
-fn is_placed<F: Files>(
+/// leads to the file, adds the place of the file too.
+fn add_places<F: Files>(
     alloc: Global,
     files: &F,
     places: &mut Vec<Place>,
@@ -87,38 +108,65 @@ fn is_placed<F: Files>(
     name: &str,
     file: &str,
     is_linked: bool,
-) -> bool {
-    match saying {
-        Saying::Creating if !make_directories(files, name) => return false,
-        _ => {}
+) -> io::Result<()> {
+    if let Saying::Creating = saying {
+        make_directories(files, name)?;
     }
-    if is_linked && !is_added(alloc, files, places, file) {
-        return false;
+    if is_linked {
+        add_place(alloc, files, places, file)?;
     }
-    is_added(alloc, files, places, name)
+    add_place(alloc, files, places, name)
 }
 
-/// Writes a thing, if it isn't unchanged, and adds its places. Returns whether its file has its text then. If it hasn't, no place
-/// is added.
-fn is_written<F: Files>(
+/// Returns what permissions the file of a thing of this kind keeps. A record is no program, so nobody is to execute it.
+fn kept_by(kind: Kind) -> Keeps {
+    match kind {
+        Kind::Record => Keeps::NoExecution,
+        _ => Keeps::Permissions,
+    }
+}
+
+/// Writes a thing, if it isn't unchanged, and adds its places. If that fails, some place may have been added.
+fn write_placed<F: Files>(
     alloc: Global,
     files: &F,
     places: &mut Vec<Place>,
+    kind: Kind,
     saying: Saying,
     unchanged: bool,
     name: &str,
     file: &str,
     is_linked: bool,
     text: &[u8],
-) -> bool {
-    let count = places.len();
-    if is_placed(alloc, files, places, saying, name, file, is_linked)
-        && (unchanged || write_text(alloc, files, file.as_bytes(), text).is_ok())
-    {
-        return true;
+) -> io::Result<()> {
+    add_places(alloc, files, places, saying, name, file, is_linked)?;
+    if unchanged {
+        return Ok(());
     }
-    places.truncate(count);
-    false
+    write_text(alloc, files, file.as_bytes(), kept_by(kind), text)
+}
+
+/// Writes a thing, if it isn't unchanged, and adds its places. If that fails, no place is added.
+fn write_thing<F: Files>(
+    alloc: Global,
+    files: &F,
+    places: &mut Vec<Place>,
+    kind: Kind,
+    saying: Saying,
+    unchanged: bool,
+    name: &str,
+    file: &str,
+    is_linked: bool,
+    text: &[u8],
+) -> io::Result<()> {
+    let count = places.len();
+    let done = write_placed(
+        alloc, files, places, kind, saying, unchanged, name, file, is_linked, text,
+    );
+    if done.is_err() {
+        places.truncate(count);
+    }
+    done
 }
 
 /// Returns whether the file of a header or a cache has this text already. It is false for what is written in any case: a file,
@@ -182,29 +230,30 @@ fn keep_written<F: Files>(
     things: &mut Vec<Thing>,
     lines: &mut Vec<u8>,
     thing: Thing,
+    kind: Kind,
     saying: Saying,
     unchanged: bool,
     name: &str,
     file: &str,
     is_linked: bool,
     text: &[u8],
-) -> Result<(), PutRefused>
+) -> io::Result<()>
     ensures ok { OnOk result (IsKept things.old.items lines.old.items things.new.items lines.new.items thing (said saying name.now)) }
     ensures err { OnErr result (AreSame things.old.items lines.old.items things.new.items lines.new.items) }
 {
     let count = things.len();
     let len = lines.len();
     if keep(alloc, things, lines, thing, saying, name.as_bytes()).is_err() {
-        return Err(PutRefused);
+        return Err(no_memory());
     }
-    if !is_written(
-        alloc, files, places, saying, unchanged, name, file, is_linked, text,
-    ) {
+    let done = write_thing(
+        alloc, files, places, kind, saying, unchanged, name, file, is_linked, text,
+    );
+    if done.is_err() {
         things.truncate(count);
         lines.truncate(len);
-        return Err(PutRefused);
     }
-    Ok(())
+    done
 }
 
 impl<'a, F: Files> FileOutputs<'a, F> {
@@ -219,7 +268,14 @@ impl<'a, F: Files> FileOutputs<'a, F> {
             things: Vec::new(alloc),
             failures: 0,
             lines: Vec::new(alloc),
+            cause: Bytes::new(alloc),
         }
+    }
+
+    /// Returns why the last put was refused that was: `NAME: CAUSE`, with the words of the system, or with words of the receiver's own. If
+    /// none was refused, or memory ran out, it is empty.
+    pub fn cause(&self) -> &[u8] {
+        self.cause.as_slice()
     }
 
     /// Returns a line for each file and header that was taken, in order: `config.status: creating NAME`, or for a header whose
@@ -242,30 +298,32 @@ impl<'a, F: Files> FileOutputs<'a, F> {
         let Some(name) = file_name(name) else {
             return Ok(());
         };
-        if let Some(place) = place_of(self.alloc, self.files, name)? {
-            self.places.push(place)?;
+        match place_of(self.alloc, self.files, name) {
+            Ok(place) => {
+                self.places.push(place)?;
+                Ok(())
+            }
+            Err(e) if e.kind() == ErrorKind::OutOfMemory => Err(AllocError),
+            Err(_) => Ok(()),
         }
-        Ok(())
     }
 
     /// Takes a thing. If the put is refused, it isn't counted yet.
-    fn take(&mut self, kind: Kind, name: &[u8], text: &[u8]) -> Result<(), PutRefused>
+    fn take(&mut self, kind: Kind, name: &[u8], text: &[u8]) -> io::Result<()>
         ensures taken { OnOk result (self.new ≡ with_thing self.old (record { kind = kind; name = name.now; text = text.now })) }
         ensures refused { OnErr result (self.new ≡ self.old) }
         ensures name { IfOk result (λ _. IsFileName name.now) }
     {
         let Some(path) = file_name(name) else {
-            return Err(PutRefused);
+            return Err(no_name());
         };
         let Ok(unchanged) = is_unchanged(self.alloc, self.files, kind, path, text) else {
-            return Err(PutRefused);
+            return Err(no_memory());
         };
-        let Ok(end) = end_for(self.alloc, self.files, kind, path) else {
-            return Err(PutRefused);
-        };
+        let end = end_for(self.alloc, self.files, kind, path)?;
         let saying = saying_of(kind, unchanged);
         let Ok(thing) = Thing::from_slices(self.alloc, kind, name, text) else {
-            return Err(PutRefused);
+            return Err(no_memory());
         };
         let file = match &end {
             Some(end) => end.as_str(),
@@ -274,9 +332,16 @@ impl<'a, F: Files> FileOutputs<'a, F> {
         let is_linked = end.is_some();
         let (places, things, lines) = (&mut self.places, &mut self.things, &mut self.lines);
         keep_written(
-            self.alloc, self.files, places, things, lines, thing, saying, unchanged, path, file,
-            is_linked, text,
+            self.alloc, self.files, places, things, lines, thing, kind, saying, unchanged, path,
+            file, is_linked, text,
         )
+    }
+
+    /// Keeps why a put was refused. If memory runs out, keeps nothing.
+    fn keep_cause(&mut self, name: &[u8], error: &io::Error)
+        ensures { self.new ≡ self.old }
+    {
+        self.cause = words_of(self.alloc, name, error).unwrap_or(Bytes::new(self.alloc));
     }
 }
 
@@ -289,10 +354,13 @@ impl<'a, F: Files> Outputs for FileOutputs<'a, F> {
         ensures refused { OnErr result (self.new ≡ with_refusal self.old) }
         ensures name { IfOk result (λ _. IsFileName name.now) }
     {
-        let answer = self.take(kind, name, text);
-        if answer.is_err() {
-            self.failures += 1;
+        match self.take(kind, name, text) {
+            Ok(()) => Ok(()),
+            Err(e) => {
+                self.failures += 1;
+                self.keep_cause(name, &e);
+                Err(PutRefused)
+            }
         }
-        answer
     }
 }

@@ -3,26 +3,13 @@
 ghost use Rattle.std.specs.Prelude.{IfOk};
 ghost use Rattle.diskfiles.specs.Names.{IsFileName};
 
-use crate::names::{file_name, front_of};
+use crate::names::{file_name, front_of, no_name};
+use crate::reading::not_regular;
 use std::alloc::Global;
-use std::error::Error;
-use std::fmt;
 use std::fs::{self, File, Metadata, OpenFile, Permissions};
 use std::io::{self, ErrorKind, Write};
 use std::os::unix::fs::PermissionsExt;
 use std::rt::Files;
-
-/// The error of a text that was not written.
-#[derive(Clone, Copy, Debug)]
-pub struct WriteRefused;
-
-impl fmt::Display for WriteRefused {
-    fn fmt<W: fmt::Write>(&self, f: &mut fmt::Formatter<W>) -> fmt::Result {
-        f.write_str("write refused")
-    }
-}
-
-impl Error for WriteRefused {}
 
 /// How many names are tried for a new file.
 const MOST_NAMES: u32 = 1000;
@@ -49,7 +36,10 @@ fn make_beside<F: Files>(alloc: Global, files: &F, name: &str) -> io::Result<Mad
             Err(e) => return Err(e),
         }
     }
-    Err(io::Error::from(ErrorKind::AlreadyExists))
+    Err(io::Error::new(
+        ErrorKind::AlreadyExists,
+        "1,000 names for a new file are taken",
+    ))
 }
 
 /// Writes a text to a new file, and closes it. If `permissions` has some, the file has them before it has the text.
@@ -83,20 +73,39 @@ fn replace<F: Files>(
     done
 }
 
-/// Returns the permissions of a file, without the bits that would give its owner's rights to others.
-fn permissions_of(found: &Metadata) -> Permissions {
-    Permissions::from_mode(found.permissions().mode() & 0o777)
+/// The permission bits that a file keeps.
+#[derive(Clone, Copy)]
+pub enum Keeps {
+    /// All but those that would give its owner's rights to others.
+    Permissions,
+    /// These, without those to execute it.
+    NoExecution,
+}
+
+/// Returns the permissions of a file that it is to keep.
+fn permissions_of(found: &Metadata, keeps: Keeps) -> Permissions {
+    let bits = match keeps {
+        Keeps::Permissions => 0o777,
+        Keeps::NoExecution => 0o666,
+    };
+    Permissions::from_mode(found.permissions().mode() & bits)
 }
 
 /// Writes a text to a file as [`write_text`] says.
-fn write_to<F: Files>(alloc: Global, files: &F, name: &str, text: &[u8]) -> io::Result<()> {
+fn write_to<F: Files>(
+    alloc: Global,
+    files: &F,
+    name: &str,
+    keeps: Keeps,
+    text: &[u8],
+) -> io::Result<()> {
     match fs::symlink_metadata(files, name) {
         Ok(found) if found.is_file() => {
-            replace(alloc, files, name, Some(permissions_of(&found)), text)
+            let permissions = permissions_of(&found, keeps);
+            replace(alloc, files, name, Some(permissions), text)
         }
         Ok(found) if found.is_symlink() => replace(alloc, files, name, None, text),
-        Ok(found) if found.is_dir() => Err(io::Error::from(ErrorKind::IsADirectory)),
-        Ok(_) => Err(io::Error::from(ErrorKind::Unsupported)),
+        Ok(found) => Err(not_regular(&found)),
         Err(e) if e.kind() == ErrorKind::NotFound => replace(alloc, files, name, None, text),
         Err(e) => Err(e),
     }
@@ -106,7 +115,7 @@ fn write_to<F: Files>(alloc: Global, files: &F, name: &str, text: &[u8]) -> io::
 ///
 /// The text is written to a new file in the same directory, under the first name `acrun-N.tmp` that is not there, and that file is
 /// renamed. So the name has what it had or the whole text, at each moment, unless the power fails. A regular file keeps its
-/// permissions, but for the set-user-ID, set-group-ID and sticky bits. If `name` names a symbolic link or nothing, the new file has the permissions that the
+/// permissions, but for the set-user-ID, set-group-ID and sticky bits, and those to execute it if `keeps` says so. If `name` names a symbolic link or nothing, the new file has the permissions that the
 /// system gives. A link is replaced, and what it names is not touched.
 ///
 /// # Errors
@@ -117,15 +126,13 @@ pub fn write_text<F: Files>(
     alloc: Global,
     files: &F,
     name: &[u8],
+    keeps: Keeps,
     text: &[u8],
-) -> Result<(), WriteRefused>
+) -> io::Result<()>
     ensures { IfOk result (λ _. IsFileName name.now) }
 {
     let Some(name) = file_name(name) else {
-        return Err(WriteRefused);
+        return Err(no_name());
     };
-    match write_to(alloc, files, name, text) {
-        Ok(()) => Ok(()),
-        Err(_) => Err(WriteRefused),
-    }
+    write_to(alloc, files, name, keeps, text)
 }

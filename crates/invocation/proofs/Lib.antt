@@ -1,2 +1,4 @@
+pub mod Appending
 pub mod Quiet
+pub mod Runs
 pub mod Windows

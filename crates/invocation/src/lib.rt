@@ -1,7 +1,7 @@
 //! What the program is asked to do, what it reads for that, and how it prints. Nothing here runs a source.
 //!
 //! [`words`] and [`environment`] are what the process is given, and [`call_of`] says which command the words name. [`read_supplies`]
-//! and [`record_supplies`] read what a command needs besides its source or its record. [`print_pieces`], [`print_lines`] and
+//! and [`record_supplies`] read what a command needs besides its source or its record. [`print_all`], [`print_lines`] and
 //! [`write_log`] leave what a run has for its user. Each error is one line on standard error, by a function `tell_..`, which
 //! returns [`FAULT`].
 //!
@@ -25,7 +25,7 @@ mod supplies;
 mod telling;
 
 pub use call::{Call, call_of};
-pub use printing::{LOG, print_lines, print_pieces, write_log};
+pub use printing::{LOG, print_all, print_lines, write_log};
 pub use process::{environment, words};
 pub use progress::may_show_progress;
 pub use supplies::{RecordSupplies, Supplies, keep_inputs, read_supplies, record_supplies};

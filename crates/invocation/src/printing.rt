@@ -1,14 +1,14 @@
 //! What the program prints and writes of a run: its messages, the lines of its outputs, and its log.
 
-ghost use Rattle.std.specs.Prelude.{◌≡◌, [], OnOk, IsTrue, if◌then◌else◌};
+ghost use Rattle.std.specs.Prelude.{◌≡◌, [], ◌++◌, Ok, OnOk, IfOk, IsTrue, if◌then◌else◌};
 ghost use Rattle.std.specs.Io.KnownBytes.{Appends};
 ghost use Rattle.cfglog.specs.Texts.{messages_of, shown};
 ghost use Rattle.deftable.specs.declared.note.Stream.TheVariants as streams;
 
-use cfglog::log_text;
+use cfglog::{log_text, messages_text};
 use crew_trait::Entry;
 use deftable::{Note, Stream};
-use std::alloc::Global;
+use std::alloc::{AllocError, Global};
 use std::fs::{self, File};
 use std::io::{self, BufWriter, Write};
 use std::rt::Files;
@@ -16,66 +16,134 @@ use std::rt::Files;
 /// The name of the log.
 pub const LOG: &str = "config.log";
 
-/// Prints a piece on its stream. Quiet drops what is for standard output.
-fn print_piece<W: Write, E: Write>(
-    note: &Note,
+/// Writes a text, unless it is empty.
+fn write_some<W: Write>(text: &[u8], output: &mut W) -> io::Result<()>
+    ensures { OnOk result (Appends (W.contents output.old) (W.contents output.new) text.now) }
+{
+    if text.is_empty() {
+        return Ok(());
+    }
+    output.write_all(text)
+}
+
+/// Returns what is printed on standard output of these pieces and then of the lines of the outputs. Quiet drops both.
+fn printed_text(
+    alloc: Global,
+    notes: &[Note],
+    lines: &[u8],
+    quiet: bool,
+) -> Result<Vec<u8>, AllocError>
+    ensures { IfOk result (λ text. text.items ≡ messages_of streams.Out quiet notes.now ++ (if quiet then [] else lines.now)) }
+{
+    let mut text = messages_text(alloc, notes, Stream::Out, quiet)?;
+    if !quiet {
+        text.extend_from_slice(lines)?;
+    }
+    Ok(text)
+}
+
+/// Prints a piece for standard output. Quiet drops it, and so it does one for standard error.
+fn print_piece<W: Write>(note: &Note, quiet: bool, output: &mut W) -> io::Result<()>
+    ensures { OnOk result (Appends (W.contents output.old) (W.contents output.new) (shown streams.Out quiet note.now)) }
+{
+    match note.stream {
+        Stream::Out if !quiet => output.write_all(note.text.as_slice()),
+        _ => Ok(()),
+    }
+}
+
+/// Prints the pieces for standard output, one by one. Quiet drops them.
+fn print_each<W: Write>(notes: &[Note], quiet: bool, output: &mut W) -> io::Result<()>
+    ensures { OnOk result (Appends (W.contents output.old) (W.contents output.new) (messages_of streams.Out quiet notes.now)) }
+{
+    'notes: for note in notes {
+        print_piece(note, quiet, output)?;
+    }
+    Ok(())
+}
+
+/// Prints the pieces for standard output one by one, and then the lines of the outputs. Quiet drops both.
+fn print_parts<W: Write>(
+    notes: &[Note],
+    lines: &[u8],
+    quiet: bool,
+    output: &mut W,
+) -> io::Result<()>
+    ensures { OnOk result (Appends (W.contents output.old) (W.contents output.new) (messages_of streams.Out quiet notes.now ++ (if quiet then [] else lines.now))) }
+{
+    print_each(notes, quiet, output)?;
+    print_lines(lines, quiet, output)
+}
+
+/// Prints the pieces for standard output, and then the lines of the outputs, in one write. Quiet drops both. If there is no memory for the
+/// whole text, each part is a write of its own.
+fn print_run<W: Write>(
+    alloc: Global,
+    notes: &[Note],
+    lines: &[u8],
+    quiet: bool,
+    output: &mut W,
+) -> io::Result<()>
+    ensures { OnOk result (Appends (W.contents output.old) (W.contents output.new) (messages_of streams.Out quiet notes.now ++ (if quiet then [] else lines.now))) }
+{
+    match printed_text(alloc, notes, lines, quiet) {
+        Ok(text) => write_some(text.as_slice(), output),
+        Err(_) => print_parts(notes, lines, quiet, output),
+    }
+}
+
+/// Prints what [`print_run`] does, unless what is before it could not be written.
+fn print_next<W: Write>(
+    alloc: Global,
+    done: io::Result<()>,
+    notes: &[Note],
+    lines: &[u8],
+    quiet: bool,
+    output: &mut W,
+) -> io::Result<()>
+    ensures before { OnOk result (done ≡ Ok tt) }
+    ensures run { OnOk result (Appends (W.contents output.old) (W.contents output.new) (messages_of streams.Out quiet notes.now ++ (if quiet then [] else lines.now))) }
+{
+    match done {
+        Ok(()) => print_run(alloc, notes, lines, quiet, output),
+        Err(e) => Err(e),
+    }
+}
+
+/// Returns whether a piece is for standard error.
+fn is_error(note: &Note) -> bool
+    ensures { IsTrue result → note.now.stream ≡ streams.Err }
+{
+    matches!(note.stream, Stream::Err)
+}
+
+/// Prints pieces in order, each on its stream, and then the lines of the outputs on standard output. Quiet drops what is for standard
+/// output. What is next to each other there is one write, made before the next piece for standard error.
+///
+/// # Errors
+///
+/// Fails if standard output doesn't take all of it. If a write fails there, what follows it there is dropped, and the pieces for standard
+/// error are printed all the same. That standard error can't be written is not reported.
+pub fn print_all<W: Write, E: Write>(
+    alloc: Global,
+    notes: &[Note],
+    lines: &[u8],
     quiet: bool,
     output: &mut W,
     errors: &mut E,
 ) -> io::Result<()>
-    ensures { OnOk result (Appends (W.contents output.old) (W.contents output.new) (shown streams.Out quiet note.now)) }
+    ensures { OnOk result (Appends (W.contents output.old) (W.contents output.new) (messages_of streams.Out quiet notes.now ++ (if quiet then [] else lines.now))) }
 {
-    let text = note.text.as_slice();
-    match note.stream {
-        Stream::Out => {
-            if quiet {
-                return Ok(());
-            }
-            output.write_all(text)
-        }
-        Stream::Err => {
-            let _ = errors.write_all(text);
-            Ok(())
+    let mut done = Ok(());
+    let mut start = 0;
+    'notes: for i in 0..notes.len() {
+        if is_error(&notes[i]) {
+            done = print_next(alloc, done, &notes[start..i], b"", quiet, output);
+            let _ = errors.write_all(notes[i].text.as_slice());
+            start = i + 1;
         }
     }
-}
-
-/// Prints a piece on its stream, unless it is for standard output and one before it could not be written there. Returns whether all
-/// pieces so far are written.
-fn print_next<W: Write, E: Write>(
-    note: &Note,
-    quiet: bool,
-    is_written: bool,
-    output: &mut W,
-    errors: &mut E,
-) -> bool
-    ensures before { IsTrue result → IsTrue is_written }
-    ensures piece { IsTrue result → Appends (W.contents output.old) (W.contents output.new) (shown streams.Out quiet note.now) }
-{
-    if is_written {
-        return print_piece(note, quiet, output, errors).is_ok();
-    }
-    let _ = print_piece(note, true, output, errors);
-    false
-}
-
-/// Prints pieces in order, each on its stream. Quiet drops those for standard output.
-///
-/// Returns whether standard output took all of its pieces. If one can't be written there, those after it are dropped, and the pieces
-/// for standard error are printed all the same. That standard error can't be written is not reported.
-pub fn print_pieces<W: Write, E: Write>(
-    notes: &[Note],
-    quiet: bool,
-    output: &mut W,
-    errors: &mut E,
-) -> bool
-    ensures { IsTrue result → Appends (W.contents output.old) (W.contents output.new) (messages_of streams.Out quiet notes.now) }
-{
-    let mut is_written = true;
-    'notes: for note in notes {
-        is_written = print_next(note, quiet, is_written, output, errors);
-    }
-    is_written
+    print_next(alloc, done, &notes[start..], lines, quiet, output)
 }
 
 /// Prints the lines of the outputs. Quiet drops them.

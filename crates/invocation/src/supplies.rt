@@ -20,6 +20,8 @@ use syntax::Source;
 pub struct Supplies {
     /// If true, nothing is printed on standard output.
     pub quiet: bool,
+    /// The name of the cache, which is empty if none is named.
+    pub cache_name: Bytes,
     /// The text of the cache, if one is named and there.
     pub cache: Option<Bytes>,
     /// The templates that are there, by their names.
@@ -32,6 +34,7 @@ fn nothing(alloc: Global) -> Supplies
 {
     Supplies {
         quiet: false,
+        cache_name: Bytes::new(alloc),
         cache: None,
         templates: Vec::new(alloc),
     }
@@ -92,6 +95,14 @@ fn read_templates<F: Files>(
     Ok(templates)
 }
 
+/// Returns the name of the cache, or an empty text if none is named.
+fn name_of_cache(alloc: Global, name: Option<&Bytes>) -> Result<Bytes, AllocError> {
+    match name {
+        Some(name) => name.copy(alloc),
+        None => Ok(Bytes::new(alloc)),
+    }
+}
+
 /// Reads the cache, if one is named.
 fn read_cache<F: Files>(
     alloc: Global,
@@ -135,10 +146,12 @@ fn settled_supplies<F: Files>(
     if settings.help || settings.version {
         return Ok(nothing(alloc));
     }
+    let cache_name = name_of_cache(alloc, settings.cache_name.as_ref())?;
     let cache = read_cache(alloc, files, settings.cache_name.as_ref())?;
     let templates = wanted_templates(alloc, files, source, settings)?;
     Ok(Supplies {
         quiet: settings.quiet,
+        cache_name,
         cache,
         templates,
     })

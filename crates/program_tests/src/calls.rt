@@ -4,9 +4,10 @@ ghost use Rattle.std.specs.Prelude.{◌≡◌, ◌+◌, ◌^◌, ◌≤◌};
 ghost use Rattle.crew_trait.specs.Events.{IsIdle};
 
 use crate::given::{add_words, env_of, replies_of};
+use causes::Causes;
 use crew::{Crew, MemoryCrew, Order, ProcessCrew};
 use deftable::Bytes;
-use runner::run;
+use runner::{asks_why, run};
 use std::fs::File;
 use std::io::Write;
 use testrows::Page;
@@ -40,7 +41,7 @@ pub const NOTHING: Given<'static> = Given {
 
 /// Returns the exit status of the program over a crew. It promises nothing, so that its callers don't see the long contract of the
 /// command.
-fn status_over<C: Crew, W: Write>(
+fn status_over<C: Crew + Causes, W: Write>(
     rt: &HostRuntime,
     words: &[Bytes],
     env: &[(Bytes, Bytes)],
@@ -53,7 +54,17 @@ fn status_over<C: Crew, W: Write>(
     requires failures { (C.account crew.old).failures + 256 ≤ 2 ^ 62 }
 {
     let mut input: &[u8] = b"";
-    run(rt.alloc(), rt, words, env, crew, &mut input, output, errors)
+    run(
+        rt.alloc(),
+        rt,
+        words,
+        env,
+        crew,
+        asks_why(env),
+        &mut input,
+        output,
+        errors,
+    )
 }
 
 /// Returns the order in which children end.

@@ -8,6 +8,7 @@ ghost use Rattle.crew_trait.specs.Events.{IsIdle};
 use crate::crews::{Work, job_of, put_real_children};
 use crate::streams::{Sheet, pipe_of};
 use crate::texts::{bytes_of, parts_of, put_cut};
+use causes::Causes;
 use conftest::Job;
 use crew::{Crew, ProcessCrew};
 use deftable::Bytes;
@@ -139,7 +140,7 @@ const DEMO: &[u8] =
 
 /// Returns the exit status of the program over a crew, without an environment. It promises nothing, so that its callers don't
 /// see the long contract of the command.
-pub fn status_over<C: Crew, R: Read, W: Write, E: Write>(
+pub fn status_over<C: Crew + Causes, R: Read, W: Write, E: Write>(
     rt: &HostRuntime,
     words: &[Bytes],
     crew: &mut C,
@@ -151,7 +152,17 @@ pub fn status_over<C: Crew, R: Read, W: Write, E: Write>(
     requires attempts { (C.account crew.old).attempts + 2 ^ 36 ≤ 2 ^ 62 }
     requires failures { (C.account crew.old).failures + 256 ≤ 2 ^ 62 }
 {
-    run(rt.alloc(), rt, words, &[], crew, input, output, errors)
+    run(
+        rt.alloc(),
+        rt,
+        words,
+        &[],
+        crew,
+        false,
+        input,
+        output,
+        errors,
+    )
 }
 
 /// Returns the exit status of the program, or 2 if it can't be called.

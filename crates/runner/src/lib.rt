@@ -13,6 +13,7 @@
 mod program;
 mod telling;
 
+pub use explaining::asks_why;
 pub use filtering::{FilterFault, Filtered, filter};
 pub use framing::Fault;
 pub use invocation::{LOG, environment, may_show_progress, words};

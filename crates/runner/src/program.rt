@@ -10,15 +10,17 @@ ghost use Rattle.invocation.specs.Calls.{call_of, Unknown, IfFilter, IfStandIn, 
 ghost use Rattle.standin.specs.Standin.{IsAnswered};
 
 use crate::telling::tell;
+use causes::Causes;
 use commands::{run_standin, run_status};
 use configuring::{run_configure, run_recheck};
 use crew_trait::Crew;
 use deftable::Bytes;
+use explaining::asks_why;
 use filtering::{Filtered, filter};
 use helptext::{run_help, run_version};
 use invocation::{Call, call_of, tell_usage};
 use std::alloc::Global;
-use std::io::{self, Input, Read, Write};
+use std::io::{self, Input, IsTerminal, Read, Write};
 use std::rt::Files;
 use whycommand::run_why;
 
@@ -56,13 +58,15 @@ fn run_filter<R: Read, W: Write, E: Write>(
 /// --recheck` is the run again, with the arguments of its record. There is no other command. If anything is wrong, also with the
 /// words, the status is 2 (own).
 ///
-/// Each error is reported as one line on standard error. If that can't be written, only the status reports it.
-pub fn run<F: Files, C: Crew, R: Read, W: Write, E: Write>(
+/// Each error is reported as one line on standard error. If that can't be written, only the status reports it. If `why` is set, further lines
+/// may follow such a line, which say why; otherwise none do.
+pub fn run<F: Files, C: Crew + Causes, R: Read, W: Write, E: Write>(
     alloc: Global,
     files: &F,
     words: &[Bytes],
     env: &[(Bytes, Bytes)],
     crew: &mut C,
+    why: bool,
     input: &mut R,
     output: &mut W,
     errors: &mut E,
@@ -86,7 +90,7 @@ pub fn run<F: Files, C: Crew, R: Read, W: Write, E: Write>(
     ensures recheck { IfRecheck (call_of words.now) (result ≢ 2 → (out : List ℕ) × IsRechecked env.now (C.account crew.old) (C.account crew.new) out result
         × Appends (W.contents output.old) (W.contents output.new) out) }
     // What explains something has no other status than these. Unless it is 2, `why` writes nothing on standard error.
-    ensures why { IfWhy (call_of words.now) (λ asked. (result ≤ 2) × (result ≢ 2 → errors.new ≡ errors.old)) }
+    ensures explained { IfWhy (call_of words.now) (λ asked. (result ≤ 2) × (result ≢ 2 → errors.new ≡ errors.old)) }
     ensures help { IfHelp (call_of words.now) (λ asked. (result ≡ 0) ⊎ (result ≡ 2)) }
     ensures unknown { call_of words.now ≡ Unknown → result ≡ 2 }
     // Only a run starts children, only the filter and `lint` read the input, and the stand-in writes no output.
@@ -100,10 +104,10 @@ pub fn run<F: Files, C: Crew, R: Read, W: Write, E: Write>(
         Call::Filter => run_filter(alloc, input, output, errors),
         Call::StandIn(words) => run_standin(alloc, files, words, errors),
         Call::Configure(window, args) => {
-            run_configure(alloc, files, window, args, env, crew, output, errors)
+            run_configure(alloc, files, why, window, args, env, crew, output, errors)
         }
-        Call::Status(tags) => run_status(alloc, files, tags, output, errors),
-        Call::Recheck => run_recheck(alloc, files, env, crew, output, errors),
+        Call::Status(tags) => run_status(alloc, files, why, tags, output, errors),
+        Call::Recheck => run_recheck(alloc, files, why, env, crew, output, errors),
         Call::Help(words) => run_help(words, output, errors),
         Call::Version => run_version(output, errors),
         Call::Why(words) => run_why(alloc, files, words, output, errors),
@@ -114,8 +118,9 @@ pub fn run<F: Files, C: Crew, R: Read, W: Write, E: Write>(
 
 /// Runs the command that the words name, on the streams and the files of the process, and returns its exit status.
 ///
-/// This is [`run`], which says what each command does.
-pub fn command<C: Crew>(
+/// This is [`run`], which says what each command does. Lines that say why are asked for if standard error is a terminal, or if the
+/// environment has an ACRUN_WHY that isn't empty (own).
+pub fn command<C: Crew + Causes>(
     rt: HostRuntime,
     alloc: Global,
     words: &[Bytes],
@@ -127,12 +132,14 @@ pub fn command<C: Crew>(
     requires failures { (C.account crew.old).failures + 256 ≤ 2 ^ 62 }
     ensures idle { IsIdle (C.account crew.new).events }
 {
+    let why = asks_why(env) || rt.stderr().is_terminal();
     run(
         alloc,
         &rt,
         words,
         env,
         crew,
+        why,
         &mut rt.reader(),
         &mut io::writer(&rt),
         &mut rt.stderr(),

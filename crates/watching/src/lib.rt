@@ -22,6 +22,7 @@
 //! `subject` and then `watched`.
 #![tactic(auto)]
 
+mod known;
 mod line;
 mod subject;
 mod watched;

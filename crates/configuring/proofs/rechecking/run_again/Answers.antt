@@ -8,8 +8,8 @@ returns-in-Ok-clause-run g c = λ other.
       told.0,
       record {
         text = c.args.text.now;
-        arguments = c.as_slice.result.now;
-        rechecked = subst (λ a. IsRechecked c.args.text.now a) (sym c.as_slice.ensures) c.in-Ok.ensures.sound;
+        arguments = c.as_slice-args.result.now;
+        rechecked = subst (λ a. IsRechecked c.args.text.now a) (sym c.as_slice-args.ensures) c.in-Ok.ensures.sound;
         configured = told.1;
       },
       told.2,
