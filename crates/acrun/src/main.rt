@@ -4,7 +4,7 @@
 //! started, so that a run that is interrupted leaves none that looks like its own.
 #![tactic(auto)]
 
-use crew::ProcessCrew;
+use crew::ReadyCrew;
 use runner::{FilterFault, LOG, command, environment, may_show_progress, tell, words};
 use std::alloc::AllocError;
 use std::io::IsTerminal;
@@ -17,7 +17,7 @@ fn run(rt: HostRuntime) -> Result<u8, AllocError> {
     let env = environment(rt.alloc(), &rt)?;
     let errors = rt.stderr();
     let is_shown = may_show_progress(words.as_slice()) && errors.is_terminal();
-    let children = ProcessCrew::removing(rt, rt.alloc(), LOG)?;
+    let children = ReadyCrew::removing(rt, rt.alloc(), LOG)?;
     let mut crew = Watched::new(children, errors, is_shown);
     Ok(command(rt, rt.alloc(), words.as_slice(), env.as_slice(), &mut crew))
 }

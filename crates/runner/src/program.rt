@@ -19,6 +19,7 @@ use explaining::asks_why;
 use filtering::{Filtered, filter};
 use helptext::{run_help, run_version};
 use invocation::{Call, call_of, tell_usage};
+use shown::Shown;
 use std::alloc::Global;
 use std::io::{self, Input, IsTerminal, Read, Write};
 use std::rt::Files;
@@ -116,9 +117,19 @@ pub fn run<F: Files, C: Crew + Causes, R: Read, W: Write, E: Write>(
     }
 }
 
+/// Returns whether control bytes are to be shown on standard output if it is a terminal. What `lint` prints shows them itself, and may
+/// have colours.
+fn shows_output(words: &[Bytes]) -> bool {
+    match call_of(words) {
+        Call::Lint(_) => false,
+        _ => true,
+    }
+}
+
 /// Runs the command that the words name, on the streams and the files of the process, and returns its exit status.
 ///
-/// This is [`run`], which says what each command does. Lines that say why are asked for if standard error is a terminal, or if the
+/// This is [`run`], which says what each command does. On a terminal control bytes are written as `\xNN`, so that no text of a source,
+/// an argument or a compiler drives it. Lines that say why are asked for if standard error is a terminal, or if the
 /// environment has an ACRUN_WHY that isn't empty (own).
 pub fn command<C: Crew + Causes>(
     rt: HostRuntime,
@@ -132,7 +143,9 @@ pub fn command<C: Crew + Causes>(
     requires failures { (C.account crew.old).failures + 256 ≤ 2 ^ 62 }
     ensures idle { IsIdle (C.account crew.new).events }
 {
-    let why = asks_why(env) || rt.stderr().is_terminal();
+    let is_terminal = rt.stderr().is_terminal();
+    let why = asks_why(env) || is_terminal;
+    let is_shown = rt.stdout().is_terminal() && shows_output(words);
     run(
         alloc,
         &rt,
@@ -141,7 +154,7 @@ pub fn command<C: Crew + Causes>(
         crew,
         why,
         &mut rt.reader(),
-        &mut io::writer(&rt),
-        &mut rt.stderr(),
+        &mut Shown::new(io::writer(&rt), is_shown),
+        &mut Shown::new(rt.stderr(), is_terminal),
     )
 }
