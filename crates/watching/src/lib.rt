@@ -19,6 +19,7 @@
 //! of the crew. In the code, read `line` and then `watched`.
 #![tactic(auto)]
 
+mod known;
 mod line;
 mod watched;
 

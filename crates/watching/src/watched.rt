@@ -18,7 +18,7 @@ use std::marker::Model;
 /// Each change is one write. If a write fails, no further one is tried. What a call returns never depends on it.
 #[derive(Drop)]
 pub struct Watched<C: Crew + Drop, W: Write + Drop> {
-    crew: C,
+    pub(crate) crew: C,
     stream: W,
     is_on: bool,
     started: u64,
