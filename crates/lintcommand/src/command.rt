@@ -1,6 +1,6 @@
 //! The command.
 
-use crate::errors::errors_of;
+use crate::errors::found_in;
 use crate::reading::{Linted, read_named};
 use crate::showing::{Form, page_of, status_of};
 use deftable::Bytes;
@@ -35,9 +35,9 @@ fn lint_text<F: Files>(
     form: Form,
     linted: &Linted,
 ) -> Result<(Vec<u8>, u8), AllocError> {
-    let found = errors_of(alloc, files, linted)?;
-    let page = page_of(alloc, form, linted, found.as_slice())?;
-    Ok((page, status_of(found.as_slice())))
+    let found = found_in(alloc, files, linted)?;
+    let page = page_of(alloc, form, linted, &found)?;
+    Ok((page, status_of(found.findings.as_slice())))
 }
 
 /// Writes a page, and returns the exit status: that which is given, unless the page can't be written.

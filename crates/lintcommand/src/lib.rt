@@ -1,7 +1,7 @@
 //! The command `lint`: what is wrong with a configure.ac, and where, without a run.
 //!
 //! [`run_lint`] reads each source that is named, and prints what is found in it: the first error that a run would report, the source
-//! that is too long, the templates that are not there, and each macro that is not known, in order of place. It starts nothing and
+//! that is too long, the templates that are not there, each macro that is not known, and warnings, in order of place. It starts nothing and
 //! writes no file.
 //!
 //! ```text
@@ -16,7 +16,9 @@
 mod command;
 mod errors;
 mod reading;
+mod sheets;
 mod showing;
 mod templates;
+mod warnings;
 
 pub use command::{may_colour, run_lint};

@@ -2,7 +2,9 @@
 
 ghost use Rattle.std.specs.Prelude.{◌≤◌};
 
+use crate::errors::Found;
 use crate::reading::Linted;
+use crate::sheets::Sheets;
 use deftable::Bytes;
 use excerpts::{excerpt_of, json_of};
 use findings::{Finding, Severity};
@@ -17,19 +19,44 @@ pub(crate) struct Form {
     pub(crate) is_coloured: bool,
 }
 
-/// Returns a finding as it is shown.
-fn shown(
+/// Returns a finding as it is shown, in a file of this name with this text.
+fn shown_in(
     alloc: Global,
     form: Form,
-    linted: &Linted,
     finding: &Finding,
+    name: &[u8],
+    text: &[u8],
 ) -> Result<Bytes, AllocError> {
-    let name = linted.name.as_slice();
-    let text = linted.text.as_slice();
     if form.is_json {
         json_of(alloc, finding, name, text)
     } else {
         excerpt_of(alloc, finding, name, text, form.is_coloured)
+    }
+}
+
+/// Returns a finding as it is shown, in the source or in one of its templates.
+fn shown(
+    alloc: Global,
+    form: Form,
+    linted: &Linted,
+    sheets: &Sheets,
+    finding: &Finding,
+) -> Result<Bytes, AllocError> {
+    match sheets.get(finding.file) {
+        Some(sheet) => shown_in(
+            alloc,
+            form,
+            finding,
+            sheet.name.as_slice(),
+            sheet.text.as_slice(),
+        ),
+        None => shown_in(
+            alloc,
+            form,
+            finding,
+            linted.name.as_slice(),
+            linted.text.as_slice(),
+        ),
     }
 }
 
@@ -38,11 +65,11 @@ pub(crate) fn page_of(
     alloc: Global,
     form: Form,
     linted: &Linted,
-    found: &[Finding],
+    found: &Found,
 ) -> Result<Vec<u8>, AllocError> {
     let mut page = Vec::new(alloc);
-    for finding in found {
-        let text = shown(alloc, form, linted, finding)?;
+    for finding in found.findings.as_slice() {
+        let text = shown(alloc, form, linted, &found.sheets, finding)?;
         page.extend_from_slice(text.as_slice())?;
     }
     Ok(page)

@@ -19,6 +19,7 @@ use explaining::asks_why;
 use filtering::{Filtered, filter};
 use helptext::{run_help, run_version};
 use invocation::{Call, call_of, tell_usage};
+use lintcommand::{may_colour, run_lint};
 use shown::Shown;
 use std::alloc::Global;
 use std::io::{self, Input, IsTerminal, Read, Write};
@@ -68,6 +69,7 @@ pub fn run<F: Files, C: Crew + Causes, R: Read, W: Write, E: Write>(
     env: &[(Bytes, Bytes)],
     crew: &mut C,
     why: bool,
+    is_terminal: bool,
     input: &mut R,
     output: &mut W,
     errors: &mut E,
@@ -112,7 +114,17 @@ pub fn run<F: Files, C: Crew + Causes, R: Read, W: Write, E: Write>(
         Call::Help(words) => run_help(words, output, errors),
         Call::Version => run_version(output, errors),
         Call::Why(words) => run_why(alloc, files, words, output, errors),
-        Call::Lint(_) => tell_usage(errors),
+        Call::Lint(words) => {
+            run_lint(
+                alloc,
+                files,
+                words,
+                may_colour(env, is_terminal),
+                input,
+                output,
+                errors,
+            )
+        }
         Call::Unknown => tell_usage(errors),
     }
 }
@@ -143,18 +155,19 @@ pub fn command<C: Crew + Causes>(
     requires failures { (C.account crew.old).failures + 256 ≤ 2 ^ 62 }
     ensures idle { IsIdle (C.account crew.new).events }
 {
-    let is_terminal = rt.stderr().is_terminal();
-    let why = asks_why(env) || is_terminal;
-    let is_shown = rt.stdout().is_terminal() && shows_output(words);
+    let is_seen = rt.stderr().is_terminal();
+    let is_terminal = rt.stdout().is_terminal();
+    let is_shown = is_terminal && shows_output(words);
     run(
         alloc,
         &rt,
         words,
         env,
         crew,
-        why,
+        asks_why(env) || is_seen,
+        is_terminal,
         &mut rt.reader(),
         &mut Shown::new(io::writer(&rt), is_shown),
-        &mut Shown::new(rt.stderr(), is_terminal),
+        &mut Shown::new(rt.stderr(), is_seen),
     )
 }
