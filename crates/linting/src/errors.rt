@@ -10,10 +10,10 @@ ghost use Rattle.syntax.specs.Script.{script_of};
 ghost use Rattle.linting.specs.Errors as specs;
 
 use crate::fault::place_of_fault;
-use crate::foreign::push_calls;
+use crate::foreign::{fault_finding, push_calls};
 use acparse::parse;
 use acstatement::ParseFault;
-use faultwords::{parse_finding, too_long_finding};
+use faultwords::too_long_finding;
 use findings::{Finding, put_in_order};
 use plan::{PlanFault, compile};
 use sourcecalls::{CallAt, calls_of};
@@ -62,7 +62,7 @@ fn found(
 ) -> Result<Vec<Finding>, AllocError>
     ensures { IfOk result (λ v. map specs.shown v.items ≡ specs.errors_refused fault at (map seen calls.now)) }
 {
-    let first = parse_finding(alloc, text, fault, at)?;
+    let first = fault_finding(alloc, text, fault, at, calls)?;
     let mut out = Vec::new(alloc);
     out.push(first)?;
     push_calls(alloc, text, fault, calls, &mut out)?;

@@ -1,10 +1,11 @@
 //! The calls of macros that the table of macros doesn't have.
 
-ghost use Rattle.std.specs.Prelude.{◌≡◌, [], ◌∷◌, ◌++◌, map, OnOk};
+ghost use Rattle.std.specs.Prelude.{◌≡◌, [], ◌∷◌, ◌++◌, map, IfOk, OnOk};
 ghost use Rattle.std.specs.List.{flat_map};
 ghost use Rattle.sourcecalls.specs.Calls.{seen};
 ghost use Rattle.linting.specs.Errors as specs;
 
+use crate::advice::advised;
 use acstatement::ParseFault;
 use faultwords::parse_finding;
 use findings::Finding;
@@ -28,16 +29,29 @@ fn is_other(fault: ParseFault, call: &CallAt) -> bool
     !call.is_of_profile && !is_unknown_at(fault, call.start)
 }
 
+/// Returns the error of a call whose macro isn't known.
+fn unknown(alloc: Global, text: &[u8], call: &CallAt) -> Result<Finding, AllocError>
+    ensures { IfOk result (λ f. specs.shown f ≡ specs.error_at (seen call.now).start) }
+{
+    let finding = parse_finding(
+        alloc,
+        text,
+        ParseFault::UnknownMacro(call.start),
+        call.start,
+    )?;
+    advised(alloc, text, call, finding)
+}
+
 /// Appends the error of a call whose macro isn't known.
 fn push_unknown(
     alloc: Global,
     text: &[u8],
-    at: usize,
+    call: &CallAt,
     out: &mut Vec<Finding>,
 ) -> Result<(), AllocError>
-    ensures { OnOk result (map specs.shown out.new.items ≡ map specs.shown out.old.items ++ specs.error_at at ∷ []) }
+    ensures { OnOk result (map specs.shown out.new.items ≡ map specs.shown out.old.items ++ specs.error_at (seen call.now).start ∷ []) }
 {
-    let finding = parse_finding(alloc, text, ParseFault::UnknownMacro(at), at)?;
+    let finding = unknown(alloc, text, call)?;
     out.push(finding)?;
     Ok(())
 }
@@ -53,7 +67,7 @@ fn push_call(
     ensures { OnOk result (map specs.shown out.new.items ≡ map specs.shown out.old.items ++ specs.of_call fault (seen call.now)) }
 {
     if is_other(fault, call) {
-        push_unknown(alloc, text, call.start, out)
+        push_unknown(alloc, text, call, out)
     } else {
         Ok(())
     }
@@ -73,4 +87,26 @@ pub(crate) fn push_calls(
         push_call(alloc, text, fault, call, out)?;
     }
     Ok(())
+}
+
+/// Returns the call that the fault is about, if it is that a macro isn't known.
+fn call_of(fault: ParseFault, calls: &[CallAt]) -> Option<&CallAt> {
+    calls.iter().find(|call| is_unknown_at(fault, call.start))
+}
+
+/// Returns the error of a fault at this place.
+pub(crate) fn fault_finding(
+    alloc: Global,
+    text: &[u8],
+    fault: ParseFault,
+    at: usize,
+    calls: &[CallAt],
+) -> Result<Finding, AllocError>
+    ensures { IfOk result (λ f. specs.shown f ≡ specs.error_at at) }
+{
+    let finding = parse_finding(alloc, text, fault, at)?;
+    match call_of(fault, calls) {
+        None => Ok(finding),
+        Some(call) => advised(alloc, text, call, finding),
+    }
 }

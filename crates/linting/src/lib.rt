@@ -7,10 +7,12 @@
 //! let findings = errors_of(alloc, b"AC_INIT([a],[1])\nAC_PROG_AWK\nif x; then\nAC_OUTPUT\n")?; // AC_PROG_AWK at 17, and `if` at 29
 //! ```
 //!
-//! Read `fault` (where a fault is), `statement` (where the statement at fault begins), `foreign` (calls), and then `errors`.
+//! Read `fault` (where a fault is), `statement` (where the statement at fault begins), `advice` (what to write in place
+//! of a call), `foreign` (calls), and then `errors`.
 //! `specs/Errors` has the definitions. Every function fails only if memory runs out.
 #![tactic(auto)]
 
+mod advice;
 mod errors;
 mod fault;
 mod foreign;
