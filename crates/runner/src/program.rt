@@ -57,8 +57,9 @@ fn run_filter<R: Read, W: Write, E: Write>(
 /// Without words, it filters its input, and the status is that of the source's run. After `standin` they are the command line
 /// of a compiler, which the stand-in answers. After `configure` they are the arguments of a run, which has at most one child at
 /// once, or N after `-jN`. After `status` they are the names of outputs of the run's record, which are made again; but `status
-/// --recheck` is the run again, with the arguments of its record. There is no other command. If anything is wrong, also with the
-/// words, the status is 2 (own).
+/// --recheck` is the run again, with the arguments of its record. `lint` says what is wrong with sources, `why` why a check has its
+/// answer, and `help` how commands are called. There is no other command. If anything is wrong, also with the words, the status is 2
+/// (own). `is_terminal` is whether standard output is a terminal, for colours.
 ///
 /// Each error is reported as one line on standard error. If that can't be written, only the status reports it. If `why` is set, further lines
 /// may follow such a line, which say why; otherwise none do.
