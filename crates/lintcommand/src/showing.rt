@@ -8,6 +8,7 @@ use crate::sheets::Sheets;
 use deftable::Bytes;
 use excerpts::{excerpt_of, json_of};
 use findings::{Finding, Severity};
+use itoa::Buffer;
 use std::alloc::{AllocError, Global};
 
 /// How findings are shown.
@@ -60,7 +61,29 @@ fn shown(
     }
 }
 
-/// Returns all findings as they are shown.
+/// How many findings of a source are shown. To show one, its file is read up to its place.
+const MOST: usize = 1000;
+
+/// Returns the findings that are shown.
+fn first_of(findings: &[Finding]) -> &[Finding] {
+    &findings[..findings.len().min(MOST)]
+}
+
+/// Appends how many findings are not shown, if there are any.
+fn put_rest(page: &mut Vec<u8>, linted: &Linted, count: usize) -> Result<(), AllocError> {
+    let rest = count.saturating_sub(MOST);
+    if rest == 0 {
+        return Ok(());
+    }
+    let mut digits = Buffer::new();
+    page.extend_from_slice(linted.name.as_slice())?;
+    page.extend_from_slice(b": ")?;
+    page.extend_from_slice(digits.format(rest).as_bytes())?;
+    page.extend_from_slice(b" more findings are not shown\n")?;
+    Ok(())
+}
+
+/// Returns the findings as they are shown, at most the first thousand.
 pub(crate) fn page_of(
     alloc: Global,
     form: Form,
@@ -68,9 +91,13 @@ pub(crate) fn page_of(
     found: &Found,
 ) -> Result<Vec<u8>, AllocError> {
     let mut page = Vec::new(alloc);
-    for finding in found.findings.as_slice() {
+    let findings = found.findings.as_slice();
+    for finding in first_of(findings) {
         let text = shown(alloc, form, linted, &found.sheets, finding)?;
         page.extend_from_slice(text.as_slice())?;
+    }
+    if !form.is_json {
+        put_rest(&mut page, linted, findings.len())?;
     }
     Ok(page)
 }
