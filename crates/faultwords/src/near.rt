@@ -3,10 +3,10 @@
 use std::alloc::{AllocError, Global};
 use strsim::generic_levenshtein;
 
-/// Returns how many edits two names may differ by to be near: one for each three letters after the first three, which many names
-/// share, and three at most.
+/// Returns how many edits two names may differ by to be near: none for up to three letters, one for four to seven, two for eight to
+/// eleven, and three for longer ones.
 fn allowed(name: &[u8]) -> usize {
-    (name.len().saturating_sub(3) / 3).min(3)
+    (name.len() / 4).min(3)
 }
 
 /// Returns the first of the names with the fewest edits from the name, if these are few.

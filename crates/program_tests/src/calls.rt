@@ -61,6 +61,7 @@ fn status_over<C: Crew + Causes, W: Write>(
         env,
         crew,
         asks_why(env),
+        false,
         &mut input,
         output,
         errors,

@@ -65,13 +65,13 @@ source AC_MSG_NOTICE([n])^JAC_MSG_WARN([w])^JAC_CONFIG_FILES([f])|write f.in 1|f
 here config.log config.status configure.ac f f.in
 source AC_MSG_NOTICE([n])^JAC_CONFIG_FILES([f])|write f.in 1|full|run configure,-q|read f => 0; f[1]
 // If ACRUN_WHY is set, a line says why a put was refused, or why the log or standard output can't be written.
-source AC_CONFIG_FILES([f g])|write f.in 1|write g.in 2|directory g|env ACRUN_WHY=1|run configure|directory config.log|run status => \
+source AC_CONFIG_FILES([f g])|write f.in 1|write g.in 2|directory g|env ACRUN_WHY=1|run configure|run status => \
 2 [config.status: creating f^J] err[acrun: put 3^Jacrun: g: Is a directory^J]; 2 [config.status: creating f^J] err[acrun: put 2^Jacrun: g: Is a directory^J]
 source AC_CONFIG_FILES([f config.status:f.in])|write f.in 1|env ACRUN_WHY=1|run configure|remove f|source AC_CONFIG_FILES([f/g:f.in])|write f 1\
 |run configure|source AC_CONFIG_FILES([f.in:f.in])|run configure => \
 2 [config.status: creating f^J] err[acrun: put 3^Jacrun: config.status: has the name of another file of this run^J]; \
-2 err[acrun: put 2^Jacrun: f/g: Not a directory^J]; 2 err[acrun: put 2^Jacrun: f.in: has the name of another file of this run^J]
-source a=1|env ACRUN_WHY=1|run configure,--cache-file=d/c|directory config.log|run configure => \
+2 err[acrun: put 2^Jacrun: f/g: File exists^J]; 2 err[acrun: put 2^Jacrun: f.in: has the name of another file of this run^J]
+source a=1|env ACRUN_WHY=1|run configure,--cache-file=d/c|remove config.log|directory config.log|run configure => \
 2 err[acrun: put 1^Jacrun: d/c: No such file or directory^J]; 2 err[acrun: file config.log^Jacrun: config.log: File exists^J]
 source AC_MSG_NOTICE([n])^JAC_MSG_WARN([w])|env ACRUN_WHY=1|full|run configure|run status => \
 2 err[configure: WARNING: w^Jacrun: file standard output^Jacrun: standard output: No space left on device^J]; 0

@@ -159,6 +159,7 @@ pub fn status_over<C: Crew + Causes, R: Read, W: Write, E: Write>(
         &[],
         crew,
         false,
+        false,
         input,
         output,
         errors,

@@ -19,6 +19,7 @@ use explaining::asks_why;
 use filtering::{Filtered, filter};
 use helptext::{run_help, run_version};
 use invocation::{Call, call_of, tell_usage};
+use lintcommand::{may_colour, run_lint};
 use shown::Shown;
 use std::alloc::Global;
 use std::io::{self, Input, IsTerminal, Read, Write};
@@ -56,8 +57,9 @@ fn run_filter<R: Read, W: Write, E: Write>(
 /// Without words, it filters its input, and the status is that of the source's run. After `standin` they are the command line
 /// of a compiler, which the stand-in answers. After `configure` they are the arguments of a run, which has at most one child at
 /// once, or N after `-jN`. After `status` they are the names of outputs of the run's record, which are made again; but `status
-/// --recheck` is the run again, with the arguments of its record. There is no other command. If anything is wrong, also with the
-/// words, the status is 2 (own).
+/// --recheck` is the run again, with the arguments of its record. `lint` says what is wrong with sources, `why` why a check has its
+/// answer, and `help` how commands are called. There is no other command. If anything is wrong, also with the words, the status is 2
+/// (own). `is_terminal` is whether standard output is a terminal, for colours.
 ///
 /// Each error is reported as one line on standard error. If that can't be written, only the status reports it. If `why` is set, further lines
 /// may follow such a line, which say why; otherwise none do.
@@ -68,6 +70,7 @@ pub fn run<F: Files, C: Crew + Causes, R: Read, W: Write, E: Write>(
     env: &[(Bytes, Bytes)],
     crew: &mut C,
     why: bool,
+    is_terminal: bool,
     input: &mut R,
     output: &mut W,
     errors: &mut E,
@@ -112,7 +115,17 @@ pub fn run<F: Files, C: Crew + Causes, R: Read, W: Write, E: Write>(
         Call::Help(words) => run_help(words, output, errors),
         Call::Version => run_version(output, errors),
         Call::Why(words) => run_why(alloc, files, words, output, errors),
-        Call::Lint(_) => tell_usage(errors),
+        Call::Lint(words) => {
+            run_lint(
+                alloc,
+                files,
+                words,
+                may_colour(env, is_terminal),
+                input,
+                output,
+                errors,
+            )
+        }
         Call::Unknown => tell_usage(errors),
     }
 }
@@ -143,18 +156,19 @@ pub fn command<C: Crew + Causes>(
     requires failures { (C.account crew.old).failures + 256 ≤ 2 ^ 62 }
     ensures idle { IsIdle (C.account crew.new).events }
 {
-    let is_terminal = rt.stderr().is_terminal();
-    let why = asks_why(env) || is_terminal;
-    let is_shown = rt.stdout().is_terminal() && shows_output(words);
+    let is_seen = rt.stderr().is_terminal();
+    let is_terminal = rt.stdout().is_terminal();
+    let is_shown = is_terminal && shows_output(words);
     run(
         alloc,
         &rt,
         words,
         env,
         crew,
-        why,
+        asks_why(env) || is_seen,
+        is_terminal,
         &mut rt.reader(),
         &mut Shown::new(io::writer(&rt), is_shown),
-        &mut Shown::new(rt.stderr(), is_terminal),
+        &mut Shown::new(rt.stderr(), is_seen),
     )
 }

@@ -133,8 +133,12 @@ fn tries(name: &[u8]) -> bool {
         || name == b"AC_CACHE_CHECK".as_slice()
 }
 
-/// Warns if a check compiles something and no program was tried before it.
-fn warn_of_compiler(
+/// Adds a warning about the first check that compiles something, if no program was tried before it (own).
+///
+/// # Errors
+///
+/// Fails only if memory runs out.
+pub fn warn_of_compiler(
     alloc: Global,
     text: &[u8],
     calls: &[CallAt],
@@ -160,8 +164,7 @@ fn warn_of_compiler(
     Ok(())
 }
 
-/// Adds the warnings about calls: a library that is sought by `main`, a comma in a list of headers or functions, and the first check
-/// that compiles something if no program was tried before it (own).
+/// Adds the warnings about calls: a library that is sought by `main`, and a comma in a list of headers or functions (own).
 ///
 /// # Errors
 ///
@@ -175,5 +178,5 @@ pub fn warn_of_calls(
     for call in calls {
         warn_of_call(alloc, text, call, out)?;
     }
-    warn_of_compiler(alloc, text, calls, out)
+    Ok(())
 }

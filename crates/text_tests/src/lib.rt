@@ -1,5 +1,5 @@
 //! Tests of the crates that hold, cut and make texts, and hand them over: deftable, textcut, m4quote, cachefile, status_record,
-//! csource, conftest, cfglog, template, making and outputs.
+//! csource, conftest, cfglog, template, making, outputs and macrotable.
 //!
 //! They have what no clause says: an ordinary answer of each call, with ample memory; worked examples, each answer found by
 //! hand from the rules; and printed text. An example is a row of a table that `testrows` reads, and a row begins with a word
@@ -19,6 +19,8 @@ mod headers;
 mod logs;
 #[cfg(test)]
 mod made;
+#[cfg(test)]
+mod others;
 #[cfg(test)]
 mod pieces;
 #[cfg(test)]

@@ -1,0 +1,144 @@
+//! The command.
+
+use crate::errors::found_in;
+use crate::reading::{Linted, read_named};
+use crate::showing::{Form, page_of, status_of};
+use deftable::Bytes;
+use invocation::{tell_file, tell_memory, tell_usage};
+use std::alloc::{AllocError, Global};
+use std::io::{Read, Write};
+use std::rt::Files;
+
+/// The source that is linted if no word names one.
+const SOURCE: &[u8] = b"configure.ac";
+
+/// The option for JSON.
+const JSON: &[u8] = b"--json";
+
+/// The name of standard output in the line of a fault.
+const OUTPUT: &[u8] = b"standard output";
+
+/// Returns whether the word is an option, and no name of a file.
+fn is_option(word: &[u8]) -> bool {
+    word.starts_with(b"-") && word != b"-".as_slice()
+}
+
+/// Returns whether each option is known.
+fn are_known(words: &[Bytes]) -> bool {
+    words.iter().all(|word| !is_option(word.as_slice()) || word.as_slice() == JSON)
+}
+
+/// Returns the page of what is found in a source, and the exit status.
+fn lint_text<F: Files>(
+    alloc: Global,
+    files: &F,
+    form: Form,
+    linted: &Linted,
+) -> Result<(Vec<u8>, u8), AllocError> {
+    let found = found_in(alloc, files, linted)?;
+    let page = page_of(alloc, form, linted, &found)?;
+    Ok((page, status_of(found.findings.as_slice())))
+}
+
+/// Writes a page, and returns the exit status: that which is given, unless the page can't be written.
+fn put_page<W: Write, E: Write>(page: &[u8], status: u8, output: &mut W, errors: &mut E) -> u8 {
+    match output.write_all(page) {
+        Ok(()) => status,
+        Err(_) => tell_file(errors, OUTPUT),
+    }
+}
+
+/// Prints what is found in a source, and returns the exit status.
+fn lint_source<F: Files, W: Write, E: Write>(
+    alloc: Global,
+    files: &F,
+    form: Form,
+    linted: &Linted,
+    output: &mut W,
+    errors: &mut E,
+) -> u8 {
+    match lint_text(alloc, files, form, linted) {
+        Ok((page, status)) => put_page(page.as_slice(), status, output, errors),
+        Err(_) => tell_memory(errors),
+    }
+}
+
+/// Reads the source that a word names, prints what is found in it, and returns the exit status.
+fn lint_named<F: Files, R: Read, W: Write, E: Write>(
+    alloc: Global,
+    files: &F,
+    form: Form,
+    word: &[u8],
+    input: &mut R,
+    output: &mut W,
+    errors: &mut E,
+) -> u8 {
+    match read_named(alloc, files, input, word) {
+        Ok(Some(linted)) => lint_source(alloc, files, form, &linted, output, errors),
+        Ok(None) => tell_file(errors, word),
+        Err(_) => tell_memory(errors),
+    }
+}
+
+/// Lints each source that the words name, and returns the exit status, which is the largest of theirs.
+fn lint_all<F: Files, R: Read, W: Write, E: Write>(
+    alloc: Global,
+    files: &F,
+    form: Form,
+    words: &[Bytes],
+    input: &mut R,
+    output: &mut W,
+    errors: &mut E,
+) -> u8 {
+    let mut status: u8 = 0;
+    let mut is_named = false;
+    for word in words {
+        if !is_option(word.as_slice()) {
+            is_named = true;
+            let next = lint_named(alloc, files, form, word.as_slice(), input, output, errors);
+            status = status.max(next);
+        }
+    }
+    if is_named {
+        return status;
+    }
+    lint_named(alloc, files, form, SOURCE, input, output, errors)
+}
+
+/// Prints what is wrong with the sources that the words name, and returns the exit status.
+///
+/// A word is `--json`, `-` for standard input, or the path of a source or of a directory with a `configure.ac`. Without such a path,
+/// `configure.ac` is read. Templates are read from the source's directory, and for standard input from the current one. Nothing is
+/// run, and no file is written.
+///
+/// The status is 0 if nothing is found, or warnings alone; 1 if there are errors; and 2 if a source can't be read, if the text can't
+/// be written, or if an option isn't known, and then standard error has a line for it (own).
+pub fn run_lint<F: Files, R: Read, W: Write, E: Write>(
+    alloc: Global,
+    files: &F,
+    words: &[Bytes],
+    is_coloured: bool,
+    input: &mut R,
+    output: &mut W,
+    errors: &mut E,
+) -> u8 {
+    if !are_known(words) {
+        return tell_usage(errors);
+    }
+    let form = Form {
+        is_json: words.iter().any(|word| word.as_slice() == JSON),
+        is_coloured,
+    };
+    lint_all(alloc, files, form, words, input, output, errors)
+}
+
+/// Returns whether the entry is a NO_COLOR that isn't empty.
+fn forbids_colour(entry: &(Bytes, Bytes)) -> bool {
+    entry.0.as_slice() == b"NO_COLOR".as_slice() && !entry.1.as_slice().is_empty()
+}
+
+/// Returns whether what is printed may have colours: standard output is a terminal, and the environment has no NO_COLOR, or an empty one
+/// (no-color.org).
+pub fn may_colour(env: &[(Bytes, Bytes)], is_terminal: bool) -> bool {
+    is_terminal && !env.iter().any(forbids_colour)
+}

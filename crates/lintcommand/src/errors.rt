@@ -1,0 +1,91 @@
+//! What is found in a source: its errors, the templates that are not there, and the warnings.
+
+use crate::reading::Linted;
+use crate::sheets::{Sheets, read_sheets};
+use crate::templates::add_missing;
+use crate::warnings::{add_of_calls, add_warnings};
+use acparse::{ParseFault, parse};
+use findings::{Finding, put_in_order};
+use std::alloc::{AllocError, Global};
+use std::rt::Files;
+use syntax::Source;
+
+/// What is found in a source and its templates, in order of place, and the templates.
+#[derive(Drop)]
+pub(crate) struct Found {
+    pub(crate) findings: Vec<Finding>,
+    pub(crate) sheets: Sheets,
+}
+
+/// Appends an error for each template of a source that is not there.
+fn add_of_source<F: Files>(
+    alloc: Global,
+    files: &F,
+    linted: &Linted,
+    source: &Source,
+    found: &mut Vec<Finding>,
+) -> Result<(), AllocError> {
+    let directory = linted.directory.as_slice();
+    let text = linted.text.as_slice();
+    let outputs = source.files();
+    add_missing(alloc, files, directory, text, outputs.as_slice(), found)?;
+    let headers = source.headers();
+    add_missing(alloc, files, directory, text, headers.as_slice(), found)
+}
+
+/// Returns the templates of a source that are there.
+fn sheets_of<F: Files>(
+    alloc: Global,
+    files: &F,
+    directory: &[u8],
+    source: &Source,
+) -> Result<Sheets, AllocError> {
+    let of_files = read_sheets(alloc, files, directory, source.files().as_slice())?;
+    let of_headers = read_sheets(alloc, files, directory, source.headers().as_slice())?;
+    Ok(Sheets {
+        files: of_files,
+        headers: of_headers,
+    })
+}
+
+/// Appends what is found in a source that is read and in its templates, and returns the templates.
+fn add_of_read<F: Files>(
+    alloc: Global,
+    files: &F,
+    linted: &Linted,
+    source: &Source,
+    found: &mut Vec<Finding>,
+) -> Result<Sheets, AllocError> {
+    add_of_source(alloc, files, linted, source, found)?;
+    let sheets = sheets_of(alloc, files, linted.directory.as_slice(), source)?;
+    add_warnings(alloc, linted.text.as_slice(), source, &sheets, found)?;
+    Ok(sheets)
+}
+
+/// Appends what is found in the templates and the statements, if the source is read, and returns the templates.
+fn add_further<F: Files>(
+    alloc: Global,
+    files: &F,
+    linted: &Linted,
+    found: &mut Vec<Finding>,
+) -> Result<Sheets, AllocError> {
+    match parse(alloc, linted.text.as_slice()) {
+        Ok(source) => add_of_read(alloc, files, linted, &source, found),
+        Err(ParseFault::OutOfMemory) => Err(AllocError),
+        Err(_) => Ok(Sheets::none(alloc)),
+    }
+}
+
+/// Returns what is found in a source, in order of place: its errors, the templates that are not there, and the warnings. If the source
+/// is refused, the warnings are those about its calls alone.
+pub(crate) fn found_in<F: Files>(
+    alloc: Global,
+    files: &F,
+    linted: &Linted,
+) -> Result<Found, AllocError> {
+    let mut findings = linting::errors_of(alloc, linted.text.as_slice())?;
+    add_of_calls(alloc, linted.text.as_slice(), &mut findings)?;
+    let sheets = add_further(alloc, files, linted, &mut findings)?;
+    put_in_order(&mut findings)?;
+    Ok(Found { findings, sheets })
+}

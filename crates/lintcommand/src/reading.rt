@@ -1,0 +1,86 @@
+//! Reads the source that a word names.
+
+use bstr::ByteSlice;
+use deftable::Bytes;
+use diskfiles::{path_in, read_text};
+use input::{ReadFault, read_input};
+use std::alloc::{AllocError, Global};
+use std::io::Read;
+use std::rt::Files;
+
+/// A source that was read.
+#[derive(Drop)]
+pub(crate) struct Linted {
+    /// What it is called in what is printed.
+    pub(crate) name: Bytes,
+    /// The directory of its templates.
+    pub(crate) directory: Bytes,
+    pub(crate) text: Bytes,
+}
+
+/// The name of a source in a directory.
+const SOURCE: &[u8] = b"configure.ac";
+
+/// Returns the directory of the file at a path.
+fn directory_of(path: &[u8]) -> &[u8] {
+    match path.rfind_byte(b'/') {
+        Some(0) => b"/".as_slice(),
+        Some(at) => &path[..at.min(path.len())],
+        None => b".".as_slice(),
+    }
+}
+
+/// Returns a source with this text, at a path.
+fn source_at(alloc: Global, path: &[u8], text: Bytes) -> Result<Linted, AllocError> {
+    let name = Bytes::from_slice(alloc, path)?;
+    let directory = Bytes::from_slice(alloc, directory_of(path))?;
+    Ok(Linted {
+        name,
+        directory,
+        text,
+    })
+}
+
+/// Returns the source that standard input gives.
+fn read_stream<R: Read>(alloc: Global, input: &mut R) -> Result<Option<Linted>, AllocError> {
+    match read_input(alloc, input) {
+        Ok(text) => Ok(Some(source_at(alloc, b"<stdin>", Bytes::from_vec(text))?)),
+        Err(ReadFault::Read) => Ok(None),
+        Err(ReadFault::OutOfMemory) => Err(AllocError),
+    }
+}
+
+/// Returns the source at a path, or `None` if it can't be read.
+fn read_at<F: Files>(alloc: Global, files: &F, path: &[u8]) -> Result<Option<Linted>, AllocError> {
+    match read_text(alloc, files, path)? {
+        Some(text) => Ok(Some(source_at(alloc, path, text)?)),
+        None => Ok(None),
+    }
+}
+
+/// Returns the source in a directory, or `None` if it can't be read.
+fn read_within<F: Files>(
+    alloc: Global,
+    files: &F,
+    directory: &[u8],
+) -> Result<Option<Linted>, AllocError> {
+    let path = path_in(alloc, directory, SOURCE)?;
+    read_at(alloc, files, path.as_slice())
+}
+
+/// Returns the source that a word names, or `None` if it can't be read. The word is `-` for standard input, or the path of a source or
+/// of a directory with a `configure.ac`.
+pub(crate) fn read_named<F: Files, R: Read>(
+    alloc: Global,
+    files: &F,
+    input: &mut R,
+    word: &[u8],
+) -> Result<Option<Linted>, AllocError> {
+    if word == b"-".as_slice() {
+        return read_stream(alloc, input);
+    }
+    if let Some(found) = read_at(alloc, files, word)? {
+        return Ok(Some(found));
+    }
+    read_within(alloc, files, word)
+}

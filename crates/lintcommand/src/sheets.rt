@@ -1,0 +1,77 @@
+//! The templates of a source, as they are read for warnings.
+
+use deftable::Bytes;
+use diskfiles::{path_in, read_text};
+use outputlist::Output;
+use std::alloc::{AllocError, Global};
+use std::rt::Files;
+
+/// A file with findings: what it is called, and its text.
+#[derive(Drop)]
+pub(crate) struct Sheet {
+    pub(crate) name: Bytes,
+    pub(crate) text: Bytes,
+}
+
+/// The templates that are there, each once: those of files, and those of headers. Findings count them from 1, in this order.
+#[derive(Drop)]
+pub(crate) struct Sheets {
+    pub(crate) files: Vec<Sheet>,
+    pub(crate) headers: Vec<Sheet>,
+}
+
+impl Sheets {
+    /// Returns no templates.
+    pub(crate) fn none(alloc: Global) -> Sheets {
+        Sheets {
+            files: Vec::new(alloc),
+            headers: Vec::new(alloc),
+        }
+    }
+
+    /// Returns the template of this number, counted from 1.
+    pub(crate) fn get(&self, number: usize) -> Option<&Sheet> {
+        let index = number.checked_sub(1)?;
+        match index.checked_sub(self.files.len()) {
+            Some(rest) => self.headers.get(rest),
+            None => self.files.get(index),
+        }
+    }
+}
+
+/// Returns whether a template of this name was read.
+fn has(sheets: &[Sheet], name: &[u8]) -> bool {
+    sheets.iter().any(|sheet| sheet.name.as_slice() == name)
+}
+
+/// Reads the template of an output, unless it was read before or is not there.
+fn read_sheet<F: Files>(
+    alloc: Global,
+    files: &F,
+    directory: &[u8],
+    output: &Output,
+    sheets: &mut Vec<Sheet>,
+) -> Result<(), AllocError> {
+    let name = path_in(alloc, directory, output.template.as_slice())?;
+    if has(sheets.as_slice(), name.as_slice()) {
+        return Ok(());
+    }
+    if let Some(text) = read_text(alloc, files, name.as_slice())? {
+        sheets.push(Sheet { name, text })?;
+    }
+    Ok(())
+}
+
+/// Returns the templates of outputs that are there.
+pub(crate) fn read_sheets<F: Files>(
+    alloc: Global,
+    files: &F,
+    directory: &[u8],
+    outputs: &[Output],
+) -> Result<Vec<Sheet>, AllocError> {
+    let mut sheets = Vec::new(alloc);
+    for output in outputs {
+        read_sheet(alloc, files, directory, output, &mut sheets)?;
+    }
+    Ok(sheets)
+}

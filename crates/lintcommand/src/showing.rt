@@ -1,0 +1,122 @@
+//! Prints what was found.
+
+ghost use Rattle.std.specs.Prelude.{◌≤◌};
+
+use crate::errors::Found;
+use crate::reading::Linted;
+use crate::sheets::Sheets;
+use deftable::Bytes;
+use excerpts::{excerpt_of, json_of};
+use findings::{Finding, Severity};
+use itoa::Buffer;
+use std::alloc::{AllocError, Global};
+
+/// How findings are shown.
+#[derive(Clone, Copy)]
+pub(crate) struct Form {
+    /// If true, a finding is a line with a JSON object.
+    pub(crate) is_json: bool,
+    /// If true, the text has the colours of a terminal.
+    pub(crate) is_coloured: bool,
+}
+
+/// Returns a finding as it is shown, in a file of this name with this text.
+fn shown_in(
+    alloc: Global,
+    form: Form,
+    finding: &Finding,
+    name: &[u8],
+    text: &[u8],
+) -> Result<Bytes, AllocError> {
+    if form.is_json {
+        json_of(alloc, finding, name, text)
+    } else {
+        excerpt_of(alloc, finding, name, text, form.is_coloured)
+    }
+}
+
+/// Returns a finding as it is shown, in the source or in one of its templates.
+fn shown(
+    alloc: Global,
+    form: Form,
+    linted: &Linted,
+    sheets: &Sheets,
+    finding: &Finding,
+) -> Result<Bytes, AllocError> {
+    match sheets.get(finding.file) {
+        Some(sheet) => shown_in(
+            alloc,
+            form,
+            finding,
+            sheet.name.as_slice(),
+            sheet.text.as_slice(),
+        ),
+        None => shown_in(
+            alloc,
+            form,
+            finding,
+            linted.name.as_slice(),
+            linted.text.as_slice(),
+        ),
+    }
+}
+
+/// How many findings of a source are shown. To show one, its file is read up to its place.
+const MOST: usize = 1000;
+
+/// Returns the findings that are shown.
+fn first_of(findings: &[Finding]) -> &[Finding] {
+    &findings[..findings.len().min(MOST)]
+}
+
+/// Appends how many findings are not shown, if there are any.
+fn put_rest(page: &mut Vec<u8>, linted: &Linted, count: usize) -> Result<(), AllocError> {
+    let rest = count.saturating_sub(MOST);
+    if rest == 0 {
+        return Ok(());
+    }
+    let mut digits = Buffer::new();
+    page.extend_from_slice(linted.name.as_slice())?;
+    page.extend_from_slice(b": ")?;
+    page.extend_from_slice(digits.format(rest).as_bytes())?;
+    page.extend_from_slice(b" more findings are not shown\n")?;
+    Ok(())
+}
+
+/// Returns the findings as they are shown, at most the first thousand.
+pub(crate) fn page_of(
+    alloc: Global,
+    form: Form,
+    linted: &Linted,
+    found: &Found,
+) -> Result<Vec<u8>, AllocError> {
+    let mut page = Vec::new(alloc);
+    let findings = found.findings.as_slice();
+    for finding in first_of(findings) {
+        let text = shown(alloc, form, linted, &found.sheets, finding)?;
+        page.extend_from_slice(text.as_slice())?;
+    }
+    if !form.is_json {
+        put_rest(&mut page, linted, findings.len())?;
+    }
+    Ok(page)
+}
+
+fn is_error(finding: &Finding) -> bool {
+    match finding.severity {
+        Severity::Error => true,
+        Severity::Warning => false,
+    }
+}
+
+/// Returns the exit status after these findings: 1 if one of them is an error, and 0 otherwise.
+pub(crate) fn status_of(found: &[Finding]) -> u8
+    ensures { result ≤ 2 }
+{
+    for finding in found {
+        if is_error(finding) {
+            return 1;
+        }
+    }
+    0
+}

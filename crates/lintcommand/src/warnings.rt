@@ -1,0 +1,93 @@
+//! The warnings about a source and its templates.
+
+use crate::sheets::{Sheet, Sheets};
+use deftable::SubstList;
+use findings::Finding;
+use sourcecalls::calls_of;
+use sourcewarnings::{warn_of_calls, warn_of_compiler, warn_of_source};
+use std::alloc::{AllocError, Global};
+use syntax::Source;
+use templatewarnings::{Given, add_listed, warn_of_file, warn_of_header, warn_of_unlisted};
+
+/// Appends the warnings about the calls of a source.
+pub(crate) fn add_of_calls(
+    alloc: Global,
+    text: &[u8],
+    found: &mut Vec<Finding>,
+) -> Result<(), AllocError> {
+    let calls = calls_of(alloc, text)?;
+    warn_of_calls(alloc, text, calls.as_slice(), found)
+}
+
+/// Appends a warning if a source that is read doesn't try the compiler.
+fn add_of_compiler(alloc: Global, text: &[u8], found: &mut Vec<Finding>) -> Result<(), AllocError> {
+    let calls = calls_of(alloc, text)?;
+    warn_of_compiler(alloc, text, calls.as_slice(), found)
+}
+
+/// Appends the warnings about the templates of files, which are counted from 1.
+fn add_of_files(
+    alloc: Global,
+    given: &Given,
+    sheets: &[Sheet],
+    found: &mut Vec<Finding>,
+) -> Result<(), AllocError> {
+    let mut number: usize = 0;
+    for sheet in sheets {
+        number = number.saturating_add(1);
+        warn_of_file(alloc, given, number, sheet.text.as_slice(), found)?;
+    }
+    Ok(())
+}
+
+/// Appends the warnings about the templates of headers, which are counted after those of `before` files.
+fn add_of_headers(
+    alloc: Global,
+    given: &Given,
+    before: usize,
+    sheets: &[Sheet],
+    found: &mut Vec<Finding>,
+) -> Result<(), AllocError> {
+    let mut number = before;
+    for sheet in sheets {
+        number = number.saturating_add(1);
+        warn_of_header(alloc, given, number, sheet.text.as_slice(), found)?;
+    }
+    Ok(())
+}
+
+/// Appends the warnings about definitions that no template of a header has, if there is such a template.
+fn add_unlisted(
+    alloc: Global,
+    given: &Given,
+    text: &[u8],
+    headers: &[Sheet],
+    found: &mut Vec<Finding>,
+) -> Result<(), AllocError> {
+    if headers.is_empty() {
+        return Ok(());
+    }
+    let mut listed = SubstList::new(alloc);
+    for sheet in headers {
+        add_listed(&mut listed, sheet.text.as_slice())?;
+    }
+    warn_of_unlisted(alloc, given, text, &listed, found)
+}
+
+/// Appends the warnings about a source that is read, and about its templates.
+pub(crate) fn add_warnings(
+    alloc: Global,
+    text: &[u8],
+    source: &Source,
+    sheets: &Sheets,
+    found: &mut Vec<Finding>,
+) -> Result<(), AllocError> {
+    let given = Given::of(alloc, source)?;
+    let files = sheets.files.as_slice();
+    let headers = sheets.headers.as_slice();
+    warn_of_source(alloc, text, source, found)?;
+    add_of_compiler(alloc, text, found)?;
+    add_of_files(alloc, &given, files, found)?;
+    add_of_headers(alloc, &given, files.len(), headers, found)?;
+    add_unlisted(alloc, &given, text, headers, found)
+}
