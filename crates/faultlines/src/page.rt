@@ -1,0 +1,31 @@
+//! Words as lines.
+
+use deftable::Bytes;
+use explaining::explain_words;
+use faultwords::Words;
+use std::alloc::{AllocError, Global};
+use std::io::Write;
+
+/// Writes each line of a text as `acrun: LINE`.
+fn put_lines<E: Write>(alloc: Global, text: &[u8], errors: &mut E) {
+    for line in text.split(|byte| *byte == b'\n') {
+        explain_words(alloc, true, line, errors);
+    }
+}
+
+/// Writes what is wrong, and what to do, as lines. If memory ran out, writes nothing.
+pub(crate) fn put_words<E: Write>(alloc: Global, made: Result<Words, AllocError>, errors: &mut E) {
+    if let Ok(words) = made {
+        explain_words(alloc, true, words.message.as_slice(), errors);
+        put_lines(alloc, words.help.as_slice(), errors);
+    }
+}
+
+/// Returns the texts as slices.
+pub(crate) fn slices(alloc: Global, texts: &[Bytes]) -> Result<Vec<&[u8]>, AllocError> {
+    let mut out = Vec::new(alloc);
+    for text in texts {
+        out.push(text.as_slice())?;
+    }
+    Ok(out)
+}

@@ -1,0 +1,88 @@
+//! Why outputs are not made again.
+
+ghost use Rattle.std.specs.Prelude.{◌≡◌, false};
+
+use crate::page::put_words;
+use deftable::Bytes;
+use explaining::{Why, explain_template, explain_words};
+use faultwords::{Words, record_words, tag_words};
+use framing::RemakeFault;
+use outputlist::Output;
+use status_record::{Record, read_record};
+use std::alloc::{AllocError, Global};
+use std::io::Write;
+use std::rt::Files;
+
+/// Returns the argument of this number, which is 1 for the first, or an empty text.
+fn numbered(args: &[Bytes], number: u64) -> &[u8] {
+    match args.get((number as usize).saturating_sub(1)) {
+        Some(arg) => arg.as_slice(),
+        None => b"",
+    }
+}
+
+/// Appends the names of outputs.
+fn push_names<'a>(outputs: &'a [Output], names: &mut Vec<&'a [u8]>) -> Result<(), AllocError> {
+    for output in outputs {
+        names.push(output.name.as_slice())?;
+    }
+    Ok(())
+}
+
+/// Returns that a name is that of no output of a record.
+fn of_record_tag(alloc: Global, record: &Record, name: &[u8]) -> Result<Words, AllocError> {
+    let mut names = Vec::new(alloc);
+    push_names(record.files.as_slice(), &mut names)?;
+    push_names(record.headers.as_slice(), &mut names)?;
+    tag_words(alloc, name, names.as_slice())
+}
+
+/// Returns that a name is that of no output of the record with this text.
+fn of_tag(alloc: Global, text: &[u8], name: &[u8]) -> Result<Words, AllocError> {
+    match read_record(alloc, text) {
+        Ok(record) => of_record_tag(alloc, &record, name),
+        Err(_) => Err(AllocError),
+    }
+}
+
+/// Writes what is wrong, in words.
+fn put_remake<F: Files, E: Write>(
+    alloc: Global,
+    files: &F,
+    why: &Why<'_>,
+    cause: &[u8],
+    errors: &mut E,
+    fault: &RemakeFault,
+) {
+    match fault {
+        RemakeFault::Record(fault) => {
+            put_words(alloc, record_words(alloc, *fault, why.text), errors)
+        }
+        RemakeFault::UnknownTag(number) => put_words(
+            alloc,
+            of_tag(alloc, why.text, numbered(why.args, *number)),
+            errors,
+        ),
+        RemakeFault::NoTemplate(name) => {
+            explain_template(alloc, files, why, name.as_slice(), errors)
+        }
+        RemakeFault::PutRefused(_number) => explain_words(alloc, true, cause, errors),
+        _ => {}
+    }
+}
+
+/// Says more of why outputs are not made again, after its line, if it is asked. If a put was refused, `cause` says why.
+pub fn explain_remake<F: Files, E: Write>(
+    alloc: Global,
+    files: &F,
+    why: &Why<'_>,
+    cause: &[u8],
+    errors: &mut E,
+    fault: &RemakeFault,
+)
+    ensures silent { why.now.is_asked ≡ false → errors.new ≡ errors.old }
+{
+    if why.is_asked {
+        put_remake(alloc, files, why, cause, errors, fault);
+    }
+}

@@ -1,0 +1,54 @@
+//! The faults of a run.
+
+ghost use Rattle.std.specs.Prelude.{◌≡◌, false};
+
+use crate::page::{put_words, slices};
+use crate::source::{put_parse, put_plan};
+use commandline::OptionFault;
+use explaining::{Why, explain_template};
+use faultwords::{Words, cache_words, option_words};
+use framing::Fault;
+use std::alloc::{AllocError, Global};
+use std::io::Write;
+use std::rt::Files;
+
+/// Returns what is wrong with an argument.
+fn of_option(alloc: Global, why: &Why<'_>, fault: OptionFault) -> Result<Words, AllocError> {
+    let args = slices(alloc, why.args)?;
+    option_words(alloc, fault, args.as_slice())
+}
+
+/// Writes what is wrong, in words.
+fn put_fault<F: Files, E: Write>(
+    alloc: Global,
+    files: &F,
+    why: &Why<'_>,
+    cache: &[u8],
+    errors: &mut E,
+    fault: &Fault,
+) {
+    match fault {
+        Fault::Parse(fault) => put_parse(alloc, why, *fault, errors),
+        Fault::Plan(_) => put_plan(alloc, why, errors),
+        Fault::Option(fault) => put_words(alloc, of_option(alloc, why, *fault), errors),
+        Fault::Cache(fault) => put_words(alloc, cache_words(alloc, *fault, cache), errors),
+        Fault::NoTemplate(name) => explain_template(alloc, files, why, name.as_slice(), errors),
+        _ => {}
+    }
+}
+
+/// Says what is wrong with what a run is given, after the line of the fault, if it is asked. The cache is its text.
+pub fn explain_fault<F: Files, E: Write>(
+    alloc: Global,
+    files: &F,
+    why: &Why<'_>,
+    cache: &[u8],
+    errors: &mut E,
+    fault: &Fault,
+)
+    ensures silent { why.now.is_asked ≡ false → errors.new ≡ errors.old }
+{
+    if why.is_asked {
+        put_fault(alloc, files, why, cache, errors, fault);
+    }
+}

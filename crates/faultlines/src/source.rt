@@ -1,0 +1,62 @@
+//! A fault of the source.
+
+use acstatement::ParseFault;
+use deftable::Bytes;
+use excerpts::excerpt_of;
+use explaining::Why;
+use findings::Finding;
+use linting::errors_of;
+use std::alloc::{AllocError, Global};
+use std::io::Write;
+
+/// The code of an error that a macro isn't known.
+const UNKNOWN: &[u8] = b"parse-2";
+
+/// Returns whether an error of a source is this fault. All others are macros that aren't known.
+fn is_fault(fault: ParseFault, finding: &Finding) -> bool {
+    match fault {
+        ParseFault::UnknownMacro(at) => finding.start == at,
+        _ => finding.code.as_slice() != UNKNOWN,
+    }
+}
+
+/// Returns an error as it is shown.
+fn shown(alloc: Global, why: &Why<'_>, finding: Option<&Finding>) -> Result<Bytes, AllocError> {
+    match finding {
+        Some(finding) => excerpt_of(alloc, finding, why.path, why.text, false),
+        None => Ok(Bytes::new(alloc)),
+    }
+}
+
+/// Returns the fault of a source as it is shown, or an empty text if it isn't found.
+fn parse_shown(alloc: Global, why: &Why<'_>, fault: ParseFault) -> Result<Bytes, AllocError> {
+    let found = errors_of(alloc, why.text)?;
+    shown(
+        alloc,
+        why,
+        found.iter().find(|finding| is_fault(fault, finding)),
+    )
+}
+
+/// Returns that a source is too long, as it is shown.
+fn plan_shown(alloc: Global, why: &Why<'_>) -> Result<Bytes, AllocError> {
+    let found = errors_of(alloc, why.text)?;
+    shown(alloc, why, found.first())
+}
+
+/// Writes a text in one write. If memory ran out, writes nothing.
+fn put_shown<E: Write>(made: Result<Bytes, AllocError>, errors: &mut E) {
+    if let Ok(text) = made {
+        let _ = errors.write_all(text.as_slice());
+    }
+}
+
+/// Writes the fault of a source: its place, its words, and the line that it is in.
+pub(crate) fn put_parse<E: Write>(alloc: Global, why: &Why<'_>, fault: ParseFault, errors: &mut E) {
+    put_shown(parse_shown(alloc, why, fault), errors);
+}
+
+/// Writes that a source is too long.
+pub(crate) fn put_plan<E: Write>(alloc: Global, why: &Why<'_>, errors: &mut E) {
+    put_shown(plan_shown(alloc, why), errors);
+}
