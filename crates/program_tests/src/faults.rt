@@ -7,9 +7,9 @@ use testrows::try_rows_in;
 const FAULTS: &[u8] = b"\
 // words that are no command
 source a=1|run -j0,configure|run -j17,configure|run -j01,configure|run -j2|run -j,configure|run -j2,status|run -j2,-j2,configure|run -j2,2,configure\
-|run --help|run config|run configure2|run statuses|list => \
+|run config|run configure2|run statuses|list => \
 2 err[acrun: usage^J]; 2 err[acrun: usage^J]; 2 err[acrun: usage^J]; 2 err[acrun: usage^J]; 2 err[acrun: usage^J]; 2 err[acrun: usage^J]; \
-2 err[acrun: usage^J]; 2 err[acrun: usage^J]; 2 err[acrun: usage^J]; 2 err[acrun: usage^J]; 2 err[acrun: usage^J]; 2 err[acrun: usage^J]; here configure.ac
+2 err[acrun: usage^J]; 2 err[acrun: usage^J]; 2 err[acrun: usage^J]; 2 err[acrun: usage^J]; 2 err[acrun: usage^J]; here configure.ac
 // no source, and the path that was opened
 run configure|run configure,--srcdir=no/where|run configure,--srcdir=/no/|run configure,--zz|directory configure.ac|run configure|list => \
 2 err[acrun: file ./configure.ac^J]; 2 err[acrun: file no/where/configure.ac^J]; 2 err[acrun: file /no/configure.ac^J]; \
