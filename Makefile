@@ -34,6 +34,9 @@ demo: all
 	@sh examples/tally/run.sh out/acrun
 	@sh examples/libraries/run.sh out/acrun
 	@sh examples/guide/run.sh out/acrun
+	@sh examples/lint/run.sh out/acrun
+	@sh examples/completions/run.sh out/acrun
+	@sh examples/wrapper/run.sh
 
 compile:
 	@sh tools/build.sh conftest_samples

@@ -15,6 +15,8 @@ while IFS= read -r row; do
 done < "$here/sources.txt"
 {
     "$acrun" lint $(cat names) || echo "status $?"
+    cp -R "$here/package" package
+    "$acrun" lint package || echo "status $?"
     "$acrun" lint --json macros-unknown.ac columns.ac - < macro-misspelt.ac || echo "status $?"
 } > printed
 if [ "$2" = --write ]; then

@@ -1,7 +1,6 @@
 -- How many children are in flight, for callers that start and end them in loops.
-use Rattle.std.proofs.Common.{◌≡◌, ◌≢◌, ℕ, zero, suc, ◌+◌, ◌<◌, ◌≤◌, true, false, cond, eqb, List, [], ◌∷◌, ◌++◌, length, get_or, refl, sym, ap, subst, ◌∙◌, ⊎_elim, arith, length-append}
+use Rattle.std.proofs.Common.{◌≡◌, ◌≢◌, ℕ, ◌+◌, ◌<◌, ◌≤◌, true, false, cond, eqb, List, [], ◌∷◌, ◌++◌, length, refl, sym, ap, subst, ◌∙◌, arith, length-append}
 use Rattle.std.specs.Prelude.{remove}
-use Rattle.std.proofs.lemmas.Bool.{cases_eq}
 use Rattle.std.proofs.lemmas.Bool.Decides.{nat_tests}
 use Rattle.std.proofs.lemmas.List.Sums.{fold-append}
 use Rattle.jobs.specs.declared.job.Job.{Job}
@@ -11,7 +10,7 @@ use Rattle.crew_trait.specs.declared.event.CrewEvent.{CrewEvent}
 use Rattle.crew_trait.specs.declared.event.CrewEvent.TheVariants.{Started, Ended}
 use Rattle.crew_trait.specs.Events.{busy, busy_after, IsSomeBusy, failure_of}
 use Rattle.crew.specs.Sound.{times, ListsBusy}
-use Rattle.crew.proofs.SlotLemmas.{lists_none, lists_start, lists_end, first_busy}
+use Rattle.crew.proofs.SlotLemmas.{lists_none, lists_start, lists_end, lists_busy}
 use Rattle.watching.proofs.Counts.{place_of}
 
 -- so many slots are busy
@@ -50,7 +49,7 @@ flies_end n m es es' slot reply number h more was is =
 
 some_first : (xs : List ℕ) (es : List CrewEvent) → ListsBusy xs es → 0 < length xs → IsSomeBusy es
 some_first [] es h some = absurd (omega arith)
-some_first (x ∷ xs) es h some = record { slot = x; is_busy = first_busy (x ∷ xs) xs es x h refl }
+some_first (x ∷ xs) es h some = record { slot = x; is_busy = lists_busy (x ∷ xs) es 0 x h (omega arith) refl }
 
 pub flies_some : (n : ℕ) (es : List CrewEvent) → Flies n es → 0 < n → IsSomeBusy es
 flies_some n es h some = some_first h.slots es h.busy_slots (omega (arith, h.count))

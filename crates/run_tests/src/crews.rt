@@ -9,6 +9,7 @@ use conftest::Job;
 use crew::{Crew, Event, MemoryCrew, Order, ProcessCrew, Reply, SlotList};
 use deftable::Bytes;
 use plan::Plan;
+use std::alloc::{AllocError, Global};
 use std::process::Processes;
 use std::rt::Files;
 use std::test::Fail;
@@ -35,6 +36,19 @@ fn put_end(page: &mut Page, slot: usize, reply: &Reply) {
     put_reply(page, reply);
 }
 
+/// Returns a copy of a job for a slot. If its last word is `slot`, it has the number of the slot as one word more.
+fn job_for(alloc: Global, job: &Job, slot: usize) -> Result<Job, AllocError> {
+    let mut one = job.copy(alloc)?;
+    match job.words.as_slice().last() {
+        Some(word) if word.as_slice() == b"slot".as_slice() => {
+            let number = format!(in alloc; "{slot}")?;
+            one.words.push(number.as_bytes())?;
+        }
+        _ => {}
+    }
+    Ok(one)
+}
+
 /// Starts a job so many times, in the slots from 0 on, and puts the starts that are refused and then the ends.
 fn put_ends<C: Crew>(page: &mut Page, crew: &mut C, count: usize, job: &Job)
     requires count { count ≤ 16 }
@@ -44,7 +58,7 @@ fn put_ends<C: Crew>(page: &mut Page, crew: &mut C, count: usize, job: &Job)
 {
     let mut flying: usize = 0;
     'starts: for slot in 0..count {
-        let Ok(one) = job.copy(page.alloc()) else {
+        let Ok(one) = job_for(page.alloc(), job, slot) else {
             page.cut();
             return;
         };
@@ -295,6 +309,9 @@ const CHILDREN: &[u8] = b"\
 1|c\xff.c int x;|sh,-c,: > made =>  0:S
 1|c\0.c int x;|sh,-c,: > made =>  0:S
 1||sh,-c,[ -e made ] =>  0:1:
+// The last child ends first, and is taken last.
+3||sh,-c,[ $1 = 2 ] && echo $$ > last && exit 2; i=0; while [ $i -lt 400 ]; do \
+[ -s last ] && grep -q State:.Z /proc/$(cat last)/status && exit $1; i=$((i+1)); sleep 0.05; done; exit 9,slot =>  0:0: 1:1: 2:2:
 // Each child ends well once it sees the files of all sixteen.
 16||sh,-c,: > here.$$; i=0; while [ $i -lt 400 ]; do set -- here.*; [ $# -ge 16 ] && exit 0; i=$((i+1)); sleep 0.05; done; exit 1 =>  \
 0:0: 1:0: 2:0: 3:0: 4:0: 5:0: 6:0: 7:0: 8:0: 9:0: 10:0: 11:0: 12:0: 13:0: 14:0: 15:0:

@@ -5,7 +5,7 @@ ghost use Rattle.std.specs.Prelude.{◌≡◌, []};
 use crate::calls::{status_over, write_file};
 use crate::streams::Sheet;
 use crate::texts::{number_of, words_of};
-use crew::{Crew, FuseKind, Fused, ProcessCrew};
+use crew::{Causes, Crew, FuseKind, Fused, ProcessCrew};
 use deftable::Bytes;
 use testrows::{Page, cut};
 
@@ -18,7 +18,7 @@ struct Cut {
 
 /// Puts the exit status of the program over a crew that refuses a call, around one that has started nothing, and what it writes
 /// to both streams.
-fn put_status<C: Crew + Drop>(
+fn put_status<C: Crew + Causes + Drop>(
     page: &mut Page,
     rt: &HostRuntime,
     words: &[Bytes],

@@ -1,4 +1,4 @@
-use Rattle.std.proofs.Common.{◌≡◌, ℕ, ◌+◌, ◌-◌, ◌<◌, ◌≤◌, arith}
+use Rattle.std.proofs.Common.{◌≡◌, ◌+◌, ◌-◌, ◌<◌, arith}
 use Rattle.run_tests.proofs.FlightLemmas.{flies_start, flies_same, flies_some, flies_end, free_after, free_same, failure_most}
 use Rattle.run_tests.proofs.crews.put_ends.Goals.{in-Ok-start, in-Err}
 use Rattle.run_tests.proofs.crews.put_ends.Goals as goal
