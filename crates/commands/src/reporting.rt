@@ -10,6 +10,7 @@ use crate::remaking::OUTPUT;
 use crate::telling::tell_run;
 use causes::Causes;
 use explaining::{Why, explain_cut, explain_error, explain_words};
+use faultlines::explain_compilers;
 use framing::{Fault, Outcome, Report, status_of};
 use invocation::{FAULT, LOG, Supplies, print_all, tell_file, tell_put, write_log};
 use std::alloc::Global;
@@ -17,7 +18,7 @@ use std::io::{self, Write};
 use std::rt::Files;
 
 /// Says why a run was cut, if it was, and if it is asked.
-fn explain_end<C: Causes, E: Write>(
+fn explain_short<C: Causes, E: Write>(
     alloc: Global,
     is_asked: bool,
     report: &Report,
@@ -38,6 +39,21 @@ fn explain_end<C: Causes, E: Write>(
             errors,
         );
     }
+}
+
+/// Says why a run was cut, if it was, and that no compiler succeeded, if none did, if it is asked.
+fn explain_end<C: Causes, E: Write>(
+    alloc: Global,
+    is_asked: bool,
+    report: &Report,
+    cache: &[u8],
+    crew: &C,
+    errors: &mut E,
+)
+    ensures silent { is_asked ≡ false → errors.new ≡ errors.old }
+{
+    explain_short(alloc, is_asked, report, cache, crew, errors);
+    explain_compilers(alloc, is_asked, report.log.as_slice(), errors);
 }
 
 /// Reports that standard output didn't take all, if it didn't. Returns whether it did.
@@ -167,6 +183,14 @@ fn tell_report<F: Files, C: Causes, W: Write, E: Write>(
     }
 }
 
+/// Returns the text of the cache, or an empty text if there is none.
+fn cache_of(supplies: &Supplies) -> &[u8] {
+    match &supplies.cache {
+        Some(text) => text.as_slice(),
+        None => b"",
+    }
+}
+
 /// Prints and writes what follows from the result of a run of this source, and returns the exit status.
 ///
 /// A report leaves its messages, the lines on its outputs and its log, also if a put was refused, which is told then. Any other fault
@@ -205,6 +229,6 @@ pub fn tell_result<F: Files, C: Causes, W: Write, E: Write>(
             output,
             errors,
         ),
-        Err(fault) => tell_run(alloc, files, why, errors, &fault),
+        Err(fault) => tell_run(alloc, files, why, cache_of(supplies), errors, &fault),
     }
 }

@@ -1,8 +1,9 @@
 //! The lines of the faults of a run, and of outputs that are not made again.
 
-ghost use Rattle.std.specs.Prelude.{◌≡◌, false};
+ghost use Rattle.std.specs.Prelude.{◌≡◌};
 
-use explaining::{Why, explain_file, explain_template, explain_words};
+use explaining::{Why, explain_file};
+use faultlines::{explain_fault, explain_remake};
 use framing::{Fault, RemakeFault};
 use invocation::{FAULT, tell_file, tell_named, tell_precious};
 use std::alloc::Global;
@@ -24,27 +25,13 @@ pub fn tell_fault<E: Write>(errors: &mut E, fault: &Fault) -> u8
     tell_named(errors, fault, missing_name(fault))
 }
 
-/// Says more of a fault of a run, after its line, if it is asked.
-fn explain_fault<F: Files, E: Write>(
-    alloc: Global,
-    files: &F,
-    why: &Why<'_>,
-    errors: &mut E,
-    fault: &Fault,
-)
-    ensures silent { why.now.is_asked ≡ false → errors.new ≡ errors.old }
-{
-    match fault {
-        Fault::NoTemplate(name) => explain_template(alloc, files, why, name.as_slice(), errors),
-        _ => {}
-    }
-}
-
-/// Reports what is wrong with what a run of this source is given, and says more of it if it is asked.
+/// Reports what is wrong with what a run of this source is given, and says more of it if it is asked. The cache is its
+/// text.
 pub(crate) fn tell_run<F: Files, E: Write>(
     alloc: Global,
     files: &F,
     why: &Why<'_>,
+    cache: &[u8],
     errors: &mut E,
     fault: &Fault,
 ) -> u8
@@ -54,7 +41,7 @@ pub(crate) fn tell_run<F: Files, E: Write>(
         Fault::Precious(inner) => tell_precious(alloc, why.text, errors, *inner),
         other => tell_fault(errors, other),
     };
-    explain_fault(alloc, files, why, errors, fault);
+    explain_fault(alloc, files, why, cache, errors, fault);
     FAULT
 }
 
@@ -63,26 +50,6 @@ fn missing_again(fault: &RemakeFault) -> &[u8] {
     match fault {
         RemakeFault::NoTemplate(name) => name.as_slice(),
         _ => b"",
-    }
-}
-
-/// Says more of why outputs are not made again, after its line, if it is asked. If a put was refused, `cause` says why.
-fn explain_remake<F: Files, E: Write>(
-    alloc: Global,
-    files: &F,
-    why: &Why<'_>,
-    cause: &[u8],
-    errors: &mut E,
-    fault: &RemakeFault,
-)
-    ensures silent { why.now.is_asked ≡ false → errors.new ≡ errors.old }
-{
-    match fault {
-        RemakeFault::NoTemplate(name) => {
-            explain_template(alloc, files, why, name.as_slice(), errors)
-        }
-        RemakeFault::PutRefused(_number) => explain_words(alloc, why.is_asked, cause, errors),
-        _ => {}
     }
 }
 

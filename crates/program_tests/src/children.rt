@@ -35,8 +35,10 @@ here cc.sh config.cache config.log configure.ac conftest1.c f.in; 0 [checking fo
 children |source AC_CHECK_FUNCS([e])^JAC_CHECK_FUNCS([g])|write cc.sh echo \"cc1: Cannot allocate memory\" >&2^Jrm cc^Jexit 1^J\
 |link cc /bin/sh|env CC=./cc cc.sh,ACRUN_WHY=1|run configure,-C|remove config.cache|link cc /bin/sh|run configure|env CC=./cc cc.sh|run configure,-C => \
 3 [checking for e... no^Jchecking for g... refused^J] err[configure: cut short at child 2^Jacrun: child 2: ./cc: No such file or directory^J\
-acrun: config.cache may hold a wrong \"no\", as a program found no room: remove it^J]; \
-3 [checking for e... no^Jchecking for g... refused^J] err[configure: cut short at child 2^Jacrun: child 2: ./cc: No such file or directory^J]; \
+acrun: config.cache may hold a wrong \"no\", as a program found no room: remove it^J\
+acrun: no compiler job of this run succeeded: see config.log^J]; \
+3 [checking for e... no^Jchecking for g... refused^J] err[configure: cut short at child 2^Jacrun: child 2: ./cc: No such file or directory^J\
+acrun: no compiler job of this run succeeded: see config.log^J]; \
 3 [checking for e... refused^J] err[configure: cut short at child 1^J]
 // A signal that ends a child is an answer. Conftests that can't be written are none.
 children |source AC_CHECK_FUNCS([e])|write cc.sh kill -9 $$^J|env CC=sh cc.sh|run configure|directory d|in d|directory conftest1.c\
