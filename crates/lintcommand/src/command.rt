@@ -1,5 +1,9 @@
 //! The command.
 
+ghost use Rattle.std.specs.Prelude.{◌≡◌, false};
+ghost use Rattle.std.specs.List.{list_any};
+ghost use Rattle.invocation.specs.Calls as calls;
+
 use crate::errors::found_in;
 use crate::reading::{Linted, read_named};
 use crate::showing::{Form, page_of, status_of};
@@ -17,6 +21,20 @@ const JSON: &[u8] = b"--json";
 
 /// The name of standard output in the line of a fault.
 const OUTPUT: &[u8] = b"standard output";
+
+/// Returns whether the word names standard input.
+fn is_input(word: &Bytes) -> bool
+    ensures { result ≡ calls.is_input word.now }
+{
+    word.as_slice() == b"-".as_slice()
+}
+
+/// Returns whether one of the words names standard input.
+fn has_input(words: &[Bytes]) -> bool
+    ensures { result ≡ list_any calls.is_input words.now }
+{
+    words.iter().any(is_input)
+}
 
 /// Returns whether the word is an option, and no name of a file.
 fn is_option(word: &[u8]) -> bool {
@@ -69,11 +87,14 @@ fn lint_named<F: Files, R: Read, W: Write, E: Write>(
     files: &F,
     form: Form,
     word: &[u8],
+    reads: bool,
     input: &mut R,
     output: &mut W,
     errors: &mut E,
-) -> u8 {
-    match read_named(alloc, files, input, word) {
+) -> u8
+    ensures { reads ≡ false → input.new ≡ input.old }
+{
+    match read_named(alloc, files, reads, input, word) {
         Ok(Some(linted)) => lint_source(alloc, files, form, &linted, output, errors),
         Ok(None) => tell_file(errors, word),
         Err(_) => tell_memory(errors),
@@ -86,23 +107,27 @@ fn lint_all<F: Files, R: Read, W: Write, E: Write>(
     files: &F,
     form: Form,
     words: &[Bytes],
+    reads: bool,
     input: &mut R,
     output: &mut W,
     errors: &mut E,
-) -> u8 {
+) -> u8
+    ensures { reads ≡ false → input.new ≡ input.old }
+{
     let mut status: u8 = 0;
     let mut is_named = false;
     for word in words {
         if !is_option(word.as_slice()) {
             is_named = true;
-            let next = lint_named(alloc, files, form, word.as_slice(), input, output, errors);
+            let name = word.as_slice();
+            let next = lint_named(alloc, files, form, name, reads, input, output, errors);
             status = status.max(next);
         }
     }
     if is_named {
         return status;
     }
-    lint_named(alloc, files, form, SOURCE, input, output, errors)
+    lint_named(alloc, files, form, SOURCE, false, input, output, errors)
 }
 
 /// Prints what is wrong with the sources that the words name, and returns the exit status.
@@ -121,7 +146,10 @@ pub fn run_lint<F: Files, R: Read, W: Write, E: Write>(
     input: &mut R,
     output: &mut W,
     errors: &mut E,
-) -> u8 {
+) -> u8
+    // Standard input is read only if `-` is one of the words.
+    ensures input { list_any calls.is_input words.now ≡ false → input.new ≡ input.old }
+{
     if !are_known(words) {
         return tell_usage(errors);
     }
@@ -129,7 +157,8 @@ pub fn run_lint<F: Files, R: Read, W: Write, E: Write>(
         is_json: words.iter().any(|word| word.as_slice() == JSON),
         is_coloured,
     };
-    lint_all(alloc, files, form, words, input, output, errors)
+    let reads = has_input(words);
+    lint_all(alloc, files, form, words, reads, input, output, errors)
 }
 
 /// Returns whether the entry is a NO_COLOR that isn't empty.

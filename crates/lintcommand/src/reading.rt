@@ -1,5 +1,7 @@
 //! Reads the source that a word names.
 
+ghost use Rattle.std.specs.Prelude.{◌≡◌, false};
+
 use bstr::ByteSlice;
 use deftable::Bytes;
 use diskfiles::{path_in, read_text};
@@ -68,19 +70,31 @@ fn read_within<F: Files>(
     read_at(alloc, files, path.as_slice())
 }
 
-/// Returns the source that a word names, or `None` if it can't be read. The word is `-` for standard input, or the path of a source or
-/// of a directory with a `configure.ac`.
-pub(crate) fn read_named<F: Files, R: Read>(
+/// Returns the source at a path, or in the directory at that path, or `None` if it can't be read.
+fn read_path<F: Files>(
     alloc: Global,
     files: &F,
-    input: &mut R,
     word: &[u8],
 ) -> Result<Option<Linted>, AllocError> {
-    if word == b"-".as_slice() {
-        return read_stream(alloc, input);
-    }
     if let Some(found) = read_at(alloc, files, word)? {
         return Ok(Some(found));
     }
     read_within(alloc, files, word)
+}
+
+/// Returns the source that a word names, or `None` if it can't be read. The word is the path of a source or of a directory with a
+/// `configure.ac`, or `-` for standard input if that may be read.
+pub(crate) fn read_named<F: Files, R: Read>(
+    alloc: Global,
+    files: &F,
+    reads: bool,
+    input: &mut R,
+    word: &[u8],
+) -> Result<Option<Linted>, AllocError>
+    ensures { reads ≡ false → input.new ≡ input.old }
+{
+    if reads && word == b"-".as_slice() {
+        return read_stream(alloc, input);
+    }
+    read_path(alloc, files, word)
 }

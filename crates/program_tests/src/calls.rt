@@ -156,6 +156,13 @@ fn words_of(page: &mut Page, given: &Given<'_>, text: &[u8]) -> Vec<Bytes> {
     words
 }
 
+/// Puts a text with a tilde for each caret, since a row has a caret for control bytes alone.
+fn put_marked(page: &mut Page, text: &[u8]) {
+    for byte in text {
+        page.put_byte(if *byte == b'^' { b'~' } else { *byte });
+    }
+}
+
 /// Puts a status, and both streams in brackets, without one on which nothing is written.
 fn put_end(page: &mut Page, status: u8, output: &[u8], errors: &[u8]) {
     page.put_shown(&status);
@@ -164,8 +171,9 @@ fn put_end(page: &mut Page, status: u8, output: &[u8], errors: &[u8]) {
         page.put_text(output);
     }
     if !errors.is_empty() {
-        page.put(b" err");
-        page.put_text(errors);
+        page.put(b" err[");
+        put_marked(page, errors);
+        page.put(b"]");
     }
 }
 

@@ -5,6 +5,17 @@ use std::test::Fail;
 use testrows::try_rows_in;
 
 const FAULTS: &[u8] = b"\
+// If ACRUN_WHY is there and not empty, words follow the line of a fault: the place and the line of the source, or lines on all else.
+source AC_NOPE|run configure|env ACRUN_WHY=1|run configure => 2 err[acrun: parse 2 at 22^J]; \
+2 err[acrun: parse 2 at 22^J./configure.ac:2:1: error: acrun does not know the macro AC_NOPE^J    2 | AC_NOPE^J      | ~~~~~~~^J   = help: \
+docs/guide.md says what to write in place of many macros^J]
+source a=1|write config.cache v_cv_a=1^Joops|env ACRUN_WHY=1|run configure,--prefx=/a|run configure,-C => \
+2 err[acrun: option 1 at 1^Jacrun: the option `--prefx=/a` is not known^Jacrun: a similar option is --prefix^J]; \
+2 err[acrun: cache 1 at 2^Jacrun: the line `oops` is none of a cache^Jacrun: remove the line, or the whole cache file: it is then made anew^J]
+source AC_CONFIG_FILES([first])|write first.in x|env ACRUN_WHY=1|run configure,-q|run status,firts|write config.status x^J|run status => \
+0; 2 err[acrun: tag 1^Jacrun: `firts` is no output of this package^J]; \
+2 err[acrun: record 1^Jacrun: the file is no record of a run: it begins with `x`^J\
+acrun: run acrun configure first; the config.status of GNU Autoconf is a script, and is not read^J]
 // words that are no command
 source a=1|run -j0,configure|run -j17,configure|run -j01,configure|run -j2|run -j,configure|run -j2,status|run -j2,-j2,configure|run -j2,2,configure\
 |run config|run configure2|run statuses|list => \
@@ -50,7 +61,8 @@ run configure|env ACRUN_WHY=1|run configure|env ACRUN_WHY=|run configure|env ACR
 2 err[acrun: file ./configure.ac^J]; 2 err[acrun: file a/b/configure.ac^Jacrun: a/b/configure.ac: No such file or directory^J]; \
 2 err[acrun: file ./configure.ac^Jacrun: ./configure.ac: Is a directory^J]; \
 2 err[acrun: file config.status^Jacrun: config.status: No such file or directory^J]; \
-2 err[acrun: file config.status^Jacrun: config.status: No such file or directory^J]; 2 err[acrun: usage^J]
+2 err[acrun: file config.status^Jacrun: config.status: No such file or directory^J]; \
+2 err[acrun: usage^Jacrun: `standin2` is no command^Jacrun: a similar name is standin^Jacrun: acrun help lists the commands^J]
 source AC_CONFIG_FILES([f])|env ACRUN_WHY=1|run configure|directory f.in|run configure|link g.in /dev/zero|source AC_CONFIG_FILES([g])\
 |run configure|sized h.in|source AC_CONFIG_FILES([h])|run configure|remove h.in|list => \
 2 err[acrun: template f.in^Jacrun: f.in: No such file or directory^J]; 2 err[acrun: template f.in^Jacrun: f.in: Is a directory^J]; \

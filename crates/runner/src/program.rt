@@ -16,9 +16,10 @@ use configuring::{run_configure, run_recheck};
 use crew_trait::Crew;
 use deftable::Bytes;
 use explaining::asks_why;
-use filtering::{Filtered, filter};
+use faultlines::explain_usage;
+use filtering::{FilterFault, Filtered, filter};
 use helptext::{run_help, run_version};
-use invocation::{Call, call_of, tell_usage};
+use invocation::{Call, FAULT, call_of, tell_usage};
 use lintcommand::{may_colour, run_lint};
 use shown::Shown;
 use std::alloc::Global;
@@ -26,9 +27,21 @@ use std::io::{self, Input, IsTerminal, Read, Write};
 use std::rt::Files;
 use whycommand::run_why;
 
+/// Reports an error of the filter, and says more of it if it is asked. Returns the exit status.
+fn tell_filter<E: Write>(alloc: Global, is_asked: bool, fault: &FilterFault, errors: &mut E) -> u8
+    ensures { result ≡ 2 }
+{
+    let _ = tell(errors, fault);
+    if let FilterFault::Usage = fault {
+        explain_usage(alloc, is_asked, &[], errors);
+    }
+    FAULT
+}
+
 /// Filters the input, and returns the exit status.
 fn run_filter<R: Read, W: Write, E: Write>(
     alloc: Global,
+    why: bool,
     input: &mut R,
     output: &mut W,
     errors: &mut E,
@@ -48,8 +61,43 @@ fn run_filter<R: Read, W: Write, E: Write>(
             }
             status
         }
-        Err(fault) => tell(errors, &fault),
+        Err(fault) => tell_filter(alloc, why, &fault, errors),
     }
+}
+
+/// Returns what is wrong with words that begin as those of a command do, or an empty text.
+fn misuse_of(words: &[Bytes]) -> &'static [u8] {
+    let Some(word) = words.first() else {
+        return b"";
+    };
+    if word.as_slice() == b"status".as_slice() {
+        return b"acrun: --recheck is the only word after status\n";
+    }
+    if word.as_slice().starts_with(b"-j") && word.len() > 2 {
+        return b"acrun: -jN is followed by configure, and N is from 1 to 16\n";
+    }
+    b""
+}
+
+/// Says why the words are no command.
+fn explain_words<E: Write>(alloc: Global, words: &[Bytes], errors: &mut E) {
+    let misuse = misuse_of(words);
+    if misuse.is_empty() {
+        explain_usage(alloc, true, words, errors);
+    } else {
+        let _ = errors.write_all(misuse);
+    }
+}
+
+/// Reports that the words are no command, and says more of it if it is asked. Returns the exit status.
+fn tell_unknown<E: Write>(alloc: Global, is_asked: bool, words: &[Bytes], errors: &mut E) -> u8
+    ensures { result ≡ 2 }
+{
+    let _ = tell_usage(errors);
+    if is_asked {
+        explain_words(alloc, words, errors);
+    }
+    FAULT
 }
 
 /// Runs the command that the words name, and returns its exit status.
@@ -105,7 +153,7 @@ pub fn run<F: Files, C: Crew + Causes, R: Read, W: Write, E: Write>(
     ensures idle { IsIdle (C.account crew.new).events }
 {
     match call_of(words) {
-        Call::Filter => run_filter(alloc, input, output, errors),
+        Call::Filter => run_filter(alloc, why, input, output, errors),
         Call::StandIn(words) => run_standin(alloc, files, words, errors),
         Call::Configure(window, args) => {
             run_configure(alloc, files, why, window, args, env, crew, output, errors)
@@ -126,7 +174,7 @@ pub fn run<F: Files, C: Crew + Causes, R: Read, W: Write, E: Write>(
                 errors,
             )
         }
-        Call::Unknown => tell_usage(errors),
+        Call::Unknown => tell_unknown(alloc, why, words, errors),
     }
 }
 
