@@ -4,8 +4,11 @@
 Each check prints a line for each place that is wrong. The last line is 'N passed, M failed', and the exit status is 1 if M is
 not 0.
 """
+import os
 import pathlib
 import re
+import shutil
+import subprocess
 import sys
 
 import macro_table
@@ -124,6 +127,28 @@ def macros_that_do_not_agree():
     yield from macro_table.differences()
 
 
+def manual_page_faults():
+    """A formatter of manual pages complains of share/acrun.1; nothing if there is none. Or the page, or the texts of the help, have
+    another version."""
+    page = "share/acrun.1"
+    for words in (["mandoc", "-T", "lint", page], ["man", "--warnings", "-l", page]):
+        if shutil.which(words[0]):
+            said = subprocess.run(words, stdout=subprocess.PIPE, stderr=subprocess.PIPE, env={**os.environ, "MANPAGER": "cat"}, text=True)
+            yield from (said.stdout if words[0] == "mandoc" else said.stderr).splitlines()
+            break
+    version = re.search(r'VERSION: &str = "(.*)"', (CRATES / "helptext/src/texts.rt").read_text())[1]
+    if f'"acrun {version}"' not in pathlib.Path(page).read_text():
+        yield f"{page} is not of version {version}"
+    if f"## [{version}]" not in pathlib.Path("CHANGELOG.md").read_text():
+        yield f"CHANGELOG.md has no version {version}"
+
+
+def picture_is_old():
+    """docs/speed.svg is not what bench/picture.py draws from docs/performance.md."""
+    if subprocess.run([sys.executable, "bench/picture.py", "--check"], stderr=subprocess.DEVNULL).returncode:
+        yield "docs/speed.svg is old: run bench/picture.py"
+
+
 CHECKS = [
     unused_libraries,
     unlisted_crates,
@@ -133,6 +158,8 @@ CHECKS = [
     edits_over_the_budget,
     broken_links,
     macros_that_do_not_agree,
+    manual_page_faults,
+    picture_is_old,
 ]
 
 
