@@ -1,6 +1,7 @@
 # make try      runs the program before any proof, in a minute or two
 # make          proves the crates that the program stands on, then builds it as out/acrun
 # make demo     the same, and runs it on the examples
+# make ports    configures, builds and tests packages of others, which it fetches
 # make compile  tries sample conftests with a real compiler, the one that CC names
 # make check    the gate: every proof, every test, every must-fail edit, and the checks of tools/repository.py
 # make edits    tries the wrong bodies of every crate, or of those that NAMES names: make edits NAMES="crew plan"
@@ -18,7 +19,7 @@ bashdir = $(datadir)/bash-completion/completions
 zshdir = $(datadir)/zsh/site-functions
 fishdir = $(datadir)/fish/vendor_completions.d
 
-.PHONY: all try demo compile check edits edits-test install install-files uninstall dist deb
+.PHONY: all try demo ports compile check edits edits-test install install-files uninstall dist deb
 
 # tools/build.sh looks at what has changed, and builds nothing anew if nothing has.
 all:
@@ -37,6 +38,9 @@ demo: all
 	@sh examples/lint/run.sh out/acrun
 	@sh examples/completions/run.sh out/acrun
 	@sh examples/wrapper/run.sh
+
+ports: all
+	@sh examples/ports/run.sh out/acrun
 
 compile:
 	@sh tools/build.sh conftest_samples
