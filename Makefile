@@ -35,6 +35,7 @@ demo: all
 	@sh examples/tally/run.sh out/acrun
 	@sh examples/libraries/run.sh out/acrun
 	@sh examples/guide/run.sh out/acrun
+	@sh examples/help/run.sh out/acrun
 	@sh examples/lint/run.sh out/acrun
 	@sh examples/completions/run.sh out/acrun
 	@sh examples/wrapper/run.sh

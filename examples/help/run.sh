@@ -1,0 +1,40 @@
+#!/bin/sh
+# Asks the program for its help and its version, and looks at the exit status and at what is printed.
+#   run.sh PROGRAM
+set -u
+acrun=$(realpath "$1") || exit 2
+root=$(realpath "$(dirname "$0")/../..") || exit 2
+unset ACRUN_WHY
+version=$(sed -n 's/^pub const VERSION: &str = "\(.*\)";$/\1/p' "$root/crates/helptext/src/texts.rt")
+wrong=0
+
+# expect STATUS FIRST WORD..: the exit status, and the first line that is printed on either stream.
+expect() {
+    status=$1 first=$2
+    shift 2
+    said=$("$acrun" "$@" 2>&1)
+    found=$?
+    if [ "$found" != "$status" ] || [ "$(printf '%s\n' "$said" | head -n 1)" != "$first" ]; then
+        wrong=1
+        printf 'acrun %s: status %s, not %s; it begins with "%s", not "%s"\n' "$*" "$found" "$status" "$(printf '%s\n' "$said" | head -n 1)" "$first"
+    fi
+}
+
+for words in help --help -h --version -V; do expect 0 "acrun $version" "$words"; done
+expect 0 'Usage: acrun [-jN] configure [ARG]..' help configure
+expect 0 'Usage: acrun status [NAME]..' help status
+expect 0 'Usage: acrun lint [--json] [FILE]..' help lint
+expect 0 'Usage: acrun why WORD [LOG]' help why
+expect 0 'Usage: acrun standin [WORD]..' help standin
+expect 0 'Usage: acrun help [COMMAND]' help help
+for words in 'help nothing' 'help status lint' '--help status' '--version status'; do
+    # Each word by itself.
+    expect 2 'acrun: usage' $words
+done
+for command in configure status lint why standin help; do
+    "$acrun" help | grep -q "^  acrun .*$command" || { wrong=1; echo "help does not list $command"; }
+    grep -q "$command" "$root/share/acrun.1" || { wrong=1; echo "the manual page does not name $command"; }
+done
+
+[ "$wrong" = 0 ] && echo 'help: as it should be'
+exit $wrong
