@@ -58,6 +58,27 @@ def modules_named_as_crates():
             yield f"crates/{crate} has a module {name}, which is the name of a crate below"
 
 
+def promises_without_clauses():
+    """docs/promises.md has a line over 120 columns, or cites a name that is in none of the crates that it may be of: the one of
+    the heading, those below it, and those that the same lines name."""
+    text = pathlib.Path("docs/promises.md").read_text()
+    for number, line in enumerate(text.splitlines(), 1):
+        if len(line) > 120:
+            yield f"docs/promises.md:{number} has {len(line)} columns"
+    uses = rows()
+    words = {crate: {*re.findall(r"\w+", sources(crate))} for crate in uses}
+    for section in re.split(r"(?m)^#+ ", text):
+        crate = section.partition("\n")[0]
+        for cited in re.findall(r"(?m)(?:^> .*\n)+", section):
+            names = {*re.findall(r"\w+", " ".join(re.findall(r"`([^`]*)`", cited)))}
+            if crate not in uses:
+                yield f"docs/promises.md: there is no crate {crate}"
+                break
+            places = {crate, *below(crate, uses), *(names & {*uses})}
+            for name in sorted(names - {*uses}.union(*(words[it] for it in places))):
+                yield f"docs/promises.md: {crate} and the crates below it have no {name}"
+
+
 def unnamed_crates():
     """The document that lists the crates lacks one."""
     file = pathlib.Path("docs/architecture.md")
@@ -154,6 +175,7 @@ CHECKS = [
     unlisted_crates,
     modules_named_as_crates,
     unnamed_crates,
+    promises_without_clauses,
     edits_that_do_not_apply,
     edits_over_the_budget,
     broken_links,
