@@ -5,8 +5,8 @@
 
 Prints a row for each document: its lines, those over 100 and over 120 columns, its sentences, their
 average number of words, and the words of the longest. With -v it also prints each sentence of more
-than 35 words. Code, tables, headings and the lines of clauses in docs/promises.md are no sentences,
-and a span of code is one word. Without a FILE it counts every document. The exit status is 1 if the
+than 35 words. Code, tables, headings, lists that a script writes and the lines of clauses in
+docs/promises.md are no sentences, and a span of code is one word. Without a FILE it counts every document. The exit status is 1 if the
 average of one is over 20 words.
 """
 import pathlib
@@ -24,7 +24,7 @@ def documents():
 
 def paragraphs(text):
     """Returns the paragraphs and the items of lists, each in one line."""
-    text = re.sub(r"(?ms)^```.*?^```", "", text)
+    text = re.sub(r"(?ms)^```.*?^```|^<!-- tools/.*?^<!-- up to here -->", "", text)
     dropped = r"\s*\||#|>|    |\t|!\[|\[.*\]: "
     lines = (line for line in text.splitlines() if not re.match(dropped, line))
     return re.split(r"\n\s*\n|\n(?=\s*(?:[-*]|\d+\.) )", "\n".join(lines))

@@ -12,6 +12,7 @@ import subprocess
 import sys
 
 import macro_table
+import places
 
 CRATES = pathlib.Path("crates")
 # The budget of must-fail edits, which `rt ci` tries one by one.
@@ -80,11 +81,37 @@ def promises_without_clauses():
 
 
 def unnamed_crates():
-    """The document that lists the crates lacks one."""
+    """The document that lists the crates lacks one, or its picture lacks one that the program stands on."""
     file = pathlib.Path("docs/architecture.md")
-    for crate in rows():
-        if f"`{crate}`" not in file.read_text():
+    text = file.read_text()
+    picture = text.partition("## The way of a text")[2].partition("\n## ")[0]
+    uses = rows()
+    for crate in uses:
+        if f"`{crate}`" not in text:
             yield f"{file} does not name the crate {crate}"
+    for crate in sorted({"acrun", *below("acrun", uses)}):
+        if not re.search(rf"\b{crate}\b", picture):
+            yield f"the picture of {file} lacks the crate {crate}"
+
+
+def places_that_are_not_there():
+    """docs/architecture.md names a file that does not exist, or a word that is not in its file."""
+    file = pathlib.Path("docs/architecture.md")
+    text = " ".join(file.read_text().split())
+    for path in sorted({*re.findall(r"`([\w.-]+/[\w./-]*)`", text)}):
+        known = (pathlib.Path(path), CRATES / path, *CRATES.glob(f"*/{path.rstrip('/')}"))
+        if not any(it.exists() for it in known):
+            yield f"{file}: there is no {path}"
+    for word, path in sorted({*re.findall(r"`(\w+)` in `([\w-]+/[\w./-]*)`", text)}):
+        place = CRATES / path
+        if place.is_file() and not re.search(rf"\b{word}\b", place.read_text()):
+            yield f"{file}: {path} has no {word}"
+
+
+def files_of_changes_that_are_old():
+    """The lists at the end of docs/architecture.md are not what tools/places.py writes."""
+    if places.differences():
+        yield "docs/architecture.md lists other files of a change: run tools/places.py"
 
 
 def applied(edit):
@@ -176,6 +203,8 @@ CHECKS = [
     modules_named_as_crates,
     unnamed_crates,
     promises_without_clauses,
+    places_that_are_not_there,
+    files_of_changes_that_are_old,
     edits_that_do_not_apply,
     edits_over_the_budget,
     broken_links,

@@ -1,0 +1,146 @@
+#!/usr/bin/env python3
+"""Finds the files that a change of the nearest kind touched, for docs/architecture.md.
+
+    tools/places.py            writes the lists at the end of docs/architecture.md
+    tools/places.py --check    prints what differs from them, and then exits with status 1
+    tools/places.py WORD..     prints the files that use one of these identifiers
+
+Whoever adds a message changes the files that name the message that was added last. So the list for a
+kind of change has each file that uses an identifier of the nearest one of that kind, outside imports
+and comments. Documents and examples are listed by hand, since many of them only use what there is.
+"""
+import pathlib
+import re
+import sys
+
+DOCUMENT = pathlib.Path("docs/architecture.md")
+BEGIN, END = "<!-- tools/places.py writes what follows -->", "<!-- up to here -->"
+WIDTH = 116
+CASES = ["crates/cases/data"]
+PAGE = ["docs/language.md", "CHANGELOG.md"]
+MACRO = [*CASES, *PAGE, "docs/guide.md", "README.md", "crates/macrotable/macros.txt"]
+LINT = ["examples/lint/sources.txt", "examples/lint/expected.txt"]
+
+# The change, the nearest one, its identifiers, the crates that are searched (all of them if there is
+# none), and the documents, data and examples.
+KINDS = [
+    ("A message", "AC_MSG_NOTICE", r"Notice", (), MACRO),
+    ("A plain macro", "AC_DEFINE_UNQUOTED", r"DefineUnquoted", (), MACRO),
+    ("A program test", "AC_PATH_PROG", r"PathProg", (), [*MACRO, "docs/running.md"]),
+    ("A cached test", "AC_CHECK_LIB", r"\w*[Ll]ibrary\w*", (), [*MACRO, "docs/formats.md"]),
+    ("An option", "`--no-create`", r"NoCreate|no_create", (),
+     [*CASES, "docs/running.md", "crates/helptext/src/texts.rt", "share/completions",
+      "share/configure"]),
+    ("An output kind", "the headers",
+     r"headers|ConfigHeaders|\w*fill_header\w*|Kind::Header|made_header\w*", (),
+     [*CASES, *PAGE, "docs/formats.md", "docs/running.md"]),
+    ("A fault of a source", "`CacheBody`", r"CacheBody", (), [*CASES, "docs/formats.md", *LINT]),
+    ("A fault of a command line", "`FatalUnrecognized`", r"FatalUnrecognized", (),
+     [*CASES, "docs/formats.md"]),
+    ("A fault of a record", "`NoArguments`", r"NoArguments|explain_remake", (),
+     ["docs/formats.md", "docs/running.md"]),
+    ("The words of a fault", "`CacheBody`", r"CacheBody|parse_finding", ("faultwords", "linting"),
+     LINT),
+    ("A warning of `lint`", "`warn_of_compiler`", r"warn_of_compiler", (),
+     [*LINT, "docs/running.md"]),
+]
+
+
+def code(file):
+    """Returns the text of a file without imports and comments, and a test's with its strings."""
+    text = file.read_text()
+    if file.suffix == ".antt":
+        text = re.sub(r"(?m)(?:^|\s)--(?: .*)?$", "", text)
+        return re.sub(r"(?m)^(?:pub )?use .*$(?:\n[ \t]+.*$)*", "", text)
+    text = re.sub(r"(?m)//.*$", "", text)
+    if not re.search(r"/(?:\w+_tests|cases)/", str(file)):
+        text = re.sub(r'(?s)"(?:\\.|[^"\\])*"', '""', text)
+    return re.sub(r"(?ms)^\s*(?:pub(?:\([a-z]+\))? |ghost )*use\b.*?;", "", text)
+
+
+def uses(words, crates=()):
+    """Returns the files of code, definitions and proofs that use one of the identifiers."""
+    found = re.compile(rf"\b(?:{words})\b")
+    files = pathlib.Path("crates").glob("*/*/**/*")
+    return sorted(
+        file
+        for file in files
+        if file.suffix in (".rt", ".antt") and file.parts[2] in ("src", "specs", "proofs")
+        and (not crates or file.parts[1] in crates) and found.search(code(file))
+    )
+
+
+def order():
+    """Returns the crates, lowest first."""
+    lines = pathlib.Path("crates.txt").read_text().splitlines()
+    return [line.partition(":")[0] for line in lines if line and not line.startswith("#")]
+
+
+def grouped(files):
+    """Returns a text for each crate, lowest first: its name and its files."""
+    crates = order()
+    for crate in sorted({file.parts[1] for file in files}, key=crates.index):
+        parts = {}
+        for file in files:
+            if file.parts[1] == crate:
+                name = "/".join(file.parts[3:]).rpartition(".")[0]
+                parts.setdefault(file.parts[2], []).append(name)
+        inside = "; ".join(f"{part} {', '.join(parts[part])}" for part in ("src", "specs", "proofs")
+                           if part in parts)
+        yield f"`{crate}` ({inside})"
+
+
+def filled(text):
+    """Returns a paragraph in lines of at most WIDTH columns."""
+    lines = [""]
+    for word in text.split():
+        if lines[-1] and len(lines[-1]) + 1 + len(word) > WIDTH:
+            lines.append("")
+        lines[-1] += (" " if lines[-1] else "") + word
+    return "\n".join(lines)
+
+
+def lists():
+    """Returns the lists of all kinds of change."""
+    paragraphs = []
+    for change, nearest, words, crates, others in KINDS:
+        files = uses(words, crates)
+        count = f"{len(files)} files in {len({file.parts[1] for file in files})} crates"
+        named = ", ".join(f"`{it}`" for it in others)
+        paragraphs.append(filled(f"**{change}**, as {nearest}, {count}: "
+                                 + ", ".join(grouped(files)) + f". Besides: {named}."))
+        for it in others:
+            assert pathlib.Path(it).exists(), it
+    return "\n\n".join(paragraphs)
+
+
+def written():
+    """Returns the document with the lists as they are now."""
+    text = DOCUMENT.read_text()
+    before, _, rest = text.partition(BEGIN)
+    return before + BEGIN + "\n\n" + lists() + "\n\n" + END + rest.partition(END)[2]
+
+
+def differences():
+    """Returns the lines of the document that are not as they should be."""
+    now, then = written().splitlines(), DOCUMENT.read_text().splitlines()
+    return [f"{DOCUMENT} lacks: {line}" for line in now if line not in then] + [
+        f"{DOCUMENT} has: {line}" for line in then if line not in now
+    ]
+
+
+def main():
+    arguments = sys.argv[1:]
+    if arguments == ["--check"]:
+        wrong = differences()
+        print("".join(f"{line}\n" for line in wrong), end="")
+        return int(bool(wrong))
+    if arguments:
+        print("".join(f"{file}\n" for file in uses("|".join(arguments))), end="")
+        return 0
+    DOCUMENT.write_text(written())
+    return 0
+
+
+if __name__ == "__main__":
+    sys.exit(main())
