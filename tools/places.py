@@ -37,7 +37,7 @@ KINDS = [
     ("A fault of a source", "`CacheBody`", r"CacheBody", (), [*CASES, "docs/formats.md", *LINT]),
     ("A fault of a command line", "`FatalUnrecognized`", r"FatalUnrecognized", (),
      [*CASES, "docs/formats.md"]),
-    ("A fault of a record", "`NoArguments`", r"NoArguments|explain_remake", (),
+    ("A fault of outputs made again", "`NoArguments`", r"NoArguments|explain_remake", (),
      ["docs/formats.md", "docs/running.md"]),
     ("The words of a fault", "`CacheBody`", r"CacheBody|parse_finding", ("faultwords", "linting"),
      LINT),
