@@ -1,0 +1,94 @@
+# Moves a package of Debian over to acrun, and looks at what comes of it. NAME/run.sh sets the variables below, and reads this file:
+#   url, sum     where the archive is, and its SHA-256
+#   prepare      commands that make configure.ac and the templates of what the archive has, if they aren't there
+#   autoconf     commands that make the package's own script, `autoconf` if there are none
+#   header       the config header, if there is one
+#   macros       the macros of the header that may differ
+#   variables    the variables of the Makefile whose lines may differ
+#   texts        the texts, one a line, that make it no fault if a line of the Makefile differs
+#   others       further outputs, which may not differ
+#   tests        commands that run the package's own tests
+# The patch is of configure.ac and templates alone. What is needed: the network, curl, patch, make, a C compiler and Autoconf 2.71.
+# Ends with 77 if one of them is not there, and with 1 if something is otherwise than it should be. With TIMES=1 a row of docs/guide.md
+# is printed too.
+set -u
+acrun=$(realpath "$1") || exit 2
+here=$(realpath "$(dirname "$0")") || exit 2
+name=$(basename "$here")
+work=$(mktemp -d) || exit 2
+trap 'rm -rf "$work"' EXIT
+mkdir "$work/bin" "$work/ours" "$work/theirs" && ln -s "$acrun" "$work/bin/acrun" || exit 2
+PATH=$work/bin:$PATH:/usr/sbin:/sbin
+unset CC CFLAGS CPPFLAGS LDFLAGS LIBS CONFIG_SITE MAKEFLAGS MFLAGS MAKELEVEL
+status=0
+
+skip() {
+    echo "$name: $1"
+    exit 77
+}
+
+wrong() {
+    echo "$name: $1"
+    status=1
+}
+
+# The lines of a config header that define a macro, or say that it isn't, each once and without blanks that vary.
+macros_of() {
+    sed -n -e 's/^# *define[ 	][ 	]*/define /p' -e 's/^\/\* *# *undef[ 	][ 	]*\([A-Za-z0-9_]*\).*/undef \1/p' "$1" |
+        sed 's/[ 	][ 	]*/ /g' | sort -u
+}
+
+compare_headers() {
+    macros_of "$work/theirs/$header" > "$work/macros.theirs"
+    macros_of "$work/ours/$header" > "$work/macros.ours"
+    for macro in $(diff "$work/macros.theirs" "$work/macros.ours" | sed -n 's/^[<>] [a-z]* \([A-Za-z0-9_]*\).*/\1/p' | sort -u); do
+        case " ${macros-} " in *" $macro "*) ;; *) wrong "$header differs in $macro" ;; esac
+    done
+}
+
+compare_makefiles() {
+    printf '%s\n' "$texts" > "$work/texts"
+    of_variables="^($(echo $variables | tr ' ' '|'))[ 	]*=|^[ 	]*\$"
+    diff "$work/theirs/Makefile" "$work/ours/Makefile" | sed -n 's/^[<>] \{0,1\}//p' |
+        grep -E -v "$of_variables" | grep -F -v -f "$work/texts" > "$work/rest"
+    if [ -s "$work/rest" ]; then
+        wrong 'the Makefile differs in'
+        cat "$work/rest"
+    fi
+}
+
+# How many lines of configure.ac and of the templates differ between two directories, counted in both.
+changed() {
+    diff -r "$1" "$2" | grep -c '^[<>]'
+}
+
+seconds() {
+    began=$(date +%s%N)
+    "$@" > /dev/null 2>&1
+    echo "$began $(date +%s%N)" | awk '{ printf "%.2f s", ($2 - $1) / 1000000000 }'
+}
+
+autoconf --version 2> /dev/null | grep -q '^autoconf .* 2\.71$' || skip 'there is no Autoconf 2.71'
+curl -s -S -f -L -o "$work/archive" "$url" || skip "$url can't be fetched"
+[ "$(sha256sum < "$work/archive" | cut -d ' ' -f 1)" = "$sum" ] || { wrong 'the archive is another one'; exit 1; }
+tar xf "$work/archive" -C "$work/ours" --strip-components=1
+cd "$work/ours" && eval "${prepare-}" || exit 2
+cp -R . "$work/theirs"
+
+cd "$work/theirs" && eval "${autoconf-autoconf}" > autoconf.out 2>&1 || { wrong 'Autoconf makes no script of it'; exit 1; }
+./configure -q > configure.out 2>&1 || { wrong 'its own configure fails'; exit 1; }
+
+cd "$work/ours" || exit 2
+patch -p1 -s < "$here/patch" || { wrong 'the patch does not apply'; exit 1; }
+acrun lint --json . | grep -q '"severity":"error"' && wrong 'lint finds an error'
+acrun -j4 configure -q || { wrong "acrun configure ends with $?"; exit 1; }
+[ -z "${header-}" ] || compare_headers
+compare_makefiles
+for other in ${others-}; do
+    cmp -s "$work/theirs/$other" "$other" || wrong "$other differs"
+done
+checks=$(grep -c '^checking' config.log)
+make -s > make.out 2>&1 || { wrong 'make fails'; tail -n 5 make.out; }
+(eval "$tests") > tests.out 2>&1 || { wrong 'its tests fail'; tail -n 5 tests.out; }
+[ "$status" = 0 ] && echo "$name: $checks checks, equal but for what is named, built and tested"
+exit $status
