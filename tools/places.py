@@ -5,9 +5,10 @@
     tools/places.py --check    prints what differs from them, and then exits with status 1
     tools/places.py WORD..     prints the files that use one of these identifiers
 
-Whoever adds a message changes the files that name the message that was added last. So the list for a
-kind of change has each file that uses an identifier of the nearest one of that kind, outside imports
-and comments. Documents and examples are listed by hand, since many of them only use what there is.
+Whoever adds a message changes the files that name the message that was added last. So the list for
+a kind of change has each file that uses an identifier of the nearest one of that kind, outside
+imports and comments, or has its name in a text. Documents and examples are listed by hand, since
+many of them only use what there is.
 """
 import pathlib
 import re
@@ -21,52 +22,65 @@ PAGE = ["docs/language.md", "CHANGELOG.md"]
 MACRO = [*CASES, *PAGE, "docs/guide.md", "README.md", "crates/macrotable/macros.txt"]
 LINT = ["examples/lint/sources.txt", "examples/lint/expected.txt"]
 
-# The change, the nearest one, its identifiers, the crates that are searched (all of them if there is
-# none), and the documents, data and examples.
+# The change, the nearest one, its identifiers, its name as texts of the code have it, the crates to
+# search (all of them if there is none), and the documents, data and examples.
 KINDS = [
-    ("A message", "AC_MSG_NOTICE", r"Notice", (), MACRO),
-    ("A plain macro", "AC_DEFINE_UNQUOTED", r"DefineUnquoted", (), MACRO),
-    ("A program test", "AC_PATH_PROG", r"PathProg", (), [*MACRO, "docs/running.md"]),
-    ("A cached test", "AC_CHECK_LIB", r"\w*[Ll]ibrary\w*", (), [*MACRO, "docs/formats.md"]),
-    ("An option", "`--no-create`", r"NoCreate|no_create", (),
-     [*CASES, "docs/running.md", "crates/helptext/src/texts.rt", "share/completions",
-      "share/configure"]),
+    ("A message", "AC_MSG_NOTICE", r"Notice", "AC_MSG_NOTICE", (), MACRO),
+    ("A plain macro", "AC_DEFINE_UNQUOTED", r"DefineUnquoted", "AC_DEFINE_UNQUOTED", (), MACRO),
+    ("A program test", "AC_PATH_PROG", r"PathProg", "AC_PATH_PROG", (), [*MACRO, "docs/running.md"]),
+    ("A cached test", "AC_CHECK_LIB", r"\w*[Ll]ibrary\w*", "AC_CHECK_LIB", (),
+     [*MACRO, "docs/formats.md"]),
+    ("An option", "`--no-create`", r"NoCreate|no_create", "--no-create", (),
+     [*CASES, "docs/running.md", "share/completions", "share/configure"]),
     ("An output kind", "the headers",
-     r"headers|ConfigHeaders|\w*fill_header\w*|Kind::Header|made_header\w*", (),
+     r"headers|ConfigHeaders|\w*fill_header\w*|Kind::Header|made_header\w*", "AC_CONFIG_HEADERS", (),
      [*CASES, *PAGE, "docs/formats.md", "docs/running.md"]),
-    ("A fault of a source", "`CacheBody`", r"CacheBody", (), [*CASES, "docs/formats.md", *LINT]),
-    ("A fault of a command line", "`FatalUnrecognized`", r"FatalUnrecognized", (),
+    ("A fault of a source", "`CacheBody`", r"CacheBody", "", (), [*CASES, "docs/formats.md", *LINT]),
+    ("A fault of a command line", "`FatalUnrecognized`", r"FatalUnrecognized", "", (),
      [*CASES, "docs/formats.md"]),
-    ("A fault of outputs made again", "`NoArguments`", r"NoArguments|explain_remake", (),
+    ("A fault of outputs made again", "`NoArguments`", r"NoArguments|explain_remake", "", (),
      ["docs/formats.md", "docs/running.md"]),
-    ("The words of a fault", "`CacheBody`", r"CacheBody|parse_finding", ("faultwords", "linting"),
-     LINT),
-    ("A warning of `lint`", "`warn_of_compiler`", r"warn_of_compiler", (),
+    ("The words of a fault", "`CacheBody`", r"CacheBody|parse_finding", "",
+     ("faultwords", "linting"), LINT),
+    ("A warning of `lint`", "`warn_of_compiler`", r"warn_of_compiler", "", (),
      [*LINT, "docs/running.md"]),
 ]
 
 
-def code(file):
-    """Returns the text of a file without imports and comments, and a test's with its strings."""
+def is_test(file):
+    """Returns whether a file is of a crate that tests others."""
+    return bool(re.search(r"/(?:\w+_tests|cases)/", str(file)))
+
+
+def code(file, has_texts):
+    """Returns the text of a file without imports and comments, and without its strings if asked."""
     text = file.read_text()
     if file.suffix == ".antt":
         text = re.sub(r"(?m)(?:^|\s)--(?: .*)?$", "", text)
         return re.sub(r"(?m)^(?:pub )?use .*$(?:\n[ \t]+.*$)*", "", text)
     text = re.sub(r"(?m)//.*$", "", text)
-    if not re.search(r"/(?:\w+_tests|cases)/", str(file)):
+    if not has_texts:
         text = re.sub(r'(?s)"(?:\\.|[^"\\])*"', '""', text)
     return re.sub(r"(?ms)^\s*(?:pub(?:\([a-z]+\))? |ghost )*use\b.*?;", "", text)
 
 
-def uses(words, crates=()):
-    """Returns the files of code, definitions and proofs that use one of the identifiers."""
-    found = re.compile(rf"\b(?:{words})\b")
+def is_used(file, words, name):
+    """Returns whether a file uses one of the identifiers, or has the name in a text."""
+    if re.search(rf"\b(?:{words})\b", code(file, is_test(file))):
+        return True
+    if not name or is_test(file) or file.parts[1] == "macrotable":
+        return False
+    return bool(re.search(rf'"[^"]*(?<![\w-]){name}(?![\w-])', code(file, True)))
+
+
+def uses(words, name="", crates=()):
+    """Returns the files of code, definitions and proofs that use an identifier, or have the name."""
     files = pathlib.Path("crates").glob("*/*/**/*")
     return sorted(
         file
         for file in files
         if file.suffix in (".rt", ".antt") and file.parts[2] in ("src", "specs", "proofs")
-        and (not crates or file.parts[1] in crates) and found.search(code(file))
+        and (not crates or file.parts[1] in crates) and is_used(file, words, name)
     )
 
 
@@ -103,8 +117,8 @@ def filled(text):
 def lists():
     """Returns the lists of all kinds of change."""
     paragraphs = []
-    for change, nearest, words, crates, others in KINDS:
-        files = uses(words, crates)
+    for change, nearest, words, name, crates, others in KINDS:
+        files = uses(words, name, crates)
         count = f"{len(files)} files in {len({file.parts[1] for file in files})} crates"
         named = ", ".join(f"`{it}`" for it in others)
         paragraphs.append(filled(f"**{change}**, as {nearest}, {count}: "
