@@ -10,6 +10,7 @@ a kind of change has each file that uses an identifier of the nearest one of tha
 imports and comments, or has its name in a text. Documents and examples are listed by hand, since
 many of them only use what there is.
 """
+import functools
 import pathlib
 import re
 import sys
@@ -52,6 +53,7 @@ def is_test(file):
     return bool(re.search(r"/(?:\w+_tests|cases)/", str(file)))
 
 
+@functools.cache
 def code(file, has_texts):
     """Returns the text of a file without imports and comments, and without its strings if asked."""
     text = file.read_text()

@@ -4,6 +4,7 @@
 Each check prints a line for each place that is wrong. The last line is 'N passed, M failed', and the exit status is 1 if M is
 not 0.
 """
+import functools
 import os
 import pathlib
 import re
@@ -25,7 +26,9 @@ def rows():
     return {name.strip(): uses.split() for name, _, uses in lines if name.strip()}
 
 
+@functools.cache
 def sources(crate):
+    """Returns the text of all files of a crate."""
     files = (file for part in ("src", "specs", "proofs") for file in (CRATES / crate / part).rglob("*"))
     return "\n".join(file.read_text() for file in files if file.suffix in (".rt", ".antt"))
 
