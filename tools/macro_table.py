@@ -27,6 +27,7 @@ TEXT = ROOT / "crates/macrotable/src/text.rt"
 GUIDE = ROOT / "docs/guide.md"
 PROFILE = ROOT / "crates/acmacros/src/table.rt"
 BEGIN = "## Macros that are not read\n"
+END = "## Packages that were moved over\n"
 KINDS = ("idiom", "drop", "none", "family")
 PLACE = re.compile(r"\$([1-9@])([!_^<>]?)\{([^}]*)\}")
 
@@ -254,8 +255,9 @@ def part_of_guide():
 
 
 def guide():
-    """Returns the guide with that part at its end."""
-    return GUIDE.read_text().partition(BEGIN)[0] + part_of_guide()
+    """Returns the guide with that part before its last heading."""
+    before, _, rest = GUIDE.read_text().partition(BEGIN)
+    return before + part_of_guide() + "\n" + END + rest.partition(END)[2]
 
 
 def differences():

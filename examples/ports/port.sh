@@ -1,4 +1,6 @@
-# Moves a package of Debian over to acrun, and looks at what comes of it. NAME/run.sh sets the variables below, and reads this file:
+# Moves a package of Debian over to acrun: configures what the patch makes of it with acrun, and beside it the original and the patched
+# sources with Autoconf. All three have to agree, but for what is named. Then it builds the package with acrun's files and runs its tests.
+# NAME/run.sh sets the variables below, and reads this file:
 #   url, sum     where the archive is, and its SHA-256
 #   prepare      commands that make configure.ac and the templates of what the archive has, if they aren't there
 #   autoconf     commands that make the package's own script, `autoconf` if there are none
@@ -9,8 +11,8 @@
 #   others       further outputs, which may not differ
 #   tests        commands that run the package's own tests
 # The patch is of configure.ac and templates alone. What is needed: the network, curl, patch, make, a C compiler and Autoconf 2.71.
-# Ends with 77 if one of them is not there, and with 1 if something is otherwise than it should be. With TIMES=1 a row of docs/guide.md
-# is printed too.
+# Ends with 77 if the archive can't be fetched or there is no such Autoconf, and with 1 if something is otherwise than it should be.
+# If ROWS is set in the environment, it prints the package's row of docs/guide.md too.
 set -u
 acrun=$(realpath "$1") || exit 2
 here=$(realpath "$(dirname "$0")") || exit 2
@@ -38,34 +40,46 @@ macros_of() {
         sed 's/[ 	][ 	]*/ /g' | sort -u
 }
 
-compare_headers() {
-    macros_of "$work/theirs/$header" > "$work/macros.theirs"
-    macros_of "$work/ours/$header" > "$work/macros.ours"
-    for macro in $(diff "$work/macros.theirs" "$work/macros.ours" | sed -n 's/^[<>] [a-z]* \([A-Za-z0-9_]*\).*/\1/p' | sort -u); do
-        case " ${macros-} " in *" $macro "*) ;; *) wrong "$header differs in $macro" ;; esac
+# Compares what acrun made with what Autoconf made in another directory, of sources that the second word names.
+compare() {
+    if [ -n "${header-}" ]; then
+        macros_of "$1/$header" > "$work/macros.theirs"
+        macros_of "$work/ours/$header" > "$work/macros.ours"
+        for macro in $(diff "$work/macros.theirs" "$work/macros.ours" | sed -n 's/^[<>] [a-z]* \([A-Za-z0-9_]*\).*/\1/p' | sort -u); do
+            case " ${macros-} " in *" $macro "*) ;; *) wrong "$header differs in $macro from that of $2" ;; esac
+        done
+    fi
+    [ -f "$1/Makefile" ] || wrong "there is no Makefile of $2"
+    printf '%s\n' "$texts" > "$work/texts"
+    diff "$1/Makefile" "$work/ours/Makefile" | sed -n 's/^[<>] \{0,1\}//p' |
+        grep -E -v "^($(echo $variables | tr ' ' '|'))[ 	]*=|^[ 	]*\$" | grep -F -v -f "$work/texts" > "$work/rest"
+    if [ -s "$work/rest" ]; then
+        wrong "the Makefile differs from that of $2 in"
+        cat "$work/rest"
+    fi
+    for other in ${others-}; do
+        cmp -s "$1/$other" "$work/ours/$other" || wrong "$other differs from that of $2"
     done
 }
 
-compare_makefiles() {
-    printf '%s\n' "$texts" > "$work/texts"
-    of_variables="^($(echo $variables | tr ' ' '|'))[ 	]*=|^[ 	]*\$"
-    diff "$work/theirs/Makefile" "$work/ours/Makefile" | sed -n 's/^[<>] \{0,1\}//p' |
-        grep -E -v "$of_variables" | grep -F -v -f "$work/texts" > "$work/rest"
-    if [ -s "$work/rest" ]; then
-        wrong 'the Makefile differs in'
-        cat "$work/rest"
-    fi
-}
-
-# How many lines of configure.ac and of the templates differ between two directories, counted in both.
-changed() {
-    diff -r "$1" "$2" | grep -c '^[<>]'
-}
-
+# Prints how long a command takes in a directory.
 seconds() {
+    cd "$1" || exit 2
+    shift
     began=$(date +%s%N)
-    "$@" > /dev/null 2>&1
+    "$@" > /dev/null 2>&1 || wrong "$* fails"
     echo "$began $(date +%s%N)" | awk '{ printf "%.2f s", ($2 - $1) / 1000000000 }'
+}
+
+# Prints the package's row of the table: it configures copies of the sources, made before they were configured.
+row() {
+    by_hand=$(grep -c '^[-+]' "$here/patch")
+    headers=$(grep -c -E '^(---|\+\+\+) ' "$here/patch")
+    one=$(seconds "$work/one" acrun -j1 configure)
+    four=$(seconds "$work/four" acrun -j4 configure -C)
+    cached=$(seconds "$work/four" acrun -j4 configure -C)
+    autoconf=$(seconds "$work/autoconf" ./configure)
+    echo "| $name | $lines | $((by_hand - headers)) | $checks | $one | $four | $cached | $autoconf |"
 }
 
 autoconf --version 2> /dev/null | grep -q '^autoconf .* 2\.71$' || skip 'there is no Autoconf 2.71'
@@ -76,19 +90,22 @@ cd "$work/ours" && eval "${prepare-}" || exit 2
 cp -R . "$work/theirs"
 
 cd "$work/theirs" && eval "${autoconf-autoconf}" > autoconf.out 2>&1 || { wrong 'Autoconf makes no script of it'; exit 1; }
+[ -z "${ROWS-}" ] || cp -R . "$work/autoconf"
 ./configure -q > configure.out 2>&1 || { wrong 'its own configure fails'; exit 1; }
 
 cd "$work/ours" || exit 2
+lines=$(wc -l < configure.ac)
 patch -p1 -s < "$here/patch" || { wrong 'the patch does not apply'; exit 1; }
+[ -z "${ROWS-}" ] || { cp -R . "$work/one" && cp -R . "$work/four"; }
+cp -R . "$work/both"
 acrun lint --json . | grep -q '"severity":"error"' && wrong 'lint finds an error'
 acrun -j4 configure -q || { wrong "acrun configure ends with $?"; exit 1; }
-[ -z "${header-}" ] || compare_headers
-compare_makefiles
-for other in ${others-}; do
-    cmp -s "$work/theirs/$other" "$other" || wrong "$other differs"
-done
+(cd "$work/both" && rm -f configure && autoconf && ./configure -q) > both.out 2>&1 || { wrong 'Autoconf does not take the ported source'; exit 1; }
+compare "$work/theirs" 'the original'
+compare "$work/both" 'the ported source with Autoconf'
 checks=$(grep -c '^checking' config.log)
 make -s > make.out 2>&1 || { wrong 'make fails'; tail -n 5 make.out; }
 (eval "$tests") > tests.out 2>&1 || { wrong 'its tests fail'; tail -n 5 tests.out; }
 [ "$status" = 0 ] && echo "$name: $checks checks, equal but for what is named, built and tested"
+[ -z "${ROWS-}" ] || row
 exit $status

@@ -6,7 +6,7 @@ set -u
 here=$(dirname "$0")
 program=$1
 shift
-[ $# -gt 0 ] || set -- units pwgen less pv liblockfile dtach
+[ $# -gt 0 ] || set -- units pwgen less pv liblockfile dtach hexedit
 status=0
 for name; do
     sh "$here/$name/run.sh" "$program"
