@@ -1,0 +1,4 @@
+pub mod Signs
+pub mod Position
+pub mod OutputList
+pub mod Room
