@@ -3,7 +3,7 @@
 # make demo     the same, and runs it on the examples
 # make ports    configures, builds and tests packages of others, which it fetches
 # make compile  tries sample conftests with a real compiler, the one that CC names
-# make check    the gate: every proof, every test, every must-fail edit, and the checks of tools/repository.py
+# make check    the gate: every proof, every test, every must-fail edit, each allocation refused, and the checks of tools/repository.py
 # make edits    tries the wrong bodies of every crate, or of those that NAMES names: make edits NAMES="crew plan"
 # make edits-test  tries the script that does it
 # make install  puts the program, its manual page, completions and share/configure below $(DESTDIR)$(prefix)

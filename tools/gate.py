@@ -1,13 +1,15 @@
 #!/usr/bin/env python3
-"""The gate, `make check`: `rt ci`, and then what no proof sees of the repository (`repository.py`).
+"""The gate, `make check`: `rt ci`, then what no proof sees of the repository (`repository.py`), and what comes of memory that runs
+out at each allocation (`refuse_each.py`).
 
-Its last line is 'N passed, M failed' over both, and the exit status is 1 if M is not 0.
+Its last line is 'N passed, M failed' over all of them, and the exit status is 1 if M is not 0.
 """
 import re
 import shutil
 import subprocess
 import sys
 
+import refuse_each
 import repository
 
 COUNTS = re.compile(r"(\d+) passed, (\d+) failed\s*\Z")
@@ -32,9 +34,10 @@ def prove():
 
 def main():
     passed, failed = prove()
-    more, wrong = repository.check()
-    print(f"{passed + more} passed, {failed + wrong} failed")
-    return int(failed + wrong > 0)
+    for more, wrong in (repository.check(), refuse_each.check()):
+        passed, failed = passed + more, failed + wrong
+    print(f"{passed} passed, {failed} failed")
+    return int(failed > 0)
 
 
 if __name__ == "__main__":
