@@ -2,6 +2,7 @@
 
 use crate::disks::Disk;
 use deftable::Bytes;
+use disk::Host;
 use diskfiles::{FileOutputs, Keeps, path_in, read_limited, read_text, write_text};
 use outputs::{Kind, Thing, Things, put_all};
 use std::alloc::AllocError;
@@ -54,9 +55,10 @@ fn read_by(
     verb: &[u8],
     name: &[u8],
 ) -> Result<Option<Bytes>, AllocError> {
+    let host = Host::new(disk);
     match verb {
-        b"front" => read_limited(page.alloc(), disk, name),
-        _ => read_text(page.alloc(), disk, name),
+        b"front" => read_limited(page.alloc(), &host, name),
+        _ => read_text(page.alloc(), &host, name),
     }
 }
 
@@ -72,7 +74,8 @@ fn put_read(page: &mut Page, disk: &Disk<'_>, verb: &[u8], name: &[u8]) {
 
 fn put_written(page: &mut Page, disk: &Disk<'_>, words: &[u8]) {
     let (name, text) = cut(words, b" ");
-    let done = write_text(page.alloc(), disk, name, Keeps::Permissions, text);
+    let mut host = Host::new(disk);
+    let done = write_text(page.alloc(), &mut host, name, Keeps::Permissions, text);
     put_done(page, &done);
 }
 
@@ -99,7 +102,7 @@ fn add_thing(page: &mut Page, things: &mut Things, words: &[u8]) {
 
 /// Puts whether the things were taken, or which was refused, and the lines. A put to the file that is kept is refused.
 fn put_put(page: &mut Page, disk: &Disk<'_>, kept: &[u8], things: &[Thing]) {
-    let mut outputs = FileOutputs::new(page.alloc(), disk);
+    let mut outputs = FileOutputs::new(page.alloc(), Host::new(disk));
     page.given(outputs.keep(kept));
     match put_all(&mut outputs, things) {
         Ok(()) => page.put(b"all"),
@@ -111,12 +114,18 @@ fn put_put(page: &mut Page, disk: &Disk<'_>, kept: &[u8], things: &[Thing]) {
     page.put_text(outputs.lines());
 }
 
-/// Hands over things, with semicolons between them.
-fn put_handed(page: &mut Page, disk: &Disk<'_>, kept: &[u8], words: &[u8]) {
+/// Returns things, with semicolons between them.
+pub fn things_of(page: &mut Page, words: &[u8]) -> Things {
     let mut things = Things::new(page.alloc());
     for thing in words.split(|byte| *byte == b';') {
         add_thing(page, &mut things, thing);
     }
+    things
+}
+
+/// Hands over things, with semicolons between them.
+fn put_handed(page: &mut Page, disk: &Disk<'_>, kept: &[u8], words: &[u8]) {
+    let things = things_of(page, words);
     put_put(page, disk, kept, things.as_slice());
 }
 

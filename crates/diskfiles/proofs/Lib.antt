@@ -1,2 +1,6 @@
-mod Front
 mod Kept
+mod Placed
+mod Puts
+mod Readings
+mod Slashes
+mod Writings

@@ -1,18 +1,22 @@
 -- What a receiver says of a thing.
-use Rattle.std.specs.Prelude.{ℕ, List, []}
+use Rattle.std.specs.Prelude.{ℕ, Bool, true, false, List, []}
 use Rattle.outputs.specs.declared.thing.Kind.{Kind}
 use Rattle.outputs.specs.declared.thing.Kind.TheVariants.{Cache, Record, File, Header}
 use Rattle.diskfiles.specs.declared.saying.Saying.{Saying}
 use Rattle.diskfiles.specs.declared.saying.Saying.TheVariants.{Nothing, Creating, Unchanged}
 use Rattle.diskfiles.specs.Lines.{creating_line, unchanged_line}
 
--- This may be said of a thing of this kind. (own)
-pub data IsSaying : Kind → Saying → Type 0 where
-  of_cache : IsSaying Cache Nothing
-  of_record : IsSaying Record Nothing
-  of_file : IsSaying File Creating
-  of_header : IsSaying Header Creating
-  of_unchanged : IsSaying Header Unchanged
+-- what is said of a header, if its file is left as it is or not (own)
+abbrev pub saying_of_header : Bool → Saying
+saying_of_header true = Unchanged
+saying_of_header false = Creating
+
+-- what is said of a thing of this kind, if its file is left as it is or not (own)
+abbrev pub saying_of : Kind → Bool → Saying
+saying_of Cache left = Nothing
+saying_of Record left = Nothing
+saying_of File left = Creating
+saying_of Header left = saying_of_header left
 
 -- what is said of a thing with this name (own)
 abbrev pub said : Saying → List ℕ → List ℕ

@@ -6,18 +6,19 @@
 //!
 //! ```text
 //! let name = path_in(alloc, srcdir, b"configure.ac")?;       // ./configure.ac, if srcdir is .
-//! let source = read_text(alloc, files, name.as_slice())?;    // None if it can't be read
-//! let mut outputs = FileOutputs::new(alloc, files);
+//! let source = read_text(alloc, &disk, name.as_slice())?;    // None if it can't be read
+//! let mut outputs = FileOutputs::new(alloc, disk);
 //! outputs.put(Kind::File, b"src/Makefile", text)?;           // makes the directory src
 //! outputs.lines()                                            // config.status: creating src/Makefile
+//! outputs.close(b"config.log", log)?;                        // the last file, which is no thing
 //! ```
 //!
-//! No contract of std says what a file holds. So contracts here say which names are refused, how long a text may be, what the
-//! receipt of a receiver is, and what its lines say; tests show what is read and written. "own" marks a rule that no manual
-//! gives.
+//! Contracts are over any `disk::Disk`. If it is known what is under its names, they say what is read, and by which steps each text is
+//! written. They also say what the receipt of a receiver is, and what its lines say. Of real files nothing is known, so tests show
+//! what is read and written there. "own" marks a rule that no manual gives.
 //!
-//! Read `specs/Names` and `specs/Lines`, then `names`, `reading`, `writing`, `links`, `places`, `saying`, which has the lines, and
-//! `receiver`.
+//! Read `specs/Names`, `specs/Lines`, `specs/Steps` and `specs/Done`, then `names`, `reading`, `writing`, `links`, `places`, `saying`,
+//! which has the lines, and `receiver`.
 #![tactic(auto)]
 
 mod links;
@@ -28,7 +29,8 @@ mod receiver;
 mod saying;
 mod writing;
 
+pub use disk::LARGEST_TEXT;
 pub use names::path_in;
-pub use reading::{LARGEST_TEXT, read_limited, read_text, unread_cause};
+pub use reading::{read_limited, read_text, unread_cause};
 pub use receiver::FileOutputs;
 pub use writing::{Keeps, write_text};

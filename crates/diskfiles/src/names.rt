@@ -1,6 +1,8 @@
 //! Names of files.
 
-ghost use Rattle.std.specs.Prelude.{◌≡◌, ◌∷◌, ◌++◌, IfOk, IfSome};
+ghost use Rattle.std.specs.Prelude.{◌≡◌, ◌∷◌, ◌++◌, IfOk, IfSome, IfNone, string_bytes};
+ghost use Rattle.std.specs.Option.{option_copied};
+ghost use Rattle.diskfiles.specs.Names as meant;
 ghost use Rattle.diskfiles.specs.Names.{IsFileName, has_nul};
 
 use deftable::Bytes;
@@ -33,6 +35,7 @@ fn has_nul(name: &[u8]) -> bool
 pub(crate) fn file_name(name: &[u8]) -> Option<&str>
     ensures name { IfSome result (λ _. IsFileName name.now) }
     ensures same { IfSome result (λ text. text.now ≡ name.now) }
+    ensures none { IfNone result (IsFileName name.now → ⊥) }
 {
     if has_nul(name) {
         return None;
@@ -49,19 +52,31 @@ pub(crate) fn no_name() -> io::Error {
 }
 
 /// Returns the directory of a file: what is before the last slash of its name. If the name has no slash, returns `None`.
-pub(crate) fn directory_of(name: &str) -> Option<&str> {
-    match name.rsplit_once('/') {
-        Some((directory, _)) => Some(directory),
+pub(crate) fn directory_of(name: &str) -> Option<&str>
+    ensures { option_copied result ≡ meant.directory_of name.now }
+{
+    match name.rfind('/') {
+        Some(at) => Some(&name[..at]),
         None => None,
     }
 }
 
 /// Returns the front of a name up to its last slash, with it. If the name has no slash, it is empty.
-pub(crate) fn front_of(name: &str) -> &str {
+pub(crate) fn front_of(name: &str) -> &str
+    ensures { result.now ≡ meant.front_of name.now }
+{
     match name.rfind('/') {
         Some(at) => &name[..at + 1],
         None => "",
     }
+}
+
+/// Returns the name of this number for a new file in the directory of another.
+pub(crate) fn temporary(alloc: Global, name: &str, number: u32) -> Result<String, AllocError>
+    ensures { IfOk result (λ other. string_bytes other ≡ meant.temporary name.now number) }
+{
+    let front = front_of(name);
+    format!(in alloc; "{front}acrun-{number}.tmp")
 }
 
 /// Returns what is after the last slash of a name, or the whole of it.

@@ -1,11 +1,10 @@
 //! Where files are: which names are names of one file.
 
-use crate::names::{file_name, front_of, last_of};
+use crate::names::{front_of, last_of};
 use deftable::Bytes;
+use disk::Disk;
 use std::alloc::Global;
-use std::os::unix::fs::MetadataExt;
-use std::rt::Files;
-use std::{fs, io};
+use std::io;
 
 /// The place of a file: its directory, by device and number, and the last part of its name. Two names are of one place exactly
 /// if their directories are one, and their last parts are equal.
@@ -17,14 +16,13 @@ pub(crate) struct Place {
 }
 
 /// Returns the place of a name. Fails if there is no such directory, or memory runs out.
-pub(crate) fn place_of<F: Files>(alloc: Global, files: &F, name: &str) -> io::Result<Place> {
+pub(crate) fn place_of<D: Disk>(alloc: Global, disk: &D, name: &str) -> io::Result<Place> {
     let front = front_of(name);
-    let directory = if front.is_empty() { "." } else { front };
-    let found = fs::metadata(files, directory)?;
+    let (device, directory) = disk.directory(if front.is_empty() { "." } else { front })?;
     let name = Bytes::from_slice(alloc, last_of(name).as_bytes())?;
     Ok(Place {
-        device: found.dev(),
-        directory: found.ino(),
+        device,
+        directory,
         name,
     })
 }

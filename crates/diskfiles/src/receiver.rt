@@ -1,26 +1,30 @@
 //! The receiver that writes to files.
 
-ghost use Rattle.std.specs.Prelude.{◌≡◌, ◌+◌, ◌^◌, ◌<◌, [], ◌∷◌, ◌++◌, OnOk, OnErr, IfOk};
+ghost use Rattle.std.specs.Prelude.{◌≡◌, ◌+◌, ◌^◌, ◌<◌, false, List, ℕ, [], OnOk, OnErr, IfOk, IfSome, option_map, string_bytes};
+ghost use Rattle.disk.specs.Known.{Adds, Does};
 ghost use Rattle.outputs.specs.Receipt.{with_thing, with_refusal};
+ghost use Rattle.diskfiles.specs.Done.{IsEnd, IsPut, IsRefused, IsAllDone};
+ghost use Rattle.diskfiles.specs.Held.{fresh, receipt_of, IsTaken, IsCounted, IsClosed};
+ghost use Rattle.diskfiles.specs.Keeping as meant;
+ghost use Rattle.diskfiles.specs.Keeping.{IsKept, AreSame, IsLeft, IsStepped, IsUnstepped, Takes, keeps_of, made_for};
 ghost use Rattle.diskfiles.specs.Lines.{AreLines};
 ghost use Rattle.diskfiles.specs.Names.{IsFileName};
 ghost use Rattle.diskfiles.specs.Sayings.{said};
-ghost use Rattle.diskfiles.specs.Keeping.{IsKept, AreSame};
+ghost use Rattle.diskfiles.specs.Steps.{IsReplaced, IsBegun, directories_for};
 
 use crate::links::end_of;
 use crate::names::{directory_of, file_name, no_name};
 use crate::places::{Place, is_among, place_of};
 use crate::reading::read_text;
 use crate::saying::{Saying, say, saying_of};
-use crate::writing::{Keeps, write_text};
+use crate::writing::{Keeps, write_new, write_text};
 use causes::words_of;
 use deftable::Bytes;
+use disk::Disk;
 use outputs::{Kind, Outputs, PutRefused, Thing};
 use std::alloc::{AllocError, Global};
-use std::io::ErrorKind;
+use std::io::{self, ErrorKind};
 use std::marker::Model;
-use std::rt::Files;
-use std::{fs, io};
 
 /// A receiver that writes each thing to the file of its name (own).
 ///
@@ -28,42 +32,47 @@ use std::{fs, io};
 /// written, and its file isn't touched. If a cache is a link, the file that the link leads to is written; any other link is
 /// replaced. The receiver keeps a copy of what it took, and the lines that are to be printed.
 ///
-/// A put is refused if memory runs out, no file can have the name, the system refuses to write, or the file is that of an
-/// earlier put or one that [`FileOutputs::keep`] names. Then the file is as it was, as [`write_text`] says, but directories that
-/// were made for it stay. The receiver keeps why the last put was refused.
-pub struct FileOutputs<'a, F: Files> {
+/// A put is refused if memory runs out, no file can have the name, the system refuses to write, the file is that of an earlier put or
+/// one that [`FileOutputs::keep`] names, or the receiver is closed. Then the file is as it was, as [`write_text`] says, but directories
+/// that were made for it stay. The receiver keeps why the last put was refused.
+pub struct FileOutputs<D: Disk> {
     alloc: Global,
-    files: &'a F,
+    disk: D,
     places: Vec<Place>,
     things: Vec<Thing>,
     failures: u64,
     lines: Vec<u8>,
     cause: Bytes,
+    is_closed: bool,
 }
 
-impl<'a, F: Files> Drop for FileOutputs<'a, F> {
+impl<D: Disk> Drop for FileOutputs<D> {
     fn drop(self) {
         let FileOutputs {
             alloc: _alloc,
-            files: _files,
+            disk: _disk,
             places: _places,
             things: _things,
             failures: _failures,
             lines: _lines,
             cause: _cause,
+            is_closed: _is_closed,
         } = self;
     }
 }
 
-impl<'a, F: Files> Model for FileOutputs<'a, F> {
-    ghost use Rattle.outputs.specs.Receipt.{Receipt};
+impl<D: Disk> Model for FileOutputs<D> {
+    ghost use Rattle.std.specs.Prelude.{◌≡◌, false, IfSome};
+    ghost use Rattle.diskfiles.specs.Done.{IsAllDone};
+    ghost use Rattle.diskfiles.specs.Held.{Held};
     ghost use Rattle.diskfiles.specs.Lines.{AreLines};
 
-    ghost Value = { Receipt };
+    ghost Value = { Held D };
 
-    ghost view = { λ o. record { handed = o.things.items; failures = o.failures } };
+    ghost view = { λ o. record { handed = o.things.items; failures = o.failures; lines = o.lines.items; closed = o.is_closed; disk = o.disk } };
 
-    ghost invariant = { λ o. AreLines o.things.items o.lines.items };
+    ghost invariant = { λ o. AreLines o.things.items o.lines.items
+        × (o.is_closed ≡ false → IfSome (D.known o.disk) (λ k. IsAllDone k o.things.items o.failures o.lines.items)) };
 }
 
 /// Returns the error of an allocation that failed.
@@ -72,10 +81,22 @@ fn no_memory() -> io::Error {
 }
 
 /// Makes the directories of a file that don't exist.
-fn make_directories<F: Files>(files: &F, name: &str) -> io::Result<()> {
+fn make_directories<D: Disk>(disk: &mut D, name: &str) -> io::Result<()>
+    ensures { Adds (D.known disk.old) (D.known disk.new) (directories_for name.now) }
+{
     match directory_of(name) {
-        Some(directory) => fs::create_dir_all(files, directory),
+        Some(directory) => disk.make_directories(directory),
         None => Ok(()),
+    }
+}
+
+/// Makes the directories of a file or a header that is to be made.
+fn make_for<D: Disk>(disk: &mut D, saying: Saying, name: &str) -> io::Result<()>
+    ensures { Adds (D.known disk.old) (D.known disk.new) (made_for saying name.now) }
+{
+    match saying {
+        Saying::Creating => make_directories(disk, name),
+        Saying::Nothing | Saying::Unchanged => Ok(()),
     }
 }
 
@@ -89,47 +110,44 @@ fn add(places: &mut Vec<Place>, place: Place) -> io::Result<()> {
 }
 
 /// Adds the place of a name, if it has one and it is not added yet.
-fn add_place<F: Files>(
+fn add_place<D: Disk>(
     alloc: Global,
-    files: &F,
+    disk: &D,
     places: &mut Vec<Place>,
     name: &str,
 ) -> io::Result<()> {
-    add(places, place_of(alloc, files, name)?)
+    add(places, place_of(alloc, disk, name)?)
 }
 
-/// Makes the directories of a file or a header that is to be made, and adds the place of a thing. If its name is that of a link which
-/// leads to the file, adds the place of the file too.
-fn add_places<F: Files>(
+/// Adds the place of a thing. If its name is that of a link which leads to the file, adds the place of the file before that.
+fn add_places<D: Disk>(
     alloc: Global,
-    files: &F,
+    disk: &D,
     places: &mut Vec<Place>,
-    saying: Saying,
     name: &str,
     file: &str,
     is_linked: bool,
 ) -> io::Result<()> {
-    if let Saying::Creating = saying {
-        make_directories(files, name)?;
-    }
     if is_linked {
-        add_place(alloc, files, places, file)?;
+        add_place(alloc, disk, places, file)?;
     }
-    add_place(alloc, files, places, name)
+    add_place(alloc, disk, places, name)
 }
 
 /// Returns what permissions the file of a thing of this kind keeps. A record is no program, so nobody is to execute it.
-fn kept_by(kind: Kind) -> Keeps {
+fn kept_by(kind: Kind) -> Keeps
+    ensures { result ≡ keeps_of kind }
+{
     match kind {
         Kind::Record => Keeps::NoExecution,
-        _ => Keeps::Permissions,
+        Kind::Cache | Kind::File | Kind::Header => Keeps::Permissions,
     }
 }
 
 /// Writes a thing, if it isn't unchanged, and adds its places. If that fails, some place may have been added.
-fn write_placed<F: Files>(
+fn write_placed<D: Disk>(
     alloc: Global,
-    files: &F,
+    disk: &mut D,
     places: &mut Vec<Place>,
     kind: Kind,
     saying: Saying,
@@ -138,18 +156,23 @@ fn write_placed<F: Files>(
     file: &str,
     is_linked: bool,
     text: &[u8],
-) -> io::Result<()> {
-    add_places(alloc, files, places, saying, name, file, is_linked)?;
+) -> io::Result<()>
+    ensures stepped { OnOk result (Does (D.known disk.old) (D.known disk.new)
+        (λ k deeds. IsStepped k saying unchanged (keeps_of kind) name.now file.now text.now deeds)) }
+    ensures undone { OnErr result (Does (D.known disk.old) (D.known disk.new) (λ _ deeds. IsUnstepped saying name.now file.now deeds)) }
+{
+    make_for(disk, saying, name)?;
+    add_places(alloc, disk, places, name, file, is_linked)?;
     if unchanged {
         return Ok(());
     }
-    write_text(alloc, files, file.as_bytes(), kept_by(kind), text)
+    write_text(alloc, disk, file.as_bytes(), kept_by(kind), text)
 }
 
 /// Writes a thing, if it isn't unchanged, and adds its places. If that fails, no place is added.
-fn write_thing<F: Files>(
+fn write_thing<D: Disk>(
     alloc: Global,
-    files: &F,
+    disk: &mut D,
     places: &mut Vec<Place>,
     kind: Kind,
     saying: Saying,
@@ -158,10 +181,14 @@ fn write_thing<F: Files>(
     file: &str,
     is_linked: bool,
     text: &[u8],
-) -> io::Result<()> {
+) -> io::Result<()>
+    ensures stepped { OnOk result (Does (D.known disk.old) (D.known disk.new)
+        (λ k deeds. IsStepped k saying unchanged (keeps_of kind) name.now file.now text.now deeds)) }
+    ensures undone { OnErr result (Does (D.known disk.old) (D.known disk.new) (λ _ deeds. IsUnstepped saying name.now file.now deeds)) }
+{
     let count = places.len();
     let done = write_placed(
-        alloc, files, places, kind, saying, unchanged, name, file, is_linked, text,
+        alloc, disk, places, kind, saying, unchanged, name, file, is_linked, text,
     );
     if done.is_err() {
         places.truncate(count);
@@ -169,35 +196,62 @@ fn write_thing<F: Files>(
     done
 }
 
-/// Returns whether the file of a header or a cache has this text already. It is false for what is written in any case: a file,
-/// and the record, so that it is newer than what it was made of. Fails only if memory runs out.
-fn is_unchanged<F: Files>(
-    alloc: Global,
-    files: &F,
-    kind: Kind,
-    name: &str,
-    text: &[u8],
-) -> Result<bool, AllocError> {
-    let is_compared = kind == Kind::Header || kind == Kind::Cache;
-    if !is_compared {
-        return Ok(false);
-    }
-    match read_text(alloc, files, name.as_bytes())? {
-        Some(found) => Ok(found.as_slice() == text),
-        None => Ok(false),
+/// Returns whether a thing of this kind is compared with the text that its file has. What is not compared is written in any case: a
+/// file, and the record, so that it is newer than what it was made of.
+fn is_compared(kind: Kind) -> bool
+    ensures { result ≡ meant.is_compared kind }
+{
+    match kind {
+        Kind::Cache | Kind::Header => true,
+        Kind::Record | Kind::File => false,
     }
 }
 
-/// Returns the name of the file that a link leads to, if a cache is a link. Any other link is replaced.
-fn end_for<F: Files>(
+/// Returns whether a text that was read, if one was, is this text.
+fn is_same(found: Option<Bytes>, text: &[u8]) -> bool
+    ensures { result ≡ meant.is_same found text.now }
+{
+    match found {
+        Some(found) => found.as_slice() == text,
+        None => false,
+    }
+}
+
+/// Returns whether the file of a header or a cache has this text already. For anything else it is false. Fails only if memory runs out.
+fn is_unchanged<D: Disk>(
     alloc: Global,
-    files: &F,
+    disk: &D,
     kind: Kind,
     name: &str,
-) -> io::Result<Option<String>> {
+    text: &[u8],
+) -> Result<bool, AllocError>
+    requires { IsFileName name.now }
+    ensures { IfOk result (λ left. IfSome (D.known disk.now) (λ k. IsLeft kind k name.now text.now left)) }
+{
+    if !is_compared(kind) {
+        return Ok(false);
+    }
+    let found = read_text(alloc, disk, name.as_bytes())?;
+    Ok(is_same(found, text))
+}
+
+/// Returns the name of the file that a link leads to, if a cache is a link. Any other link is replaced.
+fn end_for<D: Disk>(alloc: Global, disk: &D, kind: Kind, name: &str) -> io::Result<Option<String>>
+    ensures { IfOk result (λ o. IfSome (D.known disk.now) (λ k. IsEnd k name.now kind (meant.file_of (option_map string_bytes o) name.now))) }
+{
     match kind {
-        Kind::Cache => end_of(alloc, files, name),
-        _ => Ok(None),
+        Kind::Cache => end_of(alloc, disk, name),
+        Kind::Record | Kind::File | Kind::Header => Ok(None),
+    }
+}
+
+/// Returns the name of the file that a thing is written to.
+fn file_of<'a>(end: &'a Option<String>, name: &'a str) -> &'a str
+    ensures { result.now ≡ meant.file_of (option_map string_bytes end.now) name.now }
+{
+    match end {
+        Some(end) => end.as_str(),
+        None => name,
     }
 }
 
@@ -222,10 +276,11 @@ fn keep(
     answer
 }
 
-/// Appends a thing and what is said of it, and writes the thing. If the put is refused, it appends neither.
-fn keep_written<F: Files>(
+/// Appends a thing and what is said of it, and writes the thing. If the put is refused, it appends neither. So there is memory to keep
+/// the thing before its file is written.
+fn keep_written<D: Disk>(
     alloc: Global,
-    files: &F,
+    disk: &mut D,
     places: &mut Vec<Place>,
     things: &mut Vec<Thing>,
     lines: &mut Vec<u8>,
@@ -240,6 +295,9 @@ fn keep_written<F: Files>(
 ) -> io::Result<()>
     ensures ok { OnOk result (IsKept things.old.items lines.old.items things.new.items lines.new.items thing (said saying name.now)) }
     ensures err { OnErr result (AreSame things.old.items lines.old.items things.new.items lines.new.items) }
+    ensures stepped { OnOk result (Does (D.known disk.old) (D.known disk.new)
+        (λ k deeds. IsStepped k saying unchanged (keeps_of kind) name.now file.now text.now deeds)) }
+    ensures undone { OnErr result (Does (D.known disk.old) (D.known disk.new) (λ _ deeds. IsUnstepped saying name.now file.now deeds)) }
 {
     let count = things.len();
     let len = lines.len();
@@ -247,7 +305,7 @@ fn keep_written<F: Files>(
         return Err(no_memory());
     }
     let done = write_thing(
-        alloc, files, places, kind, saying, unchanged, name, file, is_linked, text,
+        alloc, disk, places, kind, saying, unchanged, name, file, is_linked, text,
     );
     if done.is_err() {
         things.truncate(count);
@@ -256,20 +314,100 @@ fn keep_written<F: Files>(
     done
 }
 
-impl<'a, F: Files> FileOutputs<'a, F> {
-    /// Returns a receiver that has taken nothing. It doesn't allocate.
-    pub fn new(alloc: Global, files: &'a F) -> FileOutputs<'a, F>
-        ensures { result ≡ record { handed = []; failures = 0 } }
+/// Takes a thing whose name is that of a file. If the put is refused, only its deeds are left of it.
+fn take_named<D: Disk>(
+    alloc: Global,
+    disk: &mut D,
+    places: &mut Vec<Place>,
+    things: &mut Vec<Thing>,
+    lines: &mut Vec<u8>,
+    kind: Kind,
+    name: &str,
+    text: &[u8],
+) -> io::Result<()>
+    requires { IsFileName name.now }
+    ensures taken { OnOk result (Takes (D.known disk.old) (D.known disk.new) things.old.items lines.old.items things.new.items lines.new.items
+        (record { kind = kind; name = name.now; text = text.now })) }
+    ensures same { OnErr result (AreSame things.old.items lines.old.items things.new.items lines.new.items) }
+    ensures undone { OnErr result (Does (D.known disk.old) (D.known disk.new) (λ k deeds. IsRefused k name.now kind deeds)) }
+{
+    let Ok(unchanged) = is_unchanged(alloc, disk, kind, name, text) else {
+        return Err(no_memory());
+    };
+    let end = end_for(alloc, disk, kind, name)?;
+    let Ok(thing) = Thing::from_slices(alloc, kind, name.as_bytes(), text) else {
+        return Err(no_memory());
+    };
+    let saying = saying_of(kind, unchanged);
+    let file = file_of(&end, name);
+    keep_written(
+        alloc,
+        disk,
+        places,
+        things,
+        lines,
+        thing,
+        kind,
+        saying,
+        unchanged,
+        name,
+        file,
+        end.is_some(),
+        text,
+    )
+}
+
+/// Takes a thing. If the put is refused, only its deeds are left of it.
+fn take<D: Disk>(
+    alloc: Global,
+    disk: &mut D,
+    places: &mut Vec<Place>,
+    things: &mut Vec<Thing>,
+    lines: &mut Vec<u8>,
+    is_closed: bool,
+    kind: Kind,
+    name: &[u8],
+    text: &[u8],
+) -> io::Result<()>
+    ensures unclosed { OnOk result (is_closed ≡ false) }
+    ensures taken { OnOk result (Takes (D.known disk.old) (D.known disk.new) things.old.items lines.old.items things.new.items lines.new.items
+        (record { kind = kind; name = name.now; text = text.now })) }
+    ensures name { IfOk result (λ _. IsFileName name.now) }
+    ensures same { OnErr result (AreSame things.old.items lines.old.items things.new.items lines.new.items) }
+    ensures undone { OnErr result (Does (D.known disk.old) (D.known disk.new) (λ k deeds. IsRefused k name.now kind deeds)) }
+{
+    if is_closed {
+        return Err(io::Error::other("is handed over after the last file"));
+    }
+    let Some(path) = file_name(name) else {
+        return Err(no_name());
+    };
+    take_named(alloc, disk, places, things, lines, kind, path, text)
+}
+
+impl<D: Disk> FileOutputs<D> {
+    /// Returns a receiver that has taken nothing, and writes to this disk. It doesn't allocate.
+    pub fn new(alloc: Global, disk: D) -> FileOutputs<D>
+        requires { IfSome (D.known disk) (λ k. k.deeds ≡ []) }
+        ensures { result ≡ fresh disk }
     {
         FileOutputs {
             alloc,
-            files,
+            disk,
             places: Vec::new(alloc),
             things: Vec::new(alloc),
             failures: 0,
             lines: Vec::new(alloc),
             cause: Bytes::new(alloc),
+            is_closed: false,
         }
+    }
+
+    /// Returns the disk, for what is to be read from it.
+    pub fn disk(&self) -> &D
+        ensures { result.now ≡ self.now.disk }
+    {
+        &self.disk
     }
 
     /// Returns why the last put was refused that was: `NAME: CAUSE`, with the words of the system, or with words of the receiver's own. If
@@ -281,7 +419,10 @@ impl<'a, F: Files> FileOutputs<'a, F> {
     /// Returns a line for each file and header that was taken, in order: `config.status: creating NAME`, or for a header whose
     /// file had this text already `config.status: NAME is unchanged`. Each line ends in a newline.
     pub fn lines(&self) -> &[u8]
-        ensures { AreLines self.now.handed result.now }
+        ensures value { result.now ≡ self.now.lines }
+        ensures lines { AreLines self.now.handed result.now }
+        // Unless it is closed, what was done to the disk is what was done for the puts.
+        ensures done { self.now.closed ≡ false → IfSome (D.known self.now.disk) (λ k. IsAllDone k self.now.handed self.now.failures self.now.lines) }
     {
         self.lines.as_slice()
     }
@@ -298,7 +439,7 @@ impl<'a, F: Files> FileOutputs<'a, F> {
         let Some(name) = file_name(name) else {
             return Ok(());
         };
-        match place_of(self.alloc, self.files, name) {
+        match place_of(self.alloc, &self.disk, name) {
             Ok(place) => {
                 self.places.push(place)?;
                 Ok(())
@@ -308,33 +449,52 @@ impl<'a, F: Files> FileOutputs<'a, F> {
         }
     }
 
-    /// Takes a thing. If the put is refused, it isn't counted yet.
-    fn take(&mut self, kind: Kind, name: &[u8], text: &[u8]) -> io::Result<()>
-        ensures taken { OnOk result (self.new ≡ with_thing self.old (record { kind = kind; name = name.now; text = text.now })) }
-        ensures refused { OnErr result (self.new ≡ self.old) }
+    /// Writes a last file, which is no thing, such as a log. A regular file or a link of this name is removed first. From then on each put
+    /// is refused.
+    ///
+    /// # Errors
+    ///
+    /// Fails if no file can have this name, or the system refuses a step. Then what was under the name may be gone, and the new file may
+    /// have a part of the text. The receiver is closed also then.
+    pub fn close(&mut self, name: &[u8], text: &[u8]) -> io::Result<()>
+        // Unless it was closed already, what was done to the disk before is what was done for the puts.
+        ensures done { self.old.closed ≡ false → IfSome (D.known self.old.disk) (λ k. IsAllDone k self.old.handed self.old.failures self.old.lines) }
+        ensures closed { IsClosed self.old self.new }
+        ensures written { OnOk result (Does (D.known self.old.disk) (D.known self.new.disk) (λ k deeds. IsReplaced k name.now text.now deeds)) }
+        ensures begun { OnErr result (Does (D.known self.old.disk) (D.known self.new.disk) (λ k deeds. IsBegun k name.now deeds)) }
         ensures name { IfOk result (λ _. IsFileName name.now) }
     {
-        let Some(path) = file_name(name) else {
-            return Err(no_name());
-        };
-        let Ok(unchanged) = is_unchanged(self.alloc, self.files, kind, path, text) else {
-            return Err(no_memory());
-        };
-        let end = end_for(self.alloc, self.files, kind, path)?;
-        let saying = saying_of(kind, unchanged);
-        let Ok(thing) = Thing::from_slices(self.alloc, kind, name, text) else {
-            return Err(no_memory());
-        };
-        let file = match &end {
-            Some(end) => end.as_str(),
-            None => path,
-        };
-        let is_linked = end.is_some();
-        let (places, things, lines) = (&mut self.places, &mut self.things, &mut self.lines);
-        keep_written(
-            self.alloc, self.files, places, things, lines, thing, kind, saying, unchanged, path,
-            file, is_linked, text,
-        )
+        self.is_closed = true;
+        write_new(&mut self.disk, name, text)
+    }
+
+    /// Takes a thing, or counts the refusal.
+    fn take_counted(&mut self, kind: Kind, name: &[u8], text: &[u8]) -> io::Result<()>
+        requires failures { self.old.failures < 2 ^ 62 }
+        ensures taken { OnOk result ((line : List ℕ) × IsTaken self.old self.new (record { kind = kind; name = name.now; text = text.now }) line
+            × Does (D.known self.old.disk) (D.known self.new.disk) (λ k deeds. IsPut k name.now text.now kind line deeds)) }
+        ensures unclosed { OnOk result (self.old.closed ≡ false) }
+        ensures name { IfOk result (λ _. IsFileName name.now) }
+        ensures counted { OnErr result (IsCounted self.old self.new) }
+        ensures undone { OnErr result (Does (D.known self.old.disk) (D.known self.new.disk) (λ k deeds. IsRefused k name.now kind deeds)) }
+    {
+        match take(
+            self.alloc,
+            &mut self.disk,
+            &mut self.places,
+            &mut self.things,
+            &mut self.lines,
+            self.is_closed,
+            kind,
+            name,
+            text,
+        ) {
+            Ok(()) => Ok(()),
+            Err(e) => {
+                self.failures += 1;
+                Err(e)
+            }
+        }
     }
 
     /// Keeps why a put was refused. If memory runs out, keeps nothing.
@@ -345,19 +505,24 @@ impl<'a, F: Files> FileOutputs<'a, F> {
     }
 }
 
-impl<'a, F: Files> Outputs for FileOutputs<'a, F> {
-    ghost receipt = { λ o. o };
+impl<D: Disk> Outputs for FileOutputs<D> {
+    ghost receipt = { receipt_of };
 
     fn put(&mut self, kind: Kind, name: &[u8], text: &[u8]) -> Result<(), PutRefused>
-        requires failures { self.old.failures < 2 ^ 62 }
-        ensures taken { OnOk result (self.new ≡ with_thing self.old (record { kind = kind; name = name.now; text = text.now })) }
-        ensures refused { OnErr result (self.new ≡ with_refusal self.old) }
+        requires failures { (receipt_of self.old).failures < 2 ^ 62 }
+        ensures taken { OnOk result (receipt_of self.new ≡ with_thing (receipt_of self.old) (record { kind = kind; name = name.now; text = text.now })) }
+        ensures refused { OnErr result (receipt_of self.new ≡ with_refusal (receipt_of self.old)) }
         ensures name { IfOk result (λ _. IsFileName name.now) }
+        ensures unclosed { OnOk result (self.old.closed ≡ false) }
+        // What was done to the disk, if that is known, and what is said of the thing.
+        ensures done { OnOk result ((line : List ℕ) × IsTaken self.old self.new (record { kind = kind; name = name.now; text = text.now }) line
+            × Does (D.known self.old.disk) (D.known self.new.disk) (λ k deeds. IsPut k name.now text.now kind line deeds)) }
+        ensures counted { OnErr result (IsCounted self.old self.new) }
+        ensures undone { OnErr result (Does (D.known self.old.disk) (D.known self.new.disk) (λ k deeds. IsRefused k name.now kind deeds)) }
     {
-        match self.take(kind, name, text) {
+        match self.take_counted(kind, name, text) {
             Ok(()) => Ok(()),
             Err(e) => {
-                self.failures += 1;
                 self.keep_cause(name, &e);
                 Err(PutRefused)
             }

@@ -1,7 +1,8 @@
 //! The lines on what was handed over.
 
 ghost use Rattle.std.specs.Prelude.{◌≡◌, ◌++◌, OnOk, OnErr};
-ghost use Rattle.diskfiles.specs.Sayings.{IsSaying, said};
+ghost use Rattle.diskfiles.specs.Sayings as meant;
+ghost use Rattle.diskfiles.specs.Sayings.{said};
 
 use outputs::Kind;
 use std::alloc::{AllocError, Global};
@@ -20,7 +21,7 @@ pub(crate) enum Saying {
 /// Returns what is said of a thing of this kind. `is_unchanged` says whether its file has its text already. It matters for a
 /// header alone.
 pub(crate) fn saying_of(kind: Kind, is_unchanged: bool) -> Saying
-    ensures { IsSaying kind result }
+    ensures { result ≡ meant.saying_of kind is_unchanged }
 {
     match kind {
         Kind::Cache => Saying::Nothing,

@@ -1,37 +1,36 @@
 //! Writing whole texts.
 
-ghost use Rattle.std.specs.Prelude.{IfOk};
-ghost use Rattle.diskfiles.specs.Names.{IsFileName};
+ghost use Rattle.std.specs.Prelude.{◌≡◌, ◌⊎◌, ℕ, List, [], ◌∷◌, IfOk, OnOk, OnErr, None, string_bytes};
+ghost use Rattle.disk.specs.Known.{Deed, Adds, Does, Made, Filled, Failed, Renamed, Removed, kind_under};
+ghost use Rattle.diskfiles.specs.Names.{IsFileName, temporary};
+ghost use Rattle.diskfiles.specs.Steps as meant;
+ghost use Rattle.diskfiles.specs.Steps.{writing, IsMode, IsWritten, IsUndone, IsReplaced, IsBegun, IsCleared};
 
-use crate::names::{file_name, front_of, no_name};
-use crate::reading::not_regular;
+use crate::names::{file_name, no_name, temporary};
+use disk::{Disk, Found, not_regular};
 use std::alloc::Global;
-use std::fs::{self, File, Metadata, OpenFile, Permissions};
-use std::io::{self, ErrorKind, Write};
-use std::os::unix::fs::PermissionsExt;
-use std::rt::Files;
+use std::io::{self, ErrorKind};
 
 /// How many names are tried for a new file.
 const MOST_NAMES: u32 = 1000;
 
 /// A file that was just made, with its name.
 #[derive(Drop)]
-struct Made<T: Drop> {
+struct NewFile<T: Drop> {
     file: T,
     name: String,
 }
 
 /// Makes a new file in the directory of a file, under the first name `acrun-N.tmp` that is not there, N from 1 on.
-fn make_beside<F: Files>(alloc: Global, files: &F, name: &str) -> io::Result<Made<F::File>> {
-    let front = front_of(name);
+fn make_beside<D: Disk>(alloc: Global, disk: &mut D, name: &str) -> io::Result<NewFile<D::File>>
+    ensures made { IfOk result (λ made. (n : ℕ) × (string_bytes made.name ≡ temporary name.now n)
+        × Adds (D.known disk.old) (D.known disk.new) (Made (temporary name.now n) ∷ [])) }
+    ensures refused { OnErr result (Adds (D.known disk.old) (D.known disk.new) []) }
+{
     for number in 1..=MOST_NAMES {
-        let name = format!(in alloc; "{front}acrun-{number}.tmp")?;
-        match File::options()
-            .write(true)
-            .create_new(true)
-            .open(files, name.as_str())
-        {
-            Ok(file) => return Ok(Made { file, name }),
+        let other = temporary(alloc, name, number)?;
+        match disk.create(other.as_str()) {
+            Ok(file) => return Ok(NewFile { file, name: other }),
             Err(e) if e.kind() == ErrorKind::AlreadyExists => {}
             Err(e) => return Err(e),
         }
@@ -42,35 +41,67 @@ fn make_beside<F: Files>(alloc: Global, files: &F, name: &str) -> io::Result<Mad
     ))
 }
 
-/// Writes a text to a new file, and closes it. If `permissions` has some, the file has them before it has the text.
-fn fill<T: OpenFile + Write + Drop>(
-    mut file: T,
-    permissions: Option<Permissions>,
+/// Writes a text to a new file, closes it, and gives it another name.
+fn fill_and_rename<D: Disk>(
+    disk: &mut D,
+    other: &str,
+    file: D::File,
+    mode: Option<u32>,
     text: &[u8],
-) -> io::Result<()> {
-    if let Some(permissions) = permissions {
-        file.set_permissions(permissions)?;
+    name: &str,
+) -> io::Result<()>
+    ensures done { OnOk result (Adds (D.known disk.old) (D.known disk.new)
+        (Filled other.now mode text.now ∷ Renamed other.now name.now ∷ [])) }
+    ensures failed { OnErr result (Adds (D.known disk.old) (D.known disk.new) (Failed other.now ∷ [])
+        ⊎ Adds (D.known disk.old) (D.known disk.new) (Filled other.now mode text.now ∷ [])) }
+{
+    match disk.fill(other, file, mode, text) {
+        Ok(()) => disk.rename(other, name),
+        Err(e) => Err(e),
     }
-    file.write_all(text)
+}
+
+/// Writes a text to a new file, closes it, and gives it another name. If that fails, removes it.
+fn finish<D: Disk>(
+    disk: &mut D,
+    other: &str,
+    file: D::File,
+    mode: Option<u32>,
+    text: &[u8],
+    name: &str,
+) -> io::Result<()>
+    ensures done { OnOk result (Adds (D.known disk.old) (D.known disk.new)
+        (Filled other.now mode text.now ∷ Renamed other.now name.now ∷ [])) }
+    ensures failed { OnErr result (Adds (D.known disk.old) (D.known disk.new) (Failed other.now ∷ Removed other.now ∷ [])
+        ⊎ Adds (D.known disk.old) (D.known disk.new) (Filled other.now mode text.now ∷ Removed other.now ∷ [])) }
+{
+    match fill_and_rename(disk, other, file, mode, text, name) {
+        Ok(()) => Ok(()),
+        Err(e) => {
+            disk.remove(other);
+            Err(e)
+        }
+    }
 }
 
 /// Puts a new file with this text in the place of a file, of a link, or of none. If that fails, what was there is as it was.
-fn replace<F: Files>(
+fn replace<D: Disk>(
     alloc: Global,
-    files: &F,
+    disk: &mut D,
     name: &str,
-    permissions: Option<Permissions>,
+    mode: Option<u32>,
     text: &[u8],
-) -> io::Result<()> {
-    let Made { file, name: other } = make_beside(alloc, files, name)?;
-    let mut done = fill(file, permissions, text);
-    if done.is_ok() {
-        done = fs::rename(files, other.as_str(), name);
+) -> io::Result<()>
+    ensures written { OnOk result ((n : ℕ) × Adds (D.known disk.old) (D.known disk.new) (writing name.now mode text.now n)) }
+    ensures undone { OnErr result (Does (D.known disk.old) (D.known disk.new) (λ _ deeds. IsUndone name.now deeds)) }
+{
+    match make_beside(alloc, disk, name) {
+        Ok(new) => {
+            let NewFile { file, name: other } = new;
+            finish(disk, other.as_str(), file, mode, text, name)
+        }
+        Err(e) => Err(e),
     }
-    if done.is_err() {
-        let _ = fs::remove_file(files, other.as_str());
-    }
-    done
 }
 
 /// The permission bits that a file keeps.
@@ -82,57 +113,126 @@ pub enum Keeps {
     NoExecution,
 }
 
-/// Returns the permissions of a file that it is to keep.
-fn permissions_of(found: &Metadata, keeps: Keeps) -> Permissions {
-    let bits = match keeps {
+/// Returns the bits that may be kept.
+fn bits_of(keeps: Keeps) -> u32
+    ensures { result ≡ meant.bits_of keeps }
+{
+    match keeps {
         Keeps::Permissions => 0o777,
         Keeps::NoExecution => 0o666,
-    };
-    Permissions::from_mode(found.permissions().mode() & bits)
+    }
+}
+
+/// Returns the permission bits that a new file gets, or an error if what is under its name is not replaced.
+fn mode_of(found: Found, keeps: Keeps) -> io::Result<Option<u32>>
+    ensures { IfOk result (IsMode keeps found) }
+{
+    match found {
+        Found::File(mode) => Ok(Some(mode & bits_of(keeps))),
+        Found::Link => Ok(None),
+        Found::Nothing => Ok(None),
+        _ => Err(not_regular(found)),
+    }
 }
 
 /// Writes a text to a file as [`write_text`] says.
-fn write_to<F: Files>(
+fn write_to<D: Disk>(
     alloc: Global,
-    files: &F,
+    disk: &mut D,
     name: &str,
     keeps: Keeps,
     text: &[u8],
-) -> io::Result<()> {
-    match fs::symlink_metadata(files, name) {
-        Ok(found) if found.is_file() => {
-            let permissions = permissions_of(&found, keeps);
-            replace(alloc, files, name, Some(permissions), text)
-        }
-        Ok(found) if found.is_symlink() => replace(alloc, files, name, None, text),
-        Ok(found) => Err(not_regular(&found)),
-        Err(e) if e.kind() == ErrorKind::NotFound => replace(alloc, files, name, None, text),
-        Err(e) => Err(e),
-    }
+) -> io::Result<()>
+    ensures written { OnOk result (Does (D.known disk.old) (D.known disk.new) (λ k deeds. IsWritten k keeps name.now text.now deeds)) }
+    ensures undone { OnErr result (Does (D.known disk.old) (D.known disk.new) (λ _ deeds. IsUndone name.now deeds)) }
+{
+    let found = disk.look(name)?;
+    let mode = mode_of(found, keeps)?;
+    replace(alloc, disk, name, mode, text)
 }
 
 /// Writes a text to a file (own).
 ///
 /// The text is written to a new file in the same directory, under the first name `acrun-N.tmp` that is not there, and that file is
 /// renamed. So the name has what it had or the whole text, at each moment, unless the power fails. A regular file keeps its
-/// permissions, but for the set-user-ID, set-group-ID and sticky bits, and those to execute it if `keeps` says so. If `name` names a symbolic link or nothing, the new file has the permissions that the
-/// system gives. A link is replaced, and what it names is not touched.
+/// permissions, but for the set-user-ID, set-group-ID and sticky bits, and those to execute it if `keeps` says so. If `name` names a
+/// symbolic link or nothing, the new file has the permissions that the system gives. A link is replaced, and what it names is not
+/// touched.
 ///
 /// # Errors
 ///
-/// Fails if memory runs out, no file can have this name, `name` names a directory, a pipe, a socket or a device, 1,000 names are taken, or the system refuses
-/// one of these steps. Then what is under the name is as it was, and the new file is gone.
-pub fn write_text<F: Files>(
+/// Fails if memory runs out, no file can have this name, `name` names a directory, a pipe, a socket or a device, 1,000 names are taken,
+/// or the system refuses one of these steps. Then what is under the name is as it was, and the new file is gone.
+pub fn write_text<D: Disk>(
     alloc: Global,
-    files: &F,
+    disk: &mut D,
     name: &[u8],
     keeps: Keeps,
     text: &[u8],
 ) -> io::Result<()>
-    ensures { IfOk result (λ _. IsFileName name.now) }
+    ensures name { IfOk result (λ _. IsFileName name.now) }
+    ensures written { OnOk result (Does (D.known disk.old) (D.known disk.new) (λ k deeds. IsWritten k keeps name.now text.now deeds)) }
+    ensures undone { OnErr result (Does (D.known disk.old) (D.known disk.new) (λ _ deeds. IsUndone name.now deeds)) }
 {
     let Some(name) = file_name(name) else {
         return Err(no_name());
     };
-    write_to(alloc, files, name, keeps, text)
+    write_to(alloc, disk, name, keeps, text)
+}
+
+/// Removes a regular file or a link of this name, and nothing else. That it can't be removed is not reported.
+fn clear<D: Disk>(disk: &mut D, name: &str)
+    ensures { Does (D.known disk.old) (D.known disk.new) (λ k deeds. IsCleared name.now (kind_under k name.now) deeds) }
+{
+    match disk.look(name) {
+        Ok(found) => clear_found(disk, name, found),
+        Err(_) => {}
+    }
+}
+
+/// Removes what is found under this name, if it is a regular file or a link.
+fn clear_found<D: Disk>(disk: &mut D, name: &str, found: Found)
+    ensures { (cleared : List Deed) × IsCleared name.now found cleared × Adds (D.known disk.old) (D.known disk.new) cleared }
+{
+    match found {
+        Found::File(_) => disk.remove(name),
+        Found::Link => disk.remove(name),
+        Found::Nothing => {}
+        Found::Directory => {}
+        Found::Special => {}
+    }
+}
+
+/// Writes a text to a new file of this name. A regular file or a link of this name is removed first. So nothing is written through a
+/// link, and a pipe or a device is not opened. A new file is also faster: ext4 writes one that was truncated to the disk when it is
+/// closed.
+///
+/// # Errors
+///
+/// Fails if no file can have this name, or the system refuses a step. Then what was under the name may be gone, and the new file may
+/// have a part of the text.
+pub(crate) fn write_new<D: Disk>(disk: &mut D, name: &[u8], text: &[u8]) -> io::Result<()>
+    ensures name { IfOk result (λ _. IsFileName name.now) }
+    ensures replaced { OnOk result (Does (D.known disk.old) (D.known disk.new) (λ k deeds. IsReplaced k name.now text.now deeds)) }
+    ensures begun { OnErr result (Does (D.known disk.old) (D.known disk.new) (λ k deeds. IsBegun k name.now deeds)) }
+{
+    match file_name(name) {
+        Some(path) => {
+            clear(disk, path);
+            create_filled(disk, path, text)
+        }
+        None => Err(no_name()),
+    }
+}
+
+/// Makes a new file and writes a text to it.
+fn create_filled<D: Disk>(disk: &mut D, name: &str, text: &[u8]) -> io::Result<()>
+    ensures done { OnOk result (Adds (D.known disk.old) (D.known disk.new) (Made name.now ∷ Filled name.now None text.now ∷ [])) }
+    ensures failed { OnErr result (Adds (D.known disk.old) (D.known disk.new) []
+        ⊎ Adds (D.known disk.old) (D.known disk.new) (Made name.now ∷ Failed name.now ∷ [])) }
+{
+    match disk.create(name) {
+        Ok(file) => disk.fill(name, file, None, text),
+        Err(e) => Err(e),
+    }
 }

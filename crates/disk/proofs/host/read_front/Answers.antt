@@ -1,6 +1,6 @@
 use Rattle.std.proofs.Common.{ap}
-use Rattle.diskfiles.proofs.Front.{is_front_read}
-use Rattle.diskfiles.proofs.reading.read_front.Goals as goal
+use Rattle.disk.proofs.Front.{is_front_read}
+use Rattle.disk.proofs.host.read_front.Goals as goal
 
 pub returns-in-Ok : goal.returns-in-Ok
 returns-in-Ok g c =

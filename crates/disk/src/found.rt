@@ -1,0 +1,26 @@
+//! What is under a name.
+
+use std::io::{self, ErrorKind};
+
+/// What is under a name, if links are not followed.
+#[derive(Clone, Copy)]
+pub enum Found {
+    /// Nothing.
+    Nothing,
+    /// A regular file, with its permission bits and those of its kind.
+    File(u32),
+    /// A symbolic link.
+    Link,
+    /// A directory.
+    Directory,
+    /// A pipe, a socket or a device.
+    Special,
+}
+
+/// Returns the error of something that is to be read or replaced, and is no regular file.
+pub fn not_regular(found: Found) -> io::Error {
+    match found {
+        Found::Directory => io::Error::new(ErrorKind::IsADirectory, "Is a directory"),
+        _ => io::Error::new(ErrorKind::Unsupported, "is a pipe, a socket or a device"),
+    }
+}

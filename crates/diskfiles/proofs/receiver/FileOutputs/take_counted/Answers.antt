@@ -1,0 +1,14 @@
+use Rattle.diskfiles.proofs.Puts.{lines_after, same_lines_after, done_after, done_refused}
+use Rattle.diskfiles.proofs.receiver.FileOutputs.take_counted.Goals as goal
+
+pub invariant_of-self : goal.invariant_of-self
+invariant_of-self g c = (
+  lines_after _ _ _ _ _ _ _ c.self.invariant.0 c.in-Ok.ensures.taken,
+  λ unclosed. done_after _ _ _ _ _ _ _ _ (c.self.invariant.1 unclosed) c.in-Ok.ensures.taken,
+)
+
+pub invariant_of-self-in-Err : goal.invariant_of-self-in-Err
+invariant_of-self-in-Err g c = (
+  same_lines_after _ _ _ _ c.self.invariant.0 c.in-Err.ensures.same,
+  λ unclosed. done_refused _ _ _ _ _ _ _ c.args.kind c.args.name.now (c.self.invariant.1 unclosed) c.in-Err.ensures.same c.in-Err.ensures.undone,
+)

@@ -1,0 +1,5 @@
+use Rattle.diskfiles.proofs.Placed.{unstepped}
+use Rattle.diskfiles.proofs.receiver.keep_written.Goals as goal
+
+pub returns-then-is_err-clause-undone : goal.returns-then-is_err-clause-undone
+returns-then-is_err-clause-undone g c = unstepped _ _ _ _

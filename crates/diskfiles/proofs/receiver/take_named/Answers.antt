@@ -1,0 +1,35 @@
+use Rattle.std.proofs.Common.{ℕ, List, IfSome, ap, sym, subst, ◌∙◌}
+use Rattle.outputs.specs.declared.thing.Thing.{Thing}
+use Rattle.diskfiles.specs.Done.{IsEnd}
+use Rattle.diskfiles.proofs.Puts.{takes_is, refuses_is, refused_before}
+use Rattle.diskfiles.proofs.Writings.{on_err}
+use Rattle.diskfiles.proofs.receiver.take_named.Goals as goal
+
+pub returns-in_default-clause-undone : goal.returns-in_default-clause-undone
+returns-in_default-clause-undone g c = refused_before _ c.args.kind c.args.name.now
+
+pub returns-in_err-end-clause-undone : goal.returns-in_err-end-clause-undone
+returns-in_err-end-clause-undone g c = on_err _ (refused_before _ c.args.kind c.args.name.now)
+
+pub returns-in_default-from_slices-clause-undone : goal.returns-in_default-from_slices-clause-undone
+returns-in_default-from_slices-clause-undone g c = refused_before _ c.args.kind c.args.name.now
+
+pub returns-clause-taken : goal.returns-clause-taken
+returns-clause-taken g c =
+    let known = g.D.Disk.known c.args.disk.now in
+    let name = c.args.name.now in
+    let file = c.file_of-file.result.now in
+    let named : List ℕ → Thing = λ n. record { kind = c.args.kind; name = n; text = c.args.text.now } in
+    takes_is c.keep_written.result known _ _ _ _ _ c.args.kind c.in-Ok.unchanged name file c.args.text.now c.in-Ok-from_slices.thing c.saying_of-saying.result
+    (c.in-Ok-from_slices.ensures ∙ ap named c.as_bytes.ensures.value) c.saying_of-saying.ensures c.in-Ok.ensures
+    (subst (λ f. IfSome known (λ k. IsEnd k name c.args.kind f)) (sym c.file_of-file.ensures) c.in_ok-end.ensures)
+    c.keep_written.ensures.ok c.keep_written.ensures.stepped
+
+pub returns-clause-undone : goal.returns-clause-undone
+returns-clause-undone g c =
+    let known = g.D.Disk.known c.args.disk.now in
+    let name = c.args.name.now in
+    let file = c.file_of-file.result.now in
+    refuses_is c.keep_written.result known _ c.args.kind c.in-Ok.unchanged name file c.saying_of-saying.result c.saying_of-saying.ensures
+    (subst (λ f. IfSome known (λ k. IsEnd k name c.args.kind f)) (sym c.file_of-file.ensures) c.in_ok-end.ensures)
+    c.keep_written.ensures.undone
