@@ -1,6 +1,7 @@
 #!/usr/bin/env python3
-"""Writes what is made of crates/macrotable/macros.txt: the text of the crate, and a part of docs/guide.md.
-  macro_table.py           writes both
+"""Writes what is made of crates/macrotable/macros.txt: the text of the crate, the list of exact idioms in `porting`, and a part of
+docs/guide.md.
+  macro_table.py           writes all three
   macro_table.py --check   prints a line for each that is not what it would write, and ends with 1 if there is one
   macro_table.py --fill NAME [ARGUMENT]..   prints the entry of a name, with these arguments in its places
 
@@ -12,6 +13,8 @@ The lines of macros.txt, by how they begin:
   KIND      begins an entry: idiom, drop, none or family, and then the names that it is of
   `= `      the arguments of a call, for which the guide shows the idiom; none if there is no such line
   `% `      a word that the idiom has for that call, a blank, and the text that is shown in its place
+  `! `      two numbers and names: for a call of these macros with so many arguments, from the first number to the second, the idiom is
+            exact. It leaves the same definitions and output variables, and `acrun port` writes it
   `@ `      what stands around the idiom in the guide, with an `@` in its place; alone: the idiom is not run
   blanks    4 of them begin a line of the entry's text
 Empty lines mean nothing. `specs/Places` and `specs/Values` of the crate say what places are, and what they are filled with.
@@ -24,6 +27,7 @@ import sys
 ROOT = pathlib.Path(__file__).resolve().parent.parent
 DATA = ROOT / "crates/macrotable/macros.txt"
 TEXT = ROOT / "crates/macrotable/src/text.rt"
+EXACT = ROOT / "crates/porting/src/table.rt"
 GUIDE = ROOT / "docs/guide.md"
 PROFILE = ROOT / "crates/acmacros/src/table.rt"
 BEGIN = "## Macros that are not read\n"
@@ -39,6 +43,7 @@ class Entry:
     lines: list = dataclasses.field(default_factory=list)
     arguments: list = dataclasses.field(default_factory=list)
     words: list = dataclasses.field(default_factory=list)
+    exact: list = dataclasses.field(default_factory=list)
     around: str = "@"
 
     def text(self):
@@ -138,6 +143,9 @@ def sections():
         elif sign == "% ":
             word, _, shown = rest.partition(" " if not rest.startswith("#") else "> ")
             entry.words.append((word + ">" if rest.startswith("#") else word, shown))
+        elif sign == "! ":
+            least, most, *names = rest.split()
+            entry.exact += [(name, int(least), int(most)) for name in names]
         elif line[0] == "@":
             entry.around = rest
         elif first in KINDS:
@@ -175,6 +183,14 @@ def wrong():
             yield f"{' '.join(entry.names)}: an entry has a name and a text"
         if "~" in text or "\t" in text or re.search(r"\$[0-9@]", PLACE.sub("", text)):
             yield f"{entry.names[0]}: a text has no `~`, no tab, and no `$` with a digit that is no place"
+        places = [int(place[1]) for place in PLACE.finditer(text) if place[1] != "@"]
+        for name, least, most in entry.exact:
+            if name not in entry.names or entry.kind not in ("idiom", "drop"):
+                yield f"{name} is exact, and no idiom of the entry has the name"
+            if not least <= most <= (max(places, default=0) if entry.kind == "idiom" else 9):
+                yield f"{name}: an argument has no place in the idiom"
+            if any(place[2] not in ("", "!") for place in PLACE.finditer(text)):
+                yield f"{name}: an exact idiom has its arguments as they are"
         if entry.kind != "idiom" and len(entry.lines) > 1:
             yield f"{entry.names[0]}: only an idiom has more than one line"
 
@@ -189,6 +205,23 @@ def text_of_crate():
         "/// The table: records of a kind, names and a text, with a `~` between them.\n"
         f'#[rattlefmt::skip]\npub const TABLE: &[u8] = b"\\\n{text}";\n\n'
         "/// Returns the table.\npub(crate) fn table() -> &'static [u8]\n    ensures { result.now ≡ TABLE.now }\n{\n    TABLE\n}\n"
+    )
+
+
+def exact():
+    """Returns the names whose idiom is exact, each with the least and the largest number of arguments."""
+    return sorted(row for entry in entries() for row in entry.exact)
+
+
+def text_of_exact():
+    """Returns the file of `porting`: a line for each such name."""
+    rows = "".join(f"{name} {least} {most}\n" for name, least, most in exact())
+    return (
+        "//! The macros that have an exact idiom. `tools/macro_table.py` writes this file from `macros.txt` of `macrotable`.\n\n"
+        "/// The macros, each with the least and the largest number of arguments that its idiom is exact for.\n"
+        f'#[rattlefmt::skip]\nconst EXACT: &[u8] = b"\\\n{rows}";\n\n'
+        "/// Returns a line for each macro that has an exact idiom: its name, and the least and the largest number of arguments.\n"
+        "pub(crate) fn rows() -> &'static [u8] {\n    EXACT\n}\n"
     )
 
 
@@ -263,7 +296,7 @@ def guide():
 def differences():
     """Yields a line for each thing that is wrong with the data, and for each file that is not what it would be."""
     yield from wrong()
-    for file, text in ((TEXT, text_of_crate()), (GUIDE, guide())):
+    for file, text in ((TEXT, text_of_crate()), (EXACT, text_of_exact()), (GUIDE, guide())):
         if file.read_text() != text:
             yield f"{file.relative_to(ROOT)} is not what tools/macro_table.py writes"
 
@@ -288,6 +321,7 @@ def main(words):
     for line in wrong():
         print(line)
     TEXT.write_text(text_of_crate())
+    EXACT.write_text(text_of_exact())
     GUIDE.write_text(guide())
     return 0
 

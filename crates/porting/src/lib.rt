@@ -1,0 +1,29 @@
+//! Rewrites a configure.ac with the idioms of the table of other macros, and leaves a comment at what has to be done by hand.
+//!
+//! `port` replaces each call that has an exact idiom: one that leaves the same definitions and output variables. All else is copied
+//! to the byte. What is still an error has a line `dnl acrun: ..` above it, in the words of `lint`.
+//!
+//! ```text
+//! AC_HAVE_FUNCS(getcwd)        // becomes AC_CHECK_FUNCS([getcwd])
+//! AM_INIT_AUTOMAKE             // has a line above it: dnl acrun: acrun does not know the macro AM_INIT_AUTOMAKE; ..
+//! ```
+//!
+//! Read `specs/Ported`, which says what is copied. In `src`, read `exact` (which macros have an exact idiom, and with how many
+//! arguments), `filling` (the idiom with the arguments), `around` (what is before and after a call), `replacing` (one pass over the
+//! calls), `masking` and `faults` (each statement with an error), `above` (where a comment can be), `comments`, and then `whole`.
+//! A call fails only if memory runs out. "own" marks a rule that no manual gives.
+#![tactic(auto)]
+
+mod above;
+mod around;
+mod comments;
+mod exact;
+mod faults;
+mod filling;
+mod masking;
+mod names;
+mod replacing;
+mod table;
+mod whole;
+
+pub use whole::{Ported, port};

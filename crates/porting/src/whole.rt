@@ -1,0 +1,133 @@
+//! The whole.
+
+ghost use Rattle.std.specs.Prelude.{◌≡◌, ◌↔◌, length, true, false, IfOk, IfSome, IsTrue, MatchOption};
+ghost use Rattle.linting.specs.Errors.{IsAccepted};
+ghost use Rattle.porting.specs.Ported as specs;
+
+use crate::comments::commented;
+use crate::faults::all_errors;
+use crate::replacing::replaced_once;
+use deftable::Bytes;
+use findings::Finding;
+use linting::errors_of;
+use m4quote::{QuoteFault, read_items};
+use std::alloc::{AllocError, Global};
+
+/// A source that was rewritten.
+#[derive(Drop)]
+pub struct Ported {
+    /// The new text.
+    pub text: Bytes,
+    /// Whether something has to be done by hand: a line of comment is at each such place.
+    pub has_comments: bool,
+}
+
+/// How often the calls are gone over at most. Each time finds those in the arguments of calls that were replaced.
+const PASSES: usize = 70;
+
+/// Returns the text with each call replaced that has to go and has an exact idiom, also in the arguments of such calls.
+fn replaced(alloc: Global, text: &[u8]) -> Result<Vec<u8>, AllocError>
+    ensures { IfOk result (λ v. specs.IsRewritten text.now v.items) }
+{
+    let mut out = Vec::from_slice(alloc, text)?;
+    for _ in 0..PASSES {
+        match replaced_once(alloc, out.as_slice())? {
+            Some(next) => out = next,
+            None => break,
+        }
+    }
+    Ok(out)
+}
+
+/// Returns the source without comments.
+fn whole(text: Vec<u8>) -> Ported
+    ensures { (result.text ≡ text.items) × (result.has_comments ≡ false) }
+{
+    Ported {
+        text: Bytes::from_vec(text),
+        has_comments: false,
+    }
+}
+
+/// Returns the source with a comment at each error, of which these are the first.
+fn with_errors(alloc: Global, text: &[u8], errors: Vec<Finding>) -> Result<Ported, AllocError>
+    ensures { IfOk result (λ p. specs.IsCommented text.now (length text.now) p.text × (p.has_comments ≡ true)) }
+{
+    let errors = all_errors(alloc, text, errors)?;
+    let text = commented(alloc, text, errors)?;
+    Ok(Ported {
+        text: Bytes::from_vec(text),
+        has_comments: true,
+    })
+}
+
+/// Returns the source with a comment at each error.
+fn printed(alloc: Global, text: Vec<u8>) -> Result<Ported, AllocError>
+    ensures { IfOk result (λ p. specs.IsPrinted text.items p.has_comments p.text) }
+{
+    let errors = errors_of(alloc, text.as_slice())?;
+    if errors.is_empty() {
+        return Ok(whole(text));
+    }
+    with_errors(alloc, text.as_slice(), errors)
+}
+
+/// Returns the source as it is rewritten.
+fn rewritten(alloc: Global, text: &[u8]) -> Result<Option<Ported>, AllocError>
+    ensures { IfOk result (λ o. IfSome o (λ p. specs.IsPorted text.now p.has_comments p.text)) }
+{
+    let mid = replaced(alloc, text)?;
+    let ported = printed(alloc, mid)?;
+    Ok(Some(ported))
+}
+
+/// Returns whether the quotes of a source have no error.
+fn are_quotes_right(alloc: Global, text: &[u8]) -> Result<bool, AllocError> {
+    match read_items(alloc, text) {
+        Err(QuoteFault::OutOfMemory) => Err(AllocError),
+        Err(_) => Ok(false),
+        Ok(_) => Ok(true),
+    }
+}
+
+/// Returns whether acrun accepts the source.
+fn is_accepted(alloc: Global, text: &[u8]) -> Result<bool, AllocError>
+    ensures { IfOk result (λ b. IsTrue b ↔ IsAccepted text.now) }
+{
+    let errors = errors_of(alloc, text)?;
+    Ok(errors.is_empty())
+}
+
+/// Returns the source as it is.
+fn unchanged(alloc: Global, text: &[u8]) -> Result<Option<Ported>, AllocError>
+    ensures { IfOk result (λ o. MatchOption o ⊥ (λ p. (p.text ≡ text.now) × (p.has_comments ≡ false))) }
+{
+    let text = Vec::from_slice(alloc, text)?;
+    let ported = whole(text);
+    Ok(Some(ported))
+}
+
+/// Returns a source that acrun doesn't accept as it is rewritten, or `None` if its quotes have an error.
+fn port_refused(alloc: Global, text: &[u8]) -> Result<Option<Ported>, AllocError>
+    ensures { IfOk result (λ o. IfSome o (λ p. specs.IsPorted text.now p.has_comments p.text)) }
+{
+    if are_quotes_right(alloc, text)? {
+        return rewritten(alloc, text);
+    }
+    Ok(None)
+}
+
+/// Returns a source in which each call that has an exact idiom is replaced by it, and what is still an error has a comment above it.
+/// Returns `None` if the source's quotes have an error, because then no call is found.
+pub fn port(alloc: Global, text: &[u8]) -> Result<Option<Ported>, AllocError>
+    // Calls that have to go may be replaced, and all else is copied. There are comments exactly if what is left is not accepted; they are
+    // lines before lines of the text.
+    ensures ported { IfOk result (λ o. IfSome o (λ p. specs.IsPorted text.now p.has_comments p.text)) }
+    // A source that acrun accepts stays as it is.
+    ensures stays { IsAccepted text.now → IfOk result (λ o. MatchOption o ⊥ (λ p. (p.text ≡ text.now) × (p.has_comments ≡ false))) }
+{
+    if is_accepted(alloc, text)? {
+        return unchanged(alloc, text);
+    }
+    port_refused(alloc, text)
+}
