@@ -1,17 +1,57 @@
 -- What follows from a call that makes outputs again for the program.
-use Rattle.std.proofs.Common.{◌≡◌, ℕ, List, [], ◌++◌, Result, Ok, Err, subst, ap, ◌∙◌}
+use Rattle.std.proofs.Common.{◌≡◌, ℕ, ◌+◌, Bool, true, false, List, [], ◌++◌, Option, Some, Result, Ok, Err, refl, sym, subst, ap, ◌∙◌, arith}
+use Rattle.std.specs.Prelude.{IfSome, codes}
+use Rattle.disk.specs.Known.{Known}
+use Rattle.diskfiles.specs.Done.{IsAllDone}
+use Rattle.diskfiles.specs.Held.{Held, fresh, receipt_of, closings}
 use Rattle.diskfiles.specs.Lines.{AreLines}
 use Rattle.framing.specs.Remade.{remade, IsRemade, refused, memory, all, cut}
 use Rattle.framing.specs.declared.fault.RemakeFault.{RemakeFault}
+use Rattle.invocation.specs.Supplies.{ReadsWhole, GivenAgain}
 use Rattle.outputs.specs.Receipt.{Receipt}
+use Rattle.outputs.specs.declared.thing.Thing.{Thing}
+use Rattle.status_record.specs.Reading.{record_in}
 use Rattle.commands.specs.MadeAgain.{IsMadeAgain}
 
+-- A text that was read is handed on.
+pub found_by : {D : Type 0} (known : D → Option Known) (d lent : D) (name : List ℕ) (read : Option (List ℕ)) (text slice : List ℕ) → lent ≡ d → read ≡ Some text → slice ≡ text
+    → ReadsWhole (known lent) name read → ReadsWhole (known d) name (Some slice)
+found_by known d lent name read text slice same is shown h =
+    subst (λ x. ReadsWhole (known x) name (Some slice)) same
+    (subst (λ t. ReadsWhole (known lent) name (Some t)) (sym shown) (subst (λ o. ReadsWhole (known lent) name o) is h))
+
+-- If nothing was refused, and no closing counts as a refusal, the receiver is not closed.
+pub nothing_refused : (failures : ℕ) (closed : Bool) → failures + closings closed ≡ 0 → (failures ≡ 0) × (closed ≡ false)
+nothing_refused failures false is = (omega (arith, is), refl)
+nothing_refused failures true is = absurd (omega (arith, is))
+
+-- What was done is what was done for other names of the same things.
+pub all_done : (known : Option Known) (handed things : List Thing) (failures : ℕ) (said lines : List ℕ) → handed ≡ things → failures ≡ 0 → said ≡ lines
+    → IfSome known (λ k. IsAllDone k handed failures said) → IfSome known (λ k. IsAllDone k things 0 lines)
+all_done known handed things failures said lines things_are none lines_are h =
+    subst (λ ts. IfSome known (λ k. IsAllDone k ts 0 lines)) things_are
+    (subst (λ n. IfSome known (λ k. IsAllDone k handed n lines)) none (subst (λ l. IfSome known (λ k. IsAllDone k handed failures l)) lines_are h))
+
 -- What a call of `remake` made, if it returned a number.
-pub made_again : (text : List ℕ) (templates : List (List ℕ × List ℕ)) (tags : List (List ℕ)) (same : Type 0) (old new : Receipt) (answer : Result ℕ RemakeFault) (n : ℕ) (lines : List ℕ)
-    → IsRemade (remade text templates tags) same old new answer → answer ≡ Ok n → old ≡ record { handed = []; failures = 0 } → AreLines new.handed lines → IsMadeAgain tags lines
-made_again text templates tags same old new (Err f) n lines (refused is s) returned fresh are = absurd (cc)
-made_again text templates tags same old new (Err f) n lines (memory s) returned fresh are = absurd (cc)
-made_again text templates tags same old new (Err f) n lines (cut is at) returned fresh are = absurd (cc)
-made_again text templates tags same old new (Ok m) n lines (all {things = made} is handed) returned fresh are =
-    let made_all : new.handed ≡ made = ap (λ (r : Receipt). r.handed) handed ∙ ap (λ (r : Receipt). r.handed ++ made) fresh in
-    record { text = text; templates = templates; made = made; remakes = is; lines = subst (λ l. AreLines l lines) made_all are }
+pub made_again : {D : Type 0} (known : D → Option Known) (d : D) (before now : Held D) (text : List ℕ) (templates : List (List ℕ × List ℕ)) (tags : List (List ℕ)) (same : Type 0) (answer : Result ℕ RemakeFault) (n : ℕ) (lines : List ℕ)
+    → before ≡ fresh d → ReadsWhole (known d) (codes "config.status") (Some text) → GivenAgain (known d) (record_in text) templates
+    → IsRemade (remade text templates tags) same (receipt_of before) (receipt_of now) answer → answer ≡ Ok n → lines ≡ now.lines → AreLines now.handed lines
+    → (now.closed ≡ false → IfSome (known now.disk) (λ k. IsAllDone k now.handed now.failures now.lines)) → IsMadeAgain (known d) (known now.disk) tags lines
+made_again known d before now text templates tags same (Err f) n lines new found given (refused is s) returned shown are done = absurd (cc)
+made_again known d before now text templates tags same (Err f) n lines new found given (memory s) returned shown are done = absurd (cc)
+made_again known d before now text templates tags same (Err f) n lines new found given (cut is at) returned shown are done = absurd (cc)
+made_again known d before now text templates tags same (Ok m) n lines new found given (all {things = made} is handed) returned shown are done =
+    let empty : receipt_of before ≡ record { handed = []; failures = 0 } = ap receipt_of new in
+    let made_all : now.handed ≡ made = ap (λ (r : Receipt). r.handed) handed ∙ ap (λ (r : Receipt). r.handed ++ made) empty in
+    let counted : now.failures + closings now.closed ≡ 0 = ap (λ (r : Receipt). r.failures) handed ∙ ap (λ (r : Receipt). r.failures) empty in
+    let none = nothing_refused now.failures now.closed counted in
+    record {
+      text = text;
+      templates = templates;
+      made = made;
+      found = found;
+      given = given;
+      remakes = is;
+      lines = subst (λ l. AreLines l lines) made_all are;
+      written = all_done (known now.disk) now.handed made now.failures now.lines lines made_all none.0 (sym shown) (done none.1);
+    }

@@ -1,14 +1,22 @@
 -- What the program does if it is asked to make the outputs of a record again.
-use Rattle.std.specs.Prelude.{◌≡◌, ℕ, List, Ok}
+use Rattle.std.specs.Prelude.{◌≡◌, ℕ, List, Option, Some, Ok, IfSome, codes}
+use Rattle.disk.specs.Known.{Known}
+use Rattle.diskfiles.specs.Done.{IsAllDone}
 use Rattle.diskfiles.specs.Lines.{AreLines}
 use Rattle.framing.specs.Remade.{remade}
+use Rattle.invocation.specs.Supplies.{ReadsWhole, GivenAgain}
 use Rattle.outputs.specs.declared.thing.Thing.{Thing}
+use Rattle.status_record.specs.Reading.{record_in}
 
--- For some text of the record and of the templates, the outputs of the record with these names are made, and this is printed on
--- standard output. (own)
-pub record IsMadeAgain (tags : List (List ℕ)) (out : List ℕ) : Type 0 where
+-- The outputs with these names are made of the record, which is the text of config.status, and of
+-- its templates, as they are in files; this is printed on standard output; and nothing else is done
+-- to files. (own)
+pub record IsMadeAgain (old new : Option Known) (tags : List (List ℕ)) (out : List ℕ) : Type 0 where
   pub text : List ℕ
   pub templates : List (List ℕ × List ℕ)
   pub made : List Thing
+  pub found : ReadsWhole old (codes "config.status") (Some text)
+  pub given : GivenAgain old (record_in text) templates
   pub remakes : remade text templates tags ≡ Ok made
   pub lines : AreLines made out
+  pub written : IfSome new (λ k. IsAllDone k made 0 out)

@@ -1,11 +1,15 @@
 //! The command that makes the outputs of a record again.
 
-ghost use Rattle.std.specs.Prelude.{◌≡◌, ◌≢◌, ℕ, List, Ok, IfOk, IsTrue};
+ghost use Rattle.std.specs.Prelude.{◌≡◌, ◌≢◌, ℕ, List, Some, Ok, IfOk, IsTrue, codes};
 ghost use Rattle.std.specs.Io.KnownBytes.{Appends};
 ghost use Rattle.commands.specs.MadeAgain.{IsMadeAgain};
+ghost use Rattle.diskfiles.specs.Held.{fresh};
+ghost use Rattle.invocation.specs.Supplies.{ReadsWhole, GivenAgain};
+ghost use Rattle.status_record.specs.Reading.{record_in};
 
 use crate::telling::{tell_remake, tell_unread};
 use deftable::Bytes;
+use disk::Disk;
 use diskfiles::{FileOutputs, read_text};
 use explaining::{Why, explain_error};
 use framing::{RemakeFault, remake};
@@ -14,7 +18,6 @@ use invocation::{
 };
 use std::alloc::{AllocError, Global};
 use std::io::Write;
-use std::rt::Files;
 
 /// The name of the record.
 pub const RECORD: &[u8] = b"config.status";
@@ -43,9 +46,9 @@ fn print_made<W: Write, E: Write>(
 }
 
 /// Reports the fault of the answer, if there is one. Returns whether there is none.
-fn tell_answer<F: Files, E: Write>(
+fn tell_answer<D: Disk, E: Write>(
     alloc: Global,
-    files: &F,
+    disk: &D,
     why: &Why<'_>,
     cause: &[u8],
     answer: &Result<usize, RemakeFault>,
@@ -56,16 +59,16 @@ fn tell_answer<F: Files, E: Write>(
     match answer {
         Ok(_) => true,
         Err(fault) => {
-            let _ = tell_remake(alloc, files, why, cause, errors, fault);
+            let _ = tell_remake(alloc, disk, why, cause, errors, fault);
             false
         }
     }
 }
 
 /// Has puts to the files refused that the outputs of a record are made of, and to the record.
-fn keep_all<F: Files>(
+fn keep_all<D: Disk>(
     alloc: Global,
-    outputs: &mut FileOutputs<'_, F>,
+    outputs: &mut FileOutputs<D>,
     supplies: &RecordSupplies,
 ) -> Result<(), AllocError>
     ensures { outputs.new ≡ outputs.old }
@@ -87,9 +90,9 @@ fn why_of<'a>(is_asked: bool, text: &'a [u8], srcdir: &'a [u8], tags: &'a [Bytes
 }
 
 /// Makes the outputs of a record with these templates, and returns the exit status.
-fn make_supplied<'a, F: Files, W: Write, E: Write>(
+fn make_supplied<'a, D: Disk, W: Write, E: Write>(
     alloc: Global,
-    files: &F,
+    outputs: &mut FileOutputs<D>,
     is_asked: bool,
     text: &'a [u8],
     supplies: &'a RecordSupplies,
@@ -97,60 +100,78 @@ fn make_supplied<'a, F: Files, W: Write, E: Write>(
     output: &mut W,
     errors: &mut E,
 ) -> u8
-    ensures { result ≢ 2 → (result ≡ 0) × (out : List ℕ) × IsMadeAgain tags.now out × Appends (W.contents output.old) (W.contents output.new) out }
+    requires fresh { outputs.old ≡ fresh outputs.old.disk }
+    requires found { ReadsWhole (D.known outputs.old.disk) (codes "config.status") (Some text.now) }
+    requires given { GivenAgain (D.known outputs.old.disk) (record_in text.now) supplies.now.templates.items }
+    ensures { result ≢ 2 → (result ≡ 0) × (out : List ℕ)
+        × IsMadeAgain (D.known outputs.old.disk) (D.known outputs.new.disk) tags.now out
+        × Appends (W.contents output.old) (W.contents output.new) out }
 {
-    let mut outputs = FileOutputs::new(alloc, files);
-    if keep_all(alloc, &mut outputs, supplies).is_err() {
+    if keep_all(alloc, outputs, supplies).is_err() {
         return tell_memory(errors);
     }
     let templates = supplies.templates.as_slice();
-    let answer = remake(alloc, text, templates, tags, &mut outputs);
+    let answer = remake(alloc, text, templates, tags, outputs);
     let why = why_of(is_asked, text, supplies.srcdir.as_slice(), tags);
     let is_printed = print_made(alloc, &why, outputs.lines(), output, errors);
-    let is_whole = tell_answer(alloc, files, &why, outputs.cause(), &answer, errors);
+    let is_whole = tell_answer(
+        alloc,
+        outputs.disk(),
+        &why,
+        outputs.cause(),
+        &answer,
+        errors,
+    );
     if is_printed && is_whole { 0 } else { FAULT }
 }
 
 /// Reads the templates of a record, makes its outputs, and returns the exit status.
-fn make_text<F: Files, W: Write, E: Write>(
+fn make_text<D: Disk, W: Write, E: Write>(
     alloc: Global,
-    files: &F,
+    outputs: &mut FileOutputs<D>,
     is_asked: bool,
     text: &[u8],
     tags: &[Bytes],
     output: &mut W,
     errors: &mut E,
 ) -> Result<u8, AllocError>
-    ensures { IfOk result (λ status. status ≢ 2 → (status ≡ 0) × (out : List ℕ) × IsMadeAgain tags.now out × Appends (W.contents output.old) (W.contents output.new) out) }
+    requires fresh { outputs.old ≡ fresh outputs.old.disk }
+    requires found { ReadsWhole (D.known outputs.old.disk) (codes "config.status") (Some text.now) }
+    ensures { IfOk result (λ status. status ≢ 2 → (status ≡ 0) × (out : List ℕ)
+        × IsMadeAgain (D.known outputs.old.disk) (D.known outputs.new.disk) tags.now out
+        × Appends (W.contents output.old) (W.contents output.new) out) }
 {
-    let supplies = record_supplies(alloc, files, text)?;
+    let supplies = record_supplies(alloc, outputs.disk(), text)?;
     Ok(make_supplied(
-        alloc, files, is_asked, text, &supplies, tags, output, errors,
+        alloc, outputs, is_asked, text, &supplies, tags, output, errors,
     ))
 }
 
 /// Reads the record, makes its outputs, and returns the exit status.
-fn make_record<F: Files, W: Write, E: Write>(
+fn make_record<D: Disk, W: Write, E: Write>(
     alloc: Global,
-    files: &F,
+    outputs: &mut FileOutputs<D>,
     is_asked: bool,
     tags: &[Bytes],
     output: &mut W,
     errors: &mut E,
 ) -> Result<u8, AllocError>
-    ensures { IfOk result (λ status. status ≢ 2 → (status ≡ 0) × (out : List ℕ) × IsMadeAgain tags.now out × Appends (W.contents output.old) (W.contents output.new) out) }
+    requires fresh { outputs.old ≡ fresh outputs.old.disk }
+    ensures { IfOk result (λ status. status ≢ 2 → (status ≡ 0) × (out : List ℕ)
+        × IsMadeAgain (D.known outputs.old.disk) (D.known outputs.new.disk) tags.now out
+        × Appends (W.contents output.old) (W.contents output.new) out) }
 {
-    match read_text(alloc, files, RECORD)? {
+    match read_text(alloc, outputs.disk(), RECORD)? {
         Some(text) => make_text(
             alloc,
-            files,
+            outputs,
             is_asked,
             text.as_slice(),
             tags,
             output,
             errors,
         ),
-        None => Ok(tell_unread(alloc, files, is_asked, RECORD, errors)),
+        None => Ok(tell_unread(alloc, outputs.disk(), is_asked, RECORD, errors)),
     }
 }
 
@@ -159,17 +180,20 @@ fn make_record<F: Files, W: Write, E: Write>(
 ///
 /// If anything is wrong, the status is 2, and standard error has a line for it (own); outputs may have been made before that. If
 /// `is_asked`, further lines may say why.
-pub fn run_status<F: Files, W: Write, E: Write>(
+pub fn run_status<D: Disk, W: Write, E: Write>(
     alloc: Global,
-    files: &F,
+    outputs: &mut FileOutputs<D>,
     is_asked: bool,
     tags: &[Bytes],
     output: &mut W,
     errors: &mut E,
 ) -> u8
-    ensures { result ≢ 2 → (result ≡ 0) × (out : List ℕ) × IsMadeAgain tags.now out × Appends (W.contents output.old) (W.contents output.new) out }
+    requires fresh { outputs.old ≡ fresh outputs.old.disk }
+    ensures { result ≢ 2 → (result ≡ 0) × (out : List ℕ)
+        × IsMadeAgain (D.known outputs.old.disk) (D.known outputs.new.disk) tags.now out
+        × Appends (W.contents output.old) (W.contents output.new) out }
 {
-    match make_record(alloc, files, is_asked, tags, output, errors) {
+    match make_record(alloc, outputs, is_asked, tags, output, errors) {
         Ok(status) => status,
         Err(_) => tell_memory(errors),
     }

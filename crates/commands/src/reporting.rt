@@ -2,20 +2,25 @@
 
 ghost use Rattle.std.specs.Prelude.{◌≡◌, ◌≢◌, None, Ok, IsTrue, false};
 ghost use Rattle.std.specs.Io.KnownBytes.{Appends};
+ghost use Rattle.cfglog.specs.Texts.{log_of};
+ghost use Rattle.commands.specs.Left.{Logs};
 ghost use Rattle.commands.specs.Printed.{printed};
+ghost use Rattle.framing.specs.declared.report.Outcome.TheVariants.{Shown};
 ghost use Rattle.framing.specs.declared.report.Report.{Report};
 ghost use Rattle.framing.specs.Told as words;
+ghost use Rattle.invocation.specs.Logged.{HasLogged};
 
 use crate::remaking::OUTPUT;
 use crate::telling::tell_run;
 use causes::Causes;
+use disk::Disk;
+use diskfiles::FileOutputs;
 use explaining::{Why, explain_cut, explain_error, explain_words};
 use faultlines::explain_compilers;
 use framing::{Fault, Outcome, Report, status_of};
 use invocation::{FAULT, LOG, Supplies, print_all, tell_file, tell_put, write_log};
 use std::alloc::Global;
 use std::io::{self, Write};
-use std::rt::Files;
 
 /// Says why a run was cut, if it was, and if it is asked.
 fn explain_short<C: Causes, E: Write>(
@@ -123,12 +128,9 @@ fn tell_refused<E: Write>(
 }
 
 /// Reports that the log can't be written, if it can't be. Returns whether it was.
-fn tell_log<E: Write>(
-    alloc: Global,
-    is_asked: bool,
-    done: &io::Result<()>,
-    errors: &mut E,
-) -> bool {
+fn tell_log<E: Write>(alloc: Global, is_asked: bool, done: &io::Result<()>, errors: &mut E) -> bool
+    ensures { IsTrue result → done.now ≡ Ok tt }
+{
     match done {
         Ok(()) => true,
         Err(e) => {
@@ -140,42 +142,47 @@ fn tell_log<E: Write>(
 }
 
 /// Writes the log of a run, unless a text was shown. Returns whether that succeeded.
-fn log_report<F: Files, E: Write>(
+fn log_report<D: Disk, E: Write>(
     alloc: Global,
-    files: &F,
+    outputs: &mut FileOutputs<D>,
     is_asked: bool,
     report: &Report,
     errors: &mut E,
-) -> bool {
-    if report.outcome == Outcome::Shown {
-        return true;
+) -> bool
+    ensures nothing { report.now.outcome ≡ Shown → outputs.new ≡ outputs.old }
+    ensures log { IsTrue result → (report.now.outcome ≡ Shown → ⊥) → HasLogged D.known outputs.old outputs.new (log_of report.now.log) }
+{
+    match report.outcome {
+        Outcome::Shown => true,
+        _ => {
+            let done = write_log(alloc, outputs, report.log.as_slice());
+            tell_log(alloc, is_asked, &done, errors)
+        }
     }
-    let done = write_log(alloc, files, report.log.as_slice());
-    tell_log(alloc, is_asked, &done, errors)
 }
 
 /// Prints and writes what a run leaves for its user, and returns the exit status.
-fn tell_report<F: Files, C: Causes, W: Write, E: Write>(
+fn tell_report<D: Disk, C: Causes, W: Write, E: Write>(
     alloc: Global,
-    files: &F,
+    outputs: &mut FileOutputs<D>,
     is_asked: bool,
     supplies: &Supplies,
     report: &Report,
     refused: Option<u64>,
     crew: &C,
-    cause: &[u8],
-    lines: &[u8],
     output: &mut W,
     errors: &mut E,
 ) -> u8
     ensures { result ≢ 2 → (refused ≡ None) × (result ≡ words.status_of report.now.outcome)
-        × Appends (W.contents output.old) (W.contents output.new) (printed supplies.now.quiet report.now.messages lines.now) }
+        × Appends (W.contents output.old) (W.contents output.new) (printed supplies.now.quiet report.now.messages outputs.old.lines)
+        × Logs D.known outputs.old outputs.new report.now }
 {
+    let lines = outputs.lines();
     let is_printed = print_report(
         alloc, is_asked, supplies, report, crew, lines, output, errors,
     );
-    let is_whole = tell_refused(alloc, is_asked, refused, cause, errors);
-    let is_logged = log_report(alloc, files, is_asked, report, errors);
+    let is_whole = tell_refused(alloc, is_asked, refused, outputs.cause(), errors);
+    let is_logged = log_report(alloc, outputs, is_asked, report, errors);
     if is_printed && is_whole && is_logged {
         status_of(report.outcome)
     } else {
@@ -193,42 +200,47 @@ fn cache_of(supplies: &Supplies) -> &[u8] {
 
 /// Prints and writes what follows from the result of a run of this source, and returns the exit status.
 ///
-/// A report leaves its messages, the lines on its outputs and its log, also if a put was refused, which is told then. Any other fault
-/// is told alone. The status is 2 if there is a fault, if the log can't be written, or if standard output doesn't take all of it. If it
-/// is asked, it also says why: of a cut run by what the crew knows, and of a refused put by `cause`, which is empty if that is not known.
-pub fn tell_result<F: Files, C: Causes, W: Write, E: Write>(
+/// A report leaves its messages, the lines on its outputs and its log, also if a put was refused,
+/// which is told then. Any other fault is told alone. The status is 2 if there is a fault, if the
+/// log can't be written, or if standard output doesn't take all of it. If it is asked, it also says
+/// why: of a cut run by what the crew knows, and of a refused put by what the outputs know.
+pub fn tell_result<D: Disk, C: Causes, W: Write, E: Write>(
     alloc: Global,
-    files: &F,
+    outputs: &mut FileOutputs<D>,
     why: &Why<'_>,
     supplies: &Supplies,
     answer: Result<Report, Fault>,
     crew: &C,
-    cause: &[u8],
-    lines: &[u8],
     output: &mut W,
     errors: &mut E,
 ) -> u8
     ensures { result ≢ 2 → (report : Report) × (answer ≡ Ok report) × (result ≡ words.status_of report.outcome)
-        × Appends (W.contents output.old) (W.contents output.new) (printed supplies.now.quiet report.messages lines.now) }
+        × Appends (W.contents output.old) (W.contents output.new) (printed supplies.now.quiet report.messages outputs.old.lines)
+        × Logs D.known outputs.old outputs.new report }
 {
     let is_asked = why.is_asked;
     match answer {
         Ok(report) => tell_report(
-            alloc, files, is_asked, supplies, &report, None, crew, cause, lines, output, errors,
+            alloc, outputs, is_asked, supplies, &report, None, crew, output, errors,
         ),
         Err(Fault::PutRefused(number, report)) => tell_report(
             alloc,
-            files,
+            outputs,
             is_asked,
             supplies,
             &report,
             Some(number),
             crew,
-            cause,
-            lines,
             output,
             errors,
         ),
-        Err(fault) => tell_run(alloc, files, why, cache_of(supplies), errors, &fault),
+        Err(fault) => tell_run(
+            alloc,
+            outputs.disk(),
+            why,
+            cache_of(supplies),
+            errors,
+            &fault,
+        ),
     }
 }

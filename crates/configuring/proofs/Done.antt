@@ -1,12 +1,20 @@
 -- What follows from a whole run for the program.
-use Rattle.std.proofs.Common.{◌≡◌, ℕ, Bool, true, false, List, [], ◌++◌, Option, Result, Ok, Err, refl, sym, subst, ap, ◌∙◌}
-use Rattle.std.specs.Prelude.{◌||◌, nat_le, IfOk, if◌then◌else◌}
+use Rattle.std.proofs.Common.{◌≡◌, ℕ, ◌+◌, Bool, true, false, List, [], ◌++◌, Option, Some, None, Result, Ok, Err, refl, sym, subst, ap, ◌∙◌}
+use Rattle.std.specs.Prelude.{◌||◌, nat_le, IfOk, IfSome, codes, if◌then◌else◌}
 use Rattle.std.proofs.lemmas.List.{append-nil}
 use Rattle.acparse.specs.Profile.{source_of}
 use Rattle.acstatement.specs.declared.fault.ParseFault.{ParseFault}
 use Rattle.commandline.specs.declared.fault.OptionFault.{OptionFault}
 use Rattle.crew_trait.specs.Events.{Account}
-use Rattle.diskfiles.specs.Lines.{AreLines, none}
+use Rattle.cfglog.specs.Texts.{log_of}
+use Rattle.commands.specs.Left.{IsLeft, Logs}
+use Rattle.commands.proofs.Remakes.{nothing_refused, all_done}
+use Rattle.disk.specs.Known.{Known, Does}
+use Rattle.diskfiles.specs.Done.{IsAllDone}
+use Rattle.diskfiles.specs.Held.{Held, fresh, receipt_of, closings}
+use Rattle.diskfiles.specs.Lines.{AreLines}
+use Rattle.diskfiles.specs.Steps.{IsReplaced}
+use Rattle.engine.specs.Told.{outcome_of}
 use Rattle.engine.specs.Configured.{IsAnswer, IsNotRun, IfStarts, IfReport, IsMeant, things}
 use Rattle.framing.specs.Faults.{◌>>=◌, named, wants, of_parse, of_option}
 use Rattle.engine.specs.Judged.{judged}
@@ -15,18 +23,23 @@ use Rattle.framing.specs.Shown.{shown_report, shown_text}
 use Rattle.framing.specs.declared.accepting.Start.{Start}
 use Rattle.framing.specs.declared.fault.Fault.{Fault}
 use Rattle.framing.specs.declared.fault.Fault.TheVariants.{Plan, OutOfMemory}
+use Rattle.framing.specs.declared.report.Outcome.TheVariants.{Shown}
 use Rattle.framing.specs.declared.report.Report.{Report}
 use Rattle.framing.specs.Told.{status_of}
 use Rattle.options.specs.Opening.{opening}
 use Rattle.options.specs.declared.settings.Settings.{Settings}
 use Rattle.outputs.specs.Receipt.{Receipt, with_things}
+use Rattle.outputs.specs.declared.thing.Thing.{Thing}
+use Rattle.proberun.specs.Outcomes as run
 use Rattle.plan.specs.Weight.{heaviest, weight}
 use Rattle.plan.specs.declared.fault.PlanFault.TheVariants.{TooLong}
 use Rattle.syntax.specs.Lists.{lists_of}
 use Rattle.syntax.specs.Script.{Script}
 use Rattle.commands.specs.Printed.{printed}
-use Rattle.configuring.specs.Configures.{IsConfigured, shown, ran}
+use Rattle.configuring.specs.Configures.{IsConfigured, ReadsSource, shown, ran}
+use Rattle.configuring.proofs.Supplied.{given_starts}
 use Rattle.invocation.specs.Quiet.{quiet_with, quiet_for, quiet_in}
+use Rattle.invocation.specs.Supplies.{GivenIn}
 
 -- ---- a text that is to be shown is printed
 
@@ -68,8 +81,9 @@ quiet_shows source a e c t script settings is = quiet_read (source_of source) a 
 
 -- ---- a run that returned a report
 
-no_lines : (lines : List ℕ) → AreLines [] lines → lines ≡ []
-no_lines lines none = refl
+shown_outcome : (script : Script) (settings : Settings) → (shown_report script settings).outcome ≡ Shown
+unfolding shown_report
+shown_outcome script settings = refl
 
 report_of_answer : (a b : Report) → (let r : Result Report Fault = Ok a in r) ≡ Ok b → a ≡ b
 report_of_answer a b is = cc
@@ -84,32 +98,60 @@ shown_status : (script : Script) (settings : Settings) → status_of (shown_repo
 unfolding shown_report
 shown_status script settings = refl
 
-end_of : (j : Result Accepted Fault) (window : ℕ) (source : List ℕ) (a : List (List ℕ)) (e : List (List ℕ × List ℕ)) (c : Option (List ℕ)) (t : List (List ℕ × List ℕ)) (before now : Account) (old new : Receipt) (report : Report) (lines : List ℕ)
-    → judged source a e c t ≡ j → IsAnswer j (Ok report) → (IsNotRun j → (now ≡ before) × (new ≡ old)) → IfStarts j (λ script start. IsMeant window script start before now report)
-    → IfStarts j (λ script start. new ≡ with_things old (things script start t report)) → old ≡ record { handed = []; failures = 0 } → AreLines new.handed lines
-    → IsConfigured window a e before now (printed (quiet_in source a e) report.messages lines) (status_of report.outcome)
-end_of (Err OutOfMemory) window source a e c t before now old new report lines j answer same meant handed fresh are = absurd (cc)
-end_of (Err f) window source a e c t before now old new report lines j answer same meant handed fresh are = absurd (cc)
-end_of (Ok (Shows script settings)) window source a e c t before now old new report lines j answer same meant handed fresh are =
+never_shown : (o : run.Outcome) → outcome_of o ≡ Shown → ⊥
+never_shown run.Completed is = cc
+never_shown (run.Stopped status) is = cc
+never_shown (run.CutShort number) is = cc
+
+-- What is left in files by a run that handed over these things, and by its log.
+left_by : (mid fin : Option Known) (things : List Thing) (lines log : List ℕ) → IfSome mid (λ k. IsAllDone k things 0 lines)
+    → Does mid fin (λ k deeds. IsReplaced k (codes "config.log") log deeds) → IfSome fin (λ k. IsLeft k things lines log)
+left_by None None things lines log done logged = tt
+left_by None (Some new) things lines log done logged = absurd logged
+left_by (Some old) None things lines log done logged = tt
+left_by (Some old) (Some new) things lines log done logged =
+    subst (λ k. IsLeft k things lines log) (sym logged.1) (record { before = old.deeds; logged = logged.0; deeds = refl; done = done; written = logged.2 })
+
+-- What holds after a call of `configure` over a receiver `before`, which is `mid` then, and `fin`
+-- after the log was written.
+end_of : {D : Type 0} (known : D → Option Known) (d : D) (before_puts mid fin : Held D) (j : Result Accepted Fault) (window : ℕ) (source : List ℕ) (a : List (List ℕ)) (e : List (List ℕ × List ℕ)) (c : Option (List ℕ)) (t : List (List ℕ × List ℕ)) (before now : Account) (report : Report)
+    → before_puts ≡ fresh d → ReadsSource (known d) a source → GivenIn (known d) source a e c t
+    → judged source a e c t ≡ j → IsAnswer j (Ok report) → (IsNotRun j → (now ≡ before) × (mid ≡ before_puts)) → IfStarts j (λ script start. IsMeant window script start before now report)
+    → IfStarts j (λ script start. receipt_of mid ≡ with_things (receipt_of before_puts) (things script start t report)) → Logs known mid fin report
+    → IsConfigured window a e before now (known d) (known fin.disk) (printed (quiet_in source a e) report.messages mid.lines) (status_of report.outcome)
+end_of known d before_puts mid fin (Err OutOfMemory) window source a e c t before now report new read given j answer same meant handed logs = absurd (cc)
+end_of known d before_puts mid fin (Err f) window source a e c t before now report new read given j answer same meant handed logs = absurd (cc)
+end_of known d before_puts mid fin (Ok (Shows script settings)) window source a e c t before now report new read given j answer same meant handed logs =
     let told : report ≡ shown_report script settings = report_of_answer report (shown_report script settings) answer in
-    let empty : lines ≡ [] = no_lines lines (subst (λ (r : Receipt). AreLines r.handed lines) ((same tt).1 ∙ fresh) are) in
-    let out : printed (quiet_in source a e) report.messages lines ≡ shown_text script settings =
-    ap (λ (r : Report). printed (quiet_in source a e) r.messages lines) told ∙ shown_out script settings (quiet_in source a e) lines (quiet_shows source a e c t script settings j) empty in
+    let untouched : mid ≡ fresh d = (same tt).1 ∙ new in
+    let empty : mid.lines ≡ [] = ap (λ h. h.lines) untouched in
+    let out : printed (quiet_in source a e) report.messages mid.lines ≡ shown_text script settings =
+    ap (λ (r : Report). printed (quiet_in source a e) r.messages mid.lines) told ∙ shown_out script settings (quiet_in source a e) mid.lines (quiet_shows source a e c t script settings j) empty in
     let status : status_of report.outcome ≡ 0 = ap (λ (r : Report). status_of r.outcome) told ∙ shown_status script settings in
-    subst (λ n. IsConfigured window a e before now (printed (quiet_in source a e) report.messages lines) n) (sym status) (shown source c t script settings j (same tt).0 out)
-end_of (Ok (Starts script start)) window source a e c t before now old new report lines j answer same meant handed fresh are =
-    let all : new.handed ≡ things script start t report = ap (λ (r : Receipt). r.handed) handed ∙ ap (λ (r : Receipt). r.handed ++ things script start t report) fresh in
-    ran source c t script start report lines j meant (subst (λ l. AreLines l lines) all are) refl
+    let nothing : fin ≡ mid = logs.nothing (ap (λ (r : Report). r.outcome) told ∙ shown_outcome script settings) in
+    let files : known fin.disk ≡ known d = ap (λ h. known h.disk) (nothing ∙ untouched) in
+    subst (λ n. IsConfigured window a e before now (known d) (known fin.disk) (printed (quiet_in source a e) report.messages mid.lines) n) (sym status) (shown source c t script settings read j (same tt).0 files out)
+end_of known d before_puts mid fin (Ok (Starts script start)) window source a e c t before now report new read given j answer same meant handed logs =
+    let empty : receipt_of before_puts ≡ record { handed = []; failures = 0 } = ap receipt_of new in
+    let all : mid.handed ≡ things script start t report = ap (λ (r : Receipt). r.handed) handed ∙ ap (λ (r : Receipt). r.handed ++ things script start t report) empty in
+    let counted : mid.failures + closings mid.closed ≡ 0 = ap (λ (r : Receipt). r.failures) handed ∙ ap (λ (r : Receipt). r.failures) empty in
+    let none = nothing_refused mid.failures mid.closed counted in
+    let done = all_done (known mid.disk) mid.handed (things script start t report) mid.failures mid.lines mid.lines all none.0 refl (logs.held.done none.1) in
+    let run_outcome : report.outcome ≡ outcome_of meant.end.outcome = ap (λ (r : Report). r.outcome) meant.told in
+    let logged = logs.log (λ is. never_shown meant.end.outcome (sym run_outcome ∙ is)) in
+    ran source c t script start report mid.lines read (given_starts (known d) source a e c t script start j given) j meant (subst (λ l. AreLines l mid.lines) all logs.held.lines)
+    (left_by (known mid.disk) (known fin.disk) (things script start t report) mid.lines (log_of report.log) done logged) refl
 
 -- The same after a call of `configure` that returned this report.
-pub run_done : (window : ℕ) (source : List ℕ) (a : List (List ℕ)) (e : List (List ℕ × List ℕ)) (c : Option (List ℕ)) (t : List (List ℕ × List ℕ)) (before now : Account) (old new : Receipt) (answer : Result Report Fault) (report : Report) (lines : List ℕ) (quiet : Bool) (status : ℕ)
-    → IsAnswer (judged source a e c t) answer → (IsNotRun (judged source a e c t) → (now ≡ before) × (new ≡ old)) → IfStarts (judged source a e c t) (λ script start. IfReport answer (IsMeant window script start before now))
-    → IfStarts (judged source a e c t) (λ script start. IfOk answer (λ report. new ≡ with_things old (things script start t report))) → old ≡ record { handed = []; failures = 0 } → AreLines new.handed lines
-    → quiet ≡ quiet_in source a e → answer ≡ Ok report → status ≡ status_of report.outcome
-    → IsConfigured window a e before now (printed quiet report.messages lines) status
-run_done window source a e c t before now old new answer report lines quiet status accepted same meant handed fresh are loud is status_is =
-    let done = end_of (judged source a e c t) window source a e c t before now old new report lines refl (subst (IsAnswer (judged source a e c t)) is accepted) same
+pub run_done : {D : Type 0} (known : D → Option Known) (d : D) (before_puts mid fin : Held D) (window : ℕ) (source : List ℕ) (a : List (List ℕ)) (e : List (List ℕ × List ℕ)) (c : Option (List ℕ)) (t : List (List ℕ × List ℕ)) (before now : Account) (answer : Result Report Fault) (report : Report) (quiet : Bool) (status : ℕ)
+    → before_puts ≡ fresh d → ReadsSource (known d) a source → GivenIn (known d) source a e c t
+    → IsAnswer (judged source a e c t) answer → (IsNotRun (judged source a e c t) → (now ≡ before) × (mid ≡ before_puts)) → IfStarts (judged source a e c t) (λ script start. IfReport answer (IsMeant window script start before now))
+    → IfStarts (judged source a e c t) (λ script start. IfOk answer (λ report. receipt_of mid ≡ with_things (receipt_of before_puts) (things script start t report)))
+    → quiet ≡ quiet_in source a e → answer ≡ Ok report → status ≡ status_of report.outcome → Logs known mid fin report
+    → IsConfigured window a e before now (known d) (known fin.disk) (printed quiet report.messages mid.lines) status
+run_done known d before_puts mid fin window source a e c t before now answer report quiet status new read given accepted same meant handed loud is status_is logs =
+    let done = end_of known d before_puts mid fin (judged source a e c t) window source a e c t before now report new read given refl (subst (IsAnswer (judged source a e c t)) is accepted) same
     (subst (λ r. IfStarts (judged source a e c t) (λ script start. IfReport r (IsMeant window script start before now))) is meant)
-    (subst (λ r. IfStarts (judged source a e c t) (λ script start. IfOk r (λ report. new ≡ with_things old (things script start t report)))) is handed) fresh are in
-    subst (λ n. IsConfigured window a e before now (printed quiet report.messages lines) n) (sym status_is)
-    (subst (λ q. IsConfigured window a e before now (printed q report.messages lines) (status_of report.outcome)) (sym loud) done)
+    (subst (λ r. IfStarts (judged source a e c t) (λ script start. IfOk r (λ report. receipt_of mid ≡ with_things (receipt_of before_puts) (things script start t report)))) is handed) logs in
+    subst (λ n. IsConfigured window a e before now (known d) (known fin.disk) (printed quiet report.messages mid.lines) n) (sym status_is)
+    (subst (λ q. IsConfigured window a e before now (known d) (known fin.disk) (printed q report.messages mid.lines) (status_of report.outcome)) (sym loud) done)

@@ -1,22 +1,24 @@
 //! The command that runs a configure.ac again with the arguments of its record.
 
-ghost use Rattle.std.specs.Prelude.{◌≡◌, ◌≢◌, ◌+◌, ◌^◌, ◌≤◌, ℕ, List, IfOk};
+ghost use Rattle.std.specs.Prelude.{◌≡◌, ◌≢◌, ◌+◌, ◌^◌, ◌≤◌, ℕ, List, Some, IfOk, codes};
 ghost use Rattle.std.specs.Io.KnownBytes.{Appends};
 ghost use Rattle.configuring.specs.Configures.{IsRechecked};
 ghost use Rattle.crew_trait.specs.Events.{IsIdle};
+ghost use Rattle.diskfiles.specs.Held.{fresh};
+ghost use Rattle.invocation.specs.Supplies.{ReadsWhole};
 
 use crate::running::run_configure;
 use causes::Causes;
 use commands::{RECORD, tell_remake, tell_unread};
 use crew_trait::Crew;
 use deftable::Bytes;
-use diskfiles::read_text;
+use disk::Disk;
+use diskfiles::{FileOutputs, read_text};
 use explaining::Why;
 use framing::recheck_args;
 use invocation::tell_memory;
 use std::alloc::{AllocError, Global};
 use std::io::Write;
-use std::rt::Files;
 
 /// Returns what the faults of a record with this text are explained by.
 fn why_of(is_asked: bool, text: &[u8]) -> Why<'_> {
@@ -30,9 +32,9 @@ fn why_of(is_asked: bool, text: &[u8]) -> Why<'_> {
 }
 
 /// Runs a configure.ac again with the arguments of the record that has this text, and returns the exit status.
-fn run_again<F: Files, C: Crew + Causes, W: Write, E: Write>(
+fn run_again<D: Disk, C: Crew + Causes, W: Write, E: Write>(
     alloc: Global,
-    files: &F,
+    outputs: &mut FileOutputs<D>,
     is_asked: bool,
     text: &[u8],
     env: &[(Bytes, Bytes)],
@@ -43,24 +45,37 @@ fn run_again<F: Files, C: Crew + Causes, W: Write, E: Write>(
     requires idle { IsIdle (C.account crew.old).events }
     requires attempts { (C.account crew.old).attempts + 2 ^ 36 ≤ 2 ^ 62 }
     requires failures { (C.account crew.old).failures + 256 ≤ 2 ^ 62 }
+    requires found { ReadsWhole (D.known outputs.old.disk) (codes "config.status") (Some text.now) }
+    requires fresh { outputs.old ≡ fresh outputs.old.disk }
     ensures idle { IsIdle (C.account crew.new).events }
-    ensures run { result ≢ 2 → (out : List ℕ) × IsRechecked env.now (C.account crew.old) (C.account crew.new) out result
+    ensures run { result ≢ 2 → (out : List ℕ)
+        × IsRechecked env.now (C.account crew.old) (C.account crew.new)
+        (D.known outputs.old.disk) (D.known outputs.new.disk) out result
         × Appends (W.contents output.old) (W.contents output.new) out }
 {
     match recheck_args(alloc, text) {
         Ok(args) => {
             let args = args.as_slice();
-            let status = run_configure(alloc, files, is_asked, 1, args, env, crew, output, errors);
+            let status = run_configure(
+                alloc, outputs, is_asked, 1, args, env, crew, output, errors,
+            );
             status
         }
-        Err(fault) => tell_remake(alloc, files, &why_of(is_asked, text), b"", errors, &fault),
+        Err(fault) => tell_remake(
+            alloc,
+            outputs.disk(),
+            &why_of(is_asked, text),
+            b"",
+            errors,
+            &fault,
+        ),
     }
 }
 
 /// Reads the record, runs its configure.ac again, and returns the exit status.
-fn run_record<F: Files, C: Crew + Causes, W: Write, E: Write>(
+fn run_record<D: Disk, C: Crew + Causes, W: Write, E: Write>(
     alloc: Global,
-    files: &F,
+    outputs: &mut FileOutputs<D>,
     is_asked: bool,
     env: &[(Bytes, Bytes)],
     crew: &mut C,
@@ -70,17 +85,20 @@ fn run_record<F: Files, C: Crew + Causes, W: Write, E: Write>(
     requires idle { IsIdle (C.account crew.old).events }
     requires attempts { (C.account crew.old).attempts + 2 ^ 36 ≤ 2 ^ 62 }
     requires failures { (C.account crew.old).failures + 256 ≤ 2 ^ 62 }
+    requires fresh { outputs.old ≡ fresh outputs.old.disk }
     ensures idle { IsIdle (C.account crew.new).events }
-    ensures run { IfOk result (λ status. status ≢ 2 → (out : List ℕ) × IsRechecked env.now (C.account crew.old) (C.account crew.new) out status
+    ensures run { IfOk result (λ status. status ≢ 2 → (out : List ℕ)
+        × IsRechecked env.now (C.account crew.old) (C.account crew.new)
+        (D.known outputs.old.disk) (D.known outputs.new.disk) out status
         × Appends (W.contents output.old) (W.contents output.new) out) }
 {
-    match read_text(alloc, files, RECORD)? {
+    match read_text(alloc, outputs.disk(), RECORD)? {
         Some(text) => {
             let text = text.as_slice();
-            let status = run_again(alloc, files, is_asked, text, env, crew, output, errors);
+            let status = run_again(alloc, outputs, is_asked, text, env, crew, output, errors);
             Ok(status)
         }
-        None => Ok(tell_unread(alloc, files, is_asked, RECORD, errors)),
+        None => Ok(tell_unread(alloc, outputs.disk(), is_asked, RECORD, errors)),
     }
 }
 
@@ -90,9 +108,9 @@ fn run_record<F: Files, C: Crew + Causes, W: Write, E: Write>(
 /// The environment is that of now, and at most one child runs at once. The record and the log are written again, and the cache if
 /// one is named, but no file and no header. If anything is wrong, the status is 2, and standard error has a line for it (own). If
 /// `is_asked`, further lines may say why.
-pub fn run_recheck<F: Files, C: Crew + Causes, W: Write, E: Write>(
+pub fn run_recheck<D: Disk, C: Crew + Causes, W: Write, E: Write>(
     alloc: Global,
-    files: &F,
+    outputs: &mut FileOutputs<D>,
     is_asked: bool,
     env: &[(Bytes, Bytes)],
     crew: &mut C,
@@ -102,11 +120,14 @@ pub fn run_recheck<F: Files, C: Crew + Causes, W: Write, E: Write>(
     requires idle { IsIdle (C.account crew.old).events }
     requires attempts { (C.account crew.old).attempts + 2 ^ 36 ≤ 2 ^ 62 }
     requires failures { (C.account crew.old).failures + 256 ≤ 2 ^ 62 }
+    requires fresh { outputs.old ≡ fresh outputs.old.disk }
     ensures idle { IsIdle (C.account crew.new).events }
-    ensures run { result ≢ 2 → (out : List ℕ) × IsRechecked env.now (C.account crew.old) (C.account crew.new) out result
+    ensures run { result ≢ 2 → (out : List ℕ)
+        × IsRechecked env.now (C.account crew.old) (C.account crew.new)
+        (D.known outputs.old.disk) (D.known outputs.new.disk) out result
         × Appends (W.contents output.old) (W.contents output.new) out }
 {
-    match run_record(alloc, files, is_asked, env, crew, output, errors) {
+    match run_record(alloc, outputs, is_asked, env, crew, output, errors) {
         Ok(status) => status,
         Err(_) => tell_memory(errors),
     }

@@ -1,15 +1,18 @@
 //! The command that runs a configure.ac.
 
-ghost use Rattle.std.specs.Prelude.{◌≡◌, ◌≢◌, ◌+◌, ◌^◌, ◌≤◌, ℕ, List, IfOk};
+ghost use Rattle.std.specs.Prelude.{◌≡◌, ◌≢◌, ◌+◌, ◌^◌, ◌≤◌, ℕ, List, IfOk, option_copied};
 ghost use Rattle.std.specs.Io.KnownBytes.{Appends};
-ghost use Rattle.configuring.specs.Configures.{IsConfigured};
+ghost use Rattle.configuring.specs.Configures.{IsConfigured, ReadsSource};
 ghost use Rattle.crew_trait.specs.Events.{IsIdle};
+ghost use Rattle.diskfiles.specs.Held.{fresh};
 ghost use Rattle.invocation.specs.Quiet.{quiet_in};
+ghost use Rattle.invocation.specs.Supplies.{GivenIn};
 
 use causes::Causes;
 use commands::{tell_result, tell_unread};
 use crew_trait::Crew;
 use deftable::Bytes;
+use disk::Disk;
 use diskfiles::{FileOutputs, path_in, read_limited};
 use engine::configure;
 use explaining::Why;
@@ -17,12 +20,21 @@ use invocation::{Supplies, keep_inputs, read_supplies, tell_memory};
 use options::srcdir_of;
 use std::alloc::{AllocError, Global};
 use std::io::Write;
-use std::rt::Files;
+
+/// Returns the text of the cache, if there is one.
+fn cache_of(supplies: &Supplies) -> Option<&[u8]>
+    ensures { option_copied result ≡ supplies.now.cache }
+{
+    match &supplies.cache {
+        Some(text) => Some(text.as_slice()),
+        None => None,
+    }
+}
 
 /// Runs a source that was read, and returns the exit status.
-fn run_supplied<F: Files, C: Crew + Causes, W: Write, E: Write>(
+fn run_supplied<D: Disk, C: Crew + Causes, W: Write, E: Write>(
     alloc: Global,
-    files: &F,
+    outputs: &mut FileOutputs<D>,
     window: usize,
     why: &Why<'_>,
     env: &[(Bytes, Bytes)],
@@ -37,13 +49,17 @@ fn run_supplied<F: Files, C: Crew + Causes, W: Write, E: Write>(
     requires attempts { (C.account crew.old).attempts + 2 ^ 36 ≤ 2 ^ 62 }
     requires failures { (C.account crew.old).failures + 256 ≤ 2 ^ 62 }
     requires quiet { supplies.now.quiet ≡ quiet_in why.now.text.now why.now.args.now env.now }
+    requires source { ReadsSource (D.known outputs.old.disk) why.now.args.now why.now.text.now }
+    requires given { GivenIn (D.known outputs.old.disk) why.now.text.now why.now.args.now env.now supplies.now.cache supplies.now.templates.items }
+    requires fresh { outputs.old ≡ fresh outputs.old.disk }
     ensures idle { IsIdle (C.account crew.new).events }
-    ensures run { result ≢ 2 → (out : List ℕ) × IsConfigured window why.now.args.now env.now (C.account crew.old) (C.account crew.new) out result
+    ensures run { result ≢ 2 → (out : List ℕ)
+        × IsConfigured window why.now.args.now env.now (C.account crew.old) (C.account crew.new)
+        (D.known outputs.old.disk) (D.known outputs.new.disk) out result
         × Appends (W.contents output.old) (W.contents output.new) out }
 {
-    let mut outputs = FileOutputs::new(alloc, files);
     let templates = supplies.templates.as_slice();
-    if keep_inputs(alloc, &mut outputs, why.srcdir, templates).is_err() {
+    if keep_inputs(alloc, outputs, why.srcdir, templates).is_err() {
         return tell_memory(errors);
     }
     let answer = configure(
@@ -51,30 +67,19 @@ fn run_supplied<F: Files, C: Crew + Causes, W: Write, E: Write>(
         why.text,
         why.args,
         env,
-        supplies.cache.as_ref().map(|cache| cache.as_slice()),
+        cache_of(supplies),
         templates,
         crew,
-        &mut outputs,
+        outputs,
         window,
     );
-    tell_result(
-        alloc,
-        files,
-        why,
-        supplies,
-        answer,
-        crew,
-        outputs.cause(),
-        outputs.lines(),
-        output,
-        errors,
-    )
+    tell_result(alloc, outputs, why, supplies, answer, crew, output, errors)
 }
 
 /// Reads what a run of this source is given, runs it, and returns the exit status.
-fn run_text<F: Files, C: Crew + Causes, W: Write, E: Write>(
+fn run_text<D: Disk, C: Crew + Causes, W: Write, E: Write>(
     alloc: Global,
-    files: &F,
+    outputs: &mut FileOutputs<D>,
     window: usize,
     why: &Why<'_>,
     env: &[(Bytes, Bytes)],
@@ -87,13 +92,17 @@ fn run_text<F: Files, C: Crew + Causes, W: Write, E: Write>(
     requires idle { IsIdle (C.account crew.old).events }
     requires attempts { (C.account crew.old).attempts + 2 ^ 36 ≤ 2 ^ 62 }
     requires failures { (C.account crew.old).failures + 256 ≤ 2 ^ 62 }
+    requires source { ReadsSource (D.known outputs.old.disk) why.now.args.now why.now.text.now }
+    requires fresh { outputs.old ≡ fresh outputs.old.disk }
     ensures idle { IsIdle (C.account crew.new).events }
-    ensures run { IfOk result (λ status. status ≢ 2 → (out : List ℕ) × IsConfigured window why.now.args.now env.now (C.account crew.old) (C.account crew.new) out status
+    ensures run { IfOk result (λ status. status ≢ 2 → (out : List ℕ)
+        × IsConfigured window why.now.args.now env.now (C.account crew.old) (C.account crew.new)
+        (D.known outputs.old.disk) (D.known outputs.new.disk) out status
         × Appends (W.contents output.old) (W.contents output.new) out) }
 {
-    let supplies = read_supplies(alloc, files, why.text, why.args, env)?;
+    let supplies = read_supplies(alloc, outputs.disk(), why.text, why.args, env)?;
     Ok(run_supplied(
-        alloc, files, window, why, env, &supplies, crew, output, errors,
+        alloc, outputs, window, why, env, &supplies, crew, output, errors,
     ))
 }
 
@@ -112,9 +121,9 @@ fn why_of<'a>(is_asked: bool, path: &'a [u8], text: &'a [u8], args: &'a [Bytes])
 }
 
 /// Reads the source that the arguments name, runs it, and returns the exit status.
-fn run_source<F: Files, C: Crew + Causes, W: Write, E: Write>(
+fn run_source<D: Disk, C: Crew + Causes, W: Write, E: Write>(
     alloc: Global,
-    files: &F,
+    outputs: &mut FileOutputs<D>,
     is_asked: bool,
     window: usize,
     args: &[Bytes],
@@ -128,17 +137,20 @@ fn run_source<F: Files, C: Crew + Causes, W: Write, E: Write>(
     requires idle { IsIdle (C.account crew.old).events }
     requires attempts { (C.account crew.old).attempts + 2 ^ 36 ≤ 2 ^ 62 }
     requires failures { (C.account crew.old).failures + 256 ≤ 2 ^ 62 }
+    requires fresh { outputs.old ≡ fresh outputs.old.disk }
     ensures idle { IsIdle (C.account crew.new).events }
-    ensures run { IfOk result (λ status. status ≢ 2 → (out : List ℕ) × IsConfigured window args.now env.now (C.account crew.old) (C.account crew.new) out status
+    ensures run { IfOk result (λ status. status ≢ 2 → (out : List ℕ)
+        × IsConfigured window args.now env.now (C.account crew.old) (C.account crew.new)
+        (D.known outputs.old.disk) (D.known outputs.new.disk) out status
         × Appends (W.contents output.old) (W.contents output.new) out) }
 {
     let path = path_in(alloc, srcdir_of(args), b"configure.ac")?;
-    match read_limited(alloc, files, path.as_slice())? {
+    match read_limited(alloc, outputs.disk(), path.as_slice())? {
         Some(text) => {
             let why = why_of(is_asked, path.as_slice(), text.as_slice(), args);
-            run_text(alloc, files, window, &why, env, crew, output, errors)
+            run_text(alloc, outputs, window, &why, env, crew, output, errors)
         }
-        None => Ok(tell_unread(alloc, files, is_asked, path.as_slice(), errors)),
+        None => Ok(tell_unread(alloc, outputs.disk(), is_asked, path.as_slice(), errors)),
     }
 }
 
@@ -147,9 +159,9 @@ fn run_source<F: Files, C: Crew + Causes, W: Write, E: Write>(
 /// The source is `configure.ac` in the directory that `--srcdir` names, or else in the current one. What the run hands over is
 /// written in the current directory, and then its log. If a text is shown, nothing is written. If anything is wrong, the status is 2,
 /// and standard error has a line for it (own); outputs may have been written before that. If `is_asked`, further lines may say why.
-pub fn run_configure<F: Files, C: Crew + Causes, W: Write, E: Write>(
+pub fn run_configure<D: Disk, C: Crew + Causes, W: Write, E: Write>(
     alloc: Global,
-    files: &F,
+    outputs: &mut FileOutputs<D>,
     is_asked: bool,
     window: usize,
     args: &[Bytes],
@@ -163,12 +175,15 @@ pub fn run_configure<F: Files, C: Crew + Causes, W: Write, E: Write>(
     requires idle { IsIdle (C.account crew.old).events }
     requires attempts { (C.account crew.old).attempts + 2 ^ 36 ≤ 2 ^ 62 }
     requires failures { (C.account crew.old).failures + 256 ≤ 2 ^ 62 }
+    requires fresh { outputs.old ≡ fresh outputs.old.disk }
     ensures idle { IsIdle (C.account crew.new).events }
-    ensures run { result ≢ 2 → (out : List ℕ) × IsConfigured window args.now env.now (C.account crew.old) (C.account crew.new) out result
+    ensures run { result ≢ 2 → (out : List ℕ)
+        × IsConfigured window args.now env.now (C.account crew.old) (C.account crew.new)
+        (D.known outputs.old.disk) (D.known outputs.new.disk) out result
         × Appends (W.contents output.old) (W.contents output.new) out }
 {
     match run_source(
-        alloc, files, is_asked, window, args, env, crew, output, errors,
+        alloc, outputs, is_asked, window, args, env, crew, output, errors,
     ) {
         Ok(status) => status,
         Err(_) => tell_memory(errors),

@@ -5,10 +5,10 @@ ghost use Rattle.std.specs.Prelude.{◌≡◌, false};
 use crate::asking::Why;
 use crate::lines::put_words;
 use causes::words_of;
+use disk::Disk;
 use diskfiles::{path_in, unread_cause};
 use std::alloc::Global;
 use std::io::{self, Write};
-use std::rt::Files;
 
 /// Writes the line `acrun: NAME: CAUSE` with the words of an error.
 fn put_error<E: Write>(alloc: Global, name: &[u8], error: &io::Error, errors: &mut E) {
@@ -33,23 +33,23 @@ pub fn explain_error<E: Write>(
 }
 
 /// Writes why the file at a path can't be read, as `acrun: NAME: CAUSE`, if it is asked.
-fn put_unread<F: Files, E: Write>(
+fn put_unread<D: Disk, E: Write>(
     alloc: Global,
-    files: &F,
+    disk: &D,
     path: &[u8],
     name: &[u8],
     errors: &mut E,
 ) {
-    if let Some(error) = unread_cause(files, path) {
+    if let Some(error) = unread_cause(disk, path) {
         put_error(alloc, name, &error, errors);
     }
 }
 
 /// Says why the file at a path was not read, if it is asked: `acrun: NAME: CAUSE`. The file is looked at once more for that, so if it
 /// can be read now, nothing is said.
-pub fn explain_file<F: Files, E: Write>(
+pub fn explain_file<D: Disk, E: Write>(
     alloc: Global,
-    files: &F,
+    disk: &D,
     is_asked: bool,
     path: &[u8],
     name: &[u8],
@@ -58,14 +58,14 @@ pub fn explain_file<F: Files, E: Write>(
     ensures silent { is_asked ≡ false → errors.new ≡ errors.old }
 {
     if is_asked {
-        put_unread(alloc, files, path, name, errors);
+        put_unread(alloc, disk, path, name, errors);
     }
 }
 
 /// Says why the template of this name was not read, if it is asked: `acrun: NAME: CAUSE`, as [`explain_file`] does.
-pub fn explain_template<F: Files, E: Write>(
+pub fn explain_template<D: Disk, E: Write>(
     alloc: Global,
-    files: &F,
+    disk: &D,
     why: &Why<'_>,
     name: &[u8],
     errors: &mut E,
@@ -73,6 +73,6 @@ pub fn explain_template<F: Files, E: Write>(
     ensures silent { why.now.is_asked ≡ false → errors.new ≡ errors.old }
 {
     if let Ok(path) = path_in(alloc, why.srcdir, name) {
-        explain_file(alloc, files, why.is_asked, path.as_slice(), name, errors);
+        explain_file(alloc, disk, why.is_asked, path.as_slice(), name, errors);
     }
 }

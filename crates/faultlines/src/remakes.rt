@@ -4,6 +4,7 @@ ghost use Rattle.std.specs.Prelude.{◌≡◌, false};
 
 use crate::page::put_words;
 use deftable::Bytes;
+use disk::Disk;
 use explaining::{Why, explain_template, explain_words};
 use faultwords::{Words, record_words, tag_words};
 use framing::RemakeFault;
@@ -11,7 +12,6 @@ use outputlist::Output;
 use status_record::{Record, read_record};
 use std::alloc::{AllocError, Global};
 use std::io::Write;
-use std::rt::Files;
 
 /// Returns the argument of this number, which is 1 for the first, or an empty text.
 fn numbered(args: &[Bytes], number: u64) -> &[u8] {
@@ -46,9 +46,9 @@ fn of_tag(alloc: Global, text: &[u8], name: &[u8]) -> Result<Words, AllocError> 
 }
 
 /// Writes what is wrong, in words.
-fn put_remake<F: Files, E: Write>(
+fn put_remake<D: Disk, E: Write>(
     alloc: Global,
-    files: &F,
+    disk: &D,
     why: &Why<'_>,
     cause: &[u8],
     errors: &mut E,
@@ -64,7 +64,7 @@ fn put_remake<F: Files, E: Write>(
             errors,
         ),
         RemakeFault::NoTemplate(name) => {
-            explain_template(alloc, files, why, name.as_slice(), errors)
+            explain_template(alloc, disk, why, name.as_slice(), errors)
         }
         RemakeFault::PutRefused(_number) => explain_words(alloc, true, cause, errors),
         _ => {}
@@ -72,9 +72,9 @@ fn put_remake<F: Files, E: Write>(
 }
 
 /// Says more of why outputs are not made again, after its line, if it is asked. If a put was refused, `cause` says why.
-pub fn explain_remake<F: Files, E: Write>(
+pub fn explain_remake<D: Disk, E: Write>(
     alloc: Global,
-    files: &F,
+    disk: &D,
     why: &Why<'_>,
     cause: &[u8],
     errors: &mut E,
@@ -83,6 +83,6 @@ pub fn explain_remake<F: Files, E: Write>(
     ensures silent { why.now.is_asked ≡ false → errors.new ≡ errors.old }
 {
     if why.is_asked {
-        put_remake(alloc, files, why, cause, errors, fault);
+        put_remake(alloc, disk, why, cause, errors, fault);
     }
 }

@@ -5,12 +5,12 @@ ghost use Rattle.std.specs.Prelude.{◌≡◌, false};
 use crate::page::{put_words, slices};
 use crate::source::{put_parse, put_plan};
 use commandline::OptionFault;
+use disk::Disk;
 use explaining::{Why, explain_template};
 use faultwords::{Words, cache_words, option_words};
 use framing::Fault;
 use std::alloc::{AllocError, Global};
 use std::io::Write;
-use std::rt::Files;
 
 /// Returns what is wrong with an argument.
 fn of_option(alloc: Global, why: &Why<'_>, fault: OptionFault) -> Result<Words, AllocError> {
@@ -19,9 +19,9 @@ fn of_option(alloc: Global, why: &Why<'_>, fault: OptionFault) -> Result<Words, 
 }
 
 /// Writes what is wrong, in words.
-fn put_fault<F: Files, E: Write>(
+fn put_fault<D: Disk, E: Write>(
     alloc: Global,
-    files: &F,
+    disk: &D,
     why: &Why<'_>,
     cache: &[u8],
     errors: &mut E,
@@ -32,15 +32,15 @@ fn put_fault<F: Files, E: Write>(
         Fault::Plan(_) => put_plan(alloc, why, errors),
         Fault::Option(fault) => put_words(alloc, of_option(alloc, why, *fault), errors),
         Fault::Cache(fault) => put_words(alloc, cache_words(alloc, *fault, cache), errors),
-        Fault::NoTemplate(name) => explain_template(alloc, files, why, name.as_slice(), errors),
+        Fault::NoTemplate(name) => explain_template(alloc, disk, why, name.as_slice(), errors),
         _ => {}
     }
 }
 
 /// Says what is wrong with what a run is given, after the line of the fault, if it is asked. The cache is its text.
-pub fn explain_fault<F: Files, E: Write>(
+pub fn explain_fault<D: Disk, E: Write>(
     alloc: Global,
-    files: &F,
+    disk: &D,
     why: &Why<'_>,
     cache: &[u8],
     errors: &mut E,
@@ -49,6 +49,6 @@ pub fn explain_fault<F: Files, E: Write>(
     ensures silent { why.now.is_asked ≡ false → errors.new ≡ errors.old }
 {
     if why.is_asked {
-        put_fault(alloc, files, why, cache, errors, fault);
+        put_fault(alloc, disk, why, cache, errors, fault);
     }
 }

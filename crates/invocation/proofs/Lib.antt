@@ -1,4 +1,5 @@
 pub mod Appending
 pub mod Quiet
 pub mod Runs
+pub mod Templates
 pub mod Windows

@@ -1,4 +1,6 @@
 pub mod Calls
 pub mod Lent
+pub mod Logged
 pub mod Quiet
 pub mod Progress
+pub mod Supplies

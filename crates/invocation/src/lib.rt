@@ -12,7 +12,8 @@
 //!
 //! "own" marks a rule that no manual gives.
 //!
-//! In `specs`, read `Calls` (what the program is asked to do), `Quiet` (when nothing is printed) and `Progress`; `Lent` is small. In
+//! In `specs`, read `Calls` (what the program is asked to do), `Supplies` (what a run is given, as it
+//! is in files), `Logged`, `Quiet` (when nothing is printed) and `Progress`; `Lent` is small. In
 //! `src`, read `call`, `supplies`, `printing` and `telling`; `process` reads what the process is given, and `progress` says whether
 //! the program may show its progress.
 #![tactic(auto)]

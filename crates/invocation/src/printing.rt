@@ -2,16 +2,17 @@
 
 ghost use Rattle.std.specs.Prelude.{◌≡◌, [], ◌++◌, Ok, OnOk, IfOk, IsTrue, if◌then◌else◌};
 ghost use Rattle.std.specs.Io.KnownBytes.{Appends};
-ghost use Rattle.cfglog.specs.Texts.{messages_of, shown};
+ghost use Rattle.cfglog.specs.Texts.{log_of, messages_of, shown};
 ghost use Rattle.deftable.specs.declared.note.Stream.TheVariants as streams;
+ghost use Rattle.invocation.specs.Logged.{HasLogged};
 
 use cfglog::{log_text, messages_text};
 use crew_trait::Entry;
 use deftable::{Note, Stream};
+use disk::Disk;
+use diskfiles::FileOutputs;
 use std::alloc::{AllocError, Global};
-use std::fs::{self, File};
-use std::io::{self, BufWriter, Write};
-use std::rt::Files;
+use std::io::{self, ErrorKind, Write};
 
 /// The name of the log.
 pub const LOG: &str = "config.log";
@@ -156,43 +157,20 @@ pub fn print_lines<W: Write>(lines: &[u8], quiet: bool, output: &mut W) -> io::R
     output.write_all(lines)
 }
 
-/// Writes an entry of the log.
-fn write_entry<L: Write>(alloc: Global, entry: &[Entry], log: &mut L) -> io::Result<()> {
-    match log_text(alloc, entry) {
-        Ok(text) => log.write_all(text.as_slice()),
-        Err(_) => Err(io::Error::from(io::ErrorKind::OutOfMemory)),
-    }
-}
-
-/// Writes entries, one after the other.
-fn write_entries<L: Write>(alloc: Global, entries: &[Entry], log: &mut L) -> io::Result<()> {
-    for i in 0..entries.len() {
-        write_entry(alloc, &entries[i..i + 1], log)?;
-    }
-    Ok(())
-}
-
-/// Creates the log. A regular file of its name is removed first, and so is a link. So nothing is written through a link, and a pipe or
-/// a device is not opened. A new file is also faster: ext4 writes one that was truncated to the disk when it is closed.
-fn create_log<F: Files>(files: &F) -> io::Result<F::File> {
-    if let Ok(found) = fs::symlink_metadata(files, LOG) {
-        if found.is_file() || found.is_symlink() {
-            let _ = fs::remove_file(files, LOG);
-        }
-    }
-    File::options()
-        .write(true)
-        .create_new(true)
-        .open(files, LOG)
-}
-
-/// Writes the log of a run. It makes the text of one entry at a time, and hands the system 8 KiB at once.
+/// Writes the log of a run, as the last file that these outputs write.
 ///
 /// # Errors
 ///
-/// Fails if the file can't be made or written, or if memory runs out. Some of it may have been written.
-pub fn write_log<F: Files>(alloc: Global, files: &F, entries: &[Entry]) -> io::Result<()> {
-    let mut log = BufWriter::new(alloc, create_log(files)?)?;
-    write_entries(alloc, entries, &mut log)?;
-    log.flush()
+/// Fails if the file can't be written, or if memory runs out. Then the log is not written.
+pub fn write_log<D: Disk>(
+    alloc: Global,
+    outputs: &mut FileOutputs<D>,
+    entries: &[Entry],
+) -> io::Result<()>
+    ensures { OnOk result (HasLogged D.known outputs.old outputs.new (log_of entries.now)) }
+{
+    match log_text(alloc, entries) {
+        Ok(text) => outputs.close(LOG.as_bytes(), text.as_slice()),
+        Err(_) => Err(io::Error::from(ErrorKind::OutOfMemory)),
+    }
 }

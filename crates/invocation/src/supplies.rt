@@ -1,18 +1,22 @@
 //! What a run is given besides its source: the texts of its cache and of its templates.
 
-ghost use Rattle.std.specs.Prelude.{◌≡◌, false, Ok, IfOk};
+ghost use Rattle.std.specs.Prelude.{◌≡◌, ℕ, List, [], ◌∷◌, ◌++◌, ◌||◌, false, None, Option, Ok, IfOk, OnOk, IfSome, IsTrue, option_copied, bytes_eq};
+ghost use Rattle.std.specs.List.{list_any};
 ghost use Rattle.invocation.specs.Quiet as words;
+ghost use Rattle.invocation.specs.Supplies as given;
+ghost use Rattle.outputlist.specs.declared.output.Output as lists;
+ghost use Rattle.status_record.specs.Reading.{record_in};
 ghost use Rattle.syntax.specs.Script.{script_of};
 
 use crate::printing::LOG;
 use acparse::{ParseFault, parse};
 use deftable::Bytes;
+use disk::Disk;
 use diskfiles::{FileOutputs, path_in, read_limited, read_text};
 use options::{OptionFault, Settings, read_args};
 use outputlist::Output;
 use status_record::{Record, RecordFault, read_record};
 use std::alloc::{AllocError, Global};
-use std::rt::Files;
 use syntax::Source;
 
 /// What a run is given besides its source, arguments and environment.
@@ -41,15 +45,18 @@ fn nothing(alloc: Global) -> Supplies
 }
 
 /// Reads the text of a template, and appends it under its name. Does nothing if it can't be read.
-fn add_template<F: Files>(
+fn add_template<D: Disk>(
     alloc: Global,
-    files: &F,
+    disk: &D,
     srcdir: &[u8],
     name: &[u8],
     templates: &mut Vec<(Bytes, Bytes)>,
-) -> Result<(), AllocError> {
+) -> Result<(), AllocError>
+    ensures { OnOk result ((read : Option (List ℕ)) × given.ReadsTemplate (D.known disk.now) srcdir.now name.now read
+        × (templates.new.items ≡ templates.old.items ++ given.entry_of name.now read)) }
+{
     let path = path_in(alloc, srcdir, name)?;
-    let Some(text) = read_text(alloc, files, path.as_slice())? else {
+    let Some(text) = read_text(alloc, disk, path.as_slice())? else {
         return Ok(());
     };
     let name = Bytes::from_slice(alloc, name)?;
@@ -58,40 +65,62 @@ fn add_template<F: Files>(
 }
 
 /// Returns whether there is a template of this name.
-fn has_template(templates: &[(Bytes, Bytes)], name: &[u8]) -> bool {
+fn has_template(templates: &[(Bytes, Bytes)], name: &[u8]) -> bool
+    ensures { result ≡ list_any (λ template. bytes_eq template.0 name.now) templates.now }
+{
     templates
         .iter()
         .any(|template| template.0.as_slice() == name)
 }
 
-/// Reads the templates of these outputs, each once.
-fn add_templates<F: Files>(
+/// Reads the template of this output, unless it was read before.
+fn add_needed<D: Disk>(
     alloc: Global,
-    files: &F,
+    disk: &D,
+    srcdir: &[u8],
+    output: &Output,
+    templates: &mut Vec<(Bytes, Bytes)>,
+) -> Result<(), AllocError>
+    ensures { OnOk result ((before : List lists.Output) → given.AreTemplates (D.known disk.now) srcdir.now before templates.old.items
+        → given.AreTemplates (D.known disk.now) srcdir.now (before ++ output.now ∷ []) templates.new.items) }
+{
+    let name = output.template.as_slice();
+    if has_template(templates.as_slice(), name) {
+        return Ok(());
+    }
+    add_template(alloc, disk, srcdir, name, templates)
+}
+
+/// Reads the templates of these outputs, each once.
+fn add_templates<D: Disk>(
+    alloc: Global,
+    disk: &D,
     srcdir: &[u8],
     outputs: &[Output],
     templates: &mut Vec<(Bytes, Bytes)>,
-) -> Result<(), AllocError> {
-    for output in outputs {
-        let name = output.template.as_slice();
-        if !has_template(templates.as_slice(), name) {
-            add_template(alloc, files, srcdir, name, templates)?;
-        }
+) -> Result<(), AllocError>
+    ensures { OnOk result ((before : List lists.Output) → given.AreTemplates (D.known disk.now) srcdir.now before templates.old.items
+        → given.AreTemplates (D.known disk.now) srcdir.now (before ++ outputs.now) templates.new.items) }
+{
+    'outputs: for output in outputs {
+        add_needed(alloc, disk, srcdir, output, templates)?;
     }
     Ok(())
 }
 
 /// Reads the templates of files and headers.
-fn read_templates<F: Files>(
+fn read_templates<D: Disk>(
     alloc: Global,
-    files: &F,
+    disk: &D,
     srcdir: &[u8],
     outputs: &[Output],
     headers: &[Output],
-) -> Result<Vec<(Bytes, Bytes)>, AllocError> {
+) -> Result<Vec<(Bytes, Bytes)>, AllocError>
+    ensures { IfOk result (λ templates. given.AreTemplates (D.known disk.now) srcdir.now (outputs.now ++ headers.now) templates.items) }
+{
     let mut templates = Vec::new(alloc);
-    add_templates(alloc, files, srcdir, outputs, &mut templates)?;
-    add_templates(alloc, files, srcdir, headers, &mut templates)?;
+    add_templates(alloc, disk, srcdir, outputs, &mut templates)?;
+    add_templates(alloc, disk, srcdir, headers, &mut templates)?;
     Ok(templates)
 }
 
@@ -104,30 +133,35 @@ fn name_of_cache(alloc: Global, name: Option<&Bytes>) -> Result<Bytes, AllocErro
 }
 
 /// Reads the cache, if one is named.
-fn read_cache<F: Files>(
+fn read_cache<D: Disk>(
     alloc: Global,
-    files: &F,
+    disk: &D,
     name: Option<&Bytes>,
-) -> Result<Option<Bytes>, AllocError> {
+) -> Result<Option<Bytes>, AllocError>
+    ensures { IfOk result (given.ReadsCache (D.known disk.now) (option_copied name.entry)) }
+{
     let Some(name) = name else {
         return Ok(None);
     };
-    read_limited(alloc, files, name.as_slice())
+    read_limited(alloc, disk, name.as_slice())
 }
 
 /// Reads the templates that a run with these settings wants.
-fn wanted_templates<F: Files>(
+fn wanted_templates<D: Disk>(
     alloc: Global,
-    files: &F,
+    disk: &D,
     source: &Source,
     settings: &Settings,
-) -> Result<Vec<(Bytes, Bytes)>, AllocError> {
+) -> Result<Vec<(Bytes, Bytes)>, AllocError>
+    ensures { IfOk result (λ templates. given.AreTemplates (D.known disk.now) settings.now.srcdir
+        (given.needed settings.now.no_create (script_of source.now)) templates.items) }
+{
     if settings.no_create {
         return Ok(Vec::new(alloc));
     }
     read_templates(
         alloc,
-        files,
+        disk,
         settings.srcdir.as_slice(),
         source.files().as_slice(),
         source.headers().as_slice(),
@@ -135,20 +169,22 @@ fn wanted_templates<F: Files>(
 }
 
 /// Reads what a run with these settings is given. If a text is to be shown, nothing is read, and it is shown also with `-q`.
-fn settled_supplies<F: Files>(
+fn settled_supplies<D: Disk>(
     alloc: Global,
-    files: &F,
+    disk: &D,
     source: &Source,
     settings: &Settings,
 ) -> Result<Supplies, AllocError>
-    ensures { IfOk result (λ s. s.quiet ≡ words.quiet_with (Ok settings.now)) }
+    ensures quiet { IfOk result (λ s. s.quiet ≡ words.quiet_with (Ok settings.now)) }
+    ensures given { IfOk result (λ s. (settings.now.help || settings.now.version) ≡ false → given.AreGiven (D.known disk.now)
+        (script_of source.now) settings.now.cache_name settings.now.srcdir settings.now.no_create s.cache s.templates.items) }
 {
     if settings.help || settings.version {
         return Ok(nothing(alloc));
     }
     let cache_name = name_of_cache(alloc, settings.cache_name.as_ref())?;
-    let cache = read_cache(alloc, files, settings.cache_name.as_ref())?;
-    let templates = wanted_templates(alloc, files, source, settings)?;
+    let cache = read_cache(alloc, disk, settings.cache_name.as_ref())?;
+    let templates = wanted_templates(alloc, disk, source, settings)?;
     Ok(Supplies {
         quiet: settings.quiet,
         cache_name,
@@ -158,17 +194,18 @@ fn settled_supplies<F: Files>(
 }
 
 /// Reads what a run of this source is given.
-fn parsed_supplies<F: Files>(
+fn parsed_supplies<D: Disk>(
     alloc: Global,
-    files: &F,
+    disk: &D,
     source: &Source,
     args: &[Bytes],
     env: &[(Bytes, Bytes)],
 ) -> Result<Supplies, AllocError>
-    ensures { IfOk result (λ s. s.quiet ≡ words.quiet_for args.now env.now (Ok (script_of source.now))) }
+    ensures quiet { IfOk result (λ s. s.quiet ≡ words.quiet_for args.now env.now (Ok (script_of source.now))) }
+    ensures given { IfOk result (λ s. given.GivenFor (D.known disk.now) args.now env.now (Ok (script_of source.now)) s.cache s.templates.items) }
 {
     match read_args(alloc, source, args, env) {
-        Ok(settings) => settled_supplies(alloc, files, source, &settings),
+        Ok(settings) => settled_supplies(alloc, disk, source, &settings),
         Err(OptionFault::OutOfMemory) => Err(AllocError),
         Err(_) => Ok(nothing(alloc)),
     }
@@ -176,23 +213,23 @@ fn parsed_supplies<F: Files>(
 
 /// Reads what a run is given besides its source, arguments and environment. If one of these has an error, nothing is read.
 ///
-/// A file that can't be read counts as not there: who runs the source then names it. No clause says what the files hold, because
-/// the contract of [`Files`] has no name for it.
+/// A file that can't be read counts as not there: who runs the source then names it.
 ///
 /// # Errors
 ///
 /// Fails only if memory runs out.
-pub fn read_supplies<F: Files>(
+pub fn read_supplies<D: Disk>(
     alloc: Global,
-    files: &F,
+    disk: &D,
     text: &[u8],
     args: &[Bytes],
     env: &[(Bytes, Bytes)],
 ) -> Result<Supplies, AllocError>
-    ensures { IfOk result (λ s. s.quiet ≡ words.quiet_in text.now args.now env.now) }
+    ensures quiet { IfOk result (λ s. s.quiet ≡ words.quiet_in text.now args.now env.now) }
+    ensures given { IfOk result (λ s. given.GivenIn (D.known disk.now) text.now args.now env.now s.cache s.templates.items) }
 {
     match parse(alloc, text) {
-        Ok(source) => parsed_supplies(alloc, files, &source, args, env),
+        Ok(source) => parsed_supplies(alloc, disk, &source, args, env),
         Err(ParseFault::OutOfMemory) => Err(AllocError),
         Err(_) => Ok(nothing(alloc)),
     }
@@ -214,13 +251,15 @@ pub struct RecordSupplies {
 /// # Errors
 ///
 /// Fails only if memory runs out.
-pub fn record_supplies<F: Files>(
+pub fn record_supplies<D: Disk>(
     alloc: Global,
-    files: &F,
+    disk: &D,
     text: &[u8],
-) -> Result<RecordSupplies, AllocError> {
+) -> Result<RecordSupplies, AllocError>
+    ensures { IfOk result (λ s. given.GivenAgain (D.known disk.now) (record_in text.now) s.templates.items) }
+{
     match read_record(alloc, text) {
-        Ok(record) => supplies_of(alloc, files, &record),
+        Ok(record) => supplies_of(alloc, disk, &record),
         Err(RecordFault::OutOfMemory) => Err(AllocError),
         Err(_) => Ok(RecordSupplies {
             srcdir: Bytes::new(alloc),
@@ -230,15 +269,17 @@ pub fn record_supplies<F: Files>(
 }
 
 /// Reads the templates of this record.
-fn supplies_of<F: Files>(
+fn supplies_of<D: Disk>(
     alloc: Global,
-    files: &F,
+    disk: &D,
     record: &Record,
-) -> Result<RecordSupplies, AllocError> {
+) -> Result<RecordSupplies, AllocError>
+    ensures { IfOk result (λ s. given.AreTemplates (D.known disk.now) record.now.srcdir (record.now.files ++ record.now.headers) s.templates.items) }
+{
     let srcdir = record.srcdir.copy(alloc)?;
     let templates = read_templates(
         alloc,
-        files,
+        disk,
         record.srcdir.as_slice(),
         record.files.as_slice(),
         record.headers.as_slice(),
@@ -247,9 +288,9 @@ fn supplies_of<F: Files>(
 }
 
 /// Has puts to a file of the source directory refused.
-fn keep_in<F: Files>(
+fn keep_in<D: Disk>(
     alloc: Global,
-    outputs: &mut FileOutputs<'_, F>,
+    outputs: &mut FileOutputs<D>,
     srcdir: &[u8],
     name: &[u8],
 ) -> Result<(), AllocError>
@@ -265,9 +306,9 @@ fn keep_in<F: Files>(
 /// # Errors
 ///
 /// Fails only if memory runs out.
-pub fn keep_inputs<F: Files>(
+pub fn keep_inputs<D: Disk>(
     alloc: Global,
-    outputs: &mut FileOutputs<'_, F>,
+    outputs: &mut FileOutputs<D>,
     srcdir: &[u8],
     templates: &[(Bytes, Bytes)],
 ) -> Result<(), AllocError>

@@ -8,10 +8,10 @@ use crate::errors::found_in;
 use crate::reading::{Linted, read_named};
 use crate::showing::{Form, page_of, status_of};
 use deftable::Bytes;
+use disk::Disk;
 use invocation::{tell_file, tell_memory, tell_usage};
 use std::alloc::{AllocError, Global};
 use std::io::{Read, Write};
-use std::rt::Files;
 
 /// The source that is linted if no word names one.
 const SOURCE: &[u8] = b"configure.ac";
@@ -47,13 +47,13 @@ fn are_known(words: &[Bytes]) -> bool {
 }
 
 /// Returns the page of what is found in a source, and the exit status.
-fn lint_text<F: Files>(
+fn lint_text<D: Disk>(
     alloc: Global,
-    files: &F,
+    disk: &D,
     form: Form,
     linted: &Linted,
 ) -> Result<(Vec<u8>, u8), AllocError> {
-    let found = found_in(alloc, files, linted)?;
+    let found = found_in(alloc, disk, linted)?;
     let page = page_of(alloc, form, linted, &found)?;
     Ok((page, status_of(found.findings.as_slice())))
 }
@@ -67,24 +67,24 @@ fn put_page<W: Write, E: Write>(page: &[u8], status: u8, output: &mut W, errors:
 }
 
 /// Prints what is found in a source, and returns the exit status.
-fn lint_source<F: Files, W: Write, E: Write>(
+fn lint_source<D: Disk, W: Write, E: Write>(
     alloc: Global,
-    files: &F,
+    disk: &D,
     form: Form,
     linted: &Linted,
     output: &mut W,
     errors: &mut E,
 ) -> u8 {
-    match lint_text(alloc, files, form, linted) {
+    match lint_text(alloc, disk, form, linted) {
         Ok((page, status)) => put_page(page.as_slice(), status, output, errors),
         Err(_) => tell_memory(errors),
     }
 }
 
 /// Reads the source that a word names, prints what is found in it, and returns the exit status.
-fn lint_named<F: Files, R: Read, W: Write, E: Write>(
+fn lint_named<D: Disk, R: Read, W: Write, E: Write>(
     alloc: Global,
-    files: &F,
+    disk: &D,
     form: Form,
     word: &[u8],
     reads: bool,
@@ -94,17 +94,17 @@ fn lint_named<F: Files, R: Read, W: Write, E: Write>(
 ) -> u8
     ensures { reads ≡ false → input.new ≡ input.old }
 {
-    match read_named(alloc, files, reads, input, word) {
-        Ok(Some(linted)) => lint_source(alloc, files, form, &linted, output, errors),
+    match read_named(alloc, disk, reads, input, word) {
+        Ok(Some(linted)) => lint_source(alloc, disk, form, &linted, output, errors),
         Ok(None) => tell_file(errors, word),
         Err(_) => tell_memory(errors),
     }
 }
 
 /// Lints each source that the words name, and returns the exit status, which is the largest of theirs.
-fn lint_all<F: Files, R: Read, W: Write, E: Write>(
+fn lint_all<D: Disk, R: Read, W: Write, E: Write>(
     alloc: Global,
-    files: &F,
+    disk: &D,
     form: Form,
     words: &[Bytes],
     reads: bool,
@@ -120,14 +120,14 @@ fn lint_all<F: Files, R: Read, W: Write, E: Write>(
         if !is_option(word.as_slice()) {
             is_named = true;
             let name = word.as_slice();
-            let next = lint_named(alloc, files, form, name, reads, input, output, errors);
+            let next = lint_named(alloc, disk, form, name, reads, input, output, errors);
             status = status.max(next);
         }
     }
     if is_named {
         return status;
     }
-    lint_named(alloc, files, form, SOURCE, false, input, output, errors)
+    lint_named(alloc, disk, form, SOURCE, false, input, output, errors)
 }
 
 /// Prints what is wrong with the sources that the words name, and returns the exit status.
@@ -138,9 +138,9 @@ fn lint_all<F: Files, R: Read, W: Write, E: Write>(
 ///
 /// The status is 0 if nothing is found, or warnings alone; 1 if there are errors; and 2 if a source can't be read, if the text can't
 /// be written, or if an option isn't known, and then standard error has a line for it (own).
-pub fn run_lint<F: Files, R: Read, W: Write, E: Write>(
+pub fn run_lint<D: Disk, R: Read, W: Write, E: Write>(
     alloc: Global,
-    files: &F,
+    disk: &D,
     words: &[Bytes],
     is_coloured: bool,
     input: &mut R,
@@ -158,7 +158,7 @@ pub fn run_lint<F: Files, R: Read, W: Write, E: Write>(
         is_coloured,
     };
     let reads = has_input(words);
-    lint_all(alloc, files, form, words, reads, input, output, errors)
+    lint_all(alloc, disk, form, words, reads, input, output, errors)
 }
 
 /// Returns whether the entry is a NO_COLOR that isn't empty.

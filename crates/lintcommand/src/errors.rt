@@ -5,9 +5,9 @@ use crate::sheets::{Sheets, read_sheets};
 use crate::templates::add_missing;
 use crate::warnings::{add_of_calls, add_warnings};
 use acparse::{ParseFault, parse};
+use disk::Disk;
 use findings::{Finding, put_in_order};
 use std::alloc::{AllocError, Global};
-use std::rt::Files;
 use syntax::Source;
 
 /// What is found in a source and its templates, in order of place, and the templates.
@@ -18,9 +18,9 @@ pub(crate) struct Found {
 }
 
 /// Appends an error for each template of a source that is not there.
-fn add_of_source<F: Files>(
+fn add_of_source<D: Disk>(
     alloc: Global,
-    files: &F,
+    disk: &D,
     linted: &Linted,
     source: &Source,
     found: &mut Vec<Finding>,
@@ -28,20 +28,20 @@ fn add_of_source<F: Files>(
     let directory = linted.directory.as_slice();
     let text = linted.text.as_slice();
     let outputs = source.files();
-    add_missing(alloc, files, directory, text, outputs.as_slice(), found)?;
+    add_missing(alloc, disk, directory, text, outputs.as_slice(), found)?;
     let headers = source.headers();
-    add_missing(alloc, files, directory, text, headers.as_slice(), found)
+    add_missing(alloc, disk, directory, text, headers.as_slice(), found)
 }
 
 /// Returns the templates of a source that are there.
-fn sheets_of<F: Files>(
+fn sheets_of<D: Disk>(
     alloc: Global,
-    files: &F,
+    disk: &D,
     directory: &[u8],
     source: &Source,
 ) -> Result<Sheets, AllocError> {
-    let of_files = read_sheets(alloc, files, directory, source.files().as_slice())?;
-    let of_headers = read_sheets(alloc, files, directory, source.headers().as_slice())?;
+    let of_files = read_sheets(alloc, disk, directory, source.files().as_slice())?;
+    let of_headers = read_sheets(alloc, disk, directory, source.headers().as_slice())?;
     Ok(Sheets {
         files: of_files,
         headers: of_headers,
@@ -49,28 +49,28 @@ fn sheets_of<F: Files>(
 }
 
 /// Appends what is found in a source that is read and in its templates, and returns the templates.
-fn add_of_read<F: Files>(
+fn add_of_read<D: Disk>(
     alloc: Global,
-    files: &F,
+    disk: &D,
     linted: &Linted,
     source: &Source,
     found: &mut Vec<Finding>,
 ) -> Result<Sheets, AllocError> {
-    add_of_source(alloc, files, linted, source, found)?;
-    let sheets = sheets_of(alloc, files, linted.directory.as_slice(), source)?;
+    add_of_source(alloc, disk, linted, source, found)?;
+    let sheets = sheets_of(alloc, disk, linted.directory.as_slice(), source)?;
     add_warnings(alloc, linted.text.as_slice(), source, &sheets, found)?;
     Ok(sheets)
 }
 
 /// Appends what is found in the templates and the statements, if the source is read, and returns the templates.
-fn add_further<F: Files>(
+fn add_further<D: Disk>(
     alloc: Global,
-    files: &F,
+    disk: &D,
     linted: &Linted,
     found: &mut Vec<Finding>,
 ) -> Result<Sheets, AllocError> {
     match parse(alloc, linted.text.as_slice()) {
-        Ok(source) => add_of_read(alloc, files, linted, &source, found),
+        Ok(source) => add_of_read(alloc, disk, linted, &source, found),
         Err(ParseFault::OutOfMemory) => Err(AllocError),
         Err(_) => Ok(Sheets::none(alloc)),
     }
@@ -78,14 +78,14 @@ fn add_further<F: Files>(
 
 /// Returns what is found in a source, in order of place: its errors, the templates that are not there, and the warnings. If the source
 /// is refused, the warnings are those about its calls alone.
-pub(crate) fn found_in<F: Files>(
+pub(crate) fn found_in<D: Disk>(
     alloc: Global,
-    files: &F,
+    disk: &D,
     linted: &Linted,
 ) -> Result<Found, AllocError> {
     let mut findings = linting::errors_of(alloc, linted.text.as_slice())?;
     add_of_calls(alloc, linted.text.as_slice(), &mut findings)?;
-    let sheets = add_further(alloc, files, linted, &mut findings)?;
+    let sheets = add_further(alloc, disk, linted, &mut findings)?;
     put_in_order(&mut findings)?;
     Ok(Found { findings, sheets })
 }

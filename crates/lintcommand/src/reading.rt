@@ -4,11 +4,11 @@ ghost use Rattle.std.specs.Prelude.{◌≡◌, false};
 
 use bstr::ByteSlice;
 use deftable::Bytes;
+use disk::Disk;
 use diskfiles::{path_in, read_text};
 use input::{ReadFault, read_input};
 use std::alloc::{AllocError, Global};
 use std::io::Read;
-use std::rt::Files;
 
 /// A source that was read.
 #[derive(Drop)]
@@ -53,40 +53,36 @@ fn read_stream<R: Read>(alloc: Global, input: &mut R) -> Result<Option<Linted>, 
 }
 
 /// Returns the source at a path, or `None` if it can't be read.
-fn read_at<F: Files>(alloc: Global, files: &F, path: &[u8]) -> Result<Option<Linted>, AllocError> {
-    match read_text(alloc, files, path)? {
+fn read_at<D: Disk>(alloc: Global, disk: &D, path: &[u8]) -> Result<Option<Linted>, AllocError> {
+    match read_text(alloc, disk, path)? {
         Some(text) => Ok(Some(source_at(alloc, path, text)?)),
         None => Ok(None),
     }
 }
 
 /// Returns the source in a directory, or `None` if it can't be read.
-fn read_within<F: Files>(
+fn read_within<D: Disk>(
     alloc: Global,
-    files: &F,
+    disk: &D,
     directory: &[u8],
 ) -> Result<Option<Linted>, AllocError> {
     let path = path_in(alloc, directory, SOURCE)?;
-    read_at(alloc, files, path.as_slice())
+    read_at(alloc, disk, path.as_slice())
 }
 
 /// Returns the source at a path, or in the directory at that path, or `None` if it can't be read.
-fn read_path<F: Files>(
-    alloc: Global,
-    files: &F,
-    word: &[u8],
-) -> Result<Option<Linted>, AllocError> {
-    if let Some(found) = read_at(alloc, files, word)? {
+fn read_path<D: Disk>(alloc: Global, disk: &D, word: &[u8]) -> Result<Option<Linted>, AllocError> {
+    if let Some(found) = read_at(alloc, disk, word)? {
         return Ok(Some(found));
     }
-    read_within(alloc, files, word)
+    read_within(alloc, disk, word)
 }
 
 /// Returns the source that a word names, or `None` if it can't be read. The word is the path of a source or of a directory with a
 /// `configure.ac`, or `-` for standard input if that may be read.
-pub(crate) fn read_named<F: Files, R: Read>(
+pub(crate) fn read_named<D: Disk, R: Read>(
     alloc: Global,
-    files: &F,
+    disk: &D,
     reads: bool,
     input: &mut R,
     word: &[u8],
@@ -96,5 +92,5 @@ pub(crate) fn read_named<F: Files, R: Read>(
     if reads && word == b"-".as_slice() {
         return read_stream(alloc, input);
     }
-    read_path(alloc, files, word)
+    read_path(alloc, disk, word)
 }

@@ -1,10 +1,10 @@
 //! The templates of a source, as they are read for warnings.
 
 use deftable::Bytes;
+use disk::Disk;
 use diskfiles::{path_in, read_text};
 use outputlist::Output;
 use std::alloc::{AllocError, Global};
-use std::rt::Files;
 
 /// A file with findings: what it is called, and its text.
 #[derive(Drop)]
@@ -45,9 +45,9 @@ fn has(sheets: &[Sheet], name: &[u8]) -> bool {
 }
 
 /// Reads the template of an output, unless it was read before or is not there.
-fn read_sheet<F: Files>(
+fn read_sheet<D: Disk>(
     alloc: Global,
-    files: &F,
+    disk: &D,
     directory: &[u8],
     output: &Output,
     sheets: &mut Vec<Sheet>,
@@ -56,22 +56,22 @@ fn read_sheet<F: Files>(
     if has(sheets.as_slice(), name.as_slice()) {
         return Ok(());
     }
-    if let Some(text) = read_text(alloc, files, name.as_slice())? {
+    if let Some(text) = read_text(alloc, disk, name.as_slice())? {
         sheets.push(Sheet { name, text })?;
     }
     Ok(())
 }
 
 /// Returns the templates of outputs that are there.
-pub(crate) fn read_sheets<F: Files>(
+pub(crate) fn read_sheets<D: Disk>(
     alloc: Global,
-    files: &F,
+    disk: &D,
     directory: &[u8],
     outputs: &[Output],
 ) -> Result<Vec<Sheet>, AllocError> {
     let mut sheets = Vec::new(alloc);
     for output in outputs {
-        read_sheet(alloc, files, directory, output, &mut sheets)?;
+        read_sheet(alloc, disk, directory, output, &mut sheets)?;
     }
     Ok(sheets)
 }

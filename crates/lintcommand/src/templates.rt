@@ -1,11 +1,11 @@
 //! The templates that are not there.
 
 use deftable::Bytes;
+use disk::Disk;
 use diskfiles::{path_in, read_text};
 use findings::{Finding, Severity, Span};
 use outputlist::Output;
 use std::alloc::{AllocError, Global};
-use std::rt::Files;
 
 /// Returns whether the byte is before or after a name in a list of files.
 fn is_border(byte: u8) -> bool {
@@ -52,16 +52,16 @@ fn missing(alloc: Global, text: &[u8], name: &[u8], path: &[u8]) -> Result<Findi
 }
 
 /// Appends an error if the template of an output can't be read.
-fn add_output<F: Files>(
+fn add_output<D: Disk>(
     alloc: Global,
-    files: &F,
+    disk: &D,
     directory: &[u8],
     text: &[u8],
     output: &Output,
     found: &mut Vec<Finding>,
 ) -> Result<(), AllocError> {
     let path = path_in(alloc, directory, output.template.as_slice())?;
-    if read_text(alloc, files, path.as_slice())?.is_some() {
+    if read_text(alloc, disk, path.as_slice())?.is_some() {
         return Ok(());
     }
     let finding = missing(alloc, text, output.name.as_slice(), path.as_slice())?;
@@ -70,16 +70,16 @@ fn add_output<F: Files>(
 }
 
 /// Appends an error for each output whose template can't be read.
-pub(crate) fn add_missing<F: Files>(
+pub(crate) fn add_missing<D: Disk>(
     alloc: Global,
-    files: &F,
+    disk: &D,
     directory: &[u8],
     text: &[u8],
     outputs: &[Output],
     found: &mut Vec<Finding>,
 ) -> Result<(), AllocError> {
     for output in outputs {
-        add_output(alloc, files, directory, text, output, found)?;
+        add_output(alloc, disk, directory, text, output, found)?;
     }
     Ok(())
 }

@@ -7,7 +7,9 @@ use crate::given::{add_words, env_of, replies_of};
 use causes::Causes;
 use crew::{Crew, MemoryCrew, Order, ProcessCrew};
 use deftable::Bytes;
-use runner::{asks_why, run};
+use disk::Host;
+use diskfiles::FileOutputs;
+use runner::{asks_why, command, run};
 use std::fs::File;
 use std::io::Write;
 use testrows::Page;
@@ -57,6 +59,7 @@ fn status_over<C: Crew + Causes, W: Write>(
     run(
         rt.alloc(),
         rt,
+        &mut FileOutputs::new(rt.alloc(), Host::new(rt)),
         words,
         env,
         crew,
@@ -66,6 +69,23 @@ fn status_over<C: Crew + Causes, W: Write>(
         output,
         errors,
     )
+}
+
+/// Returns the exit status of the whole program over a crew, on the streams of the process.
+fn command_over<C: Crew + Causes>(
+    rt: &HostRuntime,
+    words: &[Bytes],
+    env: &[(Bytes, Bytes)],
+    crew: &mut C,
+) -> u8
+    requires idle { IsIdle (C.account crew.old).events }
+    requires attempts { (C.account crew.old).attempts + 2 ^ 36 ≤ 2 ^ 62 }
+    requires failures { (C.account crew.old).failures + 256 ≤ 2 ^ 62 }
+{
+    match rt.clone() {
+        Ok(own) => command(own, rt.alloc(), words, env, crew),
+        Err(_) => 2,
+    }
 }
 
 /// Returns the order in which children end.
@@ -93,6 +113,18 @@ fn status_in_memory<W: Write>(
             page.cut();
             2
         }
+    }
+}
+
+/// Puts the status of the whole program with these words, over a crew in memory, with commas
+/// between them. What it prints goes to the streams of the test.
+pub fn put_command(page: &mut Page, rt: &HostRuntime, given: &Given<'_>, text: &[u8]) {
+    let words = words_of(page, given, text);
+    let env = env_of(page, given.env);
+    let replies = replies_of(page, given.replies);
+    match &mut MemoryCrew::new(page.alloc(), replies, order_of(given)) {
+        Ok(crew) => page.put_shown(&command_over(rt, words.as_slice(), env.as_slice(), crew)),
+        Err(_) => page.cut(),
     }
 }
 

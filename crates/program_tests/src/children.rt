@@ -40,6 +40,9 @@ acrun: no compiler job of this run succeeded: see config.log^J]; \
 3 [checking for e... no^Jchecking for g... refused^J] err[configure: cut short at child 2^Jacrun: child 2: ./cc: No such file or directory^J\
 acrun: no compiler job of this run succeeded: see config.log^J]; \
 3 [checking for e... refused^J] err[configure: cut short at child 1^J]
+// A child has no standard input: it is /dev/null.
+children |source AC_CHECK_FUNCS([e])|write cc.sh readlink /proc/self/fd/0 > input|env CC=sh cc.sh|run configure|read input => \
+0 [checking for e... yes^J]; input[/dev/null^J]
 // A signal that ends a child is an answer. Conftests that can't be written are none.
 children |source AC_CHECK_FUNCS([e])|write cc.sh kill -9 $$^J|env CC=sh cc.sh|run configure|directory d|in d|directory conftest1.c\
 |run configure,--srcdir=..|in .. => \

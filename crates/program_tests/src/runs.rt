@@ -58,6 +58,11 @@ source AC_CHECK_FUNCS([e])^JAC_CONFIG_FILES([f a/b/g:t])|write f.in <@srcdir@>|w
 |replies 0|run configure,-C,--srcdir=..|read f|read a/b/g|list|in ..|list|in build|remove f|run status|read f|in .. => \
 0 [checking for e... yes^Jconfig.status: creating f^Jconfig.status: creating a/b/g^J]; f[<..>]; a/b/g[<../../../a/b ../../.. ../..>]; \
 here a config.cache config.log config.status f; here build configure.ac f.in t; 0 [config.status: creating f^Jconfig.status: creating a/b/g^J]; f[<..>]
+// The same as `main` runs it, quietly, with its environment: a run, outputs made again, and words that
+// are no command
+source AC_ARG_VAR([A],[a])^JAC_CHECK_FUNCS([e])^JAC_CONFIG_FILES([f])|write f.in <@A@>|env CC=cc,A=b|replies 0|program configure,-q\
+|read f|write f.in <@A@@A@>|program status,g|read f|program status,f|read f|program nonsense|list => \
+0; f[<b>]; 2; f[<b>]; 0; f[<bb>]; 2; here config.log config.status configure.ac f f.in
 // The argument srcdir counts from the left.
 directory s|write s/configure.ac AC_INIT([s],[1])^JAC_CONFIG_FILES([f])^JAC_OUTPUT^J|write s/f.in @PACKAGE_NAME@\
 |run configure,--srcdir=t,--srcdir,s/|read f => \

@@ -7,9 +7,10 @@
 //!   makes a file of 64 MiB and one byte, and `in` goes to a directory. They put `!` if they fail, and nothing otherwise.
 //! - `env` and `replies` say what the commands after them are given, `children` that their children are real, and `full` that nothing
 //!   can be written to their standard output.
-//! - `run` puts the status and the streams of a command, `read` the name and the text of a file, and `list` the names in the directory.
+//! - `run` puts the status and the streams of a command, `program` the status alone of a command that is run as `main` runs it, `read` the
+//!   name and the text of a file, and `list` the names in the directory.
 
-use crate::calls::{Given, NOTHING, put_run};
+use crate::calls::{Given, NOTHING, put_command, put_run};
 use std::fs::{DirEntry, File};
 use std::os::unix::fs::symlink;
 use std::{env, fs, io, str};
@@ -67,6 +68,7 @@ fn put_change(page: &mut Page, rt: &HostRuntime, change: Change, words: &[u8]) {
 #[derive(Clone, Copy)]
 enum Answer {
     Run,
+    Program,
     Read,
     List,
 }
@@ -121,6 +123,7 @@ fn put_answer(page: &mut Page, scene: &Scene<'_>, answer: Answer, words: &[u8]) 
     page.put(if page.text().is_empty() { b"" } else { b"; " });
     match answer {
         Answer::Run => put_run(page, scene.rt, &scene.given, words),
+        Answer::Program => put_command(page, scene.rt, &scene.given, words),
         Answer::Read => put_file(page, scene.rt, words),
         Answer::List => put_names(page, scene.rt),
     }
@@ -148,11 +151,11 @@ enum Verb {
 
 /// The verbs.
 #[rattlefmt::skip]
-const VERBS: [(&[u8], Verb); 14] = [
+const VERBS: [(&[u8], Verb); 15] = [
     (b"sized", Verb::Change(Change::Sized)),
     (b"source", Verb::Change(Change::Source)), (b"write", Verb::Change(Change::Write)), (b"link", Verb::Change(Change::Link)),
     (b"directory", Verb::Change(Change::Directory)), (b"remove", Verb::Change(Change::Remove)), (b"in", Verb::Change(Change::In)),
-    (b"run", Verb::Answer(Answer::Run)), (b"read", Verb::Answer(Answer::Read)), (b"list", Verb::Answer(Answer::List)),
+    (b"run", Verb::Answer(Answer::Run)), (b"program", Verb::Answer(Answer::Program)), (b"read", Verb::Answer(Answer::Read)), (b"list", Verb::Answer(Answer::List)),
     (b"env", Verb::Env), (b"replies", Verb::Replies), (b"children", Verb::Children), (b"full", Verb::Full),
 ];
 

@@ -12,6 +12,8 @@ use causes::Causes;
 use conftest::Job;
 use crew::{Crew, ProcessCrew};
 use deftable::Bytes;
+use disk::Host;
+use diskfiles::FileOutputs;
 use runner::{environment, filter, run, words};
 use standin::standin;
 use std::env::{Env, FillError};
@@ -155,6 +157,7 @@ pub fn status_over<C: Crew + Causes, R: Read, W: Write, E: Write>(
     run(
         rt.alloc(),
         rt,
+        &mut FileOutputs::new(rt.alloc(), Host::new(rt)),
         words,
         &[],
         crew,

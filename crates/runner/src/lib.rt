@@ -7,7 +7,7 @@
 //! "own" marks a rule that no manual gives.
 //!
 //! The definitions are those of the crates below: `Calls` in `invocation`, `Configures` in `configuring`, `MadeAgain` in `commands`,
-//! and `Filtered` in `filtering`. In `src`, read `program`; `telling` is small.
+//! and `Filtered` in `filtering`. `specs/Puts` is small. In `src`, read `program`; `telling` is small.
 #![tactic(auto)]
 
 mod program;

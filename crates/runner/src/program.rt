@@ -1,12 +1,14 @@
 //! The program's commands, over its streams, its files and a crew.
 
-ghost use Rattle.std.specs.Prelude.{◌≡◌, ◌≢◌, ◌⊎◌, ◌+◌, ◌^◌, ◌≤◌, ℕ, List, [], IfSome};
+ghost use Rattle.std.specs.Prelude.{◌≡◌, ◌≢◌, ◌⊎◌, ◌+◌, ◌^◌, ◌≤◌, ℕ, List, [], None, IfSome};
 ghost use Rattle.std.specs.Io.KnownBytes.{Appends};
 ghost use Rattle.commands.specs.MadeAgain.{IsMadeAgain};
 ghost use Rattle.configuring.specs.Configures.{IsConfigured, IsRechecked};
 ghost use Rattle.crew_trait.specs.Events.{IsIdle};
+ghost use Rattle.diskfiles.specs.Held.{fresh};
 ghost use Rattle.filtering.specs.Filtered.{IsFiltered};
 ghost use Rattle.invocation.specs.Calls.{call_of, Unknown, IfFilter, IfStandIn, IfConfigure, IfStatus, IfRecheck, IfWhy, IfHelp, HasNoRun, HasNoInput, HasNoOutput};
+ghost use Rattle.runner.specs.Puts.{HasNoPuts};
 ghost use Rattle.standin.specs.Standin.{IsAnswered};
 
 use crate::telling::tell;
@@ -15,6 +17,8 @@ use commands::{run_standin, run_status};
 use configuring::{run_configure, run_recheck};
 use crew_trait::Crew;
 use deftable::Bytes;
+use disk::{Disk, Host};
+use diskfiles::FileOutputs;
 use explaining::asks_why;
 use faultlines::explain_usage;
 use filtering::{FilterFault, Filtered, filter};
@@ -111,9 +115,10 @@ fn tell_unknown<E: Write>(alloc: Global, is_asked: bool, words: &[Bytes], errors
 ///
 /// Each error is reported as one line on standard error. If that can't be written, only the status reports it. If `why` is set, further lines
 /// may follow such a line, which say why; otherwise none do.
-pub fn run<F: Files, C: Crew + Causes, R: Read, W: Write, E: Write>(
+pub fn run<F: Files, D: Disk, C: Crew + Causes, R: Read, W: Write, E: Write>(
     alloc: Global,
     files: &F,
+    outputs: &mut FileOutputs<D>,
     words: &[Bytes],
     env: &[(Bytes, Bytes)],
     crew: &mut C,
@@ -126,29 +131,43 @@ pub fn run<F: Files, C: Crew + Causes, R: Read, W: Write, E: Write>(
     requires idle { IsIdle (C.account crew.old).events }
     requires attempts { (C.account crew.old).attempts + 2 ^ 36 ≤ 2 ^ 62 }
     requires failures { (C.account crew.old).failures + 256 ≤ 2 ^ 62 }
+    requires fresh { outputs.old ≡ fresh outputs.old.disk }
     // Without words: unless the status is 2, what is written and the status are those of the source's meaning.
     ensures filter { IfFilter (call_of words.now) ((result ≡ 2) ⊎ IfSome (R.remaining input.old)
         (λ text. (out : List ℕ) × (said : List ℕ) × IsFiltered text out said result × Appends (W.contents output.old) (W.contents output.new) out × (said ≡ [] → errors.new ≡ errors.old))) }
     // The stand-in's status is its answer, unless memory runs out. If it accepts the conftest, it writes nothing.
     ensures standin { IfStandIn (call_of words.now) (λ others. (result ≡ 2) ⊎ IsAnswered others result) }
     ensures silent { IfStandIn (call_of words.now) (λ others. result ≡ 0 → errors.new ≡ errors.old) }
-    // Unless the status is 2, the crew made the run of some source, cache and templates with these arguments and this environment;
-    // the status is that of its outcome, and its messages and the lines on its outputs are printed.
-    ensures configure { IfConfigure (call_of words.now) (λ window args. result ≢ 2 → (out : List ℕ) × IsConfigured window args env.now (C.account crew.old) (C.account crew.new) out result
+    // Unless the status is 2, the crew made the run of the source that the arguments name, with
+    // these arguments, this environment, its cache and its templates; the status is that of its
+    // outcome, its messages and the lines on its outputs are printed, and what it hands over and
+    // its log are written, and nothing else.
+    ensures configure { IfConfigure (call_of words.now) (λ window args. result ≢ 2 → (out : List ℕ)
+        × IsConfigured window args env.now (C.account crew.old) (C.account crew.new)
+        (D.known outputs.old.disk) (D.known outputs.new.disk) out result
         × Appends (W.contents output.old) (W.contents output.new) out) }
-    // Unless the status is 2, it is 0, and the outputs of some record with these names are made.
-    ensures status { IfStatus (call_of words.now) (λ tags. result ≢ 2 → (result ≡ 0) × (out : List ℕ) × IsMadeAgain tags out × Appends (W.contents output.old) (W.contents output.new) out) }
-    // Unless the status is 2, the same holds of the run with the arguments of some record, and then `--no-create`.
-    ensures recheck { IfRecheck (call_of words.now) (result ≢ 2 → (out : List ℕ) × IsRechecked env.now (C.account crew.old) (C.account crew.new) out result
+    // Unless the status is 2, it is 0, and the outputs of the record with these names are made, and
+    // nothing else.
+    ensures status { IfStatus (call_of words.now) (λ tags. result ≢ 2 → (result ≡ 0) × (out : List ℕ)
+        × IsMadeAgain (D.known outputs.old.disk) (D.known outputs.new.disk) tags out
+        × Appends (W.contents output.old) (W.contents output.new) out) }
+    // Unless the status is 2, the same holds of the run with the arguments of the record, and then
+    // `--no-create`.
+    ensures recheck { IfRecheck (call_of words.now) (result ≢ 2 → (out : List ℕ)
+        × IsRechecked env.now (C.account crew.old) (C.account crew.new)
+        (D.known outputs.old.disk) (D.known outputs.new.disk) out result
         × Appends (W.contents output.old) (W.contents output.new) out) }
     // What explains something has no other status than these. Unless it is 2, `why` writes nothing on standard error.
     ensures explained { IfWhy (call_of words.now) (λ asked. (result ≤ 2) × (result ≢ 2 → errors.new ≡ errors.old)) }
     ensures help { IfHelp (call_of words.now) (λ asked. (result ≡ 0) ⊎ (result ≡ 2)) }
     ensures unknown { call_of words.now ≡ Unknown → result ≡ 2 }
-    // Only a run starts children, only the filter and `lint` read the input, and the stand-in writes no output.
+    // Only a run starts children, only the filter and `lint` read the input, and the stand-in
+    // writes no output. Only a run, and outputs that are made again, change files through
+    // `outputs`.
     ensures crew { HasNoRun (call_of words.now) → crew.new ≡ crew.old }
     ensures input { HasNoInput (call_of words.now) → input.new ≡ input.old }
     ensures output { HasNoOutput (call_of words.now) → output.new ≡ output.old }
+    ensures files { HasNoPuts (call_of words.now) → outputs.new ≡ outputs.old }
     // No child is left in flight.
     ensures idle { IsIdle (C.account crew.new).events }
 {
@@ -156,17 +175,17 @@ pub fn run<F: Files, C: Crew + Causes, R: Read, W: Write, E: Write>(
         Call::Filter => run_filter(alloc, why, input, output, errors),
         Call::StandIn(words) => run_standin(alloc, files, words, errors),
         Call::Configure(window, args) => {
-            run_configure(alloc, files, why, window, args, env, crew, output, errors)
+            run_configure(alloc, outputs, why, window, args, env, crew, output, errors)
         }
-        Call::Status(tags) => run_status(alloc, files, why, tags, output, errors),
-        Call::Recheck => run_recheck(alloc, files, why, env, crew, output, errors),
+        Call::Status(tags) => run_status(alloc, outputs, why, tags, output, errors),
+        Call::Recheck => run_recheck(alloc, outputs, why, env, crew, output, errors),
         Call::Help(words) => run_help(words, output, errors),
         Call::Version => run_version(output, errors),
         Call::Why(words) => run_why(alloc, files, words, output, errors),
         Call::Lint(words) => {
             run_lint(
                 alloc,
-                files,
+                outputs.disk(),
                 words,
                 may_colour(env, is_terminal),
                 input,
@@ -202,6 +221,17 @@ pub fn command<C: Crew + Causes>(
     requires idle { IsIdle (C.account crew.old).events }
     requires attempts { (C.account crew.old).attempts + 2 ^ 36 ≤ 2 ^ 62 }
     requires failures { (C.account crew.old).failures + 256 ≤ 2 ^ 62 }
+    // What [`run`] says, but for what only known streams and files can show.
+    ensures standin { IfStandIn (call_of words.now) (λ others. (result ≡ 2) ⊎ IsAnswered others result) }
+    ensures configure { IfConfigure (call_of words.now) (λ window args. result ≢ 2 → (out : List ℕ)
+        × IsConfigured window args env.now (C.account crew.old) (C.account crew.new) None None out result) }
+    ensures status { IfStatus (call_of words.now) (λ tags. result ≢ 2 → (result ≡ 0) × (out : List ℕ) × IsMadeAgain None None tags out) }
+    ensures recheck { IfRecheck (call_of words.now) (result ≢ 2 → (out : List ℕ)
+        × IsRechecked env.now (C.account crew.old) (C.account crew.new) None None out result) }
+    ensures explained { IfWhy (call_of words.now) (λ asked. result ≤ 2) }
+    ensures help { IfHelp (call_of words.now) (λ asked. (result ≡ 0) ⊎ (result ≡ 2)) }
+    ensures unknown { call_of words.now ≡ Unknown → result ≡ 2 }
+    ensures crew { HasNoRun (call_of words.now) → crew.new ≡ crew.old }
     ensures idle { IsIdle (C.account crew.new).events }
 {
     let is_seen = rt.stderr().is_terminal();
@@ -210,6 +240,7 @@ pub fn command<C: Crew + Causes>(
     run(
         alloc,
         &rt,
+        &mut FileOutputs::new(alloc, Host::new(&rt)),
         words,
         env,
         crew,

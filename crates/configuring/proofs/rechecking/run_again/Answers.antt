@@ -9,6 +9,7 @@ returns-in-Ok-clause-run g c = λ other.
       record {
         text = c.args.text.now;
         arguments = c.as_slice-args.result.now;
+        found = c.requires.found;
         rechecked = subst (λ a. IsRechecked c.args.text.now a) (sym c.as_slice-args.ensures) c.in-Ok.ensures.sound;
         configured = told.1;
       },

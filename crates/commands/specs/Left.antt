@@ -1,0 +1,26 @@
+-- What a run leaves in files.
+use Rattle.std.specs.Prelude.{◌≡◌, ℕ, List, ◌++◌, Option, codes}
+use Rattle.cfglog.specs.Texts.{log_of}
+use Rattle.disk.specs.Known.{Known, Deed}
+use Rattle.diskfiles.specs.Done.{AreDone}
+use Rattle.diskfiles.specs.Held.{Held}
+use Rattle.diskfiles.specs.Steps.{IsReplaced}
+use Rattle.framing.specs.declared.report.Outcome.TheVariants.{Shown}
+use Rattle.framing.specs.declared.report.Report.{Report}
+use Rattle.invocation.specs.Logged.{IsHeld, HasLogged}
+use Rattle.outputs.specs.declared.thing.Thing.{Thing}
+
+-- All that was done to files is what was done for these things, none of which was refused, with
+-- these lines; and then the log was written, with this text. (own)
+pub record IsLeft (k : Known) (things : List Thing) (lines log : List ℕ) : Type 0 where
+  pub before : List Deed
+  pub logged : List Deed
+  pub deeds : k.deeds ≡ before ++ logged
+  pub done : AreDone k.texts k.kinds things 0 lines before
+  pub written : IsReplaced (record { deeds = before; texts = k.texts; kinds = k.kinds }) (codes "config.log") log logged
+
+-- After a run with this report the log was written, unless a text was shown. (own)
+pub record Logs {D : Type 0} (known : D → Option Known) (old new : Held D) (report : Report) : Type 0 where
+  pub held : IsHeld known old
+  pub nothing : report.outcome ≡ Shown → new ≡ old
+  pub log : (report.outcome ≡ Shown → ⊥) → HasLogged known old new (log_of report.log)
