@@ -37,6 +37,7 @@ demo: all
 	@sh examples/guide/run.sh out/acrun
 	@sh examples/help/run.sh out/acrun
 	@sh examples/lint/run.sh out/acrun
+	@sh examples/port/run.sh out/acrun
 	@sh examples/completions/run.sh out/acrun
 	@sh examples/wrapper/run.sh
 

@@ -76,7 +76,7 @@ row() {
     done
 }
 
-row configure status lint why help -j4 -- acrun ''
+row configure status lint port why help -j4 -- acrun ''
 row status standin -- acrun st
 row configure -- acrun -j4 ''
 row --bindir= -- acrun -j2 configure --bi
@@ -88,6 +88,7 @@ row Makefile config.h -- acrun status ''
 row --recheck -- acrun status --re
 row --json -- acrun lint --
 row configure.ac -- acrun lint conf
+row configure.ac -- acrun port conf
 row sys/stat.h -- acrun why sys
 row why -- acrun help w
 

@@ -24,6 +24,7 @@ for words in help --help -h --version -V; do expect 0 "acrun $version" "$words";
 expect 0 'Usage: acrun [-jN] configure [ARG]..' help configure
 expect 0 'Usage: acrun status [NAME]..' help status
 expect 0 'Usage: acrun lint [--json] [FILE]..' help lint
+expect 0 'Usage: acrun port [FILE]' help port
 expect 0 'Usage: acrun why WORD [LOG]' help why
 expect 0 'Usage: acrun standin [WORD]..' help standin
 expect 0 'Usage: acrun help [COMMAND]' help help
@@ -31,7 +32,7 @@ for words in 'help nothing' 'help status lint' '--help status' '--version status
     # Each word by itself.
     expect 2 'acrun: usage' $words
 done
-for command in configure status lint why standin help; do
+for command in configure status lint port why standin help; do
     "$acrun" help | grep -q "^  acrun .*$command" || { wrong=1; echo "help does not list $command"; }
     grep -q "$command" "$root/share/acrun.1" || { wrong=1; echo "the manual page does not name $command"; }
 done

@@ -14,7 +14,7 @@ _acrun() {
     COMPREPLY=()
     if [[ ${COMP_WORDS[1]} == -j* ]]; then at=2; fi
     if ((COMP_CWORD == at)); then
-        words='configure status lint why standin help --help --version'
+        words='configure status lint port why standin help --help --version'
         if ((at == 1)); then words+=' -j1 -j2 -j4 -j8 -j16'; else words=configure; fi
         mapfile -t COMPREPLY < <(compgen -W "$words" -- "$word")
         return
@@ -42,6 +42,10 @@ _acrun() {
         mapfile -t COMPREPLY < <(compgen -W --json -- "$word"; compgen -f -- "$word")
         compopt -o filenames
         ;;
+    port)
+        mapfile -t COMPREPLY < <(compgen -f -- "$word")
+        compopt -o filenames
+        ;;
     why)
         if ((COMP_CWORD == at + 1)); then
             [[ ! -f config.log ]] || mapfile -t COMPREPLY < <(compgen -W "$(sed -n 's/.*checking for \([^ ]*\)\.\.\..*/\1/p' config.log)" -- "$word")
@@ -50,7 +54,7 @@ _acrun() {
             compopt -o filenames
         fi
         ;;
-    help) mapfile -t COMPREPLY < <(compgen -W 'configure status lint why standin help' -- "$word") ;;
+    help) mapfile -t COMPREPLY < <(compgen -W 'configure status lint port why standin help' -- "$word") ;;
     esac
 }
 

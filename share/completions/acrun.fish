@@ -36,6 +36,7 @@ end
 complete -c acrun -n '__acrun_begins; or __acrun_has_window' -a configure -d 'Run a configure.ac'
 complete -c acrun -n __acrun_begins -a status -d 'Make the outputs again'
 complete -c acrun -n __acrun_begins -a lint -d 'Say what is wrong with a configure.ac'
+complete -c acrun -n __acrun_begins -a port -d 'Print a configure.ac with other macros rewritten'
 complete -c acrun -n __acrun_begins -a why -d 'Say why a check has its answer'
 complete -c acrun -n __acrun_begins -a standin -d "Answer in a compiler's place"
 complete -c acrun -n __acrun_begins -a help -d 'Print the commands'
@@ -55,5 +56,6 @@ complete -c acrun -n '__acrun_uses status' -l recheck -d 'Run configure.ac again
 complete -c acrun -n '__acrun_uses status' -a "(test -f config.status; and sed -n 's/^\(file\|header\) \([^ ]*\).*/\2/p' config.status)"
 complete -c acrun -n '__acrun_uses lint' -l json -d 'Print one object a line'
 complete -c acrun -n '__acrun_uses lint' -F
+complete -c acrun -n '__acrun_uses port' -F
 complete -c acrun -n '__acrun_uses why' -F -a "(test -f config.log; and sed -n 's/.*checking for \([^ ]*\)\.\.\..*/\1/p' config.log)"
-complete -c acrun -n '__acrun_uses help' -a 'configure status lint why standin help'
+complete -c acrun -n '__acrun_uses help' -a 'configure status lint port why standin help'

@@ -12,6 +12,7 @@ Usage:
   acrun status [NAME]..           make the outputs of the last run again: all, or those named
   acrun status --recheck          run configure.ac again with the arguments of the last run
   acrun lint [--json] [FILE]..    say what is wrong with a configure.ac and its templates
+  acrun port [FILE]               print a configure.ac with other macros rewritten
   acrun why WORD [LOG]            say why a check in config.log has its answer
   acrun standin [WORD]..          answer in a compiler's place, for trials
   acrun                           fill one template: configure.ac, a line %%, a template on standard input
@@ -59,6 +60,16 @@ writes nothing, and prints all errors and warnings that it finds, each with its 
 Exit status: 0 no error; 1 errors; 2 a file can't be read, or the words are wrong.
 ";
 
+const PORT: &str = "\
+Usage: acrun port [FILE]
+
+Reads FILE, a configure.ac or a directory of one (by default ./configure.ac; - is standard input), and prints it with each call of a
+macro that acrun does not read replaced, if another text does the same exactly. All else is copied. What has to be done by hand has a
+line `dnl acrun: ..` above it, with what `acrun lint` says there. FILE itself is not written.
+
+Exit status: 0 nothing is left to do; 1 there are such lines; 2 a file can't be read, its quotes have an error, or the words are wrong.
+";
+
 const WHY: &str = "\
 Usage: acrun why WORD [LOG]
 
@@ -85,8 +96,9 @@ Prints the commands, or how COMMAND is called.
 
 /// The commands, each with its text.
 #[rattlefmt::skip]
-const COMMANDS: [(&[u8], &str); 6] = [
-    (b"configure", CONFIGURE), (b"status", STATUS), (b"lint", LINT), (b"why", WHY), (b"standin", STANDIN), (b"help", HELP),
+const COMMANDS: [(&[u8], &str); 7] = [
+    (b"configure", CONFIGURE), (b"status", STATUS), (b"lint", LINT), (b"port", PORT), (b"why", WHY), (b"standin", STANDIN),
+    (b"help", HELP),
 ];
 
 /// Returns what is printed of the program as a whole.

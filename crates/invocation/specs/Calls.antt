@@ -4,8 +4,8 @@ use Rattle.std.specs.List.{list_any}
 
 -- What the program is asked to do: to filter its input; to answer in a compiler's place; to run a configure.ac with at most
 -- `window` children at once; to make the outputs of a record again; to run the configure.ac again with the arguments of a record;
--- to say what is wrong with sources; to say why a check has its answer; to explain itself or one of its commands; to name its version;
--- or it doesn't know. (own)
+-- to say what is wrong with sources; to rewrite a source; to say why a check has its answer; to explain itself or one of its commands;
+-- to name its version; or it doesn't know. (own)
 pub data Call : Type 0 where
   Filter : Call
   StandIn : (words : List (List ℕ)) → Call
@@ -13,6 +13,7 @@ pub data Call : Type 0 where
   Status : (tags : List (List ℕ)) → Call
   Recheck : Call
   Lint : (words : List (List ℕ)) → Call
+  Port : (words : List (List ℕ)) → Call
   Why : (words : List (List ℕ)) → Call
   Help : (words : List (List ℕ)) → Call
   Version : Call
@@ -70,6 +71,7 @@ option_call word words =
 abbrev pub asking_call : List ℕ → List (List ℕ) → Call
 asking_call word words =
     if bytes_eq word (codes "lint") then Lint words
+    else if bytes_eq word (codes "port") then Port words
     else if bytes_eq word (codes "why") then Why words
     else if bytes_eq word (codes "help") then Help words
     else option_call word words
@@ -137,10 +139,12 @@ IfHelp call goes_on = Unit {0}
 abbrev pub is_input : List ℕ → Bool
 is_input word = bytes_eq word (codes "-")
 
--- The program is asked for nothing that reads standard input: only the filter does, and `lint` if `-` is one of its words. (own)
+-- The program is asked for nothing that reads standard input: only the filter does, and `lint` and `port` if `-` is one of their
+-- words. (own)
 abbrev pub HasNoInput : Call → Type 0
 HasNoInput Filter = ⊥
 HasNoInput (Lint words) = list_any is_input words ≡ false
+HasNoInput (Port words) = list_any is_input words ≡ false
 HasNoInput call = Unit {0}
 
 -- The program is asked for nothing that writes to standard output. (own)

@@ -1,5 +1,5 @@
 -- What the program is asked to do, as the code has it, which borrows the words.
-use Rattle.invocation.specs.Calls.{Call, Filter, StandIn, Configure, Status, Recheck, Lint, Why, Help, Version, Unknown}
+use Rattle.invocation.specs.Calls.{Call, Filter, StandIn, Configure, Status, Recheck, Lint, Port, Why, Help, Version, Unknown}
 use Rattle.invocation.specs.declared.call.Call as lent
 use Rattle.invocation.specs.declared.call.Call.TheVariants as lends
 
@@ -11,6 +11,7 @@ call_seen (lends.Configure window arguments) = Configure window arguments.now
 call_seen (lends.Status tags) = Status tags.now
 call_seen lends.Recheck = Recheck
 call_seen (lends.Lint words) = Lint words.now
+call_seen (lends.Port words) = Port words.now
 call_seen (lends.Why words) = Why words.now
 call_seen (lends.Help words) = Help words.now
 call_seen lends.Version = Version

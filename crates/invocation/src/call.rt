@@ -21,6 +21,8 @@ pub enum Call<'a> {
     Recheck,
     /// To say what is wrong with the sources that these words name.
     Lint(&'a [Bytes]),
+    /// To rewrite the source that these words name.
+    Port(&'a [Bytes]),
     /// To say why a check has its answer.
     Why(&'a [Bytes]),
     /// To explain itself, or the command that these words name.
@@ -159,6 +161,9 @@ fn asking_call<'a>(word: &[u8], words: &'a [Bytes]) -> Call<'a>
 {
     if is(word, b"lint") {
         return Call::Lint(words);
+    }
+    if is(word, b"port") {
+        return Call::Port(words);
     }
     if is(word, b"why") {
         return Call::Why(words);

@@ -22,3 +22,4 @@ mod templates;
 mod warnings;
 
 pub use command::{may_colour, run_lint};
+pub use reading::{Linted, read_named};

@@ -12,12 +12,12 @@ use std::io::Read;
 
 /// A source that was read.
 #[derive(Drop)]
-pub(crate) struct Linted {
+pub struct Linted {
     /// What it is called in what is printed.
-    pub(crate) name: Bytes,
+    pub name: Bytes,
     /// The directory of its templates.
-    pub(crate) directory: Bytes,
-    pub(crate) text: Bytes,
+    pub directory: Bytes,
+    pub text: Bytes,
 }
 
 /// The name of a source in a directory.
@@ -80,7 +80,7 @@ fn read_path<D: Disk>(alloc: Global, disk: &D, word: &[u8]) -> Result<Option<Lin
 
 /// Returns the source that a word names, or `None` if it can't be read. The word is the path of a source or of a directory with a
 /// `configure.ac`, or `-` for standard input if that may be read.
-pub(crate) fn read_named<D: Disk, R: Read>(
+pub fn read_named<D: Disk, R: Read>(
     alloc: Global,
     disk: &D,
     reads: bool,

@@ -25,6 +25,7 @@ use filtering::{FilterFault, Filtered, filter};
 use helptext::{run_help, run_version};
 use invocation::{Call, FAULT, call_of, tell_usage};
 use lintcommand::{may_colour, run_lint};
+use portcommand::run_port;
 use shown::Shown;
 use std::alloc::Global;
 use std::io::{self, Input, IsTerminal, Read, Write};
@@ -109,8 +110,8 @@ fn tell_unknown<E: Write>(alloc: Global, is_asked: bool, words: &[Bytes], errors
 /// Without words, it filters its input, and the status is that of the source's run. After `standin` they are the command line
 /// of a compiler, which the stand-in answers. After `configure` they are the arguments of a run, which has at most one child at
 /// once, or N after `-jN`. After `status` they are the names of outputs of the run's record, which are made again; but `status
-/// --recheck` is the run again, with the arguments of its record. `lint` says what is wrong with sources, `why` why a check has its
-/// answer, and `help` how commands are called. There is no other command. If anything is wrong, also with the words, the status is 2
+/// --recheck` is the run again, with the arguments of its record. `lint` says what is wrong with sources, `port` rewrites one, `why`
+/// says why a check has its answer, and `help` how commands are called. There is no other command. If anything is wrong, also with the words, the status is 2
 /// (own). `is_terminal` is whether standard output is a terminal, for colours.
 ///
 /// Each error is reported as one line on standard error. If that can't be written, only the status reports it. If `why` is set, further lines
@@ -161,7 +162,7 @@ pub fn run<F: Files, D: Disk, C: Crew + Causes, R: Read, W: Write, E: Write>(
     ensures explained { IfWhy (call_of words.now) (λ asked. (result ≤ 2) × (result ≢ 2 → errors.new ≡ errors.old)) }
     ensures help { IfHelp (call_of words.now) (λ asked. (result ≡ 0) ⊎ (result ≡ 2)) }
     ensures unknown { call_of words.now ≡ Unknown → result ≡ 2 }
-    // Only a run starts children, only the filter and `lint` read the input, and the stand-in
+    // Only a run starts children, only the filter, `lint` and `port` read the input, and the stand-in
     // writes no output. Only a run, and outputs that are made again, change files through
     // `outputs`.
     ensures crew { HasNoRun (call_of words.now) → crew.new ≡ crew.old }
@@ -182,6 +183,7 @@ pub fn run<F: Files, D: Disk, C: Crew + Causes, R: Read, W: Write, E: Write>(
         Call::Help(words) => run_help(words, output, errors),
         Call::Version => run_version(output, errors),
         Call::Why(words) => run_why(alloc, files, words, output, errors),
+        Call::Port(words) => run_port(alloc, outputs.disk(), words, input, output, errors),
         Call::Lint(words) => {
             run_lint(
                 alloc,

@@ -1,4 +1,4 @@
-use Rattle.std.proofs.Common.{◌≡◌, arith, subst, sym, true}
+use Rattle.std.proofs.Common.{arith, subst, sym}
 use Rattle.porting.specs.Ported as specs
 use Rattle.porting.proofs.Steps.{on_ok, comment_copied, words_put}
 use Rattle.porting.proofs.comments.put_comment.Goals as goal

@@ -1,0 +1,111 @@
+#!/usr/bin/env python3
+"""Runs `acrun port` on sources, and reports each whose output is not as it should be.
+  try_port.py PROGRAM [-v] FILE..     PROGRAM is a built acrun, and FILE a configure.ac; -v prints a line for each source
+Of each output:
+- if the exit status is 0, `acrun lint` finds no error in it; if it is 1, a line of it begins with `dnl acrun: `;
+- each error of `acrun lint` has its message in such a line above it;
+- `acrun port` of it is itself;
+- if Autoconf is there and reads the source in its directory, it reads the output there, and traces the same definitions and output
+  variables in both, but for those of systems that are long gone, and those that it makes without a trace.
+If the quotes of a source have an error, the status is 2, and nothing is printed. Ends with 1 if anything is otherwise.
+"""
+import json
+import pathlib
+import shutil
+import subprocess
+import sys
+import tempfile
+
+FRONT = b"dnl acrun: "
+TRACES = ["AC_DEFINE_TRACE_LITERAL", "AC_SUBST", "AC_CONFIG_FILES", "AC_CONFIG_HEADERS"]
+# What Autoconf looks for by itself, with the default includes of a macro; acrun has none of these.
+OWN = ("HAVE_STDIO_H", "HAVE_STDLIB_H", "HAVE_STRING_H", "HAVE_STRINGS_H", "HAVE_INTTYPES_H", "HAVE_STDINT_H", "HAVE_UNISTD_H",
+       "HAVE_SYS_STAT_H", "HAVE_SYS_TYPES_H", "STDC_HEADERS")
+# What macros that are left out define on systems that are long gone, or what an idiom has no need of.
+GONE = ("const", "inline", "volatile", "TM_IN_SYS_TIME", "STAT_MACROS_BROKEN", "NO_MINUS_C_MINUS_O", "SETVBUF_REVERSED", "HAVE_DOPRNT",
+        "ac_ct_RANLIB", "ac_ct_STRIP", "ac_ct_AR")
+
+
+def run(words, text=b"", folder=None):
+    return subprocess.run(words, input=text, cwd=folder, capture_output=True, timeout=300)
+
+
+def errors(program, text):
+    found = [json.loads(line) for line in run([program, "lint", "--json", "-"], text).stdout.splitlines()]
+    return [it for it in found if it["severity"] == "error" and it["code"] != "template"]
+
+
+def traced(folder, name):
+    """Returns what Autoconf finds defined and substituted, or None if it refuses the source."""
+    made = run(["autoconf", *(f"--trace={it}:$n:$1" for it in TRACES), name], folder=folder)
+    if made.returncode:
+        return None
+    return {line for line in made.stdout.decode(errors="replace").split("\n") if line.split(":")[-1] not in OWN}
+
+
+def in_autoconf(file, text):
+    """Yields how Autoconf takes the output otherwise than the source."""
+    before = traced(file.parent, file.name)
+    if before is None:
+        return
+    with tempfile.NamedTemporaryFile(dir=file.parent, prefix="ported-", suffix=".ac") as other:
+        other.write(text)
+        other.flush()
+        after = traced(file.parent, pathlib.Path(other.name).name)
+    if after is None:
+        yield "Autoconf refuses the output"
+        return
+    lost = {it for it in before - after if it.split(":")[-1] not in GONE}
+    new = {it for it in after - before if not it.startswith("AC_DEFINE_TRACE_LITERAL:HAVE_") and it != "AC_SUBST:INSTALL"}
+    if lost or new:
+        yield f"in Autoconf {sorted(lost)[:8]} is lost, and {sorted(new)[:8]} is new"
+
+
+def wrong(program, file):
+    """Yields what is wrong with the output of a source."""
+    text = file.read_bytes()
+    made = run([program, "port", "-"], text)
+    if made.returncode == 2:
+        if made.stdout or not made.stderr:
+            yield "a status of 2 has a line on standard error alone"
+        return
+    out = made.stdout
+    if made.stderr or made.returncode not in (0, 1):
+        yield f"status {made.returncode}: {made.stderr[:200]!r}"
+        return
+    found = errors(program, out)
+    lines = out.split(b"\n")
+    if made.returncode != int(bool(found)):
+        yield f"status {made.returncode} and {len(found)} errors"
+    for error in found:
+        above = b"\n".join(lines[:error["line"]])
+        if FRONT + error["message"].encode() not in above:
+            yield f"line {error['line']} has no comment: {error['message']}"
+    again = run([program, "port", "-"], out)
+    if again.stdout != out or again.returncode != made.returncode:
+        yield "port of the output is not the output"
+    if shutil.which("autoconf"):
+        yield from in_autoconf(file, out)
+
+
+def main(words):
+    program = str(pathlib.Path(words[0]).resolve())
+    is_told = words[1:2] == ["-v"]
+    failed = 0
+    files = [pathlib.Path(word) for word in words[1 + is_told:]]
+    for file in files:
+        found = list(wrong(program, file))
+        failed += bool(found)
+        for line in found:
+            print(f"{file}: {line}")
+        if is_told:
+            text = file.read_bytes()
+            out = run([program, "port", "-"], text).stdout
+            before, after = len(errors(program, text)), len(errors(program, out))
+            print(f"{file}: {before} errors before, {after} after, {out.count(FRONT)} lines of comment")
+    print(f"{len(files) - failed} passed, {failed} failed")
+    return int(failed > 0)
+
+
+if __name__ == "__main__":
+    sys.exit(main(sys.argv[1:]))
