@@ -8,8 +8,8 @@ A source is a function of its number: one of examples/lint/sources.txt or of the
 slices are dropped, repeated or moved, or the end is cut off.
 
 A run is wrong if a signal ends it, its exit status is neither 0 nor 1, it writes to standard error, it takes over a second of processor
-time, a finding lies outside its file, or if there is an error of the source where `configure` accepts it, or none where it
-doesn't. The exit status of this script is 1 if a run is wrong.
+time, a finding lies outside its file, if there is an error of the source where `configure` accepts it, or none where it doesn't, or if a
+source that ends before the first statement that can't be resumed can't be resumed either. The exit status of this script is 1 if a run is wrong.
 """
 import argparse
 import json
@@ -62,6 +62,18 @@ def run(program, words, folder):
     return done, after.ru_utime + after.ru_stime - before.ru_utime - before.ru_stime
 
 
+def breaks_earlier(program, text, findings, folder):
+    """Returns whether the source can't be resumed that ends before the statement which, as a warning says, is the first to break it."""
+    for it in findings:
+        if it["code"] == "not-resumable":
+            front = b"".join(line + b"\n" for line in text.split(b"\n")[: it["line"] - 1])
+            front += text.split(b"\n")[it["line"] - 1][: it["column"] - 1]
+            (folder / "front").mkdir(exist_ok=True)
+            (folder / "front/configure.ac").write_bytes(front + b"\nAC_OUTPUT\n")
+            return b'"not-resumable"' in run(program, ["lint", "--json", "front"], folder)[0].stdout
+    return False
+
+
 def judge(program, text, folder):
     """Returns what is wrong with the runs on this source, and the exit status of lint."""
     (folder / "configure.ac").write_bytes(text)
@@ -78,6 +90,8 @@ def judge(program, text, folder):
     errors = [it for it in findings if it["severity"] == "error"]
     if (lint.returncode == 1) != bool(errors):
         return f"status {lint.returncode} and {len(errors)} errors", lint.returncode
+    if breaks_earlier(program, text, findings, folder):
+        return "an earlier statement can't be resumed", lint.returncode
     configure, _ = run(program, ["configure", "--help"], folder)
     refuses = configure.returncode == 2 and configure.stderr.startswith((b"acrun: parse", b"acrun: plan"))
     if refuses != any(it["code"] != "template" for it in errors):

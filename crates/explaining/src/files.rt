@@ -62,7 +62,8 @@ pub fn explain_file<D: Disk, E: Write>(
     }
 }
 
-/// Says why the template of this name was not read, if it is asked: `acrun: NAME: CAUSE`, as [`explain_file`] does.
+/// Says why the template of this name was not read, if it is asked: `acrun: PATH: CAUSE`, as [`explain_file`] does, with the path at
+/// which it was looked for.
 pub fn explain_template<D: Disk, E: Write>(
     alloc: Global,
     disk: &D,
@@ -73,6 +74,13 @@ pub fn explain_template<D: Disk, E: Write>(
     ensures silent { why.now.is_asked ≡ false → errors.new ≡ errors.old }
 {
     if let Ok(path) = path_in(alloc, why.srcdir, name) {
-        explain_file(alloc, disk, why.is_asked, path.as_slice(), name, errors);
+        explain_file(
+            alloc,
+            disk,
+            why.is_asked,
+            path.as_slice(),
+            path.as_slice(),
+            errors,
+        );
     }
 }

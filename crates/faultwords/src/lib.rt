@@ -4,29 +4,21 @@
 //! the culprit, and lines of help. The words are for people, and may change; the fault lines do not.
 //!
 //! ```text
-//! let finding = parse_finding(alloc, source, ParseFault::UnknownMacro(749), 749)?;   // acrun does not know the macro AC_AIX
 //! let words = option_words(alloc, OptionFault::Unknown(2), &[b"CC=cc", b"--prefx=/usr"])?;   // the option `--prefx=/usr` is not known
 //! ```
 //!
-//! A call fails only if memory runs out. What is said is tested, and what is proved is that each call ends, and where a finding is.
+//! A call fails only if memory runs out. What is said is tested, and what is proved is that each call ends.
 //!
-//! Read `page`, on which words are written, and `lines`, which finds words, arguments and calls in a source. Then `shell` has what is
-//! said of shell text that is not read, `parse` the faults of a source, and `running` those of a run.
+//! Read `near`, which finds a similar name, and `page`, on which words are written. Then `running` has what is said of the faults of a
+//! run: those of options, caches and records. `sourcewords` has the words of the faults of a source.
 #![tactic(auto)]
 
-mod arguments;
-mod calls;
-mod lines;
 mod near;
 mod page;
-mod parse;
 mod running;
-mod shell;
 
 pub use near::near_name;
-pub use page::Words;
-pub use parse::{fault_place, parse_finding, too_long_finding};
+pub use page::{Page, Words};
 pub use running::{
     cache_words, option_words, precious_words, put_words, record_words, tag_words, usage_words,
 };
-pub use shell::{Construct, shell_help, test_help};

@@ -3,6 +3,7 @@
 ghost use Rattle.std.specs.Prelude.{◌≡◌, IfOk};
 ghost use Rattle.findings.specs.declared.finding.Severity.TheVariants.{Error};
 
+use crate::near::near_name;
 use deftable::Bytes;
 use findings::{Finding, Severity};
 use itoa::Buffer;
@@ -24,7 +25,7 @@ const LONGEST: usize = 60;
 const DIGITS: [u8; 16] = *b"0123456789abcdef";
 
 /// A message and its help. If memory runs out, what is written is lost, and the page is not whole.
-pub(crate) struct Page {
+pub struct Page {
     message: Vec<u8>,
     help: Vec<u8>,
     is_whole: bool,
@@ -41,7 +42,8 @@ impl Drop for Page {
 }
 
 impl Page {
-    pub(crate) fn new(alloc: Global) -> Page {
+    /// Returns an empty page.
+    pub fn new(alloc: Global) -> Page {
         Page {
             message: Vec::new(alloc),
             help: Vec::new(alloc),
@@ -50,7 +52,7 @@ impl Page {
     }
 
     /// Appends to the message.
-    pub(crate) fn say(&mut self, text: &[u8]) {
+    pub fn say(&mut self, text: &[u8]) {
         self.is_whole &= self.message.extend_from_slice(text).is_ok();
     }
 
@@ -68,7 +70,7 @@ impl Page {
     }
 
     /// Appends a text of the user to the message, between backquotes. A long one is cut.
-    pub(crate) fn say_text(&mut self, text: &[u8]) {
+    pub fn say_text(&mut self, text: &[u8]) {
         self.say(b"`");
         for byte in &text[..text.len().min(LONGEST)] {
             self.say_byte(*byte);
@@ -80,19 +82,46 @@ impl Page {
     }
 
     /// Appends a number to the message.
-    pub(crate) fn say_number(&mut self, number: usize) {
+    pub fn say_number(&mut self, number: usize) {
         let mut digits = Buffer::new();
         let text = digits.format(number);
         self.is_whole &= self.message.extend_from_slice(text.as_bytes()).is_ok();
     }
 
     /// Appends to the help.
-    pub(crate) fn advise(&mut self, text: &[u8]) {
+    pub fn advise(&mut self, text: &[u8]) {
         self.is_whole &= self.help.extend_from_slice(text).is_ok();
     }
 
+    /// Appends to the help the name that is nearest to this one, after a text, or another text if none is near.
+    ///
+    /// # Errors
+    ///
+    /// Fails only if memory runs out.
+    pub fn advise_near(
+        &mut self,
+        alloc: Global,
+        name: &[u8],
+        names: &[&[u8]],
+        front: &[u8],
+        otherwise: &[u8],
+    ) -> Result<(), AllocError> {
+        match near_name(alloc, name, names)? {
+            Some(near) => {
+                self.advise(front);
+                self.advise(near);
+            }
+            None => self.advise(otherwise),
+        }
+        Ok(())
+    }
+
     /// Returns the words.
-    pub(crate) fn words(self) -> Result<Words, AllocError> {
+    ///
+    /// # Errors
+    ///
+    /// Fails only if memory ran out when the page was written.
+    pub fn words(self) -> Result<Words, AllocError> {
         let Page {
             message,
             help,
@@ -109,12 +138,11 @@ impl Page {
     }
 
     /// Returns an error of the source with these words, at a place.
-    pub(crate) fn finding(
-        self,
-        code: Bytes,
-        start: usize,
-        end: usize,
-    ) -> Result<Finding, AllocError>
+    ///
+    /// # Errors
+    ///
+    /// Fails only if memory ran out when the page was written.
+    pub fn finding(self, code: Bytes, start: usize, end: usize) -> Result<Finding, AllocError>
         ensures file { IfOk result (λ finding. finding.file ≡ 0) }
         ensures start { IfOk result (λ finding. finding.start ≡ start) }
         ensures end { IfOk result (λ finding. finding.end ≡ end) }

@@ -1,12 +1,11 @@
 //! The faults of a run.
 
-use crate::lines::first_line;
-use crate::near::near_name;
 use crate::page::{Page, Words};
 use cachefile::CacheFault;
 use commandline::OptionFault;
 use status_record::RecordFault;
 use std::alloc::{AllocError, Global};
+use textpieces::{before, first_line};
 
 /// The options of a command line that need no declaration, without their values.
 #[rattlefmt::skip]
@@ -20,12 +19,22 @@ const OPTIONS: [&[u8]; 42] = [
 ];
 
 /// The commands of the program.
-const COMMANDS: [&[u8]; 4] = [b"configure", b"status", b"lint", b"standin"];
+const COMMANDS: [&[u8]; 6] = [
+    b"configure",
+    b"status",
+    b"lint",
+    b"why",
+    b"standin",
+    b"help",
+];
+
+/// What is said before a name that is near.
+const NEAR: &[u8] = b"a similar name is ";
 
 /// Returns the text before its first `=`.
 fn before_equals(text: &[u8]) -> &[u8] {
     let len = text.iter().take_while(|byte| **byte != b'=').count();
-    &text[..len.min(text.len())]
+    before(text, len)
 }
 
 /// Returns the item of this number, which is 1 for the first, or an empty text.
@@ -60,14 +69,13 @@ fn put_unknown(alloc: Global, page: &mut Page, word: &[u8]) -> Result<(), AllocE
     if word.starts_with(b"-j") {
         page.advise(b"write it before the command: acrun -j8 configure");
     } else if word.starts_with(b"--") {
-        if let Some(near) = near_name(alloc, before_equals(word), &OPTIONS)? {
-            page.advise(b"a similar option is ");
-            page.advise(near);
-        } else {
-            page.advise(
-                b"acrun configure --help shows the options of the source, and docs/running.md all others",
-            );
-        }
+        return page.advise_near(
+            alloc,
+            before_equals(word),
+            &OPTIONS,
+            b"a similar option is ",
+            b"acrun configure --help shows the options of the source, and docs/running.md all others",
+        );
     } else {
         page.advise(b"an argument is an option or NAME=VALUE; docs/running.md has all options");
     }
@@ -246,20 +254,6 @@ pub fn record_words(alloc: Global, fault: RecordFault, text: &[u8]) -> Result<Wo
     page.words()
 }
 
-/// Writes the nearest of some names, if one is near.
-fn put_near(
-    alloc: Global,
-    page: &mut Page,
-    name: &[u8],
-    names: &[&[u8]],
-) -> Result<(), AllocError> {
-    if let Some(near) = near_name(alloc, name, names)? {
-        page.advise(b"a similar name is ");
-        page.advise(near);
-    }
-    Ok(())
-}
-
 /// Returns that a name given to `acrun status` is that of no output. The names are those of the outputs.
 ///
 /// # Errors
@@ -269,7 +263,7 @@ pub fn tag_words(alloc: Global, name: &[u8], names: &[&[u8]]) -> Result<Words, A
     let mut page = Page::new(alloc);
     page.say_text(name);
     page.say(b" is no output of this package");
-    put_near(alloc, &mut page, name, names)?;
+    page.advise_near(alloc, name, names, NEAR, b"")?;
     page.words()
 }
 
@@ -285,19 +279,30 @@ pub fn put_words(alloc: Global, name: &[u8]) -> Result<Words, AllocError> {
     page.words()
 }
 
+/// Returns whether a word is an option that is given alone.
+fn is_alone(word: &[u8]) -> bool {
+    word == b"--help".as_slice()
+        || word == b"-h".as_slice()
+        || word == b"--version".as_slice()
+        || word == b"-V".as_slice()
+}
+
 /// Writes what is wrong with the first words of a command line.
 fn put_usage(alloc: Global, page: &mut Page, words: &[&[u8]]) -> Result<(), AllocError> {
     let first = numbered(words, 1);
     if first.is_empty() {
         page.say(b"there is no command, and no line of the input is `%%`");
-    } else if first == b"-j".as_slice() || first.starts_with(b"-j") {
+    } else if is_alone(first) {
         page.say_text(first);
-        page.say(b" is no number of children");
+        page.say(b" takes no other word");
+        page.advise(b"acrun help COMMAND explains a command");
+    } else if first == b"-j".as_slice() {
+        page.say(b"-j is no number of children");
         page.advise(b"write -j1 to -j16, without a blank");
     } else {
         page.say_text(first);
         page.say(b" is no command");
-        put_near(alloc, page, first, &COMMANDS)?;
+        return page.advise_near(alloc, first, &COMMANDS, NEAR, b"");
     }
     Ok(())
 }

@@ -11,11 +11,13 @@
 //!
 //! "own" marks a rule that no manual gives.
 //!
-//! Read `specs/Order` first, and then `finding` and `order`.
+//! Read `finding`, then `specs/Order` and `order`, and then `specs/Within` and `warning`.
 #![tactic(auto)]
 
 mod finding;
 mod order;
+mod warning;
 
 pub use finding::{Finding, Severity, Span};
 pub use order::put_in_order;
+pub use warning::warn;

@@ -1,6 +1,6 @@
 //! The command.
 
-ghost use Rattle.std.specs.Prelude.{◌≡◌, false};
+ghost use Rattle.std.specs.Prelude.{◌≡◌, ◌≢◌, ◌≤◌, false, IfOk};
 ghost use Rattle.std.specs.List.{list_any};
 ghost use Rattle.invocation.specs.Calls as calls;
 
@@ -52,14 +52,20 @@ fn lint_text<D: Disk>(
     disk: &D,
     form: Form,
     linted: &Linted,
-) -> Result<(Vec<u8>, u8), AllocError> {
+) -> Result<(Vec<u8>, u8), AllocError>
+    ensures { IfOk result (λ r. r.1 ≤ 2) }
+{
     let found = found_in(alloc, disk, linted)?;
     let page = page_of(alloc, form, linted, &found)?;
     Ok((page, status_of(found.findings.as_slice())))
 }
 
 /// Writes a page, and returns the exit status: that which is given, unless the page can't be written.
-fn put_page<W: Write, E: Write>(page: &[u8], status: u8, output: &mut W, errors: &mut E) -> u8 {
+fn put_page<W: Write, E: Write>(page: &[u8], status: u8, output: &mut W, errors: &mut E) -> u8
+    requires { status ≤ 2 }
+    ensures status { result ≤ 2 }
+    ensures silent { result ≢ 2 → errors.new ≡ errors.old }
+{
     match output.write_all(page) {
         Ok(()) => status,
         Err(_) => tell_file(errors, OUTPUT),
@@ -74,7 +80,10 @@ fn lint_source<D: Disk, W: Write, E: Write>(
     linted: &Linted,
     output: &mut W,
     errors: &mut E,
-) -> u8 {
+) -> u8
+    ensures status { result ≤ 2 }
+    ensures silent { result ≢ 2 → errors.new ≡ errors.old }
+{
     match lint_text(alloc, disk, form, linted) {
         Ok((page, status)) => put_page(page.as_slice(), status, output, errors),
         Err(_) => tell_memory(errors),
@@ -92,13 +101,26 @@ fn lint_named<D: Disk, R: Read, W: Write, E: Write>(
     output: &mut W,
     errors: &mut E,
 ) -> u8
-    ensures { reads ≡ false → input.new ≡ input.old }
+    ensures input { reads ≡ false → input.new ≡ input.old }
+    ensures status { result ≤ 2 }
+    ensures silent { result ≢ 2 → errors.new ≡ errors.old }
 {
     match read_named(alloc, disk, reads, input, word) {
         Ok(Some(linted)) => lint_source(alloc, disk, form, &linted, output, errors),
         Ok(None) => tell_file(errors, word),
         Err(_) => tell_memory(errors),
     }
+}
+
+/// Returns the larger of two exit statuses.
+fn worse(status: u8, next: u8) -> u8
+    requires status { status ≤ 2 }
+    requires next { next ≤ 2 }
+    ensures status { result ≤ 2 }
+    ensures first { result ≢ 2 → status ≢ 2 }
+    ensures second { result ≢ 2 → next ≢ 2 }
+{
+    if status < next { next } else { status }
 }
 
 /// Lints each source that the words name, and returns the exit status, which is the largest of theirs.
@@ -112,22 +134,22 @@ fn lint_all<D: Disk, R: Read, W: Write, E: Write>(
     output: &mut W,
     errors: &mut E,
 ) -> u8
-    ensures { reads ≡ false → input.new ≡ input.old }
+    ensures input { reads ≡ false → input.new ≡ input.old }
+    ensures status { result ≤ 2 }
+    ensures silent { result ≢ 2 → errors.new ≡ errors.old }
 {
+    if words.iter().all(|word| is_option(word.as_slice())) {
+        return lint_named(alloc, disk, form, SOURCE, false, input, output, errors);
+    }
     let mut status: u8 = 0;
-    let mut is_named = false;
     for word in words {
         if !is_option(word.as_slice()) {
-            is_named = true;
             let name = word.as_slice();
             let next = lint_named(alloc, disk, form, name, reads, input, output, errors);
-            status = status.max(next);
+            status = worse(status, next);
         }
     }
-    if is_named {
-        return status;
-    }
-    lint_named(alloc, disk, form, SOURCE, false, input, output, errors)
+    status
 }
 
 /// Prints what is wrong with the sources that the words name, and returns the exit status.
@@ -149,6 +171,10 @@ pub fn run_lint<D: Disk, R: Read, W: Write, E: Write>(
 ) -> u8
     // Standard input is read only if `-` is one of the words.
     ensures input { list_any calls.is_input words.now ≡ false → input.new ≡ input.old }
+    // The status is one of these three.
+    ensures status { result ≤ 2 }
+    // Nothing is on standard error unless something could not be read, written or understood.
+    ensures silent { result ≢ 2 → errors.new ≡ errors.old }
 {
     if !are_known(words) {
         return tell_usage(errors);

@@ -3,10 +3,12 @@
 use crate::reading::Linted;
 use crate::sheets::{Sheets, read_sheets};
 use crate::templates::add_missing;
-use crate::warnings::{add_of_calls, add_warnings};
+use crate::warnings::add_warnings;
 use acparse::{ParseFault, parse};
 use disk::Disk;
 use findings::{Finding, put_in_order};
+use sourcecalls::{CallAt, calls_of};
+use sourcewarnings::warn_of_calls;
 use std::alloc::{AllocError, Global};
 use syntax::Source;
 
@@ -53,12 +55,13 @@ fn add_of_read<D: Disk>(
     alloc: Global,
     disk: &D,
     linted: &Linted,
+    calls: &[CallAt],
     source: &Source,
     found: &mut Vec<Finding>,
 ) -> Result<Sheets, AllocError> {
     add_of_source(alloc, disk, linted, source, found)?;
     let sheets = sheets_of(alloc, disk, linted.directory.as_slice(), source)?;
-    add_warnings(alloc, linted.text.as_slice(), source, &sheets, found)?;
+    add_warnings(alloc, linted.text.as_slice(), calls, source, &sheets, found)?;
     Ok(sheets)
 }
 
@@ -67,10 +70,11 @@ fn add_further<D: Disk>(
     alloc: Global,
     disk: &D,
     linted: &Linted,
+    calls: &[CallAt],
     found: &mut Vec<Finding>,
 ) -> Result<Sheets, AllocError> {
     match parse(alloc, linted.text.as_slice()) {
-        Ok(source) => add_of_read(alloc, disk, linted, &source, found),
+        Ok(source) => add_of_read(alloc, disk, linted, calls, &source, found),
         Err(ParseFault::OutOfMemory) => Err(AllocError),
         Err(_) => Ok(Sheets::none(alloc)),
     }
@@ -83,9 +87,11 @@ pub(crate) fn found_in<D: Disk>(
     disk: &D,
     linted: &Linted,
 ) -> Result<Found, AllocError> {
-    let mut findings = linting::errors_of(alloc, linted.text.as_slice())?;
-    add_of_calls(alloc, linted.text.as_slice(), &mut findings)?;
-    let sheets = add_further(alloc, disk, linted, &mut findings)?;
+    let text = linted.text.as_slice();
+    let mut findings = linting::errors_of(alloc, text)?;
+    let calls = calls_of(alloc, text)?;
+    warn_of_calls(alloc, text, calls.as_slice(), &mut findings)?;
+    let sheets = add_further(alloc, disk, linted, calls.as_slice(), &mut findings)?;
     put_in_order(&mut findings)?;
     Ok(Found { findings, sheets })
 }

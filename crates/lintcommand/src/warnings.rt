@@ -3,27 +3,11 @@
 use crate::sheets::{Sheet, Sheets};
 use deftable::SubstList;
 use findings::Finding;
-use sourcecalls::calls_of;
-use sourcewarnings::{warn_of_calls, warn_of_compiler, warn_of_source};
+use sourcecalls::CallAt;
+use sourcewarnings::{warn_of_compiler, warn_of_source};
 use std::alloc::{AllocError, Global};
 use syntax::Source;
 use templatewarnings::{Given, add_listed, warn_of_file, warn_of_header, warn_of_unlisted};
-
-/// Appends the warnings about the calls of a source.
-pub(crate) fn add_of_calls(
-    alloc: Global,
-    text: &[u8],
-    found: &mut Vec<Finding>,
-) -> Result<(), AllocError> {
-    let calls = calls_of(alloc, text)?;
-    warn_of_calls(alloc, text, calls.as_slice(), found)
-}
-
-/// Appends a warning if a source that is read doesn't try the compiler.
-fn add_of_compiler(alloc: Global, text: &[u8], found: &mut Vec<Finding>) -> Result<(), AllocError> {
-    let calls = calls_of(alloc, text)?;
-    warn_of_compiler(alloc, text, calls.as_slice(), found)
-}
 
 /// Appends the warnings about the templates of files, which are counted from 1.
 fn add_of_files(
@@ -78,6 +62,7 @@ fn add_unlisted(
 pub(crate) fn add_warnings(
     alloc: Global,
     text: &[u8],
+    calls: &[CallAt],
     source: &Source,
     sheets: &Sheets,
     found: &mut Vec<Finding>,
@@ -85,8 +70,8 @@ pub(crate) fn add_warnings(
     let given = Given::of(alloc, source)?;
     let files = sheets.files.as_slice();
     let headers = sheets.headers.as_slice();
-    warn_of_source(alloc, text, source, found)?;
-    add_of_compiler(alloc, text, found)?;
+    warn_of_source(alloc, text, calls, source, found)?;
+    warn_of_compiler(alloc, text, calls, found)?;
     add_of_files(alloc, &given, files, found)?;
     add_of_headers(alloc, &given, files.len(), headers, found)?;
     add_unlisted(alloc, &given, text, headers, found)

@@ -5,7 +5,7 @@ ghost use Rattle.linting.specs.Errors as specs;
 
 use deftable::Bytes;
 use findings::Finding;
-use macrotable::{Entry, Kind, entry_of, fill};
+use macrotable::{Entry, Index, Kind, fill};
 use sourcecalls::{CallAt, Extent};
 use std::alloc::{AllocError, Global};
 
@@ -66,8 +66,13 @@ fn with_help(finding: Finding, help: Bytes) -> Finding
 }
 
 /// Returns what the table of other macros says of a call, if it has the macro.
-fn help_of(alloc: Global, text: &[u8], call: &CallAt) -> Result<Option<Bytes>, AllocError> {
-    match entry_of(alloc, part(text, call.start, call.name_end))? {
+fn help_of(
+    alloc: Global,
+    index: &Index,
+    text: &[u8],
+    call: &CallAt,
+) -> Result<Option<Bytes>, AllocError> {
+    match index.entry_of(alloc, part(text, call.start, call.name_end))? {
         None => Ok(None),
         Some(entry) => said(alloc, text, call, entry).map(|help| Some(help)),
     }
@@ -76,13 +81,14 @@ fn help_of(alloc: Global, text: &[u8], call: &CallAt) -> Result<Option<Bytes>, A
 /// Returns the finding of a call with what the table of other macros says of it, if it has the macro.
 pub(crate) fn advised(
     alloc: Global,
+    index: &Index,
     text: &[u8],
     call: &CallAt,
     finding: Finding,
 ) -> Result<Finding, AllocError>
     ensures { IfOk result (λ f. specs.shown f ≡ specs.shown finding) }
 {
-    let help = help_of(alloc, text, call)?;
+    let help = help_of(alloc, index, text, call)?;
     Ok(match help {
         None => finding,
         Some(help) => with_help(finding, help),

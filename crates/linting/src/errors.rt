@@ -13,10 +13,11 @@ use crate::fault::place_of_fault;
 use crate::foreign::{fault_finding, push_calls};
 use acparse::parse;
 use acstatement::ParseFault;
-use faultwords::too_long_finding;
 use findings::{Finding, put_in_order};
+use macrotable::Index;
 use plan::{PlanFault, compile};
 use sourcecalls::{CallAt, calls_of};
+use sourcewords::too_long_finding;
 use std::alloc::{AllocError, Global};
 use syntax::Source;
 
@@ -55,6 +56,7 @@ fn errors_read(alloc: Global, source: &Source) -> Result<Vec<Finding>, AllocErro
 /// Returns the error of a fault at this place, and those of the other calls that have to go.
 fn found(
     alloc: Global,
+    index: &Index,
     text: &[u8],
     fault: ParseFault,
     at: usize,
@@ -62,16 +64,17 @@ fn found(
 ) -> Result<Vec<Finding>, AllocError>
     ensures { IfOk result (λ v. map specs.shown v.items ≡ specs.errors_refused fault at (map seen calls.now)) }
 {
-    let first = fault_finding(alloc, text, fault, at, calls)?;
+    let first = fault_finding(alloc, index, text, fault, at, calls)?;
     let mut out = Vec::new(alloc);
     out.push(first)?;
-    push_calls(alloc, text, fault, calls, &mut out)?;
+    push_calls(alloc, index, text, fault, calls, &mut out)?;
     Ok(out)
 }
 
 /// Returns the same in order of their places.
 fn ordered(
     alloc: Global,
+    index: &Index,
     text: &[u8],
     fault: ParseFault,
     calls: &[CallAt],
@@ -79,7 +82,7 @@ fn ordered(
     ensures { IfOk result (λ v. specs.AreRefused text.now fault (map seen calls.now) v.items) }
 {
     let at = place_of_fault(alloc, text, fault, calls)?;
-    let mut out = found(alloc, text, fault, at, calls)?;
+    let mut out = found(alloc, index, text, fault, at, calls)?;
     put_in_order(&mut out)?;
     Ok(out)
 }
@@ -89,7 +92,8 @@ fn errors_refused(alloc: Global, text: &[u8], fault: ParseFault) -> Result<Vec<F
     ensures { IfOk result (λ v. specs.AreRefused text.now fault (calls_in text.now) v.items) }
 {
     let calls = calls_of(alloc, text)?;
-    ordered(alloc, text, fault, &calls)
+    let index = Index::new(alloc)?;
+    ordered(alloc, &index, text, fault, &calls)
 }
 
 /// Returns the errors of a source.

@@ -7,9 +7,10 @@ ghost use Rattle.linting.specs.Errors as specs;
 
 use crate::advice::advised;
 use acstatement::ParseFault;
-use faultwords::parse_finding;
 use findings::Finding;
+use macrotable::Index;
 use sourcecalls::CallAt;
+use sourcewords::parse_finding;
 use std::alloc::{AllocError, Global};
 
 /// Returns whether the fault is that the macro whose name is at this offset isn't known.
@@ -30,7 +31,7 @@ fn is_other(fault: ParseFault, call: &CallAt) -> bool
 }
 
 /// Returns the error of a call whose macro isn't known.
-fn unknown(alloc: Global, text: &[u8], call: &CallAt) -> Result<Finding, AllocError>
+fn unknown(alloc: Global, index: &Index, text: &[u8], call: &CallAt) -> Result<Finding, AllocError>
     ensures { IfOk result (λ f. specs.shown f ≡ specs.error_at (seen call.now).start) }
 {
     let finding = parse_finding(
@@ -39,19 +40,20 @@ fn unknown(alloc: Global, text: &[u8], call: &CallAt) -> Result<Finding, AllocEr
         ParseFault::UnknownMacro(call.start),
         call.start,
     )?;
-    advised(alloc, text, call, finding)
+    advised(alloc, index, text, call, finding)
 }
 
 /// Appends the error of a call whose macro isn't known.
 fn push_unknown(
     alloc: Global,
+    index: &Index,
     text: &[u8],
     call: &CallAt,
     out: &mut Vec<Finding>,
 ) -> Result<(), AllocError>
     ensures { OnOk result (map specs.shown out.new.items ≡ map specs.shown out.old.items ++ specs.error_at (seen call.now).start ∷ []) }
 {
-    let finding = unknown(alloc, text, call)?;
+    let finding = unknown(alloc, index, text, call)?;
     out.push(finding)?;
     Ok(())
 }
@@ -59,6 +61,7 @@ fn push_unknown(
 /// Appends the error of a call, if it has to go and the fault doesn't say it.
 fn push_call(
     alloc: Global,
+    index: &Index,
     text: &[u8],
     fault: ParseFault,
     call: &CallAt,
@@ -67,7 +70,7 @@ fn push_call(
     ensures { OnOk result (map specs.shown out.new.items ≡ map specs.shown out.old.items ++ specs.of_call fault (seen call.now)) }
 {
     if is_other(fault, call) {
-        push_unknown(alloc, text, call, out)
+        push_unknown(alloc, index, text, call, out)
     } else {
         Ok(())
     }
@@ -76,6 +79,7 @@ fn push_call(
 /// Appends the errors of the calls that have to go, but for the one that the fault is about.
 pub(crate) fn push_calls(
     alloc: Global,
+    index: &Index,
     text: &[u8],
     fault: ParseFault,
     calls: &[CallAt],
@@ -84,7 +88,7 @@ pub(crate) fn push_calls(
     ensures { OnOk result (map specs.shown out.new.items ≡ map specs.shown out.old.items ++ flat_map (specs.of_call fault) (map seen calls.now)) }
 {
     for call in calls {
-        push_call(alloc, text, fault, call, out)?;
+        push_call(alloc, index, text, fault, call, out)?;
     }
     Ok(())
 }
@@ -97,6 +101,7 @@ fn call_of(fault: ParseFault, calls: &[CallAt]) -> Option<&CallAt> {
 /// Returns the error of a fault at this place.
 pub(crate) fn fault_finding(
     alloc: Global,
+    index: &Index,
     text: &[u8],
     fault: ParseFault,
     at: usize,
@@ -107,6 +112,6 @@ pub(crate) fn fault_finding(
     let finding = parse_finding(alloc, text, fault, at)?;
     match call_of(fault, calls) {
         None => Ok(finding),
-        Some(call) => advised(alloc, text, call, finding),
+        Some(call) => advised(alloc, index, text, call, finding),
     }
 }

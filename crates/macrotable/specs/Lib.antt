@@ -1,5 +1,6 @@
 pub mod Around
 pub mod Entries
 pub mod Filling
+pub mod Index
 pub mod Places
 pub mod Values

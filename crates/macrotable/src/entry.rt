@@ -1,11 +1,9 @@
 //! The entries of the table.
 
-ghost use Rattle.std.specs.Prelude.{◌≡◌, All, None, map, option_map, true, IfOk, IfSome, IfNone};
-ghost use Rattle.textcut.specs.Cuts.{parts};
+ghost use Rattle.std.specs.Prelude.{◌≡◌, map, option_map, IfOk};
 ghost use Rattle.macrotable.specs.Entries as words;
 
 use crate::cut::{cut, is};
-use crate::text::{TABLE, table};
 use std::alloc::{AllocError, Global};
 use textcut::parts;
 
@@ -51,15 +49,15 @@ fn kind_named(word: &[u8]) -> Option<Kind>
 
 /// A record of the table: what is said of some macros.
 #[derive(Clone, Copy)]
-struct Record {
-    kind: Kind,
+pub(crate) struct Record {
+    pub(crate) kind: Kind,
     /// The names, with a blank between them.
-    names: &'static [u8],
-    text: &'static [u8],
+    pub(crate) names: &'static [u8],
+    pub(crate) text: &'static [u8],
 }
 
 /// Reads a record of the table.
-fn read_record(row: &'static [u8]) -> Option<Record>
+pub(crate) fn read_record(row: &'static [u8]) -> Option<Record>
     ensures { option_map words.read result ≡ words.read_in row.now }
 {
     let (word, rest) = cut(row, b' ')?;
@@ -119,7 +117,7 @@ fn read_about(alloc: Global, row: &'static [u8], name: &[u8]) -> Result<Option<E
 }
 
 /// Returns the first entry of the records that is about macros of this name.
-fn first_about(
+pub(crate) fn first_about(
     alloc: Global,
     rows: &[&'static [u8]],
     name: &[u8],
@@ -133,20 +131,4 @@ fn first_about(
         }
     }
     Ok(None)
-}
-
-/// Returns what the table says of a macro: the first entry that has its name, or that is of a family that it belongs to.
-/// Families are last in the table.
-///
-/// # Errors
-///
-/// Fails only if memory runs out.
-#[tactic(auto, unfolding(crate::specs::Entries::entry_of))]
-pub fn entry_of(alloc: Global, name: &[u8]) -> Result<Option<Entry>, AllocError>
-    ensures value { IfOk result (λ found. option_map words.said found ≡ words.entry_of name.now TABLE.now) }
-    ensures about { IfOk result (λ found. IfSome found (λ e. words.is_about name.now (words.said e) ≡ true)) }
-    ensures none { IfOk result (λ found. IfNone found (All (λ r. words.said_about name.now r ≡ None) (parts 126 TABLE.now))) }
-{
-    let rows = parts(alloc, table(), b'~')?;
-    first_about(alloc, rows.as_slice(), name)
 }

@@ -5,24 +5,27 @@
 //! otherwise with a word in capitals that says what to write there.
 //!
 //! ```text
-//! let entry = entry_of(alloc, b"AC_CHECK_HEADERS_ONCE")?;    // an idiom: AC_CHECK_HEADERS([$1{HEADERS}])
+//! let index = Index::new(alloc)?;
+//! let entry = index.entry_of(alloc, b"AC_CHECK_HEADERS_ONCE")?; // an idiom: AC_CHECK_HEADERS([$1{HEADERS}])
 //! fill(alloc, entry.text, &[b"[unistd.h]"])?                 // AC_CHECK_HEADERS([unistd.h])
 //! fill(alloc, entry.text, &[b"$headers"])?                   // AC_CHECK_HEADERS([HEADERS])
 //! ```
 //!
 //! The texts are in `macros.txt` of this crate, and `tools/macro_table.py` writes `text` from that file. Read `specs/Entries` and
-//! `entry`, and then `specs/Places`, `specs/Values` and `filling`. A call that takes an allocator fails only if memory runs out,
+//! `entry`, then `specs/Index` and `index`, and then `specs/Places`, `specs/Values` and `filling`. A call that takes an allocator fails only if memory runs out,
 //! and no other call allocates. "own" marks a rule that no manual gives.
 #![tactic(auto)]
 
 mod cut;
 mod entry;
 mod filling;
+mod index;
 mod place;
 mod plain;
 mod text;
 
-pub use entry::{Entry, Kind, entry_of};
+pub use entry::{Entry, Kind};
 pub use filling::fill;
+pub use index::Index;
 pub use place::{Form, Source};
 pub use text::TABLE;

@@ -1,7 +1,7 @@
 //! Which macros have an exact idiom.
 
 use crate::table::rows;
-use macrotable::{Kind, entry_of};
+use macrotable::{Index, Kind};
 use std::alloc::{AllocError, Global};
 
 /// Returns the digit at an index, or 0.
@@ -40,13 +40,14 @@ pub(crate) enum Exact {
 /// Returns what a call of a macro of this name with so many arguments is replaced by, if there is something exact.
 pub(crate) fn exact_of(
     alloc: Global,
+    index: &Index,
     name: &[u8],
     count: usize,
 ) -> Result<Option<Exact>, AllocError> {
     if !is_exact(name, count) {
         return Ok(None);
     }
-    Ok(match entry_of(alloc, name)? {
+    Ok(match index.entry_of(alloc, name)? {
         Some(entry) => match entry.kind {
             Kind::Idiom => Some(Exact::Idiom(entry.text)),
             Kind::Dropped => Some(Exact::Nothing),

@@ -10,6 +10,7 @@ use crate::around::{
 };
 use crate::exact::{Exact, exact_of};
 use crate::filling::filled;
+use macrotable::Index;
 use sourcecalls::{CallAt, Extent, calls_of};
 use std::alloc::{AllocError, Global};
 
@@ -182,6 +183,7 @@ fn left_out(
 /// Returns the change of a call that has to go, if it has an exact idiom.
 fn change_of(
     alloc: Global,
+    index: &Index,
     text: &[u8],
     calls: &[CallAt],
     call: &CallAt,
@@ -189,7 +191,7 @@ fn change_of(
     if !is_same_here(text, calls, call) {
         return Ok(None);
     }
-    match exact_of(alloc, name_of(text, call), call.args.len())? {
+    match exact_of(alloc, index, name_of(text, call), call.args.len())? {
         None => Ok(None),
         Some(Exact::Nothing) => left_out(alloc, text, calls, call),
         Some(Exact::Idiom(idiom)) => to_idiom(alloc, text, call, idiom),
@@ -245,6 +247,7 @@ fn put_change(
 /// Replaces a call if it has to go and has an exact idiom.
 fn pass_call(
     alloc: Global,
+    index: &Index,
     text: &[u8],
     calls: &[CallAt],
     call: &CallAt,
@@ -257,7 +260,7 @@ fn pass_call(
     if !has_to_go(text, call) {
         return Ok(());
     }
-    match change_of(alloc, text, calls, call)? {
+    match change_of(alloc, index, text, calls, call)? {
         Some(change) => put_change(text, call, &change, pass),
         None => Ok(()),
     }
@@ -266,6 +269,7 @@ fn pass_call(
 /// Goes over the calls of a text.
 fn pass_calls(
     alloc: Global,
+    index: &Index,
     text: &[u8],
     calls: &[CallAt],
     pass: &mut Pass,
@@ -275,7 +279,7 @@ fn pass_calls(
     ensures { OnOk result (specs.IsPass text.now pass.new.at pass.new.out.items) }
 {
     for i in 0..calls.len() {
-        pass_call(alloc, text, calls, &calls[i], pass)?;
+        pass_call(alloc, index, text, calls, &calls[i], pass)?;
     }
     Ok(())
 }
@@ -298,7 +302,8 @@ pub(crate) fn replaced_once(alloc: Global, text: &[u8]) -> Result<Option<Vec<u8>
         at: 0,
         has_changed: false,
     };
-    pass_calls(alloc, text, calls.as_slice(), &mut pass)?;
+    let index = Index::new(alloc)?;
+    pass_calls(alloc, &index, text, calls.as_slice(), &mut pass)?;
     finish(text, &mut pass)?;
     let Pass {
         out,

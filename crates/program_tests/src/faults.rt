@@ -56,17 +56,18 @@ source AC_ARG_VAR([U],[x])^JAC_ARG_VAR([V],[x])|write config.cache ac_cv_env_U_s
 2 err[acrun: precious 2 V^J]; 2 err[acrun: precious 2 U^J]; here config.cache configure.ac
 // If ACRUN_WHY is there and not empty, a line says why a file was not read. Otherwise there is none.
 run configure|env ACRUN_WHY=1|run configure|env ACRUN_WHY=|run configure|env ACRUN_WHY=0|run configure,--srcdir=a/b\
-|directory configure.ac|run configure|run status|run status,--recheck|run standin2 => \
+|directory configure.ac|run configure|run status|run status,--recheck|run standin2|run --help,x => \
 2 err[acrun: file ./configure.ac^J]; 2 err[acrun: file ./configure.ac^Jacrun: ./configure.ac: No such file or directory^J]; \
 2 err[acrun: file ./configure.ac^J]; 2 err[acrun: file a/b/configure.ac^Jacrun: a/b/configure.ac: No such file or directory^J]; \
 2 err[acrun: file ./configure.ac^Jacrun: ./configure.ac: Is a directory^J]; \
 2 err[acrun: file config.status^Jacrun: config.status: No such file or directory^J]; \
 2 err[acrun: file config.status^Jacrun: config.status: No such file or directory^J]; \
-2 err[acrun: usage^Jacrun: `standin2` is no command^Jacrun: a similar name is standin^Jacrun: acrun help lists the commands^J]
+2 err[acrun: usage^Jacrun: `standin2` is no command^Jacrun: a similar name is standin^Jacrun: acrun help lists the commands^J]; \
+2 err[acrun: usage^Jacrun: `--help` takes no other word^Jacrun: acrun help COMMAND explains a command^Jacrun: acrun help lists the commands^J]
 source AC_CONFIG_FILES([f])|env ACRUN_WHY=1|run configure|directory f.in|run configure|link g.in /dev/zero|source AC_CONFIG_FILES([g])\
 |run configure|sized h.in|source AC_CONFIG_FILES([h])|run configure|remove h.in|list => \
-2 err[acrun: template f.in^Jacrun: f.in: No such file or directory^J]; 2 err[acrun: template f.in^Jacrun: f.in: Is a directory^J]; \
-2 err[acrun: template g.in^Jacrun: g.in: is a pipe, a socket or a device^J]; 2 err[acrun: template h.in^Jacrun: h.in: has more than 64 MiB^J]; \
+2 err[acrun: template f.in^Jacrun: ./f.in: No such file or directory^J]; 2 err[acrun: template f.in^Jacrun: ./f.in: Is a directory^J]; \
+2 err[acrun: template g.in^Jacrun: ./g.in: is a pipe, a socket or a device^J]; 2 err[acrun: template h.in^Jacrun: ./h.in: has more than 64 MiB^J]; \
 here configure.ac f.in g.in
 // A run in another directory names the template without it.
 source AC_CONFIG_FILES([f:a/t])|directory b|in b|run configure,--srcdir=..|list|in .. => 2 err[acrun: template a/t^J]; here

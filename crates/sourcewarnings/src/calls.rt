@@ -1,49 +1,21 @@
 //! Warnings about calls.
 
+use crate::extent::{bare, name_of, text_of, warn_of_part};
+use crate::foreign::warn_of_texts;
+use crate::rows::{EMPTY, HELD, HELD_ONCE, NAMES, Place, Row, SILENT};
 use bstr::ByteSlice;
-use findings::{Finding, Severity, Span};
+use findings::Finding;
+use macrotable::Index;
 use sourcecalls::{CallAt, Extent};
 use std::alloc::{AllocError, Global};
+use textpieces::{after_blanks, from};
 
-/// Returns the part of the text between two offsets.
-fn part(text: &[u8], start: usize, end: usize) -> &[u8] {
-    let end = end.min(text.len());
-    let start = start.min(end);
-    &text[start..end]
-}
-
-/// Returns an argument without blanks and brackets around it.
-fn bare<'a>(text: &'a [u8], extent: &Extent) -> &'a [u8] {
-    part(text, extent.start, extent.end).trim_with(|c| c == '['
-        || c == ']'
-        || c == ' '
-        || c == '\t'
-        || c == '\n')
-}
-
-/// Returns the name of a call.
-fn name_of<'a>(text: &'a [u8], call: &CallAt) -> &'a [u8] {
-    part(text, call.start, call.name_end)
-}
-
-/// Adds a warning in the source.
-fn warn(
-    alloc: Global,
-    out: &mut Vec<Finding>,
-    start: usize,
-    end: usize,
-    code: &[u8],
-    message: &[u8],
-    help: &[u8],
-) -> Result<(), AllocError> {
-    let span = Span {
-        file: 0,
-        start,
-        end,
-    };
-    let finding = Finding::from_slices(alloc, span, Severity::Warning, code, message, help)?;
-    out.push(finding)?;
-    Ok(())
+/// Returns where a call is.
+fn whole(call: &CallAt) -> Extent {
+    Extent {
+        start: call.start,
+        end: call.end,
+    }
 }
 
 /// Warns if a function of a library is `main`.
@@ -57,114 +29,293 @@ fn warn_of_main(
     let Some(extent) = function else {
         return Ok(());
     };
-    if bare(text, extent) != b"main".as_slice() {
+    if bare(text_of(text, extent)) != b"main".as_slice() {
         return Ok(());
     }
-    warn(
+    warn_of_part(
         alloc,
         out,
-        call.start,
-        call.end,
+        text,
+        whole(call),
         b"library-main",
         b"a library is never found by the function main",
         b"name a function that the library has, as in AC_CHECK_LIB([m], [cos])",
     )
 }
 
-/// Warns if a list of headers or functions has a comma.
-fn warn_of_comma(
+/// Warns if the action of AC_CHECK_LIB is a comment alone.
+fn warn_of_action(
     alloc: Global,
     text: &[u8],
-    list: Option<&Extent>,
+    action: Option<&Extent>,
     out: &mut Vec<Finding>,
 ) -> Result<(), AllocError> {
-    let Some(extent) = list else {
+    let Some(extent) = action else {
         return Ok(());
     };
-    if !part(text, extent.start, extent.end).contains_str(b",") {
+    let action = bare(text_of(text, extent));
+    if !action.starts_with(b"dnl") || action.contains_str(b"\n") {
         return Ok(());
     }
-    warn(
+    warn_of_part(
         alloc,
         out,
-        extent.start,
-        extent.end,
-        b"comma-in-list",
-        b"the comma is a part of a name here: entries are separated by blanks",
-        b"leave the commas out",
+        text,
+        *extent,
+        b"dnl-action",
+        b"a comment is no action, so the library is added to LIBS; in Autoconf nothing is done",
+        b"write an assignment, such as [have_it=yes], for an action that does nothing",
+    )
+}
+
+/// Warns of a library that is sought by `main`, and of an action that is a comment alone.
+fn warn_of_library(
+    alloc: Global,
+    text: &[u8],
+    name: &[u8],
+    call: &CallAt,
+    out: &mut Vec<Finding>,
+) -> Result<(), AllocError> {
+    if name == b"AC_SEARCH_LIBS".as_slice() {
+        return warn_of_main(alloc, text, call, call.args.first(), out);
+    }
+    if name != b"AC_CHECK_LIB".as_slice() {
+        return Ok(());
+    }
+    warn_of_main(alloc, text, call, call.args.get(1), out)?;
+    warn_of_action(alloc, text, call.args.get(2), out)
+}
+
+/// Returns whether an argument holds a text that isn't empty.
+fn holds(argument: &[u8], sought: &[u8]) -> bool {
+    !sought.is_empty() && argument.contains_str(sought)
+}
+
+/// Warns if the argument of a row holds what the row says.
+fn warn_of_row(
+    alloc: Global,
+    text: &[u8],
+    row: &Row,
+    argument: Option<&Extent>,
+    is_once: bool,
+    out: &mut Vec<Finding>,
+) -> Result<(), AllocError> {
+    let Some(extent) = argument else {
+        return Ok(());
+    };
+    let argument = text_of(text, extent);
+    if is_once && argument.starts_with(b"[[") {
+        return Ok(());
+    }
+    if !holds(argument, row.2) && !holds(argument, row.3) {
+        return Ok(());
+    }
+    let (code, message, help) = row.4;
+    warn_of_part(alloc, out, text, *extent, code, message, help)
+}
+
+/// Warns if an argument of a call holds what one of the rows says.
+fn warn_of_rows(
+    alloc: Global,
+    text: &[u8],
+    rows: &[Row],
+    name: &[u8],
+    call: &CallAt,
+    is_once: bool,
+    out: &mut Vec<Finding>,
+) -> Result<(), AllocError> {
+    for row in rows {
+        if row.0 == name {
+            warn_of_row(alloc, text, row, call.args.get(row.1), is_once, out)?;
+        }
+    }
+    Ok(())
+}
+
+/// Warns if an argument is an empty text in two pairs of brackets.
+fn warn_of_empty(
+    alloc: Global,
+    text: &[u8],
+    argument: Option<&Extent>,
+    out: &mut Vec<Finding>,
+) -> Result<(), AllocError> {
+    let Some(extent) = argument else {
+        return Ok(());
+    };
+    if text_of(text, extent) != b"[[]]".as_slice() {
+        return Ok(());
+    }
+    warn_of_part(
+        alloc,
+        out,
+        text,
+        *extent,
+        b"empty-quotes",
+        b"this is an empty argument; in Autoconf it is an argument that isn't empty",
+        b"write `[]` for an empty argument",
+    )
+}
+
+/// Returns whether an argument in brackets begins or ends with a blank.
+fn has_end_blanks(argument: &[u8]) -> bool {
+    argument.starts_with(b"[ ") || argument.ends_with(b" ]")
+}
+
+/// Warns if a name begins or ends with a blank.
+fn warn_of_name(
+    alloc: Global,
+    text: &[u8],
+    argument: Option<&Extent>,
+    out: &mut Vec<Finding>,
+) -> Result<(), AllocError> {
+    let Some(extent) = argument else {
+        return Ok(());
+    };
+    if !has_end_blanks(text_of(text, extent)) {
+        return Ok(());
+    }
+    warn_of_part(
+        alloc,
+        out,
+        text,
+        *extent,
+        b"blank-in-name",
+        b"the blanks at the ends of this name are dropped; in Autoconf they are a part of it",
+        b"write the name without blanks",
+    )
+}
+
+/// Returns the argument of a call that a place names, if it is of this macro.
+fn argument_at<'a>(name: &[u8], call: &'a CallAt, place: &Place) -> Option<&'a Extent> {
+    if place.0 == name {
+        return call.args.get(place.1);
+    }
+    None
+}
+
+/// Warns of empty texts and of names with blanks at their ends.
+fn warn_of_places(
+    alloc: Global,
+    text: &[u8],
+    name: &[u8],
+    call: &CallAt,
+    out: &mut Vec<Finding>,
+) -> Result<(), AllocError> {
+    for place in &EMPTY {
+        warn_of_empty(alloc, text, argument_at(name, call, place), out)?;
+    }
+    for place in &NAMES {
+        warn_of_name(alloc, text, argument_at(name, call, place), out)?;
+    }
+    Ok(())
+}
+
+/// Returns whether an argument is there and isn't empty.
+fn is_given(text: &[u8], argument: Option<&Extent>) -> bool {
+    match argument {
+        Some(extent) => !bare(text_of(text, extent)).is_empty(),
+        None => false,
+    }
+}
+
+/// Warns of arguments of AC_CHECK_PROG and AS_CASE that are empty.
+fn warn_of_missing(
+    alloc: Global,
+    text: &[u8],
+    name: &[u8],
+    call: &CallAt,
+    out: &mut Vec<Finding>,
+) -> Result<(), AllocError> {
+    let args = &call.args;
+    if name == b"AC_CHECK_PROG".as_slice()
+        && !is_given(text, args.get(2))
+        && is_given(text, args.get(3))
+    {
+        return warn_of_part(
+            alloc,
+            out,
+            text,
+            whole(call),
+            b"empty-value",
+            b"if the program is found, the variable is empty; in Autoconf it gets the last argument",
+            b"give a value, as in AC_CHECK_PROG([HAVE_AWK], [awk], [yes], [no])",
+        );
+    }
+    if name == b"AS_CASE".as_slice() && !is_given(text, args.first()) {
+        return warn_of_part(
+            alloc,
+            out,
+            text,
+            whole(call),
+            b"empty-case",
+            b"Autoconf makes a script of a case without a word that doesn't run",
+            b"write the word, as in AS_CASE([$name], ..)",
+        );
+    }
+    Ok(())
+}
+
+/// Warns if a `;` is after a call of which Autoconf makes no shell text.
+fn warn_of_semicolon(
+    alloc: Global,
+    text: &[u8],
+    name: &[u8],
+    call: &CallAt,
+    out: &mut Vec<Finding>,
+) -> Result<(), AllocError> {
+    if !SILENT.iter().any(|other| *other == name)
+        || !after_blanks(from(text, call.end)).starts_with(b";")
+    {
+        return Ok(());
+    }
+    warn_of_part(
+        alloc,
+        out,
+        text,
+        whole(call),
+        b"semicolon-after-call",
+        b"Autoconf makes no shell text of this call, so a script with the `;` after it doesn't run",
+        b"put what is after the `;` on a line of its own",
     )
 }
 
 /// Warns of a call.
 fn warn_of_call(
     alloc: Global,
+    index: &Index,
     text: &[u8],
     call: &CallAt,
     out: &mut Vec<Finding>,
 ) -> Result<(), AllocError> {
+    if !call.is_of_profile {
+        return Ok(());
+    }
     let name = name_of(text, call);
-    if name == b"AC_CHECK_LIB".as_slice() {
-        return warn_of_main(alloc, text, call, call.args.get(1), out);
-    }
-    if name == b"AC_SEARCH_LIBS".as_slice() {
-        return warn_of_main(alloc, text, call, call.args.first(), out);
-    }
-    if name == b"AC_CHECK_HEADERS".as_slice() || name == b"AC_CHECK_FUNCS".as_slice() {
-        return warn_of_comma(alloc, text, call.args.first(), out);
-    }
-    Ok(())
+    warn_of_library(alloc, text, name, call, out)?;
+    warn_of_rows(alloc, text, &HELD, name, call, false, out)?;
+    warn_of_rows(alloc, text, &HELD_ONCE, name, call, true, out)?;
+    warn_of_places(alloc, text, name, call, out)?;
+    warn_of_missing(alloc, text, name, call, out)?;
+    warn_of_semicolon(alloc, text, name, call, out)?;
+    warn_of_texts(alloc, index, text, name, call, out)
 }
 
-/// Returns whether the call compiles or links something.
-fn compiles(name: &[u8]) -> bool {
-    name.starts_with(b"AC_CHECK_HEADER")
-        || name.starts_with(b"AC_CHECK_FUNC")
-        || name.starts_with(b"AC_CHECK_DECL")
-        || name.starts_with(b"AC_CHECK_TYPE")
-        || name == b"AC_CHECK_LIB".as_slice()
-        || name == b"AC_SEARCH_LIBS".as_slice()
-}
-
-/// Returns whether the call tries a program, by which a source may see whether the compiler works.
-fn tries(name: &[u8]) -> bool {
-    name == b"AC_LINK_IFELSE".as_slice()
-        || name == b"AC_COMPILE_IFELSE".as_slice()
-        || name == b"AC_RUN_IFELSE".as_slice()
-        || name == b"AC_CACHE_CHECK".as_slice()
-}
-
-/// Adds a warning about the first check that compiles something, if no program was tried before it (own).
-///
-/// # Errors
-///
-/// Fails only if memory runs out.
-pub fn warn_of_compiler(
+/// Warns of the calls.
+fn warn_of_each(
     alloc: Global,
+    index: &Index,
     text: &[u8],
     calls: &[CallAt],
     out: &mut Vec<Finding>,
 ) -> Result<(), AllocError> {
     for call in calls {
-        let name = name_of(text, call);
-        if tries(name) {
-            return Ok(());
-        }
-        if compiles(name) {
-            return warn(
-                alloc,
-                out,
-                call.start,
-                call.name_end,
-                b"compiler-not-tried",
-                b"nothing before this check tries whether the compiler works; with a misspelt flag in CFLAGS each check says no",
-                b"write after AC_PROG_CC\n  AC_CACHE_CHECK([whether the C compiler makes programs], [PACKAGE_cv_prog_cc_works],\n    [AC_LINK_IFELSE([AC_LANG_PROGRAM([], [])], [PACKAGE_cv_prog_cc_works=yes])])\n  AS_IF([test \"$PACKAGE_cv_prog_cc_works\" != yes],\n    [AC_MSG_ERROR([the C compiler makes no programs; config.log says why], [77])])",
-            );
-        }
+        warn_of_call(alloc, index, text, call, out)?;
     }
     Ok(())
 }
 
-/// Adds the warnings about calls: a library that is sought by `main`, and a comma in a list of headers or functions (own).
+/// Adds the warnings about calls: arguments that mean something else here than with Autoconf, or
+/// than they seem to, and names of macros in texts (own).
 ///
 /// # Errors
 ///
@@ -175,8 +326,6 @@ pub fn warn_of_calls(
     calls: &[CallAt],
     out: &mut Vec<Finding>,
 ) -> Result<(), AllocError> {
-    for call in calls {
-        warn_of_call(alloc, text, call, out)?;
-    }
-    Ok(())
+    let index = Index::new(alloc)?;
+    warn_of_each(alloc, &index, text, calls, out)
 }

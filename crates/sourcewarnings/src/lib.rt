@@ -1,19 +1,28 @@
-//! Warnings about a source that is read, and perhaps means something else than it seems to.
+//! Warnings about a source that means something else than it seems to, or than it means to
+//! Autoconf.
 //!
 //! ```text
 //! let calls = calls_of(alloc, text)?;
-//! warn_of_calls(alloc, text, calls.as_slice(), &mut found)?;   // AC_CHECK_LIB([m], [main]) is always no
-//! warn_of_compiler(alloc, text, calls.as_slice(), &mut found)?;  // nothing tries whether the compiler works
-//! warn_of_source(alloc, text, &source, &mut found)?;           // $srcdir is empty
+//! warn_of_calls(alloc, text, calls.as_slice(), &mut found)?;             // AC_CHECK_LIB([m], [main]) is always no
+//! warn_of_compiler(alloc, text, calls.as_slice(), &mut found)?;          // nothing tries whether the compiler works
+//! warn_of_source(alloc, text, calls.as_slice(), &source, &mut found)?;   // $srcdir is empty
 //! ```
 //!
 //! "own" marks a rule that no manual gives.
 //!
-//! `calls` reads the calls of the source, and `texts` its text and its statements.
+//! `extent` has the parts of a call, and `rows` what is looked for in arguments. `calls` and
+//! `foreign` read the calls of the source, `compiler` their order, and `texts` its text and its
+//! statements. `order` finds the first statement that can't be resumed.
 #![tactic(auto)]
 
 mod calls;
+mod compiler;
+mod extent;
+mod foreign;
+mod order;
+mod rows;
 mod texts;
 
-pub use calls::{warn_of_calls, warn_of_compiler};
+pub use calls::warn_of_calls;
+pub use compiler::warn_of_compiler;
 pub use texts::warn_of_source;

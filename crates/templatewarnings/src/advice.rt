@@ -43,12 +43,10 @@ const DEFINITIONS: [(&[u8], &[u8]); 11] = [
 
 /// Returns the text of the first row with this name, or an empty text.
 fn text_in(rows: &[(&'static [u8], &'static [u8])], name: &[u8]) -> &'static [u8] {
-    for row in rows {
-        if row.0 == name {
-            return row.1;
-        }
+    match rows.iter().find(|row| row.0 == name) {
+        Some(row) => row.1,
+        None => b"",
     }
-    b""
 }
 
 /// Returns what to write for an output variable that the source doesn't name, or an empty text.

@@ -2,7 +2,7 @@
 
 use crate::advice::variable_advice;
 use crate::given::Given;
-use crate::saying::{joined, near_question, warn};
+use crate::saying::{Form, warn_at, warn_of_name};
 use bstr::ByteSlice;
 use deftable::{SubstList, is_shell_name};
 use findings::{Finding, Span};
@@ -14,54 +14,19 @@ const BELOW_DATAROOTDIR: [&[u8]; 9] = [
     b"@mandir@", b"@datadir@", b"@localedir@", b"@docdir@", b"@infodir@", b"@htmldir@", b"@dvidir@", b"@pdfdir@", b"@psdir@",
 ];
 
-/// Warns of a name between two `@` that is no output variable.
-fn warn_of_name(
-    alloc: Global,
-    given: &Given,
-    span: Span,
-    name: &[u8],
-    out: &mut Vec<Finding>,
-) -> Result<(), AllocError> {
-    let message = joined(
-        alloc,
-        b"no statement sets @",
-        name,
-        b"@, so it stays as it is",
-    )?;
-    let advice = variable_advice(name);
-    if !advice.is_empty() {
-        return warn(
-            alloc,
-            out,
-            span,
-            b"unset-variable",
-            message.as_slice(),
-            advice,
-        );
-    }
-    let question = near_question(
-        alloc,
-        out.len(),
-        name,
-        &given.variables,
-        b"did you mean @",
-        b"@?",
-    )?;
-    warn(
-        alloc,
-        out,
-        span,
-        b"unset-variable",
-        message.as_slice(),
-        question.as_slice(),
-    )
-}
+/// How it is said that a name between two `@` is no output variable.
+const FORM: Form = Form {
+    code: b"unset-variable",
+    message: (b"no statement sets @", b"@, so it stays as it is"),
+    question: (b"did you mean @", b"@?"),
+};
 
 /// Warns of the name between two `@`, the first time that it occurs.
 fn warn_once(
     alloc: Global,
     given: &Given,
     seen: &mut SubstList,
+    text: &[u8],
     span: Span,
     name: &[u8],
     out: &mut Vec<Finding>,
@@ -70,7 +35,8 @@ fn warn_once(
         return Ok(());
     }
     seen.add(name)?;
-    warn_of_name(alloc, given, span, name, out)
+    let advice = variable_advice(name);
+    warn_of_name(alloc, out, text, span, FORM, name, advice, &given.variables)
 }
 
 /// Warns of each name between two `@` that is no output variable, once.
@@ -92,7 +58,7 @@ fn warn_of_names(
                 start: at - 1,
                 end: end.saturating_add(1),
             };
-            warn_once(alloc, given, &mut seen, span, piece, out)?;
+            warn_once(alloc, given, &mut seen, text, span, piece, out)?;
         }
         at = end.saturating_add(1);
     }
@@ -119,18 +85,12 @@ fn warn_of_directories(
     if text.contains_str(b"datarootdir") {
         return Ok(());
     }
-    let Some((start, length)) = first_of(text, &BELOW_DATAROOTDIR) else {
-        return Ok(());
-    };
-    let span = Span {
-        file,
-        start,
-        end: start.saturating_add(length),
-    };
-    warn(
+    warn_at(
         alloc,
         out,
-        span,
+        text,
+        file,
+        first_of(text, &BELOW_DATAROOTDIR),
         b"no-datarootdir",
         b"its value begins with ${datarootdir}, which this template does not set: files would go to /man, /doc and the like",
         b"add the line\n  datarootdir = @datarootdir@",
@@ -144,26 +104,42 @@ fn warn_of_script(
     text: &[u8],
     out: &mut Vec<Finding>,
 ) -> Result<(), AllocError> {
-    let Some(start) = text.find(b"./config.status") else {
-        return Ok(());
-    };
-    let span = Span {
-        file,
-        start,
-        end: start.saturating_add(15),
-    };
-    warn(
+    warn_at(
         alloc,
         out,
-        span,
+        text,
+        file,
+        first_of(text, &[b"./config.status"]),
         b"config-status-script",
         b"config.status is a record here, and no script that can be run",
         b"write `acrun status NAME` in the rule, and `acrun status --recheck` for `./config.status --recheck`",
     )
 }
 
+/// Warns if the last line of the template has no newline.
+fn warn_of_end(
+    alloc: Global,
+    file: usize,
+    text: &[u8],
+    out: &mut Vec<Finding>,
+) -> Result<(), AllocError> {
+    if text.is_empty() || text.ends_with(b"\n") {
+        return Ok(());
+    }
+    warn_at(
+        alloc,
+        out,
+        text,
+        file,
+        Some((text.len(), 0)),
+        b"no-newline-at-end",
+        b"the last line has no newline, and so has that of the file that is made; Autoconf adds one",
+        b"add a newline at the end of the template",
+    )
+}
+
 /// Adds the warnings about the template of a file: names between two `@` that no statement sets, a directory below `datarootdir`
-/// without that, and a rule that runs `config.status` (own).
+/// without that, a rule that runs `config.status`, and a last line without a newline (own).
 ///
 /// # Errors
 ///
@@ -177,5 +153,6 @@ pub fn warn_of_file(
 ) -> Result<(), AllocError> {
     warn_of_names(alloc, given, file, text, out)?;
     warn_of_directories(alloc, file, text, out)?;
-    warn_of_script(alloc, file, text, out)
+    warn_of_script(alloc, file, text, out)?;
+    warn_of_end(alloc, file, text, out)
 }

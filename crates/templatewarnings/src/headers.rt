@@ -2,40 +2,23 @@
 
 use crate::advice::definition_advice;
 use crate::given::{Given, add_name};
-use crate::saying::{joined, near_question, warn};
+use crate::saying::{Form, joined, warn_of_name};
 use bstr::ByteSlice;
 use deftable::{SubstList, is_shell_name};
-use findings::{Finding, Span};
+use findings::{Finding, Span, warn};
 use std::alloc::{AllocError, Global};
-
-/// Returns the text without the spaces and tabs at its front.
-fn trimmed(text: &[u8]) -> &[u8] {
-    let count = text
-        .iter()
-        .take_while(|byte| **byte == b' ' || **byte == b'\t')
-        .count();
-    &text[count..]
-}
-
-/// Returns the letters, digits and `_` at the front.
-fn word(text: &[u8]) -> &[u8] {
-    let count = text
-        .iter()
-        .take_while(|byte| byte.is_ascii_alphanumeric() || **byte == b'_')
-        .count();
-    &text[..count]
-}
+use textpieces::{after_blanks, first_name};
 
 /// Returns the identifier of a line with `#undef`, or with `#define` if that is asked for too, with its offset in the line.
 fn named(line: &[u8], takes_define: bool) -> Option<(usize, &[u8])> {
-    let hash = trimmed(line).strip_prefix(b"#")?;
-    let keyword = word(trimmed(hash));
-    let rest = trimmed(hash).strip_prefix(keyword)?;
+    let hash = after_blanks(line).strip_prefix(b"#")?;
+    let keyword = first_name(after_blanks(hash));
+    let rest = after_blanks(hash).strip_prefix(keyword)?;
     if keyword != b"undef".as_slice() && !(takes_define && keyword == b"define".as_slice()) {
         return None;
     }
-    let name = word(trimmed(rest));
-    let at = line.len().saturating_sub(trimmed(rest).len());
+    let name = first_name(after_blanks(rest));
+    let at = line.len().saturating_sub(after_blanks(rest).len());
     if at > 0 && is_shell_name(name) {
         Some((at, name))
     } else {
@@ -43,49 +26,19 @@ fn named(line: &[u8], takes_define: bool) -> Option<(usize, &[u8])> {
     }
 }
 
-/// Warns of a name that is undefined and that nothing defines.
-fn warn_of_name(
-    alloc: Global,
-    given: &Given,
-    span: Span,
-    name: &[u8],
-    out: &mut Vec<Finding>,
-) -> Result<(), AllocError> {
-    let message = joined(alloc, b"no statement defines ", name, b"")?;
-    let advice = definition_advice(name);
-    if !advice.is_empty() {
-        return warn(
-            alloc,
-            out,
-            span,
-            b"never-defined",
-            message.as_slice(),
-            advice,
-        );
-    }
-    let question = near_question(
-        alloc,
-        out.len(),
-        name,
-        &given.defined,
-        b"did you mean ",
-        b"?",
-    )?;
-    warn(
-        alloc,
-        out,
-        span,
-        b"never-defined",
-        message.as_slice(),
-        question.as_slice(),
-    )
-}
+/// How it is said that nothing defines a name.
+const FORM: Form = Form {
+    code: b"never-defined",
+    message: (b"no statement defines ", b""),
+    question: (b"did you mean ", b"?"),
+};
 
 /// Warns of the name of a line that begins at this offset, if it is undefined and nothing defines it.
 fn warn_of_line(
     alloc: Global,
     given: &Given,
     file: usize,
+    text: &[u8],
     at: usize,
     line: &[u8],
     out: &mut Vec<Finding>,
@@ -102,7 +55,8 @@ fn warn_of_line(
         start,
         end: start.saturating_add(name.len()),
     };
-    warn_of_name(alloc, given, span, name, out)
+    let advice = definition_advice(name);
+    warn_of_name(alloc, out, text, span, FORM, name, advice, &given.defined)
 }
 
 /// Adds the warnings about the template of a header: each name with `#undef` that no statement defines (own).
@@ -119,7 +73,7 @@ pub fn warn_of_header(
 ) -> Result<(), AllocError> {
     let mut at = 0usize;
     for line in text.split(|byte| *byte == b'\n') {
-        warn_of_line(alloc, given, file, at, line, out)?;
+        warn_of_line(alloc, given, file, text, at, line, out)?;
         at = at.saturating_add(line.len()).saturating_add(1);
     }
     Ok(())
@@ -189,6 +143,7 @@ fn warn_of_definition(
     warn(
         alloc,
         out,
+        source,
         place_of_definition(source, name),
         b"not-in-header",
         message.as_slice(),

@@ -2,7 +2,7 @@
 
 use deftable::{Bytes, SubstList};
 use faultwords::near_name;
-use findings::{Finding, Severity, Span};
+use findings::{Finding, Span, warn};
 use std::alloc::{AllocError, Global};
 
 /// Returns three texts as one.
@@ -18,20 +18,6 @@ pub(crate) fn joined(
     Ok(all)
 }
 
-/// Adds a warning.
-pub(crate) fn warn(
-    alloc: Global,
-    out: &mut Vec<Finding>,
-    span: Span,
-    code: &[u8],
-    message: &[u8],
-    help: &[u8],
-) -> Result<(), AllocError> {
-    let finding = Finding::from_slices(alloc, span, Severity::Warning, code, message, help)?;
-    out.push(finding)?;
-    Ok(())
-}
-
 /// Returns the names as slices.
 fn slices<'a>(alloc: Global, names: &'a [Bytes]) -> Result<Vec<&'a [u8]>, AllocError> {
     let mut all = Vec::with_capacity(alloc, names.len())?;
@@ -44,9 +30,9 @@ fn slices<'a>(alloc: Global, names: &'a [Bytes]) -> Result<Vec<&'a [u8]>, AllocE
 /// How many findings may have been made before no near name is sought any more.
 const SOUGHT: usize = 200;
 
-/// Returns the question whether a near name was meant, between these texts, or an empty text if no name is near. After this many
-/// findings it is an empty text.
-pub(crate) fn near_question(
+/// Returns the question whether a near name was meant, between these texts, or an empty text if no
+/// name is near. After this many findings it is an empty text.
+fn near_question(
     alloc: Global,
     found: usize,
     name: &[u8],
@@ -62,4 +48,66 @@ pub(crate) fn near_question(
         Some(near) => joined(alloc, front, near, back),
         None => Ok(Vec::new(alloc)),
     }
+}
+
+/// How it is said that a name has no value.
+#[derive(Clone, Copy)]
+pub(crate) struct Form {
+    pub(crate) code: &'static [u8],
+    /// The message before the name, and after it.
+    pub(crate) message: (&'static [u8], &'static [u8]),
+    /// The question before a name that is near, and after it.
+    pub(crate) question: (&'static [u8], &'static [u8]),
+}
+
+/// Warns of a name that has no value, with this advice, or with the nearest of some names if the
+/// advice is empty.
+pub(crate) fn warn_of_name(
+    alloc: Global,
+    out: &mut Vec<Finding>,
+    text: &[u8],
+    span: Span,
+    form: Form,
+    name: &[u8],
+    advice: &[u8],
+    names: &SubstList,
+) -> Result<(), AllocError> {
+    let message = joined(alloc, form.message.0, name, form.message.1)?;
+    let message = message.as_slice();
+    if !advice.is_empty() {
+        return warn(alloc, out, text, span, form.code, message, advice);
+    }
+    let (front, back) = form.question;
+    let question = near_question(alloc, out.len(), name, names, front, back)?;
+    warn(
+        alloc,
+        out,
+        text,
+        span,
+        form.code,
+        message,
+        question.as_slice(),
+    )
+}
+
+/// Warns of a part of a file, if it is there: its offset and its length.
+pub(crate) fn warn_at(
+    alloc: Global,
+    out: &mut Vec<Finding>,
+    text: &[u8],
+    file: usize,
+    part: Option<(usize, usize)>,
+    code: &[u8],
+    message: &[u8],
+    help: &[u8],
+) -> Result<(), AllocError> {
+    let Some((start, length)) = part else {
+        return Ok(());
+    };
+    let span = Span {
+        file,
+        start,
+        end: start.saturating_add(length),
+    };
+    warn(alloc, out, text, span, code, message, help)
 }

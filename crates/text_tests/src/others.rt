@@ -1,6 +1,7 @@
 //! macrotable: what is said of other macros.
 
-use macrotable::{Kind, entry_of, fill};
+use macrotable::{Entry, Index, Kind, fill};
+use std::alloc::{AllocError, Global};
 use std::test::Fail;
 use testrows::{Call, Page, cut, try_rows};
 
@@ -45,9 +46,14 @@ fn name_of(kind: Kind) -> &'static [u8] {
     }
 }
 
+fn found(alloc: Global, name: &[u8]) -> Result<Option<Entry>, AllocError> {
+    let index = Index::new(alloc)?;
+    index.entry_of(alloc, name)
+}
+
 fn put_said(page: &mut Page, name: &[u8]) {
-    let found = entry_of(page.alloc(), name);
-    match page.given(found) {
+    let given = found(page.alloc(), name);
+    match page.given(given) {
         Some(Some(entry)) => {
             page.put(name_of(entry.kind));
             page.put(entry.name);
@@ -66,8 +72,8 @@ fn put_filled(page: &mut Page, text: &[u8], arguments: &[&[u8]]) {
 }
 
 fn put_made(page: &mut Page, name: &[u8], arguments: &[&[u8]]) {
-    let found = entry_of(page.alloc(), name);
-    if let Some(Some(entry)) = page.given(found) {
+    let given = found(page.alloc(), name);
+    if let Some(Some(entry)) = page.given(given) {
         put_filled(page, entry.text, arguments);
     }
 }

@@ -4,21 +4,22 @@ ghost use Rattle.std.specs.Prelude.{◌≡◌, IfOk};
 ghost use Rattle.findings.specs.declared.finding.Severity.TheVariants.{Error};
 
 use crate::arguments::{argument_words, macros};
-use crate::calls::{argument_count, before_close, first_argument, last_name, open_call, unquoted};
-use crate::lines::{
-    after_blanks, before, first_line, first_name, first_word, from, is_argument, without_end_blanks,
+use crate::calls::{
+    argument_count, before_close, first_argument, is_argument, last_name, open_call, unquoted,
 };
-use crate::near::near_name;
-use crate::page::Page;
 use crate::shell::{Construct, shell_help, test_help, word_help};
 use acmacros::table::row_named;
 use acstatement::ParseFault;
 use bstr::ByteSlice;
 use deftable::Bytes;
+use faultwords::Page;
 use findings::Finding;
 use m4quote::QuoteFault;
 use shellword::ShellFault;
 use std::alloc::{AllocError, Global};
+use textpieces::{
+    after_blanks, before, first_line, first_name, first_word, from, without_end_blanks,
+};
 
 /// The text around a fault.
 #[derive(Clone, Copy)]
@@ -94,30 +95,44 @@ fn put_other_quote(page: &mut Page, fault: QuoteFault) {
     }
 }
 
+/// Writes the macro that has the nearest name, or else other help.
+fn put_near_macro(
+    alloc: Global,
+    page: &mut Page,
+    name: &[u8],
+    otherwise: &[u8],
+) -> Result<(), AllocError> {
+    page.advise_near(
+        alloc,
+        name,
+        macros(),
+        b"a macro of a similar name is ",
+        otherwise,
+    )
+}
+
 /// Writes that a macro isn't known, and the nearest one.
 fn put_unknown(alloc: Global, page: &mut Page, name: &[u8]) -> Result<(), AllocError> {
     page.say(b"acrun does not know the macro ");
     page.say(name);
-    if let Some(near) = near_name(alloc, name, macros())? {
-        page.advise(b"a macro of a similar name is ");
-        page.advise(near);
-    } else {
-        page.advise(b"docs/guide.md says what to write in place of many macros");
-    }
-    Ok(())
+    put_near_macro(
+        alloc,
+        page,
+        name,
+        b"docs/guide.md says what to write in place of many macros",
+    )
 }
 
 /// Writes that a name with a parenthesis is no macro, and the nearest one.
 fn put_no_macro(alloc: Global, page: &mut Page, name: &[u8]) -> Result<(), AllocError> {
     page.say_text(name);
     page.say(b" is no macro, and no command is run");
-    if let Some(near) = near_name(alloc, name, macros())? {
-        page.advise(b"a macro of a similar name is ");
-        page.advise(near);
-    } else {
-        page.advise(b"the macros of a package itself are not read: write out what they do");
-    }
-    Ok(())
+    put_near_macro(
+        alloc,
+        page,
+        name,
+        b"the macros of a package itself are not read: write out what they do",
+    )
 }
 
 /// Returns whether a text begins with `=` and a blank.
@@ -422,67 +437,6 @@ fn put_fault(
         other => put_rest(page, around, other),
     }
     Ok(())
-}
-
-/// Returns where a fault of quotes is.
-fn quote_place(fault: QuoteFault) -> usize {
-    match fault {
-        QuoteFault::UnclosedQuote(at) => at,
-        QuoteFault::UnclosedParen(at) => at,
-        QuoteFault::StrayClose(at) => at,
-        QuoteFault::Nul(at) => at,
-        _ => 0,
-    }
-}
-
-/// Returns the offset of a fault, or of the end of the text if there is no AC_OUTPUT, or 0 if the fault has no place.
-fn offset_of(text: &[u8], fault: ParseFault) -> usize {
-    match fault {
-        ParseFault::Quote(fault) => quote_place(fault),
-        ParseFault::UnknownMacro(at) => at,
-        ParseFault::ArgCount(at) => at,
-        ParseFault::BadName(at) => at,
-        ParseFault::NotAtTop(at) => at,
-        ParseFault::CacheBody(at) => at,
-        ParseFault::NoOutput => text.len(),
-        other => offset_of_rest(other),
-    }
-}
-
-fn offset_of_rest(fault: ParseFault) -> usize {
-    match fault {
-        ParseFault::UnknownStatement(at) => at,
-        ParseFault::Shell(_, at) => at,
-        ParseFault::AfterOutput(at) => at,
-        ParseFault::TooDeep(at) => at,
-        ParseFault::TooMany(at) => at,
-        ParseFault::NewerVersion(at) => at,
-        _ => 0,
-    }
-}
-
-/// Returns the offset of the first byte, from this one on, that is in no blank, newline or comment.
-fn after_comments(text: &[u8], at: usize) -> usize {
-    let mut place = at;
-    let mut is_comment = false;
-    for byte in from(text, at) {
-        is_comment = *byte != b'\n' && (is_comment || *byte == b'#');
-        if !is_comment && !matches!(*byte, b' ' | b'\t' | b'\n' | b';') {
-            return place;
-        }
-        place = place.saturating_add(1);
-    }
-    at
-}
-
-/// Returns the offset at which a fault is shown: its own, or in text between calls that of the first byte that is no blank and no
-/// comment. A fault without an offset is shown at the start, or at the end if there is no AC_OUTPUT.
-pub fn fault_place(text: &[u8], fault: ParseFault) -> usize {
-    let at = offset_of(text, fault);
-    match fault {
-        ParseFault::UnknownStatement(_) | ParseFault::Shell(_, _) => after_comments(text, at),
-        _ => at,
-    }
 }
 
 /// Returns the length of what is marked at the place of a fault.

@@ -2,7 +2,7 @@
 //!
 //! Brackets and parentheses are counted, and nothing else is looked at: where these are at fault, the words may name another call.
 
-use crate::lines::{before, first_name, from, is_word_byte, without_end_blanks};
+use textpieces::{before, first_name, from, is_word_byte, without_end_blanks};
 
 /// How many brackets and parentheses are open.
 #[derive(Clone, Copy)]
@@ -132,4 +132,10 @@ pub(crate) fn unquoted(argument: &[u8]) -> &[u8] {
         [b'[', inside @ .., b']'] => inside,
         _ => argument,
     }
+}
+
+/// Returns whether the offset is the start of an argument: before it, but for blanks, is a parenthesis or a comma.
+pub(crate) fn is_argument(text: &[u8], at: usize) -> bool {
+    let front = without_end_blanks(before(text, at));
+    front.ends_with(b"(") || front.ends_with(b",")
 }

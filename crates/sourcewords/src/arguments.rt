@@ -58,12 +58,10 @@ const ROWS: [Row; 27] = [
 
 /// Returns what is said of a bad argument of the macro: what it is not, and what it may be.
 pub(crate) fn argument_words(name: &[u8]) -> (&'static [u8], &'static [u8]) {
-    for row in &ROWS {
-        if row.0 == name {
-            return (row.1, row.2);
-        }
+    match ROWS.iter().find(|row| row.0 == name) {
+        Some(row) => (row.1, row.2),
+        None => (b"is not what the argument may be", b""),
     }
-    (b"is not what the argument may be", b"")
 }
 
 /// The macros that acrun knows.

@@ -1,15 +1,15 @@
 //! What is said of shell text that is not read.
 
-use crate::lines::{after_blanks, first_line, first_name, first_word, from};
 use bstr::ByteSlice;
+use textpieces::{after_blanks, first_line, first_name, first_word, from};
 
 /// What a piece of shell text has that is not read, and the form that does it.
 #[derive(Clone, Copy)]
-pub struct Construct {
+pub(crate) struct Construct {
     /// What is wrong, in one line.
-    pub what: &'static [u8],
+    pub(crate) what: &'static [u8],
     /// What to do, in lines.
-    pub help: &'static [u8],
+    pub(crate) help: &'static [u8],
 }
 
 /// A key, what is wrong, and what to do.
@@ -184,32 +184,21 @@ fn row_words(row: &Row) -> Construct {
 
 /// Returns the first row whose key the word is.
 fn row_of_word(rows: &'static [Row], word: &[u8]) -> Option<Construct> {
-    for row in rows {
-        if row.0 == word {
-            return Some(row_words(row));
-        }
-    }
-    None
+    rows.iter().find(|row| row.0 == word).map(row_words)
 }
 
 /// Returns the first row with whose key the text begins.
 fn row_of_front(rows: &'static [Row], text: &[u8]) -> Option<Construct> {
-    for row in rows {
-        if text.starts_with(row.0) {
-            return Some(row_words(row));
-        }
-    }
-    None
+    rows.iter()
+        .find(|row| text.starts_with(row.0))
+        .map(row_words)
 }
 
 /// Returns the first row whose key is in the text.
 fn row_of_part(rows: &'static [Row], text: &[u8]) -> Option<Construct> {
-    for row in rows {
-        if text.contains_str(row.0) {
-            return Some(row_words(row));
-        }
-    }
-    None
+    rows.iter()
+        .find(|row| text.contains_str(row.0))
+        .map(row_words)
 }
 
 /// Returns the first row whose key is a word of the text.
@@ -329,7 +318,7 @@ fn front_help(text: &[u8]) -> Option<Construct> {
 /// Returns what is wrong with a statement of the shell, and the form that does it, as far as its text tells that.
 ///
 /// The text begins at the statement and may go on after it.
-pub fn shell_help(statement: &[u8]) -> Option<Construct> {
+pub(crate) fn shell_help(statement: &[u8]) -> Option<Construct> {
     if let Some(found) = front_help(statement) {
         return Some(found);
     }
@@ -341,7 +330,7 @@ pub fn shell_help(statement: &[u8]) -> Option<Construct> {
 }
 
 /// Returns what is wrong with a test, as far as its text tells that. The text is without the quotes around it.
-pub fn test_help(test: &[u8]) -> Option<Construct> {
+pub(crate) fn test_help(test: &[u8]) -> Option<Construct> {
     if test.contains(&b'\r') {
         return Some(RETURN);
     }

@@ -1,0 +1,142 @@
+//! Names of macros in arguments that are text.
+
+use crate::extent::{bare, part, text_of, warn_of_part};
+use crate::rows::TEXTS;
+use findings::Finding;
+use macrotable::{Index, Kind};
+use sourcecalls::{CallAt, Extent};
+use std::alloc::{AllocError, Global};
+use textpieces::{before, is_word_byte};
+
+/// The macro that may be in an argument with help.
+const HELP: &[u8] = b"AS_HELP_STRING";
+
+/// Returns whether a word begins as the names of macros do.
+fn has_front(word: &[u8]) -> bool {
+    let is_named = word.starts_with(b"AC_")
+        || word.starts_with(b"AS_")
+        || word.starts_with(b"AM_")
+        || word.starts_with(b"m4_");
+    is_named && word.len() > 3
+}
+
+/// Returns whether the table has an entry for this word alone.
+fn is_in_table(alloc: Global, index: &Index, word: &[u8]) -> Result<bool, AllocError> {
+    match index.entry_of(alloc, word)? {
+        Some(entry) => Ok(!matches!(entry.kind, Kind::Family)),
+        None => Ok(false),
+    }
+}
+
+/// Returns whether a word is the name of a macro.
+fn is_macro(alloc: Global, index: &Index, word: &[u8]) -> Result<bool, AllocError> {
+    if has_front(word) {
+        return Ok(true);
+    }
+    is_in_table(alloc, index, word)
+}
+
+/// Returns how many brackets are open at the end of a text.
+fn depth_of(text: &[u8]) -> usize {
+    let mut depth: usize = 0;
+    for byte in text {
+        depth = depth.saturating_add(usize::from(*byte == b'['));
+        depth = depth.saturating_sub(usize::from(*byte == b']'));
+    }
+    depth
+}
+
+/// Returns whether a word at this offset of an argument is read as text here, and as a macro by
+/// Autoconf: it isn't the name of a variable, and isn't in more brackets than these.
+fn is_expanded(argument: &[u8], at: usize, most: usize) -> bool {
+    let front = before(argument, at);
+    !front.ends_with(b"$") && !front.ends_with(b"${") && depth_of(front) <= most
+}
+
+/// Returns the first name of a macro in an argument that Autoconf expands, by its offset, but for
+/// one that is this.
+fn first_macro(
+    alloc: Global,
+    index: &Index,
+    argument: &[u8],
+    most: usize,
+    but: &[u8],
+) -> Result<Option<(usize, usize)>, AllocError> {
+    let mut at: usize = 0;
+    for word in argument.split(|byte| !is_word_byte(*byte)) {
+        if !word.is_empty()
+            && word != but
+            && is_macro(alloc, index, word)?
+            && is_expanded(argument, at, most)
+        {
+            return Ok(Some((at, word.len())));
+        }
+        at = at.saturating_add(word.len()).saturating_add(1);
+    }
+    Ok(None)
+}
+
+/// Returns the first name of a macro in an argument that Autoconf expands.
+fn macro_in(
+    alloc: Global,
+    index: &Index,
+    argument: &[u8],
+) -> Result<Option<(usize, usize)>, AllocError> {
+    if bare(argument).starts_with(HELP) {
+        return first_macro(alloc, index, argument, 2, HELP);
+    }
+    first_macro(alloc, index, argument, 1, b"")
+}
+
+/// Returns what to do about the name of a macro in a text.
+fn help_for(word: &[u8]) -> &'static [u8] {
+    if word == b"AC_HELP_STRING".as_slice() {
+        b"write AS_HELP_STRING"
+    } else {
+        b"write the text that is meant, or put it in two pairs of brackets"
+    }
+}
+
+/// Warns if an argument that is text has the name of a macro.
+fn warn_of_text(
+    alloc: Global,
+    index: &Index,
+    text: &[u8],
+    extent: &Extent,
+    out: &mut Vec<Finding>,
+) -> Result<(), AllocError> {
+    let argument = text_of(text, extent);
+    let Some((at, length)) = macro_in(alloc, index, argument)? else {
+        return Ok(());
+    };
+    let start = extent.start.saturating_add(at);
+    let end = start.saturating_add(length);
+    warn_of_part(
+        alloc,
+        out,
+        text,
+        Extent { start, end },
+        b"macro-in-text",
+        b"the name of this macro is text here; Autoconf expands it",
+        help_for(part(text, start, end)),
+    )
+}
+
+/// Warns of names of macros in the arguments of a call that are text.
+pub(crate) fn warn_of_texts(
+    alloc: Global,
+    index: &Index,
+    text: &[u8],
+    name: &[u8],
+    call: &CallAt,
+    out: &mut Vec<Finding>,
+) -> Result<(), AllocError> {
+    for place in &TEXTS {
+        if place.0 == name
+            && let Some(extent) = call.args.get(place.1)
+        {
+            warn_of_text(alloc, index, text, extent, out)?;
+        }
+    }
+    Ok(())
+}
