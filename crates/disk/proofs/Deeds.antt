@@ -5,7 +5,8 @@ use Rattle.disk.specs.Known.{Known, Deed, with_deeds, Adds, Does}
 pub with_none : (k : Known) → k ≡ with_deeds k []
 with_none k = ap (λ d. record { deeds = d; texts = k.texts; kinds = k.kinds }) (sym (append-nil k.deeds))
 
-pub with_more : (k : Known) (d e : List Deed) → with_deeds (with_deeds k d) e ≡ with_deeds k (d ++ e)
+pub with_more : (k : Known) (d e : List Deed)
+    → with_deeds (with_deeds k d) e ≡ with_deeds k (d ++ e)
 with_more k d e = ap (λ l. record { deeds = l; texts = k.texts; kinds = k.kinds }) (append_assoc k.deeds d e)
 
 -- Nothing was done.
@@ -14,7 +15,8 @@ adds_none None = tt
 adds_none (Some k) = with_none k
 
 -- One thing after the other.
-pub adds_then : (a b c : Option Known) (d e : List Deed) → Adds a b d → Adds b c e → Adds a c (d ++ e)
+pub adds_then : (a b c : Option Known) (d e : List Deed) → Adds a b d → Adds b c e
+    → Adds a c (d ++ e)
 adds_then None None None d e p q = tt
 adds_then None None (Some c) d e p q = absurd q
 adds_then None (Some b) c d e p q = absurd p
@@ -23,16 +25,19 @@ adds_then (Some a) (Some b) None d e p q = absurd q
 adds_then (Some a) (Some b) (Some c) d e p q = q ∙ ap (λ k. with_deeds k e) p ∙ with_more a d e
 
 -- Deeds that are known have a property.
-pub does : (a b : Option Known) (d : List Deed) (P : Known → List Deed → Type 0) → Adds a b d → ((k : Known) → P k d) → Does a b P
+pub does : (a b : Option Known) (d : List Deed) (P : Known → List Deed → Type 0) → Adds a b d
+    → ((k : Known) → P k d) → Does a b P
 does None None d P p f = tt
 does None (Some b) d P p f = absurd p
 does (Some a) None d P p f = absurd p
 does (Some a) (Some b) d P p f = (d, p, f a)
 
-pub does_none : (a : Option Known) (P : Known → List Deed → Type 0) → ((k : Known) → P k []) → Does a a P
+pub does_none : (a : Option Known) (P : Known → List Deed → Type 0) → ((k : Known) → P k [])
+    → Does a a P
 does_none a P f = does a a [] P (adds_none a) f
 
-pub does_then : (a b c : Option Known) (P Q R : Known → List Deed → Type 0) → Does a b P → Does b c Q
+pub does_then : (a b c : Option Known) (P Q R : Known → List Deed → Type 0) → Does a b P
+    → Does b c Q
     → ((k : Known) (d e : List Deed) → P k d → Q (with_deeds k d) e → R k (d ++ e)) → Does a c R
 does_then None None None P Q R p q f = tt
 does_then None None (Some c) P Q R p q f = absurd q
@@ -43,7 +48,8 @@ does_then (Some a) (Some b) (Some c) P Q R p q f =
     (p.0 ++ q.0, q.1 ∙ ap (λ k. with_deeds k q.0) p.1 ∙ with_more a p.0 q.0, f a p.0 q.0 p.2 (subst (λ k. Q k q.0) p.1 q.2))
 
 -- Another property follows, also from what is known before.
-pub does_more : (a b : Option Known) (X : Known → Type 0) (P Q : Known → List Deed → Type 0) → IfSome a X → Does a b P
+pub does_more : (a b : Option Known) (X : Known → Type 0) (P Q : Known → List Deed → Type 0)
+    → IfSome a X → Does a b P
     → ((k : Known) (d : List Deed) → X k → P k d → Q k d) → Does a b Q
 does_more None None X P Q x p f = tt
 does_more None (Some b) X P Q x p f = absurd p
@@ -51,7 +57,8 @@ does_more (Some a) None X P Q x p f = absurd p
 does_more (Some a) (Some b) X P Q x p f = (p.0, p.1, f a p.0 x p.2)
 
 -- Something holds after the deeds.
-pub after_does : (a b : Option Known) (X Y : Known → Type 0) (P : Known → List Deed → Type 0) → IfSome a X → Does a b P
+pub after_does : (a b : Option Known) (X Y : Known → Type 0) (P : Known → List Deed → Type 0)
+    → IfSome a X → Does a b P
     → ((k : Known) (d : List Deed) → X k → P k d → Y (with_deeds k d)) → IfSome b Y
 after_does None None X Y P x p f = tt
 after_does None (Some b) X Y P x p f = absurd p

@@ -17,8 +17,9 @@ pub data Deed : Type 0 where
   -- A file was removed, if that was possible.
   Removed : (name : List ℕ) → Deed
 
--- What is known of a disk that nobody else changes: what was done to it, in order; the text of the regular file that each name
--- leads to, after these deeds, if it can be read; and what is under each name, after these deeds. (own)
+-- What is known of a disk that nobody else changes: what was done to it, in order; the text of the
+-- regular file that each name leads to, after these deeds, if it can be read; and what is under
+-- each name, after these deeds. (own)
 pub record Known : Type 0 where
   pub deeds : List Deed
   pub texts : List Deed → List ℕ → Option (List ℕ)
@@ -36,14 +37,16 @@ kind_under k name = k.kinds k.deeds name
 abbrev pub with_deeds : Known → List Deed → Known
 with_deeds k deeds = record { deeds = k.deeds ++ deeds; texts = k.texts; kinds = k.kinds }
 
--- If something is known, these deeds are added. If nothing is known, nothing is known afterwards. (own)
+-- If something is known, these deeds are added. If nothing is known, nothing is known afterwards.
+-- (own)
 abbrev pub Adds : Option Known → Option Known → List Deed → Type 0
 Adds None None deeds = ⊤
 Adds None (Some new) deeds = ⊥
 Adds (Some old) None deeds = ⊥
 Adds (Some old) (Some new) deeds = new ≡ with_deeds old deeds
 
--- If something is known, some deeds are added that have this property, given what was known before. (own)
+-- If something is known, some deeds are added that have this property, given what was known before.
+-- (own)
 abbrev pub Does : Option Known → Option Known → (Known → List Deed → Type 0) → Type 0
 Does None None P = ⊤
 Does None (Some new) P = ⊥

@@ -8,8 +8,8 @@ use deftable::Bytes;
 use std::alloc::{AllocError, Global};
 use std::io;
 
-/// Reads, makes, renames and removes files by their names. The meaning of a disk is what was done to it, and what is under each name
-/// (own).
+/// Reads, makes, renames and removes files by their names. The meaning of a disk is what was done
+/// to it, and what is under each name (own).
 pub trait Disk: Drop {
     /// A new file, which is being written.
     type File: Drop;
@@ -17,17 +17,20 @@ pub trait Disk: Drop {
     // What was done so far, and what is under each name, if that is known.
     ghost known: { Self → Option Known } = { λ _. None };
 
-    /// Returns the text of a regular file, or its first 64 MiB and one byte more, or `None` if it can't be read. Links are followed, and
-    /// nothing but a regular file is opened.
+    /// Returns the text of a regular file, or its first 64 MiB and one byte more, or `None` if it
+    /// can't be read. Links are followed, and nothing but a regular file is opened.
     ///
     /// # Errors
     ///
     /// Fails only if memory runs out.
     fn read(&self, alloc: Global, name: &str) -> Result<Option<Bytes>, AllocError>
-        ensures { IfOk result (λ text. IfSome (known self.now) (λ k. text ≡ option_map limited (text_under k name.now))) };
+        ensures { IfOk result
+            (λ text. IfSome (known self.now)
+            (λ k. text ≡ option_map limited (text_under k name.now))) };
 
-    /// Returns why [`Disk::read`] reads nothing, or not all, under a name, or `None` if the file can be opened and has no more than 64
-    /// MiB. The file is looked at now, and may have been another one before.
+    /// Returns why [`Disk::read`] reads nothing, or not all, under a name, or `None` if the file
+    /// can be opened and has no more than 64 MiB. The file is looked at now, and may have been
+    /// another one before.
     fn cause(&self, name: &str) -> Option<io::Error>;
 
     /// Returns what is under a name. A link is not followed.
@@ -36,7 +39,8 @@ pub trait Disk: Drop {
     ///
     /// Fails if the system refuses to look.
     fn look(&self, name: &str) -> io::Result<Found>
-        ensures { IfOk result (λ found. IfSome (known self.now) (λ k. found ≡ kind_under k name.now)) };
+        ensures { IfOk result
+            (λ found. IfSome (known self.now) (λ k. found ≡ kind_under k name.now)) };
 
     /// Returns the name that a link has.
     ///
@@ -45,7 +49,8 @@ pub trait Disk: Drop {
     /// Fails if memory runs out, or the link can't be read.
     fn link_target(&self, alloc: Global, name: &str) -> io::Result<String>;
 
-    /// Returns the device of a directory and its number there. Two names of directories have the same exactly if they are names of one.
+    /// Returns the device of a directory and its number there. Two names of directories have the
+    /// same exactly if they are names of one.
     ///
     /// # Errors
     ///
@@ -64,13 +69,14 @@ pub trait Disk: Drop {
     ///
     /// # Errors
     ///
-    /// Fails if there is something under this name, or the system refuses that. Then nothing is made.
+    /// Fails if there is something under this name, or the system refuses that. Then nothing is
+    /// made.
     fn create(&mut self, name: &str) -> io::Result<Self::File>
         ensures made { OnOk result (Adds (known self.old) (known self.new) (Made name.now ∷ [])) }
         ensures refused { OnErr result (Adds (known self.old) (known self.new) []) };
 
-    /// Writes a text to the new file of this name, and closes it. If `mode` has permission bits, the file has them before it has the
-    /// text.
+    /// Writes a text to the new file of this name, and closes it. If `mode` has permission bits,
+    /// the file has them before it has the text.
     ///
     /// # Errors
     ///
@@ -82,8 +88,10 @@ pub trait Disk: Drop {
         mode: Option<u32>,
         text: &[u8],
     ) -> io::Result<()>
-        ensures filled { OnOk result (Adds (known self.old) (known self.new) (Filled name.now mode text.now ∷ [])) }
-        ensures refused { OnErr result (Adds (known self.old) (known self.new) (Failed name.now ∷ [])) };
+        ensures filled { OnOk result
+            (Adds (known self.old) (known self.new) (Filled name.now mode text.now ∷ [])) }
+        ensures refused { OnErr result
+            (Adds (known self.old) (known self.new) (Failed name.now ∷ [])) };
 
     /// Gives a file another name. What is under that name is replaced.
     ///
@@ -91,7 +99,8 @@ pub trait Disk: Drop {
     ///
     /// Fails if the system refuses that. Then nothing has changed.
     fn rename(&mut self, from: &str, to: &str) -> io::Result<()>
-        ensures renamed { OnOk result (Adds (known self.old) (known self.new) (Renamed from.now to.now ∷ [])) }
+        ensures renamed { OnOk result
+            (Adds (known self.old) (known self.new) (Renamed from.now to.now ∷ [])) }
         ensures refused { OnErr result (Adds (known self.old) (known self.new) []) };
 
     /// Removes a file or a link. That it can't be removed is not reported.

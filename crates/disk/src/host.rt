@@ -29,7 +29,9 @@ impl<'a, F: Files> Host<'a, F> {
 
 /// Returns all that a reader gives, but no more than one byte too many.
 fn read_front<R: Read>(alloc: Global, reader: &mut R) -> Result<Option<Bytes>, AllocError>
-    ensures { IfOk result (λ o. IfSome o (λ text. IfSome (R.remaining reader.old) (λ all. text ≡ take (2 ^ 26 + 1) all))) }
+    ensures { IfOk result
+        (λ o. IfSome o
+        (λ text. IfSome (R.remaining reader.old) (λ all. text ≡ take (2 ^ 26 + 1) all))) }
 {
     let mut text = Vec::new(alloc);
     match reader.take(LARGEST_TEXT as u64 + 1).read_to_end(&mut text) {

@@ -8,9 +8,10 @@
 //! disk.rename("acrun-1.tmp", "Makefile")?;
 //! ```
 //!
-//! No contract of std says what a file holds. So a [`Disk`] has a ghost member: what was done to it so far, and what is under each
-//! name, if that is known. What a crate above reads and writes is proved for each disk of which it is known. Of the [`Host`], the real
-//! files, nothing is known: its functions are short, and only tests check them. "own" marks a rule that no manual gives.
+//! No contract of std says what a file holds. So a [`Disk`] has a ghost member: what was done to it
+//! so far, and what is under each name, if that is known. What a crate above reads and writes is
+//! proved for each disk of which it is known. Of the [`Host`], the real files, nothing is known:
+//! its functions are short, and only tests check them. "own" marks a rule that no manual gives.
 //!
 //! Read `specs/Known`, then `disk`, which has the trait, `found`, and `host`.
 #![tactic(auto)]

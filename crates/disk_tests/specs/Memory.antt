@@ -23,6 +23,7 @@ text_in file text name = if bytes_eq name file then Some text else None
 abbrev pub kind_in : List ℕ → List ℕ → Found
 kind_in file name = if bytes_eq name file then found.File 0o100755 else found.Nothing
 
--- what is known of a disk on which these steps were done, and on which this file is the only one that is found, whatever is done (own)
+-- what is known of a disk on which these steps were done, and on which this file is the only one
+-- that is found, whatever is done (own)
 abbrev pub known_of : List ℕ → List ℕ → List Step → Known
 known_of file text steps = record { deeds = map deed_of steps; texts = λ _ name. text_in file text name; kinds = λ _ name. kind_in file name }

@@ -12,7 +12,8 @@ use std::io::{self, ErrorKind};
 use std::process::Abort;
 use testrows::cut;
 
-/// A disk in memory on which one file is found, a program, whatever is done. It keeps what is done. If it is full, no file can be filled.
+/// A disk in memory on which one file is found, a program, whatever is done. It keeps what is done.
+/// If it is full, no file can be filled.
 #[derive(Drop)]
 pub struct MemoryDisk<'a, R: Abort> {
     rt: &'a R,
@@ -24,7 +25,8 @@ pub struct MemoryDisk<'a, R: Abort> {
 }
 
 impl<'a, R: Abort> MemoryDisk<'a, R> {
-    /// Returns a disk to which nothing was done, on which this file is found: its name, a blank, and its text.
+    /// Returns a disk to which nothing was done, on which this file is found: its name, a blank,
+    /// and its text.
     pub fn new(rt: &'a R, alloc: Global, file: &[u8], is_full: bool) -> MemoryDisk<'a, R>
         ensures { result.steps.items ≡ [] }
     {

@@ -45,7 +45,8 @@ fn put_filled(page: &mut Page, name: &Bytes, mode: Option<u32>, text: &Bytes) {
     page.put(b";");
 }
 
-/// Puts whether the receiver took the last file: its name, a blank and its text. If there is no name, does nothing.
+/// Puts whether the receiver took the last file: its name, a blank and its text. If there is no
+/// name, does nothing.
 fn put_closed<R: Abort>(
     page: &mut Page,
     outputs: &mut FileOutputs<MemoryDisk<'_, R>>,
@@ -86,8 +87,9 @@ fn put_after<R: Abort>(page: &mut Page, disk: MemoryDisk<'_, R>, things: &[Thing
     put_receiver(page, &outputs);
 }
 
-/// A row has four parts, with bars between them: the name of the one file that is found, a blank and its text; `full`, if no file can be
-/// filled, or `closed`, if the receiver is closed first; the things, with semicolons between them; and the last file.
+/// A row has four parts, with bars between them: the name of the one file that is found, a blank
+/// and its text; `full`, if no file can be filled, or `closed`, if the receiver is closed first;
+/// the things, with semicolons between them; and the last file.
 #[derive(Drop)]
 struct Deeds<'a, R: Abort> {
     rt: &'a R,

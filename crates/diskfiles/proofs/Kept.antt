@@ -7,14 +7,16 @@ use Rattle.outputs.specs.declared.thing.Kind.TheVariants.{Cache, Record, File, H
 use Rattle.diskfiles.specs.Lines.{IsSaid, cache, record_made, file, header, unchanged, AreLines, none, more}
 use Rattle.diskfiles.specs.Sayings.{saying_of, said}
 
-pub is_said : (kind : Kind) (left : Bool) (name : List ℕ) → IsSaid kind name (said (saying_of kind left) name)
+pub is_said : (kind : Kind) (left : Bool) (name : List ℕ)
+    → IsSaid kind name (said (saying_of kind left) name)
 is_said Cache left name = cache
 is_said Record left name = record_made
 is_said File left name = file
 is_said Header true name = unchanged
 is_said Header false name = header
 
-pub one_more : {things : List Thing} {lines : List ℕ} (thing : Thing) (line : List ℕ) → AreLines things lines → IsSaid thing.kind thing.name line
+pub one_more : {things : List Thing} {lines : List ℕ} (thing : Thing) (line : List ℕ)
+    → AreLines things lines → IsSaid thing.kind thing.name line
     → AreLines (things ++ thing ∷ []) (lines ++ line)
 one_more thing line none is_line =
     let P : List ℕ → Type 0 = λ text. AreLines (thing ∷ []) text in subst P (append-nil line) (more line [] is_line none)

@@ -19,11 +19,14 @@ use Rattle.diskfiles.specs.declared.writing.Keeps.{Keeps}
 use Rattle.diskfiles.proofs.Kept.{is_said, one_more}
 
 -- directories that are not made change nothing
-no_directories : (k : Known) (keeps : Keeps) (file text : List ℕ) (deeds : List Deed) → IsWritten (with_deeds k []) keeps file text deeds → IsWritten k keeps file text deeds
+no_directories : (k : Known) (keeps : Keeps) (file text : List ℕ) (deeds : List Deed)
+    → IsWritten (with_deeds k []) keeps file text deeds → IsWritten k keeps file text deeds
 no_directories k keeps file text deeds is = subst (λ l. IsWritten l keeps file text deeds) (sym (with_none k)) is
 
-pub put_is : (k : Known) (kind : Kind) (left : Bool) (name file text : List ℕ) (deeds : List Deed) → IsLeft kind k name text left → IsEnd k name kind file
-    → IsStepped k (saying_of kind left) left (keeps_of kind) name file text deeds → IsPut k name text kind (said (saying_of kind left) name) deeds
+pub put_is : (k : Known) (kind : Kind) (left : Bool) (name file text : List ℕ) (deeds : List Deed)
+    → IsLeft kind k name text left → IsEnd k name kind file
+    → IsStepped k (saying_of kind left) left (keeps_of kind) name file text deeds
+    → IsPut k name text kind (said (saying_of kind left) name) deeds
 put_is k Cache true name file text deeds is end s =
     let P : List Deed → Type 0 = λ d. IsPut k name text Cache [] d in subst P (sym (s.parts ∙ s.fills)) (cache_same is)
 put_is k Cache false name file text deeds is end s =
@@ -39,7 +42,8 @@ put_is k Header true name file text deeds is end s =
 put_is k Header false name file text deeds is itself s =
     let P : List Deed → Type 0 = λ d. IsPut k name text Header (said (saying_of Header false) name) d in subst P (sym s.parts) (header_put s.rest is s.fills)
 
-pub refused_is : (k : Known) (kind : Kind) (left : Bool) (name file : List ℕ) (deeds : List Deed) → IsEnd k name kind file
+pub refused_is : (k : Known) (kind : Kind) (left : Bool) (name file : List ℕ) (deeds : List Deed)
+    → IsEnd k name kind file
     → IsUnstepped (saying_of kind left) name file deeds → IsRefused k name kind deeds
 refused_is k kind left name file [] end before = made.undone name [] itself nothing
 refused_is k Cache left name file deeds end (after rest u) = made.undone file rest end u
@@ -48,12 +52,14 @@ refused_is k File left name file deeds itself (after rest u) = made.file_undone 
 refused_is k Header true name file deeds end (after rest u) = made.undone file rest end u
 refused_is k Header false name file deeds itself (after rest u) = made.header_undone rest u
 
-both : (X Y : Known → Type 0) (a : Option Known) → IfSome a X → IfSome a Y → IfSome a (λ k. X k × Y k)
+both : (X Y : Known → Type 0) (a : Option Known) → IfSome a X → IfSome a Y
+    → IfSome a (λ k. X k × Y k)
 both X Y None x y = tt
 both X Y (Some k) x y = (x, y)
 
 pub takes_is : {E : Type 0} (r : Result (Unit {0}) E) (a b : Option Known) (things : List Thing) (lines : List ℕ) (new_things : List Thing) (new_lines : List ℕ)
-    (kind : Kind) (left : Bool) (name file text : List ℕ) (thing : Thing) (saying : Saying) → thing ≡ record { kind = kind; name = name; text = text } → saying ≡ saying_of kind left
+    (kind : Kind) (left : Bool) (name file text : List ℕ) (thing : Thing) (saying : Saying)
+    → thing ≡ record { kind = kind; name = name; text = text } → saying ≡ saying_of kind left
     → IfSome a (λ k. IsLeft kind k name text left) → IfSome a (λ k. IsEnd k name kind file)
     → OnOk r (IsKept things lines new_things new_lines thing (said saying name))
     → OnOk r (Does a b (λ k deeds. IsStepped k saying left (keeps_of kind) name file text deeds))
@@ -72,7 +78,9 @@ takes_is (Ok u) a b things lines new_things new_lines kind left name file text t
     }
 
 pub refuses_is : {E : Type 0} (r : Result (Unit {0}) E) (a b : Option Known) (kind : Kind) (left : Bool) (name file : List ℕ) (saying : Saying) → saying ≡ saying_of kind left
-    → IfSome a (λ k. IsEnd k name kind file) → OnErr r (Does a b (λ _ deeds. IsUnstepped saying name file deeds)) → OnErr r (Does a b (λ k deeds. IsRefused k name kind deeds))
+    → IfSome a (λ k. IsEnd k name kind file)
+    → OnErr r (Does a b (λ _ deeds. IsUnstepped saying name file deeds))
+    → OnErr r (Does a b (λ k deeds. IsRefused k name kind deeds))
 refuses_is (Ok u) a b kind left name file saying says ends does = tt
 refuses_is (Err e) a b kind left name file saying says ends does =
     does_more a b (λ k. IsEnd k name kind file) _ (λ k deeds. IsRefused k name kind deeds) ends
@@ -80,18 +88,21 @@ refuses_is (Err e) a b kind left name file saying says ends does =
     (λ k d x s. refused_is k kind left name file d x s)
 
 -- Nothing was done for a put that was refused.
-pub refused_before : (a : Option Known) (kind : Kind) (name : List ℕ) → Does a a (λ k deeds. IsRefused k name kind deeds)
+pub refused_before : (a : Option Known) (kind : Kind) (name : List ℕ)
+    → Does a a (λ k deeds. IsRefused k name kind deeds)
 refused_before a kind name = does_none a (λ k deeds. IsRefused k name kind deeds) (λ k. made.undone name [] itself nothing)
 
 -- The lines after a put that was taken.
 pub lines_after : (a b : Option Known) (things : List Thing) (lines : List ℕ) (new_things : List Thing) (new_lines : List ℕ) (thing : Thing)
-    → AreLines things lines → Takes a b things lines new_things new_lines thing → AreLines new_things new_lines
+    → AreLines things lines → Takes a b things lines new_things new_lines thing
+    → AreLines new_things new_lines
 lines_after a b things lines new_things new_lines thing are takes =
     rw (takes.kept.thing_kept, takes.kept.line_kept) (one_more thing takes.line are takes.said)
 
 -- The deeds after a put that was taken.
 pub done_after : (a b : Option Known) (things : List Thing) (failures : ℕ) (lines : List ℕ) (new_things : List Thing) (new_lines : List ℕ) (thing : Thing)
-    → IfSome a (λ k. IsAllDone k things failures lines) → Takes a b things lines new_things new_lines thing
+    → IfSome a (λ k. IsAllDone k things failures lines)
+    → Takes a b things lines new_things new_lines thing
     → IfSome b (λ k. IsAllDone k new_things failures new_lines)
 done_after a b things failures lines new_things new_lines thing are takes =
     let P : Known → List Deed → Type 0 = λ k d. IsPut k thing.name thing.text thing.kind takes.line d in
@@ -101,7 +112,8 @@ done_after a b things failures lines new_things new_lines thing are takes =
 
 -- The deeds after a put that was refused.
 pub done_refused : (a b : Option Known) (things : List Thing) (failures : ℕ) (lines : List ℕ) (new_things : List Thing) (new_lines : List ℕ) (kind : Kind) (name : List ℕ)
-    → IfSome a (λ k. IsAllDone k things failures lines) → AreSame things lines new_things new_lines → Does a b (λ k d. IsRefused k name kind d)
+    → IfSome a (λ k. IsAllDone k things failures lines) → AreSame things lines new_things new_lines
+    → Does a b (λ k d. IsRefused k name kind d)
     → IfSome b (λ k. IsAllDone k new_things (failures + 1) new_lines)
 done_refused a b things failures lines new_things new_lines kind name are same does =
     rw (same.same_things, same.same_lines)
@@ -114,7 +126,8 @@ begun None e = tt
 begun (Some k) e = subst (λ d. AreDone k.texts k.kinds [] 0 [] d) (sym e) made.none
 
 -- A thing is written to the file of its name.
-pub ends_itself : (known : Option Known) (name : List ℕ) (kind : Kind) → IfSome known (λ k. IsEnd k name kind name)
+pub ends_itself : (known : Option Known) (name : List ℕ) (kind : Kind)
+    → IfSome known (λ k. IsEnd k name kind name)
 ends_itself None name kind = tt
 ends_itself (Some k) name kind = itself
 

@@ -4,11 +4,13 @@ use Rattle.std.proofs.lemmas.Bool.{cases_eq, cond-true, cond-false}
 use Rattle.std.specs.Path.{rfind_below}
 use Rattle.diskfiles.specs.Names.{last_slash}
 
-none_below : (name : List ℕ) (n : ℕ) → ((i : ℕ) → i < n → get_or name i 0 ≢ 47) → rfind_below 47 name n ≡ None
+none_below : (name : List ℕ) (n : ℕ) → ((i : ℕ) → i < n → get_or name i 0 ≢ 47)
+    → rfind_below 47 name n ≡ None
 none_below name zero lacks = refl
 none_below name (suc n) lacks = cond-false _ _ _ (ne_eqb _ 47 (lacks n (omega arith))) ∙ none_below name n (λ i l. lacks i (omega arith))
 
-last_below : (name : List ℕ) (k n : ℕ) → k < n → get_or name k 0 ≡ 47 → ((i : ℕ) → k < i → i < n → get_or name i 0 ≢ 47) → rfind_below 47 name n ≡ Some k
+last_below : (name : List ℕ) (k n : ℕ) → k < n → get_or name k 0 ≡ 47
+    → ((i : ℕ) → k < i → i < n → get_or name i 0 ≢ 47) → rfind_below 47 name n ≡ Some k
 last_below name k zero within is later = absurd (omega arith)
 last_below name k (suc n) within is later =
     ⊎_elim

@@ -23,12 +23,14 @@ on_err (Err e) a = a
 
 -- A file that was removed after it was not filled, or not renamed.
 pub failed : (a b c : Option Known) (mode : Option ℕ) (text other : List ℕ)
-    → (Adds a b (Failed other ∷ []) ⊎ Adds a b (Filled other mode text ∷ [])) → Adds b c (Removed other ∷ [])
+    → (Adds a b (Failed other ∷ []) ⊎ Adds a b (Filled other mode text ∷ []))
+    → Adds b c (Removed other ∷ [])
     → (Adds a c (Failed other ∷ Removed other ∷ []) ⊎ Adds a c (Filled other mode text ∷ Removed other ∷ []))
 failed a b c mode text other (inl f) removed = inl (adds_then a b c (Failed other ∷ []) (Removed other ∷ []) f removed)
 failed a b c mode text other (inr f) removed = inr (adds_then a b c (Filled other mode text ∷ []) (Removed other ∷ []) f removed)
 
-pub undone : (a b c : Option Known) (name : List ℕ) (n : ℕ) (mode : Option ℕ) (text other : List ℕ) → other ≡ temporary name n
+pub undone : (a b c : Option Known) (name : List ℕ) (n : ℕ) (mode : Option ℕ) (text other : List ℕ)
+    → other ≡ temporary name n
     → Adds a b (Made (temporary name n) ∷ [])
     → (Adds b c (Failed other ∷ Removed other ∷ []) ⊎ Adds b c (Filled other mode text ∷ Removed other ∷ []))
     → Does a c (λ _ deeds. IsUndone name deeds)
@@ -47,19 +49,24 @@ pub nothing_undone : (a : Option Known) (name : List ℕ) → Does a a (λ _ dee
 nothing_undone a name = does_none a (λ _ deeds. IsUndone name deeds) (λ k. nothing)
 
 -- A file that was made, filled and renamed.
-pub done : (a b c : Option Known) (name : List ℕ) (n : ℕ) (mode : Option ℕ) (text other : List ℕ) → other ≡ temporary name n
-    → Adds a b (Made (temporary name n) ∷ []) → Adds b c (Filled other mode text ∷ Renamed other name ∷ []) → (m : ℕ) × Adds a c (writing name mode text m)
+pub done : (a b c : Option Known) (name : List ℕ) (n : ℕ) (mode : Option ℕ) (text other : List ℕ)
+    → other ≡ temporary name n
+    → Adds a b (Made (temporary name n) ∷ [])
+    → Adds b c (Filled other mode text ∷ Renamed other name ∷ [])
+    → (m : ℕ) × Adds a c (writing name mode text m)
 done a b c name n mode text other is made filled =
     let t = temporary name n in
     let filled' : Adds b c (Filled t mode text ∷ Renamed t name ∷ []) = subst (λ o. Adds b c (Filled o mode text ∷ Renamed o name ∷ [])) is filled in
     (n, adds_then a b c (Made t ∷ []) (Filled t mode text ∷ Renamed t name ∷ []) made filled')
 
-pub nothing_done : (a b : Option Known) (name : List ℕ) → Adds a b [] → Does a b (λ _ deeds. IsUndone name deeds)
+pub nothing_done : (a b : Option Known) (name : List ℕ) → Adds a b []
+    → Does a b (λ _ deeds. IsUndone name deeds)
 nothing_done a b name none = does a b [] (λ _ deeds. IsUndone name deeds) none (λ k. nothing)
 
 -- A text was written, with permission bits for what was there.
 pub is_written : (a b : Option Known) (keeps : Keeps) (name text : List ℕ) (mode : Option ℕ) (found : Found) → IfSome a (λ k. found ≡ kind_under k name) → IsMode keeps found mode
-    → (n : ℕ) × Adds a b (writing name mode text n) → Does a b (λ k deeds. IsWritten k keeps name text deeds)
+    → (n : ℕ) × Adds a b (writing name mode text n)
+    → Does a b (λ k deeds. IsWritten k keeps name text deeds)
 is_written None None keeps name text mode found is is_mode w = tt
 is_written None (Some b) keeps name text mode found is is_mode w = absurd w.1
 is_written (Some a) None keeps name text mode found is is_mode w = absurd w.1
@@ -67,14 +74,16 @@ is_written (Some a) (Some b) keeps name text mode found is is_mode w =
     (writing name mode text w.0, w.1, written w.0 mode (subst (λ f. IsMode keeps f mode) is is_mode))
 
 -- A new file that is not in the place of another.
-pub made_anew : (a b c : Option Known) (name text : List ℕ) → Does a b (λ k d. IsCleared name (kind_under k name) d)
+pub made_anew : (a b c : Option Known) (name text : List ℕ)
+    → Does a b (λ k d. IsCleared name (kind_under k name) d)
     → Adds b c (Made name ∷ Filled name None text ∷ []) → Does a c (λ k d. IsReplaced k name text d)
 made_anew a b c name text cleared made =
     let new = Made name ∷ Filled name None text ∷ [] in
     does_then a b c (λ k d. IsCleared name (kind_under k name) d) (λ _ e. e ≡ new) (λ k d. IsReplaced k name text d) cleared (does b c new (λ _ e. e ≡ new) made (λ _. refl))
     (λ k d e is e_is. subst (λ l. IsReplaced k name text (d ++ l)) (sym e_is) (replaced d is))
 
-pub begun_anew : (a b c : Option Known) (name : List ℕ) → Does a b (λ k d. IsCleared name (kind_under k name) d)
+pub begun_anew : (a b c : Option Known) (name : List ℕ)
+    → Does a b (λ k d. IsCleared name (kind_under k name) d)
     → (Adds b c [] ⊎ Adds b c (Made name ∷ Failed name ∷ [])) → Does a c (λ k d. IsBegun k name d)
 begun_anew a b c name cleared (inl none) =
     does_then a b c (λ k d. IsCleared name (kind_under k name) d) (λ _ e. e ≡ []) (λ k d. IsBegun k name d) cleared (does b c [] (λ _ e. e ≡ []) none (λ _. refl))
@@ -88,12 +97,15 @@ pub not_begun : (a : Option Known) (name : List ℕ) → Does a a (λ k d. IsBeg
 not_begun a name = does_none a (λ k d. IsBegun k name d) (λ k. cleared_only [] kept)
 
 -- What was found was cleared.
-pub clears : (a b : Option Known) (name : List ℕ) (found : Found) → IfSome a (λ k. found ≡ kind_under k name)
-    → (cleared : List Deed) × IsCleared name found cleared × Adds a b cleared → Does a b (λ k d. IsCleared name (kind_under k name) d)
+pub clears : (a b : Option Known) (name : List ℕ) (found : Found)
+    → IfSome a (λ k. found ≡ kind_under k name)
+    → (cleared : List Deed) × IsCleared name found cleared × Adds a b cleared
+    → Does a b (λ k d. IsCleared name (kind_under k name) d)
 clears None None name found is c = tt
 clears None (Some b) name found is c = absurd c.2
 clears (Some a) None name found is c = absurd c.2
 clears (Some a) (Some b) name found is c = (c.0, c.2, subst (λ f. IsCleared name f c.0) is c.1)
 
-pub not_cleared : (a : Option Known) (name : List ℕ) → Does a a (λ k d. IsCleared name (kind_under k name) d)
+pub not_cleared : (a : Option Known) (name : List ℕ)
+    → Does a a (λ k d. IsCleared name (kind_under k name) d)
 not_cleared a name = does_none a (λ k d. IsCleared name (kind_under k name) d) (λ k. kept)

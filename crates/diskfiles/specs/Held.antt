@@ -3,7 +3,8 @@ use Rattle.std.specs.Prelude.{◌≡◌, ℕ, ◌+◌, Bool, true, false, List, 
 use Rattle.outputs.specs.Receipt.{Receipt}
 use Rattle.outputs.specs.declared.thing.Thing.{Thing}
 
--- what it took, in order; the number of puts that it refused; the lines on what it took; whether it is closed; and its disk (own)
+-- what it took, in order; the number of puts that it refused; the lines on what it took; whether it
+-- is closed; and its disk (own)
 pub record Held (D : Type 0) : Type 0 where
   pub handed : List Thing
   pub failures : ℕ
@@ -20,7 +21,8 @@ abbrev pub closings : Bool → ℕ
 closings false = 0
 closings true = 1
 
--- its receipt, in which the closing counts as one refusal more, since each later put is refused (own)
+-- its receipt, in which the closing counts as one refusal more, since each later put is refused
+-- (own)
 abbrev pub receipt_of : {D : Type 0} → Held D → Receipt
 receipt_of o = record { handed = o.handed; failures = o.failures + closings o.closed }
 

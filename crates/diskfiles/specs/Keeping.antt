@@ -41,17 +41,20 @@ abbrev pub is_same : Option (List ℕ) → List ℕ → Bool
 is_same None text = false
 is_same (Some found) text = bytes_eq found text
 
--- the name of the file that a thing is written to: where a link leads to, or else its own name (own)
+-- the name of the file that a thing is written to: where a link leads to, or else its own name
+-- (own)
 abbrev pub file_of : Option (List ℕ) → List ℕ → List ℕ
 file_of None name = name
 file_of (Some end) name = end
 
--- The file under the name has this text, if this is true, and it has another text, if this is false. (own)
+-- The file under the name has this text, if this is true, and it has another text, if this is
+-- false. (own)
 abbrev pub HasText : Known → List ℕ → List ℕ → Bool → Type 0
 HasText k name text true = text_under k name ≡ Some text
 HasText k name text false = IsOther k name text
 
--- This says whether a thing of this kind is left as it is: a header or a cache, if its file has its text. (own)
+-- This says whether a thing of this kind is left as it is: a header or a cache, if its file has its
+-- text. (own)
 abbrev pub IsLeft : Kind → Known → List ℕ → List ℕ → Bool → Type 0
 IsLeft Cache k name text left = HasText k name text left
 IsLeft Record k name text left = left ≡ false
@@ -69,14 +72,16 @@ abbrev pub Fills : Bool → Known → Keeps → List ℕ → List ℕ → List D
 Fills true k keeps file text deeds = deeds ≡ []
 Fills false k keeps file text deeds = IsWritten k keeps file text deeds
 
--- The thing was appended to the things, and a line to the lines, and if the deeds are known, they put it in this way. (own)
+-- The thing was appended to the things, and a line to the lines, and if the deeds are known, they
+-- put it in this way. (own)
 pub record Takes (known new : Option Known) (things : List Thing) (lines : List ℕ) (new_things : List Thing) (new_lines : List ℕ) (thing : Thing) : Type 0 where
   pub line : List ℕ
   pub kept : IsKept things lines new_things new_lines thing line
   pub said : IsSaid thing.kind thing.name line
   pub does : Does known new (λ k deeds. IsPut k thing.name thing.text thing.kind line deeds)
 
--- The directories were made, and then the text was written, unless the file was left as it was. (own)
+-- The directories were made, and then the text was written, unless the file was left as it was.
+-- (own)
 pub record IsStepped (k : Known) (saying : Saying) (left : Bool) (keeps : Keeps) (name file text : List ℕ) (deeds : List Deed) : Type 0 where
   pub rest : List Deed
   pub parts : deeds ≡ made_for saying name ++ rest
@@ -85,4 +90,5 @@ pub record IsStepped (k : Known) (saying : Saying) (left : Bool) (keeps : Keeps)
 -- Nothing was done, or the directories were made, and no file was renamed. (own)
 pub data IsUnstepped (saying : Saying) (name file : List ℕ) : List Deed → Type 0 where
   before : IsUnstepped saying name file []
-  after : (rest : List Deed) → IsUndone file rest → IsUnstepped saying name file (made_for saying name ++ rest)
+  after : (rest : List Deed) → IsUndone file rest
+      → IsUnstepped saying name file (made_for saying name ++ rest)

@@ -8,7 +8,8 @@ abbrev pub whole : Option (List ℕ) → Option (List ℕ)
 whole None = None
 whole (Some text) = if nat_le (length text) (2 ^ 26) then Some text else None
 
--- This is read under a name, if this is there. Nothing is read under a name that no file can have. (own)
+-- This is read under a name, if this is there. Nothing is read under a name that no file can have.
+-- (own)
 pub record IsRead (name : List ℕ) (there read : Option (List ℕ)) : Type 0 where
   pub named : IsFileName name → read ≡ there
   pub unnamed : (IsFileName name → ⊥) → read ≡ None

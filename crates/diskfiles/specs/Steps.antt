@@ -12,8 +12,9 @@ abbrev pub bits_of : Keeps → ℕ
 bits_of Permissions = 0o777
 bits_of NoExecution = 0o666
 
--- If this is under the name of a file that is to be written, the new file gets these permission bits, or those that the system
--- gives. A directory, a pipe, a socket and a device are not replaced. (own)
+-- If this is under the name of a file that is to be written, the new file gets these permission
+-- bits, or those that the system gives. A directory, a pipe, a socket and a device are not
+-- replaced. (own)
 pub data IsMode (keeps : Keeps) : Found → Option ℕ → Type 0 where
   of_file : (mode : ℕ) → IsMode keeps (found.File mode) (Some (bit_and mode (bits_of keeps)))
   of_link : IsMode keeps found.Link None
@@ -23,16 +24,18 @@ pub data IsMode (keeps : Keeps) : Found → Option ℕ → Type 0 where
 abbrev pub writing : List ℕ → Option ℕ → List ℕ → ℕ → List Deed
 writing name mode text n = Made (temporary name n) ∷ Filled (temporary name n) mode text ∷ Renamed (temporary name n) name ∷ []
 
--- A new file in the directory of the name was made, got its permission bits and the whole text, and was renamed. Nothing else was
--- done. (own)
+-- A new file in the directory of the name was made, got its permission bits and the whole text, and
+-- was renamed. Nothing else was done. (own)
 pub data IsWritten (k : Known) (keeps : Keeps) (name text : List ℕ) : List Deed → Type 0 where
   written : (n : ℕ) (mode : Option ℕ) → IsMode keeps (kind_under k name) mode
       → IsWritten k keeps name text (writing name mode text n)
 
--- Nothing was done, or a new file in the directory of the name was made and was removed again. (own)
+-- Nothing was done, or a new file in the directory of the name was made and was removed again.
+-- (own)
 pub data IsUndone (name : List ℕ) : List Deed → Type 0 where
   nothing : IsUndone name []
-  unfilled : (n : ℕ) → IsUndone name (Made (temporary name n) ∷ Failed (temporary name n) ∷ Removed (temporary name n) ∷ [])
+  unfilled : (n : ℕ)
+      → IsUndone name (Made (temporary name n) ∷ Failed (temporary name n) ∷ Removed (temporary name n) ∷ [])
   unnamed : (n : ℕ) (mode : Option ℕ) (text : List ℕ)
       → IsUndone name (Made (temporary name n) ∷ Filled (temporary name n) mode text ∷ Removed (temporary name n) ∷ [])
 
@@ -51,12 +54,16 @@ pub data IsCleared (name : List ℕ) : Found → List Deed → Type 0 where
   file : (mode : ℕ) → IsCleared name (found.File mode) (Removed name ∷ [])
   link : IsCleared name found.Link (Removed name ∷ [])
 
--- A file or a link that was under the name was removed, a new file was made there, and got the whole text. Nothing else was done. (own)
+-- A file or a link that was under the name was removed, a new file was made there, and got the
+-- whole text. Nothing else was done. (own)
 pub data IsReplaced (k : Known) (name text : List ℕ) : List Deed → Type 0 where
-  replaced : (cleared : List Deed) → IsCleared name (kind_under k name) cleared → IsReplaced k name text (cleared ++ Made name ∷ Filled name None text ∷ [])
+  replaced : (cleared : List Deed) → IsCleared name (kind_under k name) cleared
+      → IsReplaced k name text (cleared ++ Made name ∷ Filled name None text ∷ [])
 
--- A file or a link that was under the name may have been removed, and a new file may have been made there, which has not all of its
--- text. (own)
+-- A file or a link that was under the name may have been removed, and a new file may have been made
+-- there, which has not all of its text. (own)
 pub data IsBegun (k : Known) (name : List ℕ) : List Deed → Type 0 where
-  cleared_only : (cleared : List Deed) → IsCleared name (kind_under k name) cleared → IsBegun k name cleared
-  torn : (cleared : List Deed) → IsCleared name (kind_under k name) cleared → IsBegun k name (cleared ++ Made name ∷ Failed name ∷ [])
+  cleared_only : (cleared : List Deed) → IsCleared name (kind_under k name) cleared
+      → IsBegun k name cleared
+  torn : (cleared : List Deed) → IsCleared name (kind_under k name) cleared
+      → IsBegun k name (cleared ++ Made name ∷ Failed name ∷ [])

@@ -19,7 +19,8 @@ fn is_link<D: Disk>(disk: &D, name: &str) -> bool
     matches!(disk.look(name), Ok(Found::Link))
 }
 
-/// Returns the name that a link has. If it is no absolute name, it is one from the link's directory.
+/// Returns the name that a link has. If it is no absolute name, it is one from the link's
+/// directory.
 fn next_of<D: Disk>(alloc: Global, disk: &D, name: &str) -> io::Result<String> {
     let target = disk.link_target(alloc, name)?;
     if target.as_str().starts_with('/') {
@@ -29,14 +30,15 @@ fn next_of<D: Disk>(alloc: Global, disk: &D, name: &str) -> io::Result<String> {
     Ok(format!(in alloc; "{front}{target}")?)
 }
 
-/// Returns the name of the file that a link leads to, over any links between. There may be no file of this name. If `name` is not
-/// that of a link, returns `None`.
+/// Returns the name of the file that a link leads to, over any links between. There may be no file
+/// of this name. If `name` is not that of a link, returns `None`.
 ///
 /// # Errors
 ///
 /// Fails if memory runs out, a link can't be read, or there are more than 40 links.
 pub(crate) fn end_of<D: Disk>(alloc: Global, disk: &D, name: &str) -> io::Result<Option<String>>
-    ensures { IfOk result (λ o. IfSome o (λ _. IfSome (D.known disk.now) (λ k. kind_under k name.now ≡ found.Link))) }
+    ensures { IfOk result
+        (λ o. IfSome o (λ _. IfSome (D.known disk.now) (λ k. kind_under k name.now ≡ found.Link))) }
 {
     if !is_link(disk, name) {
         return Ok(None);

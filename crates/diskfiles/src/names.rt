@@ -10,8 +10,8 @@ use std::alloc::{AllocError, Global};
 use std::io::{self, ErrorKind};
 use std::str;
 
-/// Returns the name of a file in a directory: `directory`, a slash, and `name`. If `directory` is empty, the name begins with
-/// the slash.
+/// Returns the name of a file in a directory: `directory`, a slash, and `name`. If `directory` is
+/// empty, the name begins with the slash.
 ///
 /// # Errors
 ///
@@ -51,7 +51,8 @@ pub(crate) fn no_name() -> io::Error {
     io::Error::new(ErrorKind::InvalidFilename, "no file can have this name")
 }
 
-/// Returns the directory of a file: what is before the last slash of its name. If the name has no slash, returns `None`.
+/// Returns the directory of a file: what is before the last slash of its name. If the name has no
+/// slash, returns `None`.
 pub(crate) fn directory_of(name: &str) -> Option<&str>
     ensures { option_copied result ≡ meant.directory_of name.now }
 {
@@ -61,7 +62,8 @@ pub(crate) fn directory_of(name: &str) -> Option<&str>
     }
 }
 
-/// Returns the front of a name up to its last slash, with it. If the name has no slash, it is empty.
+/// Returns the front of a name up to its last slash, with it. If the name has no slash, it is
+/// empty.
 pub(crate) fn front_of(name: &str) -> &str
     ensures { result.now ≡ meant.front_of name.now }
 {

@@ -6,8 +6,8 @@ use disk::Disk;
 use std::alloc::Global;
 use std::io;
 
-/// The place of a file: its directory, by device and number, and the last part of its name. Two names are of one place exactly
-/// if their directories are one, and their last parts are equal.
+/// The place of a file: its directory, by device and number, and the last part of its name. Two
+/// names are of one place exactly if their directories are one, and their last parts are equal.
 #[derive(Drop)]
 pub(crate) struct Place {
     device: u64,

@@ -10,8 +10,9 @@ use disk::{Disk, LARGEST_TEXT};
 use std::alloc::{AllocError, Global};
 use std::io;
 
-/// Returns the text of a file, or its first 64 MiB and one byte more, or `None` if it can't be read: there is no such file, it is
-/// no regular file, it may not be read, a read of it fails, or no file can have this name (own).
+/// Returns the text of a file, or its first 64 MiB and one byte more, or `None` if it can't be
+/// read: there is no such file, it is no regular file, it may not be read, a read of it fails, or
+/// no file can have this name (own).
 ///
 /// So a text that is too large for who reads it is found to be so, however large it is.
 ///
@@ -45,7 +46,8 @@ fn if_whole(text: Bytes) -> Option<Bytes>
     }
 }
 
-/// Returns the text of a file, or `None` if it can't be read, as [`read_limited`] says, or has more than 64 MiB (own).
+/// Returns the text of a file, or `None` if it can't be read, as [`read_limited`] says, or has more
+/// than 64 MiB (own).
 ///
 /// # Errors
 ///
@@ -61,8 +63,8 @@ pub fn read_text<D: Disk>(alloc: Global, disk: &D, name: &[u8]) -> Result<Option
     }
 }
 
-/// Returns why [`read_text`] reads nothing under a name, or `None` if the file can be opened and isn't too large. The file is looked at
-/// now, and may have been another one before (own).
+/// Returns why [`read_text`] reads nothing under a name, or `None` if the file can be opened and
+/// isn't too large. The file is looked at now, and may have been another one before (own).
 pub fn unread_cause<D: Disk>(disk: &D, name: &[u8]) -> Option<io::Error> {
     let Some(name) = file_name(name) else {
         return Some(no_name());

@@ -28,13 +28,15 @@ use std::marker::Model;
 
 /// A receiver that writes each thing to the file of its name (own).
 ///
-/// For a file and a header it makes the directories of the name. A header or a cache whose file has this text already isn't
-/// written, and its file isn't touched. If a cache is a link, the file that the link leads to is written; any other link is
-/// replaced. The receiver keeps a copy of what it took, and the lines that are to be printed.
+/// For a file and a header it makes the directories of the name. A header or a cache whose file has
+/// this text already isn't written, and its file isn't touched. If a cache is a link, the file that
+/// the link leads to is written; any other link is replaced. The receiver keeps a copy of what it
+/// took, and the lines that are to be printed.
 ///
-/// A put is refused if memory runs out, no file can have the name, the system refuses to write, the file is that of an earlier put or
-/// one that [`FileOutputs::keep`] names, or the receiver is closed. Then the file is as it was, as [`write_text`] says, but directories
-/// that were made for it stay. The receiver keeps why the last put was refused.
+/// A put is refused if memory runs out, no file can have the name, the system refuses to write, the
+/// file is that of an earlier put or one that [`FileOutputs::keep`] names, or the receiver is
+/// closed. Then the file is as it was, as [`write_text`] says, but directories that were made for
+/// it stay. The receiver keeps why the last put was refused.
 pub struct FileOutputs<D: Disk> {
     alloc: Global,
     disk: D,
@@ -72,7 +74,8 @@ impl<D: Disk> Model for FileOutputs<D> {
     ghost view = { λ o. record { handed = o.things.items; failures = o.failures; lines = o.lines.items; closed = o.is_closed; disk = o.disk } };
 
     ghost invariant = { λ o. AreLines o.things.items o.lines.items
-        × (o.is_closed ≡ false → IfSome (D.known o.disk) (λ k. IsAllDone k o.things.items o.failures o.lines.items)) };
+        × (o.is_closed ≡ false → IfSome (D.known o.disk)
+        (λ k. IsAllDone k o.things.items o.failures o.lines.items)) };
 }
 
 /// Returns the error of an allocation that failed.
@@ -119,7 +122,8 @@ fn add_place<D: Disk>(
     add(places, place_of(alloc, disk, name)?)
 }
 
-/// Adds the place of a thing. If its name is that of a link which leads to the file, adds the place of the file before that.
+/// Adds the place of a thing. If its name is that of a link which leads to the file, adds the place
+/// of the file before that.
 fn add_places<D: Disk>(
     alloc: Global,
     disk: &D,
@@ -134,7 +138,8 @@ fn add_places<D: Disk>(
     add_place(alloc, disk, places, name)
 }
 
-/// Returns what permissions the file of a thing of this kind keeps. A record is no program, so nobody is to execute it.
+/// Returns what permissions the file of a thing of this kind keeps. A record is no program, so
+/// nobody is to execute it.
 fn kept_by(kind: Kind) -> Keeps
     ensures { result ≡ keeps_of kind }
 {
@@ -144,7 +149,8 @@ fn kept_by(kind: Kind) -> Keeps
     }
 }
 
-/// Writes a thing, if it isn't unchanged, and adds its places. If that fails, some place may have been added.
+/// Writes a thing, if it isn't unchanged, and adds its places. If that fails, some place may have
+/// been added.
 fn write_placed<D: Disk>(
     alloc: Global,
     disk: &mut D,
@@ -158,8 +164,11 @@ fn write_placed<D: Disk>(
     text: &[u8],
 ) -> io::Result<()>
     ensures stepped { OnOk result (Does (D.known disk.old) (D.known disk.new)
-        (λ k deeds. IsStepped k saying unchanged (keeps_of kind) name.now file.now text.now deeds)) }
-    ensures undone { OnErr result (Does (D.known disk.old) (D.known disk.new) (λ _ deeds. IsUnstepped saying name.now file.now deeds)) }
+        (λ k deeds. IsStepped k saying unchanged
+        (keeps_of kind) name.now file.now text.now deeds)) }
+    ensures undone { OnErr result
+        (Does (D.known disk.old) (D.known disk.new)
+        (λ _ deeds. IsUnstepped saying name.now file.now deeds)) }
 {
     make_for(disk, saying, name)?;
     add_places(alloc, disk, places, name, file, is_linked)?;
@@ -183,8 +192,11 @@ fn write_thing<D: Disk>(
     text: &[u8],
 ) -> io::Result<()>
     ensures stepped { OnOk result (Does (D.known disk.old) (D.known disk.new)
-        (λ k deeds. IsStepped k saying unchanged (keeps_of kind) name.now file.now text.now deeds)) }
-    ensures undone { OnErr result (Does (D.known disk.old) (D.known disk.new) (λ _ deeds. IsUnstepped saying name.now file.now deeds)) }
+        (λ k deeds. IsStepped k saying unchanged
+        (keeps_of kind) name.now file.now text.now deeds)) }
+    ensures undone { OnErr result
+        (Does (D.known disk.old) (D.known disk.new)
+        (λ _ deeds. IsUnstepped saying name.now file.now deeds)) }
 {
     let count = places.len();
     let done = write_placed(
@@ -196,8 +208,9 @@ fn write_thing<D: Disk>(
     done
 }
 
-/// Returns whether a thing of this kind is compared with the text that its file has. What is not compared is written in any case: a
-/// file, and the record, so that it is newer than what it was made of.
+/// Returns whether a thing of this kind is compared with the text that its file has. What is not
+/// compared is written in any case: a file, and the record, so that it is newer than what it was
+/// made of.
 fn is_compared(kind: Kind) -> bool
     ensures { result ≡ meant.is_compared kind }
 {
@@ -217,7 +230,8 @@ fn is_same(found: Option<Bytes>, text: &[u8]) -> bool
     }
 }
 
-/// Returns whether the file of a header or a cache has this text already. For anything else it is false. Fails only if memory runs out.
+/// Returns whether the file of a header or a cache has this text already. For anything else it is
+/// false. Fails only if memory runs out.
 fn is_unchanged<D: Disk>(
     alloc: Global,
     disk: &D,
@@ -226,7 +240,8 @@ fn is_unchanged<D: Disk>(
     text: &[u8],
 ) -> Result<bool, AllocError>
     requires { IsFileName name.now }
-    ensures { IfOk result (λ left. IfSome (D.known disk.now) (λ k. IsLeft kind k name.now text.now left)) }
+    ensures { IfOk result
+        (λ left. IfSome (D.known disk.now) (λ k. IsLeft kind k name.now text.now left)) }
 {
     if !is_compared(kind) {
         return Ok(false);
@@ -235,9 +250,12 @@ fn is_unchanged<D: Disk>(
     Ok(is_same(found, text))
 }
 
-/// Returns the name of the file that a link leads to, if a cache is a link. Any other link is replaced.
+/// Returns the name of the file that a link leads to, if a cache is a link. Any other link is
+/// replaced.
 fn end_for<D: Disk>(alloc: Global, disk: &D, kind: Kind, name: &str) -> io::Result<Option<String>>
-    ensures { IfOk result (λ o. IfSome (D.known disk.now) (λ k. IsEnd k name.now kind (meant.file_of (option_map string_bytes o) name.now))) }
+    ensures { IfOk result
+        (λ o. IfSome (D.known disk.now)
+        (λ k. IsEnd k name.now kind (meant.file_of (option_map string_bytes o) name.now))) }
 {
     match kind {
         Kind::Cache => end_of(alloc, disk, name),
@@ -264,8 +282,10 @@ fn keep(
     saying: Saying,
     name: &[u8],
 ) -> Result<(), AllocError>
-    ensures ok { OnOk result (IsKept things.old.items lines.old.items things.new.items lines.new.items thing (said saying name.now)) }
-    ensures err { OnErr result (AreSame things.old.items lines.old.items things.new.items lines.new.items) }
+    ensures ok { OnOk result
+        (IsKept things.old.items lines.old.items things.new.items lines.new.items thing (said saying name.now)) }
+    ensures err { OnErr result
+        (AreSame things.old.items lines.old.items things.new.items lines.new.items) }
 {
     let count = things.len();
     things.push(thing)?;
@@ -276,8 +296,8 @@ fn keep(
     answer
 }
 
-/// Appends a thing and what is said of it, and writes the thing. If the put is refused, it appends neither. So there is memory to keep
-/// the thing before its file is written.
+/// Appends a thing and what is said of it, and writes the thing. If the put is refused, it appends
+/// neither. So there is memory to keep the thing before its file is written.
 fn keep_written<D: Disk>(
     alloc: Global,
     disk: &mut D,
@@ -293,11 +313,16 @@ fn keep_written<D: Disk>(
     is_linked: bool,
     text: &[u8],
 ) -> io::Result<()>
-    ensures ok { OnOk result (IsKept things.old.items lines.old.items things.new.items lines.new.items thing (said saying name.now)) }
-    ensures err { OnErr result (AreSame things.old.items lines.old.items things.new.items lines.new.items) }
+    ensures ok { OnOk result
+        (IsKept things.old.items lines.old.items things.new.items lines.new.items thing (said saying name.now)) }
+    ensures err { OnErr result
+        (AreSame things.old.items lines.old.items things.new.items lines.new.items) }
     ensures stepped { OnOk result (Does (D.known disk.old) (D.known disk.new)
-        (λ k deeds. IsStepped k saying unchanged (keeps_of kind) name.now file.now text.now deeds)) }
-    ensures undone { OnErr result (Does (D.known disk.old) (D.known disk.new) (λ _ deeds. IsUnstepped saying name.now file.now deeds)) }
+        (λ k deeds. IsStepped k saying unchanged
+        (keeps_of kind) name.now file.now text.now deeds)) }
+    ensures undone { OnErr result
+        (Does (D.known disk.old) (D.known disk.new)
+        (λ _ deeds. IsUnstepped saying name.now file.now deeds)) }
 {
     let count = things.len();
     let len = lines.len();
@@ -314,7 +339,8 @@ fn keep_written<D: Disk>(
     done
 }
 
-/// Takes a thing whose name is that of a file. If the put is refused, only its deeds are left of it.
+/// Takes a thing whose name is that of a file. If the put is refused, only its deeds are left of
+/// it.
 fn take_named<D: Disk>(
     alloc: Global,
     disk: &mut D,
@@ -326,10 +352,13 @@ fn take_named<D: Disk>(
     text: &[u8],
 ) -> io::Result<()>
     requires { IsFileName name.now }
-    ensures taken { OnOk result (Takes (D.known disk.old) (D.known disk.new) things.old.items lines.old.items things.new.items lines.new.items
+    ensures taken { OnOk result
+        (Takes (D.known disk.old) (D.known disk.new) things.old.items lines.old.items things.new.items lines.new.items
         (record { kind = kind; name = name.now; text = text.now })) }
-    ensures same { OnErr result (AreSame things.old.items lines.old.items things.new.items lines.new.items) }
-    ensures undone { OnErr result (Does (D.known disk.old) (D.known disk.new) (λ k deeds. IsRefused k name.now kind deeds)) }
+    ensures same { OnErr result
+        (AreSame things.old.items lines.old.items things.new.items lines.new.items) }
+    ensures undone { OnErr result
+        (Does (D.known disk.old) (D.known disk.new) (λ k deeds. IsRefused k name.now kind deeds)) }
 {
     let Ok(unchanged) = is_unchanged(alloc, disk, kind, name, text) else {
         return Err(no_memory());
@@ -370,11 +399,14 @@ fn take<D: Disk>(
     text: &[u8],
 ) -> io::Result<()>
     ensures unclosed { OnOk result (is_closed ≡ false) }
-    ensures taken { OnOk result (Takes (D.known disk.old) (D.known disk.new) things.old.items lines.old.items things.new.items lines.new.items
+    ensures taken { OnOk result
+        (Takes (D.known disk.old) (D.known disk.new) things.old.items lines.old.items things.new.items lines.new.items
         (record { kind = kind; name = name.now; text = text.now })) }
     ensures name { IfOk result (λ _. IsFileName name.now) }
-    ensures same { OnErr result (AreSame things.old.items lines.old.items things.new.items lines.new.items) }
-    ensures undone { OnErr result (Does (D.known disk.old) (D.known disk.new) (λ k deeds. IsRefused k name.now kind deeds)) }
+    ensures same { OnErr result
+        (AreSame things.old.items lines.old.items things.new.items lines.new.items) }
+    ensures undone { OnErr result
+        (Does (D.known disk.old) (D.known disk.new) (λ k deeds. IsRefused k name.now kind deeds)) }
 {
     if is_closed {
         return Err(io::Error::other("is handed over after the last file"));
@@ -410,25 +442,27 @@ impl<D: Disk> FileOutputs<D> {
         &self.disk
     }
 
-    /// Returns why the last put was refused that was: `NAME: CAUSE`, with the words of the system, or with words of the receiver's own. If
-    /// none was refused, or memory ran out, it is empty.
+    /// Returns why the last put was refused that was: `NAME: CAUSE`, with the words of the system,
+    /// or with words of the receiver's own. If none was refused, or memory ran out, it is empty.
     pub fn cause(&self) -> &[u8] {
         self.cause.as_slice()
     }
 
-    /// Returns a line for each file and header that was taken, in order: `config.status: creating NAME`, or for a header whose
-    /// file had this text already `config.status: NAME is unchanged`. Each line ends in a newline.
+    /// Returns a line for each file and header that was taken, in order: `config.status: creating
+    /// NAME`, or for a header whose file had this text already `config.status: NAME is unchanged`.
+    /// Each line ends in a newline.
     pub fn lines(&self) -> &[u8]
         ensures value { result.now ≡ self.now.lines }
         ensures lines { AreLines self.now.handed result.now }
         // Unless it is closed, what was done to the disk is what was done for the puts.
-        ensures done { self.now.closed ≡ false → IfSome (D.known self.now.disk) (λ k. IsAllDone k self.now.handed self.now.failures self.now.lines) }
+        ensures done { self.now.closed ≡ false → IfSome (D.known self.now.disk)
+            (λ k. IsAllDone k self.now.handed self.now.failures self.now.lines) }
     {
         self.lines.as_slice()
     }
 
-    /// Has each later put to this file refused, because the run reads it or writes it by itself. If no file can have the name, or
-    /// there is no such directory, does nothing.
+    /// Has each later put to this file refused, because the run reads it or writes it by itself. If
+    /// no file can have the name, or there is no such directory, does nothing.
     ///
     /// # Errors
     ///
@@ -449,19 +483,26 @@ impl<D: Disk> FileOutputs<D> {
         }
     }
 
-    /// Writes a last file, which is no thing, such as a log. A regular file or a link of this name is removed first. From then on each put
-    /// is refused.
+    /// Writes a last file, which is no thing, such as a log. A regular file or a link of this name
+    /// is removed first. From then on each put is refused.
     ///
     /// # Errors
     ///
-    /// Fails if no file can have this name, or the system refuses a step. Then what was under the name may be gone, and the new file may
-    /// have a part of the text. The receiver is closed also then.
+    /// Fails if no file can have this name, or the system refuses a step. Then what was under the
+    /// name may be gone, and the new file may have a part of the text. The receiver is closed also
+    /// then.
     pub fn close(&mut self, name: &[u8], text: &[u8]) -> io::Result<()>
-        // Unless it was closed already, what was done to the disk before is what was done for the puts.
-        ensures done { self.old.closed ≡ false → IfSome (D.known self.old.disk) (λ k. IsAllDone k self.old.handed self.old.failures self.old.lines) }
+        // Unless it was closed already, what was done to the disk before is what was done for the
+        // puts.
+        ensures done { self.old.closed ≡ false → IfSome (D.known self.old.disk)
+            (λ k. IsAllDone k self.old.handed self.old.failures self.old.lines) }
         ensures closed { IsClosed self.old self.new }
-        ensures written { OnOk result (Does (D.known self.old.disk) (D.known self.new.disk) (λ k deeds. IsReplaced k name.now text.now deeds)) }
-        ensures begun { OnErr result (Does (D.known self.old.disk) (D.known self.new.disk) (λ k deeds. IsBegun k name.now deeds)) }
+        ensures written { OnOk result
+            (Does (D.known self.old.disk) (D.known self.new.disk)
+            (λ k deeds. IsReplaced k name.now text.now deeds)) }
+        ensures begun { OnErr result
+            (Does (D.known self.old.disk) (D.known self.new.disk)
+            (λ k deeds. IsBegun k name.now deeds)) }
         ensures name { IfOk result (λ _. IsFileName name.now) }
     {
         self.is_closed = true;
@@ -471,12 +512,15 @@ impl<D: Disk> FileOutputs<D> {
     /// Takes a thing, or counts the refusal.
     fn take_counted(&mut self, kind: Kind, name: &[u8], text: &[u8]) -> io::Result<()>
         requires failures { self.old.failures < 2 ^ 62 }
-        ensures taken { OnOk result ((line : List ℕ) × IsTaken self.old self.new (record { kind = kind; name = name.now; text = text.now }) line
+        ensures taken { OnOk result
+            ((line : List ℕ) × IsTaken self.old self.new (record { kind = kind; name = name.now; text = text.now }) line
             × Does (D.known self.old.disk) (D.known self.new.disk) (λ k deeds. IsPut k name.now text.now kind line deeds)) }
         ensures unclosed { OnOk result (self.old.closed ≡ false) }
         ensures name { IfOk result (λ _. IsFileName name.now) }
         ensures counted { OnErr result (IsCounted self.old self.new) }
-        ensures undone { OnErr result (Does (D.known self.old.disk) (D.known self.new.disk) (λ k deeds. IsRefused k name.now kind deeds)) }
+        ensures undone { OnErr result
+            (Does (D.known self.old.disk) (D.known self.new.disk)
+            (λ k deeds. IsRefused k name.now kind deeds)) }
     {
         match take(
             self.alloc,
@@ -510,15 +554,19 @@ impl<D: Disk> Outputs for FileOutputs<D> {
 
     fn put(&mut self, kind: Kind, name: &[u8], text: &[u8]) -> Result<(), PutRefused>
         requires failures { (receipt_of self.old).failures < 2 ^ 62 }
-        ensures taken { OnOk result (receipt_of self.new ≡ with_thing (receipt_of self.old) (record { kind = kind; name = name.now; text = text.now })) }
+        ensures taken { OnOk result
+            (receipt_of self.new ≡ with_thing (receipt_of self.old) (record { kind = kind; name = name.now; text = text.now })) }
         ensures refused { OnErr result (receipt_of self.new ≡ with_refusal (receipt_of self.old)) }
         ensures name { IfOk result (λ _. IsFileName name.now) }
         ensures unclosed { OnOk result (self.old.closed ≡ false) }
         // What was done to the disk, if that is known, and what is said of the thing.
-        ensures done { OnOk result ((line : List ℕ) × IsTaken self.old self.new (record { kind = kind; name = name.now; text = text.now }) line
+        ensures done { OnOk result
+            ((line : List ℕ) × IsTaken self.old self.new (record { kind = kind; name = name.now; text = text.now }) line
             × Does (D.known self.old.disk) (D.known self.new.disk) (λ k deeds. IsPut k name.now text.now kind line deeds)) }
         ensures counted { OnErr result (IsCounted self.old self.new) }
-        ensures undone { OnErr result (Does (D.known self.old.disk) (D.known self.new.disk) (λ k deeds. IsRefused k name.now kind deeds)) }
+        ensures undone { OnErr result
+            (Does (D.known self.old.disk) (D.known self.new.disk)
+            (λ k deeds. IsRefused k name.now kind deeds)) }
     {
         match self.take_counted(kind, name, text) {
             Ok(()) => Ok(()),

@@ -18,8 +18,8 @@ pub(crate) enum Saying {
     Unchanged,
 }
 
-/// Returns what is said of a thing of this kind. `is_unchanged` says whether its file has its text already. It matters for a
-/// header alone.
+/// Returns what is said of a thing of this kind. `is_unchanged` says whether its file has its text
+/// already. It matters for a header alone.
 pub(crate) fn saying_of(kind: Kind, is_unchanged: bool) -> Saying
     ensures { result ≡ meant.saying_of kind is_unchanged }
 {
@@ -40,7 +40,8 @@ fn add_line(
     name: &[u8],
     end: &[u8],
 ) -> Result<(), AllocError>
-    ensures ok { OnOk result (lines.new.items ≡ lines.old.items ++ (front.now ++ (name.now ++ end.now))) }
+    ensures ok { OnOk result
+        (lines.new.items ≡ lines.old.items ++ (front.now ++ (name.now ++ end.now))) }
     ensures err { OnErr result (lines.new.items ≡ lines.old.items) }
 {
     let mut line = Vec::from_slice(alloc, front)?;

@@ -21,7 +21,8 @@ struct NewFile<T: Drop> {
     name: String,
 }
 
-/// Makes a new file in the directory of a file, under the first name `acrun-N.tmp` that is not there, N from 1 on.
+/// Makes a new file in the directory of a file, under the first name `acrun-N.tmp` that is not
+/// there, N from 1 on.
 fn make_beside<D: Disk>(alloc: Global, disk: &mut D, name: &str) -> io::Result<NewFile<D::File>>
     ensures made { IfOk result (λ made. (n : ℕ) × (string_bytes made.name ≡ temporary name.now n)
         × Adds (D.known disk.old) (D.known disk.new) (Made (temporary name.now n) ∷ [])) }
@@ -52,7 +53,8 @@ fn fill_and_rename<D: Disk>(
 ) -> io::Result<()>
     ensures done { OnOk result (Adds (D.known disk.old) (D.known disk.new)
         (Filled other.now mode text.now ∷ Renamed other.now name.now ∷ [])) }
-    ensures failed { OnErr result (Adds (D.known disk.old) (D.known disk.new) (Failed other.now ∷ [])
+    ensures failed { OnErr result
+        (Adds (D.known disk.old) (D.known disk.new) (Failed other.now ∷ [])
         ⊎ Adds (D.known disk.old) (D.known disk.new) (Filled other.now mode text.now ∷ [])) }
 {
     match disk.fill(other, file, mode, text) {
@@ -72,7 +74,8 @@ fn finish<D: Disk>(
 ) -> io::Result<()>
     ensures done { OnOk result (Adds (D.known disk.old) (D.known disk.new)
         (Filled other.now mode text.now ∷ Renamed other.now name.now ∷ [])) }
-    ensures failed { OnErr result (Adds (D.known disk.old) (D.known disk.new) (Failed other.now ∷ Removed other.now ∷ [])
+    ensures failed { OnErr result
+        (Adds (D.known disk.old) (D.known disk.new) (Failed other.now ∷ Removed other.now ∷ [])
         ⊎ Adds (D.known disk.old) (D.known disk.new) (Filled other.now mode text.now ∷ Removed other.now ∷ [])) }
 {
     match fill_and_rename(disk, other, file, mode, text, name) {
@@ -84,7 +87,8 @@ fn finish<D: Disk>(
     }
 }
 
-/// Puts a new file with this text in the place of a file, of a link, or of none. If that fails, what was there is as it was.
+/// Puts a new file with this text in the place of a file, of a link, or of none. If that fails,
+/// what was there is as it was.
 fn replace<D: Disk>(
     alloc: Global,
     disk: &mut D,
@@ -92,8 +96,10 @@ fn replace<D: Disk>(
     mode: Option<u32>,
     text: &[u8],
 ) -> io::Result<()>
-    ensures written { OnOk result ((n : ℕ) × Adds (D.known disk.old) (D.known disk.new) (writing name.now mode text.now n)) }
-    ensures undone { OnErr result (Does (D.known disk.old) (D.known disk.new) (λ _ deeds. IsUndone name.now deeds)) }
+    ensures written { OnOk result
+        ((n : ℕ) × Adds (D.known disk.old) (D.known disk.new) (writing name.now mode text.now n)) }
+    ensures undone { OnErr result
+        (Does (D.known disk.old) (D.known disk.new) (λ _ deeds. IsUndone name.now deeds)) }
 {
     match make_beside(alloc, disk, name) {
         Ok(new) => {
@@ -123,7 +129,8 @@ fn bits_of(keeps: Keeps) -> u32
     }
 }
 
-/// Returns the permission bits that a new file gets, or an error if what is under its name is not replaced.
+/// Returns the permission bits that a new file gets, or an error if what is under its name is not
+/// replaced.
 fn mode_of(found: Found, keeps: Keeps) -> io::Result<Option<u32>>
     ensures { IfOk result (IsMode keeps found) }
 {
@@ -143,8 +150,11 @@ fn write_to<D: Disk>(
     keeps: Keeps,
     text: &[u8],
 ) -> io::Result<()>
-    ensures written { OnOk result (Does (D.known disk.old) (D.known disk.new) (λ k deeds. IsWritten k keeps name.now text.now deeds)) }
-    ensures undone { OnErr result (Does (D.known disk.old) (D.known disk.new) (λ _ deeds. IsUndone name.now deeds)) }
+    ensures written { OnOk result
+        (Does (D.known disk.old) (D.known disk.new)
+        (λ k deeds. IsWritten k keeps name.now text.now deeds)) }
+    ensures undone { OnErr result
+        (Does (D.known disk.old) (D.known disk.new) (λ _ deeds. IsUndone name.now deeds)) }
 {
     let found = disk.look(name)?;
     let mode = mode_of(found, keeps)?;
@@ -153,16 +163,18 @@ fn write_to<D: Disk>(
 
 /// Writes a text to a file (own).
 ///
-/// The text is written to a new file in the same directory, under the first name `acrun-N.tmp` that is not there, and that file is
-/// renamed. So the name has what it had or the whole text, at each moment, unless the power fails. A regular file keeps its
-/// permissions, but for the set-user-ID, set-group-ID and sticky bits, and those to execute it if `keeps` says so. If `name` names a
-/// symbolic link or nothing, the new file has the permissions that the system gives. A link is replaced, and what it names is not
-/// touched.
+/// The text is written to a new file in the same directory, under the first name `acrun-N.tmp` that
+/// is not there, and that file is renamed. So the name has what it had or the whole text, at each
+/// moment, unless the power fails. A regular file keeps its permissions, but for the set-user-ID,
+/// set-group-ID and sticky bits, and those to execute it if `keeps` says so. If `name` names a
+/// symbolic link or nothing, the new file has the permissions that the system gives. A link is
+/// replaced, and what it names is not touched.
 ///
 /// # Errors
 ///
-/// Fails if memory runs out, no file can have this name, `name` names a directory, a pipe, a socket or a device, 1,000 names are taken,
-/// or the system refuses one of these steps. Then what is under the name is as it was, and the new file is gone.
+/// Fails if memory runs out, no file can have this name, `name` names a directory, a pipe, a socket
+/// or a device, 1,000 names are taken, or the system refuses one of these steps. Then what is under
+/// the name is as it was, and the new file is gone.
 pub fn write_text<D: Disk>(
     alloc: Global,
     disk: &mut D,
@@ -171,8 +183,11 @@ pub fn write_text<D: Disk>(
     text: &[u8],
 ) -> io::Result<()>
     ensures name { IfOk result (λ _. IsFileName name.now) }
-    ensures written { OnOk result (Does (D.known disk.old) (D.known disk.new) (λ k deeds. IsWritten k keeps name.now text.now deeds)) }
-    ensures undone { OnErr result (Does (D.known disk.old) (D.known disk.new) (λ _ deeds. IsUndone name.now deeds)) }
+    ensures written { OnOk result
+        (Does (D.known disk.old) (D.known disk.new)
+        (λ k deeds. IsWritten k keeps name.now text.now deeds)) }
+    ensures undone { OnErr result
+        (Does (D.known disk.old) (D.known disk.new) (λ _ deeds. IsUndone name.now deeds)) }
 {
     let Some(name) = file_name(name) else {
         return Err(no_name());
@@ -180,9 +195,11 @@ pub fn write_text<D: Disk>(
     write_to(alloc, disk, name, keeps, text)
 }
 
-/// Removes a regular file or a link of this name, and nothing else. That it can't be removed is not reported.
+/// Removes a regular file or a link of this name, and nothing else. That it can't be removed is not
+/// reported.
 fn clear<D: Disk>(disk: &mut D, name: &str)
-    ensures { Does (D.known disk.old) (D.known disk.new) (λ k deeds. IsCleared name.now (kind_under k name.now) deeds) }
+    ensures { Does (D.known disk.old) (D.known disk.new)
+        (λ k deeds. IsCleared name.now (kind_under k name.now) deeds) }
 {
     match disk.look(name) {
         Ok(found) => clear_found(disk, name, found),
@@ -192,7 +209,8 @@ fn clear<D: Disk>(disk: &mut D, name: &str)
 
 /// Removes what is found under this name, if it is a regular file or a link.
 fn clear_found<D: Disk>(disk: &mut D, name: &str, found: Found)
-    ensures { (cleared : List Deed) × IsCleared name.now found cleared × Adds (D.known disk.old) (D.known disk.new) cleared }
+    ensures { (cleared : List Deed) × IsCleared name.now found cleared × Adds (D.known disk.old)
+        (D.known disk.new) cleared }
 {
     match found {
         Found::File(_) => disk.remove(name),
@@ -203,18 +221,21 @@ fn clear_found<D: Disk>(disk: &mut D, name: &str, found: Found)
     }
 }
 
-/// Writes a text to a new file of this name. A regular file or a link of this name is removed first. So nothing is written through a
-/// link, and a pipe or a device is not opened. A new file is also faster: ext4 writes one that was truncated to the disk when it is
-/// closed.
+/// Writes a text to a new file of this name. A regular file or a link of this name is removed
+/// first. So nothing is written through a link, and a pipe or a device is not opened. A new file is
+/// also faster: ext4 writes one that was truncated to the disk when it is closed.
 ///
 /// # Errors
 ///
-/// Fails if no file can have this name, or the system refuses a step. Then what was under the name may be gone, and the new file may
-/// have a part of the text.
+/// Fails if no file can have this name, or the system refuses a step. Then what was under the name
+/// may be gone, and the new file may have a part of the text.
 pub(crate) fn write_new<D: Disk>(disk: &mut D, name: &[u8], text: &[u8]) -> io::Result<()>
     ensures name { IfOk result (λ _. IsFileName name.now) }
-    ensures replaced { OnOk result (Does (D.known disk.old) (D.known disk.new) (λ k deeds. IsReplaced k name.now text.now deeds)) }
-    ensures begun { OnErr result (Does (D.known disk.old) (D.known disk.new) (λ k deeds. IsBegun k name.now deeds)) }
+    ensures replaced { OnOk result
+        (Does (D.known disk.old) (D.known disk.new)
+        (λ k deeds. IsReplaced k name.now text.now deeds)) }
+    ensures begun { OnErr result
+        (Does (D.known disk.old) (D.known disk.new) (λ k deeds. IsBegun k name.now deeds)) }
 {
     match file_name(name) {
         Some(path) => {
@@ -227,7 +248,9 @@ pub(crate) fn write_new<D: Disk>(disk: &mut D, name: &[u8], text: &[u8]) -> io::
 
 /// Makes a new file and writes a text to it.
 fn create_filled<D: Disk>(disk: &mut D, name: &str, text: &[u8]) -> io::Result<()>
-    ensures done { OnOk result (Adds (D.known disk.old) (D.known disk.new) (Made name.now ∷ Filled name.now None text.now ∷ [])) }
+    ensures done { OnOk result
+        (Adds (D.known disk.old) (D.known disk.new)
+        (Made name.now ∷ Filled name.now None text.now ∷ [])) }
     ensures failed { OnErr result (Adds (D.known disk.old) (D.known disk.new) []
         ⊎ Adds (D.known disk.old) (D.known disk.new) (Made name.now ∷ Failed name.now ∷ [])) }
 {
