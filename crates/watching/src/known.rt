@@ -1,11 +1,22 @@
-//! Why children were refused, from the crew inside.
+//! What the crew inside knows, and how many children were started.
+
+ghost use Rattle.watching.specs.Progress.{started_in};
 
 use crate::watched::Watched;
 use crew::{Causes, Crew};
 use std::io::Write;
+use summary::Children;
 
 impl<C: Crew + Causes + Drop, W: Write + Drop> Causes for Watched<C, W> {
     fn cause(&self, child: u64) -> Option<&[u8]> {
         self.crew.cause(child)
+    }
+}
+
+impl<C: Crew + Drop, W: Write + Drop> Children for Watched<C, W> {
+    ghost started = { λ w. started_in w.account.events };
+
+    fn children(&self) -> u64 {
+        self.started
     }
 }

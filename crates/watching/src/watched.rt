@@ -22,7 +22,7 @@ pub struct Watched<C: Crew + Drop, W: Write + Drop> {
     pub(crate) crew: C,
     stream: W,
     is_on: bool,
-    started: u64,
+    pub(crate) started: u64,
     ended: u64,
     command: Line,
 }

@@ -41,6 +41,7 @@ HAVE_SYS_STATS_H|checking for sys/stat.h... ^J$ cc -c conftest1.c^Ja.c:6:10: non
 gf9|checking for f10... ^Jno^Jchecking for f1... ^Jno^Jchecking for f2... ^Jno^Jchecking for f3... ^Jno^Jchecking for f4... ^Jno^Jchecking for f5... ^Jno^J => 1[No check in the log is about gf9.^JThe nearest are:^J  checking for f1^J  checking for f2^J  checking for f3^J  checking for f4^J  checking for f5^J][]
 qqqq|checking for a.h... ^Jno^J => 1[No check in the log is about qqqq.^J][]
 // no log, no file, and words that mean nothing
+a|configure: error: no C compiler^J => 1[No check in the log is about a.^J][]
 a|hello => 2[][acrun: log config.log^J]
 a|hello^J => 2[][acrun: log config.log^J]
 a| => 2[][acrun: log config.log^J]

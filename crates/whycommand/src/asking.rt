@@ -85,7 +85,15 @@ fn show_checks<W: Write>(
     Ok(NONE)
 }
 
-/// Shows what the word is about in the lines of a log, and returns the exit status, or `None` if no line begins a check.
+/// Returns whether a line is an error, a warning or a notice of a run.
+fn has_message(lines: &[Line<'_>]) -> bool {
+    lines
+        .iter()
+        .any(|line| line.text.starts_with(b"configure: "))
+}
+
+/// Shows what the word is about in the lines of a log, and returns the exit status, or `None` if the lines are those of no log: none
+/// begins a check, and none is an error, a warning or a notice.
 fn show_lines<W: Write>(
     alloc: Global,
     lines: &[Line<'_>],
@@ -95,7 +103,7 @@ fn show_lines<W: Write>(
     ensures { IfOk result (λ o. IfSome o (λ status. status ≤ 1)) }
 {
     let checks = checks_of(alloc, lines)?;
-    if checks.is_empty() {
+    if checks.is_empty() && !has_message(lines) {
         return Ok(None);
     }
     Ok(Some(show_checks(alloc, lines, checks.as_slice(), word, output)?))

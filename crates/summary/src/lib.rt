@@ -1,0 +1,28 @@
+//! The last line of a run on a terminal: how many checks it made, how many answers the cache had, how many children it started, and
+//! how long it took.
+//!
+//! ```text
+//! let mut output = Counted::new(rt.stdout());
+//! output.write_all(b"checking for stdio.h... (cached) yes\n")?;
+//! put_summary(alloc, output.tally(), 0, 12, errors)?;    // acrun: 1 check, 1 from the cache, no children, 12 ms
+//! ```
+//!
+//! The checks are counted in what is printed: each line that begins with `checking ` is one, and if it has `(cached) `, the cache
+//! had its answer.
+//!
+//! "own" marks a rule that no manual gives.
+//!
+//! Read `tally`, `counted` and then `line`. `children` has the trait of what counts children.
+#![tactic(auto)]
+
+mod children;
+mod counted;
+mod line;
+mod tally;
+#[cfg(test)]
+mod tests;
+
+pub use children::Children;
+pub use counted::Counted;
+pub use line::put_summary;
+pub use tally::Tally;
