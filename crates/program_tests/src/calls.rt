@@ -12,7 +12,9 @@ use diskfiles::FileOutputs;
 use runner::{asks_why, command, run};
 use std::fs::File;
 use std::io::Write;
+use summary::Children;
 use testrows::Page;
+use watching::Watched;
 
 /// What a command is given besides its words.
 #[derive(Clone, Copy)]
@@ -72,7 +74,7 @@ fn status_over<C: Crew + Causes, W: Write>(
 }
 
 /// Returns the exit status of the whole program over a crew, on the streams of the process.
-fn command_over<C: Crew + Causes>(
+fn command_over<C: Crew + Causes + Children>(
     rt: &HostRuntime,
     words: &[Bytes],
     env: &[(Bytes, Bytes)],
@@ -122,8 +124,11 @@ pub fn put_command(page: &mut Page, rt: &HostRuntime, given: &Given<'_>, text: &
     let words = words_of(page, given, text);
     let env = env_of(page, given.env);
     let replies = replies_of(page, given.replies);
-    match &mut MemoryCrew::new(page.alloc(), replies, order_of(given)) {
-        Ok(crew) => page.put_shown(&command_over(rt, words.as_slice(), env.as_slice(), crew)),
+    match MemoryCrew::new(page.alloc(), replies, order_of(given)) {
+        Ok(crew) => {
+            let mut crew = Watched::new(crew, Vec::new(page.alloc()), false);
+            page.put_shown(&command_over(rt, words.as_slice(), env.as_slice(), &mut crew))
+        }
         Err(_) => page.cut(),
     }
 }

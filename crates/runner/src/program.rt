@@ -30,6 +30,8 @@ use shown::Shown;
 use std::alloc::Global;
 use std::io::{self, Input, IsTerminal, Read, Write};
 use std::rt::Files;
+use std::time::Instant;
+use summary::{Children, Counted, Tally, put_summary};
 use whycommand::run_why;
 
 /// Reports an error of the filter, and says more of it if it is asked. Returns the exit status.
@@ -208,12 +210,44 @@ fn shows_output(words: &[Bytes]) -> bool {
     }
 }
 
+/// Returns whether the words ask for a run.
+fn asks_run(words: &[Bytes]) -> bool {
+    match call_of(words) {
+        Call::Configure(_, _) | Call::Recheck => true,
+        _ => false,
+    }
+}
+
+/// Returns the milliseconds since the clock gave a time, or 0 if the clock can't be read.
+fn millis_since(rt: &HostRuntime, begun: &io::Result<Instant>) -> u64 {
+    match begun {
+        Ok(begun) => match begun.elapsed(rt) {
+            Ok(passed) => passed.as_millis() as u64,
+            Err(_) => 0,
+        },
+        Err(_) => 0,
+    }
+}
+
+/// Sums a run up that began then, on its last line.
+fn sum_up<E: Write>(
+    rt: &HostRuntime,
+    alloc: Global,
+    begun: &io::Result<Instant>,
+    tally: &Tally,
+    children: u64,
+    errors: &mut E,
+) {
+    let _ = put_summary(alloc, tally, children, millis_since(rt, begun), errors);
+}
+
 /// Runs the command that the words name, on the streams and the files of the process, and returns its exit status.
 ///
 /// This is [`run`], which says what each command does. On a terminal control bytes are written as `\xNN`, so that no text of a source,
 /// an argument or a compiler drives it. Lines that say why are asked for if standard error is a terminal, or if the
-/// environment has an ACRUN_WHY that isn't empty (own).
-pub fn command<C: Crew + Causes>(
+/// environment has an ACRUN_WHY that isn't empty. If standard error is a terminal, the last line of a run that made a check sums it
+/// up (own).
+pub fn command<C: Crew + Causes + Children>(
     rt: HostRuntime,
     alloc: Global,
     words: &[Bytes],
@@ -239,7 +273,10 @@ pub fn command<C: Crew + Causes>(
     let is_seen = rt.stderr().is_terminal();
     let is_terminal = rt.stdout().is_terminal();
     let is_shown = is_terminal && shows_output(words);
-    run(
+    let begun = Instant::now(&rt);
+    let mut output = Counted::new(Shown::new(io::writer(&rt), is_shown));
+    let mut errors = Shown::new(rt.stderr(), is_seen);
+    let status = run(
         alloc,
         &rt,
         &mut FileOutputs::new(alloc, Host::new(&rt)),
@@ -249,7 +286,18 @@ pub fn command<C: Crew + Causes>(
         asks_why(env) || is_seen,
         is_terminal,
         &mut rt.reader(),
-        &mut Shown::new(io::writer(&rt), is_shown),
-        &mut Shown::new(rt.stderr(), is_seen),
-    )
+        &mut output,
+        &mut errors,
+    );
+    if is_seen && asks_run(words) {
+        sum_up(
+            &rt,
+            alloc,
+            &begun,
+            &output.tally(),
+            crew.children(),
+            &mut errors,
+        );
+    }
+    status
 }
