@@ -111,10 +111,24 @@ fn last_comments(text: &[u8]) -> &[u8] {
     from(text, start)
 }
 
+/// Returns the offset after the lines of comment that begin at the offset.
+fn below_comments(text: &[u8], at: usize) -> usize {
+    let mut at = at;
+    for _ in 0..text.len() {
+        let rest = from(text, at);
+        if !rest.starts_with(FRONT) {
+            break;
+        }
+        let len = rest.iter().take_while(|byte| **byte != b'\n').count();
+        at = at.saturating_add(len).saturating_add(1).min(text.len());
+    }
+    at
+}
+
 /// Puts each error at the line above which its comment can be.
 fn to_lines(text: &[u8], calls: &[CallAt], errors: &mut Vec<Finding>) {
     for error in errors {
-        error.start = comment_line(text, calls, error.start);
+        error.start = below_comments(text, comment_line(text, calls, error.start));
     }
 }
 

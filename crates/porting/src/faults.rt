@@ -81,6 +81,18 @@ fn begin(alloc: Global, copy: &mut Copy) -> Result<bool, AllocError> {
     Ok(true)
 }
 
+/// Blanks the call of AC_INIT, which comes too late.
+fn blank_init(text: &[u8], calls: &[CallAt], copy: &mut Copy) {
+    for call in calls {
+        if part(text, call.start, call.name_end) == b"AC_INIT".as_slice() {
+            let start = copy.base.saturating_add(call.start);
+            let end = copy.base.saturating_add(call.end);
+            blank(copy.text.as_mut_slice(), start, end, false);
+            return;
+        }
+    }
+}
+
 /// Appends a text, if it is not there yet. Returns whether it was appended.
 fn end(copy: &mut Copy) -> Result<bool, AllocError> {
     if copy.text.as_slice().ends_with(OUTPUT) {
@@ -93,13 +105,16 @@ fn end(copy: &mut Copy) -> Result<bool, AllocError> {
 /// Takes what an error at a place is about out of the copy. Returns whether that changed anything.
 fn take_out(
     alloc: Global,
+    text: &[u8],
     copy: &mut Copy,
     calls: &[CallAt],
     code: &[u8],
     place: usize,
 ) -> Result<bool, AllocError> {
     if code == b"parse-8".as_slice() {
-        return begin(alloc, copy);
+        let is_begun = begin(alloc, copy)?;
+        blank_init(text, calls, copy);
+        return Ok(is_begun);
     }
     if code == b"parse-9".as_slice() {
         return end(copy);
@@ -108,9 +123,11 @@ fn take_out(
     Ok(blank_at(&mut copy.text.as_mut_slice()[base..], calls, code, place))
 }
 
-/// Returns whether there is an error at the place already.
-fn has_at(found: &[Finding], place: usize) -> bool {
-    found.iter().any(|one| one.start == place)
+/// Returns whether there is such an error at the place already.
+fn has_at(found: &[Finding], code: &[u8], place: usize) -> bool {
+    found
+        .iter()
+        .any(|one| one.start == place && one.code.as_slice() == code)
 }
 
 /// Returns whether the error is that there is no call of a macro that is there, since it was taken out.
@@ -123,6 +140,11 @@ fn is_made(text: &[u8], calls: &[CallAt], code: &[u8]) -> bool {
     calls
         .iter()
         .any(|call| part(text, call.start, call.name_end) == name)
+}
+
+/// Returns whether the error has to be added to those that are found.
+fn is_new(text: &[u8], calls: &[CallAt], found: &[Finding], code: &[u8], place: usize) -> bool {
+    !has_at(found, code, place) && !is_made(text, calls, code)
 }
 
 /// Returns an error with its place in the source.
@@ -162,8 +184,8 @@ fn add_first(
         return Ok(false);
     };
     let place = first.start.saturating_sub(copy.base).min(text.len());
-    let goes_on = take_out(alloc, copy, calls, first.code.as_slice(), place)?;
-    if !has_at(found, place) && !is_made(text, calls, first.code.as_slice()) {
+    let goes_on = take_out(alloc, text, copy, calls, first.code.as_slice(), place)?;
+    if is_new(text, calls, found, first.code.as_slice(), place) {
         found.push(placed(first, place))?;
     }
     Ok(goes_on)
