@@ -75,7 +75,7 @@ said_by-insert_entry es k v q =
 -- ---- an entry that is added only if there is none
 
 -- A name that has an entry keeps it.
-kept : (es : List (Vec ℕ × Entry)) (r : Read) (known : List ℕ) (b : Bool)
+pub kept : (es : List (Vec ℕ × Entry)) (r : Read) (known : List ℕ) (b : Bool)
     → b ≡ is_some (said_by es known) → b ≡ true
     → (n : List ℕ) → said_by es n ≡ or_later (said_by es n) (said_exactly r known n)
 kept es r known b has there n = by (bytes_eq known n) refl
@@ -95,7 +95,7 @@ turned : (a b : List ℕ) → bytes_eq a b ≡ bytes_eq b a
 turned a b = nat_list_eq_equiv.symm a b
 
 -- A name that has none gets it.
-added : (es new : List (Vec ℕ × Entry)) (r : Read) (known : List ℕ) (b : Bool) (s : Said)
+pub added : (es new : List (Vec ℕ × Entry)) (r : Read) (known : List ℕ) (b : Bool) (s : Said)
     → s ≡ record { name = known; kind = r.kind; text = r.text }
     → b ≡ is_some (said_by es known) → b ≡ false
     → ((n : List ℕ) → said_by new n ≡ cond (bytes_eq n known) (Some s) (said_by es n))
