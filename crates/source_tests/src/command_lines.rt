@@ -125,7 +125,7 @@ fn put_directory(page: &mut Page, name: &[u8]) {
 }
 
 /// A call.
-enum Reader {
+pub enum Reader {
     /// The settings of a command line, over the lists of a source.
     Lists,
     /// The settings of a command line, over a source.
@@ -142,7 +142,7 @@ enum Reader {
     Memory,
 }
 
-const READERS: [(&[u8], Reader); 7] = [
+pub const READERS: [(&[u8], Reader); 7] = [
     (b"lists", Reader::Lists),
     (b"source", Reader::Source),
     (b"help", Reader::Help),

@@ -64,21 +64,24 @@ fn put_notes(page: &mut Page, notes: &Notes) {
 }
 
 /// A call.
-enum Reader {
+pub enum Reader {
     /// The check, over a source.
     Source,
     /// The check, over the precious variables of a source.
     List,
     /// The same, and then the cache is poured.
     Poured,
+    /// The check, over a source with 1,000 precious variables.
+    Wide,
     /// An error.
     Memory,
 }
 
-const READERS: [(&[u8], Reader); 4] = [
+pub const READERS: [(&[u8], Reader); 5] = [
     (b"source", Reader::Source),
     (b"list", Reader::List),
     (b"poured", Reader::Poured),
+    (b"wide", Reader::Wide),
     (b"memory", Reader::Memory),
 ];
 
@@ -120,6 +123,19 @@ impl Reader {
     }
 }
 
+/// Returns a source whose precious variables are V0 to V999.
+fn wide_source(page: &Page) -> Page {
+    let mut source = Page::new(page.alloc());
+    source.put(b"AC_INIT([x],[1])");
+    for i in 0..1000 {
+        source.put(b"AC_ARG_VAR([V");
+        source.put_number(i);
+        source.put(b"],[v])");
+    }
+    source.put(b"AC_OUTPUT");
+    source
+}
+
 /// A call, the arguments of a command line and the text of a cache.
 #[derive(Drop)]
 struct Given<'a> {
@@ -156,12 +172,8 @@ impl Next<OldCache> for Over<'_> {
     }
 }
 
-/// The arguments are before the first comma, with a bar between each two, and the text of the cache is after it.
-impl Call for Reader {
-    fn put(&self, page: &mut Page, line: &[u8]) {
-        if let Reader::Memory = self {
-            return page.put_shown(&PreciousFault::OutOfMemory);
-        }
+impl Reader {
+    fn put_over(&self, page: &mut Page, source: &[u8], line: &[u8]) {
         let (words, cache) = cut(line, b",");
         let arguments = arguments_of(page, words);
         let given = Given {
@@ -169,7 +181,20 @@ impl Call for Reader {
             arguments: &arguments,
             cache,
         };
-        put_next(page, read_source(page.alloc(), SOURCE), &given);
+        put_next(page, read_source(page.alloc(), source), &given);
+    }
+}
+
+/// The arguments are before the first comma, with a bar between each two, and the text of the cache is after it.
+impl Call for Reader {
+    fn put(&self, page: &mut Page, line: &[u8]) {
+        if let Reader::Memory = self {
+            return page.put_shown(&PreciousFault::OutOfMemory);
+        }
+        match self {
+            Reader::Wide => self.put_over(page, wide_source(page).text(), line),
+            _ => self.put_over(page, SOURCE, line),
+        }
     }
 }
 

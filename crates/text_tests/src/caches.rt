@@ -266,7 +266,7 @@ fn put_largest(page: &mut Page) {
     put_newlines(page, LARGEST + 1);
 }
 
-struct Caches;
+pub struct Caches;
 
 impl Call for Caches {
     fn put(&self, page: &mut Page, given: &[u8]) {

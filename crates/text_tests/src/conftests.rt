@@ -219,7 +219,7 @@ fn put_source(page: &mut Page, given: &[u8]) {
     }
 }
 
-struct Sources;
+pub struct Sources;
 
 impl Call for Sources {
     fn put(&self, page: &mut Page, given: &[u8]) {

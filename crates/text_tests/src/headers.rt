@@ -67,7 +67,7 @@ fn put_note(page: &mut Page, names: &[u8]) {
     }
 }
 
-struct Headers;
+pub struct Headers;
 
 impl Call for Headers {
     fn put(&self, page: &mut Page, given: &[u8]) {

@@ -30,6 +30,8 @@ mod receiver;
 #[cfg(test)]
 mod records;
 #[cfg(test)]
+mod sizes;
+#[cfg(test)]
 mod tables;
 #[cfg(test)]
 mod templates;

@@ -147,7 +147,7 @@ fn put_messages(page: &mut Page, call: &[u8], notes: &[Note]) {
     }
 }
 
-struct Logs;
+pub struct Logs;
 
 impl Call for Logs {
     fn put(&self, page: &mut Page, given: &[u8]) {

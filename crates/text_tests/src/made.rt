@@ -1,6 +1,6 @@
 //! making: records of runs, and the files and headers that are made of them.
 
-use deftable::{Bytes, Defs, SubstList, Texts, Vars};
+use deftable::{Bytes, Defs, SubstList, Texts, Vars, is_shell_name};
 use making::{add_outputs, find_missing, find_unknown, make_file, make_outputs, record_of};
 use outputs::{Kind, Thing, Things};
 use status_record::{Output, Outputs, Record};
@@ -13,7 +13,8 @@ use testrows::{Call, Page, cut, try_rows};
 /// arguments are `-C` and `x y`, and the source is in `../s`.
 ///
 /// `record`: the record. `make`: what is made of it. `append`: the same twice, in one list. `file`: what is made of the first
-/// file. `missing`: the output whose template is missing. `unknown`: the index of the tag that is no output.
+/// file. `missing`: the output whose template is missing. `unknown`: the index of the tag that is no output. `many` alone: how
+/// many variables and definitions the record has of a source with 10,000 of each.
 const MADE: &[u8] = b"
 record V=x;W=y;LIBS=-lm;DEFS=-DX;prefix=/usr|file b t;header h k||h => PACKAGE_NAME[]PACKAGE_TARNAME[]PACKAGE_VERSION[]PACKAGE_STRING[]PACKAGE_BUGREPORT[]PACKAGE_URL[]prefix[/usr]exec_prefix[]bindir[]sbindir[]libexecdir[]libdir[]datarootdir[]datadir[]sysconfdir[]sharedstatedir[]localstatedir[]runstatedir[]includedir[]oldincludedir[]docdir[]infodir[]htmldir[]dvidir[]pdfdir[]psdir[]localedir[]mandir[]LIBS[-lm]DEFS[-DHAVE_CONFIG_H]V[x]CC[]srcdir[];../s[-C][x y];X[1];b[t];h[k]
 record DEFS=-DX;CC=;PACKAGE_URL=u||| => PACKAGE_NAME[]PACKAGE_TARNAME[]PACKAGE_VERSION[]PACKAGE_STRING[]PACKAGE_BUGREPORT[]PACKAGE_URL[u]prefix[]exec_prefix[]bindir[]sbindir[]libexecdir[]libdir[]datarootdir[]datadir[]sysconfdir[]sharedstatedir[]localstatedir[]runstatedir[]includedir[]oldincludedir[]docdir[]infodir[]htmldir[]dvidir[]pdfdir[]psdir[]localedir[]mandir[]LIBS[]V[]CC[]srcdir[];../s[-C][x y];X[1];;
@@ -149,6 +150,46 @@ fn record_given(alloc: Global, vars: &[u8], outputs: &[u8]) -> Result<Record, Al
     let defs = own_defs(alloc)?;
     let args = own_args(alloc)?;
     record_with(alloc, &vars, &names, &defs, &args, outputs)
+}
+
+/// Returns 10,000 names.
+fn many_names(alloc: Global) -> Result<SubstList, AllocError> {
+    let mut names = SubstList::new(alloc);
+    for i in 0..10_000 {
+        let name = format!(in alloc; "V{i}")?;
+        if is_shell_name(name.as_bytes()) {
+            names.add(name.as_bytes())?;
+        }
+    }
+    Ok(names)
+}
+
+/// Returns definitions of these names.
+fn defs_of(alloc: Global, names: &SubstList) -> Result<Defs, AllocError> {
+    let mut defs = Defs::new(alloc);
+    for name in names.names() {
+        if is_shell_name(name.as_slice()) {
+            defs.define(name.as_slice(), b"1")?;
+        }
+    }
+    Ok(defs)
+}
+
+fn record_of_many(alloc: Global) -> Result<Record, AllocError> {
+    let vars = Vars::new(alloc);
+    let names = many_names(alloc)?;
+    let defs = defs_of(alloc, &names)?;
+    let args = Texts::new(alloc);
+    record_with(alloc, &vars, &names, &defs, &args, b"")
+}
+
+fn put_many(page: &mut Page) {
+    let record = record_of_many(page.alloc());
+    if let Some(record) = page.given(record) {
+        page.put_number(record.vars.len());
+        page.put(b" ");
+        page.put_number(record.defs.len());
+    }
 }
 
 fn put_defs(page: &mut Page, defs: &Defs) {
@@ -301,11 +342,14 @@ fn put_with_templates(
     }
 }
 
-struct Making;
+pub struct Making;
 
 impl Call for Making {
     fn put(&self, page: &mut Page, given: &[u8]) {
         let (call, rest) = cut(given, b" ");
+        if call == b"many".as_slice() {
+            return put_many(page);
+        }
         let (vars, rest) = cut(rest, b"|");
         let (outputs, rest) = cut(rest, b"|");
         let (templates, tags) = cut(rest, b"|");

@@ -106,7 +106,7 @@ fn put_cuts(page: &mut Page, value: &[u8], text: &[u8]) {
     page.put_text(wanted.as_slice());
 }
 
-struct Pieces;
+pub struct Pieces;
 
 impl Call for Pieces {
     fn put(&self, page: &mut Page, given: &[u8]) {

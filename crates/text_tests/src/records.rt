@@ -269,7 +269,7 @@ fn put_bytes(page: &mut Page, before: &[u8], after: &[u8]) {
     }
 }
 
-struct Records;
+pub struct Records;
 
 impl Call for Records {
     fn put(&self, page: &mut Page, given: &[u8]) {

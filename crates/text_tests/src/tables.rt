@@ -229,7 +229,7 @@ fn put_entry(page: &mut Page, entry: (&[u8], &[u8])) {
     page.put(b";");
 }
 
-struct Steps;
+pub struct Steps;
 
 impl Call for Steps {
     fn put(&self, page: &mut Page, given: &[u8]) {

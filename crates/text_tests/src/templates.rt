@@ -7,7 +7,7 @@ use testrows::{Call, Page, cut, try_rows};
 
 /// `fill`, the value of VAR and a template: what it makes if also A is `1` and B is empty. `repeat` and two texts with a comma
 /// between them: whether the first makes the second, each repeated over many windows. `key` and a name: its value where VAR is
-/// `v`. `names` alone: the length of the longest name.
+/// `v`. `names` alone: the length of the longest name. `many` alone: the same of a table with 10,000 names, and the value of the last.
 const FILLED: &[u8] = b"
 fill v @a@VAR@ => [@av]
 fill v  => []
@@ -97,6 +97,21 @@ fn put_entry(page: &mut Page, table: &Table, key: &[u8]) {
     }
 }
 
+/// Puts the length of the longest of 10,000 names, and the value of the last.
+fn put_many(page: &mut Page) {
+    let mut table = Table::new(page.alloc());
+    let mut key = Page::new(page.alloc());
+    for i in 0..10_000 {
+        key = Page::new(page.alloc());
+        key.put(b"K");
+        key.put_number(i);
+        set(page, &mut table, key.text(), b"x");
+    }
+    page.put_number(table.longest_key());
+    page.put(b" ");
+    put_entry(page, &table, key.text());
+}
+
 fn put_answer(page: &mut Page, call: &[u8], text: &[u8], table: &Table) {
     match call.first() {
         Some(b'f') => {
@@ -106,11 +121,12 @@ fn put_answer(page: &mut Page, call: &[u8], text: &[u8], table: &Table) {
         }
         Some(b'r') => put_is_filled(page, text, table),
         Some(b'k') => put_entry(page, table, text),
+        Some(b'm') => put_many(page),
         _ => page.put_number(table.longest_key()),
     }
 }
 
-struct Filling;
+pub struct Filling;
 
 impl Call for Filling {
     fn put(&self, page: &mut Page, given: &[u8]) {
