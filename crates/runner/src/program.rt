@@ -222,7 +222,10 @@ fn asks_run(words: &[Bytes]) -> bool {
 fn millis_since(rt: &HostRuntime, begun: &io::Result<Instant>) -> u64 {
     match begun {
         Ok(begun) => match begun.elapsed(rt) {
-            Ok(passed) => passed.as_millis() as u64,
+            Ok(passed) => {
+                let millis = u64::from(passed.subsec_millis());
+                passed.as_secs().saturating_mul(1000).saturating_add(millis)
+            }
             Err(_) => 0,
         },
         Err(_) => 0,
