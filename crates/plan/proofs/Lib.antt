@@ -3,3 +3,4 @@ pub mod Follows
 pub mod Insides
 pub mod Weights
 pub mod Codes
+pub mod Symbols

@@ -1,24 +1,82 @@
 -- The names that a plan defines.
-use Rattle.std.specs.Prelude.{List, [], ◌∷◌}
+use Rattle.std.specs.Prelude.{ℕ, true, false, List, [], ◌∷◌, ◌++◌, Option, Some, None, All, IfSome, codes}
 use Rattle.deftable.specs.ShellName.{IsShellName}
+use Rattle.syntax.specs.declared.listed.Listed.{Listed}
+use Rattle.syntax.specs.declared.listed.Listed.TheVariants.{Header, Function, Declaration}
 use Rattle.syntax.specs.declared.statement.Plain as plain
-use Rattle.syntax.specs.declared.statement.Plain.TheVariants.{Define, DefineUnquoted}
+use Rattle.syntax.specs.declared.statement.Plain.TheVariants.{Init, Define, DefineUnquoted, Batch}
+use Rattle.syntax.specs.declared.statement.Question as asks
+use Rattle.syntax.specs.declared.statement.Question.TheVariants as questions
+use Rattle.syntax.specs.declared.statement.Question.TheVariants.{Given, Tries, Checks, ChecksEach}
+use Rattle.syntax.specs.declared.tree.Subject as subject
+use Rattle.syntax.specs.declared.tree.Subject.TheVariants.{Nothing, Word, Asked}
+use Rattle.meaning.specs.Rows.{Kind, Program, Single, Sized, Library, Libraries, kind_for, symbol_part}
 use Rattle.plan.specs.Walk.{Instruction, Does, Looks, Defaults, Begins, Skips_unless, Skips, Opens, Closes}
 
--- The name that a statement defines has the form of one. (own)
-abbrev pub DefinesName : plain.Plain → Type 0
+-- The name that the result of an entry defines: `HAVE_` and the entry, and for a declaration `HAVE_DECL_` and the entry.
+-- (Autoconf's manual, "Generic Headers", "Generic Functions" and "Generic Declarations")
+abbrev pub entry_definition : Listed → List ℕ → List ℕ
+entry_definition Header entry = codes "HAVE_" ++ symbol_part entry
+entry_definition Function entry = codes "HAVE_" ++ symbol_part entry
+entry_definition Declaration entry = codes "HAVE_DECL_" ++ symbol_part entry
+
+-- The name that a test of this kind defines, if it defines one: that of an entry, `HAVE_` and a type, or `HAVE_LIB` and a
+-- library. (Autoconf's manual, "Generic Headers" to "Generic Types" and "Library Files")
+abbrev pub definition : Kind → Option (List ℕ)
+definition (Program search own) = None
+definition (Single listed entry includes true) = Some (entry_definition listed entry)
+definition (Single listed entry includes false) = None
+definition (Sized name includes true) = Some (codes "HAVE_" ++ symbol_part name)
+definition (Sized name includes false) = None
+definition (Library library function others true) = Some (codes "HAVE_LIB" ++ symbol_part library)
+definition (Library library function others false) = None
+definition (Libraries function libraries others) = None
+
+-- The name that a test of this kind defines, if any, has the form of one. (own)
+abbrev pub DefinesBy : Kind → Type 0
+DefinesBy kind = IfSome (definition kind) IsShellName
+
+-- The names that AC_INIT defines. (Autoconf's manual, "Initializing configure")
+abbrev pub package_names : List (List ℕ)
+package_names =
+    codes "PACKAGE_NAME" ∷ codes "PACKAGE_TARNAME" ∷ codes "PACKAGE_VERSION" ∷ codes "PACKAGE_STRING" ∷ codes "PACKAGE_BUGREPORT"
+    ∷ codes "PACKAGE_URL" ∷ []
+
+-- Every name that a statement defines in its own step has the form of one. (own)
+unfoldable pub DefinesName : plain.Plain → Type 0
+DefinesName (Init title version bug tarname url) = All IsShellName package_names
 DefinesName (Define name value) = IsShellName name
 DefinesName (DefineUnquoted name value) = IsShellName name
+DefinesName (Batch listed entries includes) = All (λ entry. DefinesBy (Single listed entry includes true)) entries
 DefinesName _ = Unit {0}
 
--- Every name that the steps of a plan define has the form of one. (own)
+-- Every name that the test of a question defines has the form of one. (own)
+abbrev pub DefinesAsked : asks.Question → Type 0
+DefinesAsked (Given kind variable help) = Unit {0}
+DefinesAsked (Tries kind program) = Unit {0}
+DefinesAsked (Checks sought entry includes) = DefinesBy (kind_for sought entry includes false)
+DefinesAsked (ChecksEach sought entries includes) = All (λ entry. DefinesBy (kind_for sought entry includes true)) entries
+DefinesAsked (questions.Library library function others adds) = DefinesBy (Library library function others adds)
+DefinesAsked (questions.Libraries function libraries others) = DefinesBy (Libraries function libraries others)
+
+-- Every name that the beginning of a choice about this subject defines has the form of one. (own)
+unfoldable pub DefinesAbout : subject.Subject → Type 0
+DefinesAbout Nothing = Unit {0}
+DefinesAbout (Word word) = Unit {0}
+DefinesAbout (Asked question) = DefinesAsked question
+
+-- Every name that a step defines has the form of one. (own)
+abbrev pub DefinesIn : Instruction → Type 0
+DefinesIn (Does statement) = DefinesName statement
+DefinesIn (Looks variable program always) = Unit {0}
+DefinesIn (Defaults variable value) = Unit {0}
+DefinesIn (Begins subject) = DefinesAbout subject
+DefinesIn (Skips_unless when steps) = Unit {0}
+DefinesIn (Skips steps) = Unit {0}
+DefinesIn (Opens message name steps) = Unit {0}
+DefinesIn (Closes name) = Unit {0}
+
+-- So does every name that the steps of a plan define. (own)
 abbrev pub DefinesNames : List Instruction → Type 0
 DefinesNames [] = Unit {0}
-DefinesNames (Does statement ∷ rest) = DefinesName statement × DefinesNames rest
-DefinesNames (Looks variable program always ∷ rest) = DefinesNames rest
-DefinesNames (Defaults variable value ∷ rest) = DefinesNames rest
-DefinesNames (Begins subject ∷ rest) = DefinesNames rest
-DefinesNames (Skips_unless when steps ∷ rest) = DefinesNames rest
-DefinesNames (Skips steps ∷ rest) = DefinesNames rest
-DefinesNames (Opens message name steps ∷ rest) = DefinesNames rest
-DefinesNames (Closes name ∷ rest) = DefinesNames rest
+DefinesNames (step ∷ rest) = DefinesIn step × DefinesNames rest

@@ -2,7 +2,7 @@
 
 ghost use Rattle.std.specs.Prelude.{◌≡◌, [], ◌∷◌, OnOk, length, map};
 ghost use Rattle.plan.specs.Inside.{IsShort, AreShort};
-ghost use Rattle.plan.specs.Names.{DefinesNames};
+ghost use Rattle.plan.specs.Names.{DefinesIn, DefinesNames};
 ghost use Rattle.plan.specs.Walk.{Does, shown};
 
 use crate::step::Step;
@@ -49,7 +49,7 @@ impl<'a> Code<'a> {
     /// Puts a step at the front. It defines nothing, or a name that has the form of one, and a list whose entries it tests
     /// at once has at most 256.
     pub(crate) fn put(&mut self, step: Step<'a>) -> Result<(), AllocError>
-        requires names { DefinesNames (shown step ∷ []) }
+        requires names { DefinesIn (shown step) }
         requires short { IsShort (shown step) }
         ensures { OnOk result (self.new ≡ shown step.entry ∷ self.old) }
     {
@@ -58,6 +58,7 @@ impl<'a> Code<'a> {
     }
 
     /// Puts a statement at the front.
+    #[tactic(auto, using(crate::proofs::Symbols::package_defines), unfolding(crate::specs::Names::DefinesName))]
     pub(crate) fn put_statement(&mut self, statement: &'a Plain) -> Result<(), AllocError>
         ensures { OnOk result (self.new ≡ Does statement.now ∷ self.old) }
     {

@@ -1,13 +1,13 @@
 //! The steps of statements, written from the last to the first, so that the length of each jump is known.
 
-ghost use Rattle.std.specs.Prelude.{◌≡◌, ◌∷◌, ◌++◌, [], IfOk, OnOk, true};
+ghost use Rattle.std.specs.Prelude.{◌≡◌, ◌∷◌, ◌++◌, IfOk, OnOk, true};
 ghost use Rattle.meaning.specs.Meaning.{rounds_asked, rounds_of};
 ghost use Rattle.syntax.specs.declared.statement.Question.TheVariants.{ChecksEach};
 ghost use Rattle.syntax.specs.declared.tree.Subject.TheVariants.{Asked};
 ghost use Rattle.syntax.specs.Script.{Done, script_of, cases_of, stmt_then};
 ghost use Rattle.plan.specs.Code.{case_code, check_code, code_after, code_each, code_of, code_of_cases, code_of_programs};
 ghost use Rattle.plan.specs.Inside.{IsShort};
-ghost use Rattle.plan.specs.Names.{DefinesNames};
+ghost use Rattle.plan.specs.Names.{DefinesIn};
 ghost use Rattle.plan.specs.Walk.{shown};
 
 use crate::code::Code;
@@ -88,6 +88,7 @@ fn emit_statement<'a>(code: &mut Code<'a>, statement: &'a Stmt) -> Result<(), Al
 
 /// Puts the steps of a choice at the front.
 #[cycle(emit)]
+#[tactic(auto, using(crate::proofs::Symbols::step_begins))]
 fn emit_choice<'a>(
     code: &mut Code<'a>,
     subject: &'a Subject,
@@ -104,6 +105,7 @@ fn emit_choice<'a>(
 
 /// Puts the steps of a choice about a question at the front.
 #[cycle(emit)]
+#[tactic(auto, using(crate::proofs::Symbols::step_begins))]
 fn emit_asked<'a>(
     code: &mut Code<'a>,
     subject: &'a Subject,
@@ -129,6 +131,7 @@ fn emit_asked<'a>(
 
 /// Puts the steps of the rounds of a list at the front.
 #[cycle(emit)]
+#[tactic(auto, using(crate::proofs::Symbols::step_begins))]
 fn emit_each<'a>(
     code: &mut Code<'a>,
     sought: Sought,
@@ -159,7 +162,7 @@ fn emit_round<'a>(
     begins: Step<'a>,
     cases: &'a [Case],
 ) -> Result<(), AllocError>
-    requires names { DefinesNames (shown begins ∷ []) }
+    requires names { DefinesIn (shown begins) }
     requires short { IsShort (shown begins) }
     ensures { OnOk result (code.new ≡ shown begins.entry ∷ (code_of_cases (cases_of cases.now) ++ code.old)) }
 {

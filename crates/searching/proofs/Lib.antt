@@ -1,4 +1,3 @@
-pub mod Symbols
 pub mod TypeJobs
 pub mod Searches
 pub mod Tested

@@ -71,7 +71,7 @@ pub fn begin_trial(alloc: Global, store: &mut Store, trial: &Trial) -> Result<()
 }
 
 /// Defines `HAVE_` and the name of what is found, as 1.
-#[tactic(auto, using(crate::proofs::Symbols::have_name))]
+#[tactic(auto, using(plan::proofs::Symbols::have_name))]
 fn define_have(
     alloc: Global,
     store: &mut Store,
@@ -96,7 +96,7 @@ fn one_or_zero(found: bool) -> &'static [u8]
 }
 
 /// Defines `HAVE_DECL_` and the name of a declaration, as 1 or 0.
-#[tactic(auto, using(crate::proofs::Symbols::declared_name))]
+#[tactic(auto, using(plan::proofs::Symbols::declared_name))]
 fn define_declared(
     alloc: Global,
     store: &mut Store,

@@ -224,7 +224,7 @@ fn add_to_libs(alloc: Global, store: &mut Store, text: &[u8]) -> Result<(), Allo
 }
 
 /// Defines `HAVE_LIB` and the name of a library.
-#[tactic(auto, using(crate::proofs::Symbols::library_name))]
+#[tactic(auto, using(plan::proofs::Symbols::library_name))]
 fn define_library(alloc: Global, store: &mut Store, library: &[u8]) -> Result<(), AllocError>
     ensures { OnOk result (store.new ≡ linking.with_library_defined library.now store.old) }
 {
