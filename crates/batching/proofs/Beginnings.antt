@@ -3,7 +3,7 @@ use Rattle.std.proofs.Common.{◌≡◌, ℕ, ◌<◌, ◌≤◌, Vec, Global, L
 use Rattle.jobs.specs.declared.job.Job.{Job}
 use Rattle.meaning.specs.State.{State, Run, Asks, then_run}
 use Rattle.meaning.specs.Batches.{Batch, asking, jobs_in, batched}
-use Rattle.meaning.specs.Tests.{guarded_all}
+use Rattle.plan.specs.Broken.{guarded_all}
 use Rattle.searching.specs.Waits.{Awaits, Suits, after_entries, at_once, batch_end, is_refused}
 use Rattle.searching.specs.declared.trial.Waiting as waiting
 use Rattle.searching.specs.declared.wait.Wait.TheVariants as wait

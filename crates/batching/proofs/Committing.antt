@@ -17,7 +17,8 @@ use Rattle.meaning.specs.State.{State, told, with_child, with_variable, How, Goe
 use Rattle.meaning.specs.Asking.{success, only_reply, heard, no_compiler, without_compiler}
 use Rattle.meaning.specs.Batches.{Batch, is_known, job_for, asking, jobs_in, asks_all, with_body, yes_or_no, replied, commits, committed, batched}
 use Rattle.meaning.specs.Rows.{Single, entry_name, entry_job, row_of}
-use Rattle.meaning.specs.Tests.{broken_all, guarded, guarded_all, checking, with_result, Row, may_begin, test_by, tested, tested_by}
+use Rattle.meaning.specs.Tests.{guarded, checking, with_result, Row, may_begin, test_by, tested, tested_by}
+use Rattle.plan.specs.Broken.{broken_all, guarded_all}
 use Rattle.meaning.proofs.Values.{same_text, value_here, value_there, without_unset}
 use Rattle.searching.proofs.Found.{after_vars}
 use Rattle.searching.specs.Trials.{begun, heard_end, known, known_end, trial_for}

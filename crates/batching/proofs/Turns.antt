@@ -13,7 +13,7 @@ use Rattle.syntax.specs.declared.listed.Listed.{Listed}
 use Rattle.syntax.specs.declared.listed.Sought.TheVariants.{Entry}
 use Rattle.deftable.specs.Table.{value_of}
 use Rattle.meaning.specs.State.{State, with_child, Cut, Run, Ends}
-use Rattle.meaning.specs.Tests.{broken_all}
+use Rattle.plan.specs.Broken.{broken_all}
 use Rattle.meaning.specs.Asking.{success}
 use Rattle.meaning.specs.Batches.{is_known}
 use Rattle.meaning.specs.Play.{refused_here, first_refused}

@@ -11,7 +11,7 @@ use Rattle.meaning.specs.State.{State, Run, Ends, Stopped, told}
 use Rattle.meaning.specs.Asking.{no_compiler}
 use Rattle.meaning.specs.Batches.{is_known}
 use Rattle.meaning.specs.Rows.{entry_job, entry_name}
-use Rattle.meaning.specs.Tests.{broken_all}
+use Rattle.plan.specs.Broken.{broken_all}
 use Rattle.searching.specs.Trials.{begun, known_end, trial_for}
 use Rattle.searching.specs.declared.trial.Waiting as waiting
 

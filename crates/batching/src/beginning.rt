@@ -4,7 +4,7 @@ ghost use Rattle.std.specs.Prelude.{◌≡◌, ◌≤◌, IfOk, OnOk, None, leng
 ghost use Rattle.deftable.specs.Table as tables;
 ghost use Rattle.meaning.specs.Batches.{batched};
 ghost use Rattle.meaning.specs.State.{Run, Scope, State, then_run};
-ghost use Rattle.meaning.specs.Tests.{guarded_all};
+ghost use Rattle.plan.specs.Broken.{guarded_all};
 ghost use Rattle.searching.specs.Flows.{Heeds, IsGroup, Leads, asks_now, passed};
 ghost use Rattle.searching.specs.Trials.{begun, known_end};
 ghost use Rattle.batching.specs.Waiting.{any_asks, front_end, fronted};

@@ -9,7 +9,7 @@ ghost use Rattle.meaning.specs.Meaning as meanings;
 ghost use Rattle.meaning.specs.Rows.{value_or_empty};
 ghost use Rattle.meaning.specs.State.{Scope, State, answered, then_run, told, with_definition, with_variable};
 ghost use Rattle.jobs.specs.Probe.{job_of};
-ghost use Rattle.meaning.specs.Tests.{broken_all, guarded_all};
+ghost use Rattle.plan.specs.Broken.{broken_all, guarded_all};
 ghost use Rattle.meaning.specs.Tries.{first_probe, text_of, tried};
 ghost use Rattle.shellword.specs.Value.{word_value};
 ghost use Rattle.syntax.specs.declared.statement.Question.TheVariants.{ChecksEach};

@@ -6,7 +6,7 @@ ghost use Rattle.meaning.specs.Asking as meant;
 ghost use Rattle.meaning.specs.Play.{refused_after, refused_here};
 ghost use Rattle.meaning.specs.State.{Scope, State, answered};
 ghost use Rattle.jobs.specs.Probe.{run_of};
-ghost use Rattle.meaning.specs.Tests.{broken_all};
+ghost use Rattle.plan.specs.Broken.{broken_all};
 ghost use Rattle.searching.specs.Flows.{Heeds, IsGroup, Leads, asks_now, passed};
 ghost use Rattle.searching.specs.declared.flow.Flow.TheVariants.{Cut};
 ghost use Rattle.searching.specs.declared.wait.Wait.TheVariants as waits;

@@ -19,7 +19,7 @@ use Rattle.searching.specs.Flows.{Leads, Continues, Heeds, IsGroup, passed, asks
 use Rattle.machine.specs.Moves.{arrived, turn_by}
 use Rattle.machine.specs.Standing.{Standing, walk_inside, with_phase, run_left, left_in, CutsAt, Refusals, asks_in, asks_left, Holds, Rests, Turned}
 use Rattle.meaning.specs.Play.{first_refused, refused_after, last_words}
-use Rattle.meaning.specs.Tests.{broken_all}
+use Rattle.plan.specs.Broken.{broken_all}
 use Rattle.searching.proofs.Searches.{continued}
 use Rattle.searching.specs.Waits.{given, resumed, waits_for}
 

@@ -7,7 +7,7 @@ use Rattle.machine.specs.declared.machine.Turn.{Turn}
 use Rattle.machine.specs.declared.machine.Turn.TheVariants as turn
 use Rattle.meaning.specs.Play.{with_cut_line}
 use Rattle.meaning.specs.State.{Completed, Stopped, Cut}
-use Rattle.meaning.specs.Tests.{broken_all}
+use Rattle.plan.specs.Broken.{broken_all}
 use Rattle.plan.specs.Walk.{minded}
 use Rattle.machine.specs.Standing.{Standing}
 

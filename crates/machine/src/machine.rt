@@ -4,7 +4,7 @@ ghost use Rattle.std.specs.Prelude.{◌≡◌, ◌+◌, ◌<◌, ◌≤◌, ◌^
 ghost use Rattle.crew_trait.specs.declared.reply.Reply.TheVariants.{StartRefused};
 ghost use Rattle.meaning.specs.Play.{refused_after, with_cut_line};
 ghost use Rattle.meaning.specs.State.{opened};
-ghost use Rattle.meaning.specs.Tests.{refused_all, unset_all};
+ghost use Rattle.plan.specs.Broken.{refused_all, unset_all};
 ghost use Rattle.plan.specs.Inside.{StaysInside, asks_after, asks_of, reach};
 ghost use Rattle.plan.specs.Walk.{act, empty_mind, minded, shown};
 ghost use Rattle.searching.specs.Flows.{Continues, Heeds, IsGroup, Leads, asks_now, passed};

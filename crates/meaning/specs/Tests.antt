@@ -24,27 +24,6 @@ broken name Cut st = told streams.Out (codes "refused\n") (without_variable name
 abbrev pub guarded : List ℕ → Run → Run
 guarded name run = ended (broken name) run
 
--- The names of these tests are unset, the innermost first. (own)
-abbrev pub unset_all : List (List ℕ) → State → State
-unset_all [] st = st
-unset_all (name ∷ outer) st = unset_all outer (without_variable name st)
-
--- The same, if the run is cut short: each test prints that too. (own)
-abbrev pub refused_all : List (List ℕ) → State → State
-refused_all [] st = st
-refused_all (name ∷ outer) st = refused_all outer (broken name Cut st)
-
--- What is done with a state if the run ends inside these tests, each of which is broken. (own)
-abbrev pub broken_all : List (List ℕ) → How → State → State
-broken_all tests Goes_on st = st
-broken_all tests Completed st = unset_all tests st
-broken_all tests (Stopped status) st = unset_all tests st
-broken_all tests Cut st = refused_all tests st
-
--- A run inside these tests. (own)
-abbrev pub guarded_all : List (List ℕ) → Run → Run
-guarded_all tests run = ended (broken_all tests) run
-
 -- The piece with which a test begins. (Autoconf's manual, "Printing Messages")
 abbrev pub checking : List ℕ → State → State
 checking message st = told streams.Out (codes "checking " ++ message ++ codes "... ") st

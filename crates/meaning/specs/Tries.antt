@@ -1,4 +1,4 @@
--- Programs that are tried (Autoconf's manual, "Running the Compiler").
+-- Programs that are tried (Autoconf's manual, "Running the Compiler"). The meaning always passes `as_is` for `early`.
 use Rattle.std.specs.Prelude.{ℕ, Bool, false, List, if◌then◌else◌}
 use Rattle.jobs.specs.Probe as probe
 use Rattle.csource.specs.Sources.{program_source}

@@ -21,7 +21,8 @@ use Rattle.meaning.specs.Meaning.{given, found_by, first_found, asked, begun}
 use Rattle.meaning.specs.Rows.{Kind, Library, Libraries, kind_for, name_of, is_found, row_of}
 use Rattle.meaning.specs.Asking.{success, only_reply, heard, child, no_compiler, compiled}
 use Rattle.meaning.specs.Tries.{first_probe, after_first, text_of}
-use Rattle.meaning.specs.Tests.{broken, guarded, broken_all, guarded_all, tested}
+use Rattle.meaning.specs.Tests.{broken, guarded, tested}
+use Rattle.plan.specs.Broken.{broken_all, guarded_all}
 
 -- What follows what follows.
 pub then_then : (r : Run) (f g : State → Run) → then_run (then_run r f) g ≡ then_run r (λ st. then_run (f st) g)

@@ -11,7 +11,8 @@ use Rattle.syntax.specs.declared.tree.Subject as what
 use Rattle.syntax.specs.declared.tree.When.{When}
 use Rattle.syntax.specs.Script.{Script, Done, Then, Choice, Check, Cases, No_case, Case}
 use Rattle.meaning.specs.State.{State, Scope, no_choice, as_is, Goes_on, Run, Ends, then_run}
-use Rattle.meaning.specs.Tests.{guarded, broken_all, guarded_all, checking, with_result, test_by, cached_test}
+use Rattle.meaning.specs.Tests.{guarded, checking, with_result, test_by, cached_test}
+use Rattle.plan.specs.Broken.{broken_all, guarded_all}
 use Rattle.meaning.specs.Meaning.{effect, looks, looks_all, defaulted, begun, is_taken, check, rounds_of, in_turn, meaning, chosen}
 use Rattle.plan.specs.Walk.{Instruction, Does, Defaults, Skips_unless, Skips, Opens, Closes, Mind, minded, empty_mind, opened, own_effect, walk, DoesWhat}
 use Rattle.plan.specs.Code.{case_code, check_code, code_after, code_each, code_of, code_of_cases, code_of_programs}

@@ -1,3 +1,4 @@
+pub mod Broken
 pub mod Walk
 pub mod Inside
 pub mod Weight

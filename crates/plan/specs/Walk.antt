@@ -11,7 +11,8 @@ use Rattle.syntax.specs.declared.tree.Subject.TheVariants.{Asked}
 use Rattle.syntax.specs.declared.tree.When.{When}
 use Rattle.syntax.specs.Script.{Script}
 use Rattle.meaning.specs.State.{State, Scope, no_choice, Goes_on, Run, Ends, then_run}
-use Rattle.meaning.specs.Tests.{broken_all, guarded_all, checking, with_result}
+use Rattle.meaning.specs.Tests.{checking, with_result}
+use Rattle.plan.specs.Broken.{broken_all, guarded_all}
 use Rattle.meaning.specs.Meaning.{effect, begun, is_taken, looks, defaulted, meaning}
 use Rattle.plan.specs.declared.step.Step.{Step}
 use Rattle.plan.specs.declared.step.Step.TheVariants.{Do, Look, Default, Subject, Round, SkipUnless, Skip, Open, Close}

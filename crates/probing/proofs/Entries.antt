@@ -12,7 +12,7 @@ use Rattle.meaning.specs.State.{State, Scope, answered, Run}
 use Rattle.meaning.specs.Asking.{child, same, without_compiler}
 use Rattle.meaning.specs.Meaning.{found_by}
 use Rattle.meaning.specs.Rows.{kind_for, entry_job, type_job, is_yes}
-use Rattle.meaning.specs.Tests.{broken_all}
+use Rattle.plan.specs.Broken.{broken_all}
 use Rattle.searching.specs.declared.flow.Flow.{Flow}
 use Rattle.searching.specs.declared.flow.Flow.TheVariants.{Pass}
 use Rattle.searching.specs.Flows.{Leads}

@@ -9,7 +9,8 @@ use Rattle.meaning.specs.State.{State, Scope, answered, with_variable, Run}
 use Rattle.meaning.specs.Asking.{child, same, compiled, attempted, without_compiler}
 use Rattle.meaning.specs.Meaning.{found_by}
 use Rattle.meaning.specs.Rows.{Kind, Library, Libraries, name_of, message_of, attempts_of, otherwise_of, shown_of, is_ready, is_found, is_yes, is_linked, after_of, attempts_with, library_job, function_job, libraries_after, with_library, with_library_if, with_linked}
-use Rattle.meaning.specs.Tests.{broken_all, checking, with_result, with_value}
+use Rattle.meaning.specs.Tests.{checking, with_result, with_value}
+use Rattle.plan.specs.Broken.{broken_all}
 use Rattle.meaning.proofs.Values.{value_there}
 use Rattle.searching.specs.declared.libraries.LibraryTest.{LibraryTest}
 use Rattle.searching.specs.declared.wait.Wait.TheVariants as waits

@@ -7,7 +7,7 @@ ghost use Rattle.meaning.specs.Asking.{child, same};
 ghost use Rattle.meaning.specs.Meaning.{found_by};
 ghost use Rattle.meaning.specs.Rows.{entry_job, is_yes, kind_for, type_job};
 ghost use Rattle.meaning.specs.State.{Run, Scope, State, answered};
-ghost use Rattle.meaning.specs.Tests.{broken_all};
+ghost use Rattle.plan.specs.Broken.{broken_all};
 ghost use Rattle.plan.specs.Inside.{asks_to_find};
 ghost use Rattle.searching.specs.Flows.{Heeds, IsGroup, Leads, asks_now, passed};
 ghost use Rattle.searching.specs.Trials.{begun, known, trial_for};

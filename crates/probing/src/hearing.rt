@@ -3,7 +3,7 @@
 ghost use Rattle.std.specs.Prelude.{◌≡◌, ◌≤◌, ◌∷◌, IfOk, OnOk, None, false};
 ghost use Rattle.meaning.specs.Asking.{child, same};
 ghost use Rattle.meaning.specs.State.{Run, Scope, State, answered};
-ghost use Rattle.meaning.specs.Tests.{broken_all};
+ghost use Rattle.plan.specs.Broken.{broken_all};
 ghost use Rattle.searching.specs.Flows.{Heeds, IsGroup, Leads, asks_now, passed};
 ghost use Rattle.searching.specs.Trials.{decided};
 ghost use Rattle.searching.specs.Waits.{found_end};

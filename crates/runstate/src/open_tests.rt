@@ -2,7 +2,7 @@
 
 ghost use Rattle.std.specs.Prelude.{◌≡◌, ◌∷◌, [], IfNone, IfSome, OnOk, drop};
 ghost use Rattle.meaning.specs.State.{Cut};
-ghost use Rattle.meaning.specs.Tests.{refused_all, unset_all};
+ghost use Rattle.plan.specs.Broken.{refused_all, unset_all};
 
 use crate::pieces::break_test;
 use crate::store::Store;

@@ -15,7 +15,8 @@ use Rattle.meaning.specs.Asking.{child, same, compiled, attempted, without_compi
 use Rattle.meaning.specs.Batches.{yes_or_no}
 use Rattle.meaning.specs.Meaning.{found_by}
 use Rattle.meaning.specs.Rows.{Kind, kind_for, name_of, message_of, attempts_of, otherwise_of, shown_of, is_ready, is_found, is_yes, after_of, entry_job, type_job, row_of, with_entry_defined, defined_if}
-use Rattle.meaning.specs.Tests.{broken_all, guarded_all, checking, with_result, with_value, may_begin, test_by, tested_by}
+use Rattle.meaning.specs.Tests.{checking, with_result, with_value, may_begin, test_by, tested_by}
+use Rattle.plan.specs.Broken.{broken_all, guarded_all}
 use Rattle.meaning.proofs.Values.{value_here}
 use Rattle.searching.specs.Trials.{trial_for, begun, known}
 use Rattle.searching.specs.Waits.{found_end}

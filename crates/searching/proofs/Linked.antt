@@ -6,7 +6,7 @@ use Rattle.crew_trait.specs.declared.reply.Reply.{Reply}
 use Rattle.meaning.specs.State.{State, Scope, with_child, Run, Asks}
 use Rattle.meaning.specs.Asking.{child, same, heard, success, only_reply, attempted}
 use Rattle.meaning.specs.Rows.{attempts_with}
-use Rattle.meaning.specs.Tests.{broken_all}
+use Rattle.plan.specs.Broken.{broken_all}
 use Rattle.searching.specs.declared.libraries.LibraryTest.{LibraryTest}
 use Rattle.searching.specs.declared.wait.Wait.TheVariants as waits
 use Rattle.searching.specs.Linking.{linked_end}

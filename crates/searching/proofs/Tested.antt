@@ -8,7 +8,8 @@ use Rattle.meaning.specs.Asking.{Attempt, same, compiled, attempted}
 use Rattle.meaning.specs.Directories.{directories_of}
 use Rattle.meaning.specs.Meaning.{program_test}
 use Rattle.meaning.specs.Rows.{Search, Program, value_or_empty, value_if, text_or_no, attempts_in, after_of, row_of}
-use Rattle.meaning.specs.Tests.{broken_all, guarded, guarded_all, by_attempts, checking, with_result, with_value, may_begin, test_by, tested, tested_by}
+use Rattle.meaning.specs.Tests.{guarded, by_attempts, checking, with_result, with_value, may_begin, test_by, tested, tested_by}
+use Rattle.plan.specs.Broken.{broken_all, guarded_all}
 use Rattle.plan.proofs.Endings.{then_then, guarded_then, guarded_inner, Carries, then_carries, ended_carries, compiled_carried}
 use Rattle.searching.specs.Waits.{searched}
 use Rattle.searching.specs.Known.{IsKnown, known_by}

@@ -1,7 +1,7 @@
 -- What follows a step, or the replies that it waited for.
 use Rattle.std.specs.Prelude.{◌≡◌, ℕ, ◌+◌, List, Option, Some, None, length}
 use Rattle.meaning.specs.State.{State, Scope, Completed, Stopped, Cut, Run, Ends, Asks}
-use Rattle.meaning.specs.Tests.{broken_all}
+use Rattle.plan.specs.Broken.{broken_all}
 use Rattle.plan.specs.Walk.{Mind}
 use Rattle.searching.specs.declared.flow.Flow.{Flow}
 use Rattle.searching.specs.declared.flow.Flow.TheVariants as flow

@@ -5,7 +5,8 @@ use Rattle.meaning.specs.Asking.{attempted}
 use Rattle.meaning.specs.Rows as rows
 use Rattle.meaning.specs.Rows.{Kind, name_of, libraries_after, attempts_with, is_yes, is_linked, symbol_part, with_library_if, with_linked}
 use Rattle.meaning.specs.State.{State, Scope, answered, with_definition, Run}
-use Rattle.meaning.specs.Tests.{broken_all, checking, with_result, with_value}
+use Rattle.meaning.specs.Tests.{checking, with_result, with_value}
+use Rattle.plan.specs.Broken.{broken_all}
 use Rattle.searching.specs.declared.libraries.LibraryTest.{LibraryTest}
 use Rattle.searching.specs.declared.libraries.Purpose.{Purpose}
 use Rattle.searching.specs.declared.libraries.Purpose.TheVariants.{Asks, Adds, Searches}

@@ -8,7 +8,8 @@ use Rattle.deftable.specs.Table.{value_of}
 use Rattle.meaning.specs.State.{State, Scope, answered, with_child, with_variable, Cut, Run, Ends}
 use Rattle.meaning.specs.Asking.{success, only_reply, heard, child, same, attempted}
 use Rattle.meaning.specs.Rows.{Search, attempts_in, value_or_empty, text_or_no}
-use Rattle.meaning.specs.Tests.{broken, broken_all, with_result, with_value}
+use Rattle.meaning.specs.Tests.{broken, with_result, with_value}
+use Rattle.plan.specs.Broken.{broken_all}
 use Rattle.searching.specs.Linking.{linked_end, linking}
 use Rattle.searching.specs.Trials.{begun, decided, heard_end, known_end}
 use Rattle.searching.specs.declared.trial.Trial.{Trial}

@@ -3,7 +3,7 @@
 ghost use Rattle.std.specs.Prelude.{◌≤◌, IfOk, None};
 ghost use Rattle.meaning.specs.Asking.{child};
 ghost use Rattle.meaning.specs.State.{Scope, State, answered};
-ghost use Rattle.meaning.specs.Tests.{broken_all};
+ghost use Rattle.plan.specs.Broken.{broken_all};
 ghost use Rattle.searching.specs.Flows.{Heeds, IsGroup, Leads, asks_now, passed};
 ghost use Rattle.searching.specs.declared.wait.Wait.TheVariants as waits;
 ghost use Rattle.searching.specs.Waits.{told_to};

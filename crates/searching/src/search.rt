@@ -7,7 +7,8 @@ ghost use Rattle.meaning.specs.Directories.{ends_empty, directory_of, directorie
 ghost use Rattle.meaning.specs.Meaning.{program_test};
 ghost use Rattle.meaning.specs.Rows.{message_of, text_or_no, value_or_empty};
 ghost use Rattle.meaning.specs.State.{Run, Scope, State, then_run, with_variable};
-ghost use Rattle.meaning.specs.Tests.{checking, guarded_all, with_result, with_value};
+ghost use Rattle.meaning.specs.Tests.{checking, with_result, with_value};
+ghost use Rattle.plan.specs.Broken.{guarded_all};
 ghost use Rattle.searching.specs.Flows.{Heeds, IsGroup, Leads, asks_now, passed};
 ghost use Rattle.searching.specs.Known.{IsCached, IsKnown};
 ghost use Rattle.searching.specs.Waits.{finished, searched};

@@ -1,6 +1,6 @@
 use Rattle.std.proofs.Common.{sym, subst}
 use Rattle.meaning.specs.Meaning.{asked}
-use Rattle.meaning.specs.Tests.{broken_all}
+use Rattle.plan.specs.Broken.{broken_all}
 use Rattle.searching.specs.Flows.{Leads}
 use Rattle.execution.proofs.stepping.ask.Goals as goal
 

@@ -1,5 +1,5 @@
 use Rattle.std.proofs.Common.{ap, ◌∙◌, get_or}
-use Rattle.meaning.specs.Tests.{broken_all}
+use Rattle.plan.specs.Broken.{broken_all}
 use Rattle.searching.proofs.Searches.{led}
 use Rattle.execution.proofs.Steps.{first_entry}
 use Rattle.execution.proofs.stepping.check_first.Goals as goal

@@ -2,7 +2,7 @@ use Rattle.std.proofs.Common.{ℕ, List, Option, ap, ◌∙◌}
 use Rattle.shellword.specs.Value.{word_value}
 use Rattle.meaning.specs.State.{Run, then_run}
 use Rattle.meaning.specs.Meaning.{check_prog, has_value, program_test}
-use Rattle.meaning.specs.Tests.{guarded_all}
+use Rattle.plan.specs.Broken.{guarded_all}
 use Rattle.searching.proofs.Searches.{led_ok}
 use Rattle.execution.proofs.stepping.check_for.Goals as goal
 

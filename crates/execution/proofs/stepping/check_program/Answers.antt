@@ -1,7 +1,7 @@
 use Rattle.std.proofs.Common.{ap, ◌∙◌}
 use Rattle.meaning.specs.Meaning.{check_prog, program_test}
 use Rattle.meaning.specs.State.{then_run}
-use Rattle.meaning.specs.Tests.{guarded_all}
+use Rattle.plan.specs.Broken.{guarded_all}
 use Rattle.searching.proofs.Searches.{led}
 use Rattle.execution.proofs.stepping.check_program.Goals as goal
 

@@ -3,7 +3,7 @@ use Rattle.syntax.specs.declared.statement.Question.TheVariants.{ChecksEach}
 use Rattle.syntax.specs.declared.tree.Subject.TheVariants.{Asked}
 use Rattle.meaning.specs.Meaning.{begun, looks}
 use Rattle.meaning.specs.State.{then_run}
-use Rattle.meaning.specs.Tests.{broken_all, guarded_all}
+use Rattle.plan.specs.Broken.{broken_all, guarded_all}
 use Rattle.plan.specs.Walk.{act, minded, own_effect, shown}
 use Rattle.searching.specs.Flows.{Continues}
 use Rattle.execution.proofs.Steps.{continued_ok, for_scope}

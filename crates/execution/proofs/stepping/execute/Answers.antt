@@ -1,6 +1,6 @@
 use Rattle.std.proofs.Common.{refl, ap}
 use Rattle.meaning.specs.State.{then_run}
-use Rattle.meaning.specs.Tests.{guarded_all}
+use Rattle.plan.specs.Broken.{guarded_all}
 use Rattle.searching.proofs.Searches.{led, led_ok}
 use Rattle.execution.proofs.Steps.{batch_effect, check_effect, path_effect}
 use Rattle.execution.proofs.stepping.execute.Goals as goal

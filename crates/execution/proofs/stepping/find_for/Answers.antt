@@ -2,7 +2,7 @@ use Rattle.std.proofs.Common.{ap}
 use Rattle.meaning.specs.Meaning.{path_prog, program_test, is_full_name}
 use Rattle.meaning.specs.Rows.{value_or_empty}
 use Rattle.meaning.specs.State.{then_run}
-use Rattle.meaning.specs.Tests.{guarded_all}
+use Rattle.plan.specs.Broken.{guarded_all}
 use Rattle.searching.proofs.Searches.{led_ok}
 use Rattle.execution.proofs.stepping.find_for.Goals as goal
 

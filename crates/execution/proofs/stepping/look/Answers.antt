@@ -1,7 +1,7 @@
 use Rattle.std.proofs.Common.{ap, ◌∙◌, None}
 use Rattle.meaning.specs.Meaning.{check_prog, has_value, program_test}
 use Rattle.meaning.specs.State.{then_run}
-use Rattle.meaning.specs.Tests.{guarded_all}
+use Rattle.plan.specs.Broken.{guarded_all}
 use Rattle.searching.proofs.Searches.{led}
 use Rattle.execution.proofs.Steps.{looks_test}
 use Rattle.execution.proofs.stepping.look.Goals as goal

@@ -1,6 +1,6 @@
 use Rattle.std.proofs.Common.{◌∙◌, arith, sym}
 use Rattle.meaning.specs.State.{answered}
-use Rattle.meaning.specs.Tests.{broken_all}
+use Rattle.plan.specs.Broken.{broken_all}
 use Rattle.meaning.specs.Tries.{text_of}
 use Rattle.searching.proofs.Searches.{led}
 use Rattle.execution.proofs.Steps.{one_asks, tried_answers, tried_links}

@@ -1,7 +1,7 @@
 use Rattle.std.proofs.Common.{subst}
 use Rattle.meaning.specs.Asking.{child}
 use Rattle.meaning.specs.State.{answered}
-use Rattle.meaning.specs.Tests.{broken_all}
+use Rattle.plan.specs.Broken.{broken_all}
 use Rattle.searching.specs.Flows.{Leads}
 use Rattle.hearing.proofs.replying.ask_to_run.Goals as goal
 

@@ -1,7 +1,7 @@
 use Rattle.std.proofs.Common.{ap, ◌∙◌, [], ◌∷◌}
 use Rattle.std.specs.Prelude.{option_to_list}
 use Rattle.meaning.specs.Asking.{heard}
-use Rattle.meaning.specs.Tests.{broken_all}
+use Rattle.plan.specs.Broken.{broken_all}
 use Rattle.searching.specs.Waits.{tests_in, told_to, with_asked}
 use Rattle.searching.proofs.Searches.{led_one}
 use Rattle.hearing.proofs.replying.hear_one.Goals as goal

@@ -2,7 +2,7 @@ use Rattle.std.proofs.Common.{ap, sym, ◌∙◌, subst}
 use Rattle.deftable.specs.Table.{value_of}
 use Rattle.meaning.specs.Meaning.{found_by}
 use Rattle.meaning.specs.Rows.{kind_for}
-use Rattle.meaning.specs.Tests.{broken_all}
+use Rattle.plan.specs.Broken.{broken_all}
 use Rattle.searching.specs.Flows.{Leads}
 use Rattle.searching.specs.Trials.{begun, known}
 use Rattle.probing.proofs.Entries.{known_leads, passes}

@@ -3,7 +3,8 @@ use Rattle.deftable.specs.Table.{value_of}
 use Rattle.meaning.specs.Asking.{child}
 use Rattle.meaning.specs.Meaning.{found_by}
 use Rattle.meaning.specs.Rows.{Library, library_job, libraries_after}
-use Rattle.meaning.specs.Tests.{broken_all, checking}
+use Rattle.meaning.specs.Tests.{checking}
+use Rattle.plan.specs.Broken.{broken_all}
 use Rattle.searching.specs.Flows.{Leads}
 use Rattle.searching.specs.Waits.{told_to}
 use Rattle.searching.specs.declared.wait.Wait.TheVariants as waits

@@ -1,6 +1,6 @@
 use Rattle.std.proofs.Common.{◌∷◌, subst}
 use Rattle.meaning.specs.Asking.{child}
-use Rattle.meaning.specs.Tests.{broken_all}
+use Rattle.plan.specs.Broken.{broken_all}
 use Rattle.searching.specs.Flows.{Leads}
 use Rattle.searching.specs.Waits.{told_to}
 use Rattle.searching.specs.declared.wait.Wait.TheVariants as waits

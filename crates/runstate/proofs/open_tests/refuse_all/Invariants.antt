@@ -1,5 +1,5 @@
 use Rattle.std.proofs.Common.{◌≡◌, length}
-use Rattle.meaning.specs.Tests.{refused_all}
+use Rattle.plan.specs.Broken.{refused_all}
 use Rattle.runstate.proofs.open_tests.refuse_all.Given as goal
 
 abbrev pub invariant-loop-name : goal.invariant-loop-name

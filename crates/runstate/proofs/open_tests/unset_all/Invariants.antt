@@ -1,5 +1,5 @@
 use Rattle.std.proofs.Common.{◌≡◌, length}
-use Rattle.meaning.specs.Tests.{unset_all}
+use Rattle.plan.specs.Broken.{unset_all}
 use Rattle.runstate.proofs.open_tests.unset_all.Given as goal
 
 abbrev pub invariant-loop-name : goal.invariant-loop-name
