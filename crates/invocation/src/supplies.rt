@@ -272,17 +272,17 @@ pub fn record_supplies<D: Disk>(
 fn supplies_of<D: Disk>(
     alloc: Global,
     disk: &D,
-    record: &Record,
+    kept: &Record,
 ) -> Result<RecordSupplies, AllocError>
-    ensures { IfOk result (λ s. given.AreTemplates (D.known disk.now) record.now.srcdir (record.now.files ++ record.now.headers) s.templates.items) }
+    ensures { IfOk result (λ s. given.AreTemplates (D.known disk.now) kept.now.srcdir (kept.now.files ++ kept.now.headers) s.templates.items) }
 {
-    let srcdir = record.srcdir.copy(alloc)?;
+    let srcdir = kept.srcdir.copy(alloc)?;
     let templates = read_templates(
         alloc,
         disk,
-        record.srcdir.as_slice(),
-        record.files.as_slice(),
-        record.headers.as_slice(),
+        kept.srcdir.as_slice(),
+        kept.files.as_slice(),
+        kept.headers.as_slice(),
     )?;
     Ok(RecordSupplies { srcdir, templates })
 }
