@@ -27,6 +27,21 @@ fn put_watched<C: Crew + Drop>(page: &mut Page, crew: C, sheet: Sheet, is_on: bo
     page.put(watched.stream().kept.text());
 }
 
+/// Puts the work of a crew in memory with these replies in this order, and what it shows on a sheet: nothing if `shown` is `off`.
+/// If it is `fails`, each write fails.
+pub fn put_in_sight(page: &mut Page, shown: &[u8], replies: &[u8], order: &[u8], work: &Work) {
+    let sheet = Sheet {
+        kept: Page::new(page.alloc()),
+        fails: shown == b"fails".as_slice(),
+    };
+    let replies = replies_of(page, replies);
+    let order = order_of(page, order);
+    match MemoryCrew::new(page.alloc(), replies, order) {
+        Ok(crew) => put_watched(page, crew, sheet, shown != b"off".as_slice(), work),
+        Err(_) => page.cut(),
+    }
+}
+
 /// Returns the source of a test: its kind, a blank, and what is tested. `program` has the body of `main`.
 fn source_of(page: &Page, test: &[u8]) -> Result<Bytes, AllocError> {
     let alloc = page.alloc();
@@ -78,16 +93,7 @@ impl Call for Progress {
             count: number_of(count),
             job: &job,
         };
-        let sheet = Sheet {
-            kept: Page::new(page.alloc()),
-            fails: shown == b"fails".as_slice(),
-        };
-        let replies = replies_of(page, replies);
-        let order = order_of(page, order);
-        match MemoryCrew::new(page.alloc(), replies, order) {
-            Ok(crew) => put_watched(page, crew, sheet, shown != b"off".as_slice(), &work),
-            Err(_) => page.cut(),
-        }
+        put_in_sight(page, shown, replies, order, &work);
     }
 }
 

@@ -6,6 +6,7 @@ ghost use Rattle.std.specs.Prelude.{◌≡◌, ◌≤◌, []};
 use crate::batches::{put_at_windows, put_definitions, put_variables};
 use crate::crews::{Work, put_in_memory, put_real_children};
 use crate::machines::put_walked;
+use crate::progress::put_in_sight;
 use crate::texts::number_of;
 use acparse::{Source, parse};
 use crew::Crew;
@@ -74,8 +75,8 @@ pub fn put_run_over<C: Crew>(
     }
 }
 
-/// Puts what the run of a plan leaves: its window, or `windows`, `children` or `machine`, the value of `CC`, the replies, and the
-/// order of ends: the oldest child first if it is left out.
+/// Puts what the run of a plan leaves: its window, or `windows`, `children`, `machine` or `progress`, the value of `CC`, the replies,
+/// and the order of ends: the oldest child first if it is left out.
 fn put_run(page: &mut Page, rt: &HostRuntime, plan: &Plan, how: &[u8]) {
     let (way, rest) = cut(how, b"|");
     let (compiler, rest) = cut(rest, b"|");
@@ -89,6 +90,7 @@ fn put_run(page: &mut Page, rt: &HostRuntime, plan: &Plan, how: &[u8]) {
         b"children" => put_real_children(page, rt, &work),
         b"machine" => put_walked(page, plan, compiler, replies),
         b"windows" => put_at_windows(page, plan, compiler, replies),
+        b"progress" => put_in_sight(page, b"on", replies, order, &work),
         _ => put_in_memory(page, replies, order, &work),
     }
 }
@@ -136,6 +138,9 @@ const RUNS: &[u8] = b"\
 |3|cc|E 0 => cut 1, start 0, end 0
 |1|cc| => cut 1
 |1||0 => stopped 1
+// The progress of a run whose children start one after the other: the line is gone between two of them, and comes back.
+|progress|cc|0 0 1 => completed r=1 s=2;^M^[[K^[[?7l1 started, 0 ended: cc -c conftest.c^[[?7h^M^[[K\
+^M^[[K^[[?7l2 started, 1 ended: cc -o conftest conftest.c^[[?7h^M^[[K^M^[[K^[[?7l3 started, 2 ended: ./conftest^[[?7h^M^[[K
 // A compiler that can't be started cuts the run. A shell is found in the second directory of PATH.
 CC=/nowhere/cc^JAC_COMPILE_IFELSE([AC_LANG_PROGRAM([],[])],[r=1],[r=2])|children => cut 1
 PATH=/nowhere:/bin^JAC_PATH_PROG([r],[sh])|children => completed r=/bin/sh ac_cv_path_r=/bin/sh
