@@ -1,13 +1,16 @@
 //! The commands that start no child, and what the command that does leaves for its user.
 //!
-//! [`run_status`] makes the outputs of a record again, and [`run_standin`] answers in a compiler's place. [`tell_result`] prints and
-//! logs what came of a whole run. The crate `configuring` makes that run, with given arguments or with those of a record. So everything here stands on `framing` alone, and on no
-//! crate that runs a plan.
+//! [`run_status`] makes the outputs of a record again, and [`run_standin`] answers in place of a compiler.
+//! [`tell_result`] prints and logs the result of a whole run. The crate `configuring` makes that run, with given
+//! arguments or with those of a record. So this crate needs `framing`, and no crate that runs a plan.
+//!
+//! For example, `acrun status Makefile` is [`run_status`] with the tag `Makefile`: it reads `config.status`, prints
+//! `config.status: creating Makefile` and returns 0.
 //!
 //! "own" marks a rule that no manual gives.
 //!
-//! In `specs`, read `Printed` (what a run prints), `Left` (what it leaves in files) and `MadeAgain`. In `src`, read `reporting` and `remaking`; `answering` and `telling`
-//! are small.
+//! In `specs`, read `Printed` (what a run prints), `Left` (what it leaves in files) and `MadeAgain`. In `src`, read
+//! `reporting` and `remaking`; `answering` and `telling` are small.
 #![tactic(auto)]
 
 mod answering;

@@ -1,11 +1,16 @@
 //! The commands that run a configure.ac, over files and a crew.
 //!
-//! [`run_configure`] is a call of `engine::configure` on texts that are read from files, over the crew that it is given and a
-//! receiver that writes files. [`run_recheck`] is the same with the arguments of a record. What that leaves for its user is printed and logged by the crate `commands`.
+//! [`run_configure`] calls `engine::configure` on texts that it reads from files. Children run in the crew that the
+//! caller gives, and a receiver writes the outputs. [`run_recheck`] does the same with the arguments of a record. The
+//! crate `commands` prints and logs the result.
 //!
-//! If it is known what is under the names of files, and what was done to them, the contracts here
-//! say that the source, the cache and the templates are those of their files, and that what the run
-//! hands over and its log are written, and nothing else. "own" marks a rule that no manual gives.
+//! For example, `acrun configure --srcdir=../src -C` is [`run_configure`]: it reads `../src/configure.ac`,
+//! `config.cache` and the templates, runs the checks, and writes the outputs, `config.status`, `config.cache` and
+//! `config.log`.
+//!
+//! If it is known what the files hold, and what was done to them, the contracts say that the source, the cache and the
+//! templates are the texts of their files, and that the outputs of the run and its log are written, and nothing else.
+//! "own" marks a rule that no manual gives.
 //!
 //! Read `specs/Configures`, then `running` and `rechecking`.
 #![tactic(auto)]

@@ -1,14 +1,20 @@
-//! Whole runs: what is given is accepted or refused, the source is run, and what it leaves is handed over.
+//! Checks the inputs of a run, runs the source, and hands its results to a receiver.
 //!
-//! [`configure`] is a run from the text of a configure.ac to the texts that it hands over to a receiver, and [`remake`] makes
-//! files and headers again from the record of such a run. [`recheck_args`] returns the arguments with which the run of a record is
-//! done again. What a run is given is a value, and what it hands over is put to
-//! [`Outputs`], so nothing here opens a file.
+//! [`configure`] runs the text of a configure.ac, and [`remake`] makes files and headers again from the record of such
+//! a run. [`recheck_args`] returns the arguments with which the run of a record is made again. A run's inputs are
+//! values, and its results go to [`Outputs`], so nothing here opens a file.
 //!
-//! What comes before and after the run is in the crate `framing`, which has [`remake`] and [`recheck_args`] too. In `specs`, read `Judged` (what
-//! follows from all that is given), `Configured` (the whole), `Kept` (what the cache holds), `Remaking` (the record, given to
-//! [`remake`]) and `Agreeing` (two runs under the same replies); `Told` is small. In `src`, read `configuring`; `reading` and
-//! `outcome` are small, and `agreeing` and `remaking` have a law each.
+//! ```text
+//! let source = b"AC_INIT([demo], [1.0])\nAC_CHECK_HEADERS([sys/stat.h])\nAC_CONFIG_FILES([out])\nAC_OUTPUT\n";
+//! // No arguments, no cache, at most four children at once. `templates` has the pair `out.in` and its text.
+//! let report = configure(alloc, source, &[], env, None, templates, &mut crew, &mut outputs, 4)?;
+//! report.outcome; // Completed; `outputs` took the record and the file `out`
+//! ```
+//!
+//! The crate `framing` has what comes before and after the run, [`remake`] and [`recheck_args`] among it. In `specs`,
+//! read `Judged` (what follows from the inputs), `Configured` (the whole), `Kept` (what the cache holds), `Remaking`
+//! (the record, given to [`remake`]) and `Agreeing` (two runs under the same replies); `Told` is small. In `src`, read
+//! `configuring`; `reading` and `outcome` are small, and `agreeing` and `remaking` have a law each.
 #![tactic(auto)]
 
 mod agreeing;

@@ -1,16 +1,22 @@
-//! What comes before and after a run: what is given is accepted or refused, and what the run leaves is made into what it hands
-//! over. Nothing here reads a source or starts a child.
+//! What comes before and after a run: its inputs are accepted or refused, and its results become what it hands over.
+//! Nothing here reads a source or starts a child.
 //!
-//! [`accepted`] goes over the arguments, the environment, the cache and the templates of a source, up to the first fault, and
-//! says what a run begins with, or that a text is to be [`shown`]. [`things_of`] makes the cache, the record, the files and the
-//! headers that a run hands over. [`remake`] makes files and headers again from a record, and puts them, and
-//! [`recheck_args`] returns the arguments with which a run is done again. The crate `engine` puts the run in between.
+//! [`accepted`] goes over the arguments, the environment, the cache and the templates of a source, up to the first
+//! fault. It returns what a run begins with, or that a text is to be [`shown`]. [`things_of`] makes the cache, the
+//! record, the files and the headers that a run hands over. [`remake`] makes files and headers again from a record, and
+//! puts them, and [`recheck_args`] returns the arguments with which a run is made again. The crate `engine` puts the
+//! run in between.
+//!
+//! ```text
+//! let args = recheck_args(alloc, record)?; // `--prefix=/usr` and `CC=cc`, if the run had these
+//! let refused = remake(alloc, record, &templates, &[], &mut outputs)?; // puts all outputs; 0 if each was taken
+//! ```
 //!
 //! "own" marks a rule that no manual gives.
 //!
-//! In `specs`, read `Given` (what is accepted), `Handing` (what is handed over), `Remade` and `Rechecked`. `Shown`, `Told` and
-//! `Faults` are small. In `src`, read `accepting`, `handing`, `remaking` and `rechecking`; `showing`, `noting`, `report` and
-//! `fault` are small.
+//! In `specs`, read `Given` (what is accepted), `Handing` (what is handed over), `Remade` and `Rechecked`. `Shown`,
+//! `Told` and `Faults` are small. In `src`, read `accepting`, `handing`, `remaking` and `rechecking`; `showing`,
+//! `noting`, `report` and `fault` are small.
 #![tactic(auto)]
 
 mod accepting;

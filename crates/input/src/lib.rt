@@ -1,6 +1,11 @@
 //! The input of the program's commands: all that a reader gives, and its parts before and after the line `%%`.
 //!
-//! Read `specs/Parted.antt` for what the parts are, then `reading` and `marker`.
+//! ```text
+//! let input = read_input(alloc, &mut io::stdin())?; // AC_OUTPUT, %% and @PACKAGE_NAME@, each with its newline
+//! let place = marker_place(&input);                 // Some(10), where the line `%%` begins
+//! ```
+//!
+//! Read `specs/Parted.antt` for the parts, then `reading` and `marker`.
 #![tactic(auto)]
 
 pub mod fault;

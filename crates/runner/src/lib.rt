@@ -1,13 +1,16 @@
 //! The program's commands, apart from the process that they run in.
 //!
-//! [`command`] chooses by the program's words, as the crate `invocation` reads them: a whole run over files (`configure`), or such a
-//! run again (`status --recheck`), the crate `configuring`; the outputs of a record made again (`status`), or the stand-in for a compiler, the crate `commands`; and without
-//! words the filter, the crate `filtering`.
+//! [`command`] chooses by the program's words, as the crate `invocation` reads them. `configure`, a whole run over
+//! files, and `status --recheck`, such a run again, are in the crate `configuring`. `status`, which makes the outputs
+//! of a record again, and the stand-in for a compiler are in `commands`. Without words the program is the filter, in
+//! `filtering`.
+//!
+//! For example, the words `status` and `Makefile` make one output again, and [`command`] returns the exit status.
 //!
 //! "own" marks a rule that no manual gives.
 //!
-//! The definitions are those of the crates below: `Calls` in `invocation`, `Configures` in `configuring`, `MadeAgain` in `commands`,
-//! and `Filtered` in `filtering`. `specs/Puts` is small. In `src`, read `program`; `telling` is small.
+//! The definitions are those of the crates below: `Calls` in `invocation`, `Configures` in `configuring`, `MadeAgain`
+//! in `commands`, and `Filtered` in `filtering`. `specs/Puts` is small. In `src`, read `program`; `telling` is small.
 #![tactic(auto)]
 
 mod program;
