@@ -2,7 +2,7 @@
 use Rattle.std.specs.Prelude.{ℕ}
 use Rattle.crew_trait.specs.declared.reply.Reply.{Reply}
 
--- a child: its slot, and the reply that it will give (own)
+-- A child: its slot, and the reply that it will give. (own)
 pub record Child : Type 0 where
   pub slot : ℕ
   pub reply : Reply

@@ -11,8 +11,8 @@ use Rattle.crew.specs.declared.order.Order.TheVariants.{Oldest, Youngest, Slots}
 use Rattle.crew.specs.Child.{Child}
 use Rattle.crew_trait.specs.Events.{Account, failure_of}
 
--- the state: the account, the calls that are listed, the replies to the starts to come, the children in flight in the
--- order of their starts, and the order in which they end (own)
+-- The state: the account, the calls that are listed, the replies to the starts to come, the children in flight in the
+-- order of their starts, and the order in which they end. (own)
 pub record Scripted : Type 0 where
   pub account : Account
   pub listed : List Event
@@ -20,32 +20,32 @@ pub record Scripted : Type 0 where
   pub children : List Child
   pub order : Order
 
--- the reply refuses its start (own)
+-- The reply refuses its start. (own)
 abbrev pub is_start_refused : Reply → Bool
 is_start_refused (Answer status text) = false
 is_start_refused StartRefused = true
 is_start_refused EndRefused = false
 
--- whether the next start is taken, by the first reply that is left (own)
+-- Whether the next start is taken, by the first reply that is left. (own)
 abbrev pub is_taken : List Reply → Bool
 is_taken [] = false
 is_taken (reply ∷ rest) = not (is_start_refused reply)
 
--- the account after a start that was taken (own)
+-- The account after a start that was taken. (own)
 abbrev pub with_taken : ℕ → Job → Account → Account
 with_taken slot job a =
     record { events = a.events ++ happens.Started slot job (a.attempts + 1) ∷ []; attempts = a.attempts + 1; failures = a.failures }
 
--- the account after a start that was refused (own)
+-- The account after a start that was refused. (own)
 abbrev pub with_refused : Account → Account
 with_refused a = record { events = a.events; attempts = a.attempts + 1; failures = a.failures + 1 }
 
--- the account after the end of a child (own)
+-- The account after the end of a child. (own)
 abbrev pub with_end : Child → Account → Account
 with_end child a =
     record { events = a.events ++ happens.Ended child.slot child.reply a.attempts ∷ []; attempts = a.attempts; failures = a.failures + failure_of child.reply }
 
--- the state after a start, by the replies that are left (own)
+-- The state after a start, by the replies that are left. (own)
 abbrev pub started_with : List Reply → ℕ → Job → Scripted → Scripted
 started_with [] slot job m = record m { account = with_refused m.account }
 started_with (reply ∷ rest) slot job m =
@@ -58,46 +58,46 @@ started_with (reply ∷ rest) slot job m =
       children = m.children ++ record { slot = slot; reply = reply } ∷ [];
     }
 
--- the state after a start: without a reply it is refused, and isn't listed (own)
+-- The state after a start: without a reply it is refused, and isn't listed. (own)
 unfoldable pub after_start : ℕ → Job → Scripted → Scripted
 after_start slot job m = started_with m.replies slot job m
 
--- the index of the child in a slot, or of the oldest child if the slot has none or none is given (own)
+-- The index of the child in a slot, or of the oldest child if the slot has none or none is given. (own)
 abbrev pub place_of : Option ℕ → List Child → ℕ
 place_of None children = 0
 place_of (Some slot) children = unwrap_or (position (λ child. child.slot == slot) children) 0
 
--- the first slot of a list, if any (own)
+-- The first slot of a list, if any. (own)
 abbrev pub first_of : List ℕ → Option ℕ
 first_of [] = None
 first_of (slot ∷ rest) = Some slot
 
--- the slots of a list after the first (own)
+-- The slots of a list after the first. (own)
 abbrev pub others_of : List ℕ → List ℕ
 others_of [] = []
 others_of (slot ∷ rest) = rest
 
--- the index of the child that ends next (own)
+-- The index of the child that ends next. (own)
 abbrev pub place : Order → List Child → ℕ
 place Oldest children = 0
 place Youngest children = length children - 1
 place (Slots slots) children = place_of (first_of slots) children
 
--- the order after an end, which removes the first slot of a list (own)
+-- The order after an end, which removes the first slot of a list. (own)
 abbrev pub order_after : Order → Order
 order_after Oldest = Oldest
 order_after Youngest = Youngest
 order_after (Slots slots) = Slots (others_of slots)
 
--- a child for an index that no child has (own)
+-- A child for an index that no child has. (own)
 abbrev pub no_child : Child
 no_child = record { slot = 0; reply = EndRefused }
 
--- the child that ends next (own)
+-- The child that ends next. (own)
 unfoldable pub ending : Scripted → Child
 ending m = slice_index_or m.children (place m.order m.children) no_child
 
--- the state after the end of that child (own)
+-- The state after the end of that child. (own)
 unfoldable pub after_next : Scripted → Scripted
 after_next m =
     record {
