@@ -135,11 +135,14 @@ place_within xs es es0 place flying h same some later =
     let len : length xs ≡ length (slots_in_flight es0) = ap length flying ∙ ap (λ e. length (slots_in_flight e)) same in
     in_use xs es place h (subst IsSomeBusy (sym same) some) (λ p. omega (arith, later p, len))
 
+pub all_rest : (P : ℕ → Type 0) (xs : List ℕ) (i : ℕ) → All P xs → All P (remove xs i)
+all_rest P [] zero h = h
+all_rest P [] (suc i) h = h
+all_rest P (x ∷ xs) zero h = λ k d lt. h (suc k) d (omega arith)
+all_rest P (x ∷ xs) (suc i) h = All-cons P x (remove xs i) (h 0 x (omega arith)) (all_rest P xs i (λ k d lt. h (suc k) d (omega arith)))
+
 pub below_rest : (xs : List ℕ) (i : ℕ) → All (λ x. x < 16) xs → All (λ x. x < 16) (remove xs i)
-below_rest [] zero h = h
-below_rest [] (suc i) h = h
-below_rest (x ∷ xs) zero h = λ k d lt. h (suc k) d (omega arith)
-below_rest (x ∷ xs) (suc i) h = All-cons (λ x. x < 16) x (remove xs i) (h 0 x (omega arith)) (below_rest xs i (λ k d lt. h (suc k) d (omega arith)))
+below_rest xs i h = all_rest (λ x. x < 16) xs i h
 
 pub below_push : (xs : List ℕ) (s : ℕ) → All (λ x. x < 16) xs → s < 16 → All (λ x. x < 16) (xs ++ s ∷ [])
 below_push xs s h lt = All-push (λ x. x < 16) xs s h lt

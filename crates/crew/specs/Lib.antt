@@ -1,5 +1,6 @@
 pub mod Child
 pub mod Fused
+pub mod Holding
 pub mod Runs
 pub mod Scripted
 pub mod Sound

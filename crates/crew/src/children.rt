@@ -1,9 +1,10 @@
 //! A crew of real children that a launcher starts.
 
-ghost use Rattle.std.specs.Prelude.{◌≡◌, ◌≢◌, ◌⊎◌, ◌+◌, ◌^◌, ◌<◌, ◌≤◌, [], ◌∷◌, ◌++◌, true, false, IfOk, IsSome, OnErr, OnOk, All, get_or, length, remove, vec_capacity, vec_len};
+ghost use Rattle.std.specs.Prelude.{◌≡◌, ◌≢◌, ◌⊎◌, ◌+◌, ◌^◌, ◌<◌, ◌≤◌, [], ◌∷◌, ◌++◌, true, false, IfOk, IsSome, None, OnErr, OnOk, All, get_or, length, remove, slice_set, vec_capacity, vec_len};
 ghost use Rattle.std.specs.Bool.{OnTrue};
 ghost use Rattle.std.specs.VecDeque.{deque_capacity};
 ghost use Rattle.crew_trait.specs.Events.{IsSomeBusy, busy, failure_of, slots_in_flight};
+ghost use Rattle.crew.specs.Holding.{HaveChildren, KeepsChildren};
 ghost use Rattle.crew.specs.Runs.{Runs};
 ghost use Rattle.launching.specs.Launch.{Adds, failing, launch};
 ghost use Rattle.crew_trait.specs.declared.reply.Reply.TheVariants.{StartRefused};
@@ -39,6 +40,7 @@ pub(crate) struct Children<L: Launcher + Drop> {
 impl<L: Launcher + Drop> Model for Children<L> {
     ghost use Rattle.std.specs.Prelude.{◌≡◌, ◌+◌, ◌≤◌, ◌<◌, vec_len, vec_capacity, All, length};
     ghost use Rattle.crew_trait.specs.Events.{Account, slots_in_flight};
+    ghost use Rattle.crew.specs.Holding.{HaveChildren};
     ghost use Rattle.crew.specs.Runs.{Runs};
     ghost use Rattle.crew.specs.Sound.{ListsBusy};
 
@@ -51,7 +53,8 @@ impl<L: Launcher + Drop> Model for Children<L> {
         × ListsBusy c.slots.items c.events.items
         × All (λ s. s < 16) c.slots.items
         × (length c.events.items + length c.slots.items ≤ vec_capacity c.events)
-        × Runs (L.calls c.launcher) c.events.items };
+        × Runs (L.calls c.launcher) c.events.items
+        × HaveChildren c.children.items c.slots.items };
 }
 
 impl<L: Launcher + Drop> Children<L> {
@@ -100,7 +103,8 @@ impl<L: Launcher + Drop> Children<L> {
         ensures oldest { place ≡ 0 → slots_in_flight self.old.events ≡ result.0 ∷ slots_in_flight self.new.events }
     {
         let slot = take_slot(&mut self.slots, place);
-        let (reply, kept, cause) = end_of(self.alloc, self.children[slot].take());
+        let child = take_child(self.children.as_mut_slice(), slot);
+        let (reply, kept, cause) = end_of(self.alloc, child);
         self.failures = failures_after(&reply, self.failures);
         let child = number_of(self.events.as_slice(), slot);
         self.causes.put(child, cause);
@@ -169,14 +173,20 @@ fn no_children<P: OpenProcess + Drop>(alloc: Global) -> Result<Vec<Option<Child<
 }
 
 /// Waits for a child. Returns its reply twice, and why its end was refused.
-fn end_of<P: OpenProcess + Drop>(alloc: Global, child: Option<Child<P>>) -> (Reply, Reply, Cause)
+fn end_of<P: OpenProcess + Drop>(alloc: Global, mut child: Child<P>) -> (Reply, Reply, Cause)
     ensures same { result.1 ≡ result.0 }
     ensures answer { result.0 ≢ StartRefused }
 {
-    match child {
-        Some(mut child) => doubled(alloc, end_child(alloc, &mut child)),
-        None => (Reply::EndRefused, Reply::EndRefused, Cause::unknown()),
-    }
+    doubled(alloc, end_child(alloc, &mut child))
+}
+
+/// Takes the child out of a slot.
+fn take_child<P: OpenProcess + Drop>(children: &mut [Option<Child<P>>], slot: usize) -> Child<P>
+    requires slot { slot < length children.old }
+    requires some { IsSome (get_or children.old slot None) }
+    ensures { children.new ≡ slice_set children.old slot None }
+{
+    children[slot].take().unwrap()
 }
 
 /// Returns a reply twice, and its cause. If memory runs out, both are [`Reply::EndRefused`].
@@ -218,18 +228,31 @@ fn place_of_ended<P: OpenProcess + Drop>(
     requires some { 0 < length slots.now.items }
     requires within { All (λ s. s < 16) slots.now.items }
     requires children { length children.old ≡ 16 }
-    ensures { result < length slots.now.items }
+    ensures within { result < length slots.now.items }
+    ensures kept { KeepsChildren children.old children.new }
+    ensures size { length children.new ≡ length children.old }
 {
     for place in 0..slots.len() {
-        if has_ended(&mut children[slots[place]]) {
+        if has_ended_at(children, slots[place]) {
             return place;
         }
     }
     0
 }
 
+/// Returns whether the child in a slot has ended, without waiting for it.
+#[tactic(auto, using(crate::proofs::Holding::keeps_at))]
+fn has_ended_at<P: OpenProcess + Drop>(children: &mut [Option<Child<P>>], slot: usize) -> bool
+    requires { slot < length children.old }
+    ensures { KeepsChildren children.old children.new }
+{
+    has_ended(&mut children[slot])
+}
+
 /// Returns whether a child has ended, without waiting for it.
-fn has_ended<P: OpenProcess + Drop>(child: &mut Option<Child<P>>) -> bool {
+fn has_ended<P: OpenProcess + Drop>(child: &mut Option<Child<P>>) -> bool
+    ensures { IsSome child.old → IsSome child.new }
+{
     match child {
         Some(child) => matches!(child.try_wait(), Ok(Some(_))),
         None => false,

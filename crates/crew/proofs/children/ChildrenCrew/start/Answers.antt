@@ -1,9 +1,11 @@
-use Rattle.std.proofs.Common.{◌≡◌, ◌+◌, ◌≤◌, ◌<◌, length, vec_capacity, refl, ap, sym, ◌∙◌, subst, arith, length-append}
+use Rattle.std.proofs.Common.{◌≡◌, ◌+◌, ◌≤◌, ◌<◌, false, length, vec_capacity, refl, ap, sym, ◌∙◌, subst, arith, length-append}
 use Rattle.std.specs.Prelude.{All}
 use Rattle.crew_trait.specs.Events.{busy, slots_in_flight}
+use Rattle.crew.specs.Holding.{HaveChildren}
 use Rattle.crew.specs.Sound.{ListsBusy}
 use Rattle.crew.proofs.ScriptLemmas.{moved}
 use Rattle.crew.proofs.ChildLemmas.{lists_same, runs_refused, runs_started}
+use Rattle.crew.proofs.Holding.{have_start, have_others}
 use Rattle.crew.proofs.SlotLemmas.{lists_start, slots_start, below_push}
 use Rattle.crew.proofs.children.ChildrenCrew.start.Goals as goal
 
@@ -17,15 +19,30 @@ invariant_of-self-2 g c =
     let within : All (λ x. x < 16) c.put_slot.new.slots.items = subst (All (λ x. x < 16)) (sym slots) (below_push _ _ c.self.invariant.3 c.requires.slot) in
     let n : length c.put_slot.new.slots.items ≡ length c.launched.new.slots.items + 1 = ap length c.put_slot.ensures ∙ length-append _ _ in
     let m : length c.put-2.new.list.items ≡ length c.launched.new.events.items + 1 = ap length c.put-2.ensures.items ∙ length-append _ _ in
-    let room : length c.put-2.new.list.items + length c.put_slot.new.slots.items ≤ vec_capacity c.put-2.new.list = omega (arith, n, m, c.in_default.ensures.room, c.put-2.ensures.room) in
-    (c.self.invariant.0, order, lists, within, room, runs_started _ _ _ _ _ _ _ _ c.self.invariant.5 c.in_default.ensures.taken refl events)
+    let room : length c.put-2.new.list.items + length c.put_slot.new.slots.items ≤ vec_capacity c.put-2.new.list = omega (arith, n, m, c.in_default.ensures.room, c.put-2.ensures.room) in (
+      c.self.invariant.0,
+      order,
+      lists,
+      within,
+      room,
+      runs_started _ _ _ _ _ _ _ _ c.self.invariant.5 c.in_default.ensures.taken refl events,
+      have_start c.self.inside.children.items _ c.self.inside.slots.items _ c.args.slot _ (omega (arith, c.requires.slot, c.self.invariant.0)) c.in_default.ensures.child refl slots c.self.invariant.6,
+    )
 
 pub invariant_of-self : goal.invariant_of-self
 invariant_of-self g c =
     let events = c.launched.ensures.events in
     let slots = c.launched.ensures.slots in
+    let free : busy c.args.slot c.launched.new.events.items ≡ false = ap (busy c.args.slot) events ∙ ap (λ m. busy c.args.slot m.events) c.self.view_is ∙ c.requires.free in
     let order : c.launched.new.slots.items ≡ slots_in_flight c.launched.new.events.items = slots ∙ c.self.invariant.1 ∙ sym (ap slots_in_flight events) in
     let lists : ListsBusy c.launched.new.slots.items c.launched.new.events.items = lists_same _ _ _ _ c.self.invariant.2 slots events in
     let within : All (λ x. x < 16) c.launched.new.slots.items = subst (All (λ x. x < 16)) (sym slots) c.self.invariant.3 in
-    let room : length c.launched.new.events.items + length c.launched.new.slots.items ≤ vec_capacity c.launched.new.events = omega (arith, c.self.invariant.4, ap length events, ap length slots, c.launched.ensures.grown) in
-    (c.self.invariant.0, order, lists, within, room, runs_refused _ _ _ _ c.args.job c.self.invariant.5 c.in-Err.ensures.refused events)
+    let room : length c.launched.new.events.items + length c.launched.new.slots.items ≤ vec_capacity c.launched.new.events = omega (arith, c.self.invariant.4, ap length events, ap length slots, c.launched.ensures.grown) in (
+      c.self.invariant.0,
+      order,
+      lists,
+      within,
+      room,
+      runs_refused _ _ _ _ c.args.job c.self.invariant.5 c.in-Err.ensures.refused events,
+      have_others c.self.inside.children.items _ c.launched.new.slots.items c.launched.new.events.items c.args.slot _ refl lists free (subst (HaveChildren c.self.inside.children.items) (sym slots) c.self.invariant.6),
+    )
