@@ -8,6 +8,7 @@ ghost use Rattle.commands.specs.Printed.{printed};
 ghost use Rattle.framing.specs.declared.report.Outcome.TheVariants.{Shown};
 ghost use Rattle.framing.specs.declared.report.Report.{Report};
 ghost use Rattle.framing.specs.Told as words;
+ghost use Rattle.invocation.specs.Errors.{AreTold, errors_of};
 ghost use Rattle.invocation.specs.Logged.{HasLogged};
 
 use crate::remaking::OUTPUT;
@@ -68,7 +69,8 @@ fn tell_output<E: Write>(
     done: io::Result<()>,
     errors: &mut E,
 ) -> bool
-    ensures { IsTrue result → done ≡ Ok tt }
+    ensures done { IsTrue result → done ≡ Ok tt }
+    ensures silent { IsTrue result → errors.new ≡ errors.old }
 {
     match done {
         Ok(()) => true,
@@ -92,7 +94,8 @@ fn print_report<C: Causes, W: Write, E: Write>(
     output: &mut W,
     errors: &mut E,
 ) -> bool
-    ensures { IsTrue result → Appends (W.contents output.old) (W.contents output.new) (printed supplies.now.quiet report.now.messages lines.now) }
+    ensures run { IsTrue result → Appends (W.contents output.old) (W.contents output.new) (printed supplies.now.quiet report.now.messages lines.now) }
+    ensures told { is_asked ≡ false → IsTrue result → AreTold (E.contents errors.old) (E.contents errors.new) (errors_of report.now.messages) }
 {
     let messages = report.messages.as_slice();
     let done = print_all(alloc, messages, lines, supplies.quiet, output, errors);
@@ -115,7 +118,8 @@ fn tell_refused<E: Write>(
     cause: &[u8],
     errors: &mut E,
 ) -> bool
-    ensures { IsTrue result → refused ≡ None }
+    ensures refused { IsTrue result → refused ≡ None }
+    ensures silent { IsTrue result → errors.new ≡ errors.old }
 {
     match refused {
         Some(number) => {
@@ -129,7 +133,8 @@ fn tell_refused<E: Write>(
 
 /// Reports that the log can't be written, if it can't be. Returns whether it was.
 fn tell_log<E: Write>(alloc: Global, is_asked: bool, done: &io::Result<()>, errors: &mut E) -> bool
-    ensures { IsTrue result → done.now ≡ Ok tt }
+    ensures done { IsTrue result → done.now ≡ Ok tt }
+    ensures silent { IsTrue result → errors.new ≡ errors.old }
 {
     match done {
         Ok(()) => true,
@@ -151,6 +156,7 @@ fn log_report<D: Disk, E: Write>(
 ) -> bool
     ensures nothing { report.now.outcome ≡ Shown → outputs.new ≡ outputs.old }
     ensures log { IsTrue result → (report.now.outcome ≡ Shown → ⊥) → HasLogged D.known outputs.old outputs.new (log_of report.now.log) }
+    ensures silent { IsTrue result → errors.new ≡ errors.old }
 {
     match report.outcome {
         Outcome::Shown => true,
@@ -175,7 +181,8 @@ fn tell_report<D: Disk, C: Causes, W: Write, E: Write>(
 ) -> u8
     ensures { result ≢ 2 → (refused ≡ None) × (result ≡ words.status_of report.now.outcome)
         × Appends (W.contents output.old) (W.contents output.new) (printed supplies.now.quiet report.now.messages outputs.old.lines)
-        × Logs D.known outputs.old outputs.new report.now }
+        × Logs D.known outputs.old outputs.new report.now
+        × (is_asked ≡ false → AreTold (E.contents errors.old) (E.contents errors.new) (errors_of report.now.messages)) }
 {
     let lines = outputs.lines();
     let is_printed = print_report(
@@ -216,7 +223,8 @@ pub fn tell_result<D: Disk, C: Causes, W: Write, E: Write>(
 ) -> u8
     ensures { result ≢ 2 → (report : Report) × (answer ≡ Ok report) × (result ≡ words.status_of report.outcome)
         × Appends (W.contents output.old) (W.contents output.new) (printed supplies.now.quiet report.messages outputs.old.lines)
-        × Logs D.known outputs.old outputs.new report }
+        × Logs D.known outputs.old outputs.new report
+        × (why.now.is_asked ≡ false → AreTold (E.contents errors.old) (E.contents errors.new) (errors_of report.messages)) }
 {
     let is_asked = why.is_asked;
     match answer {

@@ -38,6 +38,7 @@ use Rattle.syntax.specs.Script.{Script}
 use Rattle.commands.specs.Printed.{printed}
 use Rattle.configuring.specs.Configures.{IsConfigured, ReadsSource, shown, ran}
 use Rattle.configuring.proofs.Supplied.{given_starts}
+use Rattle.invocation.specs.Errors.{errors_of}
 use Rattle.invocation.specs.Quiet.{quiet_with, quiet_for, quiet_in}
 use Rattle.invocation.specs.Supplies.{GivenIn}
 
@@ -94,6 +95,10 @@ shown_out script settings quiet lines loud empty =
     ap (λ q. printed q (shown_report script settings).messages lines) loud ∙ ap (λ l. printed false (shown_report script settings).messages l) empty
     ∙ append-nil (shown_text script settings ++ []) ∙ append-nil (shown_text script settings)
 
+shown_silent : (script : Script) (settings : Settings) → errors_of (shown_report script settings).messages ≡ []
+unfolding shown_report
+shown_silent script settings = refl
+
 shown_status : (script : Script) (settings : Settings) → status_of (shown_report script settings).outcome ≡ 0
 unfolding shown_report
 shown_status script settings = refl
@@ -118,7 +123,7 @@ end_of : {D : Type 0} (known : D → Option Known) (d : D) (before_puts mid fin 
     → before_puts ≡ fresh d → ReadsSource (known d) a source → GivenIn (known d) source a e c t
     → judged source a e c t ≡ j → IsAnswer j (Ok report) → (IsNotRun j → (now ≡ before) × (mid ≡ before_puts)) → IfStarts j (λ script start. IsMeant window script start before now report)
     → IfStarts j (λ script start. receipt_of mid ≡ with_things (receipt_of before_puts) (things script start t report)) → Logs known mid fin report
-    → IsConfigured window a e before now (known d) (known fin.disk) (printed (quiet_in source a e) report.messages mid.lines) (status_of report.outcome)
+    → IsConfigured window a e before now (known d) (known fin.disk) (printed (quiet_in source a e) report.messages mid.lines) (errors_of report.messages) (status_of report.outcome)
 end_of known d before_puts mid fin (Err OutOfMemory) window source a e c t before now report new read given j answer same meant handed logs = absurd (cc)
 end_of known d before_puts mid fin (Err f) window source a e c t before now report new read given j answer same meant handed logs = absurd (cc)
 end_of known d before_puts mid fin (Ok (Shows script settings)) window source a e c t before now report new read given j answer same meant handed logs =
@@ -127,10 +132,11 @@ end_of known d before_puts mid fin (Ok (Shows script settings)) window source a 
     let empty : mid.lines ≡ [] = ap (λ h. h.lines) untouched in
     let out : printed (quiet_in source a e) report.messages mid.lines ≡ shown_text script settings =
     ap (λ (r : Report). printed (quiet_in source a e) r.messages mid.lines) told ∙ shown_out script settings (quiet_in source a e) mid.lines (quiet_shows source a e c t script settings j) empty in
+    let said : errors_of report.messages ≡ [] = ap (λ (r : Report). errors_of r.messages) told ∙ shown_silent script settings in
     let status : status_of report.outcome ≡ 0 = ap (λ (r : Report). status_of r.outcome) told ∙ shown_status script settings in
     let nothing : fin ≡ mid = logs.nothing (ap (λ (r : Report). r.outcome) told ∙ shown_outcome script settings) in
     let files : known fin.disk ≡ known d = ap (λ h. known h.disk) (nothing ∙ untouched) in
-    subst (λ n. IsConfigured window a e before now (known d) (known fin.disk) (printed (quiet_in source a e) report.messages mid.lines) n) (sym status) (shown source c t script settings read j (same tt).0 files out)
+    subst (λ n. IsConfigured window a e before now (known d) (known fin.disk) (printed (quiet_in source a e) report.messages mid.lines) (errors_of report.messages) n) (sym status) (shown source c t script settings read j (same tt).0 files out said)
 end_of known d before_puts mid fin (Ok (Starts script start)) window source a e c t before now report new read given j answer same meant handed logs =
     let empty : receipt_of before_puts ≡ record { handed = []; failures = 0 } = ap receipt_of new in
     let all : mid.handed ≡ things script start t report = ap (λ (r : Receipt). r.handed) handed ∙ ap (λ (r : Receipt). r.handed ++ things script start t report) empty in
@@ -140,7 +146,7 @@ end_of known d before_puts mid fin (Ok (Starts script start)) window source a e 
     let run_outcome : report.outcome ≡ outcome_of meant.end.outcome = ap (λ (r : Report). r.outcome) meant.told in
     let logged = logs.log (λ is. never_shown meant.end.outcome (sym run_outcome ∙ is)) in
     ran source c t script start report mid.lines read (given_starts (known d) source a e c t script start j given) j meant (subst (λ l. AreLines l mid.lines) all logs.held.lines)
-    (left_by (known mid.disk) (known fin.disk) (things script start t report) mid.lines (log_of report.log) done logged) refl
+    (left_by (known mid.disk) (known fin.disk) (things script start t report) mid.lines (log_of report.log) done logged) refl refl
 
 -- The same after a call of `configure` that returned this report.
 pub run_done : {D : Type 0} (known : D → Option Known) (d : D) (before_puts mid fin : Held D) (window : ℕ) (source : List ℕ) (a : List (List ℕ)) (e : List (List ℕ × List ℕ)) (c : Option (List ℕ)) (t : List (List ℕ × List ℕ)) (before now : Account) (answer : Result Report Fault) (report : Report) (quiet : Bool) (status : ℕ)
@@ -148,10 +154,10 @@ pub run_done : {D : Type 0} (known : D → Option Known) (d : D) (before_puts mi
     → IsAnswer (judged source a e c t) answer → (IsNotRun (judged source a e c t) → (now ≡ before) × (mid ≡ before_puts)) → IfStarts (judged source a e c t) (λ script start. IfReport answer (IsMeant window script start before now))
     → IfStarts (judged source a e c t) (λ script start. IfOk answer (λ report. receipt_of mid ≡ with_things (receipt_of before_puts) (things script start t report)))
     → quiet ≡ quiet_in source a e → answer ≡ Ok report → status ≡ status_of report.outcome → Logs known mid fin report
-    → IsConfigured window a e before now (known d) (known fin.disk) (printed quiet report.messages mid.lines) status
+    → IsConfigured window a e before now (known d) (known fin.disk) (printed quiet report.messages mid.lines) (errors_of report.messages) status
 run_done known d before_puts mid fin window source a e c t before now answer report quiet status new read given accepted same meant handed loud is status_is logs =
     let done = end_of known d before_puts mid fin (judged source a e c t) window source a e c t before now report new read given refl (subst (IsAnswer (judged source a e c t)) is accepted) same
     (subst (λ r. IfStarts (judged source a e c t) (λ script start. IfReport r (IsMeant window script start before now))) is meant)
     (subst (λ r. IfStarts (judged source a e c t) (λ script start. IfOk r (λ report. receipt_of mid ≡ with_things (receipt_of before_puts) (things script start t report)))) is handed) logs in
-    subst (λ n. IsConfigured window a e before now (known d) (known fin.disk) (printed quiet report.messages mid.lines) n) (sym status_is)
-    (subst (λ q. IsConfigured window a e before now (known d) (known fin.disk) (printed q report.messages mid.lines) (status_of report.outcome)) (sym loud) done)
+    subst (λ n. IsConfigured window a e before now (known d) (known fin.disk) (printed quiet report.messages mid.lines) (errors_of report.messages) n) (sym status_is)
+    (subst (λ q. IsConfigured window a e before now (known d) (known fin.disk) (printed q report.messages mid.lines) (errors_of report.messages) (status_of report.outcome)) (sym loud) done)

@@ -1,10 +1,11 @@
 //! The command that runs a configure.ac again with the arguments of its record.
 
-ghost use Rattle.std.specs.Prelude.{◌≡◌, ◌≢◌, ◌+◌, ◌^◌, ◌≤◌, ℕ, List, Some, IfOk, codes};
+ghost use Rattle.std.specs.Prelude.{◌≡◌, false, ◌≢◌, ◌+◌, ◌^◌, ◌≤◌, ℕ, List, Some, IfOk, codes};
 ghost use Rattle.std.specs.Io.KnownBytes.{Appends};
 ghost use Rattle.configuring.specs.Configures.{IsRechecked};
 ghost use Rattle.crew_trait.specs.Events.{IsIdle};
 ghost use Rattle.diskfiles.specs.Held.{fresh};
+ghost use Rattle.invocation.specs.Errors.{AreTold};
 ghost use Rattle.invocation.specs.Supplies.{ReadsWhole};
 
 use crate::running::run_configure;
@@ -48,10 +49,11 @@ fn run_again<D: Disk, C: Crew + Causes, W: Write, E: Write>(
     requires found { ReadsWhole (D.known outputs.old.disk) (codes "config.status") (Some text.now) }
     requires fresh { outputs.old ≡ fresh outputs.old.disk }
     ensures idle { IsIdle (C.account crew.new).events }
-    ensures run { result ≢ 2 → (out : List ℕ)
+    ensures run { result ≢ 2 → (out : List ℕ) × (said : List (List ℕ))
         × IsRechecked env.now (C.account crew.old) (C.account crew.new)
-        (D.known outputs.old.disk) (D.known outputs.new.disk) out result
-        × Appends (W.contents output.old) (W.contents output.new) out }
+        (D.known outputs.old.disk) (D.known outputs.new.disk) out said result
+        × Appends (W.contents output.old) (W.contents output.new) out
+        × (is_asked ≡ false → AreTold (E.contents errors.old) (E.contents errors.new) said) }
 {
     match recheck_args(alloc, text) {
         Ok(args) => {
@@ -87,10 +89,11 @@ fn run_record<D: Disk, C: Crew + Causes, W: Write, E: Write>(
     requires failures { (C.account crew.old).failures + 256 ≤ 2 ^ 62 }
     requires fresh { outputs.old ≡ fresh outputs.old.disk }
     ensures idle { IsIdle (C.account crew.new).events }
-    ensures run { IfOk result (λ status. status ≢ 2 → (out : List ℕ)
+    ensures run { IfOk result (λ status. status ≢ 2 → (out : List ℕ) × (said : List (List ℕ))
         × IsRechecked env.now (C.account crew.old) (C.account crew.new)
-        (D.known outputs.old.disk) (D.known outputs.new.disk) out status
-        × Appends (W.contents output.old) (W.contents output.new) out) }
+        (D.known outputs.old.disk) (D.known outputs.new.disk) out said status
+        × Appends (W.contents output.old) (W.contents output.new) out
+        × (is_asked ≡ false → AreTold (E.contents errors.old) (E.contents errors.new) said)) }
 {
     match read_text(alloc, outputs.disk(), RECORD)? {
         Some(text) => {
@@ -122,10 +125,11 @@ pub fn run_recheck<D: Disk, C: Crew + Causes, W: Write, E: Write>(
     requires failures { (C.account crew.old).failures + 256 ≤ 2 ^ 62 }
     requires fresh { outputs.old ≡ fresh outputs.old.disk }
     ensures idle { IsIdle (C.account crew.new).events }
-    ensures run { result ≢ 2 → (out : List ℕ)
+    ensures run { result ≢ 2 → (out : List ℕ) × (said : List (List ℕ))
         × IsRechecked env.now (C.account crew.old) (C.account crew.new)
-        (D.known outputs.old.disk) (D.known outputs.new.disk) out result
-        × Appends (W.contents output.old) (W.contents output.new) out }
+        (D.known outputs.old.disk) (D.known outputs.new.disk) out said result
+        × Appends (W.contents output.old) (W.contents output.new) out
+        × (is_asked ≡ false → AreTold (E.contents errors.old) (E.contents errors.new) said) }
 {
     match run_record(alloc, outputs, is_asked, env, crew, output, errors) {
         Ok(status) => status,

@@ -1,10 +1,11 @@
 //! The command that runs a configure.ac.
 
-ghost use Rattle.std.specs.Prelude.{◌≡◌, ◌≢◌, ◌+◌, ◌^◌, ◌≤◌, ℕ, List, IfOk, option_copied};
+ghost use Rattle.std.specs.Prelude.{◌≡◌, false, ◌≢◌, ◌+◌, ◌^◌, ◌≤◌, ℕ, List, IfOk, option_copied};
 ghost use Rattle.std.specs.Io.KnownBytes.{Appends};
 ghost use Rattle.configuring.specs.Configures.{IsConfigured, ReadsSource};
 ghost use Rattle.crew_trait.specs.Events.{IsIdle};
 ghost use Rattle.diskfiles.specs.Held.{fresh};
+ghost use Rattle.invocation.specs.Errors.{AreTold};
 ghost use Rattle.invocation.specs.Quiet.{quiet_in};
 ghost use Rattle.invocation.specs.Supplies.{GivenIn};
 
@@ -53,10 +54,11 @@ fn run_supplied<D: Disk, C: Crew + Causes, W: Write, E: Write>(
     requires given { GivenIn (D.known outputs.old.disk) why.now.text.now why.now.args.now env.now supplies.now.cache supplies.now.templates.items }
     requires fresh { outputs.old ≡ fresh outputs.old.disk }
     ensures idle { IsIdle (C.account crew.new).events }
-    ensures run { result ≢ 2 → (out : List ℕ)
+    ensures run { result ≢ 2 → (out : List ℕ) × (said : List (List ℕ))
         × IsConfigured window why.now.args.now env.now (C.account crew.old) (C.account crew.new)
-        (D.known outputs.old.disk) (D.known outputs.new.disk) out result
-        × Appends (W.contents output.old) (W.contents output.new) out }
+        (D.known outputs.old.disk) (D.known outputs.new.disk) out said result
+        × Appends (W.contents output.old) (W.contents output.new) out
+        × (why.now.is_asked ≡ false → AreTold (E.contents errors.old) (E.contents errors.new) said) }
 {
     let templates = supplies.templates.as_slice();
     if keep_inputs(alloc, outputs, why.srcdir, templates).is_err() {
@@ -95,10 +97,11 @@ fn run_text<D: Disk, C: Crew + Causes, W: Write, E: Write>(
     requires source { ReadsSource (D.known outputs.old.disk) why.now.args.now why.now.text.now }
     requires fresh { outputs.old ≡ fresh outputs.old.disk }
     ensures idle { IsIdle (C.account crew.new).events }
-    ensures run { IfOk result (λ status. status ≢ 2 → (out : List ℕ)
+    ensures run { IfOk result (λ status. status ≢ 2 → (out : List ℕ) × (said : List (List ℕ))
         × IsConfigured window why.now.args.now env.now (C.account crew.old) (C.account crew.new)
-        (D.known outputs.old.disk) (D.known outputs.new.disk) out status
-        × Appends (W.contents output.old) (W.contents output.new) out) }
+        (D.known outputs.old.disk) (D.known outputs.new.disk) out said status
+        × Appends (W.contents output.old) (W.contents output.new) out
+        × (why.now.is_asked ≡ false → AreTold (E.contents errors.old) (E.contents errors.new) said)) }
 {
     let supplies = read_supplies(alloc, outputs.disk(), why.text, why.args, env)?;
     Ok(run_supplied(
@@ -108,6 +111,7 @@ fn run_text<D: Disk, C: Crew + Causes, W: Write, E: Write>(
 
 /// Returns what the faults of a run with these arguments are explained by.
 fn why_of<'a>(is_asked: bool, path: &'a [u8], text: &'a [u8], args: &'a [Bytes]) -> Why<'a>
+    ensures asked { result.is_asked ≡ is_asked }
     ensures text { result.text.now ≡ text.now }
     ensures args { result.args.now ≡ args.now }
 {
@@ -139,10 +143,11 @@ fn run_source<D: Disk, C: Crew + Causes, W: Write, E: Write>(
     requires failures { (C.account crew.old).failures + 256 ≤ 2 ^ 62 }
     requires fresh { outputs.old ≡ fresh outputs.old.disk }
     ensures idle { IsIdle (C.account crew.new).events }
-    ensures run { IfOk result (λ status. status ≢ 2 → (out : List ℕ)
+    ensures run { IfOk result (λ status. status ≢ 2 → (out : List ℕ) × (said : List (List ℕ))
         × IsConfigured window args.now env.now (C.account crew.old) (C.account crew.new)
-        (D.known outputs.old.disk) (D.known outputs.new.disk) out status
-        × Appends (W.contents output.old) (W.contents output.new) out) }
+        (D.known outputs.old.disk) (D.known outputs.new.disk) out said status
+        × Appends (W.contents output.old) (W.contents output.new) out
+        × (is_asked ≡ false → AreTold (E.contents errors.old) (E.contents errors.new) said)) }
 {
     let path = path_in(alloc, srcdir_of(args), b"configure.ac")?;
     match read_limited(alloc, outputs.disk(), path.as_slice())? {
@@ -177,10 +182,11 @@ pub fn run_configure<D: Disk, C: Crew + Causes, W: Write, E: Write>(
     requires failures { (C.account crew.old).failures + 256 ≤ 2 ^ 62 }
     requires fresh { outputs.old ≡ fresh outputs.old.disk }
     ensures idle { IsIdle (C.account crew.new).events }
-    ensures run { result ≢ 2 → (out : List ℕ)
+    ensures run { result ≢ 2 → (out : List ℕ) × (said : List (List ℕ))
         × IsConfigured window args.now env.now (C.account crew.old) (C.account crew.new)
-        (D.known outputs.old.disk) (D.known outputs.new.disk) out result
-        × Appends (W.contents output.old) (W.contents output.new) out }
+        (D.known outputs.old.disk) (D.known outputs.new.disk) out said result
+        × Appends (W.contents output.old) (W.contents output.new) out
+        × (is_asked ≡ false → AreTold (E.contents errors.old) (E.contents errors.new) said) }
 {
     match run_source(
         alloc, outputs, is_asked, window, args, env, crew, output, errors,

@@ -1,4 +1,5 @@
 pub mod Appending
+pub mod Fronts
 pub mod Quiet
 pub mod Runs
 pub mod Templates

@@ -1,4 +1,5 @@
 pub mod Calls
+pub mod Errors
 pub mod Lent
 pub mod Logged
 pub mod Quiet

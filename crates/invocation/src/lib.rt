@@ -12,7 +12,7 @@
 //!
 //! "own" marks a rule that no manual gives.
 //!
-//! In `specs`, read `Calls` (what the program is asked to do), `Supplies` (what a run is given, as it
+//! In `specs`, read `Calls` (what the program is asked to do), `Errors` (what a run prints on standard error), `Supplies` (what a run is given, as it
 //! is in files), `Logged`, `Quiet` (when nothing is printed) and `Progress`; `Lent` is small. In
 //! `src`, read `call`, `supplies`, `printing` and `telling`; `process` reads what the process is given, and `progress` says whether
 //! the program may show its progress.
@@ -26,7 +26,7 @@ mod supplies;
 mod telling;
 
 pub use call::{Call, call_of};
-pub use printing::{LOG, print_all, print_lines, write_log};
+pub use printing::{LOG, print_all, print_lines, tell_text, write_log};
 pub use process::{environment, words};
 pub use progress::may_show_progress;
 pub use supplies::{RecordSupplies, Supplies, keep_inputs, read_supplies, record_supplies};

@@ -1,9 +1,10 @@
 //! What the program prints and writes of a run: its messages, the lines of its outputs, and its log.
 
-ghost use Rattle.std.specs.Prelude.{◌≡◌, [], ◌++◌, Ok, OnOk, IfOk, IsTrue, if◌then◌else◌};
+ghost use Rattle.std.specs.Prelude.{◌≡◌, [], ◌∷◌, ◌++◌, take, ◌≤◌, length, Ok, OnOk, IfOk, IfSome, IfNone, IsTrue, if◌then◌else◌};
 ghost use Rattle.std.specs.Io.KnownBytes.{Appends};
 ghost use Rattle.cfglog.specs.Texts.{log_of, messages_of, shown};
 ghost use Rattle.deftable.specs.declared.note.Stream.TheVariants as streams;
+ghost use Rattle.invocation.specs.Errors.{AreTold, error_of, errors_of};
 ghost use Rattle.invocation.specs.Logged.{HasLogged};
 
 use cfglog::{log_text, messages_text};
@@ -16,6 +17,39 @@ use std::io::{self, ErrorKind, Write};
 
 /// The name of the log.
 pub const LOG: &str = "config.log";
+
+/// The largest number of writes of one text.
+const MOST_WRITES: usize = 1 << 32;
+
+/// Writes once, and returns how many bytes the stream took, or nothing if it takes no more. A write that a signal interrupts takes none.
+#[tactic(auto, using(crate::proofs::Fronts::nothing_more))]
+fn write_once<E: Write>(text: &[u8], errors: &mut E) -> Option<usize>
+    ensures within { IfSome result (λ n. n ≤ length text.now) }
+    ensures some { IfSome result (λ n. Appends (E.contents errors.old) (E.contents errors.new) (take n text.now)) }
+    ensures none { IfNone result (Appends (E.contents errors.old) (E.contents errors.new) []) }
+{
+    match errors.write(text) {
+        Ok(0) => None,
+        Ok(n) => Some(n),
+        Err(e) if e.kind() == ErrorKind::Interrupted => Some(0),
+        Err(_) => None,
+    }
+}
+
+/// Writes a text, as far as the stream takes it, and returns the number of bytes that it took.
+#[tactic(auto, using(crate::proofs::Fronts::front_more, crate::proofs::Fronts::front_kept, crate::proofs::Fronts::front_none))]
+fn write_front<E: Write>(text: &[u8], errors: &mut E) -> usize
+    ensures { Appends (E.contents errors.old) (E.contents errors.new) (take result text.now) }
+{
+    let mut taken = 0;
+    'writes: for _ in 0..MOST_WRITES {
+        match write_once(&text[taken..], errors) {
+            Some(n) => taken += n,
+            None => return taken,
+        }
+    }
+    taken
+}
 
 /// Writes a text, unless it is empty.
 fn write_some<W: Write>(text: &[u8], output: &mut W) -> io::Result<()>
@@ -118,6 +152,25 @@ fn is_error(note: &Note) -> bool
     matches!(note.stream, Stream::Err)
 }
 
+/// Writes a text, as far as the stream takes it.
+#[tactic(auto, using(crate::proofs::Fronts::told_one))]
+pub fn tell_text<E: Write>(text: &[u8], errors: &mut E)
+    ensures { AreTold (E.contents errors.old) (E.contents errors.new) (text.now ∷ []) }
+{
+    let _ = write_front(text, errors);
+}
+
+/// Prints a piece for standard error, as far as it takes it.
+#[tactic(auto, using(crate::proofs::Fronts::told_nothing))]
+fn tell_piece<E: Write>(note: &Note, errors: &mut E)
+    ensures { AreTold (E.contents errors.old) (E.contents errors.new) (error_of note.now) }
+{
+    match note.stream {
+        Stream::Err => tell_text(note.text.as_slice(), errors),
+        Stream::Out => {}
+    }
+}
+
 /// Prints pieces in order, each on its stream, and then the lines of the outputs on standard output. Quiet drops what is for standard
 /// output. What is next to each other there is one write, made before the next piece for standard error.
 ///
@@ -133,16 +186,17 @@ pub fn print_all<W: Write, E: Write>(
     output: &mut W,
     errors: &mut E,
 ) -> io::Result<()>
-    ensures { OnOk result (Appends (W.contents output.old) (W.contents output.new) (messages_of streams.Out quiet notes.now ++ (if quiet then [] else lines.now))) }
+    ensures run { OnOk result (Appends (W.contents output.old) (W.contents output.new) (messages_of streams.Out quiet notes.now ++ (if quiet then [] else lines.now))) }
+    ensures told { AreTold (E.contents errors.old) (E.contents errors.new) (errors_of notes.now) }
 {
     let mut done = Ok(());
     let mut start = 0;
     'notes: for i in 0..notes.len() {
         if is_error(&notes[i]) {
             done = print_next(alloc, done, &notes[start..i], b"", quiet, output);
-            let _ = errors.write_all(notes[i].text.as_slice());
             start = i + 1;
         }
+        tell_piece(&notes[i], errors);
     }
     print_next(alloc, done, &notes[start..], lines, quiet, output)
 }

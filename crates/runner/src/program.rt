@@ -1,6 +1,6 @@
 //! The program's commands, over its streams, its files and a crew.
 
-ghost use Rattle.std.specs.Prelude.{◌≡◌, ◌≢◌, ◌⊎◌, ◌+◌, ◌^◌, ◌≤◌, ℕ, List, [], None, IfSome};
+ghost use Rattle.std.specs.Prelude.{◌≡◌, false, ◌∷◌, ◌≢◌, ◌⊎◌, ◌+◌, ◌^◌, ◌≤◌, ℕ, List, [], None, IfSome};
 ghost use Rattle.std.specs.Io.KnownBytes.{Appends};
 ghost use Rattle.commands.specs.MadeAgain.{IsMadeAgain};
 ghost use Rattle.configuring.specs.Configures.{IsConfigured, IsRechecked};
@@ -8,6 +8,7 @@ ghost use Rattle.crew_trait.specs.Events.{IsIdle};
 ghost use Rattle.diskfiles.specs.Held.{fresh};
 ghost use Rattle.filtering.specs.Filtered.{IsFiltered};
 ghost use Rattle.invocation.specs.Calls.{call_of, Unknown, IfFilter, IfStandIn, IfConfigure, IfStatus, IfRecheck, IfWhy, IfHelp, HasNoRun, HasNoInput, HasNoOutput};
+ghost use Rattle.invocation.specs.Errors.{AreTold};
 ghost use Rattle.runner.specs.Puts.{HasNoPuts};
 ghost use Rattle.standin.specs.Standin.{IsAnswered};
 
@@ -23,7 +24,7 @@ use explaining::asks_why;
 use faultlines::explain_usage;
 use filtering::{FilterFault, Filtered, filter};
 use helptext::{run_help, run_version};
-use invocation::{Call, FAULT, call_of, tell_usage};
+use invocation::{Call, FAULT, call_of, tell_text, tell_usage};
 use lintcommand::{may_colour, run_lint};
 use portcommand::run_port;
 use shown::Shown;
@@ -45,6 +46,18 @@ fn tell_filter<E: Write>(alloc: Global, is_asked: bool, fault: &FilterFault, err
     FAULT
 }
 
+/// Writes what the source says on standard error, as far as it takes it.
+#[tactic(auto, using(invocation::proofs::Fronts::told_blank))]
+fn tell_said<E: Write>(said: &[u8], errors: &mut E)
+    ensures silent { said.now ≡ [] → errors.new ≡ errors.old }
+    ensures told { AreTold (E.contents errors.old) (E.contents errors.new) (said.now ∷ []) }
+{
+    if said.is_empty() {
+        return;
+    }
+    tell_text(said, errors);
+}
+
 /// Filters the input, and returns the exit status.
 fn run_filter<R: Read, W: Write, E: Write>(
     alloc: Global,
@@ -54,7 +67,8 @@ fn run_filter<R: Read, W: Write, E: Write>(
     errors: &mut E,
 ) -> u8
     ensures written { (result ≡ 2) ⊎ IfSome (R.remaining input.old)
-        (λ text. (out : List ℕ) × (said : List ℕ) × IsFiltered text out said result × Appends (W.contents output.old) (W.contents output.new) out × (said ≡ [] → errors.new ≡ errors.old)) }
+        (λ text. (out : List ℕ) × (said : List ℕ) × IsFiltered text out said result × Appends (W.contents output.old) (W.contents output.new) out
+        × (said ≡ [] → errors.new ≡ errors.old) × AreTold (E.contents errors.old) (E.contents errors.new) (said ∷ [])) }
 {
     match filter(alloc, input, output) {
         Ok(
@@ -63,9 +77,7 @@ fn run_filter<R: Read, W: Write, E: Write>(
                 errors: said,
             },
         ) => {
-            if !said.is_empty() {
-                let _ = errors.write_all(said.as_slice());
-            }
+            tell_said(said.as_slice(), errors);
             status
         }
         Err(fault) => tell_filter(alloc, why, &fault, errors),
@@ -137,18 +149,21 @@ pub fn run<F: Files, D: Disk, C: Crew + Causes, R: Read, W: Write, E: Write>(
     requires fresh { outputs.old ≡ fresh outputs.old.disk }
     // Without words: unless the status is 2, what is written and the status are those of the source's meaning.
     ensures filter { IfFilter (call_of words.now) ((result ≡ 2) ⊎ IfSome (R.remaining input.old)
-        (λ text. (out : List ℕ) × (said : List ℕ) × IsFiltered text out said result × Appends (W.contents output.old) (W.contents output.new) out × (said ≡ [] → errors.new ≡ errors.old))) }
+        (λ text. (out : List ℕ) × (said : List ℕ) × IsFiltered text out said result × Appends (W.contents output.old) (W.contents output.new) out
+        × (said ≡ [] → errors.new ≡ errors.old) × AreTold (E.contents errors.old) (E.contents errors.new) (said ∷ []))) }
     // The stand-in's status is its answer, unless memory runs out. If it accepts the conftest, it writes nothing.
     ensures standin { IfStandIn (call_of words.now) (λ others. (result ≡ 2) ⊎ IsAnswered others result) }
     ensures silent { IfStandIn (call_of words.now) (λ others. result ≡ 0 → errors.new ≡ errors.old) }
     // Unless the status is 2, the crew made the run of the source that the arguments name, with
     // these arguments, this environment, its cache and its templates; the status is that of its
     // outcome, its messages and the lines on its outputs are printed, and what it hands over and
-    // its log are written, and nothing else.
-    ensures configure { IfConfigure (call_of words.now) (λ window args. result ≢ 2 → (out : List ℕ)
+    // its log are written, and nothing else. If `why` isn't set, standard error gets its messages for
+    // standard error, as far as it takes them, and nothing else.
+    ensures configure { IfConfigure (call_of words.now) (λ window args. result ≢ 2 → (out : List ℕ) × (said : List (List ℕ))
         × IsConfigured window args env.now (C.account crew.old) (C.account crew.new)
-        (D.known outputs.old.disk) (D.known outputs.new.disk) out result
-        × Appends (W.contents output.old) (W.contents output.new) out) }
+        (D.known outputs.old.disk) (D.known outputs.new.disk) out said result
+        × Appends (W.contents output.old) (W.contents output.new) out
+        × (why ≡ false → AreTold (E.contents errors.old) (E.contents errors.new) said)) }
     // Unless the status is 2, it is 0, and the outputs of the record with these names are made, and
     // nothing else.
     ensures status { IfStatus (call_of words.now) (λ tags. result ≢ 2 → (result ≡ 0) × (out : List ℕ)
@@ -156,10 +171,11 @@ pub fn run<F: Files, D: Disk, C: Crew + Causes, R: Read, W: Write, E: Write>(
         × Appends (W.contents output.old) (W.contents output.new) out) }
     // Unless the status is 2, the same holds of the run with the arguments of the record, and then
     // `--no-create`.
-    ensures recheck { IfRecheck (call_of words.now) (result ≢ 2 → (out : List ℕ)
+    ensures recheck { IfRecheck (call_of words.now) (result ≢ 2 → (out : List ℕ) × (said : List (List ℕ))
         × IsRechecked env.now (C.account crew.old) (C.account crew.new)
-        (D.known outputs.old.disk) (D.known outputs.new.disk) out result
-        × Appends (W.contents output.old) (W.contents output.new) out) }
+        (D.known outputs.old.disk) (D.known outputs.new.disk) out said result
+        × Appends (W.contents output.old) (W.contents output.new) out
+        × (why ≡ false → AreTold (E.contents errors.old) (E.contents errors.new) said)) }
     // What explains something has no other status than these. Unless it is 2, `why` writes nothing on standard error.
     ensures explained { IfWhy (call_of words.now) (λ asked. (result ≤ 2) × (result ≢ 2 → errors.new ≡ errors.old)) }
     ensures help { IfHelp (call_of words.now) (λ asked. (result ≡ 0) ⊎ (result ≡ 2)) }
@@ -262,11 +278,11 @@ pub fn command<C: Crew + Causes + Children>(
     requires failures { (C.account crew.old).failures + 256 ≤ 2 ^ 62 }
     // What [`run`] says, but for what only known streams and files can show.
     ensures standin { IfStandIn (call_of words.now) (λ others. (result ≡ 2) ⊎ IsAnswered others result) }
-    ensures configure { IfConfigure (call_of words.now) (λ window args. result ≢ 2 → (out : List ℕ)
-        × IsConfigured window args env.now (C.account crew.old) (C.account crew.new) None None out result) }
+    ensures configure { IfConfigure (call_of words.now) (λ window args. result ≢ 2 → (out : List ℕ) × (said : List (List ℕ))
+        × IsConfigured window args env.now (C.account crew.old) (C.account crew.new) None None out said result) }
     ensures status { IfStatus (call_of words.now) (λ tags. result ≢ 2 → (result ≡ 0) × (out : List ℕ) × IsMadeAgain None None tags out) }
-    ensures recheck { IfRecheck (call_of words.now) (result ≢ 2 → (out : List ℕ)
-        × IsRechecked env.now (C.account crew.old) (C.account crew.new) None None out result) }
+    ensures recheck { IfRecheck (call_of words.now) (result ≢ 2 → (out : List ℕ) × (said : List (List ℕ))
+        × IsRechecked env.now (C.account crew.old) (C.account crew.new) None None out said result) }
     ensures explained { IfWhy (call_of words.now) (λ asked. result ≤ 2) }
     ensures help { IfHelp (call_of words.now) (λ asked. (result ≡ 0) ⊎ (result ≡ 2)) }
     ensures unknown { call_of words.now ≡ Unknown → result ≡ 2 }
