@@ -86,6 +86,7 @@ fn why_of<'a>(is_asked: bool, text: &'a [u8], srcdir: &'a [u8], tags: &'a [Bytes
         path: RECORD,
         text,
         args: tags,
+        env: &[],
     }
 }
 

@@ -29,6 +29,7 @@ fn why_of(is_asked: bool, text: &[u8]) -> Why<'_> {
         path: RECORD,
         text,
         args: &[],
+        env: &[],
     }
 }
 

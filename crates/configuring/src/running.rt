@@ -109,8 +109,14 @@ fn run_text<D: Disk, C: Crew + Causes, W: Write, E: Write>(
     ))
 }
 
-/// Returns what the faults of a run with these arguments are explained by.
-fn why_of<'a>(is_asked: bool, path: &'a [u8], text: &'a [u8], args: &'a [Bytes]) -> Why<'a>
+/// Returns what the faults of a run with these arguments and this environment are explained by.
+fn why_of<'a>(
+    is_asked: bool,
+    path: &'a [u8],
+    text: &'a [u8],
+    args: &'a [Bytes],
+    env: &'a [(Bytes, Bytes)],
+) -> Why<'a>
     ensures asked { result.is_asked ≡ is_asked }
     ensures text { result.text.now ≡ text.now }
     ensures args { result.args.now ≡ args.now }
@@ -121,6 +127,7 @@ fn why_of<'a>(is_asked: bool, path: &'a [u8], text: &'a [u8], args: &'a [Bytes])
         path,
         text,
         args,
+        env,
     }
 }
 
@@ -152,7 +159,7 @@ fn run_source<D: Disk, C: Crew + Causes, W: Write, E: Write>(
     let path = path_in(alloc, srcdir_of(args), b"configure.ac")?;
     match read_limited(alloc, outputs.disk(), path.as_slice())? {
         Some(text) => {
-            let why = why_of(is_asked, path.as_slice(), text.as_slice(), args);
+            let why = why_of(is_asked, path.as_slice(), text.as_slice(), args, env);
             run_text(alloc, outputs, window, &why, env, crew, output, errors)
         }
         None => Ok(tell_unread(alloc, outputs.disk(), is_asked, path.as_slice(), errors)),

@@ -14,12 +14,13 @@
 //! Each function `explain_..` writes nothing if it isn't asked, and this is proved. What it writes is tested. If memory runs out, it
 //! writes less, and that a line can't be written is not reported.
 //!
-//! Read `page`, which writes words, and `source`, which shows a fault of the source; then `runs`, `remakes`, `usage` and
+//! Read `page`, which writes words, and `source`, which shows a fault of the source; then `runs`, `precious`, `remakes`, `usage` and
 //! `compilers`.
 #![tactic(auto)]
 
 mod compilers;
 mod page;
+mod precious;
 mod remakes;
 mod runs;
 mod source;
@@ -28,4 +29,5 @@ mod usage;
 pub use compilers::explain_compilers;
 pub use remakes::explain_remake;
 pub use runs::explain_fault;
+pub use source::explain_source;
 pub use usage::explain_usage;

@@ -29,3 +29,11 @@ pub(crate) fn slices(alloc: Global, texts: &[Bytes]) -> Result<Vec<&[u8]>, Alloc
     }
     Ok(out)
 }
+
+/// Returns the text of this number, which is 1 for the first, or an empty text.
+pub(crate) fn numbered(texts: &[Bytes], number: u64) -> &[u8] {
+    match texts.get((number as usize).saturating_sub(1)) {
+        Some(text) => text.as_slice(),
+        None => b"",
+    }
+}

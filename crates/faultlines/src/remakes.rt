@@ -2,8 +2,7 @@
 
 ghost use Rattle.std.specs.Prelude.{◌≡◌, false};
 
-use crate::page::put_words;
-use deftable::Bytes;
+use crate::page::{numbered, put_words};
 use disk::Disk;
 use explaining::{Why, explain_template, explain_words};
 use faultwords::{Words, record_words, tag_words};
@@ -12,14 +11,6 @@ use outputlist::Output;
 use status_record::{Record, read_record};
 use std::alloc::{AllocError, Global};
 use std::io::Write;
-
-/// Returns the argument of this number, which is 1 for the first, or an empty text.
-fn numbered(args: &[Bytes], number: u64) -> &[u8] {
-    match args.get((number as usize).saturating_sub(1)) {
-        Some(arg) => arg.as_slice(),
-        None => b"",
-    }
-}
 
 /// Appends the names of outputs.
 fn push_names<'a>(outputs: &'a [Output], names: &mut Vec<&'a [u8]>) -> Result<(), AllocError> {

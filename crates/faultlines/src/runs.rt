@@ -3,6 +3,7 @@
 ghost use Rattle.std.specs.Prelude.{◌≡◌, false};
 
 use crate::page::{put_words, slices};
+use crate::precious::of_precious;
 use crate::source::{put_parse, put_plan};
 use commandline::OptionFault;
 use disk::Disk;
@@ -32,6 +33,7 @@ fn put_fault<D: Disk, E: Write>(
         Fault::Plan(_) => put_plan(alloc, why, errors),
         Fault::Option(fault) => put_words(alloc, of_option(alloc, why, *fault), errors),
         Fault::Cache(fault) => put_words(alloc, cache_words(alloc, *fault, cache), errors),
+        Fault::Precious(fault) => put_words(alloc, of_precious(alloc, why, cache, *fault), errors),
         Fault::NoTemplate(name) => explain_template(alloc, disk, why, name.as_slice(), errors),
         _ => {}
     }

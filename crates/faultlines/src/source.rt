@@ -1,10 +1,13 @@
 //! A fault of the source.
 
+ghost use Rattle.std.specs.Prelude.{◌≡◌, false};
+
 use acstatement::ParseFault;
 use deftable::Bytes;
 use excerpts::excerpt_of;
 use explaining::Why;
 use findings::Finding;
+use framing::Fault;
 use linting::errors_of;
 use std::alloc::{AllocError, Global};
 use std::io::Write;
@@ -59,4 +62,23 @@ pub(crate) fn put_parse<E: Write>(alloc: Global, why: &Why<'_>, fault: ParseFaul
 /// Writes that a source is too long.
 pub(crate) fn put_plan<E: Write>(alloc: Global, why: &Why<'_>, errors: &mut E) {
     put_shown(plan_shown(alloc, why), errors);
+}
+
+/// Writes the fault of a source. Writes nothing for a fault of anything else.
+fn put_source<E: Write>(alloc: Global, why: &Why<'_>, errors: &mut E, fault: &Fault) {
+    match fault {
+        Fault::Parse(fault) => put_parse(alloc, why, *fault, errors),
+        Fault::Plan(_) => put_plan(alloc, why, errors),
+        _ => {}
+    }
+}
+
+/// Says what is wrong with a source that is in no file, after the line of the fault, if it is asked. Says nothing of a fault of
+/// anything else.
+pub fn explain_source<E: Write>(alloc: Global, why: &Why<'_>, errors: &mut E, fault: &Fault)
+    ensures silent { why.now.is_asked ≡ false → errors.new ≡ errors.old }
+{
+    if why.is_asked {
+        put_source(alloc, why, errors, fault);
+    }
 }

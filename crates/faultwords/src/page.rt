@@ -21,6 +21,9 @@ pub struct Words {
 /// The most bytes of a text that a message repeats.
 const LONGEST: usize = 60;
 
+/// The most bytes of the value of a variable that a message repeats.
+const LONGEST_VALUE: usize = 1000;
+
 /// The digits of a byte that is written as a number.
 const DIGITS: [u8; 16] = *b"0123456789abcdef";
 
@@ -69,16 +72,26 @@ impl Page {
         }
     }
 
-    /// Appends a text of the user to the message, between backquotes. A long one is cut.
-    pub fn say_text(&mut self, text: &[u8]) {
+    /// Appends a text of the user to the message, between backquotes. Of one that has more bytes than `longest`, it is the front.
+    fn say_front(&mut self, text: &[u8], longest: usize) {
         self.say(b"`");
-        for byte in &text[..text.len().min(LONGEST)] {
+        for byte in &text[..text.len().min(longest)] {
             self.say_byte(*byte);
         }
-        if text.len() > LONGEST {
+        if text.len() > longest {
             self.say(b"..");
         }
         self.say(b"`");
+    }
+
+    /// Appends a text of the user to the message, between backquotes. One of more than 60 bytes is cut.
+    pub fn say_text(&mut self, text: &[u8]) {
+        self.say_front(text, LONGEST);
+    }
+
+    /// Appends the value of a variable to the message, between backquotes. One of more than 1,000 bytes is cut.
+    pub fn say_value(&mut self, value: &[u8]) {
+        self.say_front(value, LONGEST_VALUE);
     }
 
     /// Appends a number to the message.

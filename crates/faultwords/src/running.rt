@@ -186,12 +186,13 @@ pub fn cache_words(alloc: Global, fault: CacheFault, text: &[u8]) -> Result<Word
 /// Writes a value that a variable has, or that it has none.
 fn put_value(page: &mut Page, value: Option<&[u8]>) {
     match value {
-        Some(value) => page.say_text(value),
-        None => page.say(b"unset"),
+        Some(value) => page.say_value(value),
+        None => page.say(b"not set"),
     }
 }
 
-/// Returns that a variable is not as it was in the run that made the cache, with both values.
+/// Returns that a variable is not as it was in the run that made the cache of this name, with both values. `None` is the value of a
+/// variable that is not set.
 ///
 /// # Errors
 ///
@@ -201,16 +202,22 @@ pub fn precious_words(
     name: &[u8],
     old: Option<&[u8]>,
     now: Option<&[u8]>,
+    cache_name: &[u8],
 ) -> Result<Words, AllocError> {
     let mut page = Page::new(alloc);
     page.say(name);
     page.say(b" was ");
     put_value(&mut page, old);
-    page.say(b" in the run that made the cache, and is ");
+    page.say(b" in the run that made the cache ");
+    page.say_text(cache_name);
+    page.say(b", and is now ");
     put_value(&mut page, now);
-    page.advise(
-        b"what is in the cache holds for the old value: remove the cache file, or give the old value again",
-    );
+    page.advise(match old {
+        Some(_) =>
+            b"give it the old value again, or remove the cache, whose answers hold for that value".as_slice(),
+        None =>
+            b"leave it unset again, or remove the cache, whose answers hold for that".as_slice(),
+    });
     page.words()
 }
 

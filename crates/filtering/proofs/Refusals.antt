@@ -41,13 +41,19 @@ not_run_refused input source template s (Ok x) parted is h = tt
 not_run_refused input source template s (Err e) parted is h = not_run parted is h
 
 -- The input is the text that was read.
-pub write_refused : (o : Option (List ℕ)) (text items out errors : List ℕ) (status : ℕ) → text ≡ items → IfSome o (λ input. items ≡ input) → IsFiltered text out errors status → IfSome o (λ input. IsRefused input Write)
-write_refused None text items out errors status whole same is = tt
-write_refused (Some input) text items out errors status whole same is = subst (λ t. IsRefused t Write) (whole ∙ same) (unwritten is)
+whole_is : (o : Option (List ℕ)) (text items : List ℕ) (says : List ℕ → Type 0) → text ≡ items → IfSome o (λ input. items ≡ input) → says text → IfSome o says
+whole_is None text items says whole same h = tt
+whole_is (Some input) text items says whole same h = subst says (whole ∙ same) h
 
-pub input_refused : (o : Option (List ℕ)) (text items : List ℕ) (e : FilterFault) → text ≡ items → IfSome o (λ input. items ≡ input) → IsInputFault text e → IfSome o (λ input. IsRefused input e)
-input_refused None text items e whole same is = tt
-input_refused (Some input) text items e whole same is = subst (λ t. IsRefused t e) (whole ∙ same) (fault is)
+pub whole_ok : {A E : Type 0} (r : Result A E) (o : Option (List ℕ)) (text items : List ℕ) (says : A → List ℕ → Type 0) → text ≡ items → IfSome o (λ input. items ≡ input) → IfOk r (λ a. says a text)
+    → IfOk r (λ a. IfSome o (says a))
+whole_ok (Ok a) o text items says whole same h = whole_is o text items (says a) whole same h
+whole_ok (Err e) o text items says whole same h = tt
+
+pub whole_err : {A E : Type 0} (r : Result A E) (o : Option (List ℕ)) (text items : List ℕ) (says : List ℕ → E → Type 0) → text ≡ items → IfSome o (λ input. items ≡ input) → IfErr r (says text)
+    → IfErr r (λ e. IfSome o (λ input. says input e))
+whole_err (Ok a) o text items says whole same h = tt
+whole_err (Err e) o text items says whole same h = whole_is o text items (λ input. says input e) whole same h
 
 pub read_refused : {A : Type 0} (o : Option (List ℕ)) (f : ReadFault) (r : Result A FilterFault) → IsErrAnd r (λ e. (f ≡ reads.Read → e ≡ Read) × (f ≡ reads.OutOfMemory → e ≡ OutOfMemory))
     → IfErr r (λ e. IfSome o (λ input. IsRefused input e))

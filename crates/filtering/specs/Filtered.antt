@@ -19,6 +19,11 @@ use Rattle.filtering.specs.Ran.{IsAlone}
 use Rattle.filtering.specs.declared.fault.FilterFault.{FilterFault}
 use Rattle.filtering.specs.declared.fault.FilterFault.TheVariants.{Read, Usage, Run, Write, OutOfMemory}
 
+-- The text is what the filter runs of an input: the source before the marker, or all of it if it has no marker. (own)
+pub data IsSourcePart (input : List ℕ) : List ℕ → Type 0 where
+  before : {source template : List ℕ} → IsParted input source template → IsSourcePart input source
+  whole : HasNoMarker input → IsSourcePart input input
+
 -- The source, which has these statements, is run without arguments, environment and cache, with this template under the name of
 -- the first file's, and with each start of a child refused. This is the text of the first file that the run hands over, what it
 -- prints on standard error, and its exit status. (own)

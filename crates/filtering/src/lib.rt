@@ -19,4 +19,4 @@ mod taking;
 mod whole;
 
 pub use fault::FilterFault;
-pub use whole::{Filtered, filter};
+pub use whole::{Filtered, filter, filter_text, source_part};

@@ -4,7 +4,7 @@ ghost use Rattle.std.specs.Prelude.{◌≡◌, ◌≢◌, ℕ, List, ◌+◌, �
 ghost use Rattle.std.specs.Io.KnownBytes.{Appends};
 ghost use Rattle.acparse.specs.Profile.{source_of};
 ghost use Rattle.syntax.specs.Script.{script_of};
-ghost use Rattle.filtering.specs.Filtered.{IsRun, IsFiltered, IsInputFault, IsRefused};
+ghost use Rattle.filtering.specs.Filtered.{IsRun, IsFiltered, IsInputFault, IsRefused, IsSourcePart};
 ghost use Rattle.filtering.specs.Handed as words;
 ghost use Rattle.filtering.specs.Handed.{IsNotRun, judged_alone, templates_of};
 ghost use Rattle.filtering.specs.declared.fault.FilterFault.{FilterFault};
@@ -100,6 +100,43 @@ fn answer(alloc: Global, input: &[u8]) -> Result<Written, FilterFault>
     run_source(alloc, text, &source, after_marker(input, at))
 }
 
+/// Returns the source that the filter runs: the text before the line `%%`. Without such a line it is the whole text.
+pub fn source_part(input: &[u8]) -> &[u8]
+    ensures { IsSourcePart input.now result.now }
+{
+    match marker_place(input) {
+        Some(at) => &input[..at],
+        None => input,
+    }
+}
+
+/// Filters a text that was read, as [`filter`] does.
+///
+/// # Errors
+///
+/// Those of [`filter`] but `Read`, in the same order.
+pub fn filter_text<W: Write>(
+    alloc: Global,
+    input: &[u8],
+    writer: &mut W,
+) -> Result<Filtered, FilterFault>
+    // If it succeeds, what is written, the text for standard error and the status are those of the source's meaning.
+    ensures written { IfOk result (λ f. (out : List ℕ) × IsFiltered input.now out f.errors.items f.status × Appends (W.contents writer.old) (W.contents writer.new) out) }
+    // If it fails, and not because of the writer, the writer is unchanged.
+    ensures untouched { IfErr result (λ e. e ≢ FilterFault.Write → writer.new ≡ writer.old) }
+    // If it fails, the input has an error, or its text can't be written, or memory ran out.
+    ensures refused { IfErr result (IsRefused input.now) }
+{
+    let answer = answer(alloc, input)?;
+    if writer.write_all(answer.text.as_slice()).is_err() {
+        return Err(FilterFault::Write);
+    }
+    Ok(Filtered {
+        status: answer.status,
+        errors: answer.errors,
+    })
+}
+
 /// Reads a configure.ac, a line that is exactly `%%` and the template of its first file. Runs the source, without
 /// arguments, environment and cache, and writes that file.
 ///
@@ -132,12 +169,5 @@ pub fn filter<R: Read, W: Write>(
     ensures refused { IfErr result (λ e. IfSome (R.remaining reader.old) (λ input. IsRefused input e)) }
 {
     let input = read_input(alloc, reader)?;
-    let answer = answer(alloc, input.as_slice())?;
-    if writer.write_all(answer.text.as_slice()).is_err() {
-        return Err(FilterFault::Write);
-    }
-    Ok(Filtered {
-        status: answer.status,
-        errors: answer.errors,
-    })
+    filter_text(alloc, input.as_slice(), writer)
 }

@@ -23,6 +23,8 @@ pub struct Given<'a> {
     pub window: &'a [u8],
     /// The environment.
     pub env: &'a [u8],
+    /// Standard input.
+    pub input: &'a [u8],
     /// If true, the crew starts real children.
     pub has_children: bool,
     /// The replies of the crew, if it starts none.
@@ -37,6 +39,7 @@ pub struct Given<'a> {
 pub const NOTHING: Given<'static> = Given {
     window: b"",
     env: b"",
+    input: b"",
     has_children: false,
     replies: b"",
     is_youngest_first: false,
@@ -49,6 +52,7 @@ fn status_over<C: Crew + Causes, W: Write>(
     rt: &HostRuntime,
     words: &[Bytes],
     env: &[(Bytes, Bytes)],
+    input: &[u8],
     crew: &mut C,
     output: &mut W,
     errors: &mut Vec<u8>,
@@ -57,7 +61,7 @@ fn status_over<C: Crew + Causes, W: Write>(
     requires attempts { (C.account crew.old).attempts + 2 ^ 36 ≤ 2 ^ 62 }
     requires failures { (C.account crew.old).failures + 256 ≤ 2 ^ 62 }
 {
-    let mut input: &[u8] = b"";
+    let mut input = input;
     run(
         rt.alloc(),
         rt,
@@ -110,7 +114,7 @@ fn status_in_memory<W: Write>(
 ) -> u8 {
     let replies = replies_of(page, given.replies);
     match &mut MemoryCrew::new(page.alloc(), replies, order_of(given)) {
-        Ok(crew) => status_over(rt, words, env, crew, output, errors),
+        Ok(crew) => status_over(rt, words, env, given.input, crew, output, errors),
         Err(_) => {
             page.cut();
             2
@@ -138,6 +142,7 @@ fn status_of_children<W: Write>(
     rt: &HostRuntime,
     words: &[Bytes],
     env: &[(Bytes, Bytes)],
+    input: &[u8],
     output: &mut W,
     errors: &mut Vec<u8>,
 ) -> u8 {
@@ -145,7 +150,7 @@ fn status_of_children<W: Write>(
         return 2;
     };
     match &mut ProcessCrew::new(own, rt.alloc()) {
-        Ok(crew) => status_over(rt, words, env, crew, output, errors),
+        Ok(crew) => status_over(rt, words, env, input, crew, output, errors),
         Err(_) => 2,
     }
 }
@@ -161,7 +166,7 @@ fn status_of<W: Write>(
 ) -> u8 {
     let env = env_of(page, given.env);
     if given.has_children {
-        return status_of_children(rt, words, env.as_slice(), output, errors);
+        return status_of_children(rt, words, env.as_slice(), given.input, output, errors);
     }
     status_in_memory(page, rt, words, env.as_slice(), given, output, errors)
 }

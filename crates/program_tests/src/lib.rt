@@ -4,7 +4,7 @@
 //! status, both streams and the files that are left. An example is a row of a table that `testrows`
 //! reads, each answer found by hand from docs/. `steps` does what a row says, `given` reads its
 //! words, and `calls` runs the program. The rows are in `runs` (whole runs and their files),
-//! `remakes` (outputs made again), `faults` (error lines), `puts` (files that can't be written),
+//! `remakes` (outputs made again), `faults` (error lines), `reasons` (words after these), `puts` (files that can't be written),
 //! `ends` (runs that are stopped or cut, and go on), `windows` (several children at once) and
 //! `children` (real children).
 //!
@@ -23,6 +23,8 @@ mod faults;
 mod given;
 #[cfg(test)]
 mod puts;
+#[cfg(test)]
+mod reasons;
 #[cfg(test)]
 mod remakes;
 #[cfg(test)]

@@ -5,7 +5,7 @@
 //! - `source` writes a configure.ac with these lines between AC_INIT and AC_OUTPUT, `write` a file: its name, a blank and its text.
 //!   `link` makes a symbolic link: its name, a blank and what it names. `directory` makes a directory, `remove` removes a file, `sized`
 //!   makes a file of 64 MiB and one byte, and `in` goes to a directory. They put `!` if they fail, and nothing otherwise.
-//! - `env` and `replies` say what the commands after them are given, `children` that their children are real, and `full` that nothing
+//! - `env`, `input` and `replies` say what the commands after them are given, `children` that their children are real, and `full` that nothing
 //!   can be written to their standard output.
 //! - `run` puts the status and the streams of a command, `program` the status alone of a command that is run as `main` runs it, `read` the
 //!   name and the text of a file, and `list` the names in the directory.
@@ -144,6 +144,7 @@ enum Verb {
     Change(Change),
     Answer(Answer),
     Env,
+    Input,
     Replies,
     Children,
     Full,
@@ -151,12 +152,12 @@ enum Verb {
 
 /// The verbs.
 #[rattlefmt::skip]
-const VERBS: [(&[u8], Verb); 15] = [
+const VERBS: [(&[u8], Verb); 16] = [
     (b"sized", Verb::Change(Change::Sized)),
     (b"source", Verb::Change(Change::Source)), (b"write", Verb::Change(Change::Write)), (b"link", Verb::Change(Change::Link)),
     (b"directory", Verb::Change(Change::Directory)), (b"remove", Verb::Change(Change::Remove)), (b"in", Verb::Change(Change::In)),
     (b"run", Verb::Answer(Answer::Run)), (b"program", Verb::Answer(Answer::Program)), (b"read", Verb::Answer(Answer::Read)), (b"list", Verb::Answer(Answer::List)),
-    (b"env", Verb::Env), (b"replies", Verb::Replies), (b"children", Verb::Children), (b"full", Verb::Full),
+    (b"env", Verb::Env), (b"input", Verb::Input), (b"replies", Verb::Replies), (b"children", Verb::Children), (b"full", Verb::Full),
 ];
 
 fn verb_of(word: &[u8]) -> Option<Verb> {
@@ -174,6 +175,7 @@ fn put_step<'a>(page: &mut Page, scene: &mut Scene<'a>, step: &'a [u8]) {
         Some(Verb::Change(change)) => put_change(page, scene.rt, change, words),
         Some(Verb::Answer(answer)) => put_answer(page, scene, answer, words),
         Some(Verb::Env) => scene.given.env = words,
+        Some(Verb::Input) => scene.given.input = words,
         Some(Verb::Replies) => scene.given.replies = words,
         Some(Verb::Children) => scene.given.has_children = true,
         Some(Verb::Full) => scene.given.is_full = true,

@@ -10,9 +10,10 @@
 //! "own" marks a rule that no manual gives.
 //!
 //! The definitions are those of the crates below: `Calls` in `invocation`, `Configures` in `configuring`, `MadeAgain`
-//! in `commands`, and `Filtered` in `filtering`. `specs/Puts` is small. In `src`, read `program`; `telling` is small.
+//! in `commands`, and `Filtered` in `filtering`. `specs/Puts` is small. In `src`, read `inputs` and `program`; `telling` is small.
 #![tactic(auto)]
 
+mod inputs;
 mod program;
 mod telling;
 

@@ -12,7 +12,7 @@ ghost use Rattle.invocation.specs.Errors.{AreTold};
 ghost use Rattle.runner.specs.Puts.{HasNoPuts};
 ghost use Rattle.standin.specs.Standin.{IsAnswered};
 
-use crate::telling::tell;
+use crate::inputs::run_filter;
 use causes::Causes;
 use commands::{run_standin, run_status};
 use configuring::{run_configure, run_recheck};
@@ -22,9 +22,8 @@ use disk::{Disk, Host};
 use diskfiles::FileOutputs;
 use explaining::asks_why;
 use faultlines::explain_usage;
-use filtering::{FilterFault, Filtered, filter};
 use helptext::{run_help, run_version};
-use invocation::{Call, FAULT, call_of, tell_text, tell_usage};
+use invocation::{Call, FAULT, call_of, tell_usage};
 use lintcommand::{may_colour, run_lint};
 use portcommand::run_port;
 use shown::Shown;
@@ -34,55 +33,6 @@ use std::rt::Files;
 use std::time::Instant;
 use summary::{Children, Counted, Tally, put_summary};
 use whycommand::run_why;
-
-/// Reports an error of the filter, and says more of it if it is asked. Returns the exit status.
-fn tell_filter<E: Write>(alloc: Global, is_asked: bool, fault: &FilterFault, errors: &mut E) -> u8
-    ensures { result ≡ 2 }
-{
-    let _ = tell(errors, fault);
-    if let FilterFault::Usage = fault {
-        explain_usage(alloc, is_asked, &[], errors);
-    }
-    FAULT
-}
-
-/// Writes what the source says on standard error, as far as it takes it.
-#[tactic(auto, using(invocation::proofs::Fronts::told_blank))]
-fn tell_said<E: Write>(said: &[u8], errors: &mut E)
-    ensures silent { said.now ≡ [] → errors.new ≡ errors.old }
-    ensures told { AreTold (E.contents errors.old) (E.contents errors.new) (said.now ∷ []) }
-{
-    if said.is_empty() {
-        return;
-    }
-    tell_text(said, errors);
-}
-
-/// Filters the input, and returns the exit status.
-fn run_filter<R: Read, W: Write, E: Write>(
-    alloc: Global,
-    why: bool,
-    input: &mut R,
-    output: &mut W,
-    errors: &mut E,
-) -> u8
-    ensures written { (result ≡ 2) ⊎ IfSome (R.remaining input.old)
-        (λ text. (out : List ℕ) × (said : List ℕ) × IsFiltered text out said result × Appends (W.contents output.old) (W.contents output.new) out
-        × (said ≡ [] → errors.new ≡ errors.old) × AreTold (E.contents errors.old) (E.contents errors.new) (said ∷ [])) }
-{
-    match filter(alloc, input, output) {
-        Ok(
-            Filtered {
-                status,
-                errors: said,
-            },
-        ) => {
-            tell_said(said.as_slice(), errors);
-            status
-        }
-        Err(fault) => tell_filter(alloc, why, &fault, errors),
-    }
-}
 
 /// Returns what is wrong with words that begin as those of a command do, or an empty text.
 fn misuse_of(words: &[Bytes]) -> &'static [u8] {

@@ -13,13 +13,12 @@
 //! call ends, and where a finding is.
 //!
 //! Read `calls`, which finds the argument and the call at a place, and `arguments`, which has what
-//! an argument may be. Then `shell` has what is said of shell text that is not read, and `parse`
-//! the faults.
+//! an argument may be. Then `parse` has the faults. What is said of shell text that is not read is in
+//! the crate `shellfaults`.
 #![tactic(auto)]
 
 mod arguments;
 mod calls;
 mod parse;
-mod shell;
 
 pub use parse::{parse_finding, too_long_finding};

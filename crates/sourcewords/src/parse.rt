@@ -7,7 +7,6 @@ use crate::arguments::{argument_words, macros};
 use crate::calls::{
     argument_count, before_close, first_argument, is_argument, last_name, open_call, unquoted,
 };
-use crate::shell::{Construct, shell_help, test_help, word_help};
 use acmacros::table::row_named;
 use acstatement::ParseFault;
 use bstr::ByteSlice;
@@ -15,6 +14,7 @@ use deftable::Bytes;
 use faultwords::Page;
 use findings::Finding;
 use m4quote::QuoteFault;
+use shellfaults::{Construct, shell_help, test_help, word_help};
 use shellword::ShellFault;
 use std::alloc::{AllocError, Global};
 use textpieces::{
@@ -52,7 +52,12 @@ impl<'a> Around<'a> {
 
 /// Writes what a construct of the shell is.
 fn put_construct(page: &mut Page, found: Construct) {
-    page.say(found.what);
+    let mut between = b"".as_slice();
+    for piece in found.what.split(|byte| *byte == b'%') {
+        page.say(between);
+        page.say(piece);
+        between = found.key;
+    }
     page.advise(found.help);
 }
 

@@ -1,0 +1,135 @@
+//! A precious variable that is not as it was in the run that made the cache.
+
+ghost use Rattle.std.specs.Prelude.{◌≡◌, ◌++◌, [], IfOk, codes, option_map, unwrap_or};
+ghost use Rattle.cachefile.specs.Cache.{vars_after};
+ghost use Rattle.deftable.specs.Table.{value_of};
+ghost use Rattle.options.specs.Precious.{old_value as value_then};
+
+use crate::page::numbered;
+use acparse::parse;
+use cachefile::{OldCache, read_cache};
+use deftable::Vars;
+use explaining::Why;
+use faultwords::{Words, precious_words};
+use options::{PreciousFault, Settings, read_args};
+use std::alloc::{AllocError, Global};
+use syntax::Source;
+
+/// Returns the name of a mark of a variable: `ac_cv_env_`, the variable, and an ending.
+fn mark_name(alloc: Global, name: &[u8], ending: &[u8]) -> Result<Vec<u8>, AllocError>
+    ensures { IfOk result (λ mark. mark.items ≡ codes "ac_cv_env_" ++ name.now ++ ending.now) }
+{
+    let mut mark = Vec::from_slice(alloc, b"ac_cv_env_")?;
+    mark.extend_from_slice(name)?;
+    mark.extend_from_slice(ending)?;
+    Ok(mark)
+}
+
+/// Returns the value that pouring the cache over the variables would leave in this one, or an empty text if it would be unset.
+fn poured<'a>(vars: &'a Vars, cache: &'a OldCache, name: &[u8]) -> &'a [u8]
+    ensures { result.now ≡ unwrap_or (value_of (vars_after cache.now vars.now) name.now) [] }
+{
+    match cache.would(vars, name) {
+        Some(value) => value,
+        None => b"",
+    }
+}
+
+/// Returns the value that a variable had in the run that made the cache, or `None` if it was unset. It is the value that a run
+/// compares with that of now.
+#[tactic(auto, unfolding(options::specs::Precious::old_value))]
+fn old_value<'a>(
+    alloc: Global,
+    vars: &'a Vars,
+    cache: &'a OldCache,
+    name: &[u8],
+) -> Result<Option<&'a [u8]>, AllocError>
+    ensures { IfOk result (λ old. option_map (λ v. v.now) old ≡ value_then (vars_after cache.now vars.now) name.now) }
+{
+    let set_name = mark_name(alloc, name, b"_set")?;
+    if poured(vars, cache, set_name.as_slice()) == b"".as_slice() {
+        return Ok(None);
+    }
+    let value_name = mark_name(alloc, name, b"_value")?;
+    Ok(Some(poured(vars, cache, value_name.as_slice())))
+}
+
+/// Returns the value that a variable has, or `None` if it is unset.
+fn value_now<'a>(vars: &'a Vars, name: &[u8]) -> Option<&'a [u8]>
+    ensures { option_map (λ v. v.now) result ≡ value_of vars.now name.now }
+{
+    let value = vars.get(name)?;
+    Some(value.as_slice())
+}
+
+/// Returns the name of the cache, or an empty text if none is named.
+fn cache_name(settings: &Settings) -> &[u8] {
+    match &settings.cache_name {
+        Some(name) => name.as_slice(),
+        None => b"",
+    }
+}
+
+/// Returns what is wrong with the variable of this name.
+fn of_name(
+    alloc: Global,
+    settings: &Settings,
+    cache: &OldCache,
+    name: &[u8],
+) -> Result<Words, AllocError> {
+    let old = old_value(alloc, &settings.vars, cache, name)?;
+    let now = value_now(&settings.vars, name);
+    precious_words(alloc, name, old, now, cache_name(settings))
+}
+
+/// Returns what is wrong with the variable of this name, by the text of the cache.
+fn of_cache(
+    alloc: Global,
+    settings: &Settings,
+    cache: &[u8],
+    name: &[u8],
+) -> Result<Words, AllocError> {
+    match read_cache(alloc, cache) {
+        Ok(cache) => of_name(alloc, settings, &cache, name),
+        Err(_) => Err(AllocError),
+    }
+}
+
+/// Returns the place of the variable among those of the source, which is 1 for the first.
+fn place_of(fault: PreciousFault) -> u64 {
+    match fault {
+        PreciousFault::WasSet(place)
+        | PreciousFault::WasUnset(place)
+        | PreciousFault::Changed(place) => place,
+        PreciousFault::OutOfMemory => 0,
+    }
+}
+
+/// Returns what is wrong with a variable of this source.
+fn of_source(
+    alloc: Global,
+    why: &Why<'_>,
+    source: &Source,
+    cache: &[u8],
+    fault: PreciousFault,
+) -> Result<Words, AllocError> {
+    let name = numbered(source.precious().names(), place_of(fault));
+    match read_args(alloc, source, why.args, why.env) {
+        Ok(settings) => of_cache(alloc, &settings, cache, name),
+        Err(_) => Err(AllocError),
+    }
+}
+
+/// Returns what is wrong with a precious variable, with the value that the cache holds and the one that is given. The cache is its
+/// text.
+pub(crate) fn of_precious(
+    alloc: Global,
+    why: &Why<'_>,
+    cache: &[u8],
+    fault: PreciousFault,
+) -> Result<Words, AllocError> {
+    match parse(alloc, why.text) {
+        Ok(source) => of_source(alloc, why, &source, cache, fault),
+        Err(_) => Err(AllocError),
+    }
+}

@@ -1,0 +1,8 @@
+use Rattle.filtering.specs.Filtered.{before, whole}
+use Rattle.filtering.proofs.whole.source_part.Goals as goal
+
+pub returns-in-Some : goal.returns-in-Some
+returns-in-Some c = before c.in-Some.ensures.some
+
+pub returns-in-None : goal.returns-in-None
+returns-in-None c = whole c.in-None.ensures.none

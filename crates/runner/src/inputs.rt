@@ -1,0 +1,119 @@
+//! The filter, over its input.
+
+ghost use Rattle.std.specs.Prelude.{◌≡◌, ◌⊎◌, List, ℕ, [], ◌∷◌, IfSome};
+ghost use Rattle.std.specs.Io.KnownBytes.{Appends};
+ghost use Rattle.filtering.specs.Filtered.{IsFiltered};
+ghost use Rattle.invocation.specs.Errors.{AreTold};
+
+use crate::telling::tell;
+use explaining::Why;
+use faultlines::{explain_source, explain_usage};
+use filtering::{FilterFault, Filtered, filter_text, source_part};
+use input::read_input;
+use invocation::{FAULT, tell_text};
+use std::alloc::Global;
+use std::io::{Read, Write};
+
+/// Returns what the faults of a source that was read from the input are explained by.
+fn why_of(is_asked: bool, text: &[u8]) -> Why<'_> {
+    Why {
+        is_asked,
+        srcdir: b"",
+        path: b"standard input",
+        text,
+        args: &[],
+        env: &[],
+    }
+}
+
+/// Says more of an error of the filter over this input, if it is asked.
+fn explain_filter<E: Write>(
+    alloc: Global,
+    is_asked: bool,
+    input: &[u8],
+    fault: &FilterFault,
+    errors: &mut E,
+) {
+    match fault {
+        FilterFault::Usage => explain_usage(alloc, is_asked, &[], errors),
+        FilterFault::Run(fault) => {
+            let why = why_of(is_asked, source_part(input));
+            explain_source(alloc, &why, errors, fault);
+        }
+        _ => {}
+    }
+}
+
+/// Reports an error of the filter over this input, and says more of it if it is asked. Returns the exit status.
+fn tell_filter<E: Write>(
+    alloc: Global,
+    is_asked: bool,
+    input: &[u8],
+    fault: &FilterFault,
+    errors: &mut E,
+) -> u8
+    ensures { result ≡ 2 }
+{
+    let _ = tell(errors, fault);
+    explain_filter(alloc, is_asked, input, fault, errors);
+    FAULT
+}
+
+/// Writes what the source says on standard error, as far as it takes it.
+#[tactic(auto, using(invocation::proofs::Fronts::told_blank))]
+fn tell_said<E: Write>(said: &[u8], errors: &mut E)
+    ensures silent { said.now ≡ [] → errors.new ≡ errors.old }
+    ensures told { AreTold (E.contents errors.old) (E.contents errors.new) (said.now ∷ []) }
+{
+    if said.is_empty() {
+        return;
+    }
+    tell_text(said, errors);
+}
+
+/// Filters an input that was read, and returns the exit status.
+fn filter_read<W: Write, E: Write>(
+    alloc: Global,
+    why: bool,
+    input: &[u8],
+    output: &mut W,
+    errors: &mut E,
+) -> u8
+    ensures { (result ≡ 2) ⊎ ((out : List ℕ) × (said : List ℕ) × IsFiltered input.now out said result
+        × Appends (W.contents output.old) (W.contents output.new) out
+        × (said ≡ [] → errors.new ≡ errors.old) × AreTold (E.contents errors.old) (E.contents errors.new) (said ∷ [])) }
+{
+    match filter_text(alloc, input, output) {
+        Ok(
+            Filtered {
+                status,
+                errors: said,
+            },
+        ) => {
+            tell_said(said.as_slice(), errors);
+            status
+        }
+        Err(fault) => tell_filter(alloc, why, input, &fault, errors),
+    }
+}
+
+/// Filters the input, and returns the exit status.
+pub(crate) fn run_filter<R: Read, W: Write, E: Write>(
+    alloc: Global,
+    why: bool,
+    input: &mut R,
+    output: &mut W,
+    errors: &mut E,
+) -> u8
+    ensures { (result ≡ 2) ⊎ IfSome (R.remaining input.old)
+        (λ text. (out : List ℕ) × (said : List ℕ) × IsFiltered text out said result × Appends (W.contents output.old) (W.contents output.new) out
+            × (said ≡ [] → errors.new ≡ errors.old) × AreTold (E.contents errors.old) (E.contents errors.new) (said ∷ [])) }
+{
+    match read_input(alloc, input) {
+        Ok(text) => filter_read(alloc, why, text.as_slice(), output, errors),
+        Err(fault) => {
+            let fault = FilterFault::from(fault);
+            tell_filter(alloc, why, b"", &fault, errors)
+        }
+    }
+}
