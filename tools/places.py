@@ -40,7 +40,7 @@ KINDS = [
     ("A fault of a command line", "`FatalUnrecognized`", r"FatalUnrecognized", "", (),
      [*CASES, "docs/formats.md"]),
     ("A fault of outputs made again", "`NoArguments`", r"NoArguments|explain_remake", "", (),
-     ["docs/formats.md", "docs/running.md"]),
+     [*CASES, "docs/formats.md", "docs/running.md"]),
     ("The words of a fault", "`CacheBody`", r"CacheBody|parse_finding", "",
      ("faultwords", "linting"), LINT),
     ("A warning of `lint`", "`warn_of_compiler`", r"warn_of_compiler", "", (),

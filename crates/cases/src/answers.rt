@@ -1,14 +1,18 @@
 //! What the engine makes of what a case gives, as text.
 
 use crate::calls::{can_resume, help_of, put_fault_line, read_source, run_filter, srcdir_in};
-use crate::given::{Given, arguments_of, lines_of, number_in, put_source_of};
+use crate::cuts::{put_each, put_one};
+use crate::given::{Given, arguments_of, lines_of, put_source_of};
 use crate::kinds::Kind;
+use crate::left::View;
 use crate::pages::{note_cut, put_error, put_fault, put_text};
+use crate::remakes::{put_rechecked, put_remade};
 use crate::runs::{put_new_lines, put_opening, put_run, put_variables};
 use crate::tree_words::{put_counts, put_lists, put_statements};
+use crate::whole::{put_second, put_viewed, put_ways};
 use acparse::{Source, Stmt};
 use runner::{FilterFault, Filtered};
-use testrows::{Page, cut};
+use testrows::{Page, cut, number_of};
 
 /// Returns the statements of a source, without AC_INIT and AC_OUTPUT if the case gives the lines between them.
 fn own_statements(source: &Source, is_lines: bool) -> &[Stmt] {
@@ -100,8 +104,8 @@ fn put_sources(page: &mut Page, given: &Given) {
     }
 }
 
-/// Puts what a run of the source does and leaves. If the case gives lines between AC_INIT and AC_OUTPUT, it puts no variable
-/// and no definition that these two leave by themselves.
+/// Puts what a run of the source does and leaves. If the case gives lines between AC_INIT and AC_OUTPUT, it puts no
+/// variable and no definition that these two leave by themselves.
 fn put_ran(page: &mut Page, kind: Kind, given: &Given) {
     let mut whole = Page::new(page.alloc());
     put_source(&mut whole, kind, given, given.source());
@@ -119,7 +123,7 @@ fn put_ran(page: &mut Page, kind: Kind, given: &Given) {
 /// Puts a line, and what AC_INIT and AC_OUTPUT leave by themselves.
 fn put_usual(page: &mut Page, given: &Given) {
     let mut source = Page::new(page.alloc());
-    put_source_of(&mut source, b"", false);
+    put_source_of(&mut source, &given.case, b"", false);
     note_cut(page, &source);
     put_source(page, Kind::RanWhole, given, source.text());
 }
@@ -150,7 +154,7 @@ fn put_filtered(page: &mut Page, given: &Given) {
     let mut input = Page::new(page.alloc());
     given.put_input(&mut input);
     note_cut(page, &input);
-    let piece = number_in(page, &given.case, b"piece");
+    let piece = number_of(given.case.words(b"piece"));
     let mut written = Vec::new(page.alloc());
     match run_filter(page.alloc(), input.text(), piece, &mut written) {
         Ok(answer) => put_filtered_text(page, &answer, written.as_slice()),
@@ -163,6 +167,19 @@ fn put_srcdir(page: &mut Page, given: &Given) {
     put_text(page, srcdir_in(arguments.as_slice()));
 }
 
+/// Puts what a whole run leaves and hands over, with a call refused if the case says so.
+fn put_configured(page: &mut Page, given: &Given) {
+    match given.case.section(b"refused call") {
+        Some(section) => put_one(page, given, section.words()),
+        None => put_seen(page, given, View::Told),
+    }
+}
+
+/// Puts what is to be seen of a whole run.
+fn put_seen(page: &mut Page, given: &Given, view: View) {
+    put_viewed(page, given, view);
+}
+
 /// Puts the answer of a kind.
 pub fn put_answer(page: &mut Page, kind: Kind, given: &Given) {
     match kind {
@@ -171,6 +188,14 @@ pub fn put_answer(page: &mut Page, kind: Kind, given: &Given) {
         Kind::Filtered => put_filtered(page, given),
         Kind::Srcdir => put_srcdir(page, given),
         Kind::Ran | Kind::Measured => put_ran(page, kind, given),
+        Kind::Configured => put_configured(page, given),
+        Kind::ConfiguredAgain => put_second(page, given),
+        Kind::LogText => put_seen(page, given, View::Log),
+        Kind::RecordText => put_seen(page, given, View::Record),
+        Kind::Windows => put_ways(page, given),
+        Kind::RefusedCalls => put_each(page, given),
+        Kind::Remade => put_remade(page, given),
+        Kind::Rechecked => put_rechecked(page, given),
         _ => put_source(page, kind, given, given.source()),
     }
 }

@@ -1,11 +1,9 @@
 //! What a case gives: a source, and what it is read or run with.
 
-use crate::casefile::Case;
 use crate::pages::note_cut;
-use crate::texts::number_of;
 use crew::{Order, Reply, SlotList};
 use deftable::Bytes;
-use testrows::{Page, cut};
+use testrows::{Case, EndOrder, Page, ReplyWord, Section, cut, end_order, number_of, reply_word};
 use textcut::{fields, parts};
 
 /// The mark in a source, for whose offset an answer has it too.
@@ -46,13 +44,25 @@ impl Given<'_> {
 }
 
 /// Puts the source of these lines: AC_INIT before them, AC_OUTPUT after them, and with a template its file.
-pub fn put_source_of(page: &mut Page, lines: &[u8], has_template: bool) {
-    page.put(b"AC_INIT([x],[1])\n");
+pub fn put_source_of(page: &mut Page, case: &Case<'_>, lines: &[u8], has_template: bool) {
+    match case.section(b"init") {
+        Some(section) => section.put(page),
+        None => page.put(b"AC_INIT([x],[1])"),
+    }
+    page.put(b"\n");
     if has_template {
         page.put(b"AC_CONFIG_FILES([f])\n");
     }
     page.put(lines);
     page.put(b"\nAC_OUTPUT\n");
+}
+
+/// Puts the source of the lines of a section.
+pub fn put_source_in(page: &mut Page, case: &Case<'_>, section: &Section<'_>, has_template: bool) {
+    let mut lines = Page::new(page.alloc());
+    section.put(&mut lines);
+    note_cut(page, &lines);
+    put_source_of(page, case, lines.text(), has_template);
 }
 
 /// Puts the source that a case gives: nothing if it gives none.
@@ -61,10 +71,7 @@ fn put_source(page: &mut Page, case: &Case<'_>, has_template: bool) {
         return section.put(page);
     }
     if let Some(section) = case.section(b"lines") {
-        let mut lines = Page::new(page.alloc());
-        section.put(&mut lines);
-        note_cut(page, &lines);
-        put_source_of(page, lines.text(), has_template);
+        put_source_in(page, case, &section, has_template);
     }
 }
 
@@ -77,7 +84,8 @@ fn put_written(page: &mut Page, case: &Case<'_>, has_template: bool) -> bool {
     case.section(b"input").is_some()
 }
 
-/// Puts a text without its first mark, and returns the offset of that. If there is no mark to be taken out, it is the whole.
+/// Puts a text without its first mark, and returns the offset of that. If there is no mark to be taken out, it is the
+/// whole.
 fn put_unmarked(page: &mut Page, text: &[u8], is_marked: bool) -> Option<usize> {
     let (before, after) = cut(text, &[MARK]);
     if !is_marked || before.len() == text.len() {
@@ -107,10 +115,10 @@ pub fn read_given<'a>(page: &mut Page, case: &Case<'a>, is_marked: bool) -> Give
     }
 }
 
-/// Returns the text of a section of the case: none if there is no such section.
-fn text_of(page: &mut Page, case: &Case<'_>, name: &[u8]) -> Page {
+/// Returns the text of a section: none if there is no such section.
+pub fn text_of(page: &mut Page, section: Option<Section<'_>>) -> Page {
     let mut text = Page::new(page.alloc());
-    if let Some(section) = case.section(name) {
+    if let Some(section) = section {
         section.put(&mut text);
     }
     note_cut(page, &text);
@@ -127,92 +135,108 @@ pub fn lines_of<'a>(page: &mut Page, text: &'a [u8]) -> Vec<&'a [u8]> {
         .unwrap_or(Vec::new(alloc))
 }
 
+/// Adds an item to a list.
+pub fn add<T: Drop>(page: &mut Page, list: &mut Vec<T>, item: T) {
+    if list.push(item).is_err() {
+        page.cut();
+    }
+}
+
 /// Returns the text: nothing if memory runs out.
-fn bytes_of(page: &mut Page, text: &[u8]) -> Bytes {
+pub fn bytes_of(page: &mut Page, text: &[u8]) -> Bytes {
     let alloc = page.alloc();
     page.given(Bytes::from_slice(alloc, text))
         .unwrap_or(Bytes::new(alloc))
 }
 
-/// Returns the arguments that a case gives.
-pub fn arguments_of(page: &mut Page, case: &Case<'_>) -> Vec<Bytes> {
-    let text = text_of(page, case, b"arguments");
-    let lines = lines_of(page, text.text());
-    let mut arguments = Vec::new(page.alloc());
-    for line in lines.as_slice() {
-        if arguments.push(bytes_of(page, line)).is_err() {
-            page.cut();
-        }
-    }
-    arguments
+/// Returns the lines of a section.
+pub fn texts_in(page: &mut Page, section: Option<Section<'_>>) -> Vec<Bytes> {
+    let text = text_of(page, section);
+    texts_of(page, text.text())
 }
 
-/// Returns the environment that a case gives.
-pub fn environment_of(page: &mut Page, case: &Case<'_>) -> Vec<(Bytes, Bytes)> {
-    let text = text_of(page, case, b"environment");
-    let lines = lines_of(page, text.text());
-    let mut environment = Vec::new(page.alloc());
+/// Returns the lines of a text: none of an empty one.
+pub fn texts_of(page: &mut Page, text: &[u8]) -> Vec<Bytes> {
+    let lines = lines_of(page, text);
+    let mut texts = Vec::new(page.alloc());
+    for line in lines.as_slice() {
+        let line = bytes_of(page, line);
+        add(page, &mut texts, line);
+    }
+    texts
+}
+
+/// Returns the arguments that a case gives.
+pub fn arguments_of(page: &mut Page, case: &Case<'_>) -> Vec<Bytes> {
+    texts_in(page, case.section(b"arguments"))
+}
+
+/// Returns the entries of an environment, each of which is a line `NAME=VALUE`.
+pub fn entries_of(page: &mut Page, text: &[u8]) -> Vec<(Bytes, Bytes)> {
+    let lines = lines_of(page, text);
+    let mut entries = Vec::new(page.alloc());
     for line in lines.as_slice() {
         let (name, value) = cut(line, b"=");
         let name = bytes_of(page, name);
         let value = bytes_of(page, value);
-        if environment.push((name, value)).is_err() {
-            page.cut();
+        add(page, &mut entries, (name, value));
+    }
+    entries
+}
+
+/// Returns the environment that a case gives.
+pub fn environment_of(page: &mut Page, case: &Case<'_>) -> Vec<(Bytes, Bytes)> {
+    let text = text_of(page, case.section(b"environment"));
+    entries_of(page, text.text())
+}
+
+/// Returns the reply of a word. If it is none, that is put.
+fn reply_of(page: &mut Page, word: &[u8]) -> Reply {
+    match reply_word(word) {
+        Some(ReplyWord::Answer { status, text }) => Reply::Answer {
+            status,
+            text: bytes_of(page, text),
+        },
+        Some(ReplyWord::StartRefused) => Reply::StartRefused,
+        Some(ReplyWord::EndRefused) => Reply::EndRefused,
+        None => {
+            page.put(b"no reply: ");
+            page.put(word);
+            Reply::EndRefused
         }
     }
-    environment
 }
 
-fn add_reply(page: &mut Page, replies: &mut Vec<Reply>, word: &[u8]) {
-    let reply = match word {
-        b"S" => Reply::StartRefused,
-        b"E" => Reply::EndRefused,
-        digits => Reply::Answer {
-            status: number_of(digits).min(256) as u32,
-            text: Bytes::new(page.alloc()),
-        },
-    };
-    if replies.push(reply).is_err() {
-        page.cut();
-    }
-}
-
-/// Returns the replies that a case gives.
-pub fn replies_of(page: &mut Page, case: &Case<'_>) -> Vec<Reply> {
+/// Returns the replies in a text, with blanks or newlines between them.
+pub fn replies_in(page: &mut Page, text: &[u8]) -> Vec<Reply> {
     let alloc = page.alloc();
-    let text = text_of(page, case, b"replies");
     let mut replies = Vec::new(alloc);
-    if let Some(words) = page.given(fields(alloc, text.text())) {
+    if let Some(words) = page.given(fields(alloc, text)) {
         for word in words.as_slice() {
-            add_reply(page, &mut replies, word);
+            let reply = reply_of(page, word);
+            add(page, &mut replies, reply);
         }
     }
     replies
 }
 
-/// Returns the number in a section of the case: 0 if there is no such section.
-pub fn number_in(page: &mut Page, case: &Case<'_>, name: &[u8]) -> usize {
-    let text = text_of(page, case, name);
-    number_of(text.text())
-}
-
-/// Returns the order in which children end: the oldest first if a case gives none.
-pub fn order_of(page: &mut Page, case: &Case<'_>) -> Order {
+/// Returns slots with blanks between them.
+fn slots_in(page: &mut Page, text: &[u8]) -> SlotList {
     let alloc = page.alloc();
-    let text = text_of(page, case, b"order");
-    if text.text() == b"youngest".as_slice() {
-        return Order::Youngest;
-    }
     let mut slots = Vec::new(alloc);
-    if let Some(words) = page.given(fields(alloc, text.text())) {
+    if let Some(words) = page.given(fields(alloc, text)) {
         for word in words.as_slice() {
-            if slots.push(number_of(word)).is_err() {
-                page.cut();
-            }
+            add(page, &mut slots, number_of(word));
         }
     }
-    if slots.is_empty() {
-        return Order::Oldest;
+    SlotList::from_vec(slots)
+}
+
+/// Returns the order of ends that a text is.
+pub fn order_in(page: &mut Page, text: &[u8]) -> Order {
+    match end_order(text) {
+        EndOrder::Oldest => Order::Oldest,
+        EndOrder::Youngest => Order::Youngest,
+        EndOrder::Slots(slots) => Order::Slots(slots_in(page, slots)),
     }
-    Order::Slots(SlotList::from_vec(slots))
 }

@@ -33,10 +33,26 @@ pub enum Kind {
     Conftests,
     /// The figures of a run, and what it leaves.
     Measured,
+    /// What a whole run leaves and hands over.
+    Configured,
+    /// The same of a second run with the cache of the first.
+    ConfiguredAgain,
+    /// The text of the log of a whole run.
+    LogText,
+    /// The text of the record that a whole run hands over.
+    RecordText,
+    /// Whether a whole run leaves the same at each window.
+    Windows,
+    /// Whether each call of the crew, if it is refused, leaves the same at each window.
+    RefusedCalls,
+    /// What is made again of a record.
+    Remade,
+    /// The arguments with which the run of a record is done again.
+    Rechecked,
 }
 
 /// The sections that are answers.
-const ANSWERS: [(&[u8], Kind); 14] = [
+const ANSWERS: [(&[u8], Kind); 22] = [
     (b"parsed", Kind::Parsed),
     (b"counted", Kind::Counted),
     (b"fronts", Kind::Fronts),
@@ -51,6 +67,14 @@ const ANSWERS: [(&[u8], Kind); 14] = [
     (b"logged", Kind::Logged),
     (b"conftests", Kind::Conftests),
     (b"measured", Kind::Measured),
+    (b"configured", Kind::Configured),
+    (b"configured again", Kind::ConfiguredAgain),
+    (b"config.log", Kind::LogText),
+    (b"config.status", Kind::RecordText),
+    (b"at each window", Kind::Windows),
+    (b"with each call refused", Kind::RefusedCalls),
+    (b"remade", Kind::Remade),
+    (b"rechecked", Kind::Rechecked),
 ];
 
 /// Returns the answer that a section of this name is.
@@ -66,6 +90,9 @@ pub fn kind_of(name: &[u8]) -> Option<Kind> {
 impl Kind {
     /// Returns whether newlines at the end of the answer count.
     pub fn is_exact(self) -> bool {
-        matches!(self, Kind::Filtered | Kind::Help)
+        matches!(
+            self,
+            Kind::Filtered | Kind::Help | Kind::LogText | Kind::RecordText
+        )
     }
 }

@@ -9,19 +9,23 @@
 #![tactic(auto)]
 
 mod answers;
+mod calling;
 mod calls;
-mod casefile;
+mod cuts;
 mod given;
 mod kinds;
+mod left;
 mod pages;
 mod pieces;
 mod plain_words;
 mod recorder;
+mod remakes;
 mod report;
 mod runs;
 mod shell_words;
-mod texts;
+mod steps;
 mod tree_words;
+mod whole;
 
 use report::{Report, check_file};
 use std::io::{self, Write};
@@ -31,7 +35,7 @@ use std::{env, fs};
 /// Checks the cases of the file of this name.
 fn check(rt: &HostRuntime, name: &str) -> io::Result<Report> {
     let text = fs::read(rt, name)?;
-    Ok(check_file(rt.alloc(), name.as_bytes(), text.as_slice())?)
+    Ok(check_file(rt, name.as_bytes(), text.as_slice())?)
 }
 
 fn main(rt: HostRuntime) -> io::Result<ExitCode> {

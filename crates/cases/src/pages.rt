@@ -87,3 +87,37 @@ pub fn has(texts: &[&[u8]], text: &[u8]) -> bool {
     }
     false
 }
+
+/// Returns the number of the first line in which two texts differ.
+fn differing_line(wanted: &[u8], found: &[u8]) -> usize {
+    let mut line: usize = 1;
+    for (one, other) in wanted.iter().zip(found.iter()) {
+        if *one != *other {
+            return line;
+        }
+        if *one == b'\n' {
+            line = line.saturating_add(1);
+        }
+    }
+    line
+}
+
+fn put_whole(page: &mut Page, word: &[u8], text: &[u8]) {
+    page.put(word);
+    page.put(text);
+    if !text.ends_with(b"\n") {
+        page.put(b"\n");
+    }
+}
+
+/// Puts in which line a section differs from what was found, and both texts.
+pub fn put_difference(page: &mut Page, name: &[u8], wanted: &[u8], found: &[u8]) {
+    if wanted == found {
+        return;
+    }
+    page.put(name);
+    page.put(b" differs at line ");
+    page.put_number(differing_line(wanted, found));
+    put_whole(page, b"\n--- wanted\n", wanted);
+    put_whole(page, b"--- found\n", found);
+}

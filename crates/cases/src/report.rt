@@ -1,12 +1,13 @@
 //! The check of a file of cases, and its report.
 
 use crate::answers::put_answer;
-use crate::casefile::{Case, Section, next_case, next_section, read_file};
+use crate::calling::NOTHING;
 use crate::given::{Given, MARK, read_given};
 use crate::kinds::{Kind, kind_of};
-use crate::pages::{has, note_cut};
-use std::alloc::{AllocError, Global};
-use testrows::Page;
+use crate::pages::{has, note_cut, put_difference};
+use crate::steps::put_file_case;
+use std::alloc::AllocError;
+use testrows::{Case, Page, Section, next_case, next_section, read_file};
 
 #[derive(Drop)]
 pub struct Report {
@@ -15,18 +16,32 @@ pub struct Report {
 }
 
 /// The sections that say what a case gives.
-const GIVEN: [&[u8]; 10] = [
+const GIVEN: [&[u8]; 19] = [
     b"source",
+    b"init",
     b"lines",
     b"template",
     b"input",
     b"piece",
     b"arguments",
     b"environment",
+    b"cache",
+    b"record",
+    b"tags",
     b"replies",
+    b"replies again",
     b"window",
     b"order",
+    b"shown",
+    b"refused put",
+    b"refused put again",
+    b"refused call",
 ];
+
+/// Returns whether a section says what a case gives.
+fn is_given(name: &[u8]) -> bool {
+    has(&GIVEN, name) || name.starts_with(b"template ")
+}
 
 /// Returns whether an answer of the case has a mark.
 fn is_marked(page: &mut Page, case: &Case<'_>) -> bool {
@@ -68,61 +83,29 @@ fn without_newlines(text: &[u8]) -> &[u8] {
     &text[..text.len().saturating_sub(count)]
 }
 
-fn are_same(kind: Kind, wanted: &[u8], found: &[u8]) -> bool {
-    if kind.is_exact() {
-        return wanted == found;
-    }
-    without_newlines(wanted) == without_newlines(found)
-}
-
-/// Puts a line about a case: the name of the file and of the case, and two words.
-fn put_line(page: &mut Page, file: &[u8], case: &Case<'_>, word: &[u8], what: &[u8]) {
-    page.put(file);
-    page.put(b": ");
-    page.put(case.name);
-    page.put(b": ");
-    page.put(word);
-    page.put(what);
-    page.put(b"\n");
-}
-
-fn put_block(page: &mut Page, word: &[u8], text: &[u8]) {
-    page.put(word);
-    page.put(text);
-    if !text.ends_with(b"\n") {
-        page.put(b"\n");
-    }
-}
-
-/// Returns whether an answer is what a section wants. If not, it puts both.
-fn check_answer(
-    page: &mut Page,
-    file: &[u8],
-    case: &Case<'_>,
-    given: &Given,
-    section: &Section<'_>,
-    kind: Kind,
-) -> bool {
+/// Puts what differs in an answer.
+fn put_answer_difference(page: &mut Page, given: &Given, section: &Section<'_>, kind: Kind) {
     let mut wanted = Page::new(page.alloc());
     put_wanted(&mut wanted, section, given.mark);
     let mut found = Page::new(page.alloc());
     put_answer(&mut found, kind, given);
     note_cut(page, &wanted);
     note_cut(page, &found);
-    let is_right = are_same(kind, wanted.text(), found.text());
-    if !is_right {
-        put_line(page, file, case, b"differs: ", section.name);
-        put_block(page, b"--- wanted\n", wanted.text());
-        put_block(page, b"--- found\n", found.text());
+    if kind.is_exact() {
+        return put_difference(page, section.name, wanted.text(), found.text());
     }
-    is_right
+    put_difference(
+        page,
+        section.name,
+        without_newlines(wanted.text()),
+        without_newlines(found.text()),
+    );
 }
 
-/// Returns whether a case is as it should be. If not, it puts what differs.
-fn check_case(page: &mut Page, file: &[u8], case: &Case<'_>) -> bool {
+/// Puts what differs in the answers of a case.
+fn put_answers(page: &mut Page, case: &Case<'_>) {
     let is_marked = is_marked(page, case);
     let given = read_given(page, case, is_marked);
-    let mut is_right = true;
     let mut has_answer = false;
     let mut rest = case.sections;
     for _ in 0..case.sections.len() {
@@ -131,17 +114,36 @@ fn check_case(page: &mut Page, file: &[u8], case: &Case<'_>) -> bool {
         };
         if let Some(kind) = kind_of(section.name) {
             has_answer = true;
-            is_right &= check_answer(page, file, case, &given, &section, kind);
-        } else if !has(&GIVEN, section.name) {
-            put_line(page, file, case, b"no such section: ", section.name);
-            is_right = false;
+            put_answer_difference(page, &given, &section, kind);
+        } else if !is_given(section.name) {
+            page.put(section.name);
+            page.put(b" is no section\n");
         }
         rest = later;
     }
     if !has_answer {
-        put_line(page, file, case, b"no answer is wanted", b"");
+        page.put(b"no answer is wanted\n");
     }
-    is_right && has_answer
+}
+
+/// Puts what differs in a case, and the name of its file and its own before that. Returns whether nothing does.
+fn check_case<'a>(page: &mut Page, rt: &'a HostRuntime, file: &[u8], case: &Case<'a>) -> bool {
+    let mut found = Page::new(page.alloc());
+    if case.own(b"run").is_some() || case.own(b"program").is_some() {
+        put_file_case(&mut found, rt, case, NOTHING);
+    } else {
+        put_answers(&mut found, case);
+    }
+    note_cut(page, &found);
+    if found.text().is_empty() {
+        return true;
+    }
+    page.put(file);
+    page.put(b": ");
+    page.put(case.name);
+    page.put(b": ");
+    page.put(found.text());
+    false
 }
 
 /// Puts the last line about a file.
@@ -158,7 +160,7 @@ fn put_summary(page: &mut Page, file: &[u8], count: usize, wrong: usize) {
 }
 
 /// Puts what differs in the cases of a file, how many cases there are and how many differ. Returns whether none does.
-fn check_cases(page: &mut Page, file: &[u8], text: &[u8]) -> bool {
+fn check_cases<'a>(page: &mut Page, rt: &'a HostRuntime, file: &[u8], text: &'a [u8]) -> bool {
     let (defaults, cases) = read_file(text);
     let mut rest = cases;
     let mut count: usize = 0;
@@ -168,7 +170,7 @@ fn check_cases(page: &mut Page, file: &[u8], text: &[u8]) -> bool {
             break;
         };
         count = count.saturating_add(1);
-        if !check_case(page, file, &case) {
+        if !check_case(page, rt, file, &case) {
             wrong = wrong.saturating_add(1);
         }
         rest = later;
@@ -178,13 +180,14 @@ fn check_cases(page: &mut Page, file: &[u8], text: &[u8]) -> bool {
 }
 
 /// Checks the cases of a file, and says how many there are and how many differ.
-pub fn check_file(alloc: Global, file: &[u8], text: &[u8]) -> Result<Report, AllocError> {
+pub fn check_file(rt: &HostRuntime, file: &[u8], text: &[u8]) -> Result<Report, AllocError> {
+    let alloc = rt.alloc();
     let mut whole = Page::new(alloc);
     whole.put(b"\n");
     whole.put(text);
     let mut page = Page::new(alloc);
     note_cut(&mut page, &whole);
-    let is_right = check_cases(&mut page, file, whole.text());
+    let is_right = check_cases(&mut page, rt, file, whole.text());
     if page.is_cut() {
         return Err(AllocError);
     }

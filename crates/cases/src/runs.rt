@@ -1,9 +1,7 @@
 //! What a run begins with, what it does, and what it leaves.
 
 use crate::calls::{Ran, read_settings, run_source};
-use crate::given::{
-    Given, arguments_of, environment_of, lines_of, number_in, order_of, replies_of,
-};
+use crate::given::{Given, arguments_of, environment_of, lines_of, order_in, replies_in, text_of};
 use crate::kinds::Kind;
 use crate::pages::{has, note_cut, put_bracketed, put_count, put_fault, put_text, put_value};
 use crate::recorder::put_command;
@@ -14,10 +12,10 @@ use deftable::{Defs, Note, Stream, Vars};
 use options::{OptionFault, Settings};
 use plan::PlanFault;
 use proberun::Outcome;
-use testrows::Page;
+use testrows::{Page, number_of};
 
 /// Puts each variable, a line each.
-fn put_vars(page: &mut Page, vars: &Vars) {
+pub fn put_vars(page: &mut Page, vars: &Vars) {
     for i in 0..vars.len() {
         let (name, value) = vars.at(i);
         put_value(page, name, value);
@@ -76,7 +74,7 @@ fn put_settings(page: &mut Page, settings: &Settings) {
 }
 
 /// Puts a piece that is printed, with its stream.
-fn put_note(page: &mut Page, note: &Note) {
+pub fn put_note(page: &mut Page, note: &Note) {
     let word = match note.stream {
         Stream::Out => b"output".as_slice(),
         Stream::Err => b"error".as_slice(),
@@ -142,23 +140,29 @@ fn put_outcome(page: &mut Page, outcome: Outcome) {
     page.put(b"\n");
 }
 
+/// Puts a definition.
+pub fn put_definition(page: &mut Page, name: &[u8], value: &[u8]) {
+    page.put(b"#define ");
+    put_text(page, name);
+    page.put(b" ");
+    put_text(page, value);
+    page.put(b"\n");
+}
+
 /// Puts the definitions, in order.
-fn put_definitions(page: &mut Page, defs: &Defs) {
+pub fn put_definitions(page: &mut Page, defs: &Defs) {
     for i in 0..defs.len() {
         let (name, value) = defs.at(i);
-        page.put(b"#define ");
-        put_text(page, name);
-        page.put(b" ");
-        put_text(page, value);
-        page.put(b"\n");
+        put_definition(page, name, value);
     }
 }
 
 /// Runs a source from these variables.
 fn ran(page: &mut Page, given: &Given, source: &Source, vars: Vars) -> Result<Ran, PlanFault> {
-    let replies = replies_of(page, &given.case);
-    let window = number_in(page, &given.case, b"window");
-    let order = order_of(page, &given.case);
+    let replies = text_of(page, given.case.section(b"replies"));
+    let replies = replies_in(page, replies.text());
+    let window = number_of(given.case.words(b"window"));
+    let order = order_in(page, given.case.words(b"order"));
     run_source(page.alloc(), source, vars, replies, order, window)
 }
 

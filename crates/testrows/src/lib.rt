@@ -1,17 +1,24 @@
-//! What the test crates share: a page that answers are written on, and tables of rows that are tried.
+//! What the test crates share: a page that answers are written on, tables of rows that are tried, the form of a file of
+//! cases (`casefile`, and `texts` for its escapes), and what a reply and an order of ends are (`replies`).
 //!
-//! A row is a line: a text, ` =>`, a blank, and what a call answers to the text. Nothing is after ` =>` if the answer is
-//! empty. An empty line is no row, nor is a line that begins with `// `. `^` and a letter are a control byte, as in `^J` for a
-//! newline.
+//! A row is a line: a text, ` =>`, a blank, and what a call answers to the text. Nothing is after ` =>` if the answer
+//! is empty. An empty line is no row, nor is a line that begins with `// `. `^` and a letter are a control byte, as in
+//! `^J` for a newline.
 //!
 //! Nothing here has a clause: what a test sees is compared when it runs. A call writes its answer on the page without
 //! errors, since each exit of a function makes its proof longer.
 #![tactic(auto)]
 
+pub mod casefile;
 pub mod directory;
 pub mod page;
+pub mod replies;
 pub mod table;
+pub mod texts;
 
+pub use casefile::{Case, Section, next_case, next_section, read_file};
 pub use directory::try_rows_in;
 pub use page::Page;
+pub use replies::{EndOrder, ReplyWord, end_order, reply_word};
 pub use table::{Call, Named, cut, try_rows};
+pub use texts::number_of;

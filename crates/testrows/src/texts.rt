@@ -1,7 +1,7 @@
 //! Texts in other forms than as they stand: with escapes, and with repetitions.
 
-use testrows::{Page, cut};
-use textcut::parts;
+use crate::page::Page;
+use crate::table::cut;
 
 /// Where in an escape a text is.
 #[derive(Clone, Copy)]
@@ -83,10 +83,7 @@ fn put_line(page: &mut Page, line: &[u8]) {
 /// Puts a text of lines `COUNT TEXT`, each so many times without a newline. Escapes are read, and `\#` is the number of the
 /// repetition, from 0000.
 pub fn put_repeated(page: &mut Page, text: &[u8]) {
-    let Some(lines) = page.given(parts(page.alloc(), text, b'\n')) else {
-        return;
-    };
-    for line in lines.as_slice() {
+    for line in text.split(|byte| *byte == b'\n') {
         put_line(page, line);
     }
 }

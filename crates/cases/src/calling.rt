@@ -3,7 +3,7 @@
 ghost use Rattle.std.specs.Prelude.{◌≡◌, ◌+◌, ◌^◌, ◌≤◌};
 ghost use Rattle.crew_trait.specs.Events.{IsIdle};
 
-use crate::given::{add_words, env_of, replies_of};
+use crate::given::{entries_of, replies_in};
 use causes::Causes;
 use crew::{Crew, MemoryCrew, Order, ProcessCrew};
 use deftable::Bytes;
@@ -18,12 +18,12 @@ use watching::Watched;
 
 /// What a command is given besides its words.
 #[derive(Clone, Copy)]
-pub struct Given<'a> {
+pub struct Around<'a> {
     /// An option for the number of children at once, or nothing.
     pub window: &'a [u8],
     /// The environment.
     pub env: &'a [u8],
-    /// Standard input.
+    /// Standard input, of a command that is not run as `main` runs it.
     pub input: &'a [u8],
     /// If true, the crew starts real children.
     pub has_children: bool,
@@ -33,10 +33,12 @@ pub struct Given<'a> {
     pub is_youngest_first: bool,
     /// If true, nothing can be written to standard output.
     pub is_full: bool,
+    /// If true, a command that is run as `main` runs it shows its progress.
+    pub is_watched: bool,
 }
 
 /// Given nothing.
-pub const NOTHING: Given<'static> = Given {
+pub const NOTHING: Around<'static> = Around {
     window: b"",
     env: b"",
     input: b"",
@@ -44,10 +46,11 @@ pub const NOTHING: Given<'static> = Given {
     replies: b"",
     is_youngest_first: false,
     is_full: false,
+    is_watched: false,
 };
 
-/// Returns the exit status of the program over a crew. It promises nothing, so that its callers don't see the long contract of the
-/// command.
+/// Returns the exit status of the program over a crew. It promises nothing, so that its callers don't see the long
+/// contract of the command.
 fn status_over<C: Crew + Causes, W: Write>(
     rt: &HostRuntime,
     words: &[Bytes],
@@ -95,8 +98,8 @@ fn command_over<C: Crew + Causes + Children>(
 }
 
 /// Returns the order in which children end.
-fn order_of(given: &Given<'_>) -> Order {
-    if given.is_youngest_first {
+fn order_of(around: &Around<'_>) -> Order {
+    if around.is_youngest_first {
         return Order::Youngest;
     }
     Order::Oldest
@@ -108,13 +111,13 @@ fn status_in_memory<W: Write>(
     rt: &HostRuntime,
     words: &[Bytes],
     env: &[(Bytes, Bytes)],
-    given: &Given<'_>,
+    around: &Around<'_>,
     output: &mut W,
     errors: &mut Vec<u8>,
 ) -> u8 {
-    let replies = replies_of(page, given.replies);
-    match &mut MemoryCrew::new(page.alloc(), replies, order_of(given)) {
-        Ok(crew) => status_over(rt, words, env, given.input, crew, output, errors),
+    let replies = replies_in(page, around.replies);
+    match &mut MemoryCrew::new(page.alloc(), replies, order_of(around)) {
+        Ok(crew) => status_over(rt, words, env, around.input, crew, output, errors),
         Err(_) => {
             page.cut();
             2
@@ -122,16 +125,22 @@ fn status_in_memory<W: Write>(
     }
 }
 
-/// Puts the status of the whole program with these words, over a crew in memory, with commas
-/// between them. What it prints goes to the streams of the test.
-pub fn put_command(page: &mut Page, rt: &HostRuntime, given: &Given<'_>, text: &[u8]) {
-    let words = words_of(page, given, text);
-    let env = env_of(page, given.env);
-    let replies = replies_of(page, given.replies);
-    match MemoryCrew::new(page.alloc(), replies, order_of(given)) {
+/// Puts the status of the whole program with these words, over a crew in memory, and its progress on a page of its own. What it prints
+/// goes to the streams of the process.
+pub fn put_command(
+    page: &mut Page,
+    progress: &mut Page,
+    rt: &HostRuntime,
+    around: &Around<'_>,
+    words: &[Bytes],
+) {
+    let env = entries_of(page, around.env);
+    let replies = replies_in(page, around.replies);
+    match MemoryCrew::new(page.alloc(), replies, order_of(around)) {
         Ok(crew) => {
-            let mut crew = Watched::new(crew, Vec::new(page.alloc()), false);
-            page.put_shown(&command_over(rt, words.as_slice(), env.as_slice(), &mut crew))
+            let mut crew = Watched::new(crew, Vec::new(page.alloc()), around.is_watched);
+            page.put_shown(&command_over(rt, words, env.as_slice(), &mut crew));
+            progress.put(crew.stream().as_slice());
         }
         Err(_) => page.cut(),
     }
@@ -160,15 +169,15 @@ fn status_of<W: Write>(
     page: &mut Page,
     rt: &HostRuntime,
     words: &[Bytes],
-    given: &Given<'_>,
+    around: &Around<'_>,
     output: &mut W,
     errors: &mut Vec<u8>,
 ) -> u8 {
-    let env = env_of(page, given.env);
-    if given.has_children {
-        return status_of_children(rt, words, env.as_slice(), given.input, output, errors);
+    let env = entries_of(page, around.env);
+    if around.has_children {
+        return status_of_children(rt, words, env.as_slice(), around.input, output, errors);
     }
-    status_in_memory(page, rt, words, env.as_slice(), given, output, errors)
+    status_in_memory(page, rt, words, env.as_slice(), around, output, errors)
 }
 
 /// Returns the exit status of the program with standard output on a full device.
@@ -176,11 +185,11 @@ fn status_on_full(
     page: &mut Page,
     rt: &HostRuntime,
     words: &[Bytes],
-    given: &Given<'_>,
+    around: &Around<'_>,
     errors: &mut Vec<u8>,
 ) -> u8 {
     match &mut File::create(rt, "/dev/full") {
-        Ok(output) => status_of(page, rt, words, given, output, errors),
+        Ok(output) => status_of(page, rt, words, around, output, errors),
         Err(_) => {
             page.put(b"no full device ");
             2
@@ -188,46 +197,19 @@ fn status_on_full(
     }
 }
 
-/// Returns the words of a command. If a number of children at once is given, it comes before `configure`.
-fn words_of(page: &mut Page, given: &Given<'_>, text: &[u8]) -> Vec<Bytes> {
-    let mut words = Vec::new(page.alloc());
-    if text.starts_with(b"configure") {
-        add_words(page, &mut words, given.window);
-    }
-    add_words(page, &mut words, text);
-    words
-}
-
-/// Puts a text with a tilde for each caret, since a row has a caret for control bytes alone.
-fn put_marked(page: &mut Page, text: &[u8]) {
-    for byte in text {
-        page.put_byte(if *byte == b'^' { b'~' } else { *byte });
-    }
-}
-
-/// Puts a status, and both streams in brackets, without one on which nothing is written.
-fn put_end(page: &mut Page, status: u8, output: &[u8], errors: &[u8]) {
-    page.put_shown(&status);
-    if !output.is_empty() {
-        page.put(b" ");
-        page.put_text(output);
-    }
-    if !errors.is_empty() {
-        page.put(b" err[");
-        put_marked(page, errors);
-        page.put(b"]");
-    }
-}
-
-/// Puts what the program does with these words, with commas between them.
-pub fn put_run(page: &mut Page, rt: &HostRuntime, given: &Given<'_>, text: &[u8]) {
-    let words = words_of(page, given, text);
-    let mut output = Vec::new(page.alloc());
-    let mut errors = Vec::new(page.alloc());
-    let status = if given.is_full {
-        status_on_full(page, rt, words.as_slice(), given, &mut errors)
+/// Puts the exit status of the program with these words, and what it writes to the streams.
+pub fn put_status(
+    page: &mut Page,
+    rt: &HostRuntime,
+    around: &Around<'_>,
+    words: &[Bytes],
+    output: &mut Vec<u8>,
+    errors: &mut Vec<u8>,
+) {
+    let status = if around.is_full {
+        status_on_full(page, rt, words, around, errors)
     } else {
-        status_of(page, rt, words.as_slice(), given, &mut output, &mut errors)
+        status_of(page, rt, words, around, output, errors)
     };
-    put_end(page, status, output.as_slice(), errors.as_slice());
+    page.put_shown(&status);
 }

@@ -1,11 +1,12 @@
-//! The form of a file of cases.
+//! The form of a file of cases, which `crates/cases/data/README` describes.
 //!
-//! A line `=== NAME` begins a case, a line `--- NAME` a section of it. The newline before such a line is no part of the
-//! text before it, nor is the file's last one. Sections before the first case hold for each case that has none of the same
-//! name. Lines before the first of both are comments.
+//! A line `=== NAME` begins a case, a line `--- NAME` a section of it. The newline before such a line is no part of
+//! the text before it, nor is the file's last one. Sections before the first case hold for each case that has none of
+//! the same name. Lines before the first of both are comments.
 
+use crate::page::Page;
+use crate::table::cut;
 use crate::texts::{put_repeated, put_unescaped};
-use testrows::{Page, cut};
 
 /// How the text of a section is written.
 #[derive(Clone, Copy)]
@@ -70,7 +71,7 @@ fn find_section<'a>(sections: &'a [u8], name: &[u8]) -> Option<Section<'a>> {
     None
 }
 
-impl Section<'_> {
+impl<'a> Section<'a> {
     /// Puts the text that is meant.
     pub fn put(&self, page: &mut Page) {
         match self.form {
@@ -79,19 +80,32 @@ impl Section<'_> {
             Form::Repeated => put_repeated(page, self.text),
         }
     }
+
+    /// Returns the text as it is written.
+    pub fn words(&self) -> &'a [u8] {
+        self.text
+    }
 }
 
-impl Case<'_> {
+impl<'a> Case<'a> {
     /// Returns the section of the case itself that has this name.
-    pub fn own(&self, name: &[u8]) -> Option<Section<'_>> {
+    pub fn own(&self, name: &[u8]) -> Option<Section<'a>> {
         find_section(self.sections, name)
     }
 
     /// Returns the section of this name, of the case or for each case.
-    pub fn section(&self, name: &[u8]) -> Option<Section<'_>> {
+    pub fn section(&self, name: &[u8]) -> Option<Section<'a>> {
         match self.own(name) {
             Some(section) => Some(section),
             None => find_section(self.defaults, name),
+        }
+    }
+
+    /// Returns the text of the section of this name as it is written: nothing if there is none.
+    pub fn words(&self, name: &[u8]) -> &'a [u8] {
+        match self.section(name) {
+            Some(section) => section.text,
+            None => b"",
         }
     }
 }
