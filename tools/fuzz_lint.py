@@ -99,7 +99,8 @@ def judge(program, text, folder):
     return None, lint.returncode
 
 
-def main():
+def main(judge):
+    """Judges mutated sources as the command line says. `judge` returns what is wrong with the runs on a source, and an exit status."""
     words = argparse.ArgumentParser()
     words.add_argument("program")
     for name in ("--from", "--count", "--seconds", "--replay"):
@@ -125,4 +126,5 @@ def main():
     sys.exit(1 if wrong else 0)
 
 
-main()
+if __name__ == "__main__":
+    main(judge)

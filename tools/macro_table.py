@@ -1,5 +1,5 @@
 #!/usr/bin/env python3
-"""Writes what is made of crates/macrotable/macros.txt: the text of the crate, the list of exact idioms in `porting`, and a part of
+"""Writes what is made of crates/macrotable/macros.txt: the text of the crate, the list of exact idioms in `exactidioms`, and a part of
 docs/guide.md.
   macro_table.py           writes all three
   macro_table.py --check   prints a line for each that is not what it would write, and ends with 1 if there is one
@@ -27,7 +27,7 @@ import sys
 ROOT = pathlib.Path(__file__).resolve().parent.parent
 DATA = ROOT / "crates/macrotable/macros.txt"
 TEXT = ROOT / "crates/macrotable/src/text.rt"
-EXACT = ROOT / "crates/porting/src/table.rt"
+EXACT = ROOT / "crates/exactidioms/src/table.rt"
 GUIDE = ROOT / "docs/guide.md"
 PROFILE = ROOT / "crates/acmacros/src/table.rt"
 BEGIN = "## Macros that are not read\n"
@@ -214,7 +214,7 @@ def exact():
 
 
 def text_of_exact():
-    """Returns the file of `porting`: a line for each such name."""
+    """Returns the file of `exactidioms`: a line for each such name."""
     rows = "".join(f"{name} {least} {most}\n" for name, least, most in exact())
     return (
         "//! The macros that have an exact idiom. `tools/macro_table.py` writes this file from `macros.txt` of `macrotable`.\n\n"

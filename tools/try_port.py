@@ -61,10 +61,20 @@ def in_autoconf(file, text):
         yield f"in Autoconf {sorted(lost)[:8]} is lost, and {sorted(new)[:8]} is new"
 
 
-def wrong(program, file):
-    """Yields what is wrong with the output of a source."""
-    text = file.read_bytes()
-    made = run([program, "port", "-"], text)
+def seen(text):
+    """Returns a text as the JSON of lint has it."""
+    return text.decode(errors="replace")
+
+
+def is_said(error, above):
+    """Returns whether the lines above an error say it, with its brackets or without those."""
+    words = seen(FRONT) + error["message"]
+    plain = seen(FRONT) + error["message"].replace("[", "").replace("]", "")
+    return words in above or plain in above
+
+
+def wrong(program, text, made):
+    """Yields what is wrong with a run of port on a text."""
     if made.returncode == 2:
         if made.stdout or not made.stderr:
             yield "a status of 2 has a line on standard error alone"
@@ -77,15 +87,14 @@ def wrong(program, file):
     lines = out.split(b"\n")
     if made.returncode != int(bool(found)):
         yield f"status {made.returncode} and {len(found)} errors"
+    if made.returncode == 0 and not errors(program, text) and out != text:
+        yield "a source without errors does not stay as it is"
     for error in found:
-        above = b"\n".join(lines[:error["line"]])
-        if FRONT + error["message"].encode() not in above:
+        if not is_said(error, seen(b"\n".join(lines[:error["line"]]))):
             yield f"line {error['line']} has no comment: {error['message']}"
     again = run([program, "port", "-"], out)
     if again.stdout != out or again.returncode != made.returncode:
         yield "port of the output is not the output"
-    if shutil.which("autoconf"):
-        yield from in_autoconf(file, out)
 
 
 def main(words):
@@ -94,15 +103,17 @@ def main(words):
     failed = 0
     files = [pathlib.Path(word) for word in words[1 + is_told:]]
     for file in files:
-        found = list(wrong(program, file))
+        text = file.read_bytes()
+        made = run([program, "port", "-"], text)
+        found = list(wrong(program, text, made))
+        if made.returncode != 2 and shutil.which("autoconf"):
+            found += in_autoconf(file, made.stdout)
         failed += bool(found)
         for line in found:
             print(f"{file}: {line}")
         if is_told:
-            text = file.read_bytes()
-            out = run([program, "port", "-"], text).stdout
-            before, after = len(errors(program, text)), len(errors(program, out))
-            print(f"{file}: {before} errors before, {after} after, {out.count(FRONT)} lines of comment")
+            before, after = len(errors(program, text)), len(errors(program, made.stdout))
+            print(f"{file}: {before} errors before, {after} after, {made.stdout.count(FRONT)} lines of comment")
     print(f"{len(files) - failed} passed, {failed} failed")
     return int(failed > 0)
 

@@ -1,7 +1,9 @@
-# Moves a package of Debian over to acrun: configures what the patch makes of it with acrun, and beside it the original and the patched
-# sources with Autoconf. All three have to agree, but for what is named. Then it builds the package with acrun's files and runs its tests.
-# NAME/run.sh sets the variables below, and reads this file:
-#   url, sum     where the archive is, and its SHA-256
+# Moves a package of Debian over to acrun: `acrun port` rewrites its configure.ac, and the patch does what is left to do there and in the
+# templates. The result is configured with acrun, and beside it the original and the result with Autoconf. All three have to agree, but for
+# what is named. Then it builds the package with acrun's files and runs its tests.
+#   port.sh PROGRAM NAME
+# NAME/settings sets the variables below:
+#   archive, sum where the archive is in Debian's pool, and its SHA-256
 #   prepare      commands that make configure.ac and the templates of what the archive has, if they aren't there
 #   autoconf     commands that make the package's own script, `autoconf` if there are none
 #   header       the config header, if there is one
@@ -15,14 +17,16 @@
 # If ROWS is set in the environment, it prints the package's row of docs/guide.md too.
 set -u
 acrun=$(realpath "$1") || exit 2
-here=$(realpath "$(dirname "$0")") || exit 2
-name=$(basename "$here")
+here=$(realpath "$(dirname "$0")/$2") || exit 2
+name=$2
 work=$(mktemp -d) || exit 2
 trap 'rm -rf "$work"' EXIT
 mkdir "$work/bin" "$work/ours" "$work/theirs" && ln -s "$acrun" "$work/bin/acrun" || exit 2
 PATH=$work/bin:$PATH:/usr/sbin:/sbin
 unset CC CFLAGS CPPFLAGS LDFLAGS LIBS CONFIG_SITE MAKEFLAGS MFLAGS MAKELEVEL
 status=0
+. "$here/settings"
+url=http://deb.debian.org/debian/pool/main/$archive
 
 skip() {
     echo "$name: $1"
@@ -73,13 +77,12 @@ seconds() {
 
 # Prints the package's row of the table: it configures copies of the sources, made before they were configured.
 row() {
-    by_hand=$(grep -c '^[-+]' "$here/patch")
-    headers=$(grep -c -E '^(---|\+\+\+) ' "$here/patch")
+    by_hand=$(grep '^[-+]' "$here/patch" | grep -c -v -E '^(---|\+\+\+|-dnl acrun:) ')
     one=$(seconds "$work/one" acrun -j1 configure)
     four=$(seconds "$work/four" acrun -j4 configure -C)
     cached=$(seconds "$work/four" acrun -j4 configure -C)
     autoconf=$(seconds "$work/autoconf" ./configure)
-    echo "| $name | $lines | $((by_hand - headers)) | $checks | $one | $four | $cached | $autoconf |"
+    echo "| $name | $lines | $by_port | $by_hand | $checks | $one | $four | $cached | $autoconf |"
 }
 
 autoconf --version 2> /dev/null | grep -q '^autoconf .* 2\.71$' || skip 'there is no Autoconf 2.71'
@@ -95,6 +98,9 @@ cd "$work/theirs" && eval "${autoconf-autoconf}" > autoconf.out 2>&1 || { wrong 
 
 cd "$work/ours" || exit 2
 lines=$(wc -l < configure.ac)
+mv configure.ac "$work/original" && acrun port "$work/original" > configure.ac
+[ $? -le 1 ] || wrong 'port fails'
+by_port=$(grep -v '^dnl acrun: ' configure.ac | diff "$work/original" - | grep -c '^[<>]')
 patch -p1 -s < "$here/patch" || { wrong 'the patch does not apply'; exit 1; }
 [ -z "${ROWS-}" ] || { cp -R . "$work/one" && cp -R . "$work/four"; }
 cp -R . "$work/both"

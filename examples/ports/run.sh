@@ -9,7 +9,7 @@ shift
 [ $# -gt 0 ] || set -- units pwgen less pv liblockfile dtach hexedit
 status=0
 for name; do
-    sh "$here/$name/run.sh" "$program"
+    sh "$here/port.sh" "$program" "$name"
     ended=$?
     case $ended in
     0) ;;

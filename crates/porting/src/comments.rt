@@ -1,19 +1,27 @@
 //! Lines of comment at errors.
 
-ghost use Rattle.std.specs.Prelude.{◌≡◌, ◌⊎◌, ◌≤◌, ◌++◌, true, map, length, slice_range, IfOk, OnOk, IsTrue};
+ghost use Rattle.std.specs.Prelude.{◌≡◌, ◌≤◌, ◌++◌, true, map, length, slice_range, IfOk, OnOk, IsTrue};
 ghost use Rattle.std.specs.List.{flat_map};
 ghost use Rattle.porting.specs.Ported as specs;
 
-use crate::above::comment_line;
-use crate::around::{from, line_start};
-use bstr::ByteSlice;
-use findings::{Finding, put_in_order};
-use sourcecalls::{CallAt, calls_of};
+use crate::lines::{FRONT, Line, comment_line, lines_of};
+use findings::Finding;
+use sourcecalls::calls_of;
 use std::alloc::{AllocError, Global};
+use std::collections::BTreeSet;
 use textcut::parts;
+use textpieces::{first_line, from};
 
-/// What a line of comment begins with.
-const FRONT: &[u8] = b"dnl acrun: ";
+/// Lines of comment, each after the offset of the line that it is above.
+type Said = BTreeSet<Vec<u8>>;
+
+/// What is said above a line.
+#[derive(Drop)]
+struct Note {
+    /// The offset of the line.
+    line: usize,
+    words: Vec<u8>,
+}
 
 /// Returns whether the brackets of a text are closed in it.
 fn is_closed(text: &[u8]) -> bool {
@@ -98,38 +106,60 @@ fn comment_of(alloc: Global, words: &[u8]) -> Result<Vec<u8>, AllocError>
     Ok(out)
 }
 
-/// Returns the lines of comment that a text ends with.
-fn last_comments(text: &[u8]) -> &[u8] {
-    let mut start = text.len();
-    for _ in 0..text.len() {
-        let line = line_start(text, start.saturating_sub(1));
-        if start == 0 || !from(text, line).starts_with(FRONT) {
-            break;
-        }
-        start = line;
-    }
-    from(text, start)
+/// Adds a line of comment above the line at an offset. Returns whether it is new.
+fn add_line(alloc: Global, line: usize, words: &[u8], said: &mut Said) -> Result<bool, AllocError> {
+    let mut key = Vec::from_slice(alloc, &line.to_le_bytes())?;
+    key.extend_from_slice(words)?;
+    let is_new = said.insert(key)?;
+    Ok(is_new)
 }
 
-/// Returns the offset after the lines of comment that begin at the offset.
-fn below_comments(text: &[u8], at: usize) -> usize {
-    let mut at = at;
-    for _ in 0..text.len() {
-        let rest = from(text, at);
-        if !rest.starts_with(FRONT) {
-            break;
+/// Returns the lines of comment that are there.
+fn said_in(alloc: Global, text: &[u8], lines: &[Line]) -> Result<Said, AllocError> {
+    let mut said = BTreeSet::new(alloc);
+    for line in lines {
+        let rest = from(text, line.start);
+        if rest.starts_with(FRONT) {
+            add_line(
+                alloc,
+                line.below,
+                first_line(from(rest, FRONT.len())),
+                &mut said,
+            )?;
         }
-        let len = rest.iter().take_while(|byte| **byte != b'\n').count();
-        at = at.saturating_add(len).saturating_add(1).min(text.len());
     }
-    at
+    Ok(said)
 }
 
-/// Puts each error at the line above which its comment can be.
-fn to_lines(text: &[u8], calls: &[CallAt], errors: &mut Vec<Finding>) {
+/// Adds the lines of comment of a note. Returns whether one is new.
+fn add_note(alloc: Global, note: &Note, said: &mut Said) -> Result<bool, AllocError> {
+    let mut is_new = false;
+    for words in &parts(alloc, note.words.as_slice(), b'\n')? {
+        is_new |= add_line(alloc, note.line, words, said)?;
+    }
+    Ok(is_new)
+}
+
+/// Returns what is said of errors, in order of the lines that it is said above, but for what is there.
+fn notes_of(
+    alloc: Global,
+    text: &[u8],
+    lines: &[Line],
+    errors: &[Finding],
+) -> Result<Vec<Note>, AllocError> {
+    let mut said = said_in(alloc, text, lines)?;
+    let mut out = Vec::new(alloc);
     for error in errors {
-        error.start = below_comments(text, comment_line(text, calls, error.start));
+        let note = Note {
+            line: comment_line(lines, error.start),
+            words: words_of(alloc, error)?,
+        };
+        if add_note(alloc, &note, &mut said)? {
+            out.push(note)?;
+        }
     }
+    out.sort_by_key(|note| note.line)?;
+    Ok(out)
 }
 
 /// Returns whether a line of the text begins at the offset.
@@ -158,48 +188,34 @@ fn copy_to(text: &[u8], at: usize, copy: &mut Copy) -> Result<(), AllocError>
     Ok(())
 }
 
-/// Writes a comment, unless it is there.
+/// Writes a comment.
 fn put_words(alloc: Global, words: &[u8], out: &mut Vec<u8>) -> Result<(), AllocError>
-    ensures { OnOk result ((out.new.items ≡ out.old.items) ⊎ (out.new.items ≡ out.old.items ++ specs.comment words.now)) }
+    ensures { OnOk result (out.new.items ≡ out.old.items ++ specs.comment words.now) }
 {
     let lines = comment_of(alloc, words)?;
-    if last_comments(out.as_slice()).contains_str(lines.as_slice()) {
-        return Ok(());
-    }
     out.extend_from_slice(lines.as_slice())
 }
 
-/// Copies what is before the line of an error, and writes its comment, unless that is there.
-fn put_comment(
-    alloc: Global,
-    text: &[u8],
-    error: &Finding,
-    copy: &mut Copy,
-) -> Result<(), AllocError>
+/// Copies what is before the line of a note, and writes the note, if a line begins there.
+fn put_note(alloc: Global, text: &[u8], note: &Note, copy: &mut Copy) -> Result<(), AllocError>
     requires begun { specs.IsCommented text.now copy.old.at copy.old.out.items }
     ensures { OnOk result (specs.IsCommented text.now copy.new.at copy.new.out.items) }
 {
-    let line = error.start;
+    let line = note.line;
     if line < copy.at || text.len() < line || !is_line_start(text, line) {
         return Ok(());
     }
-    let words = words_of(alloc, error)?;
     copy_to(text, line, copy)?;
-    put_words(alloc, words.as_slice(), &mut copy.out)
+    put_words(alloc, note.words.as_slice(), &mut copy.out)
 }
 
-/// Copies the text up to the last error, with a comment at each error.
-fn put_comments(
-    alloc: Global,
-    text: &[u8],
-    errors: &[Finding],
-    copy: &mut Copy,
-) -> Result<(), AllocError>
+/// Copies the text up to the last note, with each note.
+fn put_notes(alloc: Global, text: &[u8], notes: &[Note], copy: &mut Copy) -> Result<(), AllocError>
     requires begun { specs.IsCommented text.now copy.old.at copy.old.out.items }
     ensures { OnOk result (specs.IsCommented text.now copy.new.at copy.new.out.items) }
 {
-    for error in errors {
-        put_comment(alloc, text, error, copy)?;
+    for note in notes {
+        put_note(alloc, text, note, copy)?;
     }
     Ok(())
 }
@@ -212,30 +228,29 @@ fn finish(text: &[u8], copy: &mut Copy) -> Result<(), AllocError>
     copy_to(text, text.len(), copy)
 }
 
-/// Returns the text with a comment at each error, which is at the line above which the comment can be.
-fn with_comments(alloc: Global, text: &[u8], errors: &[Finding]) -> Result<Vec<u8>, AllocError>
+/// Returns the text with the notes.
+fn with_notes(alloc: Global, text: &[u8], notes: &[Note]) -> Result<Vec<u8>, AllocError>
     ensures { IfOk result (λ v. specs.IsCommented text.now (length text.now) v.items) }
 {
     let mut copy = Copy {
         out: Vec::new(alloc),
         at: 0,
     };
-    put_comments(alloc, text, errors, &mut copy)?;
+    put_notes(alloc, text, notes, &mut copy)?;
     finish(text, &mut copy)?;
     Ok(copy.out)
 }
 
-/// Returns the text with a comment at each error.
+/// Returns the text with a comment at each error. The errors are in order of their places.
 pub(crate) fn commented(
     alloc: Global,
     text: &[u8],
-    errors: Vec<Finding>,
+    errors: &[Finding],
 ) -> Result<Vec<u8>, AllocError>
     ensures { IfOk result (λ v. specs.IsCommented text.now (length text.now) v.items) }
 {
     let calls = calls_of(alloc, text)?;
-    let mut errors = errors;
-    to_lines(text, calls.as_slice(), &mut errors);
-    put_in_order(&mut errors)?;
-    with_comments(alloc, text, errors.as_slice())
+    let lines = lines_of(alloc, text, calls.as_slice())?;
+    let notes = notes_of(alloc, text, lines.as_slice(), errors)?;
+    with_notes(alloc, text, notes.as_slice())
 }

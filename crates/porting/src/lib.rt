@@ -8,22 +8,13 @@
 //! AM_INIT_AUTOMAKE             // has a line above it: dnl acrun: acrun does not know the macro AM_INIT_AUTOMAKE; ..
 //! ```
 //!
-//! Read `specs/Ported`, which says what is copied. In `src`, read `exact` (which macros have an exact idiom, and with how many
-//! arguments), `filling` (the idiom with the arguments), `around` (what is before and after a call), `replacing` (one pass over the
-//! calls), `masking` and `faults` (each statement with an error), `above` (where a comment can be), `comments`, and then `whole`.
-//! A call fails only if memory runs out. "own" marks a rule that no manual gives.
+//! Read `specs/Ported`, which says what is copied. `replacing` replaces the calls, and `sourcefaults` finds each statement with an error.
+//! In `src`, read `lines` (above which line a comment can be), `comments`, and then `whole`. A call fails only if memory runs out.
+//! "own" marks a rule that no manual gives.
 #![tactic(auto)]
 
-mod above;
-mod around;
 mod comments;
-mod exact;
-mod faults;
-mod filling;
-mod masking;
-mod names;
-mod replacing;
-mod table;
+mod lines;
 mod whole;
 
 pub use whole::{Ported, port};

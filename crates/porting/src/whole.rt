@@ -5,12 +5,12 @@ ghost use Rattle.linting.specs.Errors.{IsAccepted};
 ghost use Rattle.porting.specs.Ported as specs;
 
 use crate::comments::commented;
-use crate::faults::all_errors;
-use crate::replacing::replaced_once;
 use deftable::Bytes;
 use findings::Finding;
 use linting::errors_of;
 use m4quote::{QuoteFault, read_items};
+use replacing::replaced;
+use sourcefaults::all_errors;
 use std::alloc::{AllocError, Global};
 
 /// A source that was rewritten.
@@ -20,23 +20,6 @@ pub struct Ported {
     pub text: Bytes,
     /// Whether something has to be done by hand: a line of comment is at each such place.
     pub has_comments: bool,
-}
-
-/// How often the calls are gone over at most. Each time finds those in the arguments of calls that were replaced.
-const PASSES: usize = 70;
-
-/// Returns the text with each call replaced that has to go and has an exact idiom, also in the arguments of such calls.
-fn replaced(alloc: Global, text: &[u8]) -> Result<Vec<u8>, AllocError>
-    ensures { IfOk result (λ v. specs.IsRewritten text.now v.items) }
-{
-    let mut out = Vec::from_slice(alloc, text)?;
-    for _ in 0..PASSES {
-        match replaced_once(alloc, out.as_slice())? {
-            Some(next) => out = next,
-            None => break,
-        }
-    }
-    Ok(out)
 }
 
 /// Returns the source without comments.
@@ -54,7 +37,7 @@ fn with_errors(alloc: Global, text: &[u8], errors: Vec<Finding>) -> Result<Porte
     ensures { IfOk result (λ p. specs.IsCommented text.now (length text.now) p.text × (p.has_comments ≡ true)) }
 {
     let errors = all_errors(alloc, text, errors)?;
-    let text = commented(alloc, text, errors)?;
+    let text = commented(alloc, text, errors.as_slice())?;
     Ok(Ported {
         text: Bytes::from_vec(text),
         has_comments: true,

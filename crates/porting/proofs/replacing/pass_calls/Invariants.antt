@@ -1,5 +1,0 @@
-use Rattle.porting.specs.Ported.{IsPass}
-use Rattle.porting.proofs.replacing.pass_calls.Given as goal
-
-abbrev pub invariant-loop-i : goal.invariant-loop-i
-invariant-loop-i l = IsPass l.text l.pass.at l.pass.out.items

@@ -1,7 +1,0 @@
-use Rattle.sourcecalls.specs.Calls.{seen}
-use Rattle.std.proofs.Common.{arith, refl}
-use Rattle.porting.proofs.Steps.{on_ok, pass_step}
-use Rattle.porting.proofs.replacing.put_change.Goals as goal
-
-pub returns : goal.returns
-returns c = on_ok (pass_step _ _ _ (seen c.args.call.now) _ _ _ _ _ c.requires.begun c.requires.call c.requires.goes (omega (arith, c.if-change-pass.false)) (c.if-not-is_around.ensures refl)) c.write_change.result c.write_change.ensures

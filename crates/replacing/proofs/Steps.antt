@@ -1,0 +1,48 @@
+-- What one step of a pass makes.
+use Rattle.std.proofs.Common.{◌≡◌, ℕ, ◌≤◌, List, ◌++◌, length, Result, Ok, Err, is_ok, OnOk, if◌then◌else◌, slice_range, sym, subst, ap, ◌∙◌, map, get_or, ◌<◌, Option, Some, None, arith}
+use Rattle.std.specs.Prelude.{Contains, IfSome, codes}
+use Rattle.std.proofs.lemmas.List.{get_or-map, length-map}
+use Rattle.std.proofs.lemmas.List.Elements.{Contains-get_or}
+use Rattle.sourcecalls.specs.declared.call.CallAt.{CallAt}
+use Rattle.sourcecalls.specs.Calls.{Call, calls_in, seen}
+use Rattle.replacing.specs.Rewritten.{IsPass, IsRewritten, HasToGo, IsAround, DeclaresOption, IsOldHelp}
+use Rattle.replacing.specs.Rewritten as specs
+
+pub pass_bound : (text : List ℕ) (at : ℕ) (out : List ℕ) → IsPass text at out → at ≤ length text
+pass_bound text at out specs.IsPass.begun = omega arith
+pass_bound text at out (specs.IsPass.copied next before from to) = to
+pass_bound text at out (specs.IsPass.replaced c put end before is goes around to) = to
+pass_bound text at out (specs.IsPass.renamed c end before is declares help to) = to
+
+-- What follows from what an `Ok` says holds of the `Ok`.
+pub on_ok : {T E P Q : Type 0} → (P → Q) → (r : Result T E) → OnOk r P → OnOk r Q
+on_ok f (Ok v) p = f p
+on_ok f (Err e) p = tt
+
+pub pass_step : (text : List ℕ) (at : ℕ) (out : List ℕ) (c : Call) (start end : ℕ) (put : List ℕ) (new_at : ℕ) (new : List ℕ)
+    → IsPass text at out → Contains (calls_in text) c → HasToGo text c → at ≤ start → IsAround text c start end × (end ≤ length text) × (start ≤ length text)
+    → (new_at ≡ end) × (new ≡ (out ++ slice_range text at start) ++ put) → IsPass text new_at new
+pass_step text at out c start end put new_at new before is goes from (around, to, within) (at_is, new_is) =
+    subst (λ a. IsPass text a new) (sym at_is) (subst (IsPass text end) (sym new_is) (specs.IsPass.replaced c put end (specs.IsPass.copied start before from within) is goes around to))
+
+pub help_step : (text : List ℕ) (at : ℕ) (out : List ℕ) (c : Call) (start end : ℕ) (new_at : ℕ) (new : List ℕ)
+    → IsPass text at out → Contains (calls_in text) c → DeclaresOption text c → at ≤ start → IsOldHelp text c start end × (end ≤ length text) × (start ≤ length text)
+    → (new_at ≡ end) × (new ≡ (out ++ slice_range text at start) ++ codes "AS_HELP_STRING") → IsPass text new_at new
+help_step text at out c start end new_at new before is declares from (help, to, within) (at_is, new_is) =
+    subst (λ a. IsPass text a new) (sym at_is) (subst (IsPass text end) (sym new_is) (specs.IsPass.renamed c end (specs.IsPass.copied start before from within) is declares help to))
+
+pub pass_end : {T E : Type 0} (r : Result T E) (text : List ℕ) (at : ℕ) (out new : List ℕ) → IsPass text at out
+    → new ≡ (if is_ok r then out ++ slice_range text at (length text) else out) → OnOk r (IsPass text (length text) new)
+pass_end (Ok v) text at out new before is = subst (IsPass text (length text)) (sym is) (specs.IsPass.copied (length text) before (pass_bound text at out before) (omega arith))
+pass_end (Err e) text at out new before is = tt
+
+pub pass_more : {V : Type 0} (items : V → List ℕ) (text mid now : List ℕ) (o : Option V) (next : V) → o ≡ Some next → now ≡ mid
+    → IfSome o (λ v. IsPass now (length now) (items v)) → IsRewritten text mid → IsRewritten text (items next)
+pass_more items text mid now o next is same pass before =
+    specs.IsRewritten.passed before (subst (λ m. IsPass m (length m) (items next)) same (subst (λ o. IfSome o (λ v. IsPass now (length now) (items v))) is pass))
+
+pub has_call : (calls : List CallAt) (all : List Call) (i : ℕ) (c : CallAt) → map seen calls ≡ all → i < length calls → c ≡ get_or calls i c → Contains all (seen c)
+has_call calls all i c is lt here =
+    let within : i < length (map seen calls) = subst (λ n. i < n) (sym (length-map calls seen)) lt in
+    let found : get_or (map seen calls) i (seen c) ≡ seen c = get_or-map seen calls i c (seen c) lt ∙ ap seen (sym here) in
+    subst (λ l. Contains l (seen c)) is (subst (Contains (map seen calls)) found (Contains-get_or (map seen calls) i (seen c) within))

@@ -1,0 +1,5 @@
+use Rattle.replacing.specs.Rewritten.{IsRewritten}
+use Rattle.replacing.proofs.passes.replaced.Given as goal
+
+abbrev pub invariant-loop : goal.invariant-loop
+invariant-loop l = IsRewritten l.text l.out.items

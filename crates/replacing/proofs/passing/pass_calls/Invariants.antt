@@ -1,0 +1,5 @@
+use Rattle.replacing.specs.Rewritten.{IsPass}
+use Rattle.replacing.proofs.passing.pass_calls.Given as goal
+
+abbrev pub invariant-loop-i : goal.invariant-loop-i
+invariant-loop-i l = IsPass l.text l.pass.at l.pass.out.items

@@ -1,0 +1,104 @@
+//! What is before and after a place of a text.
+
+use crate::spots::Spot;
+use textpieces::{before, from};
+
+/// Returns a part of the text, or nothing if the text has no such part.
+pub(crate) fn part(text: &[u8], start: usize, end: usize) -> &[u8] {
+    text.get(start..end).unwrap_or(b"")
+}
+
+/// Returns whether the byte is a space, a tab or a carriage return.
+pub(crate) fn is_space(byte: u8) -> bool {
+    byte == b' ' || byte == b'\t' || byte == b'\r'
+}
+
+fn is_blank(byte: u8) -> bool {
+    is_space(byte) || byte == b'\n'
+}
+
+/// Returns the number of spaces and tabs at the front.
+pub(crate) fn space_len(text: &[u8]) -> usize {
+    text.iter().take_while(|byte| is_space(**byte)).count()
+}
+
+/// Returns the number of blanks and newlines at the front.
+pub(crate) fn blank_len(text: &[u8]) -> usize {
+    text.iter().take_while(|byte| is_blank(**byte)).count()
+}
+
+/// Returns the text without the blanks and newlines at its end.
+pub(crate) fn without_end_blanks(text: &[u8]) -> &[u8] {
+    let blanks = text
+        .iter()
+        .rev()
+        .take_while(|byte| is_blank(**byte))
+        .count();
+    before(text, text.len().saturating_sub(blanks))
+}
+
+/// Returns the spaces and tabs that the line of a place begins with, if there is nothing else before it.
+pub(crate) fn indent_of(text: &[u8], spot: Spot, at: usize) -> &[u8] {
+    if spot.is_first {
+        part(text, spot.line, at)
+    } else {
+        b""
+    }
+}
+
+/// Returns whether a statement may end before this text.
+pub(crate) fn ends_statement(rest: &[u8]) -> bool {
+    let rest = from(rest, space_len(rest));
+    match rest.first() {
+        None => true,
+        Some(byte) => {
+            matches!(*byte, b'\n' | b';' | b'#' | b']' | b')' | b',') || rest.starts_with(b"dnl")
+        }
+    }
+}
+
+/// Returns the offset of the first byte of the last line.
+fn last_line(text: &[u8]) -> usize {
+    let len = text.iter().rev().take_while(|byte| **byte != b'\n').count();
+    text.len().saturating_sub(len)
+}
+
+/// Returns whether a line is blank or a comment.
+fn is_idle_line(line: &[u8]) -> bool {
+    let line = from(line, space_len(line));
+    line.is_empty() || line.starts_with(b"dnl ") || line.starts_with(b"#")
+}
+
+/// Returns the text before an offset without the blanks, the blank lines and the lines of comments at its end.
+pub(crate) fn before_idle(text: &[u8], at: usize) -> &[u8] {
+    let mut front = before(text, at);
+    for _ in 0..text.len() {
+        let start = last_line(front);
+        if start == 0 || !is_idle_line(from(front, start)) {
+            return without_end_blanks(front);
+        }
+        front = before(front, start - 1);
+    }
+    without_end_blanks(front)
+}
+
+/// Returns what is before a place: on its line, or, if nothing is there, on the lines before it that are no comments.
+fn text_before(text: &[u8], spot: Spot, at: usize) -> &[u8] {
+    if spot.is_first {
+        before_idle(text, spot.line)
+    } else {
+        part(text, spot.line, at)
+    }
+}
+
+/// Returns whether a statement may begin at a place: an argument begins there, or nothing is before
+/// it on its line, and no operator ends the line before.
+pub(crate) fn begins_statement(text: &[u8], spot: Spot, at: usize) -> bool {
+    match without_end_blanks(text_before(text, spot, at)).last() {
+        None => true,
+        Some(byte) => {
+            let is_joined = matches!(*byte, b'&' | b'|' | b'\\' | b'!');
+            matches!(*byte, b'[' | b'(' | b',') || spot.is_first && !is_joined
+        }
+    }
+}

@@ -1,0 +1,272 @@
+//! One pass over the calls of a text, each of which is replaced if it has an exact idiom.
+
+ghost use Rattle.std.specs.Prelude.{◌≡◌, ◌⊎◌, ◌≤◌, ◌<◌, ◌++◌, true, map, length, slice_range, codes, Contains, IfOk, IfSome, OnOk, IsTrue};
+ghost use Rattle.std.specs.List.{list_all};
+ghost use Rattle.sourcecalls.specs.Calls.{calls_in, seen};
+ghost use Rattle.replacing.specs.Rewritten as specs;
+
+use crate::around::{blank_len, part};
+use crate::changes::{Change, Known, change_of, known_of};
+use crate::spots::{Spot, Walk};
+use sourcecalls::{CallAt, calls_of};
+use std::alloc::{AllocError, Global};
+use textpieces::from;
+
+/// The old name of AS_HELP_STRING.
+const OLD_HELP: &[u8] = b"AC_HELP_STRING";
+
+/// Returns whether the call is one of AC_OUTPUT with arguments.
+fn is_output_of_files(text: &[u8], call: &CallAt) -> bool
+    ensures { IsTrue result → (slice_range text.now (seen call.now).start (seen call.now).name_end ≡ codes "AC_OUTPUT") × (0 < length (seen call.now).args) }
+{
+    let has_name = call.start <= call.name_end && call.name_end <= text.len();
+    has_name && !call.args.is_empty() && &text[call.start..call.name_end] == b"AC_OUTPUT".as_slice()
+}
+
+/// Returns whether the call has to go: the table of macros doesn't have its name, or it is AC_OUTPUT with arguments.
+fn has_to_go(text: &[u8], call: &CallAt) -> bool
+    ensures { IsTrue result → specs.HasToGo text.now (seen call.now) }
+{
+    !call.is_of_profile || is_output_of_files(text, call)
+}
+
+fn is_blank(byte: u8) -> bool
+    ensures { result ≡ specs.is_blank byte }
+{
+    byte == b' ' || byte == b'\t' || byte == b'\r' || byte == b'\n'
+}
+
+fn are_blank(text: &[u8]) -> bool
+    ensures { result ≡ list_all specs.is_blank text.now }
+{
+    text.iter().all(|byte| is_blank(*byte))
+}
+
+/// Returns whether the call and, around it, nothing but blanks are between two offsets of the text.
+fn is_around(text: &[u8], call: &CallAt, start: usize, end: usize) -> bool
+    ensures { IsTrue result → specs.IsAround text.now (seen call.now) start end × (end ≤ length text.now) × (start ≤ length text.now) }
+{
+    let is_there = start <= call.start
+        && call.start <= text.len()
+        && call.end <= end
+        && end <= text.len();
+    is_there && are_blank(&text[start..call.start]) && are_blank(&text[call.end..end])
+}
+
+/// Returns whether a macro of this name declares an option.
+fn is_of_option(name: &[u8]) -> bool
+    ensures { IsTrue result → (name.now ≡ codes "AC_ARG_ENABLE") ⊎ (name.now ≡ codes "AC_ARG_WITH") }
+{
+    name == b"AC_ARG_ENABLE".as_slice() || name == b"AC_ARG_WITH".as_slice()
+}
+
+/// Returns whether the call declares an option.
+fn declares_option(text: &[u8], call: &CallAt) -> bool
+    ensures { IsTrue result → specs.DeclaresOption text.now (seen call.now) }
+{
+    let has_name = call.start <= call.name_end && call.name_end <= text.len();
+    has_name && is_of_option(&text[call.start..call.name_end])
+}
+
+/// Returns whether the old name of AS_HELP_STRING is between two offsets within the call.
+fn is_old_help(text: &[u8], call: &CallAt, start: usize, end: usize) -> bool
+    ensures { IsTrue result → specs.IsOldHelp text.now (seen call.now) start end × (end ≤ length text.now) × (start ≤ length text.now) }
+{
+    let is_there = call.start <= start && start <= end && end <= call.end && end <= text.len();
+    is_there && &text[start..end] == b"AC_HELP_STRING".as_slice()
+}
+
+/// Returns the length of what a help argument has before a call that it begins with: blanks, and perhaps a bracket.
+fn front_len(arg: &[u8]) -> usize {
+    let blanks = blank_len(arg);
+    if arg.get(blanks) != Some(&b'[') {
+        return blanks;
+    }
+    let inner = blanks.saturating_add(1);
+    inner.saturating_add(blank_len(from(arg, inner)))
+}
+
+/// Returns the offset of the old name of AS_HELP_STRING, if the help argument of the call begins with a call of it.
+fn old_help(text: &[u8], call: &CallAt) -> Option<usize> {
+    let arg = call.args.get(1)?;
+    let written = part(text, arg.start, arg.end);
+    let front = front_len(written);
+    let rest = from(written, front);
+    if rest.starts_with(OLD_HELP) && rest.get(OLD_HELP.len()) == Some(&b'(') {
+        Some(arg.start.saturating_add(front))
+    } else {
+        None
+    }
+}
+
+/// A text that is written while another is read.
+#[derive(Drop)]
+struct Pass {
+    out: Vec<u8>,
+    /// How much was read.
+    at: usize,
+    /// Whether anything was replaced.
+    has_changed: bool,
+}
+
+/// Copies what is before a change, and writes the change.
+fn write_change(
+    text: &[u8],
+    start: usize,
+    end: usize,
+    put: &[u8],
+    pass: &mut Pass,
+) -> Result<(), AllocError>
+    requires { (pass.old.at ≤ start) × (start ≤ length text.now) }
+    ensures { OnOk result ((pass.new.at ≡ end) × (pass.new.out.items ≡ (pass.old.out.items ++ slice_range text.now pass.old.at start) ++ put.now)) }
+{
+    pass.out.extend_from_slice(&text[pass.at..start])?;
+    pass.out.extend_from_slice(put)?;
+    pass.at = end;
+    pass.has_changed = true;
+    Ok(())
+}
+
+/// Copies what is before the change of a call, and writes the change, unless it is not after what was read.
+fn put_change(
+    text: &[u8],
+    call: &CallAt,
+    change: &Change,
+    pass: &mut Pass,
+) -> Result<(), AllocError>
+    requires call { Contains (calls_in text.now) (seen call.now) }
+    requires goes { specs.HasToGo text.now (seen call.now) }
+    requires begun { specs.IsPass text.now pass.old.at pass.old.out.items }
+    ensures { OnOk result (specs.IsPass text.now pass.new.at pass.new.out.items) }
+{
+    if change.start < pass.at || !is_around(text, call, change.start, change.end) {
+        return Ok(());
+    }
+    write_change(text, change.start, change.end, change.put.as_slice(), pass)
+}
+
+/// Writes the name of AS_HELP_STRING in place of its old one, which is between two offsets, unless it is not after what was read.
+fn put_help(
+    text: &[u8],
+    call: &CallAt,
+    start: usize,
+    end: usize,
+    pass: &mut Pass,
+) -> Result<(), AllocError>
+    requires call { Contains (calls_in text.now) (seen call.now) }
+    requires declares { specs.DeclaresOption text.now (seen call.now) }
+    requires begun { specs.IsPass text.now pass.old.at pass.old.out.items }
+    ensures { OnOk result (specs.IsPass text.now pass.new.at pass.new.out.items) }
+{
+    if start < pass.at || !is_old_help(text, call, start, end) {
+        return Ok(());
+    }
+    write_change(text, start, end, b"AS_HELP_STRING", pass)
+}
+
+/// Writes the name of AS_HELP_STRING in place of its old one, if the help of an option begins with that.
+fn pass_option(text: &[u8], call: &CallAt, pass: &mut Pass) -> Result<(), AllocError>
+    requires call { Contains (calls_in text.now) (seen call.now) }
+    requires declares { specs.DeclaresOption text.now (seen call.now) }
+    requires begun { specs.IsPass text.now pass.old.at pass.old.out.items }
+    ensures { OnOk result (specs.IsPass text.now pass.new.at pass.new.out.items) }
+{
+    match old_help(text, call) {
+        Some(at) => put_help(text, call, at, at.saturating_add(OLD_HELP.len()), pass),
+        None => Ok(()),
+    }
+}
+
+/// Replaces a call that has to go, if it has an exact idiom.
+fn pass_other(
+    alloc: Global,
+    known: &Known,
+    text: &[u8],
+    spot: Spot,
+    call: &CallAt,
+    pass: &mut Pass,
+) -> Result<(), AllocError>
+    requires call { Contains (calls_in text.now) (seen call.now) }
+    requires goes { specs.HasToGo text.now (seen call.now) }
+    requires begun { specs.IsPass text.now pass.old.at pass.old.out.items }
+    ensures { OnOk result (specs.IsPass text.now pass.new.at pass.new.out.items) }
+{
+    match change_of(alloc, known, text, spot, call)? {
+        Some(change) => put_change(text, call, &change, pass),
+        None => Ok(()),
+    }
+}
+
+/// Replaces a call if it has to go and has an exact idiom, unless it was in what was replaced.
+fn pass_call(
+    alloc: Global,
+    known: &Known,
+    text: &[u8],
+    spot: Spot,
+    call: &CallAt,
+    pass: &mut Pass,
+) -> Result<(), AllocError>
+    requires call { Contains (calls_in text.now) (seen call.now) }
+    requires begun { specs.IsPass text.now pass.old.at pass.old.out.items }
+    ensures { OnOk result (specs.IsPass text.now pass.new.at pass.new.out.items) }
+{
+    if call.start < pass.at {
+        return Ok(());
+    }
+    if has_to_go(text, call) {
+        return pass_other(alloc, known, text, spot, call, pass);
+    }
+    if declares_option(text, call) {
+        return pass_option(text, call, pass);
+    }
+    Ok(())
+}
+
+/// Goes over the calls of a text.
+fn pass_calls(
+    alloc: Global,
+    known: &Known,
+    text: &[u8],
+    calls: &[CallAt],
+    pass: &mut Pass,
+) -> Result<(), AllocError>
+    requires calls { map seen calls.now ≡ calls_in text.now }
+    requires begun { specs.IsPass text.now pass.old.at pass.old.out.items }
+    ensures { OnOk result (specs.IsPass text.now pass.new.at pass.new.out.items) }
+{
+    let mut walk = Walk::new();
+    for i in 0..calls.len() {
+        let spot = walk.spot_of(text, &calls[i]);
+        pass_call(alloc, known, text, spot, &calls[i], pass)?;
+    }
+    Ok(())
+}
+
+/// Copies the rest of a text.
+fn finish(text: &[u8], pass: &mut Pass) -> Result<(), AllocError>
+    requires begun { specs.IsPass text.now pass.old.at pass.old.out.items }
+    ensures { OnOk result (specs.IsPass text.now (length text.now) pass.new.out.items) }
+{
+    pass.out.extend_from_slice(&text[pass.at..text.len()])
+}
+
+/// Returns the text with each call replaced that has to go and has an exact idiom, or `None` if there is none.
+pub(crate) fn replaced_once(alloc: Global, text: &[u8]) -> Result<Option<Vec<u8>>, AllocError>
+    ensures { IfOk result (λ o. IfSome o (λ v. specs.IsPass text.now (length text.now) v.items)) }
+{
+    let calls = calls_of(alloc, text)?;
+    let mut pass = Pass {
+        out: Vec::new(alloc),
+        at: 0,
+        has_changed: false,
+    };
+    let known = known_of(alloc, text, calls.as_slice())?;
+    pass_calls(alloc, &known, text, calls.as_slice(), &mut pass)?;
+    finish(text, &mut pass)?;
+    let Pass {
+        out,
+        has_changed,
+        ..
+    } = pass;
+    if has_changed { Ok(Some(out)) } else { Ok(None) }
+}
