@@ -2,7 +2,6 @@
 
 use crate::crews::{Work, job_of, put_children};
 use crate::streams::{Pipe, pipe_of};
-use crate::texts::number_of;
 use std::alloc::Allocator;
 use std::cell::Cell;
 use std::fs::{Metadata, OpenOptions};
@@ -11,7 +10,7 @@ use std::os::unix::process::ExitStatusExt;
 use std::process::{Child, Command, ExitStatus, OpenProcess, Processes, Stdio};
 use std::rt::Files;
 use std::test::Fail;
-use testrows::{Call, Page, cut, try_rows};
+use testrows::{Call, Page, cut, number_of, try_rows};
 
 /// Ends with a status as `waitpid` gives it, or fails if the text of the status is empty; its waits are counted.
 #[derive(Drop)]
@@ -131,7 +130,7 @@ impl Call for Ends<'_> {
             waits: &waits,
         };
         let job = job_of(page, b"true", b"");
-        let work = Work::Children {
+        let work = Work {
             count: 1,
             job: &job,
         };

@@ -258,7 +258,7 @@ fn put_command(
 ) {
     let words = job.words.as_slice();
     match command {
-        b"sh" => put_real_children(page, rt, &Work::Children { count: 1, job }),
+        b"sh" => put_real_children(page, rt, &Work { count: 1, job }),
         b"words" => put_words(page, words),
         b"environment" => put_environment(page, words),
         b"compiler" => put_standin(page, rt, words),

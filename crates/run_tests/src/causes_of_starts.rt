@@ -3,11 +3,10 @@
 ghost use Rattle.std.specs.Prelude.{◌≡◌, []};
 
 use crate::crews::job_of;
-use crate::texts::number_of;
 use conftest::Job;
 use crew::{Causes, Crew, ProcessCrew};
 use std::test::Fail;
-use testrows::{Call, Page, cut, try_rows_in};
+use testrows::{Call, Page, cut, number_of, try_rows_in};
 
 /// Puts the cause of a child, or `not known`.
 fn put_cause<C: Causes>(page: &mut Page, crew: &C, child: usize) {

@@ -2,18 +2,16 @@
 
 ghost use Rattle.std.specs.Prelude.{◌≡◌, ◌≤◌, []};
 
-use crate::batches::put_whole_over;
-use crate::runs::put_run_over;
-use crate::texts::{add, bytes_of, number_of, parts_of, put_cut, words_of};
+use crate::texts::{add, bytes_of, parts_of, put_cut, words_of};
 use conftest::Job;
 use crew::{Crew, Event, MemoryCrew, Order, ProcessCrew, Reply, SlotList};
-use deftable::Bytes;
-use plan::Plan;
 use std::alloc::{AllocError, Global};
 use std::process::Processes;
 use std::rt::Files;
 use std::test::Fail;
-use testrows::{Call, Page, cut, try_rows, try_rows_in};
+use testrows::{
+    Call, EndOrder, Page, ReplyWord, cut, end_order, number_of, reply_word, try_rows, try_rows_in,
+};
 
 /// Puts `STATUS:TEXT`, or `S` for a start that is refused and `E` for an end that is.
 pub fn put_reply(page: &mut Page, reply: &Reply) {
@@ -73,60 +71,35 @@ fn put_ends<C: Crew>(page: &mut Page, crew: &mut C, count: usize, job: &Job)
     }
 }
 
-/// What a crew is asked to do.
+/// What a crew is asked to do: so many children with one job.
 #[derive(Clone, Copy)]
-pub enum Work<'a> {
-    /// So many children with one job.
-    Children {
-        count: usize,
-        job: &'a Job,
-    },
-    /// A run, with the variable `CC` if its value isn't empty, and so many children at once.
-    Run {
-        plan: &'a Plan<'a>,
-        compiler: &'a [u8],
-        window: usize,
-    },
-    /// The same, and all that the run leaves.
-    Whole {
-        plan: &'a Plan<'a>,
-        compiler: &'a [u8],
-        window: usize,
-    },
+pub struct Work<'a> {
+    pub count: usize,
+    pub job: &'a Job,
 }
 
 /// Puts what a crew that has done nothing does.
 pub fn put_work<C: Crew>(page: &mut Page, crew: &mut C, work: &Work)
     requires fresh { C.account crew.old ≡ record { events = []; attempts = 0; failures = 0 } }
 {
-    match work {
-        Work::Children { count, job } => put_ends(page, crew, (*count).min(16), job),
-        Work::Run {
-            plan,
-            compiler,
-            window,
-        } => put_run_over(page, crew, plan, compiler, (*window).max(1).min(16)),
-        Work::Whole {
-            plan,
-            compiler,
-            window,
-        } => put_whole_over(page, crew, plan, compiler, (*window).max(1).min(16)),
-    }
+    put_ends(page, crew, work.count.min(16), work.job);
 }
 
 // ---- crews in memory
 
-/// Returns the reply of a word: `STATUS:TEXT`, `S` or `E`.
+/// Returns the reply of a word. If it is none, that is put.
 fn reply_of(page: &mut Page, word: &[u8]) -> Reply {
-    match word {
-        b"S" => Reply::StartRefused,
-        b"E" => Reply::EndRefused,
-        _ => {
-            let (status, text) = cut(word, b":");
-            Reply::Answer {
-                status: number_of(status).min(256) as u32,
-                text: bytes_of(page, text),
-            }
+    match reply_word(word) {
+        Some(ReplyWord::Answer { status, text }) => Reply::Answer {
+            status,
+            text: bytes_of(page, text),
+        },
+        Some(ReplyWord::StartRefused) => Reply::StartRefused,
+        Some(ReplyWord::EndRefused) => Reply::EndRefused,
+        None => {
+            page.put(b"no reply: ");
+            page.put(word);
+            Reply::EndRefused
         }
     }
 }
@@ -150,12 +123,12 @@ fn slots_of(page: &mut Page, text: &[u8]) -> SlotList {
     SlotList::from_vec(slots)
 }
 
-/// Returns the order with this name, or of these slots.
+/// Returns the order of ends that a text is.
 pub fn order_of(page: &mut Page, text: &[u8]) -> Order {
-    match text {
-        b"oldest" => Order::Oldest,
-        b"youngest" => Order::Youngest,
-        _ => Order::Slots(slots_of(page, text)),
+    match end_order(text) {
+        EndOrder::Oldest => Order::Oldest,
+        EndOrder::Youngest => Order::Youngest,
+        EndOrder::Slots(slots) => Order::Slots(slots_of(page, slots)),
     }
 }
 
@@ -172,29 +145,17 @@ fn put_events(page: &mut Page, events: &[Event]) {
     }
 }
 
-/// Puts the work of a crew in memory with these replies in this order, and the calls that it lists if they are wanted.
-fn put_memory_work(page: &mut Page, replies: &[u8], order: &[u8], work: &Work, has_calls: bool) {
+/// Puts the work of a crew in memory with these replies in this order, and the calls that it lists.
+fn put_in_memory(page: &mut Page, replies: &[u8], order: &[u8], work: &Work) {
     let replies = replies_of(page, replies);
     let order = order_of(page, order);
     match &mut MemoryCrew::new(page.alloc(), replies, order) {
         Ok(crew) => {
             put_work(page, crew, work);
-            if has_calls {
-                put_events(page, crew.events());
-            }
+            put_events(page, crew.events());
         }
         Err(_) => page.cut(),
     }
-}
-
-/// Puts the work of a crew in memory with these replies in this order, and the calls that it lists.
-pub fn put_in_memory(page: &mut Page, replies: &[u8], order: &[u8], work: &Work) {
-    put_memory_work(page, replies, order, work, true);
-}
-
-/// Puts the work of a crew in memory with these replies in this order.
-pub fn put_without_calls(page: &mut Page, replies: &[u8], order: &[u8], work: &Work) {
-    put_memory_work(page, replies, order, work, false);
 }
 
 /// A crew in memory: how many children it starts, its replies and its order.
@@ -205,7 +166,7 @@ impl Call for InMemory {
         let (count, rest) = cut(given, b"|");
         let (replies, order) = cut(rest, b"|");
         let job = job_of(page, b"true", b"");
-        let work = Work::Children {
+        let work = Work {
             count: number_of(count),
             job: &job,
         };
@@ -268,7 +229,7 @@ impl Call for Children<'_> {
         let (count, rest) = cut(given, b"|");
         let (file, words) = cut(rest, b"|");
         let job = job_of(page, words, file);
-        let work = Work::Children {
+        let work = Work {
             count: number_of(count),
             job: &job,
         };

@@ -1,10 +1,9 @@
 //! Real children of which one that has ended is taken before older ones.
 
 use crate::crews::{Work, job_of, put_work};
-use crate::texts::number_of;
 use crew::ReadyCrew;
 use std::test::Fail;
-use testrows::{Call, Page, cut, try_rows_in};
+use testrows::{Call, Page, cut, number_of, try_rows_in};
 
 /// Puts the work of real children of which one that has ended is taken first.
 fn put_ready_children(page: &mut Page, rt: &HostRuntime, work: &Work) {
@@ -27,7 +26,7 @@ impl Call for Ready<'_> {
     fn put(&self, page: &mut Page, given: &[u8]) {
         let (count, words) = cut(given, b"|");
         let job = job_of(page, words, b"");
-        let work = Work::Children {
+        let work = Work {
             count: number_of(count),
             job: &job,
         };

@@ -1,17 +1,18 @@
-//! A machine whose first job a test answers or cuts. The crate `cases` has runs of sources, statement by statement.
+//! A machine whose first job a test answers or cuts. The crate `cases` has runs of sources over crews.
 
 ghost use Rattle.std.specs.Prelude.{◌≡◌, None, Some, length, slice_get, IsSome};
 ghost use Rattle.std.specs.Bool.{OnTrue};
 ghost use Rattle.machine.specs.Standing.{Fits, outcome_of};
 
-use crate::runs::{put_run_end, vars_of};
-use crate::texts::number_of;
+use crate::texts::vars_of;
+use acparse::{Source, parse};
 use crew::Reply;
 use deftable::Bytes;
-use machine::{Machine, Turn};
-use plan::Plan;
+use machine::{Machine, Outcome, RunEnd, Turn};
+use plan::{Plan, compile};
 use std::alloc::Global;
-use testrows::Page;
+use std::test::Fail;
+use testrows::{Call, Page, number_of, try_rows};
 
 /// Replies to the first job that is asked by this exit status, or cuts all if the text is empty.
 fn reply(alloc: Global, machine: &mut Machine, status: &[u8])
@@ -57,12 +58,63 @@ fn is_at_end(machine: &mut Machine, plan: &Plan) -> bool
     }
 }
 
-/// Puts how many jobs a plan asks for first, and what it leaves after the only one is answered by this exit status, or cut
-/// if the text is empty.
-pub fn put_walked(page: &mut Page, plan: &Plan, compiler: &[u8], status: &[u8]) {
-    let vars = vars_of(page, compiler);
+/// Puts how a run ended, and the value of `r` if it is set.
+fn put_run_end(page: &mut Page, end: &RunEnd) {
+    match end.outcome {
+        Outcome::Completed => page.put(b"completed"),
+        Outcome::Stopped(_) => page.put(b"stopped"),
+        Outcome::CutShort(number) => {
+            page.put(b"cut ");
+            page.put_shown(&number);
+        }
+    }
+    if let Some(value) = end.vars.get(b"r") {
+        page.put(b" r=");
+        page.put(value.as_slice());
+    }
+}
+
+/// Puts how many jobs a plan asks for first, and what it leaves after the only one is answered by this exit status, or
+/// cut if the text is empty.
+fn put_walked(page: &mut Page, plan: &Plan, status: &[u8]) {
+    let vars = vars_of(page, b"cc");
     let mut machine = Machine::new(page.alloc(), plan, vars);
     if is_answered(page, &mut machine, plan, status) && is_at_end(&mut machine, plan) {
         put_run_end(page, &machine.end());
     }
+}
+
+fn put_source(page: &mut Page, source: &Source, status: &[u8]) {
+    match &compile(page.alloc(), source) {
+        Ok(plan) => put_walked(page, plan, status),
+        Err(fault) => page.put_shown(fault),
+    }
+}
+
+/// A source that asks one job.
+const ONE: &[u8] = b"AC_INIT([demo],[1.0])
+AC_LINK_IFELSE([AC_LANG_PROGRAM([],[])],[r=1],[r=2])
+AC_OUTPUT
+";
+
+/// The run of [`ONE`] by a machine. A row is the exit status of its job, or nothing if it is cut.
+struct Walked;
+
+impl Call for Walked {
+    fn put(&self, page: &mut Page, given: &[u8]) {
+        match &parse(page.alloc(), ONE) {
+            Ok(source) => put_source(page, source, given),
+            Err(fault) => page.put_shown(fault),
+        }
+    }
+}
+
+const WALKED: &[u8] = b"\
+0 => 1 asked, completed r=1
+ => 1 asked, cut 1
+";
+
+#[test]
+fn a_machine_that_is_answered(rt: HostRuntime) -> Result<(), Fail> {
+    try_rows(rt.alloc(), &Walked, WALKED)
 }

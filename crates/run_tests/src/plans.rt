@@ -1,13 +1,13 @@
 //! What a source weighs, and the steps of a small one.
 
-use crate::texts::{add, bytes_of, number_of};
+use crate::texts::{add, bytes_of};
 use acparse::Stmt;
 use deftable::Texts;
 use plan::{PlanFault, Step, compile_statements};
 use shellword::Patterns;
 use std::test::Fail;
 use syntax::{Case, Plain, Subject, When, choose};
-use testrows::{Call, Page, cut, try_rows};
+use testrows::{Call, Page, cut, number_of, try_rows};
 
 /// Adds so many statements.
 fn add_outputs(page: &mut Page, statements: &mut Vec<Stmt>, count: usize) {

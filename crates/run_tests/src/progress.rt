@@ -4,7 +4,6 @@ ghost use Rattle.std.specs.Prelude.{◌≡◌, []};
 
 use crate::crews::{Work, job_of, order_of, put_work, replies_of};
 use crate::streams::Sheet;
-use crate::texts::number_of;
 use conftest::Job;
 use crew::{Crew, MemoryCrew};
 use csource::{
@@ -14,7 +13,7 @@ use csource::{
 use deftable::Bytes;
 use std::alloc::AllocError;
 use std::test::Fail;
-use testrows::{Call, Page, cut, try_rows};
+use testrows::{Call, Page, cut, number_of, try_rows};
 use watching::Watched;
 
 /// Puts the work of a crew that has done nothing, and what it shows on a sheet.
@@ -29,7 +28,7 @@ fn put_watched<C: Crew + Drop>(page: &mut Page, crew: C, sheet: Sheet, is_on: bo
 
 /// Puts the work of a crew in memory with these replies in this order, and what it shows on a sheet: nothing if `shown` is `off`.
 /// If it is `fails`, each write fails.
-pub fn put_in_sight(page: &mut Page, shown: &[u8], replies: &[u8], order: &[u8], work: &Work) {
+fn put_in_sight(page: &mut Page, shown: &[u8], replies: &[u8], order: &[u8], work: &Work) {
     let sheet = Sheet {
         kept: Page::new(page.alloc()),
         fails: shown == b"fails".as_slice(),
@@ -89,7 +88,7 @@ impl Call for Progress {
         let (replies, rest) = cut(rest, b"|");
         let (order, test) = cut(rest, b"|");
         let job = test_job(page, words, test);
-        let work = Work::Children {
+        let work = Work {
             count: number_of(count),
             job: &job,
         };

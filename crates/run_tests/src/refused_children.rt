@@ -4,10 +4,10 @@ ghost use Rattle.std.specs.Prelude.{◌≡◌, []};
 
 use crate::calls::{status_over, write_file};
 use crate::streams::Sheet;
-use crate::texts::{number_of, words_of};
+use crate::texts::words_of;
 use crew::{Causes, Crew, FuseKind, Fused, ProcessCrew};
 use deftable::Bytes;
-use testrows::{Page, cut};
+use testrows::{Page, cut, number_of};
 
 /// The call that is refused.
 #[derive(Clone, Copy)]

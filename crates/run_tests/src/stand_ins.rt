@@ -3,7 +3,7 @@
 use crate::calls::{Program, status_of, write_file};
 use crate::crews::{Work, put_real_children};
 use crate::refused_children::put_refused;
-use crate::runs::vars_of;
+use crate::texts::vars_of;
 use conftest::compile_job;
 use csource::{default_includes, header_source};
 use deftable::{Bytes, Defs, Vars};
@@ -124,7 +124,7 @@ esac
 /// Puts the end of the child that tries this source.
 fn put_tried(page: &mut Page, rt: &HostRuntime, vars: &Vars, source: &[u8]) {
     match &compile_job(page.alloc(), vars, &Defs::new(page.alloc()), source, 1) {
-        Ok(job) => put_real_children(page, rt, &Work::Children { count: 1, job }),
+        Ok(job) => put_real_children(page, rt, &Work { count: 1, job }),
         Err(fault) => page.put_shown(fault),
     }
 }

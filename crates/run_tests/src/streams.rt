@@ -1,8 +1,7 @@
 //! Streams that fail where a test says so.
 
-use crate::texts::number_of;
 use std::io::{self, ErrorKind, Read, Write};
-use testrows::{Page, cut};
+use testrows::{Page, cut, number_of};
 
 /// Gives so many pieces of one size, each of the same byte. Its reads are counted from 1. One may fail, and some before the
 /// first may be interrupted.

@@ -1,19 +1,9 @@
 //! What the parts of a row give.
 
 use conftest::Words;
-use deftable::Bytes;
+use deftable::{Bytes, Vars};
 use testrows::Page;
 use textcut::parts;
-
-/// Returns the number that a text of digits spells.
-pub fn number_of(text: &[u8]) -> usize {
-    let mut number: usize = 0;
-    for byte in text {
-        let digit = byte.wrapping_sub(b'0');
-        number = number.saturating_mul(10).saturating_add(digit as usize);
-    }
-    number
-}
 
 /// Adds an item to a list.
 pub fn add<T: Drop>(page: &mut Page, list: &mut Vec<T>, item: T) {
@@ -54,6 +44,13 @@ pub fn bytes_of(page: &mut Page, text: &[u8]) -> Bytes {
         page.given(bytes.resize(bytes.len().saturating_add(count), piece));
     }
     Bytes::from_vec(bytes)
+}
+
+/// Returns the variable `CC`.
+pub fn vars_of(page: &mut Page, compiler: &[u8]) -> Vars {
+    let mut vars = Vars::new(page.alloc());
+    page.given(vars.set(b"CC", compiler));
+    vars
 }
 
 /// Puts a text. Of more than 48 bytes only their number, the first 16 and the last 16 are put.

@@ -10,23 +10,13 @@
 //! ```
 #![tactic(auto)]
 
-use testrows::{Call, Page, cut};
+use testrows::{Call, Page, cut, number_of};
 
 /// The most bytes of an answer that is put as it is.
 const LONGEST: usize = 60;
 
 /// A call that is given large texts.
 pub struct Large<C>(pub C);
-
-/// Returns the number that a text of digits spells.
-fn number_of(text: &[u8]) -> usize {
-    let mut number: usize = 0;
-    for byte in text {
-        let digit = byte.wrapping_sub(b'0');
-        number = number.saturating_mul(10).saturating_add(digit as usize);
-    }
-    number
-}
 
 /// Puts a piece, with a number for each `%`.
 fn put_numbered(page: &mut Page, piece: &[u8], number: usize) {

@@ -6,19 +6,19 @@ use crew_trait::{Entry, Log, Reply};
 use deftable::{Bytes, Note, Notes, Stream};
 use std::alloc::{AllocError, Global};
 use std::test::Fail;
-use testrows::{Call, Page, cut, try_rows};
+use testrows::{Call, Page, ReplyWord, cut, reply_word, try_rows};
 
 /// `log` and entries with `;` between them: the text of their log. `o TEXT` and `e TEXT` are pieces for standard output and for
-/// standard error. A child is a reply, a blank, the words, and after bars the diagnostics and the program. The replies are
-/// `yes`, `no`, `start` and `wait`.
+/// standard error. A child is a reply, as `testrows` reads it, a blank, the words, and after bars the diagnostics and the
+/// program.
 const LOGS: &[u8] = b"
-log o checking for sys/stat.h... ;yes cc -c conftest1.c||int x^J;o yes^J => checking for sys/stat.h... ^J$ cc -c conftest1.c^Jstatus 0^Jyes^J
-log no cc -c conftest.c|a.h: none|int x^J  y => $ cc -c conftest.c^Ja.h: none^Jstatus 1^Jfailed program was:^J| int x^J|   y^J
-log no cc -c conftest.c|a.h: none^J^J|^Jint x^J^J^J => $ cc -c conftest.c^Ja.h: none^J^Jstatus 1^Jfailed program was:^J| ^J| int x^J| ^J| ^J
-log no ./conftest => $ ./conftest^Jstatus 1^J
-log start cc -c conftest1.c|x|int x;wait cc -c conftest2.c|x|int y => $ cc -c conftest1.c^Jstart refused^J$ cc -c conftest2.c^Jwait refused^J
-log yes sh -c a b;yes sh -c test|'$1' => $ sh -c a b^Jstatus 0^J$ sh -c test^J'$1'^Jstatus 0^J
-log yes cc  -O$x it's => $ cc '' '-O$x' 'it'\\''s'^Jstatus 0^J
+log o checking for sys/stat.h... ;0 cc -c conftest1.c||int x^J;o yes^J => checking for sys/stat.h... ^J$ cc -c conftest1.c^Jstatus 0^Jyes^J
+log 1 cc -c conftest.c|a.h: none|int x^J  y => $ cc -c conftest.c^Ja.h: none^Jstatus 1^Jfailed program was:^J| int x^J|   y^J
+log 1 cc -c conftest.c|a.h: none^J^J|^Jint x^J^J^J => $ cc -c conftest.c^Ja.h: none^J^Jstatus 1^Jfailed program was:^J| ^J| int x^J| ^J| ^J
+log 1 ./conftest => $ ./conftest^Jstatus 1^J
+log S cc -c conftest1.c|x|int x;E cc -c conftest2.c|x|int y => $ cc -c conftest1.c^Jstart refused^J$ cc -c conftest2.c^Jwait refused^J
+log 0 sh -c a b;0 sh -c test|'$1' => $ sh -c a b^Jstatus 0^J$ sh -c test^J'$1'^Jstatus 0^J
+log 0 cc  -O$x it's => $ cc '' '-O$x' 'it'\\''s'^Jstatus 0^J
 log e configure: error: no^J => configure: error: no^J
 log o a;e b^J;o c => a^Jb^Jc^J
 log o  => 
@@ -65,25 +65,23 @@ fn file_of(alloc: Global, program: &[u8]) -> Result<Option<(Bytes, Bytes)>, Allo
     Ok(Some((name, text)))
 }
 
-fn reply_of(alloc: Global, kind: &[u8], diagnostics: &[u8]) -> Result<Reply, AllocError> {
-    match kind {
-        [b's', ..] => Ok(Reply::StartRefused),
-        [b'w', ..] => Ok(Reply::EndRefused),
-        _ => {
+fn reply_of(alloc: Global, word: &[u8], diagnostics: &[u8]) -> Result<Reply, AllocError> {
+    match reply_word(word) {
+        Some(ReplyWord::StartRefused) => Ok(Reply::StartRefused),
+        Some(ReplyWord::EndRefused) => Ok(Reply::EndRefused),
+        Some(ReplyWord::Answer { status, .. }) => {
             let text = Bytes::from_slice(alloc, diagnostics)?;
-            Ok(Reply::Answer {
-                status: if kind == b"no".as_slice() { 1 } else { 0 },
-                text,
-            })
+            Ok(Reply::Answer { status, text })
         }
+        None => Err(AllocError),
     }
 }
 
-fn child_of(alloc: Global, kind: &[u8], text: &[u8]) -> Result<Entry, AllocError> {
+fn child_of(alloc: Global, reply: &[u8], text: &[u8]) -> Result<Entry, AllocError> {
     let (words, after) = cut(text, b"|");
     let (diagnostics, program) = cut(after, b"|");
     let file = file_of(alloc, program)?;
-    let reply = reply_of(alloc, kind, diagnostics)?;
+    let reply = reply_of(alloc, reply, diagnostics)?;
     let words = words_of(alloc, words)?;
     Ok(Entry::Child {
         job: Job { words, file },

@@ -76,7 +76,7 @@ header made {65536 #undef HAVE_X^J} => 1114114 bytes
 conftest compile {1048576 x} => 1048625 bytes
 // pieces, and a child with its diagnostics
 log log {10000 o a^J;}o a^J => 20002 bytes
-log log yes cc|{1048576 x}| => 1048591 bytes
+log log 0 cc|{1048576 x}| => 1048591 bytes
 ";
 
 #[test]
