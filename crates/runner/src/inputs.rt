@@ -107,7 +107,7 @@ pub(crate) fn run_filter<R: Read, W: Write, E: Write>(
 ) -> u8
     ensures { (result ≡ 2) ⊎ IfSome (R.remaining input.old)
         (λ text. (out : List ℕ) × (said : List ℕ) × IsFiltered text out said result × Appends (W.contents output.old) (W.contents output.new) out
-            × (said ≡ [] → errors.new ≡ errors.old) × AreTold (E.contents errors.old) (E.contents errors.new) (said ∷ [])) }
+        × (said ≡ [] → errors.new ≡ errors.old) × AreTold (E.contents errors.old) (E.contents errors.new) (said ∷ [])) }
 {
     match read_input(alloc, input) {
         Ok(text) => filter_read(alloc, why, text.as_slice(), output, errors),
