@@ -11,7 +11,7 @@ use Rattle.m4quote.specs.Text.{is_word_byte, word_len, word, line_len, whole_lin
 use Rattle.m4quote.specs.Spelling.{Balanced, empty, byte, group, IsFront, quoted, comment, dropped, name, other_word, other_byte}
 use Rattle.m4quote.specs.Used.{unquoted_front, Unquotes, nothing, front, UnquoteBreaks, stray_close, unclosed, following}
 use Rattle.m4quote.specs.Scan.{closing}
-use Rattle.m4quote.proofs.Outcome.{passed, ok_is}
+use Rattle.fallible.proofs.Binds.{passed, ok_is}
 use Rattle.m4quote.proofs.Quotes.{closing-balanced}
 use Rattle.m4quote.proofs.QuoteFaults.{closing-breaks}
 use Rattle.m4quote.proofs.Rooms.{Balanced-more, open-more}

@@ -9,7 +9,7 @@ use Rattle.m4quote.specs.Parts.{ArePartsOf}
 use Rattle.m4quote.specs.Faults.{IsFirstFault, IsBracketFault}
 use Rattle.m4quote.specs.Used.{Unquotes, IsUsed, UseBreaks, IsBareValue, UnquoteBreaks}
 use Rattle.m4quote.specs.Scan.{outcome, used, bare_value_of}
-use Rattle.m4quote.proofs.Outcome.{ok_is, fault_is, failed}
+use Rattle.fallible.proofs.Binds.{ok_is, err_is, failed}
 use Rattle.m4quote.proofs.Whole.{outcome-spelling, spelling-outcome, outcome-fault, fault-outcome}
 use Rattle.m4quote.proofs.UsedText.{used-is, is-used, used-breaks, breaks-used, bare_value_of-is, is-bare_value_of, bare_value_of-breaks, breaks-bare_value_of}
 use Rattle.m4quote.proofs.Closed.{second_breaks}
@@ -32,7 +32,7 @@ one_list at text a b h k = ok_is a b (sym (outcome-spelling at text a h) ∙ out
 
 -- a text has at most one first error
 pub one_fault : (at : ℕ) (text : List ℕ) (f g : QuoteFault) → IsFirstFault at text f → IsFirstFault at text g → f ≡ g
-one_fault at text f g h k = fault_is f g (sym (outcome-fault h) ∙ outcome-fault k)
+one_fault at text f g h k = err_is f g (sym (outcome-fault h) ∙ outcome-fault k)
 
 -- a text doesn't have both
 pub never_both : (at : ℕ) (text : List ℕ) (items : List Entry) (f : QuoteFault) → IsSpelling at text items → IsFirstFault at text f → ⊥
