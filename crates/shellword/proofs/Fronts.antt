@@ -12,7 +12,7 @@ use Rattle.shellword.specs.Text.{single_quote, double_quote, backslash, dollar, 
 use Rattle.shellword.specs.Contexts.{is_special, escapes, escapes_front, escaped_part, byte_in, closes_brace}
 use Rattle.shellword.specs.Scan.{front, backslash_front, braced_front, dollar_front, quote_context, front_of}
 use Rattle.shellword.proofs.Steps.{IsFront, single_opens, double_opens, single_closes, double_closes, escaped, kept, variable, in_braces, lone_dollar, ordinary}
-use Rattle.shellword.proofs.Outcome.{chosen, failed, ok_is}
+use Rattle.fallible.proofs.Binds.{chosen, failed, ok_is}
 
 pub name_len-le-length : (text : List ℕ) → name_len text ≤ length text
 name_len-le-length [] = omega arith

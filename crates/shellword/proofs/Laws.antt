@@ -13,7 +13,7 @@ use Rattle.shellword.specs.Test.{IsCut, IsTest, IsFaultOfTest}
 use Rattle.shellword.specs.Joining.{joining, test_of}
 use Rattle.shellword.specs.Pattern.{ArePatterns}
 use Rattle.shellword.specs.Listing.{or_in_pattern, alternatives, patterns_of}
-use Rattle.shellword.proofs.Outcome.{failed, bind_err}
+use Rattle.fallible.proofs.Binds.{failed, bind_err}
 use Rattle.shellword.proofs.Words.{word-read, read-word, word_front-read, read-word_front, here-read, read-here}
 use Rattle.shellword.proofs.TokenReading.{tokens-read}
 use Rattle.shellword.proofs.TestReading.{test-read, read-test}

@@ -7,7 +7,7 @@ use Rattle.shellword.specs.declared.part.Part.{Part}
 use Rattle.shellword.specs.declared.pattern.Piece.{Piece}
 use Rattle.shellword.specs.declared.token.Token.{Token}
 use Rattle.shellword.specs.declared.token.Token.TheVariants.{Word, Join, Bar, Newline}
-use Rattle.shellword.specs.Scan.{◌>>=◌}
+use Rattle.fallible.specs.Reading.{◌>>=◌}
 use Rattle.shellword.specs.Listing.{pieces_or, word_in, after_bar, alternatives}
 use Rattle.shellword.specs.Pieces.{piece_of, with_piece, pieces_of}
 

@@ -9,12 +9,12 @@ use Rattle.shellword.specs.declared.token.Token.{Token}
 use Rattle.shellword.specs.declared.token.Token.TheVariants.{Word, Join, Bar, Newline}
 use Rattle.shellword.specs.Faults.{IsWordFault, IsPatternFault}
 use Rattle.shellword.specs.Gives.{Gives}
-use Rattle.shellword.specs.Scan.{◌>>=◌}
+use Rattle.fallible.specs.Reading.{◌>>=◌}
 use Rattle.shellword.specs.Cut.{tokens_of}
 use Rattle.shellword.specs.Pattern.{AreAlternatives, last, more, ArePatterns}
 use Rattle.shellword.specs.Listing.{in_pattern, or_in_pattern, pieces_or, alternatives, patterns_of}
 use Rattle.shellword.specs.Pieces.{pieces_of}
-use Rattle.shellword.proofs.Outcome.{failed, passed, ok_is, fault_is, bind_ok, bind_err}
+use Rattle.fallible.proofs.Binds.{failed, passed, ok_is, err_is, bind_ok, bind_err}
 use Rattle.shellword.proofs.TokenReading.{tokens-read, cut-read}
 use Rattle.shellword.proofs.TestFaults.{Within, tokens-within}
 
@@ -69,15 +69,15 @@ abbrev pub Fault : ℕ → ShellFault → Type 0
 Fault n f = (at : ℕ) × (f ≡ BadPattern at) × (at ≤ n)
 
 pieces-fault : (at n : ℕ) (o : Option (List Piece)) (f : ShellFault) → at ≤ n → pieces_or at o ≡ Err f → Fault n f
-pieces-fault at n None f h e = (at, sym (fault_is {A = List Piece} _ _ e), h)
+pieces-fault at n None f h e = (at, sym (err_is {A = List Piece} _ _ e), h)
 pieces-fault at n (Some x) f h e = absurd (passed e)
 
 listed-fault : (tokens : List Token) (at n : ℕ) (f : ShellFault) → at ≤ n → Within n tokens → alternatives at tokens ≡ Err f → Fault n f
 unfolding alternatives
-listed-fault [] at n f h w e = (at, sym (fault_is {A = List (List Piece)} _ _ e), h)
-listed-fault (Join joint after ∷ ts) at n f h w e = (at, sym (fault_is {A = List (List Piece)} _ _ e), h)
-listed-fault (Bar after ∷ ts) at n f h w e = (at, sym (fault_is {A = List (List Piece)} _ _ e), h)
-listed-fault (Newline ∷ ts) at n f h w e = (at, sym (fault_is {A = List (List Piece)} _ _ e), h)
+listed-fault [] at n f h w e = (at, sym (err_is {A = List (List Piece)} _ _ e), h)
+listed-fault (Join joint after ∷ ts) at n f h w e = (at, sym (err_is {A = List (List Piece)} _ _ e), h)
+listed-fault (Bar after ∷ ts) at n f h w e = (at, sym (err_is {A = List (List Piece)} _ _ e), h)
+listed-fault (Newline ∷ ts) at n f h w e = (at, sym (err_is {A = List (List Piece)} _ _ e), h)
 listed-fault (Word parts ∷ []) at n f h w e =
     elim (bind_err (pieces_or at (pieces_of parts)) (λ pieces. Ok (pieces ∷ [])) f e) [ inl x ↦ pieces-fault at n (pieces_of parts) f h x | inr x ↦ absurd (passed x.2) ]
 listed-fault (Word parts ∷ Bar after ∷ ts) at n f h w e =
@@ -86,11 +86,11 @@ listed-fault (Word parts ∷ Bar after ∷ ts) at n f h w e =
       | inr x ↦ (elim (bind_err (alternatives after ts) (λ rest. Ok (x.0 ∷ rest)) f x.2) [ inl y ↦ listed-fault ts after n f w.0 w.1 y | inr y ↦ absurd (passed y.2) ])
     ]
 listed-fault (Word parts ∷ Word q ∷ ts) at n f h w e =
-    elim (bind_err (pieces_or at (pieces_of parts)) (λ pieces. Err (BadPattern at)) f e) [ inl x ↦ pieces-fault at n (pieces_of parts) f h x | inr x ↦ (at, sym (fault_is {A = List (List Piece)} _ _ x.2), h) ]
+    elim (bind_err (pieces_or at (pieces_of parts)) (λ pieces. Err (BadPattern at)) f e) [ inl x ↦ pieces-fault at n (pieces_of parts) f h x | inr x ↦ (at, sym (err_is {A = List (List Piece)} _ _ x.2), h) ]
 listed-fault (Word parts ∷ Join joint after ∷ ts) at n f h w e =
-    elim (bind_err (pieces_or at (pieces_of parts)) (λ pieces. Err (BadPattern at)) f e) [ inl x ↦ pieces-fault at n (pieces_of parts) f h x | inr x ↦ (at, sym (fault_is {A = List (List Piece)} _ _ x.2), h) ]
+    elim (bind_err (pieces_or at (pieces_of parts)) (λ pieces. Err (BadPattern at)) f e) [ inl x ↦ pieces-fault at n (pieces_of parts) f h x | inr x ↦ (at, sym (err_is {A = List (List Piece)} _ _ x.2), h) ]
 listed-fault (Word parts ∷ Newline ∷ ts) at n f h w e =
-    elim (bind_err (pieces_or at (pieces_of parts)) (λ pieces. Err (BadPattern at)) f e) [ inl x ↦ pieces-fault at n (pieces_of parts) f h x | inr x ↦ (at, sym (fault_is {A = List (List Piece)} _ _ x.2), h) ]
+    elim (bind_err (pieces_or at (pieces_of parts)) (λ pieces. Err (BadPattern at)) f e) [ inl x ↦ pieces-fault at n (pieces_of parts) f h x | inr x ↦ (at, sym (err_is {A = List (List Piece)} _ _ x.2), h) ]
 
 -- the error of a word is an error of a pattern, at the same offset
 pub in_pattern-fault : (n : ℕ) (f : ShellFault) → IsWordFault n f → IsPatternFault n (in_pattern f)
@@ -112,7 +112,7 @@ pub uncut-fault : (n : ℕ) (r : Result (List Token) ShellFault) (f : ShellFault
 uncut-fault n (Ok ts) f known e = absurd (passed e)
 uncut-fault n (Err g) f known e =
     let p = known g refl in
-    (p.0, sym (fault_is {A = List Token} _ _ e) ∙ ap in_pattern p.1, p.2)
+    (p.0, sym (err_is {A = List Token} _ _ e) ∙ ap in_pattern p.1, p.2)
 
 pub listed-faults : {X : Type 0} (text : List ℕ) (tokens : List Token) (view : X → List (List Piece)) (r : Result X ShellFault) → tokens_of true 0 0 text ≡ Ok tokens → Gives view r (alternatives 0 tokens) → IfErr r (IsPatternFault (length text))
 listed-faults text tokens view (Ok x) cut given = tt

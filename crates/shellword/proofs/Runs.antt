@@ -7,7 +7,8 @@ use Rattle.shellword.specs.declared.part.Part.{Part}
 use Rattle.shellword.specs.declared.front.Context.{Context}
 use Rattle.shellword.specs.declared.front.Front.{Front}
 use Rattle.shellword.specs.Contexts.{is_over, is_quoted}
-use Rattle.shellword.specs.Scan.{◌>>=◌, front_of, close, scan}
+use Rattle.shellword.specs.Scan.{front_of, close, scan}
+use Rattle.fallible.specs.Reading.{◌>>=◌}
 
 -- what was read before, and what is still read
 abbrev pub with_parts : List Part → Result (List Part × ℕ) ShellFault → Result (List Part × ℕ) ShellFault

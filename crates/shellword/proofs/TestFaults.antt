@@ -19,7 +19,7 @@ use Rattle.shellword.specs.Truth.{Joined}
 use Rattle.shellword.specs.Test.{IsCut, IsFaultOfTest}
 use Rattle.shellword.specs.Joining.{element_or, with_element, ended, joining}
 use Rattle.shellword.specs.Tokens.{is_newline, is_bar}
-use Rattle.shellword.proofs.Outcome.{chosen, failed, passed, fault_is, bind_err}
+use Rattle.fallible.proofs.Binds.{chosen, failed, passed, err_is, bind_err}
 use Rattle.shellword.proofs.TokenReading.{tokens-read, cut-read, token-len}
 
 -- ---- the offsets after tokens
@@ -65,7 +65,7 @@ abbrev Fault : ℕ → ShellFault → Type 0
 Fault n f = (at : ℕ) × (f ≡ BadTest at) × (at ≤ n)
 
 element-fault : (at n : ℕ) (o : Option Element) (f : ShellFault) → at ≤ n → element_or at o ≡ Err f → Fault n f
-element-fault at n None f h e = (at, sym (fault_is {A = Element} _ _ e), h)
+element-fault at n None f h e = (at, sym (err_is {A = Element} _ _ e), h)
 element-fault at n (Some x) f h e = absurd (passed e)
 
 ended-fault : (before : Option (Joined × Joint)) (words : List (List Part)) (at n : ℕ) (f : ShellFault) → at ≤ n → ended before words at ≡ Err f → Fault n f
@@ -84,12 +84,12 @@ joining-fault (Join joint after ∷ ts) before words at n f h w e =
       | inl x ↦ ended-fault before words at n f h x
       | inr x ↦ joining-fault ts (Some (x.0, joint)) [] after n f w.0 w.1 x.2
     ]
-joining-fault (Bar after ∷ ts) before words at n f h w e = (at, sym (fault_is {A = Joined} _ _ e), h)
+joining-fault (Bar after ∷ ts) before words at n f h w e = (at, sym (err_is {A = Joined} _ _ e), h)
 joining-fault (Newline ∷ ts) before [] at n f h w e = joining-fault ts before [] at n f h w e
 joining-fault (Newline ∷ ts) before (x ∷ ws) at n f h w e =
     elim (chosen (list_all is_newline ts) _ _ _ e) [
       | inl all ↦ ended-fault before (x ∷ ws) at n f h all.1
-      | inr some ↦ (at, sym (fault_is {A = Joined} _ _ some.1), h)
+      | inr some ↦ (at, sym (err_is {A = Joined} _ _ some.1), h)
     ]
 
 -- ---- whole texts

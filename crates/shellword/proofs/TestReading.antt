@@ -14,7 +14,7 @@ use Rattle.shellword.specs.Truth.{Joined, single, joined}
 use Rattle.shellword.specs.Test.{AreElement, next_line, command, AreTest, first, more, IsTest}
 use Rattle.shellword.specs.Joining.{element_or, ended, joining, test_of}
 use Rattle.shellword.specs.Tokens.{is_newline}
-use Rattle.shellword.proofs.Outcome.{chosen, failed, ok_is, bind_ok}
+use Rattle.fallible.proofs.Binds.{chosen, failed, ok_is, bind_ok}
 use Rattle.shellword.proofs.TokenReading.{tokens-read, cut-read}
 use Rattle.shellword.proofs.Elements.{no_words}
 

@@ -7,11 +7,12 @@ use Rattle.shellword.specs.declared.token.Joint.TheVariants.{And, Or}
 use Rattle.shellword.specs.declared.token.Token.{Token}
 use Rattle.shellword.specs.declared.token.Token.TheVariants.{Word, Join, Bar}
 use Rattle.shellword.specs.Text.{is_space, newline, ampersand, bar, ends_word, begins_with}
-use Rattle.shellword.specs.Scan.{◌>>=◌, scan}
+use Rattle.shellword.specs.Scan.{scan}
+use Rattle.fallible.specs.Reading.{◌>>=◌}
 use Rattle.shellword.specs.Cut.{ampersand_at, bar_at, token_at, tokens_of}
 use Rattle.shellword.proofs.Parts.{run-word, word_runs}
 use Rattle.shellword.specs.Tokens.{IsToken, line_end, both, either, lone_bar, a_word, AreTokens, no_more, space, next}
-use Rattle.shellword.proofs.Outcome.{chosen, failed, ok_is, bind_ok}
+use Rattle.fallible.proofs.Binds.{chosen, failed, ok_is, bind_ok}
 use Rattle.shellword.proofs.Words.{run-scan, scan-found, moved}
 use Rattle.shellword.proofs.Tokens.{tokens_space, tokens_token}
 

@@ -4,7 +4,7 @@ use Rattle.std.proofs.lemmas.List.{drop_more, drop-drop, drop_all, length-drop, 
 use Rattle.shellword.specs.declared.fault.ShellFault.{ShellFault}
 use Rattle.shellword.specs.declared.token.Token.{Token}
 use Rattle.shellword.specs.Text.{is_space}
-use Rattle.shellword.specs.Scan.{◌>>=◌}
+use Rattle.fallible.specs.Reading.{◌>>=◌}
 use Rattle.shellword.specs.Cut.{token_at, tokens_of}
 
 -- what was read before, and what is still read

@@ -10,14 +10,15 @@ use Rattle.shellword.specs.declared.front.Context.TheVariants.{Bare, Single, Dou
 use Rattle.shellword.specs.declared.front.Front.{Front}
 use Rattle.shellword.specs.Text.{single_quote, double_quote, backslash, dollar, backquote, open_brace, name_len, has_no, stands_alone}
 use Rattle.shellword.specs.Contexts.{is_special, closes_brace, is_over, is_quoted}
-use Rattle.shellword.specs.Scan.{◌>>=◌, braced_front, dollar_front, front_of, close, scan}
+use Rattle.shellword.specs.Scan.{braced_front, dollar_front, front_of, close, scan}
+use Rattle.fallible.specs.Reading.{◌>>=◌}
 use Rattle.shellword.specs.Word as w
 use Rattle.shellword.specs.Word.{IsVariable, AreDoubleParts, IsWordPart, IsHerePart}
 use Rattle.shellword.specs.WordFaults as refusals
 use Rattle.shellword.specs.WordFaults.{BeginsRefused, command, expansion, WordBreaks, HereBreaks}
 use Rattle.shellword.proofs.Steps as s
 use Rattle.shellword.proofs.Steps.{IsFront, Breaks}
-use Rattle.shellword.proofs.Outcome.{chosen, passed, fault_is, bind_err}
+use Rattle.fallible.proofs.Binds.{chosen, passed, err_is, bind_err}
 use Rattle.shellword.proofs.Fronts.{front-read, read-front, front-len, both, brace_there}
 use Rattle.shellword.proofs.Parts.{Leads, PartOf, bare, single, double, here, Found, step_found, variable_leads, variable_is, braced_is, single_carry, double_carry, word_part_carry, here_part_carry}
 use Rattle.shellword.proofs.Parts as parts
@@ -85,11 +86,11 @@ abbrev failure : {A : Type 0} → ShellFault → Result A ShellFault
 failure f = Err f
 
 braced_err : (at : ℕ) (c : Context) (bs : List ℕ) (f : ShellFault) → braced_front at c bs ≡ Err f → f ≡ BadWord at
-braced_err at c [] f e = sym (fault_is {A = Front} _ _ e)
+braced_err at c [] f e = sym (err_is {A = Front} _ _ e)
 braced_err at c (b ∷ inside) f e =
     elim (chosen (b == open_brace && ltb 0 (name_len inside) && closes_brace (drop (name_len inside) inside)) _ _ _ e) [
       | inl h ↦ absurd (passed h.1)
-      | inr h ↦ sym (fault_is {A = Front} _ _ h.1)
+      | inr h ↦ sym (err_is {A = Front} _ _ h.1)
     ]
 
 dollar_err : (at : ℕ) (c : Context) (bs : List ℕ) (f : ShellFault) → dollar_front at c bs ≡ Err f → (f ≡ BadWord at) × (stands_alone bs ≡ false)
@@ -110,7 +111,7 @@ fails_at_backquote : (at : ℕ) (c : Context) (bs : List ℕ) (f : ShellFault) �
 unfolding front_of
 fails_at_backquote at c bs f special e =
     let there : failure {A = Front} (BadWord at) ≡ Err f = rw special at e in
-    (sym (fault_is {A = Front} _ _ there), expands c backquote special refl, command)
+    (sym (err_is {A = Front} _ _ there), expands c backquote special refl, command)
 
 read-refused : (at : ℕ) (c : Context) (b : ℕ) (bs : List ℕ) (f : ShellFault) → front_of at c b bs ≡ Err f → FailsHere at c (b ∷ bs) f
 unfolding front_of
@@ -141,7 +142,7 @@ read-refused at c b bs f e =
 -- ---- a run that is rejected
 
 close_fails : (c : Context) (at : ℕ) (f : ShellFault) → close c at ≡ Err f → (f ≡ BadWord at) × (is_quoted c ≡ true)
-close_fails c at f e = elim (chosen (is_quoted c) _ _ _ e) [ inl h ↦ (sym (fault_is {A = List Part × ℕ} _ _ h.1), h.0) | inr h ↦ absurd (passed h.1) ]
+close_fails c at f e = elim (chosen (is_quoted c) _ _ _ e) [ inl h ↦ (sym (err_is {A = List Part × ℕ} _ _ h.1), h.0) | inr h ↦ absurd (passed h.1) ]
 
 no_text : (c : Context) (text : List ℕ) → is_over c text ≡ true → is_quoted c ≡ true → text ≡ []
 no_text c [] over quoted = refl

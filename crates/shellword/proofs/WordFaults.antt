@@ -8,11 +8,12 @@ use Rattle.shellword.specs.declared.front.Context.{Context}
 use Rattle.shellword.specs.declared.front.Context.TheVariants.{Bare, Here}
 use Rattle.shellword.specs.declared.token.Token.TheVariants.{Word}
 use Rattle.shellword.specs.Text.{newline, ampersand, bar, is_blank, is_space, begins_with, ends_word, word_ends, is_parted}
-use Rattle.shellword.specs.Scan.{◌>>=◌, scan, word_of, word_front_of, here_of}
+use Rattle.shellword.specs.Scan.{scan, word_of, word_front_of, here_of}
+use Rattle.fallible.specs.Reading.{◌>>=◌}
 use Rattle.shellword.specs.Cut.{ampersand_at, bar_at, token_at, tokens_of}
 use Rattle.shellword.specs.Word.{AreWordParts, BeginsAt}
 use Rattle.shellword.specs.WordFaults.{WordBreaks, IsBadWord, word_breaks, goes_on, IsBadFront, front_breaks, operator, IsBadHere}
-use Rattle.shellword.proofs.Outcome.{chosen, passed, fault_is, bind_err}
+use Rattle.fallible.proofs.Binds.{chosen, passed, err_is, bind_err}
 use Rattle.shellword.proofs.Words.{run-front, front-run}
 use Rattle.shellword.proofs.Parts.{word-run, run-word}
 use Rattle.shellword.proofs.WordBreaks.{BreaksAt, scan-breaks, breaks-scan, word-breaks, here-breaks, breaks-word, breaks-here}
@@ -26,7 +27,7 @@ abbrev pub placed : {A : Type 0} → ℕ → Result A ShellFault
 placed at = Err (BadWord at)
 
 at_place : {A : Type 0} (at n : ℕ) (f : ShellFault) → placed {A = A} at ≡ Err f → at ≤ n → Fault n f
-at_place {A} at n f e h = (at, sym (fault_is {A = A} _ _ e), h)
+at_place {A} at n f e h = (at, sym (err_is {A = A} _ _ e), h)
 
 further : (m n : ℕ) (f : ShellFault) → Fault m f → m ≤ n → Fault n f
 further m n f p h = (p.0, p.1, omega (arith, p.2))
@@ -55,7 +56,7 @@ word-bad text f e =
       | inr x ↦
           (elim (chosen (list_all is_blank (drop x.0.1 text)) _ _ _ x.2) [
             | inl h ↦ absurd (passed h.1)
-            | inr h ↦ let w = run-word (front-run Bare text x.0 x.1) in (x.0.1, sym (fault_is {A = List Part} _ _ h.1), goes_on w.0 w.1 h.0 w.2)
+            | inr h ↦ let w = run-word (front-run Bare text x.0 x.1) in (x.0.1, sym (err_is {A = List Part} _ _ h.1), goes_on w.0 w.1 h.0 w.2)
           ])
     ]
 
@@ -72,7 +73,7 @@ front-bad text f e =
       | inr x ↦
           (elim (chosen (is_parted (drop x.0.1 text)) _ _ _ x.2) [
             | inl h ↦ absurd (passed h.1)
-            | inr h ↦ let w = run-word (front-run Bare text x.0 x.1) in (x.0.1, sym (fault_is {A = List Part × ℕ} _ _ h.1), operator w.0 w.1 h.0 w.2)
+            | inr h ↦ let w = run-word (front-run Bare text x.0 x.1) in (x.0.1, sym (err_is {A = List Part × ℕ} _ _ h.1), operator w.0 w.1 h.0 w.2)
           ])
     ]
 

@@ -9,11 +9,12 @@ use Rattle.shellword.specs.declared.front.Context.TheVariants.{Bare, Here}
 use Rattle.shellword.specs.declared.front.Front.{Front}
 use Rattle.shellword.specs.Text.{is_blank, word_ends, is_parted}
 use Rattle.shellword.specs.Contexts.{is_over, is_quoted}
-use Rattle.shellword.specs.Scan.{◌>>=◌, front_of, close, scan, word_of, word_front_of, here_of}
+use Rattle.shellword.specs.Scan.{front_of, close, scan, word_of, word_front_of, here_of}
+use Rattle.fallible.specs.Reading.{◌>>=◌}
 use Rattle.shellword.specs.Word.{AreWordParts, IsWord, IsWordFront, IsHere}
 use Rattle.shellword.proofs.Steps.{IsFront, Runs, ends, goes_on}
 use Rattle.shellword.proofs.Parts.{word-run, run-word, run-here, here-run}
-use Rattle.shellword.proofs.Outcome.{chosen, failed, ok_is, bind_ok}
+use Rattle.fallible.proofs.Binds.{chosen, failed, ok_is, bind_ok}
 use Rattle.shellword.proofs.Fronts.{front-read, read-front, front-len}
 use Rattle.shellword.proofs.Runs.{with_parts, scan_over, scan_front}
 

@@ -7,7 +7,8 @@ use Rattle.shellword.specs.declared.token.Joint.TheVariants.{And, Or}
 use Rattle.shellword.specs.declared.token.Token.{Token}
 use Rattle.shellword.specs.declared.token.Token.TheVariants.{Word, Join, Bar, Newline}
 use Rattle.shellword.specs.Text.{is_space, newline, ampersand, bar, ends_word, begins_with}
-use Rattle.shellword.specs.Scan.{◌>>=◌, scan}
+use Rattle.shellword.specs.Scan.{scan}
+use Rattle.fallible.specs.Reading.{◌>>=◌}
 
 -- the token of `&` at offset `at`, followed by this text, and the offset after it
 abbrev pub ampersand_at : ℕ → List ℕ → Result (Token × ℕ) ShellFault

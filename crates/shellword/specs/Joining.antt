@@ -9,7 +9,7 @@ use Rattle.shellword.specs.declared.token.Joint.{Joint}
 use Rattle.shellword.specs.declared.token.Token.{Token}
 use Rattle.shellword.specs.declared.token.Token.TheVariants.{Word, Join, Bar, Newline}
 use Rattle.shellword.specs.Element.{element_of}
-use Rattle.shellword.specs.Scan.{◌>>=◌}
+use Rattle.fallible.specs.Reading.{◌>>=◌}
 use Rattle.shellword.specs.Cut.{tokens_of}
 use Rattle.shellword.specs.Tokens.{is_newline}
 use Rattle.shellword.specs.Truth.{Joined, single, joined}

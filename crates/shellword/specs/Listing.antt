@@ -6,7 +6,7 @@ use Rattle.shellword.specs.declared.part.Part.{Part}
 use Rattle.shellword.specs.declared.pattern.Piece.{Piece}
 use Rattle.shellword.specs.declared.token.Token.{Token}
 use Rattle.shellword.specs.declared.token.Token.TheVariants.{Word, Bar}
-use Rattle.shellword.specs.Scan.{◌>>=◌}
+use Rattle.fallible.specs.Reading.{◌>>=◌}
 use Rattle.shellword.specs.Cut.{tokens_of}
 use Rattle.shellword.specs.Pieces.{pieces_of}
 

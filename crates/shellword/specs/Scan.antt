@@ -1,6 +1,7 @@
 -- What each step of the reader finds, as functions on lists. All are own.
 use Rattle.std.specs.Prelude.{nat_lt, ℕ, zero, suc, ◌+◌, ◌-◌, ◌&&◌, List, [], ◌∷◌, ◌++◌, take, drop, Option, Some, None, option_to_list, Result, Ok, Err, ◌==◌, if◌then◌else◌}
 use Rattle.std.specs.List.{list_all}
+use Rattle.fallible.specs.Reading.{◌>>=◌}
 use Rattle.shellword.specs.declared.fault.ShellFault.{ShellFault}
 use Rattle.shellword.specs.declared.fault.ShellFault.TheVariants.{BadWord}
 use Rattle.shellword.specs.declared.part.Part.{Part}
@@ -10,12 +11,6 @@ use Rattle.shellword.specs.declared.front.Context.TheVariants.{Bare, Single, Dou
 use Rattle.shellword.specs.declared.front.Front.{Front}
 use Rattle.shellword.specs.Text.{is_blank, is_parted, single_quote, backslash, dollar, backquote, open_brace, name_len, stands_alone}
 use Rattle.shellword.specs.Contexts.{is_over, is_quoted, is_special, escapes, escaped_part, byte_in, closes_brace}
-
--- a step, followed by the next one unless it failed
-infixl 10 ◌>>=◌
-abbrev pub ◌>>=◌ : {A B : Type 0} → Result A ShellFault → (A → Result B ShellFault) → Result B ShellFault
-(Ok x) >>= f = f x
-(Err e) >>= f = Err e
 
 -- a front of this part and length, with the context after it
 abbrev pub front : Option Part → ℕ → Context → Front

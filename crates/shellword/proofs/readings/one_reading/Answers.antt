@@ -1,6 +1,6 @@
 use Rattle.std.proofs.Common.{ℕ, List, sym, ap, ◌∙◌}
 use Rattle.shellword.specs.declared.part.Part.{Part}
-use Rattle.shellword.proofs.Outcome.{ok_is}
+use Rattle.fallible.proofs.Binds.{ok_is}
 use Rattle.shellword.proofs.Laws.{word_reading, front_reading, here_reading, test_reading, pattern_reading}
 use Rattle.shellword.proofs.readings.one_reading.Goals as goal
 

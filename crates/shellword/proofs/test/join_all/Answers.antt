@@ -1,8 +1,10 @@
 use Rattle.std.proofs.Common.{◌≡◌, ◌<◌, length, sym, arith}
 use Rattle.std.proofs.lemmas.Result.{err_from_is_err_and}
 use Rattle.std.proofs.lemmas.Bool.{eqb-true, eqb-false}
+use Rattle.shellword.specs.Gives.{Fails}
 use Rattle.shellword.proofs.Elements.{none_left}
-use Rattle.shellword.proofs.Outcome.{fails_along, given_by}
+use Rattle.shellword.proofs.Outcome.{fails_along}
+use Rattle.fallible.proofs.Clauses.{given_by}
 use Rattle.shellword.proofs.Joining.{on_word, on_join_failed, on_join, on_bar, on_newline, on_line_end, at_end}
 use Rattle.shellword.proofs.test.join_all.Goals as goal
 
@@ -37,10 +39,10 @@ returns-in-Newline-2 c =
     let n = eqb-false _ 0 (sym c.if-is_empty.ensures) in
     let some : 0 < length c.loop-token.words.items = omega (arith, n, c.loop-token.words.ok) in
     record {
-      value = given_by (λ t. t) c.end_line.result _ _ (on_line_end c.loop-token.before c.loop-token.words.items c.loop-token.at c.loop-token.tokens.items c.pop_front.new.self.items c.in-Some.token _ c.in-Some.ensures.items c.loop-token.invariant c.in-Newline-2.is some) c.end_line.ensures.value;
+      value = given_by Fails (λ t. t) c.end_line.result _ _ (on_line_end c.loop-token.before c.loop-token.words.items c.loop-token.at c.loop-token.tokens.items c.pop_front.new.self.items c.in-Some.token _ c.in-Some.ensures.items c.loop-token.invariant c.in-Newline-2.is some) c.end_line.ensures.value;
     }
 
 pub returns : goal.returns
 returns c =
     let none : length c.loop-token.tokens.items ≡ 0 = omega (arith, c.in_default.ensures.cases.0, c.loop-token.tokens.ok) in
-    record { value = given_by (λ t. t) c.end_element-2.result _ _ (at_end c.loop-token.before c.loop-token.words.items c.loop-token.at c.loop-token.tokens.items _ (none_left c.loop-token.tokens.items none) c.loop-token.invariant) c.end_element-2.ensures.value }
+    record { value = given_by Fails (λ t. t) c.end_element-2.result _ _ (at_end c.loop-token.before c.loop-token.words.items c.loop-token.at c.loop-token.tokens.items _ (none_left c.loop-token.tokens.items none) c.loop-token.invariant) c.end_element-2.ensures.value }
