@@ -17,8 +17,9 @@ use Rattle.baretext.specs.Joining.{joined}
 use Rattle.baretext.specs.Text.{hash, colon, equals}
 use Rattle.baretext.specs.Faults.{IsReadingFault}
 use Rattle.baretext.specs.Statements.{assigns, item}
-use Rattle.baretext.specs.Reading.{◌>>=◌, word_fault, placed, value_at, assignment_at, shell_word_at, item_of, statements_from, statements_of}
-use Rattle.baretext.proofs.Outcome.{chosen, passed, fault_is, bind_err}
+use Rattle.baretext.specs.Reading.{word_fault, placed, value_at, assignment_at, shell_word_at, item_of, statements_from, statements_of}
+use Rattle.fallible.specs.Reading.{◌>>=◌}
+use Rattle.fallible.proofs.Binds.{chosen, passed, err_is, bind_err}
 use Rattle.baretext.proofs.Fronts.{begins, read-item, item-len}
 use Rattle.baretext.proofs.Joining.{joined-len}
 
@@ -33,11 +34,11 @@ abbrev not_known : {A : Type 0} → ℕ → Result A BareFault
 not_known at = Err (UnknownStatement at)
 
 unknown-fault : {A : Type 0} (at n : ℕ) (f : BareFault) → not_known {A = A} at ≡ Err f → at ≤ n → IsReadingFault n f
-unknown-fault {A} at n f e le = subst (IsReadingFault n) (fault_is {A = A} (UnknownStatement at) f e) le
+unknown-fault {A} at n f e le = subst (IsReadingFault n) (err_is {A = A} (UnknownStatement at) f e) le
 
 pub placed_err : (start : ℕ) (r : Result (List Part × ℕ) ShellFault) (f : BareFault) → placed start r ≡ Err f → (g : ShellFault) × (r ≡ Err g) × (word_fault start g ≡ f)
 placed_err start (Ok x) f e = absurd (passed e)
-placed_err start (Err g) f e = (g, refl, fault_is {A = List Part × ℕ} (word_fault start g) f e)
+placed_err start (Err g) f e = (g, refl, err_is {A = List Part × ℕ} (word_fault start g) f e)
 
 value-fault : (start : ℕ) (rest : List ℕ) (f : BareFault) → value_at start rest ≡ Err f → IsReadingFault (start + length rest) f
 value-fault start rest f e =

@@ -18,8 +18,9 @@ use Rattle.baretext.specs.declared.item.Stage.{Stage}
 use Rattle.baretext.specs.declared.item.Stage.TheVariants.{Opening, Assigned, Closed}
 use Rattle.baretext.specs.Text.{hash, colon, equals}
 use Rattle.baretext.specs.Statements.{takes_assignments, assigns, item, nothing, IsItem, space, line_end, parted, comment, lone_colon, assignment}
-use Rattle.baretext.specs.Reading.{◌>>=◌, placed, value_at, assignment_at, shell_word_at, item_of}
-use Rattle.baretext.proofs.Outcome.{chosen, failed, ok_is, bind_ok}
+use Rattle.baretext.specs.Reading.{placed, value_at, assignment_at, shell_word_at, item_of}
+use Rattle.fallible.specs.Reading.{◌>>=◌}
+use Rattle.fallible.proofs.Binds.{chosen, failed, ok_is, bind_ok}
 
 -- ---- names
 

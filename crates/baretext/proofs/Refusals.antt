@@ -22,8 +22,9 @@ use Rattle.baretext.specs.Text.{hash, colon, equals}
 use Rattle.baretext.specs.Gives.{Gives, Fails}
 use Rattle.baretext.specs.Refused.{IsNamed, IsFirstFault, unknown, refused_word, following, IsFaultOfText, IsRefused}
 use Rattle.baretext.specs.Statements.{takes_assignments, assigns, item, IsItem}
-use Rattle.baretext.specs.Reading.{◌>>=◌, word_fault, placed, value_at, assignment_at, shell_word_at, item_of, statements_from, statements_of}
-use Rattle.baretext.proofs.Outcome.{chosen, failed, passed, fault_is, bind_err}
+use Rattle.baretext.specs.Reading.{word_fault, placed, value_at, assignment_at, shell_word_at, item_of, statements_from, statements_of}
+use Rattle.fallible.specs.Reading.{◌>>=◌}
+use Rattle.fallible.proofs.Binds.{chosen, failed, passed, err_is, bind_err}
 use Rattle.baretext.proofs.Fronts.{begins, item-read, read-item, item-len, named-read, assignment-named}
 use Rattle.baretext.proofs.FaultPlaces.{placed_err}
 use Rattle.baretext.proofs.Joining.{joined_reading}
@@ -51,10 +52,10 @@ assignment-split : (stage : Stage) (at : ℕ) (text : List ℕ) (f : BareFault) 
 assignment-split stage at text f takes e =
     let n = prefix_len continues_name text in
     elim (chosen (begins_with equals (drop n text)) _ _ _ e) [
-      | inr h ↦ inl (fault_is {A = Item} (UnknownStatement at) f h.1)
+      | inr h ↦ inl (err_is {A = Item} (UnknownStatement at) f h.1)
       | inl h ↦
           (elim (chosen (is_shell_name_of (take n text)) _ _ _ h.1) [
-            | inr k ↦ inl (fault_is {A = Item} (UnknownStatement at) f k.1)
+            | inr k ↦ inl (err_is {A = Item} (UnknownStatement at) f k.1)
             | inl k ↦
                 (elim (bind_err (value_at (at + (n + 1)) (drop (n + 1) text)) (λ w. Ok (item (Some (assigns (take n text) w.0)) (n + 1 + w.1) Assigned)) f k.1) [
                   | inr w ↦ absurd (passed w.2)
@@ -76,7 +77,7 @@ assignment-split stage at text f takes e =
     ]
 
 shell_word-split : (stage : Stage) (at b : ℕ) (bs : List ℕ) (f : BareFault) → shell_word_at stage at (b ∷ bs) ≡ Err f → Split stage at (b ∷ bs) f
-shell_word-split Closed at b bs f e = inl (fault_is {A = Item} (UnknownStatement at) f e)
+shell_word-split Closed at b bs f e = inl (err_is {A = Item} (UnknownStatement at) f e)
 shell_word-split Assigned at b bs f e = assignment-split Assigned at (b ∷ bs) f refl e
 shell_word-split Opening at b bs f e =
     elim (chosen (b == colon) _ _ _ e) [

@@ -6,8 +6,9 @@ use Rattle.baretext.specs.declared.fault.BareFault.{BareFault}
 use Rattle.baretext.specs.declared.item.Item.{Item}
 use Rattle.baretext.specs.declared.item.Stage.{Stage}
 use Rattle.baretext.specs.Statements.{AreStatements, no_more, more}
-use Rattle.baretext.specs.Reading.{◌>>=◌, item_of, statements_from}
-use Rattle.baretext.proofs.Outcome.{ok_is, bind_ok}
+use Rattle.baretext.specs.Reading.{item_of, statements_from}
+use Rattle.fallible.specs.Reading.{◌>>=◌}
+use Rattle.fallible.proofs.Binds.{ok_is, bind_ok}
 use Rattle.baretext.proofs.Fronts.{item-read, read-item, item-len}
 
 -- what was read before, and what is still read

@@ -1,6 +1,7 @@
 -- The answer of a call, compared with the value of a function on lists. A call may run out of memory instead of giving
 -- any answer.
-use Rattle.std.specs.Prelude.{◌≡◌, Result, Ok, Err}
+use Rattle.std.specs.Prelude.{◌≡◌, Result, Err}
+use Rattle.fallible.specs.Reading.{GivesBy}
 use Rattle.baretext.specs.declared.fault.BareFault.{BareFault}
 use Rattle.baretext.specs.declared.fault.BareFault.TheVariants.{OutOfMemory}
 
@@ -11,5 +12,4 @@ Fails f read = read ≡ Err f
 
 -- what a call returned, as seen by `view`, is the value of the function, or memory ran out (own)
 abbrev pub Gives : {X Y : Type 0} → (X → Y) → Result X BareFault → Result Y BareFault → Type 0
-Gives view (Ok x) read = read ≡ Ok (view x)
-Gives view (Err f) read = Fails f read
+Gives view given read = GivesBy Fails view given read

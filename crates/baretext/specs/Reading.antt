@@ -1,6 +1,7 @@
 -- What each step of the reader finds, as functions on lists. All are own.
 use Rattle.std.specs.Prelude.{ℕ, zero, suc, ◌+◌, ◌-◌, ◌||◌, List, [], ◌∷◌, ◌++◌, take, drop, ◌==◌, Some, option_to_list, Result, Ok, Err, if◌then◌else◌}
 use Rattle.std.specs.List.{prefix_len}
+use Rattle.fallible.specs.Reading.{◌>>=◌}
 use Rattle.deftable.specs.ShellName.{is_shell_name_of, continues_name}
 use Rattle.shellword.specs.declared.fault.ShellFault.{ShellFault}
 use Rattle.shellword.specs.declared.fault.ShellFault.TheVariants.{BadWord}
@@ -17,12 +18,6 @@ use Rattle.baretext.specs.declared.item.Stage.TheVariants.{Opening, Assigned, Cl
 use Rattle.baretext.specs.Joining.{joined}
 use Rattle.baretext.specs.Statements.{assigns, item, nothing}
 use Rattle.baretext.specs.Text.{hash, colon, equals, comment_len}
-
--- a step, followed by the next one unless it failed
-infixl 10 ◌>>=◌
-abbrev pub ◌>>=◌ : {A B : Type 0} → Result A BareFault → (A → Result B BareFault) → Result B BareFault
-(Ok x) >>= f = f x
-(Err e) >>= f = Err e
 
 -- the error of a word that begins at offset `start`
 abbrev pub word_fault : ℕ → ShellFault → BareFault

@@ -1,7 +1,7 @@
 use Rattle.std.proofs.Common.{sym, ◌∙◌}
 use Rattle.baretext.proofs.Joining.{joined_reading}
 use Rattle.baretext.proofs.Laws.{text-read}
-use Rattle.baretext.proofs.Outcome.{ok_is}
+use Rattle.fallible.proofs.Binds.{ok_is}
 use Rattle.baretext.proofs.readings.one_reading.Goals as goal
 
 pub returns : goal.returns

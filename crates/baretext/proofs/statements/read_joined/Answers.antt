@@ -2,7 +2,8 @@ use Rattle.std.proofs.Common.{ℕ, length, List, sym, ap, ◌∙◌, arith}
 use Rattle.std.proofs.lemmas.List.{length-drop, take_rest}
 use Rattle.std.proofs.lemmas.Result.{err_from_is_err_and}
 use Rattle.baretext.specs.declared.assignments.Assignment.{Assignment}
-use Rattle.baretext.proofs.Outcome.{done, fails_along}
+use Rattle.baretext.proofs.Outcome.{fails_along}
+use Rattle.fallible.proofs.Binds.{done}
 use Rattle.baretext.proofs.Scans.{loop_failed, loop_item, loop_ended}
 use Rattle.baretext.proofs.statements.read_joined.Goals as goal
 

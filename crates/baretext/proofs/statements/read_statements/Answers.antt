@@ -1,17 +1,16 @@
-use Rattle.std.proofs.Common.{subst}
-use Rattle.baretext.specs.Gives.{Gives}
+use Rattle.baretext.specs.Gives.{Fails}
 use Rattle.baretext.specs.Reading.{statements_of}
 use Rattle.baretext.specs.Statements.{IsBareText}
 use Rattle.baretext.proofs.Laws.{text-read, read-text}
-use Rattle.baretext.proofs.Outcome.{told}
+use Rattle.fallible.proofs.Clauses.{found, only}
 use Rattle.baretext.proofs.Refusals.{refused_by}
 use Rattle.baretext.proofs.statements.read_statements.Goals as goal
 
 pub returns-clause-sound : goal.returns-clause-sound
-returns-clause-sound c = told (λ a. a) (IsBareText c.args.text.now) c.read_whole.result (statements_of c.args.text.now) c.read_whole.ensures.exact (read-text c.args.text.now)
+returns-clause-sound c = found Fails (λ a. a) c.read_whole.result (statements_of c.args.text.now) c.read_whole.ensures.exact (IsBareText c.args.text.now) (read-text c.args.text.now)
 
 pub returns-clause-complete : goal.returns-clause-complete
-returns-clause-complete c = λ list h. subst (λ r. Gives (λ a. a) c.read_whole.result r) (text-read c.args.text.now list h) c.read_whole.ensures.exact
+returns-clause-complete c = λ list h. only Fails (λ a. a) c.read_whole.result (statements_of c.args.text.now) c.read_whole.ensures.exact list (text-read c.args.text.now list h)
 
 pub returns-clause-error_sound : goal.returns-clause-error_sound
 returns-clause-error_sound c = refused_by c.args.text.now (λ a. a) c.read_whole.result c.read_whole.ensures.exact
