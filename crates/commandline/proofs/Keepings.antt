@@ -1,5 +1,5 @@
 -- What the arguments that are kept of a command line give.
-use Rattle.std.proofs.Common.{◌≡◌, ◌≢◌, ℕ, ◌+◌, Bool, true, false, List, [], ◌∷◌, ◌++◌, if◌then◌else◌, Option, None, Ok, refl, sym, ap, subst, ◌∙◌}
+use Rattle.std.proofs.Common.{◌≡◌, ◌≢◌, ℕ, ◌+◌, Bool, true, false, List, [], ◌∷◌, ◌++◌, if◌then◌else◌, None, Ok, refl, sym, ap, subst, ◌∙◌}
 use Rattle.commandline.proofs.Words.{setting_said, option_said}
 use Rattle.commandline.proofs.Lines.{alone_awaits}
 use Rattle.commandline.specs.Arguments.{Said, Turns, Gives, Awaits, Chooses, Misnames, Assigns, Misassigns, Nothing, alone, awaited_by, said_by}
@@ -10,7 +10,6 @@ use Rattle.commandline.specs.KeptSettings as keeping
 use Rattle.commandline.specs.KeptSettings.{placed, AreKept, GivesKept}
 use Rattle.commandline.specs.declared.argument.Target.{Target}
 use Rattle.commandline.specs.declared.argument.Target.TheVariants.{InstallDirectory, Srcdir, CacheFile}
-use Rattle.commandline.specs.declared.argument.Switch.{Switch}
 use Rattle.commandline.specs.declared.argument.Switch.TheVariants.{ConfigCache, Quiet, NoCreate, Help, Version, Ignored}
 
 -- A setting at another place.
