@@ -1,5 +1,8 @@
 //! Warnings about the templates of files.
 
+ghost use Rattle.std.specs.Prelude.{OnOk};
+ghost use Rattle.findings.specs.Within.{KeepsWithin};
+
 use crate::advice::variable_advice;
 use crate::given::Given;
 use crate::saying::{Form, warn_at, warn_of_name};
@@ -30,7 +33,9 @@ fn warn_once(
     span: Span,
     name: &[u8],
     out: &mut Vec<Finding>,
-) -> Result<(), AllocError> {
+) -> Result<(), AllocError>
+    ensures within { OnOk result (KeepsWithin span.file text.now out.old.items out.new.items) }
+{
     if !is_shell_name(name) || given.variables.has(name) || seen.has(name) {
         return Ok(());
     }
@@ -46,7 +51,9 @@ fn warn_of_names(
     file: usize,
     text: &[u8],
     out: &mut Vec<Finding>,
-) -> Result<(), AllocError> {
+) -> Result<(), AllocError>
+    ensures within { OnOk result (KeepsWithin file text.now out.old.items out.new.items) }
+{
     let mut seen = SubstList::new(alloc);
     let mut at = 0usize;
     for piece in text.split(|byte| *byte == b'@') {
@@ -81,7 +88,9 @@ fn warn_of_directories(
     file: usize,
     text: &[u8],
     out: &mut Vec<Finding>,
-) -> Result<(), AllocError> {
+) -> Result<(), AllocError>
+    ensures within { OnOk result (KeepsWithin file text.now out.old.items out.new.items) }
+{
     if text.contains_str(b"datarootdir") {
         return Ok(());
     }
@@ -103,7 +112,9 @@ fn warn_of_script(
     file: usize,
     text: &[u8],
     out: &mut Vec<Finding>,
-) -> Result<(), AllocError> {
+) -> Result<(), AllocError>
+    ensures within { OnOk result (KeepsWithin file text.now out.old.items out.new.items) }
+{
     warn_at(
         alloc,
         out,
@@ -122,7 +133,9 @@ fn warn_of_end(
     file: usize,
     text: &[u8],
     out: &mut Vec<Finding>,
-) -> Result<(), AllocError> {
+) -> Result<(), AllocError>
+    ensures within { OnOk result (KeepsWithin file text.now out.old.items out.new.items) }
+{
     if text.is_empty() || text.ends_with(b"\n") {
         return Ok(());
     }
@@ -150,9 +163,13 @@ pub fn warn_of_file(
     file: usize,
     text: &[u8],
     out: &mut Vec<Finding>,
-) -> Result<(), AllocError> {
+) -> Result<(), AllocError>
+    // If the findings of this file were in its text, they still are.
+    ensures within { OnOk result (KeepsWithin file text.now out.old.items out.new.items) }
+{
     warn_of_names(alloc, given, file, text, out)?;
     warn_of_directories(alloc, file, text, out)?;
     warn_of_script(alloc, file, text, out)?;
-    warn_of_end(alloc, file, text, out)
+    warn_of_end(alloc, file, text, out)?;
+    Ok(())
 }

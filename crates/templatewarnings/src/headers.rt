@@ -1,5 +1,8 @@
 //! Warnings about the templates of headers.
 
+ghost use Rattle.std.specs.Prelude.{◌≡◌, OnOk};
+ghost use Rattle.findings.specs.Within.{KeepsWithin};
+
 use crate::advice::definition_advice;
 use crate::given::{Given, add_name};
 use crate::saying::{Form, joined, warn_of_name};
@@ -42,7 +45,9 @@ fn warn_of_line(
     at: usize,
     line: &[u8],
     out: &mut Vec<Finding>,
-) -> Result<(), AllocError> {
+) -> Result<(), AllocError>
+    ensures within { OnOk result (KeepsWithin file text.now out.old.items out.new.items) }
+{
     let Some((column, name)) = named(line, false) else {
         return Ok(());
     };
@@ -70,7 +75,10 @@ pub fn warn_of_header(
     file: usize,
     text: &[u8],
     out: &mut Vec<Finding>,
-) -> Result<(), AllocError> {
+) -> Result<(), AllocError>
+    // If the findings of this file were in its text, they still are.
+    ensures within { OnOk result (KeepsWithin file text.now out.old.items out.new.items) }
+{
     let mut at = 0usize;
     for line in text.split(|byte| *byte == b'\n') {
         warn_of_line(alloc, given, file, text, at, line, out)?;
@@ -94,7 +102,9 @@ pub fn add_listed(names: &mut SubstList, text: &[u8]) -> Result<(), AllocError> 
 }
 
 /// Returns where a source names a text first, or its start if it doesn't.
-fn place_of(source: &[u8], sought: &[u8]) -> Span {
+fn place_of(source: &[u8], sought: &[u8]) -> Span
+    ensures { result.file ≡ 0 }
+{
     match source.find(sought) {
         Some(start) => Span {
             file: 0,
@@ -110,7 +120,9 @@ fn place_of(source: &[u8], sought: &[u8]) -> Span {
 }
 
 /// Returns where a source makes a definition: where it names it, or else where it names its headers.
-fn place_of_definition(source: &[u8], name: &[u8]) -> Span {
+fn place_of_definition(source: &[u8], name: &[u8]) -> Span
+    ensures { result.file ≡ 0 }
+{
     if source.contains_str(name) {
         return place_of(source, name);
     }
@@ -124,7 +136,9 @@ fn warn_of_definition(
     source: &[u8],
     name: &[u8],
     out: &mut Vec<Finding>,
-) -> Result<(), AllocError> {
+) -> Result<(), AllocError>
+    ensures within { OnOk result (KeepsWithin 0 source.now out.old.items out.new.items) }
+{
     if names.has(name) || name.starts_with(b"PACKAGE_") {
         return Ok(());
     }
@@ -162,7 +176,10 @@ pub fn warn_of_unlisted(
     source: &[u8],
     listed: &SubstList,
     out: &mut Vec<Finding>,
-) -> Result<(), AllocError> {
+) -> Result<(), AllocError>
+    // If the findings of the source were in its text, they still are.
+    ensures within { OnOk result (KeepsWithin 0 source.now out.old.items out.new.items) }
+{
     for name in given.defined.names() {
         warn_of_definition(alloc, listed, source, name.as_slice(), out)?;
     }

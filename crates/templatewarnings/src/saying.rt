@@ -1,5 +1,8 @@
 //! Writes the messages of warnings.
 
+ghost use Rattle.std.specs.Prelude.{OnOk};
+ghost use Rattle.findings.specs.Within.{KeepsWithin};
+
 use deftable::{Bytes, SubstList};
 use faultwords::near_name;
 use findings::{Finding, Span, warn};
@@ -71,7 +74,9 @@ pub(crate) fn warn_of_name(
     name: &[u8],
     advice: &[u8],
     names: &SubstList,
-) -> Result<(), AllocError> {
+) -> Result<(), AllocError>
+    ensures within { OnOk result (KeepsWithin span.file text.now out.old.items out.new.items) }
+{
     let message = joined(alloc, form.message.0, name, form.message.1)?;
     let message = message.as_slice();
     if !advice.is_empty() {
@@ -100,7 +105,9 @@ pub(crate) fn warn_at(
     code: &[u8],
     message: &[u8],
     help: &[u8],
-) -> Result<(), AllocError> {
+) -> Result<(), AllocError>
+    ensures within { OnOk result (KeepsWithin file text.now out.old.items out.new.items) }
+{
     let Some((start, length)) = part else {
         return Ok(());
     };
