@@ -5,3 +5,4 @@ pub mod Idle
 pub mod Inside
 pub mod Standing
 pub mod Stand
+pub mod FaultText

@@ -1,65 +1,81 @@
 //! Why a source could not be read.
 
-ghost use Rattle.std.specs.Prelude.{◌≡◌, ◌+◌, ◌≤◌, Err};
+ghost use Rattle.std.specs.Prelude.{◌≡◌, ◌+◌, ◌≤◌, Err, Some};
 ghost use Rattle.acstatement.specs.declared.fault.ParseFault.TheVariants.{OutOfMemory};
 ghost use Rattle.acstatement.specs.Reading.{quote_fault, shell_fault, moved};
 ghost use Rattle.acstatement.specs.Fault.{IsWithin};
+ghost use Rattle.acstatement.specs.FaultText.{fault_text, shell_kind};
 
 use m4quote::QuoteFault;
 use shellword::ShellFault;
 use std::alloc::{AllocError, AllocFailed};
-use thiserror::Error;
+use std::error::Error;
+use std::fmt;
 
 /// What is wrong with a source: the first error, in the order of reading, and its offset in bytes from the start of the
 /// file. It prints as its number and offset.
-#[derive(Clone, Copy, Debug, PartialEq, Eq, Error)]
+#[derive(Clone, Copy, Debug, PartialEq, Eq)]
 pub enum ParseFault {
     /// Quotes, parentheses, a NUL byte, the nesting or the size of the source.
-    #[error("1.{0}")]
     Quote(QuoteFault),
     /// A macro that the table of macros doesn't have.
-    #[error("2 at {0}")]
     UnknownMacro(usize),
     /// Text that is not a statement.
-    #[error("3 at {0}")]
     UnknownStatement(usize),
     /// A macro with too few or too many arguments.
-    #[error("4 at {0}")]
     ArgCount(usize),
     /// A name or another text that doesn't have the form its argument needs.
-    #[error("5 at {0}")]
     BadName(usize),
     /// Shell text: a word, a test or a list of patterns outside the subset that is read.
-    #[error("6.{} at {}", shell_kind(.0), .1)]
     Shell(ShellFault, usize),
     /// A macro that is allowed only at top level, or a second AC_INIT.
-    #[error("7 at {0}")]
     NotAtTop(usize),
     /// Something other than AC_PREREQ, blanks and comments before AC_INIT, or no AC_INIT at all.
-    #[error("8")]
     NoInit,
     /// The source ends without AC_OUTPUT.
-    #[error("9")]
     NoOutput,
     /// Something other than blanks and comments after AC_OUTPUT.
-    #[error("10 at {0}")]
     AfterOutput(usize),
     /// Commands of AC_CACHE_CHECK that hold something other than assignments to its name, choices and tries.
-    #[error("11 at {0}")]
     CacheBody(usize),
     /// Statement lists that nest too deep.
-    #[error("12 at {0}")]
     TooDeep(usize),
     /// More entries than a list may have.
-    #[error("13 at {0}")]
     TooMany(usize),
     /// A version of Autoconf that is newer than 2.71, the version that this engine follows.
-    #[error("14 at {0}")]
     NewerVersion(usize),
     /// Memory ran out.
-    #[error("memory")]
     OutOfMemory,
 }
+
+impl fmt::Display for ParseFault {
+    ghost output = { λ f. Some (fault_text f) };
+
+    fn fmt<W: fmt::Write>(&self, f: &mut fmt::Formatter<W>) -> fmt::Result {
+        match self {
+            ParseFault::Quote(fault) => write!(f, "1.{fault}"),
+            ParseFault::UnknownMacro(at) => write!(f, "2 at {at}"),
+            ParseFault::UnknownStatement(at) => write!(f, "3 at {at}"),
+            ParseFault::ArgCount(at) => write!(f, "4 at {at}"),
+            ParseFault::BadName(at) => write!(f, "5 at {at}"),
+            ParseFault::Shell(fault, at) => {
+                let kind = shell_kind(fault);
+                write!(f, "6.{kind} at {at}")
+            }
+            ParseFault::NotAtTop(at) => write!(f, "7 at {at}"),
+            ParseFault::NoInit => f.write_str("8"),
+            ParseFault::NoOutput => f.write_str("9"),
+            ParseFault::AfterOutput(at) => write!(f, "10 at {at}"),
+            ParseFault::CacheBody(at) => write!(f, "11 at {at}"),
+            ParseFault::TooDeep(at) => write!(f, "12 at {at}"),
+            ParseFault::TooMany(at) => write!(f, "13 at {at}"),
+            ParseFault::NewerVersion(at) => write!(f, "14 at {at}"),
+            ParseFault::OutOfMemory => f.write_str("memory"),
+        }
+    }
+}
+
+impl Error for ParseFault {}
 
 impl From<AllocError> for ParseFault {
     ghost from_gives = { λ _ e. e ≡ OutOfMemory };
@@ -78,7 +94,9 @@ impl<T: Drop> From<AllocFailed<T>> for ParseFault {
 }
 
 /// Returns the number of an error of shell text. Its offset in the text is not reported.
-fn shell_kind(fault: &ShellFault) -> u8 {
+fn shell_kind(fault: &ShellFault) -> u8
+    ensures { result ≡ shell_kind fault.now }
+{
     match fault {
         ShellFault::BadWord(_) => 1,
         ShellFault::BadTest(_) => 2,

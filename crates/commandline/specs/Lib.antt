@@ -8,3 +8,4 @@ pub mod Reading
 pub mod Said
 pub mod Slashes
 pub mod Srcdir
+pub mod FaultText

@@ -1,37 +1,50 @@
 //! Why the filter writes no text.
 
-ghost use Rattle.std.specs.Prelude.{◌≡◌};
+ghost use Rattle.std.specs.Prelude.{◌≡◌, Some};
 ghost use Rattle.input.specs.declared.fault.ReadFault.TheVariants.{Read as Unread, OutOfMemory as NoReadMemory};
 ghost use Rattle.framing.specs.Faults.{of_parse};
 ghost use Rattle.filtering.specs.Faults.{of_run};
+ghost use Rattle.filtering.specs.FaultText.{filter_text};
 ghost use Rattle.filtering.specs.declared.fault.FilterFault.TheVariants.{OutOfMemory, Read};
 
 use acparse::ParseFault;
 use engine::Fault;
 use input::ReadFault;
 use std::alloc::{AllocError, AllocFailed};
-use thiserror::Error;
+use std::error::Error;
+use std::fmt;
 
 /// Why the filter writes no text. It prints as the text of its error line, except that the name of a template, which may be any
 /// bytes, is left out.
-#[derive(Debug, Drop, Error)]
+#[derive(Debug, Drop)]
 pub enum FilterFault {
     /// The input can't be read, or doesn't end within 65,536 reads.
-    #[error("file standard input")]
     Read,
     /// No line of the input is exactly `%%`.
-    #[error("usage")]
     Usage,
     /// The source, or a template, has an error.
-    #[error("{0}")]
     Run(Fault),
     /// The text can't be written.
-    #[error("file standard output")]
     Write,
     /// Memory ran out.
-    #[error("memory")]
     OutOfMemory,
 }
+
+impl fmt::Display for FilterFault {
+    ghost output = { λ f. Some (filter_text f) };
+
+    fn fmt<W: fmt::Write>(&self, f: &mut fmt::Formatter<W>) -> fmt::Result {
+        match self {
+            FilterFault::Read => f.write_str("file standard input"),
+            FilterFault::Usage => f.write_str("usage"),
+            FilterFault::Run(fault) => write!(f, "{fault}"),
+            FilterFault::Write => f.write_str("file standard output"),
+            FilterFault::OutOfMemory => f.write_str("memory"),
+        }
+    }
+}
+
+impl Error for FilterFault {}
 
 impl From<AllocError> for FilterFault {
     ghost from_gives = { λ _ e. e ≡ OutOfMemory };

@@ -5,3 +5,4 @@ pub mod Given
 pub mod Handing
 pub mod Rechecked
 pub mod Remade
+pub mod FaultText

@@ -1,7 +1,8 @@
 //! Why a run has no report, or only that of a refused put.
 
-ghost use Rattle.std.specs.Prelude.{◌≡◌};
+ghost use Rattle.std.specs.Prelude.{◌≡◌, Some};
 ghost use Rattle.framing.specs.Faults as faults;
+ghost use Rattle.framing.specs.FaultText.{fault_text, remake_text};
 ghost use Rattle.framing.specs.declared.fault.Fault.TheVariants.{OutOfMemory};
 ghost use Rattle.framing.specs.declared.fault.RemakeFault.TheVariants.{OutOfMemory as NoMemory};
 
@@ -13,39 +14,48 @@ use options::{OptionFault, PreciousFault};
 use plan::PlanFault;
 use status_record::RecordFault;
 use std::alloc::{AllocError, AllocFailed};
+use std::error::Error;
 use std::fmt;
-use thiserror::Error;
 
 /// What is wrong with what a run is given, or with what it hands over: the first fault, in this order.
 ///
 /// It prints as its kind, with the numbers of the fault that it holds. The name of a template, which may be any bytes, is left
 /// out.
-#[derive(Drop, Error)]
+#[derive(Drop)]
 pub enum Fault {
     /// The configure.ac has an error.
-    #[error("parse {0}")]
     Parse(ParseFault),
     /// The configure.ac is too long to be run.
-    #[error("plan {0}")]
     Plan(PlanFault),
     /// An argument has an error.
-    #[error("option {0}")]
     Option(OptionFault),
     /// The cache has an error.
-    #[error("cache {0}")]
     Cache(CacheFault),
     /// A precious variable isn't as it was in the run that made the cache.
-    #[error("precious {0}")]
     Precious(PreciousFault),
     /// The template of this name isn't given. If several are not, it is the first in the order of the puts.
-    #[error("template")]
     NoTemplate(Bytes),
     /// The put of this number, counted from 1, was refused. The report is that of the run.
-    #[error("put {0}")]
     PutRefused(u64, Report),
     /// Memory ran out. Nothing was handed over.
-    #[error("memory")]
     OutOfMemory,
+}
+
+impl fmt::Display for Fault {
+    ghost output = { λ f. Some (fault_text f) };
+
+    fn fmt<W: fmt::Write>(&self, f: &mut fmt::Formatter<W>) -> fmt::Result {
+        match self {
+            Fault::Parse(fault) => write!(f, "parse {fault}"),
+            Fault::Plan(fault) => write!(f, "plan {fault}"),
+            Fault::Option(fault) => write!(f, "option {fault}"),
+            Fault::Cache(fault) => write!(f, "cache {fault}"),
+            Fault::Precious(fault) => write!(f, "precious {fault}"),
+            Fault::NoTemplate(_name) => f.write_str("template"),
+            Fault::PutRefused(number, _report) => write!(f, "put {number}"),
+            Fault::OutOfMemory => f.write_str("memory"),
+        }
+    }
 }
 
 impl fmt::Debug for Fault {
@@ -54,31 +64,44 @@ impl fmt::Debug for Fault {
     }
 }
 
+impl Error for Fault {}
+
 /// Why outputs are not made again, or not all of them, or a run can't be done again: the first fault, in this order.
 ///
 /// It prints as its kind, with the numbers of the fault that it holds. The name of a template, which may be any bytes, is left
 /// out.
-#[derive(Debug, Drop, Error)]
+#[derive(Debug, Drop)]
 pub enum RemakeFault {
     /// The text is no record.
-    #[error("record {0}")]
     Record(RecordFault),
     /// The tag of this number, counted from 1, is the name of no output.
-    #[error("tag {0}")]
     UnknownTag(u64),
     /// The template of this name isn't given. If several are not, it is the first in the order of the puts.
-    #[error("template")]
     NoTemplate(Bytes),
     /// The put of this number, counted from 1, was refused.
-    #[error("put {0}")]
     PutRefused(u64),
     /// The record is of the first version, which has no arguments.
-    #[error("recheck")]
     NoArguments,
     /// Memory ran out. Nothing was handed over.
-    #[error("memory")]
     OutOfMemory,
 }
+
+impl fmt::Display for RemakeFault {
+    ghost output = { λ f. Some (remake_text f) };
+
+    fn fmt<W: fmt::Write>(&self, f: &mut fmt::Formatter<W>) -> fmt::Result {
+        match self {
+            RemakeFault::Record(fault) => write!(f, "record {fault}"),
+            RemakeFault::UnknownTag(number) => write!(f, "tag {number}"),
+            RemakeFault::NoTemplate(_name) => f.write_str("template"),
+            RemakeFault::PutRefused(number) => write!(f, "put {number}"),
+            RemakeFault::NoArguments => f.write_str("recheck"),
+            RemakeFault::OutOfMemory => f.write_str("memory"),
+        }
+    }
+}
+
+impl Error for RemakeFault {}
 
 impl From<AllocError> for Fault {
     ghost from_gives = { λ _ e. e ≡ OutOfMemory };

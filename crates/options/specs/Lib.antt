@@ -4,3 +4,4 @@ pub mod Reading
 pub mod Precious
 pub mod Stepwise
 pub mod HelpText
+pub mod FaultText

@@ -4,3 +4,4 @@ pub mod Inside
 pub mod Weight
 pub mod Code
 pub mod Names
+pub mod FaultText
