@@ -1,6 +1,5 @@
 -- What begins statements is what the reader finds there.
-use Rattle.std.proofs.Common.{◌≡◌, ℕ, ◌+◌, ◌<◌, ◌≤◌, Bool, true, false, ◌||◌, ◌==◌, not, inl, inr, List, [], ◌∷◌, ◌++◌, length, take, drop, Some, Result, Ok, Err, refl, sym, ap, subst, ◌∙◌, arith}
-use Rattle.std.specs.Int.{is_in_range}
+use Rattle.std.proofs.Common.{◌≡◌, ℕ, ◌+◌, ◌<◌, ◌≤◌, true, false, ◌||◌, ◌==◌, not, inl, inr, List, [], ◌∷◌, ◌++◌, length, take, drop, Some, Result, Ok, Err, refl, sym, ap, subst, ◌∙◌, arith}
 use Rattle.std.specs.List.{prefix_len, list_all}
 use Rattle.std.proofs.Math.Seq.{take-append_seam, drop-append_seam, drop-append-add}
 use Rattle.std.proofs.lemmas.Bool.{eqb-true, and_parts, or_cases, cases_Bool}
@@ -19,28 +18,17 @@ use Rattle.baretext.specs.declared.item.Stage.TheVariants.{Opening, Assigned, Cl
 use Rattle.baretext.specs.Text.{hash, colon, equals}
 use Rattle.baretext.specs.Statements.{takes_assignments, assigns, item, nothing, IsItem, space, line_end, parted, comment, lone_colon, assignment}
 use Rattle.baretext.specs.Reading.{placed, value_at, assignment_at, shell_word_at, item_of}
+use Rattle.deftable.proofs.Names.{start_continues}
 use Rattle.fallible.specs.Reading.{◌>>=◌}
 use Rattle.fallible.proofs.Binds.{chosen, failed, ok_is, bind_ok}
 
 -- ---- names
 
-start_among : (u l d e : Bool) → ((u || l) || e) ≡ true → (((d || u) || l) || e) ≡ true
-start_among true l true e h = refl
-start_among true l false e h = refl
-start_among false true true e h = refl
-start_among false true false e h = refl
-start_among false false true true h = refl
-start_among false false false true h = refl
-start_among false false d false h = absurd cc
-
-start-continues : (b : ℕ) → starts_name b ≡ true → continues_name b ≡ true
-start-continues b h = start_among (is_in_range 65 90 b) (is_in_range 97 122 b) (is_in_range 48 57 b) (b == 95) h
-
 pub name_all : (name : List ℕ) → IsShellName name → list_all continues_name name ≡ true
 name_all [] h = refl
 name_all (b ∷ bs) h =
     let both = and_parts (starts_name b) (list_all continues_name bs) h in
-    rw (start-continues b both.0, both.1) refl
+    rw (start_continues b both.0, both.1) refl
 
 prefix-name : (name rest : List ℕ) → list_all continues_name name ≡ true → prefix_len continues_name (name ++ equals ∷ rest) ≡ length name
 prefix-name [] rest h = refl

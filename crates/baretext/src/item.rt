@@ -1,8 +1,6 @@
 //! Reads the front of statements.
 
 ghost use Rattle.std.specs.Prelude.{◌≡◌, ◌+◌, ◌<◌, ◌≤◌, ◌^◌, not, length, IfOk, IfErr, drop};
-ghost use Rattle.std.specs.List.{prefix_len};
-ghost use Rattle.deftable.specs.ShellName.{continues_name};
 ghost use Rattle.shellword.specs.Text as bytes;
 ghost use Rattle.baretext.specs.Faults.{IsBareFault};
 ghost use Rattle.baretext.specs.Gives.{Gives};
@@ -12,6 +10,7 @@ ghost use Rattle.baretext.specs.Text.{comment_len};
 
 use crate::assignments::Assignment;
 use crate::fault::BareFault;
+use deftable::shell_name::name_bytes_len;
 use deftable::{Bytes, Name};
 use shellword::{ShellFault, Word, read_word_front};
 use std::alloc::Global;
@@ -58,20 +57,6 @@ fn begins_with(text: &[u8], byte: u8) -> bool
         Some((first, _)) => *first == byte,
         None => false,
     }
-}
-
-fn is_name_byte(byte: u8) -> bool
-    ensures { result ≡ continues_name byte }
-{
-    byte.is_ascii_alphanumeric() || byte == b'_'
-}
-
-/// Returns the number of bytes at the front that may be in a name.
-fn name_bytes(text: &[u8]) -> usize
-    ensures value { result ≡ prefix_len continues_name text.now }
-    ensures within { result ≤ length text.now }
-{
-    text.iter().take_while(|b| is_name_byte(**b)).count()
 }
 
 /// Returns the number of bytes before the first newline.
@@ -136,7 +121,7 @@ fn read_assignment(alloc: Global, at: usize, text: &[u8]) -> Result<Item, BareFa
     ensures fault { IfErr result (IsBareFault (at + length text.now)) }
     ensures within { IfOk result (λ i. (0 < i.len) × (i.len ≤ length text.now)) }
 {
-    let len = name_bytes(text);
+    let len = name_bytes_len(text);
     if begins_with(&text[len..], b'=') {
         read_named(alloc, at, text, len)
     } else {

@@ -1,6 +1,6 @@
 //! Lists of byte texts.
 
-ghost use Rattle.std.specs.Prelude.{◌≡◌, ℕ, List, [], ◌∷◌, ◌++◌, IfOk, OnOk, OnErr};
+ghost use Rattle.std.specs.Prelude.{◌≡◌, ℕ, List, [], ◌∷◌, ◌++◌, map, IfOk, OnOk, OnErr};
 
 use crate::bytes::Bytes;
 use std::alloc::{AllocError, Global};
@@ -87,4 +87,19 @@ fn copied(alloc: Global, texts: &[Bytes]) -> Result<Vec<Bytes>, AllocError>
         all.push(text.copy(alloc)?)?;
     }
     Ok(all)
+}
+
+/// Copies slices, in order.
+///
+/// # Errors
+///
+/// Fails only if memory runs out.
+pub fn copies(alloc: Global, slices: &[&[u8]]) -> Result<Vec<Bytes>, AllocError>
+    ensures { IfOk result (λ v. v.items ≡ map (λ s. s.now) slices.now) }
+{
+    let mut copies = Vec::new(alloc);
+    for slice in slices {
+        copies.push(Bytes::from_slice(alloc, slice)?)?;
+    }
+    Ok(copies)
 }

@@ -12,15 +12,15 @@ use Rattle.shellword.specs.Matcher.{some_rest, matching, step_of}
 
 -- ---- the definition as a function
 
-or_right : (p q : Bool) → q ≡ true → (p || q) ≡ true
+pub or_right : (p q : Bool) → q ≡ true → (p || q) ≡ true
 or_right true q h = refl
 or_right false q h = h
 
-and_both : (p q : Bool) → (p && q) ≡ true → (p ≡ true) × (q ≡ true)
+pub and_both : (p q : Bool) → (p && q) ≡ true → (p ≡ true) × (q ≡ true)
 and_both true q h = (refl, h)
 and_both false q h = absurd cc
 
-some_here : (test : List ℕ → Bool) (rest : List ℕ) → test rest ≡ true → some_rest test rest ≡ true
+pub some_here : (test : List ℕ → Bool) (rest : List ℕ) → test rest ≡ true → some_rest test rest ≡ true
 some_here test [] h = h
 some_here test (b ∷ bs) h = rw h refl
 
@@ -29,10 +29,10 @@ some_front test [] rest h = some_here test rest h
 some_front test (b ∷ front) rest h = or_right (test (b ∷ (front ++ rest))) (some_rest test (front ++ rest)) (some_front test front rest h)
 
 -- what was found after a front
-abbrev Split : (List ℕ → Bool) → List ℕ → Type 0
+abbrev pub Split : (List ℕ → Bool) → List ℕ → Type 0
 Split test text = (front : List ℕ) × (rest : List ℕ) × (text ≡ front ++ rest) × (test rest ≡ true)
 
-some_split : (test : List ℕ → Bool) (text : List ℕ) → some_rest test text ≡ true → Split test text
+pub some_split : (test : List ℕ → Bool) (text : List ℕ) → some_rest test text ≡ true → Split test text
 some_split test [] h = ([], [], refl, h)
 some_split test (b ∷ bs) h = by_first (test (b ∷ bs)) refl h (λ k. some_split test bs k) where
   by_first : (p : Bool) → test (b ∷ bs) ≡ p → (p || some_rest test bs) ≡ true → (some_rest test bs ≡ true → Split test bs) → Split test (b ∷ bs)

@@ -1,8 +1,6 @@
 //! The front of a shell text: its first byte, or the few bytes that are read together.
 
 ghost use Rattle.std.specs.Prelude.{◌≡◌, ◌+◌, ◌<◌, ◌≤◌, ◌∷◌, Some, None, length, IfOk, IfErr};
-ghost use Rattle.std.specs.List.{prefix_len};
-ghost use Rattle.deftable.specs.ShellName.{starts_name, continues_name};
 ghost use Rattle.shellword.specs.Contexts.{is_special, escapes, escapes_front, closes_brace, byte_in, escaped_part};
 ghost use Rattle.shellword.specs.Text.{name_len, stands_alone, follows_dollar};
 ghost use Rattle.shellword.specs.declared.fault.ShellFault.TheVariants.{OutOfMemory};
@@ -14,6 +12,7 @@ ghost use Rattle.shellword.specs.Scan.{front, front_of, backslash_front, dollar_
 use crate::fault::ShellFault;
 use crate::part::Part;
 use deftable::Bytes;
+use deftable::shell_name::{is_name_start, name_bytes_len};
 use std::alloc::Global;
 
 /// The context of a byte, which decides how it is read.
@@ -35,25 +34,6 @@ pub(crate) struct Front {
     pub(crate) part: Option<Part>,
     pub(crate) len: usize,
     pub(crate) context: Context,
-}
-
-fn is_name_start(byte: u8) -> bool
-    ensures { result ≡ starts_name byte }
-{
-    byte.is_ascii_alphabetic() || byte == b'_'
-}
-
-fn is_name_byte(byte: u8) -> bool
-    ensures { result ≡ continues_name byte }
-{
-    byte.is_ascii_alphanumeric() || byte == b'_'
-}
-
-fn name_bytes_len(text: &[u8]) -> usize
-    ensures value { result ≡ prefix_len continues_name text.now }
-    ensures within { result ≤ length text.now }
-{
-    text.iter().take_while(|b| is_name_byte(**b)).count()
 }
 
 /// Returns the length of the longest variable name at the front.

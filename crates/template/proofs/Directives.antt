@@ -1,7 +1,6 @@
 -- The directive of a line: what the function gives is what the relation has.
 use Rattle.std.proofs.Common.{◌≡◌, ℕ, zero, suc, ◌+◌, ◌<◌, Bool, true, false, cond, ◌&&◌, ◌||◌, List, [], ◌∷◌, ◌++◌, length, take, drop, Option, Some, None, refl, sym, ap, subst, ◌∙◌, ◌⊎◌, inl, inr, arith, take-append-drop}
 use Rattle.std.specs.Prelude.{◌==◌, option_map, option_and_then, codes, bytes_eq, flat_map}
-use Rattle.std.specs.Int.{is_in_range}
 use Rattle.std.specs.List.{list_all, prefix_len}
 use Rattle.std.proofs.lemmas.Bool.Decides.{eqb_tells}
 use Rattle.std.proofs.lemmas.List.Folds.{length-prefix_len}
@@ -11,6 +10,7 @@ use Rattle.deftable.specs.Table.{value_of}
 use Rattle.template.specs.Header.IsMadeOf.{defined, undefined, kept, other}
 use Rattle.template.specs.Header.AreMadeOf.{no_line, one_line}
 use Rattle.template.specs.Header.{IsMadeOf, AreMadeOf, changed, defined_line, undefined_line, without_definition, newline_of, headed_line, Directive, IsDirective, is_space, keyword, ends_name, either, rest_after, spaces_of, after_spaces, word_of, after_word, name_at, name_after, with_keyword, keyword_at, directive_after, directive_of}
+use Rattle.deftable.proofs.Names.{start_continues}
 
 -- ---- small facts
 
@@ -104,18 +104,6 @@ continues_apart b is = elim (eqb_tells b 32) [
 rest_stops : (rest : List ℕ) → ends_name rest ≡ true → Stops continues_name rest
 rest_stops [] is = tt
 rest_stops (b ∷ bs) is = continues_apart b is
-
-start_among : (u l d e : Bool) → ((u || l) || e) ≡ true → (((d || u) || l) || e) ≡ true
-start_among true l true e h = refl
-start_among true l false e h = refl
-start_among false true true e h = refl
-start_among false true false e h = refl
-start_among false false true true h = refl
-start_among false false false true h = refl
-start_among false false d false h = absurd (false_true h)
-
-start_continues : (b : ℕ) → starts_name b ≡ true → continues_name b ≡ true
-start_continues b h = start_among (is_in_range 65 90 b) (is_in_range 97 122 b) (is_in_range 48 57 b) (b == 95) h
 
 name_continues : (name : List ℕ) → is_shell_name_of name ≡ true → list_all continues_name name ≡ true
 name_continues [] is = absurd (false_true is)

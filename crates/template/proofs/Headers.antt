@@ -1,7 +1,8 @@
 -- Lemmas for the functions that make headers.
-use Rattle.std.proofs.Common.{◌≡◌, ℕ, ◌+◌, true, false, List, length, take, drop, Option, Some, None, Bor, ap, refl}
+use Rattle.std.proofs.Common.{◌≡◌, ℕ, ◌+◌, true, false, List, length, take, drop, Option, Bor}
 use Rattle.std.specs.Prelude.{option_map, bytes_eq}
 use Rattle.std.specs.Option.{MatchOption}
+use Rattle.deftable.proofs.Fronts.{stripped}
 use Rattle.template.specs.Header.{rest_after}
 
 -- what `strip_prefix` returns is the text after the front
@@ -9,5 +10,4 @@ pub rest_after_is : (front text : List ℕ) (r : Option (Bor (List ℕ)))
     → MatchOption r (bytes_eq (take (length front) text) front ≡ false) (λ x. (bytes_eq (take (length front) text) front ≡ true) × (x.now ≡ drop (length front) text) × (length x.now + length front ≡ length text))
     → option_map (λ t. t.now) r ≡ rest_after front text
 unfolding rest_after
-rest_after_is front text None lacks = rw lacks refl
-rest_after_is front text (Some x) has = rw (has.0) (ap (λ t. Some t) has.1)
+rest_after_is front text r is = stripped front text r is

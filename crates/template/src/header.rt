@@ -3,10 +3,10 @@
 ghost use Rattle.std.specs.Prelude.{◌≡◌, ℕ, List, ◌++◌, ◌≤◌, IfOk, OnOk, length, option_map, option_and_then, codes, flat_map, false};
 ghost use Rattle.std.specs.List.{prefix_len};
 ghost use Rattle.bstr.specs.Text.{lines_of};
-ghost use Rattle.deftable.specs.ShellName.{continues_name};
 ghost use Rattle.template.specs.Header as header;
 
 use bstr::ByteSlice;
+use deftable::shell_name::name_bytes_len;
 use deftable::{Bytes, Defs, is_shell_name};
 use std::alloc::{AllocError, Global};
 
@@ -28,28 +28,12 @@ fn is_space(byte: u8) -> bool
     byte == b' ' || byte == b'\t'
 }
 
-fn continues_name(byte: u8) -> bool
-    ensures { result ≡ continues_name byte }
-{
-    byte.is_ascii_alphanumeric() || byte == b'_'
-}
-
 /// Returns the number of spaces and tabs at the front.
 fn space_len(text: &[u8]) -> usize
     ensures value { result ≡ prefix_len header.is_space text.now }
     ensures within { result ≤ length text.now }
 {
     text.iter().take_while(|byte| is_space(**byte)).count()
-}
-
-/// Returns the number of letters, digits and `_` at the front.
-fn word_len(text: &[u8]) -> usize
-    ensures value { result ≡ prefix_len continues_name text.now }
-    ensures within { result ≤ length text.now }
-{
-    text.iter()
-        .take_while(|byte| continues_name(**byte))
-        .count()
 }
 
 /// Returns the text after the front, or `None` if it doesn't begin with it.
@@ -75,7 +59,7 @@ fn ends_name(text: &[u8]) -> bool
 fn name_at(text: &[u8]) -> Option<&[u8]>
     ensures { option_map (λ name. name.now) result ≡ header.name_at text.now }
 {
-    let len = word_len(text);
+    let len = name_bytes_len(text);
     let name = &text[..len];
     if is_shell_name(name) && ends_name(&text[len..]) {
         return Some(name);
