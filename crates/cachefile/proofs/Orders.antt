@@ -81,14 +81,14 @@ order x y = slice_cmp nat_cmp x y
 true_is_false : true ≡ false → ⊥
 true_is_false e = absurd cc
 
+equal_names : (k n : List ℕ) → order k n ≡ Equal → k ≡ n
+equal_names k n is = (bytes_eq-Decides k n).0 (sym (is_eq-slice_cmp k n) ∙ ap is_eq is)
+
 put_others_by : (o : Ordering) (e : List ℕ × List ℕ) (es inserted : Entries) (k v q : List ℕ) → order k e.0 ≡ o → bytes_eq q k ≡ false → value_of inserted q ≡ value_of es q
     → value_of (match_ordering o ((k, v) ∷ e ∷ es) ((e.0, v) ∷ es) (e ∷ inserted)) q ≡ value_of (e ∷ es) q
 unfolding value_of
 put_others_by Less e es inserted k v q is other rest = rw other refl
-put_others_by Equal e es inserted k v q is other rest =
-    let same : k ≡ e.0 = (bytes_eq-Decides k e.0).0 (sym (is_eq-slice_cmp k e.0) ∙ ap is_eq is) in
-    let apart : bytes_eq q e.0 ≡ false = ap (λ n. bytes_eq q n) (sym same) ∙ other in
-    rw apart refl
+put_others_by Equal e es inserted k v q is other rest = rw (ap (λ n. bytes_eq q n) (sym (equal_names k e.0 is)) ∙ other) refl
 put_others_by Greater e es inserted k v q is other rest = ap (λ o. cond (bytes_eq q e.0) (Some e.1) o) rest
 
 put_others : (es : Entries) (k v q : List ℕ) → bytes_eq q k ≡ false → value_of (insert_entry order es k v) q ≡ value_of es q
@@ -100,10 +100,7 @@ put_own_by : (o : Ordering) (e : List ℕ × List ℕ) (es inserted : Entries) (
     → value_of (match_ordering o ((k, v) ∷ e ∷ es) ((e.0, v) ∷ es) (e ∷ inserted)) q ≡ Some v
 unfolding value_of
 put_own_by Less e es inserted k v q is own rest = rw own refl
-put_own_by Equal e es inserted k v q is own rest =
-    let same : k ≡ e.0 = (bytes_eq-Decides k e.0).0 (sym (is_eq-slice_cmp k e.0) ∙ ap is_eq is) in
-    let here : bytes_eq q e.0 ≡ true = ap (λ n. bytes_eq q n) (sym same) ∙ own in
-    rw here refl
+put_own_by Equal e es inserted k v q is own rest = rw (ap (λ n. bytes_eq q n) (sym (equal_names k e.0 is)) ∙ own) refl
 put_own_by Greater e es inserted k v q is own rest = elim (decided (bytes_eq q e.0)) [
   | inl h ↦
       let same : q ≡ k = (bytes_eq-Decides q k).0 own in

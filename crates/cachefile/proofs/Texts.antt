@@ -9,7 +9,6 @@ use Rattle.std.proofs.lemmas.Map.Made.{IsDistinct-keys_filter}
 use Rattle.textcut.specs.Cuts.{parts, parts_by}
 use Rattle.deftable.specs.Table.{value_of, names_of, HasDistinctNames}
 use Rattle.deftable.specs.ShellName.{is_shell_name_of, starts_name, continues_name}
-use Rattle.std.specs.Int.{is_in_range}
 use Rattle.cachefile.specs.Name.{is_word, is_word_byte, is_mark}
 use Rattle.deftable.specs.CacheName.{has_cv, is_cache_name}
 use Rattle.cachefile.specs.Word.{word_of, quoted_text, quoted_byte, is_safe}
@@ -19,6 +18,7 @@ use Rattle.cachefile.specs.Form as form
 use Rattle.cachefile.specs.Reading.{◌>>=◌}
 use Rattle.cachefile.specs.Cache.{lines_from, entry_of, cache_of, limit, with_setting, vars_after}
 use Rattle.cachefile.specs.Text.{is_one_line, is_saved, has_brace, plain_line, guarded_line, braced_line, line_for, lines_for, saved_entries, cache_text_of, AreInOrder, saved_value, IsCacheText, ReadsBack}
+use Rattle.deftable.proofs.Names.{start_continues}
 use Rattle.cachefile.proofs.Words.{both_true, both_are, word_of_reads, word_is}
 use Rattle.cachefile.proofs.Lines.{line_read}
 use Rattle.cachefile.proofs.Grammar.{split, cache_name, unchanged}
@@ -30,19 +30,6 @@ use Rattle.cachefile.proofs.Orders.{Entries, Gives, all_set, in_order_values, in
 true_is_false : true ≡ false → ⊥
 true_is_false e = absurd cc
 
-either_part : (a b c d : Bool) → ((a || b) || d) ≡ true → (((c || a) || b) || d) ≡ true
-either_part true b true d e = refl
-either_part true b false d e = refl
-either_part false true true d e = refl
-either_part false true false d e = refl
-either_part false false true true e = refl
-either_part false false false true e = refl
-either_part false false true false e = absurd cc
-either_part false false false false e = absurd cc
-
-first_byte : (b : ℕ) → starts_name b ≡ true → is_word_byte b ≡ true
-first_byte b ok = either_part (is_in_range 65 90 b) (is_in_range 97 122 b) (is_in_range 48 57 b) (b == 95) ok
-
 too_much : (vars : Entries) → length (cache_text_of vars) ≤ limit → limit < length (cache_text_of vars) → ⊥
 too_much vars small more = omega (arith, small, more)
 
@@ -52,7 +39,7 @@ word_of_name [] ok = absurd (true_is_false (sym ok))
 word_of_name (b ∷ bs) ok =
     let p = both_true (is_shell_name_of (b ∷ bs)) (has_cv (b ∷ bs)) ok in
     let q = both_true (starts_name b) (list_all continues_name bs) p.0 in
-    both_are (is_word_byte b) (list_all is_word_byte bs) (first_byte b q.0) q.1
+    both_are (is_word_byte b) (list_all is_word_byte bs) (start_continues b q.0) q.1
 
 -- ---- lines have no newline
 
@@ -118,7 +105,7 @@ line_one_line e ok =
 -- ---- lines are read
 
 -- the setting of the line of an entry
-abbrev setting_of : List ℕ × List ℕ → Setting
+abbrev pub setting_of : List ℕ × List ℕ → Setting
 setting_of e = if is_mark e.0 then Sets e.0 e.1 else Defaults e.0 e.1
 
 line_sets : (e : List ℕ × List ℕ) → is_saved e ≡ true → IsLine (line_for e) (Some (setting_of e))
@@ -171,7 +158,7 @@ text_sets es all =
     ∙ unchanged (lines_from (1 + 1) (parts 10 (lines_for es)))
     ∙ lines_set (1 + 1) es all
 
-text_read : (vars : Entries) → length (cache_text_of vars) ≤ limit → cache_of (cache_text_of vars) ≡ Ok (map setting_of (saved_entries vars))
+pub text_read : (vars : Entries) → length (cache_text_of vars) ≤ limit → cache_of (cache_text_of vars) ≡ Ok (map setting_of (saved_entries vars))
 unfolding cache_of
 text_read vars small = elim (decided (nat_lt limit (length (cache_text_of vars)))) [
   | inl h ↦ absurd (too_much vars small ((Decides-ltb limit (length (cache_text_of vars))).0 h))
@@ -204,7 +191,7 @@ settings_are_steps vars (e ∷ es) = settings_are_steps (step vars e) es
 
 -- ---- the value of a name that is saved
 
-absent : (es : Entries) (q : List ℕ) → AllByRecursion (λ n. bytes_eq q n ≡ false) (names_of es) → value_of es q ≡ None
+pub absent : (es : Entries) (q : List ℕ) → AllByRecursion (λ n. bytes_eq q n ≡ false) (names_of es) → value_of es q ≡ None
 unfolding value_of
 absent [] q all = refl
 absent (e ∷ es) q all = rw (all.0) (absent es q all.1)
@@ -228,7 +215,7 @@ filter_values (e ∷ es) q distinct = elim (decided (bytes_eq q e.0)) [
   ])
 ]
 
-values_saved : (vars : Entries) (q : List ℕ) → HasDistinctNames vars → value_of (saved_entries vars) q ≡ saved_value q (value_of vars q)
+pub values_saved : (vars : Entries) (q : List ℕ) → HasDistinctNames vars → value_of (saved_entries vars) q ≡ saved_value q (value_of vars q)
 values_saved vars q distinct =
     in_order_values (filter is_saved vars) q (IsDistinct-keys_filter bytes_eq is_saved vars distinct) ∙ filter_values vars q distinct
 

@@ -32,25 +32,14 @@ impl Model for Entry {
 }
 
 impl Entry {
-    /// Returns an entry that sets the name to the value.
-    pub(crate) fn sets(name: Bytes, value: Bytes) -> Entry
-        ensures { result ≡ Sets name value }
+    /// Returns an entry that sets the name to the value, or that only gives it a default.
+    pub(crate) fn new(name: Bytes, value: Bytes, is_default: bool) -> Entry
+        ensures { result ≡ (if is_default then Defaults name value else Sets name value) }
     {
         Entry {
             name,
             value,
-            is_default: false,
-        }
-    }
-
-    /// Returns an entry that sets the name to the value if it isn't set.
-    pub(crate) fn defaults(name: Bytes, value: Bytes) -> Entry
-        ensures { result ≡ Defaults name value }
-    {
-        Entry {
-            name,
-            value,
-            is_default: true,
+            is_default,
         }
     }
 

@@ -89,7 +89,7 @@ fn default_entry(
     let Some(value) = value_in(alloc, braced, word)? else {
         return Ok(None);
     };
-    Ok(Some(Entry::defaults(Bytes::from_slice(alloc, name)?, value)))
+    Ok(Some(Entry::new(Bytes::from_slice(alloc, name)?, value, true)))
 }
 
 // Returns the entry that sets the name, or `None` if the text is no word.
@@ -99,7 +99,7 @@ fn plain_entry(alloc: Global, name: &[u8], word: &[u8]) -> Result<Option<Entry>,
     let Some(value) = value_in(alloc, false, word)? else {
         return Ok(None);
     };
-    Ok(Some(Entry::sets(Bytes::from_slice(alloc, name)?, value)))
+    Ok(Some(Entry::new(Bytes::from_slice(alloc, name)?, value, false)))
 }
 
 // Returns the entry of `V=${V=W}`, from the text after `${`.
