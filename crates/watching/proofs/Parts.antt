@@ -10,6 +10,7 @@ use Rattle.std.proofs.lemmas.List.Sums.{suffix_len_is}
 use Rattle.std.proofs.Math.Seq.{take-append-add}
 use Rattle.arrayvec.specs.ArrayVec.{ArrayVec}
 use Rattle.memchr.specs.Find.{IsLastByte, is_byte}
+use Rattle.deftable.proofs.Fronts.{stripped}
 use Rattle.watching.specs.Subject.{before_end, after_front, last_line, line_front, command_of}
 
 -- What `strip_suffix` and `strip_prefix` return.
@@ -24,8 +25,7 @@ pub after_front_is : (front text : List ℕ) (r : Option (Bor (List ℕ)))
     → MatchOption r (bytes_eq (take (length front) text) front ≡ false) (λ x. (bytes_eq (take (length front) text) front ≡ true) × (x.now ≡ drop (length front) text) × (length x.now + length front ≡ length text))
     → option_map (λ t. t.now) r ≡ after_front front text
 unfolding after_front
-after_front_is front text None lacks = rw lacks refl
-after_front_is front text (Some x) has = rw (has.0) (ap (λ t. Some t) has.1)
+after_front_is front text r is = stripped front text r is
 
 never : false ≡ true → ⊥
 never e = cc

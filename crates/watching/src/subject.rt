@@ -103,24 +103,16 @@ fn told(text: &[u8]) -> Option<Line>
 fn function_told(text: &[u8]) -> Option<Line>
     ensures { option_map (λ l. l.items) result ≡ subject.function_told text.now }
 {
-    named(
-        b" function ",
-        b"return ",
-        b" ();\n  ;\n  return 0;\n}\n",
-        text,
-    )
+    let end = b" ();\n  ;\n  return 0;\n}\n";
+    named(b" function ", b"return ", end, text)
 }
 
 /// Returns the name that a text uses if it is no macro.
 fn declaration_told(text: &[u8]) -> Option<Line>
     ensures { option_map (λ l. l.items) result ≡ subject.declaration_told text.now }
 {
-    named(
-        b" declaration ",
-        b"  (void) ",
-        b";\n#endif\n  ;\n  return 0;\n}\n",
-        text,
-    )
+    let end = b";\n#endif\n  ;\n  return 0;\n}\n";
+    named(b" declaration ", b"  (void) ", end, text)
 }
 
 /// Returns the type whose size a text takes. In the second test of a type it is in parentheses.
