@@ -1,23 +1,12 @@
 //! Bytes as a reader is shown them.
 
-ghost use Rattle.std.specs.Prelude.{◌≡◌, ◌<◌, ◌++◌, IfOk, OnOk};
+ghost use Rattle.std.specs.Prelude.{◌≡◌, ◌++◌, IfOk, OnOk};
 ghost use Rattle.std.specs.Str.{is_utf8};
 ghost use Rattle.causes.specs.Shown as specs;
 
 use deftable::Bytes;
+use shown::escape;
 use std::alloc::{AllocError, Global};
-
-/// Returns the hexadecimal digit of a number below 16.
-fn digit(number: u8) -> u8
-    requires { number < 16 }
-    ensures { result ≡ specs.digit number }
-{
-    if number < 10 {
-        b'0' + number
-    } else {
-        b'a' - 10 + number
-    }
-}
 
 fn is_control(byte: u8) -> bool
     ensures { result ≡ specs.is_control byte }
@@ -31,7 +20,7 @@ fn put_byte(out: &mut Vec<u8>, is_text: bool, byte: u8) -> Result<(), AllocError
     ensures { OnOk result (out.new.items ≡ out.old.items ++ specs.shown_byte is_text byte) }
 {
     if is_control(byte) || (byte > 0x7f && !is_text) {
-        out.extend_from_slice(&[b'\\', b'x', digit(byte / 16), digit(byte % 16)])
+        out.extend_from_slice(&escape(byte))
     } else {
         out.extend_from_slice(&[byte])
     }
