@@ -4,3 +4,4 @@ pub mod Insides
 pub mod Weights
 pub mod Codes
 pub mod Symbols
+mod Defining

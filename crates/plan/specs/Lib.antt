@@ -4,4 +4,5 @@ pub mod Inside
 pub mod Weight
 pub mod Code
 pub mod Names
+pub mod Defined
 pub mod FaultText

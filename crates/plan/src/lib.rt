@@ -29,7 +29,7 @@
 //! Read `step` (the steps, and the plan, whose jumps all stay inside), then `specs/Walk` (the effect of a step, and of
 //! a plan), then `compiling`. `weight` counts the weight of a source, and `emit` writes the steps from the last to the
 //! first, into `code`. `specs/Weight` and `specs/Code` define both, and `specs/Inside` and `specs/Names` what holds of
-//! every plan. A plan borrows from the statements, and copies none.
+//! every plan. `naming` has a law on the names that tests define, with `specs/Defined`. A plan borrows from the statements, and copies none.
 //!
 //! The theorem is that the walk of a plan is the meaning of its statements, whatever the variables and the definitions
 //! before it.
@@ -39,9 +39,11 @@ mod code;
 mod compiling;
 mod emit;
 mod fault;
+mod naming;
 mod step;
 mod weight;
 
 pub use compiling::{compile, compile_statements};
 pub use fault::PlanFault;
+pub use naming::tests_define_their_name;
 pub use step::{Plan, Step};
