@@ -1,25 +1,25 @@
 //! A crew of real children that a launcher starts.
 
-ghost use Rattle.std.specs.Prelude.{◌≡◌, ◌≢◌, ◌⊎◌, ◌+◌, ◌^◌, ◌<◌, ◌≤◌, [], ◌∷◌, ◌++◌, true, false, IfOk, IsSome, None, OnErr, OnOk, All, get_or, length, remove, slice_set, vec_capacity, vec_len};
+ghost use Rattle.std.specs.Prelude.{◌≡◌, ◌≢◌, ◌⊎◌, ◌+◌, ◌^◌, ◌<◌, ◌≤◌, [], ◌∷◌, ◌++◌, true, false, IfOk, IsSome, None, Some, OnErr, OnOk, All, get_or, length, remove, slice_set, vec_capacity, vec_len};
 ghost use Rattle.std.specs.Bool.{OnTrue};
 ghost use Rattle.std.specs.VecDeque.{deque_capacity};
 ghost use Rattle.crew_trait.specs.Events.{IsSomeBusy, busy, failure_of, slots_in_flight};
-ghost use Rattle.crew.specs.Holding.{HaveChildren, KeepsChildren};
 ghost use Rattle.crew.specs.Runs.{Runs};
 ghost use Rattle.launching.specs.Launch.{Adds, failing, launch};
 ghost use Rattle.crew_trait.specs.declared.reply.Reply.TheVariants.{StartRefused};
 ghost use Rattle.crew_trait.specs.declared.event.CrewEvent.TheVariants.{Started, Ended};
 
 use crate::failures::{failures_after, refusal};
+use crate::numbered::Numbered;
 use crate::room::put;
 use causes::{Cause, CauseList, Causes};
 use crew_trait::{Crew, CrewEvent, Refused, Reply};
 use jobs::Job;
-use launching::{Launcher, end_child, start_child};
+use launching::{Launcher, start_child};
 use std::alloc::{AllocError, Global};
 use std::collections::VecDeque;
 use std::marker::Model;
-use std::process::{Child, OpenProcess};
+use std::process::OpenProcess;
 
 const SLOTS: usize = 16;
 
@@ -28,7 +28,8 @@ const SLOTS: usize = 16;
 pub(crate) struct Children<L: Launcher + Drop> {
     launcher: L,
     alloc: Global,
-    children: Vec<Option<Child<L::Process>>>,
+    // The child of each slot, if it is in use.
+    children: Vec<Option<Numbered<L::Process>>>,
     // The slots in use, in the order in which their children were started.
     slots: VecDeque<usize>,
     events: Vec<CrewEvent>,
@@ -54,7 +55,7 @@ impl<L: Launcher + Drop> Model for Children<L> {
         × All (λ s. s < 16) c.slots.items
         × (length c.events.items + length c.slots.items ≤ vec_capacity c.events)
         × Runs (L.calls c.launcher) c.events.items
-        × HaveChildren c.children.items c.slots.items };
+        × HaveChildren c.children.items c.events.items c.slots.items };
 }
 
 impl<L: Launcher + Drop> Children<L> {
@@ -104,10 +105,10 @@ impl<L: Launcher + Drop> Children<L> {
     {
         let slot = take_slot(&mut self.slots, place);
         let child = take_child(self.children.as_mut_slice(), slot);
-        let (reply, kept, cause) = end_of(self.alloc, child);
+        let number = child.number();
+        let (reply, kept, cause) = doubled(self.alloc, child.end(self.alloc));
         self.failures = failures_after(&reply, self.failures);
-        let child = number_of(self.events.as_slice(), slot);
-        self.causes.put(child, cause);
+        self.causes.put(number, cause);
         let end = CrewEvent::Ended {
             slot,
             reply: kept,
@@ -129,6 +130,7 @@ impl<L: Launcher + Drop> Crew for Children<L> {
 
     fn start(&mut self, slot: usize, job: Job) -> Result<(), Refused> {
         self.attempts += 1;
+        let number = self.attempts;
         let child = &mut self.children[slot];
         if let Err(cause) = launched(
             &mut self.launcher,
@@ -136,12 +138,12 @@ impl<L: Launcher + Drop> Crew for Children<L> {
             &mut self.events,
             &mut self.slots,
             &job,
+            number,
             child,
         ) {
-            self.causes.put(self.attempts, cause);
+            self.causes.put(number, cause);
             return Err(refusal(&mut self.failures));
         }
-        let number = self.attempts;
         put(&mut self.events, CrewEvent::Started { slot, job, number });
         put_slot(&mut self.slots, slot);
         Ok(())
@@ -162,7 +164,7 @@ impl<L: Launcher + Drop> Crew for Children<L> {
 }
 
 /// Returns a list with one entry per slot, all empty.
-fn no_children<P: OpenProcess + Drop>(alloc: Global) -> Result<Vec<Option<Child<P>>>, AllocError>
+fn no_children<P: OpenProcess + Drop>(alloc: Global) -> Result<Vec<Option<Numbered<P>>>, AllocError>
     ensures { IfOk result (λ v. vec_len v ≡ 16) }
 {
     let mut children = Vec::with_capacity(alloc, SLOTS)?;
@@ -172,19 +174,15 @@ fn no_children<P: OpenProcess + Drop>(alloc: Global) -> Result<Vec<Option<Child<
     Ok(children)
 }
 
-/// Waits for a child. Returns its reply twice, and why its end was refused.
-fn end_of<P: OpenProcess + Drop>(alloc: Global, mut child: Child<P>) -> (Reply, Reply, Cause)
-    ensures same { result.1 ≡ result.0 }
-    ensures answer { result.0 ≢ StartRefused }
-{
-    doubled(alloc, end_child(alloc, &mut child))
-}
-
 /// Takes the child out of a slot.
-fn take_child<P: OpenProcess + Drop>(children: &mut [Option<Child<P>>], slot: usize) -> Child<P>
+fn take_child<P: OpenProcess + Drop>(
+    children: &mut [Option<Numbered<P>>],
+    slot: usize,
+) -> Numbered<P>
     requires slot { slot < length children.old }
     requires some { IsSome (get_or children.old slot None) }
-    ensures { children.new ≡ slice_set children.old slot None }
+    ensures taken { Some result ≡ get_or children.old slot None }
+    ensures left { children.new ≡ slice_set children.old slot None }
 {
     children[slot].take().unwrap()
 }
@@ -205,32 +203,16 @@ fn doubled(alloc: Global, end: (Reply, Cause)) -> (Reply, Reply, Cause)
     }
 }
 
-/// Returns the number of the child that was started last in a slot, or 0 if none was.
-fn number_of(events: &[CrewEvent], slot: usize) -> u64 {
-    for event in events.iter().rev() {
-        match event {
-            CrewEvent::Started {
-                slot: of,
-                number,
-                ..
-            } if *of == slot => return *number,
-            _ => {}
-        }
-    }
-    0
-}
-
 /// Returns the place of the first child that has ended, or 0 if none has.
 fn place_of_ended<P: OpenProcess + Drop>(
-    children: &mut [Option<Child<P>>],
+    children: &mut [Option<Numbered<P>>],
     slots: &VecDeque<usize>,
 ) -> usize
     requires some { 0 < length slots.now.items }
     requires within { All (λ s. s < 16) slots.now.items }
     requires children { length children.old ≡ 16 }
     ensures within { result < length slots.now.items }
-    ensures kept { KeepsChildren children.old children.new }
-    ensures size { length children.new ≡ length children.old }
+    ensures kept { children.new ≡ children.old }
 {
     for place in 0..slots.len() {
         if has_ended_at(children, slots[place]) {
@@ -241,35 +223,36 @@ fn place_of_ended<P: OpenProcess + Drop>(
 }
 
 /// Returns whether the child in a slot has ended, without waiting for it.
-#[tactic(auto, using(crate::proofs::Holding::keeps_at))]
-fn has_ended_at<P: OpenProcess + Drop>(children: &mut [Option<Child<P>>], slot: usize) -> bool
+#[tactic(auto, using(crate::proofs::Holding::kept_at))]
+fn has_ended_at<P: OpenProcess + Drop>(children: &mut [Option<Numbered<P>>], slot: usize) -> bool
     requires { slot < length children.old }
-    ensures { KeepsChildren children.old children.new }
+    ensures { children.new ≡ children.old }
 {
     has_ended(&mut children[slot])
 }
 
 /// Returns whether a child has ended, without waiting for it.
-fn has_ended<P: OpenProcess + Drop>(child: &mut Option<Child<P>>) -> bool
-    ensures { IsSome child.old → IsSome child.new }
+fn has_ended<P: OpenProcess + Drop>(child: &mut Option<Numbered<P>>) -> bool
+    ensures { child.new ≡ child.old }
 {
     match child {
-        Some(child) => matches!(child.try_wait(), Ok(Some(_))),
+        Some(child) => child.has_ended(),
         None => false,
     }
 }
 
-/// Reserves room for the records of a start, and starts the child.
+/// Reserves room for the records of a start, and starts the child of this number.
 fn launched<L: Launcher>(
     launcher: &mut L,
     alloc: Global,
     events: &mut Vec<CrewEvent>,
     slots: &mut VecDeque<usize>,
     job: &Job,
-    child: &mut Option<Child<L::Process>>,
+    number: u64,
+    child: &mut Option<Numbered<L::Process>>,
 ) -> Result<(), Cause>
     ensures taken { OnOk result (Adds (L.calls launcher.old) (L.calls launcher.new) (launch job.now)) }
-    ensures child { OnOk result (IsSome child.new) }
+    ensures child { OnOk result (child.new ≡ Some number) }
     ensures refused { OnErr result (Adds (L.calls launcher.old) (L.calls launcher.new) []
         ⊎ Adds (L.calls launcher.old) (L.calls launcher.new) (failing job.now)) }
     ensures events { events.new.items ≡ events.old.items }
@@ -281,7 +264,13 @@ fn launched<L: Launcher>(
     if !make_room(events, slots) {
         return Err(Cause::of_words(alloc, b"start", b"out of memory"));
     }
-    start_child(launcher, alloc, job, child)
+    match start_child(launcher, alloc, job) {
+        Ok(started) => {
+            *child = Some(Numbered::new(number, started));
+            Ok(())
+        }
+        Err(cause) => Err(cause),
+    }
 }
 
 /// Reserves room for the event of a start, and for the ends of its child and of those in flight. Returns whether there is room.

@@ -13,7 +13,8 @@
 //! [`MemoryCrew`], in `memory`, is a crew for tests. It answers from a list of replies, in a given `order`, and lists its
 //! calls (`event`); `specs/Scripted.antt` defines the effect of each call, and `flight` is one of its children.
 //! [`ProcessCrew`], in `process`, and [`ReadyCrew`], in `ready`, start real children by the crate `launching`. They differ in which
-//! child `next` ends. `children` keeps their account, and why calls were refused; `specs/Runs.antt` defines the jobs that were started.
+//! child `next` ends. `children` keeps their account, and why calls were refused, and `numbered` is one of their children;
+//! `specs/Runs.antt` defines the jobs that were started, and `specs/Holding.antt` which child is in a slot.
 //! All crews use `failures`, which counts refused calls, and `room`.
 //!
 //! [`Fused`], in `fused`, is a crew around any other crew, for tests: it refuses one start or one end. `specs/Fused.antt`
@@ -26,6 +27,7 @@ mod failures;
 mod flight;
 mod fused;
 mod memory;
+mod numbered;
 mod order;
 mod process;
 mod ready;

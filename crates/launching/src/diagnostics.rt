@@ -1,50 +1,52 @@
 //! The diagnostics of a real child: what it writes to standard error.
 
-ghost use Rattle.std.specs.Prelude.{◌≡◌, ◌<◌, ◌≤◌, ◌++◌, length, take, IfOk, OnOk};
-ghost use Rattle.std.specs.Io.KnownBytes.{Consumes, IsAtEnd};
+ghost use Rattle.std.specs.Prelude.{◌≡◌, ◌≤◌, ◌++◌, false, length, take, IfOk, IsErr, OnOk};
 ghost use Rattle.launching.specs.Ending.{IsKept};
+ghost use Rattle.launching.specs.Piped.{IsReadThrough, IsUnread};
 
+use crate::pipe::Pipe;
+use causes::Cause;
 use std::alloc::{AllocError, Global};
-use std::io::{self, ErrorKind, Read};
+use std::io::{self, Read};
 
 const MOST_READS: u32 = 1024;
-
-const MOST_TRIES: u32 = 1024;
 
 const MOST_KEPT: usize = 65_536;
 
 const READ_SIZE: usize = 4096;
 
+/// Reads the diagnostics from a pipe. Returns the text to keep.
+pub(crate) fn kept_of<R: Read + Drop>(alloc: Global, pipe: &mut Pipe<R>) -> Result<Vec<u8>, Cause>
+    requires { IsUnread pipe.old }
+    ensures kept { IfOk result (λ text. IsKept pipe.old.left text.items) }
+    ensures through { IfOk result (λ _. IsReadThrough pipe.new) }
+    ensures piped { pipe.old.is_open ≡ false → IsErr result }
+{
+    if !pipe.is_open() {
+        return Err(Cause::unknown());
+    }
+    match diagnostics(alloc, pipe) {
+        Ok(text) => Ok(text),
+        Err(error) => Err(Cause::of_error(alloc, b"read", &error)),
+    }
+}
+
 /// Reads what a child wrote, and returns at most the first 65,536 bytes. Fails if a read fails or memory runs out.
-pub(crate) fn diagnostics<R: Read>(alloc: Global, pipe: &mut R) -> io::Result<Vec<u8>>
-    ensures { IfOk result (λ text. IsKept (R.remaining pipe.old) text.items) }
+fn diagnostics<R: Read + Drop>(alloc: Global, pipe: &mut Pipe<R>) -> io::Result<Vec<u8>>
+    requires { IsUnread pipe.old }
+    ensures kept { IfOk result (λ text. IsKept pipe.old.left text.items) }
+    ensures through { IfOk result (λ _. IsReadThrough pipe.new) }
 {
     let mut text = Vec::new(alloc);
     let mut piece = [0u8; READ_SIZE];
     for _ in 0..MOST_READS {
-        let n = read_some(pipe, &mut piece)?;
+        let n = pipe.read(&mut piece)?;
         if n == 0 {
             return Ok(text);
         }
         keep(&mut text, &piece[..n])?;
     }
     Ok(text)
-}
-
-/// Reads once, and tries again if a signal interrupts the read. Fails if the last try does.
-fn read_some<R: Read>(pipe: &mut R, piece: &mut [u8]) -> io::Result<usize>
-    ensures within { IfOk result (λ n. n ≤ length piece.new) }
-    ensures bytes { IfOk result (λ n. Consumes (R.remaining pipe.old) (R.remaining pipe.new) (take n piece.new)) }
-    ensures end { IfOk result (λ n. n ≡ 0 → 0 < length piece.old → IsAtEnd (R.remaining pipe.new)) }
-{
-    for _ in 0..MOST_TRIES {
-        match pipe.read(piece) {
-            Ok(n) => return Ok(n),
-            Err(e) if e.kind() == ErrorKind::Interrupted => {}
-            Err(e) => return Err(e),
-        }
-    }
-    Err(io::Error::from(ErrorKind::Interrupted))
 }
 
 /// Appends the piece, as far as the limit allows.

@@ -1,44 +1,32 @@
 //! Ends a real child.
 
-ghost use Rattle.std.specs.Prelude.{◌≡◌, IfNone, IfOk, IfSome, IsErr, option_map, vec_items};
+ghost use Rattle.std.specs.Prelude.{◌≡◌, true, false, option_map, vec_items};
 ghost use Rattle.std.specs.Result.{result_ok};
-ghost use Rattle.std.specs.Process.{child_status};
 ghost use Rattle.launching.specs.Ending as specs;
 ghost use Rattle.launching.specs.Ending.{Answers, IsKept, status_number};
+ghost use Rattle.launching.specs.Piped.{IsReadThrough, IsUnread};
 
-use crate::diagnostics::diagnostics;
+use crate::started::Started;
 use causes::Cause;
 use crew_trait::Reply;
 use deftable::Bytes;
 use std::alloc::Global;
 use std::io;
-use std::process::{Child, ExitStatus, OpenProcess};
+use std::process::{ExitStatus, OpenProcess};
 
 /// Reads what the child writes to standard error, and then waits for the child, even if the reads failed.
 ///
 /// Returns its reply, and if that is [`Reply::EndRefused`] the cause.
-pub fn end_child<P: OpenProcess + Drop>(alloc: Global, child: &mut Child<P>) -> (Reply, Cause)
-    ensures answer { Answers result.0 (child_status child.new)
-        (λ text. IfSome child.old.stderr (λ pipe. IsKept (P.Stderr.remaining pipe) text)) }
-    ensures piped { IfNone child.old.stderr (result.0 ≡ Reply.EndRefused) }
+pub fn end_child<P: OpenProcess + Drop>(alloc: Global, child: &mut Started<P>) -> (Reply, Cause)
+    requires unread { IsUnread child.old.pipe }
+    ensures answer { Answers result.0 child.new.status
+        (λ text. IsKept child.old.pipe.left text × IsReadThrough child.new.pipe) }
+    ensures piped { child.old.pipe.is_open ≡ false → result.0 ≡ Reply.EndRefused }
+    ensures awaited { child.new.is_awaited ≡ true }
 {
-    let text = kept_of(alloc, child.stderr.take());
+    let text = child.read(alloc);
     let waited = child.wait();
     reply_of(alloc, waited, text)
-}
-
-/// Reads the diagnostics from a pipe, and closes it. Returns the text to keep.
-fn kept_of<R: io::Read + Drop>(alloc: Global, pipe: Option<R>) -> Result<Vec<u8>, Cause>
-    ensures kept { IfOk result (λ text. IfSome pipe (λ p. IsKept (R.remaining p) text.items)) }
-    ensures piped { IfNone pipe (IsErr result) }
-{
-    let Some(mut pipe) = pipe else {
-        return Err(Cause::unknown());
-    };
-    match diagnostics(alloc, &mut pipe) {
-        Ok(text) => Ok(text),
-        Err(error) => Err(Cause::of_error(alloc, b"read", &error)),
-    }
 }
 
 fn reply_of(

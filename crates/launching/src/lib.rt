@@ -2,8 +2,8 @@
 //!
 //! ```text
 //! let mut host = Host::new(rt, None);
-//! start_child(&mut host, alloc, &job, &mut child)?;      // writes the conftest, and starts the command
-//! let (reply, cause) = end_child(alloc, &mut running);   // reads what it writes to standard error, and waits for it
+//! let mut child = start_child(&mut host, alloc, &job)?;  // writes the conftest, and starts the command
+//! let (reply, cause) = end_child(alloc, &mut child);     // reads what it writes to standard error, and waits for it
 //! ```
 //!
 //! "own" marks a rule that no manual gives.
@@ -12,14 +12,19 @@
 //! check; what is asked of a launcher is proved for every launcher. If a start or an end is refused, a cause comes with it.
 //!
 //! Read `specs/Launch.antt`, which defines the requests for a job, and `specs/Ending.antt`, which defines the reply at the end of a
-//! child. Then read `launcher`, `starting`, `ending`, and `diagnostics`, which reads what a child writes.
+//! child. `specs/Piped.antt` defines what is counted of its reads. Then read `launcher`, `pipe`,
+//! `started`, which is a child, `starting`, `ending`, and `diagnostics`, which reads what a child writes.
 #![tactic(auto)]
 
 mod diagnostics;
 mod ending;
 mod launcher;
+mod pipe;
+mod started;
 mod starting;
 
 pub use ending::end_child;
 pub use launcher::{Host, Launcher};
+pub use pipe::Pipe;
+pub use started::Started;
 pub use starting::start_child;

@@ -1,19 +1,21 @@
 //! Starts a real child.
 
-ghost use Rattle.std.specs.Prelude.{◌≡◌, ◌⊎◌, [], ◌∷◌, ◌++◌, All, IfOk, IsSome, IsUtf8, OnErr, OnOk};
+ghost use Rattle.std.specs.Prelude.{◌≡◌, ◌⊎◌, [], ◌∷◌, ◌++◌, All, IfOk, IsUtf8, OnErr, OnOk};
 ghost use Rattle.std.specs.Bool.{OnFalse, OnTrue};
 ghost use Rattle.std.specs.Process.{command_args, command_program};
 ghost use Rattle.launching.specs.Launch.{Adds, AreCommand, Failed, Spawned, Wrote, failing, launch, writing};
+ghost use Rattle.launching.specs.Piped.{IsUnread};
 
 use crate::launcher::Launcher;
+use crate::started::Started;
 use causes::Cause;
 use deftable::Bytes;
 use jobs::Job;
 use std::alloc::{AllocError, Global};
 use std::io;
-use std::process::{Child, Command};
+use std::process::Command;
 
-/// Writes the conftest of a job and starts its child, which is stored in `child`.
+/// Writes the conftest of a job, starts its child, and returns it.
 ///
 /// # Errors
 ///
@@ -23,10 +25,9 @@ pub fn start_child<L: Launcher>(
     launcher: &mut L,
     alloc: Global,
     job: &Job,
-    child: &mut Option<Child<L::Process>>,
-) -> Result<(), Cause>
+) -> Result<Started<L::Process>, Cause>
     ensures taken { OnOk result (Adds (L.calls launcher.old) (L.calls launcher.new) (launch job.now)) }
-    ensures child { OnOk result (IsSome child.new) }
+    ensures unread { IfOk result (λ child. IsUnread child.pipe) }
     ensures refused { OnErr result (Adds (L.calls launcher.old) (L.calls launcher.new) []
         ⊎ Adds (L.calls launcher.old) (L.calls launcher.new) (failing job.now)) }
 {
@@ -34,7 +35,7 @@ pub fn start_child<L: Launcher>(
     let Ok(mut command) = Command::new(alloc, program) else {
         return Err(no_memory(alloc, program.as_bytes()));
     };
-    run(launcher, alloc, &mut command, arguments, &job.file, child)
+    run(launcher, alloc, &mut command, arguments, &job.file)
 }
 
 /// Returns the cause that memory ran out.
@@ -54,12 +55,11 @@ fn run<L: Launcher>(
     command: &mut Command,
     arguments: &[Bytes],
     file: &Option<(Bytes, Bytes)>,
-    child: &mut Option<Child<L::Process>>,
-) -> Result<(), Cause>
+) -> Result<Started<L::Process>, Cause>
     requires { command_args command.old ≡ [] }
     ensures taken { OnOk result (Adds (L.calls launcher.old) (L.calls launcher.new)
         (writing file.now ++ Spawned (command_program command.old ∷ arguments.now) ∷ [])) }
-    ensures child { OnOk result (IsSome child.new) }
+    ensures unread { IfOk result (λ child. IsUnread child.pipe) }
     ensures refused { OnErr result (Adds (L.calls launcher.old) (L.calls launcher.new) []
         ⊎ Adds (L.calls launcher.old) (L.calls launcher.new) (writing file.now ++ Failed ∷ [])) }
 {
@@ -67,7 +67,7 @@ fn run<L: Launcher>(
         return Err(arguments_cause(alloc, command.get_program().as_bytes(), arguments));
     };
     write_conftest(launcher, alloc, file)?;
-    spawn(launcher, alloc, command, arguments, child)
+    spawn(launcher, alloc, command, arguments)
 }
 
 /// Starts a command, which has these arguments.
@@ -76,18 +76,14 @@ fn spawn<L: Launcher>(
     alloc: Global,
     command: &mut Command,
     arguments: &[Bytes],
-    child: &mut Option<Child<L::Process>>,
-) -> Result<(), Cause>
+) -> Result<Started<L::Process>, Cause>
     ensures taken { OnOk result (Adds (L.calls launcher.old) (L.calls launcher.new)
         (Spawned (command_program command.old ∷ command_args command.old) ∷ [])) }
-    ensures child { OnOk result (IsSome child.new) }
+    ensures unread { IfOk result (λ child. IsUnread child.pipe) }
     ensures refused { OnErr result (Adds (L.calls launcher.old) (L.calls launcher.new) (Failed ∷ [])) }
 {
     match launcher.spawn(command) {
-        Ok(started) => {
-            *child = Some(started);
-            Ok(())
-        }
+        Ok(child) => Ok(Started::new(child)),
         Err(error) => Err(spawn_cause(alloc, command, arguments, &error)),
     }
 }

@@ -1,5 +1,5 @@
-use Rattle.crew.specs.Holding.{KeepsChildren}
+use Rattle.std.proofs.Common.{◌≡◌}
 use Rattle.crew.proofs.children.place_of_ended.Given as goal
 
 abbrev pub invariant-loop-place : goal.invariant-loop-place
-invariant-loop-place g l = KeepsChildren l.fn.children l.children
+invariant-loop-place g l = l.children ≡ l.fn.children

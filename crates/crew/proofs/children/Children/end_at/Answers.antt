@@ -17,7 +17,7 @@ pub take_child-child-requires-clause-some : goal.take_child-child-requires-claus
 take_child-child-requires-clause-some g c =
     let within = place_within c.self.inside.slots.items c.self.inside.events.items _ _ c.self.invariant.1 c.self.invariant.2 (ap (λ m. m.events) c.self.view_is) c.requires.flying c.requires.place in
     ap (λ l. is_some (get_or l c.take_slot-slot.result None)) c.as_mut_slice.ensures.value
-    ∙ has_child c.self.inside.children.items c.self.inside.slots.items c.args.place c.take_slot-slot.result within c.take_slot-slot.ensures.slot c.self.invariant.6
+    ∙ has_child c.self.inside.children.items c.self.inside.slots.items c.self.inside.events.items c.args.place c.take_slot-slot.result within c.take_slot-slot.ensures.slot c.self.invariant.6
 
 pub put-requires-2 : goal.put-requires-2
 put-requires-2 g c =
@@ -34,7 +34,7 @@ invariant_of-self g c =
     let within : c.args.place < length xs = place_within xs es _ _ c.self.invariant.1 c.self.invariant.2 (ap (λ m. m.events) c.self.view_is) c.requires.flying c.requires.place in
     let order : c.take_slot-slot.new.slots.items ≡ slots_in_flight c.put-2.new.list.items = slots_end xs _ es _ c.args.place slot _ _ c.self.invariant.1 c.self.invariant.2 within at others c.put-2.ensures.items in
     let lists : ListsBusy c.take_slot-slot.new.slots.items c.put-2.new.list.items = lists_end xs _ es _ c.args.place slot _ _ c.self.invariant.2 within at others c.put-2.ensures.items in
-    let size = sym (ap length c.take_child-child.ensures ∙ length-set c.as_mut_slice.result.now slot None ∙ c.as_mut_slice.ensures.len) in
+    let size = sym (ap length c.take_child-child.ensures.left ∙ length-set c.as_mut_slice.result.now slot None ∙ c.as_mut_slice.ensures.len) in
     let m : length c.put-2.new.list.items ≡ length es + 1 = ap length c.put-2.ensures.items ∙ length-append _ _ in
     let n : length c.take_slot-slot.new.slots.items + 1 ≡ length xs = ap (λ l. length l + 1) others ∙ length-remove xs c.args.place within in
     let room : length c.put-2.new.list.items + length c.take_slot-slot.new.slots.items ≤ vec_capacity c.put-2.new.list = omega (arith, c.self.invariant.4, m, n, c.put-2.ensures.room) in (
@@ -44,7 +44,7 @@ invariant_of-self g c =
       c.take_slot-slot.ensures.within,
       room,
       runs_ended _ _ _ _ _ _ c.self.invariant.5 c.put-2.ensures.items,
-      have_end c.self.inside.children.items _ xs _ es _ c.args.place slot _ _ (lent c.take_child-child.new.children _ _ size ∙ c.take_child-child.ensures ∙ ap (λ l. set l slot None) c.as_mut_slice.ensures.value) others c.put-2.ensures.items lists c.self.invariant.6,
+      have_end c.self.inside.children.items _ xs _ es _ c.args.place slot _ _ (lent c.take_child-child.new.children _ _ size ∙ c.take_child-child.ensures.left ∙ ap (λ l. set l slot None) c.as_mut_slice.ensures.value) others c.put-2.ensures.items lists c.self.invariant.6,
     )
 
 pub returns-clause-was_busy : goal.returns-clause-was_busy

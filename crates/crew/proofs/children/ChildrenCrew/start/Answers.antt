@@ -26,7 +26,7 @@ invariant_of-self-2 g c =
       within,
       room,
       runs_started _ _ _ _ _ _ _ _ c.self.invariant.5 c.in_default.ensures.taken refl events,
-      have_start c.self.inside.children.items _ c.self.inside.slots.items _ c.args.slot _ (omega (arith, c.requires.slot, c.self.invariant.0)) c.in_default.ensures.child refl slots c.self.invariant.6,
+      have_start c.self.inside.children.items _ c.self.inside.events.items _ c.self.inside.slots.items _ c.args.slot _ _ _ (omega (arith, c.requires.slot, c.self.invariant.0)) c.in_default.ensures.child refl slots events c.self.invariant.2 free c.self.invariant.6,
     )
 
 pub invariant_of-self : goal.invariant_of-self
@@ -44,5 +44,5 @@ invariant_of-self g c =
       within,
       room,
       runs_refused _ _ _ _ c.args.job c.self.invariant.5 c.in-Err.ensures.refused events,
-      have_others c.self.inside.children.items _ c.launched.new.slots.items c.launched.new.events.items c.args.slot _ refl lists free (subst (HaveChildren c.self.inside.children.items) (sym slots) c.self.invariant.6),
+      have_others c.self.inside.children.items _ c.launched.new.slots.items c.launched.new.events.items c.args.slot _ refl lists free (subst (HaveChildren c.self.inside.children.items c.launched.new.events.items) (sym slots) (subst (λ es. HaveChildren c.self.inside.children.items es c.self.inside.slots.items) (sym events) c.self.invariant.6)),
     )

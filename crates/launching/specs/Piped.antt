@@ -1,0 +1,31 @@
+-- The pipe of a child's diagnostics, and the child.
+use Rattle.std.specs.Prelude.{◌≡◌, ◌⊎◌, ℕ, Bool, true, false, List, Option, Some, None}
+use Rattle.std.specs.declared.process.status.ExitStatus.{ExitStatus}
+
+-- A pipe: whether it is open, what is left in it, if that is known, how often it was read, whether a read gave its end, and
+-- whether a read failed. (own)
+pub record Piped : Type 0 where
+  pub is_open : Bool
+  pub left : Option (List ℕ)
+  pub reads : ℕ
+  pub is_read : Bool
+  pub has_failed : Bool
+
+-- What is left in a pipe. If there is none, nothing is known. (own)
+abbrev pub left_of : Option (Option (List ℕ)) → Option (List ℕ)
+left_of None = None
+left_of (Some known) = known
+
+-- The pipe was not read. (own)
+abbrev pub IsUnread : Piped → Type 0
+IsUnread pipe = (pipe.reads ≡ 0) × (pipe.has_failed ≡ false)
+
+-- The pipe was read to its end, or 1,024 times, and no read failed. (own)
+abbrev pub IsReadThrough : Piped → Type 0
+IsReadThrough pipe = ((pipe.is_read ≡ true) ⊎ (pipe.reads ≡ 1024)) × (pipe.has_failed ≡ false)
+
+-- A child: its pipe, its status, if a wait has told it, and whether it was waited for. (own)
+pub record Running : Type 0 where
+  pub pipe : Piped
+  pub status : Option ExitStatus
+  pub is_awaited : Bool

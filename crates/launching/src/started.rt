@@ -1,0 +1,73 @@
+//! A child that was started.
+
+ghost use Rattle.std.specs.Prelude.{◌≡◌, Some, true, false, IfOk, IsErr};
+ghost use Rattle.launching.specs.Ending.{IsKept};
+ghost use Rattle.launching.specs.Piped.{IsReadThrough, IsUnread};
+
+use crate::diagnostics::kept_of;
+use crate::pipe::Pipe;
+use causes::Cause;
+use std::alloc::Global;
+use std::io;
+use std::marker::Model;
+use std::process::{Child, ExitStatus, OpenProcess};
+
+/// A child that was started, with the pipe of its diagnostics, and whether it was waited for.
+#[derive(Drop)]
+pub struct Started<P: OpenProcess + Drop> {
+    child: Child<P>,
+    pipe: Pipe<P::Stderr>,
+    is_awaited: bool,
+}
+
+impl<P: OpenProcess + Drop> Model for Started<P> {
+    ghost use Rattle.std.specs.Process.{child_status};
+    ghost use Rattle.launching.specs.Piped.{Running};
+
+    ghost Value = { Running };
+
+    ghost view = { λ s. record { pipe = s.pipe; status = child_status s.child; is_awaited = s.is_awaited } };
+}
+
+impl<P: OpenProcess + Drop> Started<P> {
+    /// Returns a child that was just started.
+    pub(crate) fn new(mut child: Child<P>) -> Started<P>
+        ensures { IsUnread result.pipe }
+    {
+        let pipe = Pipe::new(child.stderr.take());
+        Started {
+            child,
+            pipe,
+            is_awaited: false,
+        }
+    }
+
+    /// Returns whether the child has ended, without waiting for it.
+    pub fn has_ended(&mut self) -> bool
+        ensures { self.new.pipe ≡ self.old.pipe }
+    {
+        matches!(self.child.try_wait(), Ok(Some(_)))
+    }
+
+    /// Reads what the child writes to standard error, and closes the pipe. Returns the text to keep.
+    pub(crate) fn read(&mut self, alloc: Global) -> Result<Vec<u8>, Cause>
+        requires { IsUnread self.old.pipe }
+        ensures kept { IfOk result (λ text. IsKept self.old.pipe.left text.items) }
+        ensures through { IfOk result (λ _. IsReadThrough self.new.pipe) }
+        ensures piped { self.old.pipe.is_open ≡ false → IsErr result }
+    {
+        let text = kept_of(alloc, &mut self.pipe);
+        self.pipe.close();
+        text
+    }
+
+    /// Waits for the child.
+    pub(crate) fn wait(&mut self) -> io::Result<ExitStatus>
+        ensures status { IfOk result (λ status. self.new.status ≡ Some status) }
+        ensures pipe { self.new.pipe ≡ self.old.pipe }
+        ensures awaited { self.new.is_awaited ≡ true }
+    {
+        self.is_awaited = true;
+        self.child.wait()
+    }
+}
