@@ -7,16 +7,9 @@ use Rattle.std.proofs.lemmas.List.{append-nil, drop-drop, length-drop, take-appe
 use Rattle.memchr.specs.Find.{FindsNeedle, OccursAt}
 use Rattle.shellword.specs.declared.pattern.Piece.{Piece}
 use Rattle.shellword.specs.declared.pattern.Piece.TheVariants.{AnyBytes, Byte}
+use Rattle.shellword.proofs.Matcher.{Split, and_both, or_right, some_here, some_split}
 use Rattle.shellword.specs.Matcher.{some_rest, matching}
 use Rattle.casematch.specs.Parts.{begins_with, ends_with}
-
-or_right : (p q : Bool) → q ≡ true → (p || q) ≡ true
-or_right true q h = refl
-or_right false q h = h
-
-and_both : (p q : Bool) → (p && q) ≡ true → (p ≡ true) × (q ≡ true)
-and_both true q h = (refl, h)
-and_both false q h = absurd cc
 
 -- two truths that follow from each other
 pub same_truth : (p q : Bool) → (p ≡ true → q ≡ true) → (q ≡ true → p ≡ true) → p ≡ q
@@ -33,20 +26,6 @@ never false h = refl
 some_more : (test : List ℕ → Bool) (front rest : List ℕ) → some_rest test rest ≡ true → some_rest test (front ++ rest) ≡ true
 some_more test [] rest h = h
 some_more test (b ∷ front) rest h = or_right (test (b ∷ (front ++ rest))) (some_rest test (front ++ rest)) (some_more test front rest h)
-
-some_here : (test : List ℕ → Bool) (rest : List ℕ) → test rest ≡ true → some_rest test rest ≡ true
-some_here test [] h = h
-some_here test (b ∷ bs) h = rw h refl
-
-abbrev Split : (List ℕ → Bool) → List ℕ → Type 0
-Split test text = (front : List ℕ) × (rest : List ℕ) × (text ≡ front ++ rest) × (test rest ≡ true)
-
-some_split : (test : List ℕ → Bool) (text : List ℕ) → some_rest test text ≡ true → Split test text
-some_split test [] h = ([], [], refl, h)
-some_split test (b ∷ bs) h = by_first (test (b ∷ bs)) refl h (λ k. some_split test bs k) where
-  by_first : (p : Bool) → test (b ∷ bs) ≡ p → (p || some_rest test bs) ≡ true → (some_rest test bs ≡ true → Split test bs) → Split test (b ∷ bs)
-  by_first true e k later = ([], b ∷ bs, refl, e)
-  by_first false e k later = let s = later k in (b ∷ s.0, s.1, ap (λ (t : List ℕ). b ∷ t) s.2, s.3)
 
 -- ---- a part of bytes
 

@@ -9,33 +9,13 @@ use Rattle.std.specs.Global.{Vec}
 use Rattle.indexmap.specs.IndexMap.{insert_entry}
 use Rattle.macrotable.specs.declared.entry.Entry.{Entry}
 use Rattle.macrotable.specs.Entries.{Said, said, Read, or_later, first_about, entry_of}
+use Rattle.deftable.proofs.Tables.{same_text, over_first, swapped, two_names}
 use Rattle.textcut.specs.Cuts.{parts}
 use Rattle.macrotable.specs.Index.{said_by, said_first, said_exactly}
 
 or_later-none : (o : Option Said) → or_later o None ≡ o
 or_later-none (Some e) = refl
 or_later-none None = refl
-
-same_text : (a b : List ℕ) → bytes_eq a b ≡ true → a ≡ b
-same_text a b h = (bytes_eq-Decides a b).0 h
-
-over_first : {A : Type 0} (a b : Bool) (x y z : A) → b ≡ a → cond b x z ≡ cond a x (cond b y z)
-over_first true true x y z e = refl
-over_first true false x y z e = cc
-over_first false true x y z e = cc
-over_first false false x y z e = refl
-
-swapped : {A : Type 0} (a b : Bool) (x y z : A) → (a ≡ true → b ≡ true → ⊥)
-    → cond b y (cond a x z) ≡ cond a x (cond b y z)
-swapped true true x y z apart = absurd (apart refl refl)
-swapped true false x y z apart = refl
-swapped false b x y z apart = refl
-
-two_names : (q k x : List ℕ) → bytes_eq k x ≡ false → bytes_eq q k ≡ true → bytes_eq q x ≡ true → ⊥
-two_names q k x apart a b =
-    let e : k ≡ x = sym (same_text q k a) ∙ same_text q x b in
-    let t : bytes_eq k x ≡ true = (bytes_eq-Decides k x).1 e in
-    cc
 
 abbrev same_key : Vec ℕ → Vec ℕ → Bool
 same_key a b = bytes_eq a.items b.items
