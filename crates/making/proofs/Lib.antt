@@ -1,4 +1,3 @@
 mod Choices
-mod Copies
 mod Outputs
 mod Turns

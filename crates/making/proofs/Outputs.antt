@@ -2,19 +2,11 @@
 use Rattle.std.proofs.Common.{◌≡◌, ℕ, List, [], ◌∷◌, ◌||◌, Bool, true, false, cond, Some, refl, sym, ap, ◌∙◌, fold}
 use Rattle.std.specs.Prelude.{bytes_eq}
 use Rattle.std.proofs.lemmas.Slice.Eq.{bytes_eq-Decides}
+use Rattle.deftable.proofs.Names.{names_of-with_entry}
 use Rattle.deftable.proofs.Tables.{value_of-with_entry, value_of-[]}
 use Rattle.deftable.specs.NameList.{has_name, with_name}
 use Rattle.deftable.specs.Table.{names_of, value_of, with_entry}
 use Rattle.making.specs.Variables.{AreOutputVariables, output_names_of, output_value, with_variable}
-
-names_of-with_entry : (es : List (List ℕ × List ℕ)) (k v : List ℕ) → names_of (with_entry es k v) ≡ with_name (names_of es) k
-unfolding with_entry with_name
-names_of-with_entry [] k v = refl
-names_of-with_entry (e ∷ es) k v =
-    elim (bytes_eq k e.0) as (λ b. names_of (cond b ((e.0, v) ∷ es) (e ∷ with_entry es k v)) ≡ cond b (e.0 ∷ names_of es) (e.0 ∷ with_name (names_of es) k)) [
-      | true ↦ refl
-      | false ↦ ap (λ t. e.0 ∷ t) (names_of-with_entry es k v)
-    ]
 
 names_of-fold : (vars : List (List ℕ × List ℕ)) (has_header : Bool) (es : List (List ℕ × List ℕ)) (ns : List (List ℕ))
     → names_of (fold (with_variable vars has_header) es ns) ≡ fold with_name (names_of es) ns

@@ -12,18 +12,6 @@ use outputlist::Outputs;
 use status_record::Record;
 use std::alloc::{AllocError, Global};
 
-/// Copies definitions.
-fn copy_of(alloc: Global, defs: &Defs) -> Result<Defs, AllocError>
-    ensures { IfOk result (λ copy. copy ≡ defs.now) }
-{
-    let mut copy = Defs::new(alloc);
-    'names: for i in 0..defs.len() {
-        let (name, value) = defs.at(i);
-        copy.define(name, value)?;
-    }
-    Ok(copy)
-}
-
 /// Copies outputs.
 fn copy_of_outputs(alloc: Global, outputs: &Outputs) -> Result<Outputs, AllocError>
     ensures { IfOk result (λ copy. copy ≡ outputs.now) }
@@ -61,7 +49,7 @@ pub fn record_of(
     ensures writable { AreOutputs files.now headers.now → IfOk result IsRecord }
 {
     let vars = output_variables(alloc, vars, !headers.is_empty(), names)?;
-    let defs = copy_of(alloc, defs)?;
+    let defs = defs.copy(alloc)?;
     let files = copy_of_outputs(alloc, files)?;
     let headers = copy_of_outputs(alloc, headers)?;
     let srcdir = Bytes::from_slice(alloc, srcdir)?;

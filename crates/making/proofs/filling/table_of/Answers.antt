@@ -1,5 +1,5 @@
 use Rattle.std.proofs.Common.{rules}
-use Rattle.making.proofs.Copies.{copied_more, copied_end, shell_name_at}
+use Rattle.deftable.proofs.Copies.{copied_more, copied_end, shell_name_at}
 use Rattle.making.proofs.filling.table_of.Goals as goal
 
 pub set-requires : goal.set-requires
