@@ -4,7 +4,6 @@ pub mod Laws
 pub mod Rows
 pub mod Readings
 pub mod Squeezes
-pub mod Copies
 pub mod Restorings
 pub mod Checks
 pub mod CheckClauses

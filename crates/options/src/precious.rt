@@ -16,22 +16,11 @@ use deftable::{Bytes, Note, Notes, Stream, SubstList, Vars};
 use std::alloc::{AllocError, Global};
 use textcut::fields;
 
-fn copy_of(alloc: Global, vars: &Vars) -> Result<Vars, AllocError>
-    ensures { IfOk result (λ copy. copy ≡ vars.now) }
-{
-    let mut copy = Vars::new(alloc);
-    'names: for i in 0..vars.len() {
-        let (name, value) = vars.at(i);
-        copy.set(name, value)?;
-    }
-    Ok(copy)
-}
-
 /// Returns what the variables would be if the cache were poured over them.
 fn poured(alloc: Global, vars: &Vars, cache: &OldCache) -> Result<Vars, AllocError>
     ensures { IfOk result (λ marked. marked ≡ vars_after cache.now vars.now) }
 {
-    let mut marked = copy_of(alloc, vars)?;
+    let mut marked = vars.copy(alloc)?;
     cache.pour(&mut marked)?;
     Ok(marked)
 }
@@ -205,7 +194,7 @@ fn notes_of(alloc: Global, changes: &[(Bytes, Bytes)]) -> Result<Notes, AllocErr
 fn with_changes(alloc: Global, vars: &Vars, changes: &[(Bytes, Bytes)]) -> Result<Vars, AllocError>
     ensures { IfOk result (λ after. after ≡ fold with_variable vars.now changes.now) }
 {
-    let mut after = copy_of(alloc, vars)?;
+    let mut after = vars.copy(alloc)?;
     for change in changes {
         after.set(change.0.as_slice(), change.1.as_slice())?;
     }

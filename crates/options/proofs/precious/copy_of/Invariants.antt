@@ -1,5 +1,0 @@
-use Rattle.std.proofs.Common.{◌≡◌, take}
-use Rattle.options.proofs.precious.copy_of.Given as goal
-
-abbrev pub invariant-names : goal.invariant-names
-invariant-names l = l.copy ≡ take l.i l.vars
