@@ -77,17 +77,21 @@ shell_word-fault Opening at b bs f e =
       | inl h ↦ (elim (chosen (is_parted bs) _ _ _ h.1) [ inr k ↦ assignment-fault at (b ∷ bs) f k.1 | inl k ↦ absurd (passed k.1) ])
     ]
 
-item-fault : (stage : Stage) (at b : ℕ) (bs : List ℕ) (f : BareFault) → item_of stage at (b ∷ bs) ≡ Err f → IsReadingFault (at + length (b ∷ bs)) f
+-- a space, an end of a statement and a comment have no error, so the error is of the shell word
+pub item-failed : (stage : Stage) (at b : ℕ) (bs : List ℕ) (f : BareFault) → item_of stage at (b ∷ bs) ≡ Err f → shell_word_at stage at (b ∷ bs) ≡ Err f
 unfolding item_of
-item-fault stage at b bs f e =
+item-failed stage at b bs f e =
     elim (chosen (is_space b) _ _ _ e) [
       | inl h ↦ absurd (passed h.1)
       | inr no_space ↦
           (elim (chosen (b == newline || b == semicolon) _ _ _ no_space.1) [
             | inl h ↦ absurd (passed h.1)
-            | inr no_end ↦ (elim (chosen (b == hash) _ _ _ no_end.1) [ inl h ↦ absurd (passed h.1) | inr h ↦ shell_word-fault stage at b bs f h.1 ])
+            | inr no_end ↦ (elim (chosen (b == hash) _ _ _ no_end.1) [ inl h ↦ absurd (passed h.1) | inr h ↦ h.1 ])
           ])
     ]
+
+item-fault : (stage : Stage) (at b : ℕ) (bs : List ℕ) (f : BareFault) → item_of stage at (b ∷ bs) ≡ Err f → IsReadingFault (at + length (b ∷ bs)) f
+item-fault stage at b bs f e = shell_word-fault stage at b bs f (item-failed stage at b bs f e)
 
 statements-fault : (k : ℕ) (stage : Stage) (at : ℕ) (text : List ℕ) (f : BareFault) → k ≤ length text → statements_from k stage at text ≡ Err f → IsReadingFault (at + length text) f
 unfolding statements_from

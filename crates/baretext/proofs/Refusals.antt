@@ -1,5 +1,5 @@
 -- The first error of a text is that of the reading function.
-use Rattle.std.proofs.Common.{◌≡◌, ℕ, zero, suc, ◌+◌, ◌-◌, ◌<◌, ◌≤◌, ◌||◌, ◌==◌, ◌⊎◌, ◌↔◌, true, false, inl, inr, List, [], ◌∷◌, ◌++◌, length, take, drop, Some, option_to_list, Result, Ok, Err, refl, sym, ap, subst, ◌∙◌, arith}
+use Rattle.std.proofs.Common.{◌≡◌, ℕ, zero, suc, ◌+◌, ◌-◌, ◌<◌, ◌≤◌, ◌==◌, ◌⊎◌, ◌↔◌, true, false, inl, inr, List, [], ◌∷◌, ◌++◌, length, take, drop, Some, option_to_list, Result, Ok, Err, refl, sym, ap, subst, ◌∙◌, arith}
 use Rattle.std.specs.Prelude.{IfErr}
 use Rattle.std.specs.List.{prefix_len}
 use Rattle.std.proofs.lemmas.List.{take-append-drop, length-take-le, drop-drop}
@@ -8,7 +8,7 @@ use Rattle.deftable.specs.ShellName.{is_shell_name_of, continues_name}
 use Rattle.shellword.specs.declared.fault.ShellFault.{ShellFault}
 use Rattle.shellword.specs.declared.fault.ShellFault.TheVariants.{BadWord}
 use Rattle.shellword.specs.declared.fault.ShellFault.TheVariants as words
-use Rattle.shellword.specs.Text.{newline, semicolon, is_space, is_parted, begins_with}
+use Rattle.shellword.specs.Text.{is_parted, begins_with}
 use Rattle.shellword.specs.Scan.{word_front_of}
 use Rattle.shellword.proofs.Laws.{front_faults, front_refusal}
 use Rattle.baretext.specs.declared.assignments.Assignment.{Assignment}
@@ -18,7 +18,7 @@ use Rattle.baretext.specs.declared.item.Item.{Item}
 use Rattle.baretext.specs.declared.item.Stage.{Stage}
 use Rattle.baretext.specs.declared.item.Stage.TheVariants.{Opening, Assigned, Closed}
 use Rattle.baretext.specs.Joining.{joined}
-use Rattle.baretext.specs.Text.{hash, colon, equals}
+use Rattle.baretext.specs.Text.{colon, equals}
 use Rattle.baretext.specs.Gives.{Gives, Fails}
 use Rattle.baretext.specs.Refused.{IsNamed, IsFirstFault, unknown, refused_word, following, IsFaultOfText, IsRefused}
 use Rattle.baretext.specs.Statements.{takes_assignments, assigns, item, IsItem}
@@ -26,7 +26,7 @@ use Rattle.baretext.specs.Reading.{word_fault, placed, value_at, assignment_at, 
 use Rattle.fallible.specs.Reading.{◌>>=◌}
 use Rattle.fallible.proofs.Binds.{chosen, failed, passed, err_is, bind_err}
 use Rattle.baretext.proofs.Fronts.{begins, item-read, read-item, item-len, named-read, assignment-named}
-use Rattle.baretext.proofs.FaultPlaces.{placed_err}
+use Rattle.baretext.proofs.FaultPlaces.{item-failed, placed_err}
 use Rattle.baretext.proofs.Joining.{joined_reading}
 use Rattle.baretext.proofs.Scans.{with_list, item_first, item_failed}
 
@@ -86,16 +86,7 @@ shell_word-split Opening at b bs f e =
     ]
 
 item-split : (stage : Stage) (at b : ℕ) (bs : List ℕ) (f : BareFault) → item_of stage at (b ∷ bs) ≡ Err f → Split stage at (b ∷ bs) f
-unfolding item_of
-item-split stage at b bs f e =
-    elim (chosen (is_space b) _ _ _ e) [
-      | inl h ↦ absurd (passed h.1)
-      | inr no_space ↦
-          (elim (chosen (b == newline || b == semicolon) _ _ _ no_space.1) [
-            | inl h ↦ absurd (passed h.1)
-            | inr no_end ↦ (elim (chosen (b == hash) _ _ _ no_end.1) [ inl h ↦ absurd (passed h.1) | inr h ↦ shell_word-split stage at b bs f h.1 ])
-          ])
-    ]
+item-split stage at b bs f e = shell_word-split stage at b bs f (item-failed stage at b bs f e)
 
 -- ---- the result of the reader at `NAME=`
 
