@@ -8,9 +8,9 @@ ghost use Rattle.acargs.specs.Libraries as words;
 ghost use Rattle.acstatement.specs.Reading.{Gives};
 
 use crate::arguments::{bare_text, text};
-use crate::program::copies;
 use acstatement::fault::ParseFault;
 use deftable::Bytes;
+use deftable::texts::copies;
 use m4quote::Arg;
 use std::alloc::{AllocError, Global};
 use syntax::is_feature;

@@ -11,21 +11,11 @@ use crate::arguments::{bare_text, text};
 use acstatement::fault::{ParseFault, shell_fault};
 use csource::default_includes;
 use deftable::Bytes;
+use deftable::texts::copies;
 use m4quote::Arg;
 use shellword::{HereText, read_here};
 use std::alloc::{AllocError, Global};
 use textcut::{fields, is_blank, parts, trim};
-
-/// Copies the names.
-pub(crate) fn copies(alloc: Global, names: &[&[u8]]) -> Result<Vec<Bytes>, AllocError>
-    ensures { IfOk result (λ v. v.items ≡ map (λ n. n.now) names.now) }
-{
-    let mut copies = Vec::new(alloc);
-    for name in names {
-        copies.push(Bytes::from_slice(alloc, name)?)?;
-    }
-    Ok(copies)
-}
 
 fn is_program_byte(byte: u8) -> bool
     ensures { result ≡ words.is_program_byte byte }

@@ -10,6 +10,7 @@ ghost use Rattle.entries.specs.Readers as readers;
 use crate::forms::{has_form, have_form, split};
 use acstatement::fault::{ParseFault, moved_by, quote_fault};
 use deftable::Bytes;
+use deftable::texts::copies;
 use m4quote::{Arg, used_text};
 use std::alloc::{AllocError, Global};
 use syntax::{Entries, Sought};
@@ -61,17 +62,6 @@ fn check(kind: Sought, at: usize, entries: &[&[u8]]) -> Result<(), ParseFault>
         return Err(ParseFault::BadName(at));
     }
     Ok(())
-}
-
-/// Copies the texts.
-fn copies(alloc: Global, texts: &[&[u8]]) -> Result<Vec<Bytes>, AllocError>
-    ensures { IfOk result (λ v. v.items ≡ map (λ t. t.now) texts.now) }
-{
-    let mut copies = Vec::new(alloc);
-    for text in texts {
-        copies.push(Bytes::from_slice(alloc, text)?)?;
-    }
-    Ok(copies)
 }
 
 /// Returns the entries that a text at `at` lists.
