@@ -9,14 +9,17 @@
 //! all_errors(alloc, text, errors_of(alloc, text)?)?   // in order of their places
 //! ```
 //!
-//! Read `pieces` (where a piece begins), `masking` (what becomes blanks), `rounds` (the errors of one piece, or of the whole), and then
-//! `runs` (all pieces) and `whole`. A call fails only if memory runs out. "own" marks a rule that no manual gives.
+//! Read `scan` (what is open at a place), `pieces` (where a piece begins), `masking` (what becomes blanks), `rounds` (the errors of one
+//! piece, or of the whole), and then `runs` (all pieces) and `whole`. A call fails only if memory runs out. "own" marks a rule that no
+//! manual gives.
 #![tactic(auto)]
 
 mod masking;
 mod pieces;
 mod rounds;
 mod runs;
+mod scan;
 mod whole;
 
+pub use scan::Scan;
 pub use whole::all_errors;

@@ -1,24 +1,21 @@
 //! Blanks in place of a statement, so that the errors after it are found.
 
+use crate::scan::Scan;
 use sourcecalls::{CallAt, Extent};
-use textpieces::{first_name, from};
+use textpieces::from;
 
 /// Returns a part of the text, or nothing if the text has no such part.
 pub(crate) fn part(text: &[u8], start: usize, end: usize) -> &[u8] {
     text.get(start..end).unwrap_or(b"")
 }
 
-/// Writes a space for each byte between two offsets, but for newlines and, if they are kept, brackets. Returns whether that changed
-/// anything.
-pub(crate) fn blank(text: &mut [u8], start: usize, end: usize, keeps_brackets: bool) -> bool {
+/// Writes a space for each byte between two offsets, but for newlines. Returns whether that changed anything.
+pub(crate) fn blank(text: &mut [u8], start: usize, end: usize) -> bool {
     let end = end.min(text.len());
     let mut has_changed = false;
     for i in start..end {
         let byte = text[i];
-        let stays = byte == b'\n'
-            || byte == b' '
-            || keeps_brackets && (byte == b'[' || byte == b']');
-        if !stays {
+        if byte != b'\n' && byte != b' ' {
             text[i] = b' ';
             has_changed = true;
         }
@@ -57,7 +54,7 @@ fn inner_end(text: &[u8], arg: &Extent) -> usize {
 }
 
 /// Returns the offset of the text that is between the brackets of an argument, or of the argument.
-fn inner_start(text: &[u8], arg: &Extent) -> usize {
+pub(crate) fn inner_start(text: &[u8], arg: &Extent) -> usize {
     if part(text, arg.start, arg.end).first() == Some(&b'[') {
         arg.start.saturating_add(1)
     } else {
@@ -73,11 +70,11 @@ pub(crate) fn blank_call(text: &mut [u8], calls: &[CallAt], call: &CallAt) -> bo
         if has_call(calls, arg) {
             let start = inner_start(text, arg);
             let end = inner_end(text, arg);
-            has_changed |= blank(text, at, start, false);
+            has_changed |= blank(text, at, start);
             at = end.max(at);
         }
     }
-    has_changed | blank(text, at, call.end, false)
+    has_changed | blank(text, at, call.end)
 }
 
 /// Returns where the text between calls that has the place ends: at the next call, at the end of the argument, or at the end.
@@ -96,33 +93,21 @@ fn bare_end(text: &[u8], calls: &[CallAt], place: usize) -> usize {
     end
 }
 
-/// Returns the length of the shell statement that a text begins with, up to the newline after it, a comment, or the end.
+/// Returns the length of the shell statement that a text begins with, up to the newline after it, a comment, or the end. If a quote
+/// isn't closed, returns the length of the first line.
 fn statement_len(text: &[u8]) -> usize {
-    let mut quote: u8 = 0;
-    let mut is_escaped = false;
-    let mut is_word = false;
-    let mut len: usize = 0;
-    for byte in text {
-        if is_escaped {
-            is_escaped = false;
-        } else if quote != 0 {
-            is_escaped = *byte == b'\\' && quote == b'"';
-            if *byte == quote {
-                quote = 0;
-            }
-        } else if *byte == b'\n' || *byte == b'#' && !is_word {
-            return len;
-        } else if !is_word && first_name(from(text, len)) == b"dnl".as_slice() {
-            return len;
-        } else if *byte == b'\'' || *byte == b'"' {
-            quote = *byte;
-        } else {
-            is_escaped = *byte == b'\\';
+    let mut scan = Scan::new();
+    for i in 0..text.len() {
+        if scan.ends_before(text[i], &text[i..]) {
+            return i;
         }
-        is_word = !matches!(*byte, b' ' | b'\t' | b'\n' | b';');
-        len = len.saturating_add(1);
+        scan.read(text[i], &text[i..]);
     }
-    if quote == 0 { len } else { line_len(text) }
+    if scan.is_in_quote() {
+        line_len(text)
+    } else {
+        text.len()
+    }
 }
 
 /// Returns the length of the first line.
@@ -130,9 +115,35 @@ fn line_len(text: &[u8]) -> usize {
     text.iter().take_while(|byte| **byte != b'\n').count()
 }
 
+/// Writes a space at an offset, if there is one.
+fn put_blank(text: &mut [u8], at: usize) {
+    if at < text.len() {
+        text[at] = b' ';
+    }
+}
+
+/// Writes a space for each byte of a statement between two offsets, but for newlines, brackets that quote, and lines from `dnl` on.
+/// Returns whether that changed anything.
+fn blank_statement(text: &mut [u8], start: usize, end: usize) -> bool {
+    let mut scan = Scan::new();
+    let mut has_changed = false;
+    for i in start..end.min(text.len()) {
+        let rest = from(text, i);
+        let Some(byte) = rest.first().copied() else {
+            return has_changed;
+        };
+        scan.read(byte, rest);
+        if byte != b'\n' && byte != b' ' && !scan.keeps(byte) {
+            put_blank(text, i);
+            has_changed = true;
+        }
+    }
+    has_changed
+}
+
 /// Blanks the statement between calls that begins at the place. Returns whether that changed anything.
 pub(crate) fn blank_bare(text: &mut [u8], calls: &[CallAt], place: usize) -> bool {
     let end = bare_end(text, calls, place);
     let len = statement_len(part(text, place, end));
-    blank(text, place, place.saturating_add(len.max(1)), true)
+    blank_statement(text, place, place.saturating_add(len.max(1)))
 }

@@ -99,7 +99,7 @@ fn blank_init(piece: Piece<'_>, copy: &mut Copy) {
         if part(piece.text, call.start, call.name_end) == b"AC_INIT".as_slice() {
             let start = copy.base.saturating_add(call.start);
             let end = copy.base.saturating_add(call.end);
-            blank(copy.text.as_mut_slice(), start, end, false);
+            blank(copy.text.as_mut_slice(), start, end);
             return;
         }
     }

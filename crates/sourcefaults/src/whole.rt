@@ -1,8 +1,9 @@
 //! The errors of a source.
 
-use crate::masking::blank;
+use crate::masking::{blank, inner_start};
 use crate::rounds::{Copy, Piece, add_rounds};
 use crate::runs::add_pieces;
+use crate::scan::Scan;
 use findings::{Finding, put_in_order};
 use sourcecalls::{CallAt, calls_of};
 use std::alloc::{AllocError, Global};
@@ -17,13 +18,49 @@ fn budget_of(len: usize) -> usize {
     len.saturating_mul(OFTEN).saturating_add(LEAST)
 }
 
-/// Blanks the calls whose macro isn't known.
-fn blank_unknown(text: &mut [u8], calls: &[CallAt]) {
+/// Sets the mark of an offset, if there is one.
+fn mark(marks: &mut [bool], at: usize) {
+    if at < marks.len() {
+        marks[at] = true;
+    }
+}
+
+/// Marks the offsets at which text between calls begins: after each call, and at the start of each argument or after its bracket.
+fn mark_starts(text: &[u8], calls: &[CallAt], marks: &mut [bool]) {
     for call in calls {
-        if !call.is_of_profile {
-            blank(text, call.start, call.end, false);
+        mark(marks, call.end);
+        for arg in &call.args {
+            mark(marks, inner_start(text, arg));
         }
     }
+}
+
+/// Returns for each offset whether a quote of the shell is open there, if text between calls begins at the offsets with a mark.
+fn quotes_of(alloc: Global, text: &[u8], marks: &[bool]) -> Result<Vec<bool>, AllocError> {
+    let mut out = Vec::new(alloc);
+    let mut scan = Scan::new();
+    for i in 0..text.len() {
+        if marks.get(i) == Some(&true) {
+            scan = Scan::new();
+        }
+        out.push(scan.is_in_quote())?;
+        scan.read(text[i], &text[i..]);
+    }
+    Ok(out)
+}
+
+/// Blanks the calls whose macro isn't known, but for those before which a quote of the shell is open. Without such a call the quote
+/// may be closed after it, and the error is lost.
+fn blank_unknown(alloc: Global, text: &mut [u8], calls: &[CallAt]) -> Result<(), AllocError> {
+    let mut marks = vec![in alloc; false; text.len()]?;
+    mark_starts(text, calls, &mut marks);
+    let quotes = quotes_of(alloc, text, marks.as_slice())?;
+    for call in calls {
+        if !call.is_of_profile && quotes.get(call.start) != Some(&true) {
+            blank(text, call.start, call.end);
+        }
+    }
+    Ok(())
 }
 
 /// Appends the errors of a source that are found in its pieces, and then those of the whole.
@@ -34,7 +71,7 @@ fn add_others(
     found: &mut Vec<Finding>,
 ) -> Result<(), AllocError> {
     let mut copy = Copy::new(alloc, b"", text, b"")?;
-    blank_unknown(copy.text.as_mut_slice(), calls);
+    blank_unknown(alloc, copy.text.as_mut_slice(), calls)?;
     let mut left = budget_of(text.len());
     add_pieces(alloc, &mut copy.text, calls, &mut left, found)?;
     let mut left = budget_of(text.len());
