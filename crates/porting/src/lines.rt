@@ -1,8 +1,9 @@
 //! Above which line a comment about a place can be.
 
 use sourcecalls::{CallAt, Extent};
+use sourcefaults::Scan;
 use std::alloc::{AllocError, Global};
-use textpieces::{first_name, from, is_word_byte};
+use textpieces::from;
 
 /// What a line of comment begins with.
 pub(crate) const FRONT: &[u8] = b"dnl acrun: ";
@@ -22,61 +23,62 @@ pub(crate) struct Line {
     /// The offset after the argument of that call which is open too, or 0.
     arg_end: usize,
     /// The offset of the bracket that is open within that argument, or between calls, if one is.
+    bracket: Option<usize>,
+    /// The offset of the quote of the shell that is open there and that is closed before the next call, if one is.
     quote: Option<usize>,
 }
 
-/// Which bracket is open within an argument, or between calls.
+/// What is open within an argument, or between calls.
 #[derive(Clone, Copy)]
-struct Scan {
-    depth: usize,
-    opened: usize,
-    is_skipped: bool,
-    is_word: bool,
+struct Opened {
+    scan: Scan,
+    /// The offset of the last bracket that is in no other.
+    bracket: usize,
+    /// The offset of the last quote of the shell.
+    quote: usize,
 }
 
-impl Scan {
+impl Opened {
     /// Returns what is open at the start of an argument or after a call.
-    fn new() -> Scan {
-        Scan {
-            depth: 0,
-            opened: 0,
-            is_skipped: false,
-            is_word: false,
+    fn new() -> Opened {
+        Opened {
+            scan: Scan::new(),
+            bracket: 0,
+            quote: 0,
         }
     }
 
     /// Returns the offset of the bracket that is open, if one is.
-    fn quote(&self) -> Option<usize> {
-        if self.depth == 0 {
-            None
+    fn open_bracket(&self) -> Option<usize> {
+        if self.scan.depth() > 0 {
+            Some(self.bracket)
         } else {
-            Some(self.opened)
+            None
         }
     }
 
-    /// Reads a byte that is outside of comments.
-    fn read_byte(&mut self, byte: u8, text: &[u8], at: usize) {
-        if byte == b'[' {
-            if self.depth == 0 {
-                self.opened = at;
-            }
-            self.depth = self.depth.saturating_add(1);
-        } else if byte == b']' {
-            self.depth = self.depth.saturating_sub(1);
-        } else if self.depth == 0 {
-            let is_dnl = !self.is_word && first_name(from(text, at)) == b"dnl".as_slice();
-            self.is_skipped = byte == b'#' || is_dnl;
+    /// Returns the offset of the quote of the shell that is open, if one is.
+    fn open_quote(&self) -> Option<usize> {
+        if self.scan.is_in_quote() {
+            Some(self.quote)
+        } else {
+            None
         }
     }
 
     /// Reads the byte at an offset.
-    fn read(&mut self, byte: u8, text: &[u8], at: usize) {
-        if self.is_skipped {
-            self.is_skipped = byte != b'\n';
-        } else {
-            self.read_byte(byte, text, at);
+    fn read(&mut self, text: &[u8], at: usize) {
+        let Some(byte) = text.get(at) else {
+            return;
+        };
+        let before = self.scan;
+        self.scan.read(*byte, from(text, at));
+        if before.depth() == 0 {
+            self.bracket = at;
         }
-        self.is_word = is_word_byte(byte);
+        if !before.is_in_quote() {
+            self.quote = at;
+        }
     }
 }
 
@@ -87,12 +89,31 @@ struct Open {
     arg: usize,
 }
 
-/// The calls that are open at a place, outermost first, and the index of the next call.
+/// The calls that are open at a place, outermost first, the index of the next call, and the lines so far.
 #[derive(Drop)]
 struct Walk {
     open: Vec<Open>,
     next: usize,
-    scan: Scan,
+    opened: Opened,
+    lines: Vec<Line>,
+}
+
+/// Takes a quote of the shell that isn't closed out of the lines.
+fn forget_quote(lines: &mut [Line], quote: usize) {
+    for i in (0..lines.len()).rev() {
+        if lines[i].quote != Some(quote) {
+            return;
+        }
+        lines[i].quote = None;
+    }
+}
+
+/// Begins to read other text between calls.
+fn restart(walk: &mut Walk) {
+    if let Some(quote) = walk.opened.open_quote() {
+        forget_quote(&mut walk.lines, quote);
+    }
+    walk.opened = Opened::new();
 }
 
 /// Takes out the calls that end before an offset.
@@ -105,28 +126,30 @@ fn close_calls(calls: &[CallAt], at: usize, walk: &mut Walk) {
             return;
         }
         walk.open.pop();
-        walk.scan = Scan::new();
+        restart(walk);
     }
 }
 
-/// Goes on to the next argument of the innermost call, if one ends before an offset, and begins to read one that begins there.
-fn go_to_argument(calls: &[CallAt], at: usize, walk: &mut Walk) {
-    let Some(last) = walk.open.last_mut() else {
-        return;
+/// Returns the offset at which what is in an argument begins: after its bracket, if it has one.
+fn inner_start(text: &[u8], arg: &Extent) -> usize {
+    let is_quoted = text.get(arg.start) == Some(&b'[');
+    arg.start.saturating_add(usize::from(is_quoted))
+}
+
+/// Goes on to the next argument of the innermost call, if one ends before an offset. Returns whether what is in it begins there.
+fn is_at_argument(text: &[u8], calls: &[CallAt], at: usize, open: &mut [Open]) -> bool {
+    let Some(last) = open.last_mut() else {
+        return false;
     };
     let Some(call) = calls.get(last.call) else {
-        return;
+        return false;
     };
     if call.args.get(last.arg).is_some_and(|arg| arg.end <= at) {
         last.arg = last.arg.saturating_add(1);
     }
-    if call
-        .args
+    call.args
         .get(last.arg)
-        .is_some_and(|arg| arg.start.saturating_add(1) == at)
-    {
-        walk.scan = Scan::new();
-    }
+        .is_some_and(|arg| inner_start(text, arg) == at)
 }
 
 /// Adds the calls that begin before an offset.
@@ -140,6 +163,7 @@ fn open_calls(calls: &[CallAt], at: usize, walk: &mut Walk) -> Result<(), AllocE
             arg: 0,
         })?;
         walk.next = index.saturating_add(1);
+        restart(walk);
     }
     Ok(())
 }
@@ -153,13 +177,13 @@ fn open_argument<'a>(calls: &'a [CallAt], open: Open, at: usize) -> Option<&'a E
 
 /// Returns the line that begins at an offset.
 fn line_at(calls: &[CallAt], at: usize, walk: &Walk) -> Line {
-    let quote = walk.scan.quote();
     let mut line = Line {
         start: at,
         below: at,
         call: None,
         arg_end: 0,
-        quote,
+        bracket: walk.opened.open_bracket(),
+        quote: walk.opened.open_quote(),
     };
     if let Some(open) = walk.open.last() {
         line.call = calls.get(open.call).map(|call| call.start);
@@ -168,30 +192,44 @@ fn line_at(calls: &[CallAt], at: usize, walk: &Walk) -> Line {
     line
 }
 
+/// Goes on to an offset, and adds a line if one begins there.
+fn go_to(
+    text: &[u8],
+    calls: &[CallAt],
+    at: usize,
+    is_start: bool,
+    walk: &mut Walk,
+) -> Result<(), AllocError> {
+    close_calls(calls, at, walk);
+    open_calls(calls, at, walk)?;
+    if is_at_argument(text, calls, at, &mut walk.open) {
+        restart(walk);
+    }
+    if is_start {
+        let line = line_at(calls, at, walk);
+        walk.lines.push(line)?;
+    }
+    Ok(())
+}
+
 /// Returns the lines of a text with these calls.
 fn plain_lines(alloc: Global, text: &[u8], calls: &[CallAt]) -> Result<Vec<Line>, AllocError> {
-    let mut out = Vec::new(alloc);
     let mut walk = Walk {
         open: Vec::new(alloc),
         next: 0,
-        scan: Scan::new(),
+        opened: Opened::new(),
+        lines: Vec::new(alloc),
     };
     let mut is_start = true;
     for at in 0..text.len() {
-        close_calls(calls, at, &mut walk);
-        open_calls(calls, at, &mut walk)?;
-        go_to_argument(calls, at, &mut walk);
-        if is_start {
-            out.push(line_at(calls, at, &walk))?;
-        }
+        go_to(text, calls, at, is_start, &mut walk)?;
         is_start = text[at] == b'\n';
-        walk.scan.read(text[at], text, at);
+        walk.opened.read(text, at);
     }
-    if is_start {
-        close_calls(calls, text.len(), &mut walk);
-        out.push(line_at(calls, text.len(), &walk))?;
-    }
-    Ok(out)
+    go_to(text, calls, text.len(), is_start, &mut walk)?;
+    restart(&mut walk);
+    let Walk { lines, .. } = walk;
+    Ok(lines)
 }
 
 /// Returns the offset of the first line after this one that is no comment of ours, or of this one if it is the last.
@@ -238,7 +276,7 @@ fn line_with(lines: &[Line], place: usize) -> Option<&Line> {
 fn further_up(line: &Line, place: usize) -> Option<usize> {
     match line.call {
         Some(call) if line.arg_end <= place => Some(call),
-        _ => line.quote,
+        _ => line.bracket.or(line.quote),
     }
 }
 
