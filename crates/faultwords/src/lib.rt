@@ -7,10 +7,11 @@
 //! let words = option_words(alloc, OptionFault::Unknown(2), &[b"CC=cc", b"--prefx=/usr"])?;   // the option `--prefx=/usr` is not known
 //! ```
 //!
-//! A call fails only if memory runs out. What is said is tested, and what is proved is that each call ends.
+//! A call fails only if memory runs out. What is said is tested, and what is proved is that each call ends, and which name is near
+//! another.
 //!
-//! Read `near`, which finds a similar name, and `page`, on which words are written. Then `running` has what is said of the faults of a
-//! run: those of options, caches and records. `sourcewords` has the words of the faults of a source.
+//! Read `specs/Near` and `near`, which finds a similar name, and `page`, on which words are written. Then `running` has what is
+//! said of the faults of a run: those of options, caches and records. `sourcewords` has the words of the faults of a source.
 #![tactic(auto)]
 
 mod near;
