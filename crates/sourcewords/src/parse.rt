@@ -1,6 +1,6 @@
 //! The faults of a source.
 
-ghost use Rattle.std.specs.Prelude.{◌≡◌, IfOk};
+ghost use Rattle.std.specs.Prelude.{◌≡◌, ◌≤◌, length, IfOk};
 ghost use Rattle.findings.specs.declared.finding.Severity.TheVariants.{Error};
 
 use crate::arguments::{argument_words, macros};
@@ -480,6 +480,9 @@ pub fn parse_finding(
 ) -> Result<Finding, AllocError>
     ensures file { IfOk result (λ finding. finding.file ≡ 0) }
     ensures start { IfOk result (λ finding. finding.start ≡ at) }
+    // It ends in the text, and, if the offset is in the text, not before it.
+    ensures end { IfOk result (λ finding. finding.end ≤ length text.now) }
+    ensures order { at ≤ length text.now → IfOk result (λ finding. finding.start ≤ finding.end) }
     ensures severity { IfOk result (λ finding. finding.severity ≡ Error) }
 {
     let around = Around { text, at };
@@ -498,6 +501,7 @@ pub fn parse_finding(
 pub fn too_long_finding(alloc: Global) -> Result<Finding, AllocError>
     ensures file { IfOk result (λ finding. finding.file ≡ 0) }
     ensures start { IfOk result (λ finding. finding.start ≡ 0) }
+    ensures end { IfOk result (λ finding. finding.end ≡ 0) }
     ensures severity { IfOk result (λ finding. finding.severity ≡ Error) }
 {
     let code = Bytes::from_slice(alloc, b"plan-1")?;
