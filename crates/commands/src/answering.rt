@@ -4,6 +4,7 @@ ghost use Rattle.std.specs.Prelude.{◌≡◌, ◌⊎◌};
 ghost use Rattle.standin.specs.Standin.{IsAnswered};
 
 use deftable::Bytes;
+use disk::Disk;
 use invocation::tell_memory;
 use standin::standin;
 use std::alloc::Global;
@@ -11,16 +12,17 @@ use std::io::Write;
 use std::rt::Files;
 
 /// Answers as the stand-in for a compiler with this command line, and returns the exit status (own).
-pub fn run_standin<F: Files, E: Write>(
+pub fn run_standin<F: Files, D: Disk, E: Write>(
     alloc: Global,
     files: &F,
+    disk: &D,
     words: &[Bytes],
     errors: &mut E,
 ) -> u8
-    ensures answer { (result ≡ 2) ⊎ IsAnswered words.now result }
+    ensures answer { (result ≡ 2) ⊎ IsAnswered (D.known disk.now) words.now result }
     ensures silent { result ≡ 0 → errors.new ≡ errors.old }
 {
-    match standin(alloc, files, words, errors) {
+    match standin(alloc, files, disk, words, errors) {
         Ok(status) => status,
         Err(_) => tell_memory(errors),
     }

@@ -48,7 +48,7 @@ fn put_standin(page: &mut Page, rt: &HostRuntime, words: &[Bytes]) {
         kept: Page::new(page.alloc()),
         fails: false,
     };
-    match standin(page.alloc(), rt, words, &mut errors) {
+    match standin(page.alloc(), rt, &Host::new(rt), words, &mut errors) {
         Ok(status) => page.put_shown(&status),
         Err(_) => page.cut(),
     }

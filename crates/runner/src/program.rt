@@ -101,8 +101,8 @@ pub fn run<F: Files, D: Disk, C: Crew + Causes, R: Read, W: Write, E: Write>(
     ensures filter { IfFilter (call_of words.now) ((result ≡ 2) ⊎ IfSome (R.remaining input.old)
         (λ text. (out : List ℕ) × (said : List ℕ) × IsFiltered text out said result × Appends (W.contents output.old) (W.contents output.new) out
         × (said ≡ [] → errors.new ≡ errors.old) × AreTold (E.contents errors.old) (E.contents errors.new) (said ∷ []))) }
-    // The stand-in's status is its answer, unless memory runs out. If it accepts the conftest, it writes nothing.
-    ensures standin { IfStandIn (call_of words.now) (λ others. (result ≡ 2) ⊎ IsAnswered others result) }
+    // The stand-in's status is its answer for the texts of its files, unless memory runs out. If it accepts the conftest, it writes nothing.
+    ensures standin { IfStandIn (call_of words.now) (λ others. (result ≡ 2) ⊎ IsAnswered (D.known outputs.old.disk) others result) }
     ensures silent { IfStandIn (call_of words.now) (λ others. result ≡ 0 → errors.new ≡ errors.old) }
     // Unless the status is 2, the crew made the run of the source that the arguments name, with
     // these arguments, this environment, its cache and its templates; the status is that of its
@@ -142,7 +142,7 @@ pub fn run<F: Files, D: Disk, C: Crew + Causes, R: Read, W: Write, E: Write>(
 {
     match call_of(words) {
         Call::Filter => run_filter(alloc, why, input, output, errors),
-        Call::StandIn(words) => run_standin(alloc, files, words, errors),
+        Call::StandIn(words) => run_standin(alloc, files, outputs.disk(), words, errors),
         Call::Configure(window, args) => {
             run_configure(alloc, outputs, why, window, args, env, crew, output, errors)
         }
@@ -227,7 +227,7 @@ pub fn command<C: Crew + Causes + Children>(
     requires attempts { (C.account crew.old).attempts + 2 ^ 36 ≤ 2 ^ 62 }
     requires failures { (C.account crew.old).failures + 256 ≤ 2 ^ 62 }
     // What [`run`] says, but for what only known streams and files can show.
-    ensures standin { IfStandIn (call_of words.now) (λ others. (result ≡ 2) ⊎ IsAnswered others result) }
+    ensures standin { IfStandIn (call_of words.now) (λ others. (result ≡ 2) ⊎ IsAnswered None others result) }
     ensures configure { IfConfigure (call_of words.now) (λ window args. result ≢ 2 → (out : List ℕ) × (said : List (List ℕ))
         × IsConfigured window args env.now (C.account crew.old) (C.account crew.new) None None out said result) }
     ensures status { IfStatus (call_of words.now) (λ tags. result ≢ 2 → (result ≡ 0) × (out : List ℕ) × IsMadeAgain None None tags out) }

@@ -1,7 +1,9 @@
 -- The stand-in for a compiler (own): its answer, from its words, its list and the conftest.
-use Rattle.std.specs.Prelude.{◌≡◌, ℕ, ◌<◌, nat_eq, Bool, true, false, List, [], ◌∷◌, Option, Some, None, length, reverse, find, bytes_eq, codes, slice_get, slice_index_or, All}
+use Rattle.std.specs.Prelude.{◌≡◌, ℕ, ◌<◌, nat_eq, Bool, true, false, List, [], ◌∷◌, Option, Some, None, length, reverse, find, bytes_eq, codes, slice_get, slice_index_or, unwrap_or, IfSome, All}
 use Rattle.std.specs.List.{ends_with}
 use Rattle.bstr.specs.Text.{Contains}
+use Rattle.disk.specs.Known.{Known}
+use Rattle.diskfiles.specs.Reading.{IsReadLimited}
 use Rattle.textcut.specs.Cuts.{parts}
 use Rattle.input.specs.Parted.{first_line}
 
@@ -17,10 +19,15 @@ conftest_name words = find names_source (reverse words)
 abbrev pub list_name : List ℕ
 list_name = codes "standin.txt"
 
--- The text of the conftest, which is empty if none is named. (own)
-abbrev pub conftest_of : (List ℕ → List ℕ) → Option (List ℕ) → List ℕ
-conftest_of texts None = []
-conftest_of texts (Some name) = texts name
+-- If something is known of the files, this is the text under the name, or its first 64 MiB and one byte more. What can't be
+-- read has the empty text. (own)
+abbrev pub ReadsText : Option Known → List ℕ → List ℕ → Type 0
+ReadsText files name text = (read : Option (List ℕ)) × IfSome files (λ k. IsReadLimited k name read) × (text ≡ unwrap_or read [])
+
+-- This is the text of the conftest, which is empty if none is named. (own)
+abbrev pub ReadsConftest : Option Known → Option (List ℕ) → List ℕ → Type 0
+ReadsConftest files None text = text ≡ []
+ReadsConftest files (Some name) text = ReadsText files name text
 
 -- The list makes children wait for each other. (own)
 abbrev pub is_meeting : List ℕ → Bool
@@ -49,17 +56,16 @@ pub record IsFirstBarred (list conftest line : List ℕ) : Type 0 where
 abbrev pub HasNoBarred : List ℕ → List ℕ → Type 0
 HasNoBarred list conftest = All (λ line. ¬ IsBarred conftest line) (lines_of list)
 
--- The exit status, if the list and the conftest have these texts: 1 if a line of the list occurs in the conftest, and
--- else 0; if children wait for each other it is 0, except that it may be 1 for the one that waits. (own)
-pub data Answers (words : List (List ℕ)) (list conftest : List ℕ) : ℕ → Type 0 where
-  barred : {line : List ℕ} → is_meeting list ≡ false → IsFirstBarred list conftest line → Answers words list conftest 1
-  passed : is_meeting list ≡ false → HasNoBarred list conftest → Answers words list conftest 0
-  met : is_meeting list ≡ true → Answers words list conftest 0
-  waited : is_meeting list ≡ true → conftest_name words ≡ Some waiting → Answers words list conftest 1
+-- The exit status, if the list has this text: 1 if a line of the list occurs in the conftest, and else 0; if children wait
+-- for each other it is 0, except that it may be 1 for the one that waits. (own)
+pub data Answers (files : Option Known) (words : List (List ℕ)) (list : List ℕ) : ℕ → Type 0 where
+  barred : (conftest line : List ℕ) → is_meeting list ≡ false → ReadsConftest files (conftest_name words) conftest → IsFirstBarred list conftest line → Answers files words list 1
+  passed : (conftest : List ℕ) → is_meeting list ≡ false → ReadsConftest files (conftest_name words) conftest → HasNoBarred list conftest → Answers files words list 0
+  met : is_meeting list ≡ true → Answers files words list 0
+  waited : is_meeting list ≡ true → conftest_name words ≡ Some waiting → Answers files words list 1
 
--- The exit status is the answer for some texts of the two files; a conftest that isn't named has the empty text. (own)
-pub record IsAnswered (words : List (List ℕ)) (status : ℕ) : Type 0 where
+-- The exit status is the answer for the texts of the two files. (own)
+pub record IsAnswered (files : Option Known) (words : List (List ℕ)) (status : ℕ) : Type 0 where
   pub list : List ℕ
-  pub conftest : List ℕ
-  pub unnamed : conftest_name words ≡ None → conftest ≡ []
-  pub answers : Answers words list conftest status
+  pub read : ReadsText files list_name list
+  pub answers : Answers files words list status

@@ -5,17 +5,19 @@
 //! `!meet` as its first line tests that children run at the same time: each makes a file, and one of them waits for the
 //! file of another.
 
-ghost use Rattle.std.specs.Prelude.{◌≡◌, ◌↔◌, ◌⊎◌, ℕ, List, [], ◌∷◌, ◌++◌, Some, None, IsTrue, IfOk, OnOk, IfSome, IfNone};
+ghost use Rattle.std.specs.Prelude.{◌≡◌, ◌↔◌, ◌⊎◌, ℕ, List, [], ◌∷◌, ◌++◌, Some, IsTrue, IfOk, OnOk, IfSome, IfNone};
 ghost use Rattle.std.specs.Option.{option_copied};
 ghost use Rattle.std.specs.Io.KnownBytes.{Appends};
 ghost use Rattle.standin.specs.Standin as meant;
-ghost use Rattle.standin.specs.Standin.{conftest_name, conftest_of, is_meeting, list_name, waiting, Answers, IsBarred, IsFirstBarred, HasNoBarred, IsAnswered};
+ghost use Rattle.standin.specs.Standin.{conftest_name, is_meeting, waiting, IsBarred, IsFirstBarred, HasNoBarred, IsAnswered};
 
-use crate::texts::{Directory, Texts};
+use crate::texts::{text_of, text_of_conftest};
 use bstr::ByteSlice;
 use deftable::Bytes;
+use disk::Disk;
 use input::line_len;
 use std::alloc::{AllocError, Global};
+use std::fs;
 use std::io::Write;
 use std::rt::Files;
 use textcut::parts;
@@ -42,44 +44,30 @@ const MOST_LOOKS: u32 = 200_000;
 /// `!meet`, a file is made with the conftest's name and `.seen` after it. Then the status is 0, except that it is 1 for
 /// `conftest1.c` if `conftest2.c.seen` isn't found within 200,000 looks (own).
 ///
-/// A file that can't be read, or that doesn't end within 65,536 reads of at most 4,096 bytes, counts as empty. The time
-/// is that of one search of the conftest for each line of the list.
+/// A file that can't be read counts as empty. So does what isn't a regular file, and what has more than 64 MiB counts as its first
+/// 64 MiB and one byte more. The time is that of one search of the conftest for each line of the list.
 ///
 /// # Errors
 ///
 /// Fails only if memory runs out.
-pub fn standin<F: Files, E: Write>(
+pub fn standin<F: Files, D: Disk, E: Write>(
     alloc: Global,
     files: &F,
+    disk: &D,
     words: &[Bytes],
     errors: &mut E,
 ) -> Result<u8, AllocError>
-    ensures answer { IfOk result (IsAnswered words.now) }
+    // The status is the answer for the texts of the list and the conftest, which are those of the disk.
+    ensures answer { IfOk result (IsAnswered (D.known disk.now) words.now) }
     // If it accepts the conftest, it writes nothing.
     ensures silent { IfOk result (λ status. status ≡ 0 → errors.new ≡ errors.old) }
 {
-    answered(alloc, &Directory::new(files), words, errors)
-}
-
-/// Answers from the texts of the files.
-fn answered<T: Texts, E: Write>(
-    alloc: Global,
-    texts: &T,
-    words: &[Bytes],
-    errors: &mut E,
-) -> Result<u8, AllocError>
-    ensures answer { IfOk result (IsAnswered words.now) }
-    // If the files' texts are known, the status is the answer for those of the list and the conftest.
-    ensures known { IfOk result (λ status. IfSome (T.known texts.now)
-        (λ t. Answers words.now (t list_name) (conftest_of t (conftest_name words.now)) status)) }
-    ensures silent { IfOk result (λ status. status ≡ 0 → errors.new ≡ errors.old) }
-{
-    let list = texts.text(alloc, LIST)?;
+    let list = text_of(alloc, disk, LIST)?;
     let name = name_of_conftest(words);
     if asks_to_meet(list.as_slice()) {
-        return meet(alloc, texts, name);
+        return meet(alloc, files, name);
     }
-    let conftest = text_of_conftest(alloc, texts, name)?;
+    let conftest = text_of_conftest(alloc, disk, name)?;
     judge(alloc, list.as_slice(), conftest.as_slice(), errors)
 }
 
@@ -161,23 +149,8 @@ fn tell_line<E: Write>(errors: &mut E, line: &[u8]) -> std::io::Result<()>
     errors.write_all(b"\n")
 }
 
-/// Returns the text of the conftest, which is empty if none is named.
-fn text_of_conftest<T: Texts>(
-    alloc: Global,
-    texts: &T,
-    name: Option<&Bytes>,
-) -> Result<Vec<u8>, AllocError>
-    ensures unnamed { IfOk result (λ text. option_copied name.entry ≡ None → text.items ≡ []) }
-    ensures named { IfOk result (λ text. IfSome (T.known texts.now) (λ t. text.items ≡ conftest_of t (option_copied name.entry))) }
-{
-    match name {
-        Some(name) => texts.text(alloc, name.as_slice()),
-        None => Ok(Vec::new(alloc)),
-    }
-}
-
 /// Makes the file that shows that the conftest was seen. The conftest that waits then looks for the file of the other.
-fn meet<T: Texts>(alloc: Global, texts: &T, name: Option<&Bytes>) -> Result<u8, AllocError>
+fn meet<F: Files>(alloc: Global, files: &F, name: Option<&Bytes>) -> Result<u8, AllocError>
     ensures status { IfOk result (λ status. (status ≡ 0) ⊎ (status ≡ 1)) }
     ensures waited { IfOk result (λ status. status ≡ 1 → option_copied name.entry ≡ Some waiting) }
 {
@@ -185,27 +158,27 @@ fn meet<T: Texts>(alloc: Global, texts: &T, name: Option<&Bytes>) -> Result<u8, 
         return Ok(0);
     };
     let name = name.as_slice();
-    make_seen(alloc, texts, name)?;
-    if name != WAITING || is_seen(texts) {
+    make_seen(alloc, files, name)?;
+    if name != WAITING || is_seen(files) {
         return Ok(0);
     }
     Ok(1)
 }
 
 /// Makes the file that shows that the conftest was seen, if that is possible.
-fn make_seen<T: Texts>(alloc: Global, texts: &T, name: &[u8]) -> Result<(), AllocError> {
+fn make_seen<F: Files>(alloc: Global, files: &F, name: &[u8]) -> Result<(), AllocError> {
     let Ok(name) = std::str::from_utf8(name) else {
         return Ok(());
     };
     let seen = format!(in alloc; "{name}.seen")?;
-    texts.make(seen.as_str());
+    let _ = fs::write(files, seen.as_str(), b"");
     Ok(())
 }
 
 /// Looks for the file that is waited for.
-fn is_seen<T: Texts>(texts: &T) -> bool {
+fn is_seen<F: Files>(files: &F) -> bool {
     for _ in 0..MOST_LOOKS {
-        if texts.is_there(AWAITED) {
+        if matches!(fs::exists(files, AWAITED), Ok(true)) {
             return true;
         }
     }

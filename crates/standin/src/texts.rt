@@ -1,63 +1,34 @@
-//! The files that the stand-in for a compiler reads and makes.
+//! The texts that the stand-in for a compiler reads.
 
-ghost use Rattle.std.specs.Prelude.{◌≡◌, ℕ, List, Option, None, IfOk, IfSome};
+ghost use Rattle.std.specs.Prelude.{IfOk};
+ghost use Rattle.std.specs.Option.{option_copied};
+ghost use Rattle.standin.specs.Standin.{ReadsConftest, ReadsText};
 
-use input::{ReadFault, read_input};
+use deftable::Bytes;
+use disk::Disk;
+use diskfiles::read_limited;
 use std::alloc::{AllocError, Global};
-use std::fs;
-use std::io::ErrorKind;
-use std::rt::Files;
 
-/// Gives the texts of files by their names.
-pub(crate) trait Texts {
-    // the text that is read under each name, if it is known
-    ghost known: { Self → Option (List ℕ → List ℕ) } = { λ _. None };
-
-    // Returns the text of a file, or an empty one if it can't be read. Fails only if memory runs out.
-    fn text(&self, alloc: Global, name: &[u8]) -> Result<Vec<u8>, AllocError>
-        ensures { IfOk result (λ v. IfSome (known self.now) (λ text. v.items ≡ text name.now)) };
-
-    // Makes an empty file, if that is possible.
-    fn make(&self, name: &str);
-
-    // Returns whether there is a file with this name.
-    fn is_there(&self, name: &str) -> bool;
-}
-
-/// The files of a runtime.
-#[derive(Drop)]
-pub(crate) struct Directory<'a, F: Files> {
-    files: &'a F,
-}
-
-impl<'a, F: Files> Directory<'a, F> {
-    pub(crate) fn new(files: &'a F) -> Directory<'a, F> {
-        Directory { files }
+/// Returns the text of a file, or an empty one if it can't be read.
+pub(crate) fn text_of<D: Disk>(alloc: Global, disk: &D, name: &[u8]) -> Result<Bytes, AllocError>
+    ensures { IfOk result (ReadsText (D.known disk.now) name.now) }
+{
+    match read_limited(alloc, disk, name)? {
+        Some(text) => Ok(text),
+        None => Ok(Bytes::new(alloc)),
     }
 }
 
-impl<'a, F: Files> Texts for Directory<'a, F> {
-    fn text(&self, alloc: Global, name: &[u8]) -> Result<Vec<u8>, AllocError> {
-        let Ok(name) = std::str::from_utf8(name) else {
-            return Ok(Vec::new(alloc));
-        };
-        let mut file = match fs::open(self.files, name) {
-            Ok(file) => file,
-            Err(e) if e.kind() == ErrorKind::OutOfMemory => return Err(AllocError),
-            Err(_) => return Ok(Vec::new(alloc)),
-        };
-        match read_input(alloc, &mut file) {
-            Ok(text) => Ok(text),
-            Err(ReadFault::OutOfMemory) => Err(AllocError),
-            Err(_) => Ok(Vec::new(alloc)),
-        }
-    }
-
-    fn make(&self, name: &str) {
-        let _ = fs::write(self.files, name, b"");
-    }
-
-    fn is_there(&self, name: &str) -> bool {
-        matches!(fs::exists(self.files, name), Ok(true))
+/// Returns the text of the conftest, which is empty if none is named.
+pub(crate) fn text_of_conftest<D: Disk>(
+    alloc: Global,
+    disk: &D,
+    name: Option<&Bytes>,
+) -> Result<Bytes, AllocError>
+    ensures { IfOk result (ReadsConftest (D.known disk.now) (option_copied name.entry)) }
+{
+    match name {
+        Some(name) => text_of(alloc, disk, name.as_slice()),
+        None => Ok(Bytes::new(alloc)),
     }
 }
