@@ -14,7 +14,7 @@ use Rattle.options.specs.Opening.{set_by, with_unslashed, with_marks, finished}
 use Rattle.options.specs.Precious.{old_value, restored, restored_variable, restored_from, blanks_note, checked}
 use Rattle.options.specs.declared.fault.PreciousFault.{PreciousFault}
 use Rattle.textcut.specs.Cuts.{fields, parts_by}
-use Rattle.restarts.proofs.Texts.{setting_of}
+use Rattle.cachefile.proofs.Texts.{setting_of}
 
 abbrev precious : List (List ℕ)
 precious = codes "ac_cv_env_CC_value" ∷ codes "CC" ∷ []

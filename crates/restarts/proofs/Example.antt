@@ -35,7 +35,7 @@ use Rattle.options.specs.Precious.{old_value, blanks_note, restored, restored_va
 use Rattle.options.specs.Unrecognized.{after_comma, listed, warning, notes_of}
 use Rattle.plan.specs.Weight.{heaviest, weight}
 use Rattle.plan.specs.declared.fault.PlanFault.TheVariants.{TooLong}
-use Rattle.restarts.proofs.Texts.{setting_of}
+use Rattle.cachefile.proofs.Texts.{setting_of}
 use Rattle.restarts.specs.Calls.{replies_to, Given, follows, CanResume, no_cache, Saved}
 use Rattle.restarts.specs.Law.{Again, joined, WasCut}
 use Rattle.resuming.specs.Joint.{joint_plain, begins, scope_at, joint, joint_cases}

@@ -1,4 +1,3 @@
-mod Texts
 mod Sorting
 mod Distinct
 mod Settings

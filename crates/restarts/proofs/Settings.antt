@@ -13,8 +13,7 @@ use Rattle.cachefile.proofs.Pours.{value_of-with_setting}
 use Rattle.deftable.specs.CacheName.{is_cache_name}
 use Rattle.deftable.specs.Table.{value_of, names_of, HasDistinctNames}
 use Rattle.resuming.specs.Poured.{poured}
-use Rattle.restarts.proofs.Sorting.{absent}
-use Rattle.restarts.proofs.Texts.{setting_of}
+use Rattle.cachefile.proofs.Texts.{absent, setting_of}
 
 -- The value of a name after the settings of saved entries, by whether it is a mark, its saved
 -- value, and its value before.

@@ -1,5 +1,5 @@
 -- What is handed over depends on variables by their values alone.
-use Rattle.std.proofs.Common.{◌≡◌, ℕ, Bool, true, false, cond, ◌&&◌, ◌==◌, not, T, List, [], ◌∷◌, ◌++◌, Option, Some, None, inl, inr, length, filter, refl, sym, ap, ◌∙◌, subst, Ordering, Less, Equal, Greater}
+use Rattle.std.proofs.Common.{◌≡◌, ℕ, Bool, true, false, cond, ◌&&◌, ◌==◌, not, T, List, [], ◌∷◌, ◌++◌, Option, Some, None, length, filter, refl, sym, ap, ◌∙◌, subst, Ordering, Less, Equal, Greater}
 use Rattle.std.specs.Prelude.{fold, bytes_eq, codes, unwrap_or, if◌then◌else◌}
 use Rattle.std.specs.List.{IsDistinct, AllByRecursion}
 use Rattle.std.specs.BTreeMap.{insert_entry}
@@ -8,11 +8,10 @@ use Rattle.std.specs.FinMap.Entries.{by_order, put, find, is_sorted, below_all, 
 use Rattle.std.specs.Ordering.{nat_cmp, match_ordering, is_eq, is_lt}
 use Rattle.std.specs.Cmp.Lexicographic.{slice_cmp, nat_list_cmp_total}
 use Rattle.std.proofs.Math.Path.{fun_ext}
-use Rattle.std.proofs.lemmas.Map.Made.{IsDistinct-keys_filter}
 use Rattle.std.proofs.lemmas.Map.Text.{is_eq-slice_cmp}
-use Rattle.std.proofs.lemmas.Slice.Eq.{bytes_eq-Decides}
 use Rattle.cachefile.specs.Text.{is_saved, saved_value, with_placed, saved_entries, lines_for, cache_text_of}
-use Rattle.cachefile.proofs.Orders.{Entries, decided, in_order_values}
+use Rattle.cachefile.proofs.Texts.{values_saved}
+use Rattle.cachefile.proofs.Orders.{Entries}
 use Rattle.deftable.specs.Table.{value_of, with_entry, names_of, HasDistinctNames}
 use Rattle.framing.specs.Handing.{cache_things, completed_things, run_record, things_of}
 use Rattle.framing.specs.declared.report.Outcome.{Outcome}
@@ -71,36 +70,6 @@ saved_sorted vars = in_order_sorted [] (filter is_saved vars) tt
 
 pub saved_distinct : (vars : Entries) → HasDistinctNames (saved_entries vars)
 saved_distinct vars = sorted_distinct (saved_entries vars) (saved_sorted vars)
-
--- ---- the value of a name that is saved
-
-pub absent : (es : Entries) (q : List ℕ) → AllByRecursion (λ n. bytes_eq q n ≡ false) (names_of es) → value_of es q ≡ None
-unfolding value_of
-absent [] q all = refl
-absent (e ∷ es) q all = rw (all.0) (absent es q all.1)
-
-filter_values : (es : Entries) (q : List ℕ) → HasDistinctNames es → value_of (filter is_saved es) q ≡ saved_value q (value_of es q)
-unfolding value_of IsDistinct
-filter_values [] q distinct = refl
-filter_values (e ∷ es) q distinct = elim (decided (bytes_eq q e.0)) [
-  | inl h ↦
-      let same : q ≡ e.0 = (bytes_eq-Decides q e.0).0 h in
-      (elim (decided (is_saved e)) [
-        | inl k ↦ let m : is_saved (q, e.1) ≡ true = ap (λ n. is_saved (n, e.1)) same ∙ k in rw (k, h, m) refl
-        | inr k ↦
-            let m : is_saved (q, e.1) ≡ false = ap (λ n. is_saved (n, e.1)) same ∙ k in
-            let gone : value_of es q ≡ None = absent es q (subst (λ n. AllByRecursion (λ y. bytes_eq n y ≡ false) (names_of es)) (sym same) distinct.0) in
-            rw (k, h, m) (filter_values es q distinct.1 ∙ ap (saved_value q) gone)
-      ])
-  | inr h ↦ (elim (decided (is_saved e)) [
-    | inl k ↦ rw (k, h) (filter_values es q distinct.1)
-    | inr k ↦ rw (k, h) (filter_values es q distinct.1)
-  ])
-]
-
-pub values_saved : (vars : Entries) (q : List ℕ) → HasDistinctNames vars → value_of (saved_entries vars) q ≡ saved_value q (value_of vars q)
-values_saved vars q distinct =
-    in_order_values (filter is_saved vars) q (IsDistinct-keys_filter bytes_eq is_saved vars distinct) ∙ filter_values vars q distinct
 
 -- ---- equal values
 

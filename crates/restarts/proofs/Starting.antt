@@ -35,9 +35,9 @@ use Rattle.restarts.proofs.Judging.{Way, way, named_ok, start_of, comparison}
 use Rattle.restarts.proofs.Marks.{set_name, value_name, is_mark-set_name, is_mark-value_name, IsMarked, finished_marked, SameMarks, same_checked, checked_leaves, mark_stays}
 use Rattle.restarts.proofs.Openings.{opening_finished}
 use Rattle.restarts.proofs.Settings.{over, value_over, saved_there, poured_again, mark_again}
-use Rattle.restarts.proofs.Sorting.{saved_distinct, values_saved}
+use Rattle.restarts.proofs.Sorting.{saved_distinct}
 use Rattle.restarts.proofs.Tellings.{tells}
-use Rattle.restarts.proofs.Texts.{setting_of, text_read}
+use Rattle.cachefile.proofs.Texts.{setting_of, text_read, values_saved}
 
 -- ---- the settings of a cache that was saved
 
