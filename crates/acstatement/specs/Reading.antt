@@ -1,17 +1,13 @@
 -- Readings: a value, or the error that is found first.
-use Rattle.std.specs.Prelude.{◌≡◌, ℕ, ◌+◌, Result, Ok, Err, Bool, if◌then◌else◌}
+use Rattle.std.specs.Prelude.{◌≡◌, ℕ, ◌+◌, Result, Ok, Err}
+use Rattle.fallible.specs.Reading.{GivesBy}
 use Rattle.m4quote.specs.declared.fault.QuoteFault.{QuoteFault}
 use Rattle.m4quote.specs.declared.fault.QuoteFault.TheVariants as quote
 use Rattle.acstatement.specs.declared.fault.ParseFault.{ParseFault}
 use Rattle.shellword.specs.declared.fault.ShellFault.{ShellFault}
 use Rattle.shellword.specs.declared.fault.ShellFault.TheVariants as shell
 use Rattle.acstatement.specs.declared.fault.ParseFault.TheVariants.{Quote, Shell, OutOfMemory}
-
-infixl 10 ◌>>=◌
--- A reading followed by a second one, which uses its value. (own)
-abbrev pub ◌>>=◌ : {A B : Type 0} → Result A ParseFault → (A → Result B ParseFault) → Result B ParseFault
-(Ok x) >>= f = f x
-(Err e) >>= f = Err e
+pub use Rattle.fallible.specs.Reading.{◌>>=◌, wants}
 
 -- The reading fails with this error; running out of memory is no error of the text. (own)
 abbrev pub Fails : {Y : Type 0} → ParseFault → Result Y ParseFault → Type 0
@@ -20,8 +16,7 @@ Fails f read = read ≡ Err f
 
 -- The function returned what the reading gives, as view shows it, or ran out of memory. (own)
 abbrev pub Gives : {X Y : Type 0} → (X → Y) → Result X ParseFault → Result Y ParseFault → Type 0
-Gives view (Ok x) read = read ≡ Ok (view x)
-Gives view (Err f) read = Fails f read
+Gives view given read = GivesBy Fails view given read
 
 -- The error of a text that begins at base, with its offset in the source. (own)
 abbrev pub moved : ℕ → QuoteFault → QuoteFault
@@ -55,7 +50,3 @@ shell_fault at f = Shell f at
 abbrev pub shell_at : {A : Type 0} → ℕ → Result A ShellFault → Result A ParseFault
 shell_at at (Ok x) = Ok x
 shell_at at (Err f) = Err (shell_fault at f)
-
--- A condition, and the error if it fails. (own)
-abbrev pub wants : Bool → ParseFault → Result (Unit {0}) ParseFault
-wants b f = if b then Ok tt else Err f
