@@ -1,1 +1,2 @@
 mod Acceptance
+mod Turns

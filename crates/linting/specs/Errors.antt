@@ -1,5 +1,5 @@
 -- The errors of a source, by their places. All of this is own.
-use Rattle.std.specs.Prelude.{◌≡◌, ◌⊎◌, ℕ, ◌<◌, ◌≤◌, Bool, true, false, not, ◌&&◌, ◌==◌, nat_lt, if◌then◌else◌, List, [], ◌∷◌, ◌++◌, length, map, Result, Ok, Err}
+use Rattle.std.specs.Prelude.{◌≡◌, ◌⊎◌, ℕ, ◌<◌, ◌≤◌, Bool, true, false, not, ◌&&◌, ◌==◌, nat_lt, if◌then◌else◌, List, [], ◌∷◌, ◌++◌, length, map, All, Result, Ok, Err}
 use Rattle.std.specs.List.{flat_map}
 use Rattle.std.specs.List.Sorted.{IsPermutation, IsSorted}
 use Rattle.m4quote.specs.declared.fault.QuoteFault.{QuoteFault}
@@ -72,6 +72,14 @@ shown f = (f.file, f.start, f.severity)
 -- An error of the source at this place.
 abbrev pub error_at : ℕ → Shown
 error_at at = (0, at, Error)
+
+-- The error ends in a text with this many bytes, and, if it starts in it, not before its start.
+abbrev pub EndsIn : ℕ → Finding → Type 0
+EndsIn len f = (f.end ≤ len) × (f.start ≤ len → f.start ≤ f.end)
+
+-- If the errors ended in the text, they still do.
+abbrev pub KeepsEnds : List ℕ → List Finding → List Finding → Type 0
+KeepsEnds text old new = All (EndsIn (length text)) old → All (EndsIn (length text)) new
 
 -- The fault is that the macro whose name is at this offset isn't known.
 abbrev pub is_unknown_at : ParseFault → ℕ → Bool

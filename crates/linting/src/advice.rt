@@ -43,7 +43,8 @@ fn said(alloc: Global, text: &[u8], call: &CallAt, entry: Entry) -> Result<Bytes
 
 /// Returns the finding with another help.
 fn with_help(finding: Finding, help: Bytes) -> Finding
-    ensures { specs.shown result ≡ specs.shown finding }
+    ensures shown { specs.shown result ≡ specs.shown finding }
+    ensures end { result.end ≡ finding.end }
 {
     let Finding {
         file,
@@ -86,7 +87,8 @@ pub(crate) fn advised(
     call: &CallAt,
     finding: Finding,
 ) -> Result<Finding, AllocError>
-    ensures { IfOk result (λ f. specs.shown f ≡ specs.shown finding) }
+    ensures shown { IfOk result (λ f. specs.shown f ≡ specs.shown finding) }
+    ensures end { IfOk result (λ f. f.end ≡ finding.end) }
 {
     let help = help_of(alloc, index, text, call)?;
     Ok(match help {

@@ -1,6 +1,6 @@
 //! The errors of a source.
 
-ghost use Rattle.std.specs.Prelude.{◌≡◌, ◌<◌, ◌∷◌, [], ◌↔◌, nat_lt, map, IfOk};
+ghost use Rattle.std.specs.Prelude.{◌≡◌, ◌<◌, ◌∷◌, [], ◌↔◌, ℕ, nat_lt, length, map, All, IfOk};
 ghost use Rattle.std.specs.List.Sorted.{IsSorted};
 ghost use Rattle.acparse.specs.Profile.{source_of};
 ghost use Rattle.findings.specs.Order.{place_cmp};
@@ -34,7 +34,8 @@ fn is_too_long(alloc: Global, source: &Source) -> Result<bool, AllocError>
 
 /// Returns a list of one error: that the source is too long.
 fn too_long(alloc: Global) -> Result<Vec<Finding>, AllocError>
-    ensures { IfOk result (λ v. map specs.shown v.items ≡ specs.error_at 0 ∷ []) }
+    ensures shown { IfOk result (λ v. map specs.shown v.items ≡ specs.error_at 0 ∷ []) }
+    ensures ends { (len : ℕ) → IfOk result (λ v. All (specs.EndsIn len) v.items) }
 {
     let finding = too_long_finding(alloc)?;
     let mut out = Vec::new(alloc);
@@ -44,7 +45,8 @@ fn too_long(alloc: Global) -> Result<Vec<Finding>, AllocError>
 
 /// Returns the errors of a source that was read.
 fn errors_read(alloc: Global, source: &Source) -> Result<Vec<Finding>, AllocError>
-    ensures { IfOk result (λ v. map specs.shown v.items ≡ specs.errors_read (script_of source.now)) }
+    ensures shown { IfOk result (λ v. map specs.shown v.items ≡ specs.errors_read (script_of source.now)) }
+    ensures ends { (len : ℕ) → IfOk result (λ v. All (specs.EndsIn len) v.items) }
 {
     if is_too_long(alloc, source)? {
         too_long(alloc)
@@ -62,7 +64,8 @@ fn found(
     at: usize,
     calls: &[CallAt],
 ) -> Result<Vec<Finding>, AllocError>
-    ensures { IfOk result (λ v. map specs.shown v.items ≡ specs.errors_refused fault at (map seen calls.now)) }
+    ensures shown { IfOk result (λ v. map specs.shown v.items ≡ specs.errors_refused fault at (map seen calls.now)) }
+    ensures ends { IfOk result (λ v. All (specs.EndsIn (length text.now)) v.items) }
 {
     let first = fault_finding(alloc, index, text, fault, at, calls)?;
     let mut out = Vec::new(alloc);
@@ -79,7 +82,8 @@ fn ordered(
     fault: ParseFault,
     calls: &[CallAt],
 ) -> Result<Vec<Finding>, AllocError>
-    ensures { IfOk result (λ v. specs.AreRefused text.now fault (map seen calls.now) v.items) }
+    ensures refused { IfOk result (λ v. specs.AreRefused text.now fault (map seen calls.now) v.items) }
+    ensures ends { IfOk result (λ v. All (specs.EndsIn (length text.now)) v.items) }
 {
     let at = place_of_fault(alloc, text, fault, calls)?;
     let mut out = found(alloc, index, text, fault, at, calls)?;
@@ -89,7 +93,8 @@ fn ordered(
 
 /// Returns the errors of a source that is refused with this fault.
 fn errors_refused(alloc: Global, text: &[u8], fault: ParseFault) -> Result<Vec<Finding>, AllocError>
-    ensures { IfOk result (λ v. specs.AreRefused text.now fault (calls_in text.now) v.items) }
+    ensures refused { IfOk result (λ v. specs.AreRefused text.now fault (calls_in text.now) v.items) }
+    ensures ends { IfOk result (λ v. All (specs.EndsIn (length text.now)) v.items) }
 {
     let calls = calls_of(alloc, text)?;
     let index = Index::new(alloc)?;
@@ -98,7 +103,8 @@ fn errors_refused(alloc: Global, text: &[u8], fault: ParseFault) -> Result<Vec<F
 
 /// Returns the errors of a source.
 fn find_errors(alloc: Global, text: &[u8]) -> Result<Vec<Finding>, AllocError>
-    ensures { IfOk result (λ v. specs.AreErrors text.now (source_of text.now) v.items) }
+    ensures exact { IfOk result (λ v. specs.AreErrors text.now (source_of text.now) v.items) }
+    ensures ends { IfOk result (λ v. All (specs.EndsIn (length text.now)) v.items) }
 {
     match parse(alloc, text) {
         Ok(source) => errors_read(alloc, &source),
@@ -118,6 +124,8 @@ fn find_errors(alloc: Global, text: &[u8]) -> Result<Vec<Finding>, AllocError>
 pub fn errors_of(alloc: Global, text: &[u8]) -> Result<Vec<Finding>, AllocError>
     // The errors are exactly these.
     ensures exact { IfOk result (λ v. specs.AreErrors text.now (source_of text.now) v.items) }
+    // Each ends in the text.
+    ensures ends { IfOk result (λ v. All (specs.EndsIn (length text.now)) v.items) }
     // There is none exactly if the source is read and has a plan.
     ensures none { IfOk result (λ v. (v.items ≡ []) ↔ specs.IsAccepted text.now) }
 {

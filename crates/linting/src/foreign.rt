@@ -1,6 +1,6 @@
 //! The calls of macros that the table of macros doesn't have.
 
-ghost use Rattle.std.specs.Prelude.{◌≡◌, [], ◌∷◌, ◌++◌, map, IfOk, OnOk};
+ghost use Rattle.std.specs.Prelude.{◌≡◌, [], ◌∷◌, ◌++◌, length, map, IfOk, OnOk};
 ghost use Rattle.std.specs.List.{flat_map};
 ghost use Rattle.sourcecalls.specs.Calls.{seen};
 ghost use Rattle.linting.specs.Errors as specs;
@@ -32,7 +32,8 @@ fn is_other(fault: ParseFault, call: &CallAt) -> bool
 
 /// Returns the error of a call whose macro isn't known.
 fn unknown(alloc: Global, index: &Index, text: &[u8], call: &CallAt) -> Result<Finding, AllocError>
-    ensures { IfOk result (λ f. specs.shown f ≡ specs.error_at (seen call.now).start) }
+    ensures shown { IfOk result (λ f. specs.shown f ≡ specs.error_at (seen call.now).start) }
+    ensures end { IfOk result (specs.EndsIn (length text.now)) }
 {
     let finding = parse_finding(
         alloc,
@@ -51,7 +52,8 @@ fn push_unknown(
     call: &CallAt,
     out: &mut Vec<Finding>,
 ) -> Result<(), AllocError>
-    ensures { OnOk result (map specs.shown out.new.items ≡ map specs.shown out.old.items ++ specs.error_at (seen call.now).start ∷ []) }
+    ensures shown { OnOk result (map specs.shown out.new.items ≡ map specs.shown out.old.items ++ specs.error_at (seen call.now).start ∷ []) }
+    ensures ends { OnOk result (specs.KeepsEnds text.now out.old.items out.new.items) }
 {
     let finding = unknown(alloc, index, text, call)?;
     out.push(finding)?;
@@ -67,7 +69,8 @@ fn push_call(
     call: &CallAt,
     out: &mut Vec<Finding>,
 ) -> Result<(), AllocError>
-    ensures { OnOk result (map specs.shown out.new.items ≡ map specs.shown out.old.items ++ specs.of_call fault (seen call.now)) }
+    ensures shown { OnOk result (map specs.shown out.new.items ≡ map specs.shown out.old.items ++ specs.of_call fault (seen call.now)) }
+    ensures ends { OnOk result (specs.KeepsEnds text.now out.old.items out.new.items) }
 {
     if is_other(fault, call) {
         push_unknown(alloc, index, text, call, out)
@@ -85,7 +88,8 @@ pub(crate) fn push_calls(
     calls: &[CallAt],
     out: &mut Vec<Finding>,
 ) -> Result<(), AllocError>
-    ensures { OnOk result (map specs.shown out.new.items ≡ map specs.shown out.old.items ++ flat_map (specs.of_call fault) (map seen calls.now)) }
+    ensures shown { OnOk result (map specs.shown out.new.items ≡ map specs.shown out.old.items ++ flat_map (specs.of_call fault) (map seen calls.now)) }
+    ensures ends { OnOk result (specs.KeepsEnds text.now out.old.items out.new.items) }
 {
     for call in calls {
         push_call(alloc, index, text, fault, call, out)?;
@@ -107,7 +111,8 @@ pub(crate) fn fault_finding(
     at: usize,
     calls: &[CallAt],
 ) -> Result<Finding, AllocError>
-    ensures { IfOk result (λ f. specs.shown f ≡ specs.error_at at) }
+    ensures shown { IfOk result (λ f. specs.shown f ≡ specs.error_at at) }
+    ensures end { IfOk result (specs.EndsIn (length text.now)) }
 {
     let finding = parse_finding(alloc, text, fault, at)?;
     match call_of(fault, calls) {

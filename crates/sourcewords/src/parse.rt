@@ -482,7 +482,7 @@ pub fn parse_finding(
     ensures start { IfOk result (λ finding. finding.start ≡ at) }
     // It ends in the text, and, if the offset is in the text, not before it.
     ensures end { IfOk result (λ finding. finding.end ≤ length text.now) }
-    ensures order { at ≤ length text.now → IfOk result (λ finding. finding.start ≤ finding.end) }
+    ensures order { IfOk result (λ finding. finding.start ≤ length text.now → finding.start ≤ finding.end) }
     ensures severity { IfOk result (λ finding. finding.severity ≡ Error) }
 {
     let around = Around { text, at };
