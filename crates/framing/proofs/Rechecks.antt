@@ -1,6 +1,7 @@
 -- The arguments with which a run is done again: as a function, and by the texts of records.
 use Rattle.std.proofs.Common.{◌≡◌, ℕ, List, [], ◌∷◌, ◌++◌, Option, Some, None, Result, Ok, Err, codes, refl, sym, ap, subst, ◌∙◌}
 use Rattle.std.specs.Prelude.{IfOk}
+use Rattle.fallible.proofs.Binds.{ok_is, err_is}
 use Rattle.status_record.specs.Reading.{record_in}
 use Rattle.status_record.specs.RecordText.{IsFirstText, IsSecondText, IsRecordText, first, second}
 use Rattle.status_record.specs.declared.fault.RecordFault.{RecordFault}
@@ -25,9 +26,6 @@ answer args = Ok args
 abbrev fails : RemakeFault → Result (List (List ℕ)) RemakeFault
 fails f = Err f
 
-ok_is : (a b : List (List ℕ)) → answer a ≡ answer b → a ≡ b
-ok_is a b e = cc
-
 some_is : (a b : List (List ℕ)) → Some a ≡ Some b → a ≡ b
 some_is a b e = cc
 
@@ -49,9 +47,6 @@ other_fault faults.Truncated e = cc
 other_fault faults.UnknownVersion e = cc
 other_fault (faults.DuplicateName n) e = cc
 
-err_is : (f g : RemakeFault) → fails f ≡ fails g → f ≡ g
-err_is f g e = cc
-
 from_ok : Reads → (text : List ℕ) (args : List (List ℕ)) → rechecked text ≡ Ok args → IsRechecked text args
 unfolding rechecked
 from_ok reads text args e = at (record_in text) refl e where
@@ -64,7 +59,7 @@ unfolding rechecked
 from_none reads text e = at (record_in text) refl e where
   at : (r : Result Record RecordFault) → record_in text ≡ r → (named of_record r >>= λ r. args_again r.args) ≡ Err NoArguments → HasNoArguments text
   at (Ok r) is h = without text r (reads text r is) h
-  at (Err f) is h = absurd (other_fault f (err_is (of_record f) NoArguments h))
+  at (Err f) is h = absurd (other_fault f (err_is {A = List (List ℕ)} (of_record f) NoArguments h))
 
 to_args : IsRead → (text : List ℕ) (args : List (List ℕ)) → IsRechecked text args → rechecked text ≡ Ok args
 unfolding rechecked

@@ -1,5 +1,6 @@
 -- The faults of the parts of a run as those of the run, and readings that may have them.
-use Rattle.std.specs.Prelude.{◌≡◌, Bool, Result, Ok, Err, if◌then◌else◌}
+use Rattle.std.specs.Prelude.{◌≡◌, Result, Err}
+use Rattle.fallible.specs.Reading.{GivesBy}
 use Rattle.acstatement.specs.declared.fault.ParseFault as parse
 use Rattle.acstatement.specs.declared.fault.ParseFault.TheVariants as parses
 use Rattle.plan.specs.declared.fault.PlanFault as plan
@@ -16,6 +17,7 @@ use Rattle.framing.specs.declared.fault.Fault.{Fault}
 use Rattle.framing.specs.declared.fault.Fault.TheVariants.{Parse, Plan, Option, Cache, Precious, NoTemplate, OutOfMemory}
 use Rattle.framing.specs.declared.fault.RemakeFault.{RemakeFault}
 use Rattle.framing.specs.declared.fault.RemakeFault.TheVariants as remade
+pub use Rattle.fallible.specs.Reading.{◌>>=◌, wants, named}
 
 -- An error of the source, as a fault of the run. (own)
 abbrev pub of_parse : parse.ParseFault → Fault
@@ -47,21 +49,6 @@ abbrev pub of_record : recorded.RecordFault → RemakeFault
 of_record records.OutOfMemory = remade.OutOfMemory
 of_record f = remade.Record f
 
--- A reading, with its fault as another one. (own)
-abbrev pub named : {A E F : Type 0} → (E → F) → Result A E → Result A F
-named fault (Ok x) = Ok x
-named fault (Err e) = Err (fault e)
-
-infixl 10 ◌>>=◌
--- A reading followed by a second one, which uses its value. (own)
-abbrev pub ◌>>=◌ : {A B F : Type 0} → Result A F → (A → Result B F) → Result B F
-(Ok x) >>= f = f x
-(Err e) >>= f = Err e
-
--- A condition, and the fault if it fails. (own)
-abbrev pub wants : {F : Type 0} → Bool → F → Result (Unit {0}) F
-wants b f = if b then Ok tt else Err f
-
 -- The reading fails with this fault; running out of memory is no fault of what is read. (own)
 abbrev pub Fails : {Y : Type 0} → Fault → Result Y Fault → Type 0
 Fails OutOfMemory read = Unit {0}
@@ -69,8 +56,7 @@ Fails f read = read ≡ Err f
 
 -- The function returned what the reading gives, as view shows it, or ran out of memory. (own)
 abbrev pub Gives : {X Y : Type 0} → (X → Y) → Result X Fault → Result Y Fault → Type 0
-Gives view (Ok x) read = read ≡ Ok (view x)
-Gives view (Err f) read = Fails f read
+Gives view given read = GivesBy Fails view given read
 
 -- The same of outputs that are made again. (own)
 abbrev pub FailsAgain : {Y : Type 0} → RemakeFault → Result Y RemakeFault → Type 0
@@ -79,5 +65,4 @@ FailsAgain f read = read ≡ Err f
 
 -- The same of outputs that are made again. (own)
 abbrev pub GivesAgain : {X Y : Type 0} → (X → Y) → Result X RemakeFault → Result Y RemakeFault → Type 0
-GivesAgain view (Ok x) read = read ≡ Ok (view x)
-GivesAgain view (Err f) read = FailsAgain f read
+GivesAgain view given read = GivesBy FailsAgain view given read

@@ -1,5 +1,4 @@
 pub mod Steps
-pub mod Clauses
 pub mod Laws
 pub mod Rows
 pub mod Readings

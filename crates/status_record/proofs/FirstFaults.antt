@@ -17,7 +17,8 @@ use Rattle.status_record.specs.declared.read.Version.TheVariants.{First, Second}
 use Rattle.status_record.specs.Escape.{escaped, unescaped}
 use Rattle.status_record.specs.Line.{after_prefix, entry_in, entry_fields, output_in, output_fields}
 use Rattle.status_record.specs.RecordText.{version_line, arg_lines, lines_of, body_lines, record_lines}
-use Rattle.status_record.specs.Reading.{◌>>=◌, either, or_bad, several, is_entry, is_output, is_magic, is_number, entries_in, outputs_in, is_repeated, texts_in, version_in, srcdir_in, ending, body_in, lines_in, record_in, Read}
+use Rattle.status_record.specs.Reading.{either, or_bad, several, is_entry, is_output, is_magic, is_number, entries_in, outputs_in, is_repeated, texts_in, version_in, srcdir_in, ending, body_in, lines_in, record_in, Read}
+use Rattle.fallible.specs.Reading.{◌>>=◌}
 use Rattle.status_record.specs.Faults as forms
 use Rattle.status_record.specs.Faults.{whole_lines, rest_of, IsNumber, IsVersion, HasBadMagic, HasUnknownVersion, BeginRecord, HasForms, BeginButForNames, IsAtFault, IsDuplicateName, IsBadLine, HasMore, EndsEarly, IsRecordFault}
 use Rattle.status_record.proofs.Escapes.{unescaped-escaped, escaped-unescaped}
@@ -25,7 +26,8 @@ use Rattle.status_record.proofs.Fields.{entry_back, entry_only, output_back, out
 use Rattle.status_record.proofs.Fronts.{failed, err_is, bind_err, joined_up, lines_truncated, truncated_texts}
 use Rattle.status_record.proofs.Lines.{after_prefix-append, after_prefix-some}
 use Rattle.status_record.proofs.Only.{line_of, version_only, srcdir_only, lines_only}
-use Rattle.status_record.proofs.Sections.{Apart, then_ok}
+use Rattle.status_record.proofs.Sections.{Apart}
+use Rattle.fallible.proofs.Binds.{then_ok}
 use Rattle.status_record.proofs.Stops.{Reader, IsAt, IsDouble, Stops, Beyond, Faults, PartOf, HasNoBadLine, section_faults, section_loose, at_number}
 use Rattle.status_record.proofs.Texts.{both, first_of, second_of}
 use Rattle.status_record.proofs.Whole.{all_named, version_of, IsAny, any_all, named_all, apart_lines, srcdir_back, version_back, lines_back}

@@ -13,7 +13,8 @@ use Rattle.status_record.specs.declared.read.Version.TheVariants.{First, Second}
 use Rattle.status_record.specs.Escape.{escaped, unescaped}
 use Rattle.status_record.specs.Line.{after_prefix, entry_in, entry_fields, output_in, output_fields}
 use Rattle.status_record.specs.RecordText.{version_line, arg_lines, lines_of, body_lines, record_lines, IsRecord}
-use Rattle.status_record.specs.Reading.{◌>>=◌, either, or_bad, with_item, several, is_entry, is_output, is_magic, entries_in, outputs_in, is_repeated, texts_in, args_in, version_in, srcdir_in, ending, body_in, lines_in, last_of, front_of, record_in, IsTruncated, Read}
+use Rattle.status_record.specs.Reading.{either, or_bad, with_item, several, is_entry, is_output, is_magic, entries_in, outputs_in, is_repeated, texts_in, args_in, version_in, srcdir_in, ending, body_in, lines_in, last_of, front_of, record_in, IsTruncated, Read}
+use Rattle.fallible.specs.Reading.{◌>>=◌}
 use Rattle.status_record.proofs.Only.{line_of, line_of_version, version_only, srcdir_only, args_only, entries_only, outputs_only}
 use Rattle.status_record.proofs.Whole.{version_of}
 

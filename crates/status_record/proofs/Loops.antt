@@ -12,7 +12,8 @@ use Rattle.status_record.specs.declared.record.Record.{Record}
 use Rattle.status_record.specs.Escape.{escaped}
 use Rattle.status_record.specs.Line.{after_prefix, ended, entry_fields, output_fields}
 use Rattle.status_record.specs.RecordText.{lines_of, version_line, arg_lines, record_text}
-use Rattle.status_record.specs.Reading.{several, with_item, either, Fails, Read, last_of, front_of, ◌>>=◌}
+use Rattle.status_record.specs.Reading.{several, with_item, either, Fails, Read, last_of, front_of}
+use Rattle.fallible.specs.Reading.{◌>>=◌}
 
 pub fails_bind : {A B : Type 0} (e : RecordFault) (r : Result A RecordFault) (f : A → Result B RecordFault) → Fails e r → Fails e (r >>= f)
 fails_bind OutOfMemory r f h = tt

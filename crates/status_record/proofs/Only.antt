@@ -26,7 +26,8 @@ use Rattle.status_record.proofs.Escapes.{escaped-unescaped}
 use Rattle.status_record.proofs.Fields.{entry_only, output_only}
 use Rattle.status_record.proofs.Lines.{after_prefix-some}
 use Rattle.status_record.proofs.Loops.{none_of}
-use Rattle.status_record.proofs.Sections.{bind_ok, ok_is, or_bad_ok, several_only, May-all, May-distinct}
+use Rattle.status_record.proofs.Sections.{or_bad_ok, several_only, May-all, May-distinct}
+use Rattle.fallible.proofs.Binds.{bind_ok, ok_is}
 use Rattle.status_record.proofs.Texts.{parts_joined}
 use Rattle.status_record.proofs.Whole.{all_named, version_of, IsAny, reads_back}
 

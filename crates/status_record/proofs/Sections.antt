@@ -11,21 +11,10 @@ use Rattle.status_record.specs.declared.fault.RecordFault.{RecordFault}
 use Rattle.status_record.specs.declared.fault.RecordFault.TheVariants.{DuplicateName}
 use Rattle.status_record.specs.Line.{after_prefix}
 use Rattle.status_record.specs.RecordText.{lines_of}
-use Rattle.status_record.specs.Reading.{several, with_item, either, or_bad, Read, ◌>>=◌}
+use Rattle.status_record.specs.Reading.{several, with_item, either, or_bad, Read}
+use Rattle.fallible.specs.Reading.{◌>>=◌}
+use Rattle.fallible.proofs.Binds.{done, ok_is, bind_ok, then_ok}
 use Rattle.status_record.proofs.Lines.{after_prefix-append, after_prefix-some}
-
-pub bind_ok : {A B : Type 0} (r : Result A RecordFault) (f : A → Result B RecordFault) (y : B) → (r >>= f) ≡ Ok y → (x : A) × (r ≡ Ok x) × (f x ≡ Ok y)
-bind_ok (Ok x) f y e = (x, refl, e)
-bind_ok (Err d) f y e = absurd cc
-
-pub then_ok : {A B : Type 0} (r : Result A RecordFault) (f : A → Result B RecordFault) (x : A) (y : Result B RecordFault) → r ≡ Ok x → f x ≡ y → (r >>= f) ≡ y
-then_ok r f x y e h = ap (λ q. q >>= f) e ∙ h
-
-abbrev done : {A : Type 0} → A → Result A RecordFault
-done x = Ok x
-
-pub ok_is : {A : Type 0} (x y : A) → done x ≡ done y → x ≡ y
-ok_is x y e = cc
 
 pub or_bad_ok : {A : Type 0} (n : ℕ) (o : Option A) (x : A) → or_bad n o ≡ Ok x → o ≡ Some x
 or_bad_ok n None x e = absurd cc
@@ -96,7 +85,7 @@ module _ {A : Type 0} (keyword : List ℕ) (fields : A → List ℕ) (read : Lis
         let text : line ≡ keyword ++ fields p.0 = after_prefix-some keyword line f is ∙ ap (λ t. keyword ++ t) p.4 in
         (p.0 ∷ later.0, later.1 ∙ append_assoc before (p.0 ∷ []) later.0, ap (λ l. l ∷ more) text ∙ ap (λ m. (keyword ++ fields p.0) ∷ m) later.2, (p.3, p.2, later.3))
 
-    got_none : (before : List A) (n : ℕ) (lines : List (List ℕ)) (r : Read (List A)) → done (before, (n, lines)) ≡ Ok r → Got before lines r.0 r.1.1
+    got_none : (before : List A) (n : ℕ) (lines : List (List ℕ)) (r : Read (List A)) → done {F = RecordFault} (before, (n, lines)) ≡ Ok r → Got before lines r.0 r.1.1
     got_none before n lines r e =
         let same = ok_is _ _ e in
         ([], sym (ap (λ q. q.0) same) ∙ sym (append-nil before), ap (λ q. q.1.1) same, tt)

@@ -8,9 +8,11 @@ use Rattle.status_record.specs.declared.fault.RecordFault.{RecordFault}
 use Rattle.status_record.specs.declared.fault.RecordFault.TheVariants.{BadLine, Truncated, DuplicateName}
 use Rattle.status_record.specs.Line.{after_prefix}
 use Rattle.status_record.specs.RecordText.{lines_of}
-use Rattle.status_record.specs.Reading.{several, with_item, either, or_bad, Read, ◌>>=◌}
+use Rattle.status_record.specs.Reading.{several, with_item, either, or_bad, Read}
+use Rattle.fallible.specs.Reading.{◌>>=◌}
 use Rattle.status_record.proofs.Lines.{after_prefix-append, after_prefix-some}
-use Rattle.status_record.proofs.Sections.{Apart, May, one_back, one_only, several_back, several_only, bind_ok, ok_is}
+use Rattle.status_record.proofs.Sections.{Apart, May, one_back, one_only, several_back, several_only}
+use Rattle.fallible.proofs.Binds.{bind_ok, ok_is}
 use Rattle.status_record.proofs.Fronts.{failed, err_is, bind_err}
 
 -- a reading of lines, with the rest of the text before them

@@ -19,7 +19,8 @@ use Rattle.status_record.proofs.Escapes.{unescaped-escaped}
 use Rattle.status_record.proofs.Fields.{entry_back, output_back}
 use Rattle.status_record.proofs.Lines.{after_prefix-append}
 use Rattle.status_record.proofs.Loops.{last_of-end, front_of-end}
-use Rattle.status_record.proofs.Sections.{then_ok, Apart, May, several_back, May-from}
+use Rattle.status_record.proofs.Sections.{Apart, May, several_back, May-from}
+use Rattle.fallible.proofs.Binds.{then_ok}
 use Rattle.status_record.proofs.Texts.{lacks, lacks-append, shell_lacks_newline, escaped_lacks_newline, AreLines, parts_ended}
 
 -- ---- the sections of a record

@@ -3,6 +3,7 @@ use Rattle.std.specs.Prelude.{◌≡◌, ℕ, ◌+◌, ◌==◌, ◌&&◌, not, 
 use Rattle.std.specs.List.{list_all}
 use Rattle.std.specs.Char.{is_ascii_digit}
 use Rattle.std.specs.Str.{bytes_eq}
+use Rattle.fallible.specs.Reading.{◌>>=◌, GivesBy}
 use Rattle.deftable.specs.NameList.{has_name}
 use Rattle.deftable.specs.Table.{names_of}
 use Rattle.textcut.specs.Cuts.{parts}
@@ -17,12 +18,6 @@ use Rattle.status_record.specs.Escape.{unescaped}
 use Rattle.status_record.specs.Line.{after_prefix, entry_in, output_in}
 use Rattle.status_record.specs.RecordText.{record_lines, IsRecord}
 
-infixl 10 ◌>>=◌
--- a reading, and then one of its value, up to the first fault (own)
-abbrev pub ◌>>=◌ : {A B : Type 0} → Result A RecordFault → (A → Result B RecordFault) → Result B RecordFault
-(Ok x) >>= f = f x
-(Err e) >>= f = Err e
-
 -- The reading has this fault. Out of memory is no fault of a text, so it says nothing. (own)
 abbrev pub Fails : {Y : Type 0} → RecordFault → Result Y RecordFault → Type 0
 Fails OutOfMemory read = Unit {0}
@@ -30,8 +25,7 @@ Fails f read = read ≡ Err f
 
 -- The function returned what the reading gives, by this view of it, or ran out of memory. (own)
 abbrev pub Gives : {X Y : Type 0} → (X → Y) → Result X RecordFault → Result Y RecordFault → Type 0
-Gives view (Ok x) read = read ≡ Ok (view x)
-Gives view (Err f) read = Fails f read
+Gives view given read = GivesBy Fails view given read
 
 -- the value, or a bad line of this number if there is none (own)
 abbrev pub or_bad : {A : Type 0} → ℕ → Option A → Result A RecordFault

@@ -1,9 +1,10 @@
 use Rattle.std.proofs.Common.{subst}
-use Rattle.options.proofs.Clauses.{found, only, fault, named}
+use Rattle.fallible.proofs.Clauses.{found, only, fault, named}
 use Rattle.options.proofs.Laws.{opening_is, is_opening, opening_fails, fails_opening}
+use Rattle.options.proofs.Readings.{or_memory}
 use Rattle.options.proofs.Steps.{stepwise_is_opening}
 use Rattle.options.specs.Opening.{IsOpening, IsOpeningFault}
-use Rattle.commandline.specs.Reading.{Gives}
+use Rattle.commandline.specs.Reading.{Gives, Fails}
 use Rattle.options.proofs.settings.read_args_of.Goals as goal
 
 pub returns-clause-exact : goal.returns-clause-exact
@@ -11,18 +12,18 @@ returns-clause-exact c = subst (Gives (λ s. s) c.read_stepwise.result) (stepwis
 
 pub returns-clause-sound : goal.returns-clause-sound
 returns-clause-sound c =
-    found _ _ _ (returns-clause-exact c) (IsOpening c.args.features.now c.args.packages.now c.args.precious.now c.args.args.now c.args.env.now)
+    found Fails _ _ _ (returns-clause-exact c) (IsOpening c.args.features.now c.args.packages.now c.args.precious.now c.args.args.now c.args.env.now)
     (opening_is c.args.features.now c.args.packages.now c.args.precious.now c.args.args.now c.args.env.now)
 
 pub returns-clause-complete : goal.returns-clause-complete
 returns-clause-complete c =
-    λ s h. only _ _ _ (returns-clause-exact c) s (is_opening c.args.features.now c.args.packages.now c.args.precious.now c.args.args.now c.args.env.now s h)
+    λ s h. only Fails _ _ _ (returns-clause-exact c) s (is_opening c.args.features.now c.args.packages.now c.args.precious.now c.args.args.now c.args.env.now s h)
 
 pub returns-clause-error_sound : goal.returns-clause-error_sound
 returns-clause-error_sound c =
-    fault _ _ _ (returns-clause-exact c) (IsOpeningFault c.args.features.now c.args.packages.now c.args.precious.now c.args.args.now c.args.env.now)
+    fault Fails _ _ _ (returns-clause-exact c) or_memory (IsOpeningFault c.args.features.now c.args.packages.now c.args.precious.now c.args.args.now c.args.env.now)
     (opening_fails c.args.features.now c.args.packages.now c.args.precious.now c.args.args.now c.args.env.now)
 
 pub returns-clause-error_complete : goal.returns-clause-error_complete
 returns-clause-error_complete c =
-    λ f h. named _ _ _ (returns-clause-exact c) f (fails_opening c.args.features.now c.args.packages.now c.args.precious.now c.args.args.now c.args.env.now f h)
+    λ f h. named Fails _ _ _ (returns-clause-exact c) f (fails_opening c.args.features.now c.args.packages.now c.args.precious.now c.args.args.now c.args.env.now f h)
