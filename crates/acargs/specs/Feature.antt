@@ -1,4 +1,5 @@
--- Arguments that name an optional feature or package (Autoconf's manual, "Choosing Package Options" and "External Software").
+-- Arguments that name an optional feature or package. (Autoconf's manual, "Choosing Package Options" and "External
+-- Software")
 use Rattle.std.specs.Prelude.{ℕ, List, Result, Ok}
 use Rattle.m4quote.specs.Entry.{Span}
 use Rattle.syntax.specs.Feature.{is_feature, option_variable}

@@ -1,4 +1,4 @@
--- Arguments that name libraries (Autoconf's manual, "Library Files"; which bytes a library's name may have is own).
+-- Arguments that name libraries. (Autoconf's manual, "Library Files"; which bytes a library's name may have is own)
 use Rattle.std.specs.Prelude.{ℕ, Bool, List, length, Result, Ok, nat_lt}
 use Rattle.std.specs.List.{list_all}
 use Rattle.m4quote.specs.Entry.{Span}

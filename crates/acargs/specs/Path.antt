@@ -1,4 +1,4 @@
--- An output of the source: NAME, or NAME:TEMPLATE (Autoconf's manual, "Configuration Files").
+-- An output of the source: NAME, or NAME:TEMPLATE. (Autoconf's manual, "Configuration Files")
 use Rattle.std.specs.Prelude.{ℕ, ◌+◌, ◌==◌, List, ◌++◌, take, drop, Option, Some, None, position, codes}
 use Rattle.outputlist.specs.declared.output.Output.{Output}
 

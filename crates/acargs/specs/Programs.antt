@@ -1,5 +1,5 @@
--- Arguments of checks: names of programs, and the texts of programs that are compiled (Autoconf's manual, "Generic
--- Programs" and "Generating Sources"; which bytes a program's name may have is own).
+-- Arguments of checks: names of programs, and the texts of programs that are compiled. (Autoconf's manual, "Generic
+-- Programs" and "Generating Sources"; which bytes a program's name may have is own)
 use Rattle.std.specs.Prelude.{ℕ, Bool, not, ◌&&◌, ◌||◌, ◌==◌, List, [], ◌∷◌, ◌++◌, length, Option, Some, None, Result, Ok, nat_lt, codes, if◌then◌else◌}
 use Rattle.std.specs.List.{list_all}
 use Rattle.std.specs.Str.{bytes_eq}

@@ -1,4 +1,4 @@
--- Readers of macros that look for libraries (Autoconf's manual, "Library Files").
+-- Readers of macros that look for libraries. (Autoconf's manual, "Library Files")
 use Rattle.std.specs.Prelude.{false, List, None, Result, Ok}
 use Rattle.m4quote.specs.Entry.{Span}
 use Rattle.acstatement.specs.declared.fault.ParseFault.{ParseFault}

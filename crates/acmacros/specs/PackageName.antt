@@ -1,4 +1,4 @@
--- The name of a package's archive, if AC_INIT names none (Autoconf's manual, "Initializing configure").
+-- The name of a package's archive, if AC_INIT names none. (Autoconf's manual, "Initializing configure")
 use Rattle.std.specs.Prelude.{ℕ, ◌||◌, ◌==◌, List, map, drop, nat_eq, codes, if◌then◌else◌}
 use Rattle.std.specs.Char.{is_ascii_alphanumeric, to_ascii_lowercase}
 use Rattle.std.specs.List.{starts_with}

@@ -1,4 +1,4 @@
--- Lists of names of a source, each of which has at most 1,024 names (own).
+-- Lists of names of a source, each of which has at most 1,024 names. (own)
 use Rattle.std.specs.Prelude.{ℕ, Bool, ◌||◌, List, length, nat_lt}
 use Rattle.deftable.specs.NameList.{has_name}
 

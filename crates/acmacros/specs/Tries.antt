@@ -1,5 +1,5 @@
--- Readers of macros that try programs, and of the programs that they try (Autoconf's manual, "Running the Compiler" and
--- "Generating Sources").
+-- Readers of macros that try programs, and of the programs that they try. (Autoconf's manual, "Running the Compiler"
+-- and "Generating Sources")
 use Rattle.std.specs.Prelude.{ℕ, ◌==◌, List, length, Option, Some, None, Result, Ok, Err, nat_le, codes}
 use Rattle.m4quote.specs.Entry.{Span}
 use Rattle.acstatement.specs.declared.fault.ParseFault.{ParseFault}

@@ -1,4 +1,4 @@
--- Bare text that has no effect (POSIX shell, "Token Recognition": blanks, and comments from a `#` that begins a word).
+-- Bare text that has no effect. (POSIX shell, "Token Recognition": blanks, and comments from a `#` that begins a word)
 use Rattle.std.specs.Prelude.{ℕ, Bool, true, false, not, ◌==◌, List, [], ◌∷◌, Option, Some, None, Result, Ok, Err, if◌then◌else◌}
 use Rattle.m4quote.specs.declared.fault.QuoteFault.{QuoteFault}
 use Rattle.m4quote.specs.Scan.{bare_value_of}

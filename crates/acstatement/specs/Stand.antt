@@ -1,5 +1,5 @@
 -- Which calls are statements: one is on a line of its own, or `;` separates it from the text before it, and `;` or a
--- comment from the text after it (own; a shell separates commands in the same way).
+-- comment from the text after it. (own; a shell separates commands in the same way)
 use Rattle.std.specs.Prelude.{ℕ, ◌+◌, ◌-◌, Bool, true, not, ◌&&◌, ◌||◌, ◌==◌, List, [], ◌∷◌, length, reverse, slice_index, if◌then◌else◌}
 use Rattle.std.specs.List.{prefix_len}
 use Rattle.m4quote.specs.Entry.{Span, Entry, call, bare}

@@ -1,11 +1,11 @@
--- Line continuations: a backslash before a newline, both of which are removed from bare text (POSIX shell, 2.2.1).
+-- Line continuations: a backslash before a newline, both of which are removed from bare text. (POSIX shell, 2.2.1)
 use Rattle.std.specs.Prelude.{◌≡◌, ℕ, Bool, true, false, ◌&&◌, List, [], ◌∷◌, ◌==◌, if◌then◌else◌}
 use Rattle.shellword.specs.Text.{single_quote, double_quote, backslash, newline}
 use Rattle.baretext.specs.declared.continuation.Place.{Place}
 use Rattle.baretext.specs.declared.continuation.Place.TheVariants.{Start, Word, Single, Double, Comment}
 use Rattle.baretext.specs.Text.{hash, is_part_end}
 
--- the contexts in which a backslash quotes the byte after it (POSIX shell, 2.2.1 to 2.2.3)
+-- The contexts in which a backslash quotes the byte after it. (POSIX shell, 2.2.1 to 2.2.3)
 abbrev pub escapes : Place → Bool
 escapes Start = true
 escapes Word = true
@@ -13,11 +13,11 @@ escapes Double = true
 escapes Single = false
 escapes Comment = false
 
--- the context after a byte outside quotes that begins no comment (POSIX shell, 2.2 and 2.3)
+-- The context after a byte outside quotes that begins no comment. (POSIX shell, 2.2 and 2.3)
 abbrev pub after_bare : ℕ → Place
 after_bare b = if is_part_end b then Start else (if b == single_quote then Single else (if b == double_quote then Double else Word))
 
--- the context after a byte that no backslash quotes (POSIX shell, 2.2 and 2.3)
+-- The context after a byte that no backslash quotes. (POSIX shell, 2.2 and 2.3)
 abbrev pub following : Place → ℕ → Place
 following Start b = if b == hash then Comment else after_bare b
 following Word b = after_bare b
@@ -25,20 +25,21 @@ following Single b = if b == single_quote then Word else Single
 following Double b = if b == double_quote then Word else Double
 following Comment b = if b == newline then Start else Comment
 
--- the context after a byte that a backslash quotes (POSIX shell, 2.2 and 2.3)
+-- The context after a byte that a backslash quotes. (POSIX shell, 2.2 and 2.3)
 abbrev pub after_quoted : Place → Place
 after_quoted Start = Word
 after_quoted p = p
 
--- The second text is the first without its line continuations, if the first byte is in this context (POSIX shell, 2.2.1).
+-- The second text is the first without its line continuations, if the first byte is in this context. (POSIX shell,
+-- 2.2.1)
 pub data IsJoined : Place → List ℕ → List ℕ → Type 0 where
   at_end : {p : Place} → IsJoined p [] []
-  -- a backslash before a newline: both are removed
+  -- A backslash before a newline: both are removed.
   continued : {p : Place} {rest out : List ℕ} → escapes p ≡ true → IsJoined p rest out → IsJoined p (backslash ∷ newline ∷ rest) out
-  -- a backslash quotes any other byte, and both are kept; a backslash at the end is kept too
+  -- A backslash quotes any other byte, and both are kept; a backslash at the end is kept too.
   quoted : {p : Place} {b : ℕ} {rest out : List ℕ} → escapes p ≡ true → (b == newline) ≡ false → IsJoined (after_quoted p) rest out
       → IsJoined p (backslash ∷ b ∷ rest) (backslash ∷ b ∷ out)
   last : {p : Place} → escapes p ≡ true → IsJoined p (backslash ∷ []) (backslash ∷ [])
-  -- any other byte is kept
+  -- Any other byte is kept.
   other : {p : Place} {b : ℕ} {rest out : List ℕ} → (b == backslash && escapes p) ≡ false → IsJoined (following p b) rest out
       → IsJoined p (b ∷ rest) (b ∷ out)

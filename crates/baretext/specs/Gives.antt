@@ -5,11 +5,11 @@ use Rattle.fallible.specs.Reading.{GivesBy}
 use Rattle.baretext.specs.declared.fault.BareFault.{BareFault}
 use Rattle.baretext.specs.declared.fault.BareFault.TheVariants.{OutOfMemory}
 
--- the function has this error, or memory ran out (own)
+-- The function has this error, or memory ran out. (own)
 abbrev pub Fails : {Y : Type 0} → BareFault → Result Y BareFault → Type 0
 Fails OutOfMemory read = Unit {0}
 Fails f read = read ≡ Err f
 
--- what a call returned, as seen by `view`, is the value of the function, or memory ran out (own)
+-- What a call returned, as seen by `view`, is the value of the function, or memory ran out. (own)
 abbrev pub Gives : {X Y : Type 0} → (X → Y) → Result X BareFault → Result Y BareFault → Type 0
 Gives view given read = GivesBy Fails view given read

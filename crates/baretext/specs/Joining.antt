@@ -6,31 +6,31 @@ use Rattle.baretext.specs.declared.continuation.Place.TheVariants.{Start}
 use Rattle.baretext.specs.declared.continuation.State.{State}
 use Rattle.baretext.specs.Continuation.{escapes, following, after_quoted}
 
--- a state: the context of a byte, and whether a backslash quotes it
+-- A state: the context of a byte, and whether a backslash quotes it.
 abbrev pub state : Place → Bool → State
 state place escaped = record { place = place; escaped = escaped }
 
--- the bytes that remain of a byte, with the backslash that quotes it
+-- The bytes that remain of a byte, with the backslash that quotes it.
 abbrev pub written : State → ℕ → List ℕ
 written s b =
     if s.escaped then (if b == newline then [] else backslash ∷ b ∷ [])
     else (if b == backslash && escapes s.place then [] else b ∷ [])
 
--- the state after a byte
+-- The state after a byte.
 abbrev pub next : State → ℕ → State
 next s b =
     if s.escaped then (if b == newline then state s.place false else state (after_quoted s.place) false)
     else (if b == backslash && escapes s.place then state s.place true else state (following s.place b) false)
 
--- the bytes that remain at the end of the text
+-- The bytes that remain at the end of the text.
 abbrev pub left : State → List ℕ
 left s = if s.escaped then backslash ∷ [] else []
 
--- the rest of bare text without its line continuations, from a state on
+-- The rest of bare text without its line continuations, from a state on.
 unfoldable pub joined_from : State → List ℕ → List ℕ
 joined_from s [] = left s
 joined_from s (b ∷ bs) = written s b ++ joined_from (next s b) bs
 
--- bare text without its line continuations
+-- Bare text without its line continuations.
 unfoldable pub joined : List ℕ → List ℕ
 joined text = joined_from (state Start false) text

@@ -1,10 +1,11 @@
--- The effect of line continuations on the parts of a word, whose quotes are those of the shell (POSIX shell, 2.2).
+-- The effect of line continuations on the parts of a word, whose quotes are those of the shell. (POSIX shell, 2.2)
 use Rattle.std.specs.Prelude.{◌≡◌, ℕ, false, List, [], ◌∷◌, ◌++◌, ◌==◌}
 use Rattle.shellword.specs.Text.{single_quote, backslash, newline, begins_with}
 use Rattle.baretext.specs.declared.continuation.Place.TheVariants.{Word}
 use Rattle.baretext.specs.Continuation.{IsJoined}
 
--- The second text is the first without its line continuations, if it isn't in single quotes (POSIX shell, 2.2.1 and 2.2.3).
+-- The second text is the first without its line continuations, if it isn't in single quotes. (POSIX shell, 2.2.1 and
+-- 2.2.3)
 pub data IsSpliced : List ℕ → List ℕ → Type 0 where
   nothing : IsSpliced [] []
   continued : {text out : List ℕ} → IsSpliced text out → IsSpliced (backslash ∷ newline ∷ text) out
@@ -13,7 +14,7 @@ pub data IsSpliced : List ℕ → List ℕ → Type 0 where
   byte : {b : ℕ} {text out : List ℕ} → (b == backslash) ≡ false → IsSpliced text out → IsSpliced (b ∷ text) (b ∷ out)
 
 -- The text that remains of a part of a word: all of it if it is in single quotes, and otherwise the part without its
--- line continuations (POSIX shell, 2.2.1 and 2.2.2).
+-- line continuations. (POSIX shell, 2.2.1 and 2.2.2)
 pub data IsLeft : List ℕ → List ℕ → Type 0 where
   in_single : {text : List ℕ} → IsLeft (single_quote ∷ text) (single_quote ∷ text)
   elsewhere : {text left : List ℕ} → begins_with single_quote text ≡ false → IsSpliced text left → IsLeft text left

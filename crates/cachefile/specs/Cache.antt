@@ -25,7 +25,7 @@ pub data AreLines : ℕ → List (List ℕ) → Result (List Setting) CacheFault
   one_setting : {n : ℕ} {line : List ℕ} {lines : List (List ℕ)} {setting : Setting} {rest : Result (List Setting) CacheFault} → IsLine line (Some setting)
       → is_cache_name (name_of setting) ≡ true → AreLines (n + 1) lines rest → AreLines n (line ∷ lines) (rest >>= λ more. Ok (setting ∷ more))
 
--- the number of bytes of the largest cache text (own)
+-- The number of bytes of the largest cache text. (own)
 abbrev pub limit : ℕ
 limit = 4194304
 
@@ -35,43 +35,43 @@ pub data IsCache (text : List ℕ) : Result (List Setting) CacheFault → Type 0
   too_large : limit < length text → IsCache text (Err TooLarge)
   within : {read : Result (List Setting) CacheFault} → length text ≤ limit → AreLines 1 (parts 10 text) read → IsCache text read
 
--- each setting is of a cache name (own)
+-- Each setting is of a cache name. (own)
 abbrev pub HaveCacheNames : List Setting → Type 0
 HaveCacheNames list = AllByRecursion (λ setting. is_cache_name (name_of setting) ≡ true) list
 
 -- ---- as a function
 
--- the setting of a line, from what `line_of` gives, or the error of the line with this number (own)
+-- The setting of a line, from what `line_of` gives, or the error of the line with this number. (own)
 abbrev pub entry_from : ℕ → Option (Option Setting) → Result (Option Setting) CacheFault
 entry_from n None = Err (BadLine n)
 entry_from n (Some None) = Ok None
 entry_from n (Some (Some setting)) = if is_cache_name (name_of setting) then Ok (Some setting) else Err (BadName n)
 
--- the setting of the line with this number, or its error (own)
+-- The setting of the line with this number, or its error. (own)
 unfoldable pub entry_of : ℕ → List ℕ → Result (Option Setting) CacheFault
 entry_of n line = entry_from n (line_of line)
 
--- the settings of lines, or the first error; the first line has this number (own)
+-- The settings of lines, or the first error; the first line has this number. (own)
 unfoldable pub lines_from : ℕ → List (List ℕ) → Result (List Setting) CacheFault
 lines_from n [] = Ok []
 lines_from n (line ∷ lines) = entry_of n line >>= λ setting. lines_from (n + 1) lines >>= λ more. Ok (option_to_list setting ++ more)
 
--- the settings of a text, or its first error (own)
+-- The settings of a text, or its first error. (own)
 unfoldable pub cache_of : List ℕ → Result (List Setting) CacheFault
 cache_of text = if nat_lt limit (length text) then Err TooLarge else lines_from 1 (parts 10 text)
 
 -- ---- the variables
 
--- the variables after a setting (POSIX shell, 2.9.1 and 2.6.2)
+-- The variables after a setting. (POSIX shell, 2.9.1 and 2.6.2)
 abbrev pub with_setting : List (List ℕ × List ℕ) → Setting → List (List ℕ × List ℕ)
 with_setting vars (Sets name value) = with_entry vars name value
 with_setting vars (Defaults name value) = if is_some (table.value_of vars name) then vars else with_entry vars name value
 
--- the variables after settings, in order (own)
+-- The variables after settings, in order. (own)
 abbrev pub vars_after : List Setting → List (List ℕ × List ℕ) → List (List ℕ × List ℕ)
 vars_after settings vars = fold with_setting vars settings
 
--- the value of a name after a setting, from its value before (POSIX shell, 2.9.1 and 2.6.2)
+-- The value of a name after a setting, from its value before. (POSIX shell, 2.9.1 and 2.6.2)
 abbrev pub value_after : List ℕ → Option (List ℕ) → Setting → Option (List ℕ)
 value_after q old (Sets name value) = if bytes_eq q name then Some value else old
 value_after q old (Defaults name value) = if bytes_eq q name then (if is_some old then old else Some value) else old

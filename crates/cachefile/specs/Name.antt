@@ -3,11 +3,11 @@ use Rattle.std.specs.Prelude.{ℕ, ◌==◌, nat_eq, ◌||◌, Bool, false, List
 use Rattle.std.specs.Char.{is_ascii_alphanumeric}
 use Rattle.std.specs.List.{list_all, starts_with}
 
--- whether the byte is a letter, a digit or `_` (POSIX, "Name")
+-- Whether the byte is a letter, a digit or `_`. (POSIX, "Name")
 abbrev pub is_word_byte : ℕ → Bool
 is_word_byte b = is_ascii_alphanumeric b || b == 95
 
--- whether the text is a word: one or more letters, digits and `_` (own)
+-- Whether the text is a word: one or more letters, digits and `_`. (own)
 abbrev pub is_word : List ℕ → Bool
 is_word [] = false
 is_word (b ∷ bs) = list_all is_word_byte (b ∷ bs)

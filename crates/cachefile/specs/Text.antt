@@ -14,19 +14,19 @@ use Rattle.cachefile.specs.Word.{word_of}
 
 -- ---- lines
 
--- whether the value has `{` or `}` (own)
+-- Whether the value has `{` or `}`. (own)
 abbrev pub has_brace : List ℕ → Bool
 has_brace value = list_any (λ b. b == 123 || b == 125) value
 
--- `V=W` (own)
+-- `V=W`. (own)
 abbrev pub plain_line : List ℕ → List ℕ → List ℕ
 plain_line name w = name ++ (codes "=" ++ w)
 
--- `test ${V+y} || V=W` (own)
+-- `test ${V+y} || V=W`. (own)
 abbrev pub guarded_line : List ℕ → List ℕ → List ℕ
 guarded_line name w = codes "test ${" ++ (name ++ (codes "+y} || " ++ plain_line name w))
 
--- `V=${V=W}` (own)
+-- `V=${V=W}`. (own)
 abbrev pub braced_line : List ℕ → List ℕ → List ℕ
 braced_line name w = name ++ (codes "=${" ++ (name ++ (codes "=" ++ (w ++ codes "}"))))
 
@@ -37,26 +37,26 @@ line_for e =
     if is_mark e.0 then plain_line e.0 (word_of e.1)
     else (if has_brace e.1 then guarded_line e.0 (word_of e.1) else braced_line e.0 (word_of e.1))
 
--- the lines of variables, each with its newline (own)
+-- The lines of variables, each with its newline. (own)
 abbrev pub lines_for : List (List ℕ × List ℕ) → List ℕ
 lines_for es = flat_map (λ e. line_for e ++ 10 ∷ []) es
 
 -- ---- what is saved, and in which order
 
--- whether the text has no newline (own)
+-- Whether the text has no newline. (own)
 abbrev pub is_one_line : List ℕ → Bool
 is_one_line text = list_all (λ b. not (b == 10)) text
 
--- whether the variable is saved: it has a cache name, and a value without a newline (own)
+-- Whether the variable is saved: it has a cache name, and a value without a newline. (own)
 abbrev pub is_saved : List ℕ × List ℕ → Bool
 is_saved e = is_cache_name e.0 && is_one_line e.1
 
--- the value of a name that is saved, and otherwise none (own)
+-- The value of a name that is saved, and otherwise none. (own)
 abbrev pub saved_value : List ℕ → Option (List ℕ) → Option (List ℕ)
 saved_value name None = None
 saved_value name (Some value) = if is_saved (name, value) then Some value else None
 
--- each name is before the next one, byte by byte (own)
+-- Each name is before the next one, byte by byte. (own)
 abbrev pub AreInOrder : List (List ℕ × List ℕ) → Type 0
 AreInOrder es = IsStrictlySortedBy (slice_cmp nat_cmp) (names_of es)
 
@@ -76,22 +76,22 @@ pub record ReadsBack (vars : List (List ℕ × List ℕ)) (text : List ℕ) : Ty
 
 -- ---- as a function
 
--- the entries with this one in its place (own)
+-- The entries with this one in its place. (own)
 abbrev pub with_placed : List (List ℕ × List ℕ) → List ℕ × List ℕ → List (List ℕ × List ℕ)
 with_placed sorted e = insert_entry (slice_cmp nat_cmp) sorted e.0 e.1
 
--- the entries with this one in its place, if it is saved (own)
+-- The entries with this one in its place, if it is saved. (own)
 abbrev pub with_saved : List (List ℕ × List ℕ) → List ℕ × List ℕ → List (List ℕ × List ℕ)
 with_saved sorted e = if is_saved e then with_placed sorted e else sorted
 
--- the entries in the byte order of their names (own)
+-- The entries in the byte order of their names. (own)
 abbrev pub in_order : List (List ℕ × List ℕ) → List (List ℕ × List ℕ)
 in_order es = fold with_placed [] es
 
--- the variables that are saved, in the byte order of their names (own)
+-- The variables that are saved, in the byte order of their names. (own)
 abbrev pub saved_entries : List (List ℕ × List ℕ) → List (List ℕ × List ℕ)
 saved_entries vars = in_order (filter is_saved vars)
 
--- the cache text of variables (own)
+-- The cache text of variables. (own)
 abbrev pub cache_text_of : List (List ℕ × List ℕ) → List ℕ
 cache_text_of vars = codes "# config.cache of configure\n" ++ lines_for (saved_entries vars)

@@ -3,36 +3,37 @@ use Rattle.std.specs.Prelude.{◌≡◌, ℕ, ◌+◌, ◌/◌, ◌%◌, ◌==�
 use Rattle.std.specs.List.{flat_map}
 use Rattle.std.specs.Str.{is_utf8}
 
--- the hexadecimal digit of a number below 16 (own)
+-- The hexadecimal digit of a number below 16. (own)
 abbrev pub digit : ℕ → ℕ
 digit n = if nat_lt n 10 then 48 + n else 87 + n
 
--- whether a byte is a control byte (ASCII)
+-- Whether a byte is a control byte (ASCII).
 abbrev pub is_control : ℕ → Bool
 is_control b = nat_lt b 32 || b == 127
 
--- a byte of a text, by whether the text is UTF-8: `\xNN` for a control byte, and for a byte above 127 of a text that isn't (own)
+-- A byte of a text, by whether the text is UTF-8: `\xNN` for a control byte, and for a byte above 127 of a text that
+-- isn't. (own)
 unfoldable pub shown_byte : Bool → ℕ → List ℕ
 shown_byte is_text b =
     if is_control b || (nat_lt 127 b && not is_text) then 92 ∷ 120 ∷ digit (b / 16) ∷ digit (b % 16) ∷ [] else b ∷ []
 
--- the bytes of a text, by whether it is UTF-8 (own)
+-- The bytes of a text, by whether it is UTF-8. (own)
 abbrev pub shown_with : Bool → List ℕ → List ℕ
 shown_with is_text text = flat_map (shown_byte is_text) text
 
--- a text as it is shown (own)
+-- A text as it is shown. (own)
 unfoldable pub shown : List ℕ → List ℕ
 shown text = shown_with (is_utf8 text) text
 
--- it has no control byte, and no newline in particular (own)
+-- It has no control byte, and no newline in particular. (own)
 abbrev pub IsShown : List ℕ → Type 0
 IsShown text = All (λ b. is_control b ≡ false) text
 
--- the line of a name and some words, both as they are shown (own)
+-- The line of a name and some words, both as they are shown. (own)
 unfoldable pub line_of : List ℕ → List ℕ → List ℕ
 line_of name words = shown name ++ codes ": " ++ shown words
 
--- it is the line of this name and of some words (own)
+-- It is the line of this name and of some words. (own)
 pub record IsCauseOf (name cause : List ℕ) : Type 0 where
   pub words : List ℕ
   pub is : cause ≡ line_of name words

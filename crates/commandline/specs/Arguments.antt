@@ -17,21 +17,21 @@ use Rattle.commandline.specs.declared.fault.OptionFault.TheVariants.{Unknown, Ba
 
 -- The reading of an argument that isn't the value of the option before it. (own)
 pub data Said : Type 0 where
-  -- an option without a value
+  -- An option without a value.
   Turns : (switch : Switch) → Said
-  -- an option with its value
+  -- An option with its value.
   Gives : (target : Target) → (value : List ℕ) → Said
-  -- an option whose value is the next argument
+  -- An option whose value is the next argument.
   Awaits : (target : Target) → Said
-  -- a feature or a package, its value, and the text before the `=`
+  -- A feature or a package, its value, and the text before the `=`.
   Chooses : (kind : OptionKind) → (name : List ℕ) → (value : List ℕ) → (option : List ℕ) → Said
-  -- a feature or a package whose name has not the form of one
+  -- A feature or a package whose name has not the form of one.
   Misnames : Said
-  -- a variable and its value
+  -- A variable and its value.
   Assigns : (name : List ℕ) → (value : List ℕ) → Said
-  -- a value for a name that is no shell name
+  -- A value for a name that is no shell name.
   Misassigns : Said
-  -- neither a known option nor an assignment
+  -- Neither a known option nor an assignment.
   Nothing : Said
 
 -- The text after the first `=`, if there is one. (own)

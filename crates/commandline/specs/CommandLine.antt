@@ -1,5 +1,5 @@
--- Which settings the arguments of a command line give, and which argument is the first with an error (Autoconf's
--- manual, "Running configure Scripts", "configure Invocation" and "Package Options"; the table of options is own).
+-- Which settings the arguments of a command line give, and which argument is the first with an error. (Autoconf's
+-- manual, "Running configure Scripts", "configure Invocation" and "Package Options"; the table of options is own)
 use Rattle.std.specs.Prelude.{◌≡◌, ℕ, ◌+◌, Bool, true, false, ◌==◌, List, [], ◌∷◌, ◌++◌, codes, if◌then◌else◌}
 use Rattle.deftable.specs.ShellName.{is_shell_name_of}
 use Rattle.syntax.specs.Feature.{is_feature}
@@ -18,15 +18,15 @@ use Rattle.commandline.specs.declared.fault.OptionFault.TheVariants.{Unknown, Ba
 
 -- What one argument, or an option and its value, sets. (own)
 pub data Setting : Type 0 where
-  -- the value of a variable
+  -- The value of a variable.
   Variable : (name : List ℕ) → (value : List ℕ) → Setting
-  -- the value of a feature or a package, with the number of the argument and its text before the `=`
+  -- The value of a feature or a package, with the number of the argument and its text before the `=`.
   Choice : (place : ℕ) → (kind : OptionKind) → (name : List ℕ) → (value : List ℕ) → (option : List ℕ) → Setting
-  -- the name of the cache
+  -- The name of the cache.
   Cache : (name : List ℕ) → Setting
-  -- the directory of the source
+  -- The directory of the source.
   Source : (directory : List ℕ) → Setting
-  -- what an option without a value turns on
+  -- What an option without a value turns on.
   Switched : (switch : Switch) → Setting
 
 -- What an option sets to its value. (own)

@@ -1,4 +1,4 @@
--- What the record of a run keeps of the arguments of a command line, whether or not they are right (own).
+-- What the record of a run keeps of the arguments of a command line, whether or not they are right. (own)
 use Rattle.std.specs.Prelude.{ℕ, Bool, true, false, List, [], ◌∷◌, ◌++◌, Option, Some, None, if◌then◌else◌}
 use Rattle.commandline.specs.Arguments.{Said, Turns, awaited_after, said_by}
 use Rattle.commandline.specs.CommandLine.{IsSwitch}

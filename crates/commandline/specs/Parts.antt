@@ -1,14 +1,14 @@
--- How the arguments of a command line are cut into words and values, whether or not they are right (Autoconf's manual,
--- "configure Invocation").
+-- How the arguments of a command line are cut into words and values, whether or not they are right. (Autoconf's manual,
+-- "configure Invocation")
 use Rattle.std.specs.Prelude.{ℕ, List, [], ◌∷◌}
 use Rattle.commandline.specs.CommandLine.{IsOption}
 use Rattle.commandline.specs.declared.argument.Target.{Target}
 
 -- A part of a command line. (own)
 pub data Part : Type 0 where
-  -- an argument by itself
+  -- An argument by itself.
   Word : (word : List ℕ) → Part
-  -- an option, and the next argument as its value
+  -- An option, and the next argument as its value.
   Valued : (option : List ℕ) → (target : Target) → (value : List ℕ) → Part
 
 -- The arguments are these parts, from the left: an option without a `=` takes the next argument as its value, whatever that

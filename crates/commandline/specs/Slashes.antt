@@ -1,4 +1,4 @@
--- Slashes at the end of a directory's name (own).
+-- Slashes at the end of a directory's name. (own)
 use Rattle.std.specs.Prelude.{ℕ, Bool, ◌==◌, List, [], ◌∷◌, if◌then◌else◌}
 use Rattle.std.specs.List.{list_all}
 

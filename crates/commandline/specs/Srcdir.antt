@@ -1,4 +1,4 @@
--- The directory of the source, as a command line names it, whether or not its arguments are right (own).
+-- The directory of the source, as a command line names it, whether or not its arguments are right. (own)
 use Rattle.std.specs.Prelude.{◌≡◌, ℕ, List, [], ◌∷◌, ◌++◌, Option, Some, None, codes}
 use Rattle.commandline.specs.Arguments.{Said, Gives, awaited_after, said_by}
 use Rattle.commandline.specs.Parts.{Part, Word, Valued, AreParts}

@@ -3,41 +3,42 @@
 use Rattle.std.specs.Prelude.{ℕ, List, ◌++◌, nat_eq, codes, if◌then◌else◌}
 use Rattle.std.specs.List.{ends_with}
 
--- the text, with a newline added if it doesn't end in one (own)
+-- The text, with a newline added if it doesn't end in one. (own)
 unfoldable pub ended : List ℕ → List ℕ
 ended text = if ends_with nat_eq text (codes "\n") then text else text ++ codes "\n"
 
--- the includes of a program for which no others are given (Autoconf's manual, "Default Includes"; which headers these
+-- The includes of a program for which no others are given. (Autoconf's manual, "Default Includes"; which headers these
 -- are is own)
 unfoldable pub default_includes : List ℕ
 default_includes =
     codes "#include <stddef.h>\n#include <stdio.h>\n#include <stdlib.h>\n#include <string.h>\n#include <sys/types.h>\n"
 
--- a whole program: the prologue, and `main` with the body, each followed by a newline (Autoconf's manual, "Generating Sources")
+-- A whole program: the prologue, and `main` with the body, each followed by a newline. (Autoconf's manual, "Generating
+-- Sources")
 unfoldable pub program_source : List ℕ → List ℕ → List ℕ
 program_source prologue body =
     prologue ++ codes "\nint\nmain (void)\n{\n" ++ body ++ codes "\n  ;\n  return 0;\n}\n"
 
--- the program that checks whether a header can be included after these lines (Autoconf's manual, "Generic Headers")
+-- The program that checks whether a header can be included after these lines. (Autoconf's manual, "Generic Headers")
 unfoldable pub header_source : List ℕ → List ℕ → List ℕ
 header_source includes header = ended includes ++ codes "#include <" ++ header ++ codes ">"
 
--- the program that checks whether a function can be linked (Autoconf's manual, "Generic Functions")
+-- The program that checks whether a function can be linked. (Autoconf's manual, "Generic Functions")
 unfoldable pub function_source : List ℕ → List ℕ
 function_source name =
     program_source (codes "#undef " ++ name ++ codes "\nchar " ++ name ++ codes " (void);")
     (codes "return " ++ name ++ codes " ();")
 
--- the program that checks whether a name is declared or is a macro (Autoconf's manual, "Generic Declarations")
+-- The program that checks whether a name is declared or is a macro. (Autoconf's manual, "Generic Declarations")
 unfoldable pub declaration_source : List ℕ → List ℕ → List ℕ
 declaration_source includes name =
     program_source includes (codes "#ifndef " ++ name ++ codes "\n  (void) " ++ name ++ codes ";\n#endif")
 
--- the program that checks whether a name has a size, as types and values do (Autoconf's manual, "Generic Types")
+-- The program that checks whether a name has a size, as types and values do. (Autoconf's manual, "Generic Types")
 unfoldable pub type_source : List ℕ → List ℕ → List ℕ
 type_source includes name = program_source includes (codes "if (sizeof (" ++ name ++ codes ")) return 0;")
 
--- the same program with the name in parentheses, in which a value still has a size but a type has none (Autoconf's
+-- The same program with the name in parentheses, in which a value still has a size but a type has none. (Autoconf's
 -- manual, "Generic Types")
 unfoldable pub second_type_source : List ℕ → List ℕ → List ℕ
 second_type_source includes name = type_source includes (codes "(" ++ name ++ codes ")")

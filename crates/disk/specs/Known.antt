@@ -25,15 +25,15 @@ pub record Known : Type 0 where
   pub texts : List Deed → List ℕ → Option (List ℕ)
   pub kinds : List Deed → List ℕ → Found
 
--- the text under a name now (own)
+-- The text under a name now. (own)
 abbrev pub text_under : Known → List ℕ → Option (List ℕ)
 text_under k name = k.texts k.deeds name
 
--- what is under a name now (own)
+-- What is under a name now. (own)
 abbrev pub kind_under : Known → List ℕ → Found
 kind_under k name = k.kinds k.deeds name
 
--- what is known after more deeds (own)
+-- What is known after more deeds. (own)
 abbrev pub with_deeds : Known → List Deed → Known
 with_deeds k deeds = record { deeds = k.deeds ++ deeds; texts = k.texts; kinds = k.kinds }
 
@@ -53,6 +53,6 @@ Does None (Some new) P = ⊥
 Does (Some old) None P = ⊥
 Does (Some old) (Some new) P = (deeds : List Deed) × (new ≡ with_deeds old deeds) × P old deeds
 
--- the first 64 MiB of a text, and one byte more (own)
+-- The first 64 MiB of a text, and one byte more. (own)
 abbrev pub limited : List ℕ → List ℕ
 limited text = take (2 ^ 26 + 1) text

@@ -6,7 +6,7 @@ use Rattle.disk.specs.declared.found.Found.TheVariants as found
 use Rattle.disk_tests.specs.declared.done.Step.{Step}
 use Rattle.disk_tests.specs.declared.done.Step.TheVariants as steps
 
--- the deed that a step is (own)
+-- The deed that a step is. (own)
 abbrev pub deed_of : Step → Deed
 deed_of (steps.MadeDirectories name) = MadeDirectories name
 deed_of (steps.Made name) = Made name
@@ -15,15 +15,15 @@ deed_of (steps.Failed name) = Failed name
 deed_of (steps.Renamed from to) = Renamed from to
 deed_of (steps.Removed name) = Removed name
 
--- the text under a name, if this file is the only one that can be read (own)
+-- The text under a name, if this file is the only one that can be read. (own)
 abbrev pub text_in : List ℕ → List ℕ → List ℕ → Option (List ℕ)
 text_in file text name = if bytes_eq name file then Some text else None
 
--- what is under a name, if this file is the only one (own)
+-- What is under a name, if this file is the only one. (own)
 abbrev pub kind_in : List ℕ → List ℕ → Found
 kind_in file name = if bytes_eq name file then found.File 0o100755 else found.Nothing
 
--- what is known of a disk on which these steps were done, and on which this file is the only one
--- that is found, whatever is done (own)
+-- What is known of a disk on which these steps were done, and on which this file is the only one that is found,
+-- whatever is done. (own)
 abbrev pub known_of : List ℕ → List ℕ → List Step → Known
 known_of file text steps = record { deeds = map deed_of steps; texts = λ _ name. text_in file text name; kinds = λ _ name. kind_in file name }

@@ -3,8 +3,8 @@ use Rattle.std.specs.Prelude.{◌≡◌, ℕ, ◌+◌, Bool, true, false, List, 
 use Rattle.outputs.specs.Receipt.{Receipt}
 use Rattle.outputs.specs.declared.thing.Thing.{Thing}
 
--- what it took, in order; the number of puts that it refused; the lines on what it took; whether it
--- is closed; and its disk (own)
+-- What it took, in order; the number of puts that it refused; the lines on what it took; whether it is closed; and its
+-- disk. (own)
 pub record Held (D : Type 0) : Type 0 where
   pub handed : List Thing
   pub failures : ℕ
@@ -12,17 +12,16 @@ pub record Held (D : Type 0) : Type 0 where
   pub closed : Bool
   pub disk : D
 
--- a receiver of nothing so far (own)
+-- A receiver of nothing so far. (own)
 abbrev pub fresh : {D : Type 0} → D → Held D
 fresh disk = record { handed = []; failures = 0; lines = []; closed = false; disk = disk }
 
--- the refusals that a closing counts as (own)
+-- The refusals that a closing counts as. (own)
 abbrev pub closings : Bool → ℕ
 closings false = 0
 closings true = 1
 
--- its receipt, in which the closing counts as one refusal more, since each later put is refused
--- (own)
+-- Its receipt, in which the closing counts as one refusal more, since each later put is refused. (own)
 abbrev pub receipt_of : {D : Type 0} → Held D → Receipt
 receipt_of o = record { handed = o.handed; failures = o.failures + closings o.closed }
 

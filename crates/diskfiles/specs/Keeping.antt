@@ -22,7 +22,7 @@ pub record AreSame (things : List Thing) (lines : List ℕ) (new_things : List T
   pub same_things : new_things ≡ things
   pub same_lines : new_lines ≡ lines
 
--- what the file of a thing of this kind keeps (own)
+-- What the file of a thing of this kind keeps. (own)
 abbrev pub keeps_of : Kind → Keeps
 keeps_of Cache = Permissions
 keeps_of Record = NoExecution
@@ -41,8 +41,7 @@ abbrev pub is_same : Option (List ℕ) → List ℕ → Bool
 is_same None text = false
 is_same (Some found) text = bytes_eq found text
 
--- the name of the file that a thing is written to: where a link leads to, or else its own name
--- (own)
+-- The name of the file that a thing is written to: where a link leads to, or else its own name. (own)
 abbrev pub file_of : Option (List ℕ) → List ℕ → List ℕ
 file_of None name = name
 file_of (Some end) name = end
@@ -61,7 +60,7 @@ IsLeft Record k name text left = left ≡ false
 IsLeft File k name text left = left ≡ false
 IsLeft Header k name text left = HasText k name text left
 
--- the deeds that make the directories of what is said to be made (own)
+-- The deeds that make the directories of what is said to be made. (own)
 abbrev pub made_for : Saying → List ℕ → List Deed
 made_for Nothing name = []
 made_for Creating name = directories_for name

@@ -4,11 +4,11 @@ use Rattle.outputs.specs.declared.thing.Thing.{Thing}
 use Rattle.outputs.specs.declared.thing.Kind.{Kind}
 use Rattle.outputs.specs.declared.thing.Kind.TheVariants.{Cache, Record, File, Header}
 
--- the line on a file or a header that was written (Autoconf's message)
+-- The line on a file or a header that was written. (Autoconf's message)
 abbrev pub creating_line : List ℕ → List ℕ
 creating_line name = codes "config.status: creating " ++ (name ++ 10 ∷ [])
 
--- the line on a header that had its text before (Autoconf's message)
+-- The line on a header that had its text before. (Autoconf's message)
 abbrev pub unchanged_line : List ℕ → List ℕ
 unchanged_line name = codes "config.status: " ++ (name ++ (codes " is unchanged" ++ 10 ∷ []))
 

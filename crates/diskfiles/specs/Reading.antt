@@ -3,7 +3,7 @@ use Rattle.std.specs.Prelude.{◌≡◌, ℕ, ◌^◌, nat_le, List, length, Opt
 use Rattle.disk.specs.Known.{Known, text_under, limited}
 use Rattle.diskfiles.specs.Names.{IsFileName}
 
--- a text, unless it has more than 64 MiB (own)
+-- A text, unless it has more than 64 MiB. (own)
 abbrev pub whole : Option (List ℕ) → Option (List ℕ)
 whole None = None
 whole (Some text) = if nat_le (length text) (2 ^ 26) then Some text else None

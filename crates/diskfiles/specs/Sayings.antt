@@ -6,19 +6,19 @@ use Rattle.diskfiles.specs.declared.saying.Saying.{Saying}
 use Rattle.diskfiles.specs.declared.saying.Saying.TheVariants.{Nothing, Creating, Unchanged}
 use Rattle.diskfiles.specs.Lines.{creating_line, unchanged_line}
 
--- what is said of a header, if its file is left as it is or not (own)
+-- What is said of a header, if its file is left as it is or not. (own)
 abbrev pub saying_of_header : Bool → Saying
 saying_of_header true = Unchanged
 saying_of_header false = Creating
 
--- what is said of a thing of this kind, if its file is left as it is or not (own)
+-- What is said of a thing of this kind, if its file is left as it is or not. (own)
 abbrev pub saying_of : Kind → Bool → Saying
 saying_of Cache left = Nothing
 saying_of Record left = Nothing
 saying_of File left = Creating
 saying_of Header left = saying_of_header left
 
--- what is said of a thing with this name (own)
+-- What is said of a thing with this name. (own)
 abbrev pub said : Saying → List ℕ → List ℕ
 said Nothing name = []
 said Creating name = creating_line name

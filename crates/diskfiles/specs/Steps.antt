@@ -7,7 +7,7 @@ use Rattle.diskfiles.specs.Names.{directory_of, temporary}
 use Rattle.diskfiles.specs.declared.writing.Keeps.{Keeps}
 use Rattle.diskfiles.specs.declared.writing.Keeps.TheVariants.{Permissions, NoExecution}
 
--- the permission bits that may be kept (own)
+-- The permission bits that may be kept. (own)
 abbrev pub bits_of : Keeps → ℕ
 bits_of Permissions = 0o777
 bits_of NoExecution = 0o666
@@ -20,7 +20,7 @@ pub data IsMode (keeps : Keeps) : Found → Option ℕ → Type 0 where
   of_link : IsMode keeps found.Link None
   of_nothing : IsMode keeps found.Nothing None
 
--- the deeds that put a text under a name, by a new file of this number in the same directory (own)
+-- The deeds that put a text under a name, by a new file of this number in the same directory. (own)
 abbrev pub writing : List ℕ → Option ℕ → List ℕ → ℕ → List Deed
 writing name mode text n = Made (temporary name n) ∷ Filled (temporary name n) mode text ∷ Renamed (temporary name n) name ∷ []
 
@@ -39,12 +39,12 @@ pub data IsUndone (name : List ℕ) : List Deed → Type 0 where
   unnamed : (n : ℕ) (mode : Option ℕ) (text : List ℕ)
       → IsUndone name (Made (temporary name n) ∷ Filled (temporary name n) mode text ∷ Removed (temporary name n) ∷ [])
 
--- the deed that makes this directory, if there is one (own)
+-- The deed that makes this directory, if there is one. (own)
 abbrev pub making : Option (List ℕ) → List Deed
 making None = []
 making (Some directory) = MadeDirectories directory ∷ []
 
--- the deed that makes the directories of a file (own)
+-- The deed that makes the directories of a file. (own)
 abbrev pub directories_for : List ℕ → List Deed
 directories_for name = making (directory_of name)
 

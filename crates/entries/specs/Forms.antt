@@ -1,5 +1,5 @@
--- The kinds of entries, and the form of each (Autoconf's manual, "Generic Headers", "Generic Functions", "Generic
--- Declarations" and "Generic Types"; which bytes an entry may have is own).
+-- The kinds of entries, and the form of each. (Autoconf's manual, "Generic Headers", "Generic Functions", "Generic
+-- Declarations" and "Generic Types"; which bytes an entry may have is own)
 use Rattle.std.specs.Prelude.{ℕ, Bool, not, ◌&&◌, ◌||◌, ◌==◌, nat_lt, List, length}
 use Rattle.std.specs.List.{list_all}
 use Rattle.deftable.specs.ShellName.{is_shell_name_of}

@@ -1,4 +1,4 @@
--- The filter's input: a source, a line that is exactly `%%`, and a template (own).
+-- The filter's input: a source, a line that is exactly `%%`, and a template. (own)
 use Rattle.std.specs.Prelude.{◌≡◌, ◌≢◌, ℕ, ◌+◌, ◌<◌, ◌==◌, Bool, not, List, [], ◌∷◌, ◌++◌, length, take, drop}
 use Rattle.std.specs.List.{prefix_len}
 use Rattle.std.specs.Str.{bytes_eq}

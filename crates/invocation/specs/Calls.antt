@@ -1,4 +1,4 @@
--- What the program is asked to do (own).
+-- What the program is asked to do. (own)
 use Rattle.std.specs.Prelude.{ℕ, ◌≤◌, ◌==◌, ◌||◌, ◌≡◌, Bool, false, List, [], ◌∷◌, length, Option, Some, None, bytes_eq, codes, if◌then◌else◌}
 use Rattle.std.specs.List.{list_any}
 

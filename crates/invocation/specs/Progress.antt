@@ -1,4 +1,4 @@
--- Whether the program may show its progress (own).
+-- Whether the program may show its progress. (own)
 use Rattle.std.specs.Prelude.{◌≡◌, ℕ, Bool, true, false, not, List}
 use Rattle.std.specs.List.{list_any}
 use Rattle.commandline.specs.Arguments.{Said, Turns, said_by}

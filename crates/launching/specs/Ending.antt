@@ -6,17 +6,17 @@ use Rattle.std.specs.declared.process.status.ExitStatus.{ExitStatus}
 use Rattle.crew_trait.specs.declared.reply.Reply.{Reply}
 use Rattle.crew_trait.specs.declared.reply.Reply.TheVariants.{Answer, StartRefused, EndRefused}
 
--- an exit code as a number, or 256 if there is none (own)
+-- An exit code as a number, or 256 if there is none. (own)
 abbrev pub number_of : Option ℤ → ℕ
 number_of (Some code) = unsigned_abs code
 number_of None = 256
 
--- the status of a child: its exit status, or 256 if a signal ended it (own)
+-- The status of a child: its exit status, or 256 if a signal ended it. (own)
 abbrev pub status_number : ExitStatus → ℕ
 status_number status = number_of (exit_code status)
 
--- the reply of a child after the wait for it, with the diagnostics that were kept: a failed wait or a failed read is
--- not an answer (own)
+-- The reply of a child after the wait for it, with the diagnostics that were kept: a failed wait or a failed read is
+-- not an answer. (own)
 abbrev pub reply_of : {E : Type 0} → Result ExitStatus E → Option (List ℕ) → Reply
 reply_of (Ok status) (Some text) = Answer (status_number status) text
 reply_of (Ok status) None = EndRefused
@@ -31,7 +31,7 @@ pub record IsKept (known : Option (List ℕ)) (text : List ℕ) : Type 0 where
   pub kept : text ≡ take 65536 bytes
   pub all : IsAtEnd rest ⊎ (1024 ≤ length bytes)
 
--- an answer has the status that a wait returned, and a text with this property; a refused end claims nothing (own)
+-- An answer has the status that a wait returned, and a text with this property; a refused end claims nothing. (own)
 abbrev pub Answers : Reply → Option ExitStatus → (List ℕ → Type 0) → Type 0
 Answers (Answer status text) None P = ⊥
 Answers (Answer status text) (Some s) P = (status ≡ status_number s) × P text

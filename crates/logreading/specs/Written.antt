@@ -12,44 +12,44 @@ use Rattle.logreading.specs.Log.{is_command, is_status, is_refusal, is_heading, 
 
 -- ---- what an entry says
 
--- the line of a status (own)
+-- The line of a status. (own)
 abbrev pub status_line : ℕ → List ℕ
 status_line status = codes "status " ++ (decimal status ++ codes "\n")
 
--- a line of the program that failed (own)
+-- A line of the program that failed. (own)
 abbrev pub program_line : List ℕ → List ℕ
 program_line line = codes "| " ++ closed line
 
--- the heading and the lines of the program, if there is one and the status isn't 0 (own)
+-- The heading and the lines of the program, if there is one and the status isn't 0. (own)
 abbrev pub seen_program : ℕ → Option (List ℕ × List ℕ) → List (Part × List ℕ)
 seen_program status None = []
 seen_program status (Some file) =
     if status == 0 then []
     else (Heading, codes "failed program was:\n") ∷ map (λ line. (Program, program_line line)) (lines_of file.1)
 
--- the lines of a reply to a job with this file (own)
+-- The lines of a reply to a job with this file. (own)
 abbrev pub seen_reply : Option (List ℕ × List ℕ) → Reply → List (Part × List ℕ)
 seen_reply file (Answer status diagnostics) =
     map (λ line. (Diagnostics, line)) (lines_of (closed diagnostics)) ++ ((Status, status_line status) ∷ seen_program status file)
 seen_reply file StartRefused = (Refused, codes "start refused\n") ∷ []
 seen_reply file EndRefused = (Refused, codes "wait refused\n") ∷ []
 
--- the lines of an entry: those of a message, or a command and those of its reply (own)
+-- The lines of an entry: those of a message, or a command and those of its reply. (own)
 abbrev pub seen : Entry → List (Part × List ℕ)
 seen (Said note) = map (λ line. (Message, line)) (lines_of (closed note.text))
 seen (Child job reply) = (Command, command_line job.words) ∷ seen_reply job.file reply
 
 -- ---- entries that can be told apart
 
--- the line of a message has the form of no other line (own)
+-- The line of a message has the form of no other line. (own)
 abbrev pub IsPlainMessage : List ℕ → Type 0
 IsPlainMessage line = (is_command line ≡ false) × (is_heading line ≡ false) × (is_program line ≡ false)
 
--- the line of diagnostics has the form of no line at a child's end (own)
+-- The line of diagnostics has the form of no line at a child's end. (own)
 abbrev pub IsPlainDiagnostics : List ℕ → Type 0
 IsPlainDiagnostics line = (is_status line ≡ false) × (is_refusal line ≡ false)
 
--- each of these lines is so (own)
+-- Each of these lines is so. (own)
 abbrev pub EachLine : (List ℕ → Type 0) → List (List ℕ) → Type 0
 EachLine P [] = Unit {0}
 EachLine P (line ∷ rest) = P line × EachLine P rest
@@ -65,7 +65,7 @@ abbrev pub IsPlain : Entry → Type 0
 IsPlain (Said note) = EachLine IsPlainMessage (lines_of (closed note.text))
 IsPlain (Child job reply) = (lines_of (command_line job.words) ≡ command_line job.words ∷ []) × IsPlainReply reply
 
--- each entry is plain (own)
+-- Each entry is plain. (own)
 abbrev pub ArePlain : List Entry → Type 0
 ArePlain [] = Unit {0}
 ArePlain (entry ∷ rest) = IsPlain entry × ArePlain rest

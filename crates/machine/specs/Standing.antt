@@ -139,15 +139,15 @@ outcome_by (turn.Cut number) = Some (outcome.CutShort number)
 
 -- A turn of a machine over a plan. (own)
 pub record Turned (plan : List Instruction) (turn : Turn) (old new : Standing) : Type 0 where
-  -- the run that remains is the one that was left, and the turn reports it
+  -- The run that remains is the one that was left, and the turn reports it.
   pub same : run_at plan new ≡ run_left plan old
   pub shows : Shows turn (run_at plan new) new
   pub outcome : outcome_of new.phase ≡ outcome_by turn
   pub refusals : Refusals turn old
-  -- the jobs before count, none of those of now has a reply, and each was counted among those that were left
+  -- The jobs before count, none of those of now has a reply, and each was counted among those that were left.
   pub before : new.before ≡ old.before + length old.jobs
   pub fresh : new.replies ≡ replicate (length new.jobs) None
-  -- at most 256 jobs are asked for at once
+  -- At most 256 jobs are asked for at once.
   pub few : length new.jobs ≤ 256
   pub fits : Fits plan new
   pub ahead : length new.jobs + asks_left plan new ≤ asks_left plan old

@@ -10,17 +10,17 @@ use Rattle.macrotable.specs.declared.entry.Kind.TheVariants.{Idiom, Dropped, Mis
 use Rattle.macrotable.specs.declared.entry.Entry.{Entry}
 use Rattle.macrotable.specs.declared.entry.Record.{Record}
 
--- what an entry says, as texts (own)
+-- What an entry says, as texts. (own)
 pub record Said : Type 0 where
   pub name : List ℕ
   pub kind : Kind
   pub text : List ℕ
 
--- what this entry says (own)
+-- What this entry says. (own)
 abbrev pub said : Entry → Said
 said e = record { name = e.name.now; kind = e.kind; text = e.text.now }
 
--- the kind of this name (own)
+-- The kind of this name. (own)
 abbrev pub kind_named : List ℕ → Option Kind
 kind_named w =
     if bytes_eq w (codes "idiom") then Some Idiom
@@ -28,28 +28,28 @@ kind_named w =
     else (if bytes_eq w (codes "none") then Some Missing
     else (if bytes_eq w (codes "family") then Some Family else None)))
 
--- a record: its kind, its names with a blank between them, and its text (own)
+-- A record: its kind, its names with a blank between them, and its text. (own)
 pub record Read : Type 0 where
   pub kind : Kind
   pub names : List ℕ
   pub text : List ℕ
 
--- what this record has (own)
+-- What this record has. (own)
 abbrev pub read : Record → Read
 read r = record { kind = r.kind; names = r.names.now; text = r.text.now }
 
--- the record of this kind, and after it names, a newline and a text (own)
+-- The record of this kind, and after it names, a newline and a text. (own)
 abbrev pub read_with : Option Kind → Option (List ℕ × List ℕ) → Option Read
 read_with (Some kind) (Some (names, text)) = Some (record { kind = kind; names = names; text = text })
 read_with (Some kind) None = None
 read_with None rest = None
 
--- the record that has these texts around its first blank (own)
+-- The record that has these texts around its first blank. (own)
 abbrev pub read_around : Option (List ℕ × List ℕ) → Option Read
 read_around (Some (word, rest)) = read_with (kind_named word) (around 10 rest)
 read_around None = None
 
--- a text as a record; nothing if it isn't of that form (own)
+-- A text as a record; nothing if it isn't of that form. (own)
 abbrev pub read_in : List ℕ → Option Read
 read_in r = read_around (around 32 r)
 
@@ -60,39 +60,39 @@ names Idiom known name = bytes_eq known name
 names Dropped known name = bytes_eq known name
 names Missing known name = bytes_eq known name
 
--- the entry is about macros of this name (own)
+-- The entry is about macros of this name. (own)
 abbrev pub is_about : List ℕ → Said → Bool
 is_about name e = names e.kind e.name name
 
--- the first of the known names that is about macros of this name (own)
+-- The first of the known names that is about macros of this name. (own)
 abbrev pub first_name : Kind → List ℕ → List (List ℕ) → Option (List ℕ)
 first_name kind name [] = None
 first_name kind name (known ∷ more) = if names kind known name then Some known else first_name kind name more
 
--- what a record says with one of its names (own)
+-- What a record says with one of its names. (own)
 abbrev pub said_with : Read → Option (List ℕ) → Option Said
 said_with r (Some known) = Some (record { name = known; kind = r.kind; text = r.text })
 said_with r None = None
 
--- what a record says of macros of this name (own)
+-- What a record says of macros of this name. (own)
 abbrev pub said_of : List ℕ → Option Read → Option Said
 said_of name (Some r) = said_with r (first_name r.kind name (parts 32 r.names))
 said_of name None = None
 
--- what the text of a record says of macros of this name (own)
+-- What the text of a record says of macros of this name. (own)
 abbrev pub said_about : List ℕ → List ℕ → Option Said
 said_about name r = said_of name (read_in r)
 
--- the first of them that is there (own)
+-- The first of them that is there. (own)
 abbrev pub or_later : Option Said → Option Said → Option Said
 or_later (Some e) later = Some e
 or_later None later = later
 
--- what the first record says that is about macros of this name (own)
+-- What the first record says that is about macros of this name. (own)
 abbrev pub first_about : List ℕ → List (List ℕ) → Option Said
 first_about name [] = None
 first_about name (r ∷ more) = or_later (said_about name r) (first_about name more)
 
--- the entry of a name: what the first record of the table says that is about macros of this name (own)
+-- The entry of a name: what the first record of the table says that is about macros of this name. (own)
 unfoldable pub entry_of : List ℕ → List ℕ → Option Said
 entry_of name table = first_about name (parts 126 table)

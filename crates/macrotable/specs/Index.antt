@@ -8,7 +8,7 @@ use Rattle.macrotable.specs.declared.entry.Kind.TheVariants.{Idiom, Dropped, Mis
 use Rattle.macrotable.specs.declared.entry.Entry.{Entry}
 use Rattle.macrotable.specs.Entries.{Said, said, Read, or_later, first_about}
 
--- what these entries say of a name (own)
+-- What these entries say of a name. (own)
 abbrev pub said_by : List (Vec ℕ × Entry) → List ℕ → Option Said
 said_by es name = option_map said (lookup (λ k. bytes_eq name k.items) es)
 
@@ -19,16 +19,16 @@ is_single Idiom = true
 is_single Dropped = true
 is_single Missing = true
 
--- a text that is no record of a family (own)
+-- A text that is no record of a family. (own)
 abbrev pub has_singles : Option Read → Bool
 has_singles (Some r) = is_single r.kind
 has_singles None = true
 
--- what the entries say of a name, or else these records (own)
+-- What the entries say of a name, or else these records. (own)
 abbrev pub said_first : List (Vec ℕ × Entry) → List (List ℕ) → List ℕ → Option Said
 said_first es rows name = or_later (said_by es name) (first_about name rows)
 
--- what a record says of a name that is exactly this one of its names (own)
+-- What a record says of a name that is exactly this one of its names. (own)
 abbrev pub said_exactly : Read → List ℕ → List ℕ → Option Said
 said_exactly r known name =
     if bytes_eq known name then Some (record { name = known; kind = r.kind; text = r.text }) else None

@@ -9,22 +9,22 @@ use Rattle.macrotable.specs.declared.place.Source.{Source}
 use Rattle.macrotable.specs.declared.place.Source.TheVariants.{Argument, All}
 use Rattle.macrotable.specs.declared.place.Place.{Place as Cut}
 
--- a place, and the text after it (own)
+-- A place, and the text after it. (own)
 pub record Place : Type 0 where
   pub source : Source
   pub form : Form
   pub word : List ℕ
   pub rest : List ℕ
 
--- the place as texts (own)
+-- The place as texts. (own)
 abbrev pub seen : Cut → Place
 seen p = record { source = p.source; form = p.form; word = p.word.now; rest = p.rest.now }
 
--- what a digit or an `@` takes: the index of an argument, counted from 0, or all arguments (own)
+-- What a digit or an `@` takes: the index of an argument, counted from 0, or all arguments. (own)
 abbrev pub source_of : ℕ → Option Source
 source_of b = if b == 64 then Some All else (if nat_le 49 b && nat_le b 57 then Some (Argument (b - 49)) else None)
 
--- the form that a sign asks for; no sign asks for the argument as it is (own)
+-- The form that a sign asks for; no sign asks for the argument as it is. (own)
 abbrev pub form_of : List ℕ → Option Form
 form_of s =
     if bytes_eq s (codes "") then Some AsItIs
@@ -34,19 +34,19 @@ form_of s =
     else (if bytes_eq s (codes "<") then Some Front
     else (if bytes_eq s (codes ">") then Some Rest else None)))))
 
--- a place with what it takes, its form, and around a brace its word and the rest (own)
+-- A place with what it takes, its form, and around a brace its word and the rest. (own)
 abbrev pub place_with : Source → Option Form → Option (List ℕ × List ℕ) → Option Place
 place_with source (Some form) (Some (word, rest)) = Some (record { source = source; form = form; word = word; rest = rest })
 place_with source (Some form) None = None
 place_with source None rest = None
 
--- a place with what it takes, and around a brace the sign of its form and the text after it (own)
+-- A place with what it takes, and around a brace the sign of its form and the text after it. (own)
 abbrev pub place_from : Option Source → Option (List ℕ × List ℕ) → Option Place
 place_from (Some source) (Some (sign, more)) = place_with source (form_of sign) (around 125 more)
 place_from (Some source) None = None
 place_from None more = None
 
--- the place that a text after a `$` begins with (own)
+-- The place that a text after a `$` begins with. (own)
 abbrev pub place_of : List ℕ → Option Place
 place_of [] = None
 place_of (b ∷ more) = place_from (source_of b) (around 123 more)

@@ -1,4 +1,4 @@
--- What AC_INIT sets (Autoconf's manual, "Initializing configure").
+-- What AC_INIT sets. (Autoconf's manual, "Initializing configure")
 use Rattle.std.specs.Prelude.{ℕ, ◌||◌, ◌==◌, List, [], ◌∷◌, ◌++◌, codes, if◌then◌else◌}
 use Rattle.meaning.specs.State.{State, with_variable, with_definition}
 

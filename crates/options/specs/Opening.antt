@@ -1,5 +1,5 @@
 -- The opening of a run: the variables and the settings that it begins with, from the environment and the arguments of a
--- command line (Autoconf's manual, "Running configure Scripts", "Setting Output Variables" and "Cache Files").
+-- command line. (Autoconf's manual, "Running configure Scripts", "Setting Output Variables" and "Cache Files")
 use Rattle.std.specs.Prelude.{◌≡◌, ℕ, Bool, true, false, ◌||◌, List, [], ◌∷◌, ◌++◌, map, filter, Option, Some, None, unwrap_or, Result, Ok, Err, fold, codes, if◌then◌else◌}
 use Rattle.std.specs.List.{flat_map, list_any}
 use Rattle.std.specs.Str.{bytes_eq}

@@ -1,5 +1,5 @@
--- Precious variables and a cache: what is in a cache holds only for the values that precious variables had in the run that
--- made it (Autoconf's manual, "Setting Output Variables" and "Cache Files").
+-- Precious variables and a cache: what is in a cache holds only for the values that precious variables had in the run
+-- that made it. (Autoconf's manual, "Setting Output Variables" and "Cache Files")
 use Rattle.std.specs.Prelude.{◌≡◌, ℕ, ◌+◌, List, [], ◌∷◌, ◌++◌, map, filter, length, Option, Some, None, option_map, option_to_list, unwrap_or, Bool, false, not, Result, Ok, Err, fold, codes, if◌then◌else◌}
 use Rattle.std.specs.List.{AllByRecursion}
 use Rattle.std.specs.Str.{bytes_eq}

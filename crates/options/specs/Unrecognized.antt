@@ -1,5 +1,5 @@
--- Options of features and packages that the source doesn't declare (Autoconf's manual, "Controlling Checking of
--- configure Options").
+-- Options of features and packages that the source doesn't declare. (Autoconf's manual, "Controlling Checking of
+-- configure Options")
 use Rattle.std.specs.Prelude.{ℕ, List, [], ◌∷◌, ◌++◌, Result, Ok, Err, codes, if◌then◌else◌}
 use Rattle.std.specs.List.{flat_map}
 use Rattle.std.specs.Str.{bytes_eq}

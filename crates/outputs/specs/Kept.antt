@@ -2,11 +2,11 @@
 use Rattle.std.specs.Prelude.{ℕ, ◌+◌, length}
 use Rattle.outputs.specs.Receipt.{Receipt}
 
--- its receipt, and the number of the put that it refuses; 0 if there is none (own)
+-- Its receipt, and the number of the put that it refuses; 0 if there is none. (own)
 pub record Kept : Type 0 where
   pub receipt : Receipt
   pub refuse : ℕ
 
--- the number of the next put, counted from 1: those before it were taken or refused (own)
+-- The number of the next put, counted from 1: those before it were taken or refused. (own)
 abbrev pub number_of : Receipt → ℕ
 number_of r = length r.handed + r.failures + 1

@@ -2,20 +2,20 @@
 use Rattle.std.specs.Prelude.{◌≡◌, ℕ, ◌+◌, ◌<◌, List, [], ◌∷◌, ◌++◌, length, take}
 use Rattle.outputs.specs.declared.thing.Thing.{Thing}
 
--- what was handed over, in order, and the number of puts that were refused (own)
+-- What was handed over, in order, and the number of puts that were refused. (own)
 pub record Receipt : Type 0 where
   pub handed : List Thing
   pub failures : ℕ
 
--- the receipt after a put that was taken (own)
+-- The receipt after a put that was taken. (own)
 abbrev pub with_thing : Receipt → Thing → Receipt
 with_thing r thing = record { handed = r.handed ++ thing ∷ []; failures = r.failures }
 
--- the receipt after puts that were all taken (own)
+-- The receipt after puts that were all taken. (own)
 abbrev pub with_things : Receipt → List Thing → Receipt
 with_things r things = record { handed = r.handed ++ things; failures = r.failures }
 
--- the receipt after a put that was refused (own)
+-- The receipt after a put that was refused. (own)
 abbrev pub with_refusal : Receipt → Receipt
 with_refusal r = record { handed = r.handed; failures = r.failures + 1 }
 

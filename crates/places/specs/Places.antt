@@ -3,19 +3,19 @@ use Rattle.std.specs.Prelude.{ℕ, ◌+◌, ◌-◌, min, Bool, not, List, lengt
 use Rattle.std.specs.List.{count_by, prefix_len, suffix_len}
 use Rattle.places.specs.declared.Place.{Place}
 
--- the byte is a newline, which ends its line (own)
+-- The byte is a newline, which ends its line. (own)
 abbrev pub is_newline : ℕ → Bool
 is_newline b = b == 10
 
--- the byte is no newline (own)
+-- The byte is no newline. (own)
 abbrev pub is_in_line : ℕ → Bool
 is_in_line b = not (b == 10)
 
--- the bytes before the offset, which are all if it is past the end (own)
+-- The bytes before the offset, which are all if it is past the end. (own)
 abbrev pub before : List ℕ → ℕ → List ℕ
 before text offset = take offset text
 
--- the bytes from the offset on, which are none if it is past the end (own)
+-- The bytes from the offset on, which are none if it is past the end. (own)
 abbrev pub from : List ℕ → ℕ → List ℕ
 from text offset = drop offset text
 
@@ -24,14 +24,14 @@ from text offset = drop offset text
 unfoldable pub place_of : List ℕ → ℕ → Place
 place_of text offset = record { line = count_by is_newline (before text offset) + 1; column = suffix_len is_in_line (before text offset) + 1 }
 
--- the offset of the first byte of the offset's line: that after the last newline before it (own)
+-- The offset of the first byte of the offset's line: that after the last newline before it. (own)
 unfoldable pub line_start : List ℕ → ℕ → ℕ
 line_start text offset = length (before text offset) - suffix_len is_in_line (before text offset)
 
--- the end of the offset's line: the first newline from the offset on, or the end of the text if there is none (own)
+-- The end of the offset's line: the first newline from the offset on, or the end of the text if there is none. (own)
 unfoldable pub line_end : List ℕ → ℕ → ℕ
 line_end text offset = min offset (length text) + prefix_len is_in_line (from text offset)
 
--- the offset's line, without its newline (own)
+-- The offset's line, without its newline. (own)
 unfoldable pub line_at : List ℕ → ℕ → List ℕ
 line_at text offset = slice_range text (line_start text offset) (line_end text offset)

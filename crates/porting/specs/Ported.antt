@@ -11,11 +11,11 @@ use Rattle.textcut.specs.Cuts.{parts}
 abbrev pub is_line_start : List ℕ → ℕ → Bool
 is_line_start text at = at == 0 || slice_index text (at - 1) == 10
 
--- a line of comment with these words
+-- A line of comment with these words.
 unfoldable pub comment_line : List ℕ → List ℕ
 comment_line words = codes "dnl acrun: " ++ words ++ 10 ∷ []
 
--- lines of comment, one for each line of these words
+-- Lines of comment, one for each line of these words.
 unfoldable pub comment : List ℕ → List ℕ
 comment words = flat_map comment_line (parts 10 words)
 

@@ -25,21 +25,21 @@ state_of end = record { vars = end.vars; defs = end.defs; messages = end.message
 
 -- A run over a crew, between two accounts, and what it leaves. (own)
 pub record Ran (window : ℕ) (run : Run) (before now : Account) (end : RunEnd) : Type 0 where
-  -- the account has its earlier events, and these after them
+  -- The account has its earlier events, and these after them.
   pub since : List CrewEvent
   pub events : now.events ≡ before.events ++ since
-  -- as many starts are attempted as jobs are asked for, and the n-th start, if it succeeds, has the n-th job
+  -- As many starts are attempted as jobs are asked for, and the n-th start, if it succeeds, has the n-th job.
   pub groups : List (List Job)
   pub attempts : now.attempts ≡ before.attempts + length (all_jobs groups)
   pub starts : StartsAre (all_jobs groups) before.attempts since
-  -- the run is played with the replies in the events, and leaves its end
+  -- The run is played with the replies in the events, and leaves its end.
   pub how : How
   pub meaning : play run (replies_in before.attempts (length (all_jobs groups)) since)
       ≡ record { how = how; state = state_of end; groups = groups }
   pub outcome : outcome_from how (first_refused (replies_in before.attempts (length (all_jobs groups)) since)) ≡ Some end.outcome
-  -- whenever a child ends, the window is full, unless the last job of a group was attempted; each start takes the least
-  -- free slot
+  -- Whenever a child ends, the window is full, unless the last job of a group was attempted; each start takes the least
+  -- free slot.
   pub fills : Fills window (EndsGroup before.attempts groups) 0 since
   pub least : TakesLeast before.events since
-  -- as many calls fail as there are refused replies
+  -- As many calls fail as there are refused replies.
   pub failures : now.failures ≡ before.failures + failures_in (replies_in before.attempts (length (all_jobs groups)) since)

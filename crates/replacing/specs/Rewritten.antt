@@ -3,7 +3,7 @@ use Rattle.std.specs.Prelude.{◌≡◌, ◌⊎◌, ℕ, ◌<◌, ◌≤◌, ◌
 use Rattle.std.specs.List.{list_all}
 use Rattle.sourcecalls.specs.Calls.{Call, calls_in}
 
--- a space, a tab, a carriage return or a newline
+-- A space, a tab, a carriage return or a newline.
 abbrev pub is_blank : ℕ → Bool
 is_blank b = b == 32 || b == 9 || b == 13 || b == 10
 

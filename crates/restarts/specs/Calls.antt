@@ -61,28 +61,28 @@ HasPlainPrecious script = AllByRecursion (λ name. is_mark name ≡ false) (list
 -- The source can be resumed, and has the form that the parser gives it: its commands, and the names
 -- of its tests. (own)
 pub record CanResume (script : Script) : Type 0 where
-  -- what `is_resumable` says of a source
+  -- What `is_resumable` says of a source.
   pub resumable : IsResumable script
-  -- what `parse` promises of each source
+  -- What `parse` promises of each source.
   pub commands : HasCommands script
-  -- the variables of AC_CHECK_PROG, AC_CHECK_PROGS and AC_PATH_PROG are shell names
+  -- The variables of AC_CHECK_PROG, AC_CHECK_PROGS and AC_PATH_PROG are shell names.
   pub names : HasTestNames script
-  -- what AC_ARG_VAR and AC_PROG_CC declare
+  -- What AC_ARG_VAR and AC_PROG_CC declare.
   pub precious : HasPlainPrecious script
 
 -- A call of such a source was run, and its cache is saved: the call names a cache, and the text is
 -- within the limit of cache texts. What it was given as its own cache, if anything, was saved by a
 -- call too. (own)
 pub record Saved (given : Given) (cache : Option (List ℕ)) (window : ℕ) (script : Script) (start : Start) (before now : Account) (report : Report) : Type 0 where
-  -- what is judged before anything is run
+  -- What is judged before anything is run.
   pub accepted : follows given cache ≡ Ok (Starts script start)
-  -- what `configure` promises of each report, also with a refused put
+  -- What `configure` promises of each report, also with a refused put.
   pub meant : IsMeant window script start before now report
   pub form : CanResume script
-  -- an argument names the cache
+  -- An argument names the cache.
   pub named : is_some start.cache_name ≡ true
   pub own : IsOwnCache cache
-  -- the length of the text that was handed over
+  -- The length of the text that was handed over.
   pub small : length (cache_text_of report.vars) ≤ limit
 
 -- The report tells of the run that begins so, under these replies, which are as many as its jobs.

@@ -21,19 +21,19 @@ use Rattle.restarts.specs.Calls.{Given, follows, replies_to, IsCutShort, Saved, 
 -- A first call was cut short, and the names of some tests are tested once. (own)
 pub record WasCut (given : Given) (cache : Option (List ℕ)) (window : ℕ) (script : Script) (start : Start) (before now : Account) (report : Report) : Type 0 where
   pub saved : Saved given cache window script start before now report
-  -- what the report says
+  -- What the report says.
   pub cut : IsCutShort report.outcome
-  -- AC_CACHE_CHECK and the tests of programs; this is a matter of the source
+  -- AC_CACHE_CHECK and the tests of programs; this is a matter of the source.
   pub alone : Alone script []
 
 -- A second call is given the same, with the cache that was saved, and is not cut short. A test that
 -- the first call completed, and whose value is not saved, gets the same replies again. `replies`
 -- are those of the first call. (own)
 pub record Again (given : Given) (window : ℕ) (script : Script) (start second : Start) (before now : Account) (first report : Report) (replies : List Reply) : Type 0 where
-  -- there is such a start by the law on second calls
+  -- There is such a start by the law on second calls.
   pub accepted : follows given (Some (cache_text_of first.vars)) ≡ Ok (Starts script second)
   pub meant : IsMeant window script second before now report
-  -- what the report says
+  -- What the report says.
   pub uncut : IsCutShort report.outcome → ⊥
   pub same : SameAgain script (record { first = opened start.vars; replies = replies; second = opened second.vars; again = replies_to before meant })
 

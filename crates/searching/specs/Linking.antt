@@ -1,4 +1,4 @@
--- Tests of libraries that have begun (Autoconf's manual, "Library Files").
+-- Tests of libraries that have begun. (Autoconf's manual, "Library Files")
 use Rattle.std.specs.Prelude.{ℕ, Bool, true, false, List, [], ◌∷◌, ◌++◌, Option, Some, None, codes, unwrap_or}
 use Rattle.shellword.specs.declared.part.Part.{Part}
 use Rattle.meaning.specs.Asking.{attempted}

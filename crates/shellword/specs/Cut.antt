@@ -10,21 +10,21 @@ use Rattle.shellword.specs.Text.{is_space, newline, ampersand, bar, ends_word, b
 use Rattle.shellword.specs.Scan.{scan}
 use Rattle.fallible.specs.Reading.{◌>>=◌}
 
--- the token of `&` at offset `at`, followed by this text, and the offset after it
+-- The token of `&` at offset `at`, followed by this text, and the offset after it.
 abbrev pub ampersand_at : ℕ → List ℕ → Result (Token × ℕ) ShellFault
 ampersand_at at bs = if begins_with ampersand bs then Ok (Join And (at + 2), at + 2) else Err (BadWord at)
 
--- the token of `|` at offset `at`, followed by this text, and the offset after it
+-- The token of `|` at offset `at`, followed by this text, and the offset after it.
 abbrev pub bar_at : Bool → ℕ → List ℕ → Result (Token × ℕ) ShellFault
 bar_at lone_bars at bs =
     if begins_with bar bs then Ok (Join Or (at + 2), at + 2)
     else (if lone_bars then Ok (Bar (at + 1), at + 1) else Err (BadWord at))
 
--- the word at the front, and the offset after it
+-- The word at the front, and the offset after it.
 abbrev pub word_at : ℕ → List ℕ → Result (Token × ℕ) ShellFault
 word_at at text = scan 0 Bare at text >>= λ r. Ok (Word r.0, r.1)
 
--- the token at the front of b ∷ bs, at offset `at`, where no space begins, and the offset after it
+-- The token at the front of b ∷ bs, at offset `at`, where no space begins, and the offset after it.
 unfoldable pub token_at : Bool → ℕ → ℕ → List ℕ → Result (Token × ℕ) ShellFault
 token_at lone_bars at b bs =
     if b == newline then Ok (Newline, at + 1)
@@ -33,7 +33,7 @@ token_at lone_bars at b bs =
     else (if ends_word b then Err (BadWord at)
     else word_at at (b ∷ bs))))
 
--- the tokens of a text at offset `at`, after `skip` bytes of the last token
+-- The tokens of a text at offset `at`, after `skip` bytes of the last token.
 unfoldable pub tokens_of : Bool → ℕ → ℕ → List ℕ → Result (List Token) ShellFault
 tokens_of lone_bars skip at [] = Ok []
 tokens_of lone_bars (suc k) at (b ∷ bs) = tokens_of lone_bars k (at + 1) bs

@@ -14,17 +14,17 @@ use Rattle.shellword.specs.Cut.{tokens_of}
 use Rattle.shellword.specs.Tokens.{is_newline}
 use Rattle.shellword.specs.Truth.{Joined, single, joined}
 
--- the element, or the error of a test at offset `at`
+-- The element, or the error of a test at offset `at`.
 abbrev pub element_or : ℕ → Option Element → Result Element ShellFault
 element_or at None = Err (BadTest at)
 element_or at (Some e) = Ok e
 
--- the test before a joint, if any, joined with an element
+-- The test before a joint, if any, joined with an element.
 abbrev pub with_element : Option (Joined × Joint) → Element → Joined
 with_element None e = single e
 with_element (Some before) e = joined before.0 before.1 e
 
--- the test up to the end of an element of these words, which begins at offset `at`
+-- The test up to the end of an element of these words, which begins at offset `at`.
 abbrev pub ended : Option (Joined × Joint) → List (List Part) → ℕ → Result Joined ShellFault
 ended before words at = element_or at (element_of words) >>= λ e. Ok (with_element before e)
 
@@ -38,6 +38,6 @@ joining before words at (Bar after ∷ ts) = Err (BadTest at)
 joining before [] at (Newline ∷ ts) = joining before [] at ts
 joining before (w ∷ ws) at (Newline ∷ ts) = if list_all is_newline ts then ended before (w ∷ ws) at else Err (BadTest at)
 
--- the test that a text is, or its error
+-- The test that a text is, or its error.
 unfoldable pub test_of : List ℕ → Result Joined ShellFault
 test_of text = tokens_of false 0 0 text >>= λ tokens. joining None [] 0 tokens

@@ -10,27 +10,27 @@ use Rattle.fallible.specs.Reading.{◌>>=◌}
 use Rattle.shellword.specs.Cut.{tokens_of}
 use Rattle.shellword.specs.Pieces.{pieces_of}
 
--- the error of a word as that of a list of patterns
+-- The error of a word as that of a list of patterns.
 abbrev pub in_pattern : ShellFault → ShellFault
 in_pattern (BadWord at) = BadPattern at
 in_pattern f = f
 
--- the pieces, or the error of a list of patterns at offset `at`
+-- The pieces, or the error of a list of patterns at offset `at`.
 abbrev pub pieces_or : ℕ → Option (List Piece) → Result (List Piece) ShellFault
 pieces_or at None = Err (BadPattern at)
 pieces_or at (Some pieces) = Ok pieces
 
--- the parts of a token that is a word
+-- The parts of a token that is a word.
 abbrev pub word_in : Token → Option (List Part)
 word_in (Word parts) = Some parts
 word_in t = None
 
--- the offset after a token that is a bar
+-- The offset after a token that is a bar.
 abbrev pub after_bar : Token → Option ℕ
 after_bar (Bar after) = Some after
 after_bar t = None
 
--- the patterns that tokens list, if an alternative begins at offset `at`
+-- The patterns that tokens list, if an alternative begins at offset `at`.
 unfoldable pub alternatives : ℕ → List Token → Result (List (List Piece)) ShellFault
 alternatives at [] = Err (BadPattern at)
 alternatives at (Word parts ∷ []) = pieces_or at (pieces_of parts) >>= λ pieces. Ok (pieces ∷ [])
@@ -38,11 +38,11 @@ alternatives at (Word parts ∷ Bar after ∷ ts) = pieces_or at (pieces_of part
 alternatives at (Word parts ∷ t ∷ ts) = pieces_or at (pieces_of parts) >>= λ pieces. Err (BadPattern at)
 alternatives at (t ∷ ts) = Err (BadPattern at)
 
--- the tokens, or their error as that of a list of patterns
+-- The tokens, or their error as that of a list of patterns.
 abbrev pub or_in_pattern : Result (List Token) ShellFault → Result (List Token) ShellFault
 or_in_pattern (Ok tokens) = Ok tokens
 or_in_pattern (Err f) = Err (in_pattern f)
 
--- the patterns that a text lists, or its error
+-- The patterns that a text lists, or its error.
 unfoldable pub patterns_of : List ℕ → Result (List (List Piece)) ShellFault
 patterns_of text = or_in_pattern (tokens_of true 0 0 text) >>= λ tokens. alternatives 0 tokens

@@ -6,12 +6,12 @@ use Rattle.shellword.specs.declared.pattern.Piece.TheVariants.{AnyBytes, OneByte
 use Rattle.shellword.specs.declared.matching.Step.{Step}
 use Rattle.shellword.specs.declared.matching.Step.TheVariants.{Star, Taken, End, Stuck}
 
--- some suffix of the text passes the test
+-- Some suffix of the text passes the test.
 abbrev pub some_rest : (List ℕ → Bool) → List ℕ → Bool
 some_rest test [] = test []
 some_rest test (b ∷ bs) = test (b ∷ bs) || some_rest test bs
 
--- whether the pattern matches the text
+-- Whether the pattern matches the text.
 unfoldable pub matching : List Piece → List ℕ → Bool
 matching [] [] = true
 matching [] (b ∷ bs) = false
@@ -21,11 +21,11 @@ matching (OneByte ∷ pieces) (b ∷ bs) = matching pieces bs
 matching (Byte c ∷ pieces) [] = false
 matching (Byte c ∷ pieces) (b ∷ bs) = (b == c) && matching pieces bs
 
--- whether one of the patterns matches the text
+-- Whether one of the patterns matches the text.
 abbrev pub matches_any : List (List Piece) → List ℕ → Bool
 matches_any patterns text = list_any (λ pattern. matching pattern text) patterns
 
--- the next step of the matcher if these pieces and this text are left
+-- The next step of the matcher if these pieces and this text are left.
 abbrev pub step_of : List Piece → List ℕ → Step
 step_of [] [] = End
 step_of [] (b ∷ bs) = Stuck

@@ -15,12 +15,12 @@ piece_of (Plain b) =
 piece_of (Quoted b) = Some (Byte b)
 piece_of (Variable name) = None
 
--- a piece before others, if all of them are pieces (own)
+-- A piece before others, if all of them are pieces. (own)
 abbrev pub with_piece : Option Piece → Option (List Piece) → Option (List Piece)
 with_piece (Some p) (Some ps) = Some (p ∷ ps)
 with_piece p ps = None
 
--- the pieces that all parts of a word form, if each forms one (own)
+-- The pieces that all parts of a word form, if each forms one. (own)
 abbrev pub pieces_of : List Part → Option (List Piece)
 pieces_of [] = Some []
 pieces_of (part ∷ parts) = with_piece (piece_of part) (pieces_of parts)

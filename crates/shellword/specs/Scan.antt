@@ -12,16 +12,16 @@ use Rattle.shellword.specs.declared.front.Front.{Front}
 use Rattle.shellword.specs.Text.{is_blank, is_parted, single_quote, backslash, dollar, backquote, open_brace, name_len, stands_alone}
 use Rattle.shellword.specs.Contexts.{is_over, is_quoted, is_special, escapes, escaped_part, byte_in, closes_brace}
 
--- a front of this part and length, with the context after it
+-- A front of this part and length, with the context after it.
 abbrev pub front : Option Part → ℕ → Context → Front
 front part len context = record { part = part; len = len; context = context }
 
--- the front of a backslash before this text
+-- The front of a backslash before this text.
 abbrev pub backslash_front : Context → List ℕ → Front
 backslash_front c [] = front (Some (byte_in c backslash)) 1 c
 backslash_front c (b ∷ bs) = if escapes c b then front (escaped_part c b) 2 c else front (Some (byte_in c backslash)) 1 c
 
--- the front of `$` before this text, which doesn't begin with a name
+-- The front of `$` before this text, which doesn't begin with a name.
 abbrev pub braced_front : ℕ → Context → List ℕ → Result Front ShellFault
 braced_front at c [] = Err (BadWord at)
 braced_front at c (b ∷ inside) =
@@ -29,19 +29,19 @@ braced_front at c (b ∷ inside) =
     then Ok (front (Some (Variable (take (name_len inside) inside))) (name_len inside + 3) c)
     else Err (BadWord at)
 
--- the front of `$` before this text
+-- The front of `$` before this text.
 abbrev pub dollar_front : ℕ → Context → List ℕ → Result Front ShellFault
 dollar_front at c text =
     if nat_lt 0 (name_len text) then Ok (front (Some (Variable (take (name_len text) text))) (name_len text + 1) c)
     else (if stands_alone text then Ok (front (Some (byte_in c dollar)) 1 c)
     else braced_front at c text)
 
--- the context after a quote that opens or closes
+-- The context after a quote that opens or closes.
 abbrev pub quote_context : Context → ℕ → Context
 quote_context Bare b = if b == single_quote then Single else Double
 quote_context c b = Bare
 
--- the front of b ∷ bs
+-- The front of b ∷ bs.
 unfoldable pub front_of : ℕ → Context → ℕ → List ℕ → Result Front ShellFault
 front_of at c b bs =
     if is_special c b then
@@ -51,7 +51,7 @@ front_of at c b bs =
     else Ok (front None 1 (quote_context c b)))))
     else Ok (front (Some (byte_in c b)) 1 c)
 
--- the end of a word or here text, which is an error in quotes
+-- The end of a word or here text, which is an error in quotes.
 abbrev pub close : Context → ℕ → Result (List Part × ℕ) ShellFault
 close c at = if is_quoted c then Err (BadWord at) else Ok ([], at)
 
@@ -64,14 +64,14 @@ scan zero c at (b ∷ bs) =
     if is_over c (b ∷ bs) then close c at
     else (front_of at c b bs >>= λ f. scan (f.len - 1) f.context (at + 1) bs >>= λ r. Ok (option_to_list f.part ++ r.0, r.1))
 
--- the parts of a text that is one word followed by blanks, or its error
+-- The parts of a text that is one word followed by blanks, or its error.
 unfoldable pub word_of : List ℕ → Result (List Part) ShellFault
 word_of text = scan 0 Bare 0 text >>= λ r. if list_all is_blank (drop r.1 text) then Ok r.0 else Err (BadWord r.1)
 
--- the word at the front of bare text and its length, or the error
+-- The word at the front of bare text and its length, or the error.
 unfoldable pub word_front_of : List ℕ → Result (List Part × ℕ) ShellFault
 word_front_of text = scan 0 Bare 0 text >>= λ r. if is_parted (drop r.1 text) then Ok r else Err (BadWord r.1)
 
--- the parts of a whole here text, or its error
+-- The parts of a whole here text, or its error.
 unfoldable pub here_of : List ℕ → Result (List Part) ShellFault
 here_of text = scan 0 Here 0 text >>= λ r. Ok r.0

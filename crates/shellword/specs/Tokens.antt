@@ -1,4 +1,4 @@
--- How a text is split into words and their separators (POSIX shell, 2.3).
+-- How a text is split into words and their separators. (POSIX shell, 2.3)
 use Rattle.std.specs.Prelude.{◌≡◌, ℕ, ◌+◌, Bool, true, false, List, [], ◌∷◌, drop}
 use Rattle.shellword.specs.declared.part.Part.{Part}
 use Rattle.shellword.specs.declared.token.Joint.TheVariants.{And, Or}
@@ -17,7 +17,7 @@ pub data IsToken : Bool → ℕ → List ℕ → Token → ℕ → Type 0 where
   a_word : {lone_bars : Bool} {at b n : ℕ} {text rest : List ℕ} {parts : List Part} → ends_word b ≡ false → AreWordParts (b ∷ text) parts rest → word_ends rest ≡ true → BeginsAt n rest (b ∷ text)
       → IsToken lone_bars at (b ∷ text) (Word parts) n
 
--- A text at offset `at` is split into these tokens, with spaces and tabs between them (POSIX shell, 2.3).
+-- A text at offset `at` is split into these tokens, with spaces and tabs between them. (POSIX shell, 2.3)
 pub data AreTokens : Bool → ℕ → List ℕ → List Token → Type 0 where
   no_more : {lone_bars : Bool} {at : ℕ} → AreTokens lone_bars at [] []
   space : {lone_bars : Bool} {at b : ℕ} {rest : List ℕ} {tokens : List Token} → is_space b ≡ true → AreTokens lone_bars (at + 1) rest tokens
@@ -25,12 +25,12 @@ pub data AreTokens : Bool → ℕ → List ℕ → List Token → Type 0 where
   next : {lone_bars : Bool} {at n : ℕ} {text : List ℕ} {t : Token} {tokens : List Token} → IsToken lone_bars at text t n
       → AreTokens lone_bars (at + n) (drop n text) tokens → AreTokens lone_bars at text (t ∷ tokens)
 
--- the token is a newline (own)
+-- The token is a newline. (own)
 abbrev pub is_newline : Token → Bool
 is_newline Newline = true
 is_newline t = false
 
--- the token is a lone bar (own)
+-- The token is a lone bar. (own)
 abbrev pub is_bar : Token → Bool
 is_bar (Bar after) = true
 is_bar t = false

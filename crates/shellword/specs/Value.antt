@@ -4,7 +4,7 @@ use Rattle.deftable.specs.Table.{value_of}
 use Rattle.shellword.specs.declared.part.Part.{Part}
 use Rattle.shellword.specs.declared.part.Part.TheVariants.{Plain, Quoted, Variable}
 
--- a value, or the empty text if there is none (own)
+-- A value, or the empty text if there is none. (own)
 abbrev pub or_empty : Option (List ℕ) → List ℕ
 or_empty None = []
 or_empty (Some value) = value
@@ -16,7 +16,7 @@ part_value vars (Plain b) = b ∷ []
 part_value vars (Quoted b) = b ∷ []
 part_value vars (Variable name) = or_empty (value_of vars name)
 
--- the values of the parts, joined (POSIX shell, 2.6)
+-- The values of the parts, joined. (POSIX shell, 2.6)
 unfoldable pub word_value : List Part → List (List ℕ × List ℕ) → List ℕ
 word_value [] vars = []
 word_value (part ∷ parts) vars = part_value vars part ++ word_value parts vars

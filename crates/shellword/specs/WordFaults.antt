@@ -1,4 +1,5 @@
--- The offset at which a word or a here text is rejected: correct parts come first, and then a byte that begins no part (own).
+-- The offset at which a word or a here text is rejected: correct parts come first, and then a byte that begins no part.
+-- (own)
 use Rattle.std.specs.Prelude.{◌≡◌, ℕ, true, false, List, [], ◌∷◌}
 use Rattle.std.specs.List.{list_all}
 use Rattle.shellword.specs.declared.fault.ShellFault.{ShellFault}
@@ -7,7 +8,7 @@ use Rattle.shellword.specs.declared.part.Part.{Part}
 use Rattle.shellword.specs.Text.{single_quote, double_quote, dollar, backquote, has_no, stands_alone, is_blank, word_ends, is_parted}
 use Rattle.shellword.specs.Word.{IsVariable, AreDoubleParts, IsWordPart, AreWordParts, IsHerePart, BeginsAt}
 
--- a backquote, or a `$` that is neither an ordinary byte nor the beginning of a variable (own)
+-- A backquote, or a `$` that is neither an ordinary byte nor the beginning of a variable. (own)
 pub data BeginsRefused : List ℕ → Type 0 where
   command : {rest : List ℕ} → BeginsRefused (backquote ∷ rest)
   expansion : {rest : List ℕ} → stands_alone rest ≡ false → ((name after : List ℕ) → IsVariable (dollar ∷ rest) name after → ⊥) → BeginsRefused (dollar ∷ rest)
@@ -21,30 +22,32 @@ pub data WordBreaks : List ℕ → List ℕ → Type 0 where
   in_double : {text rest : List ℕ} {parts : List Part} → AreDoubleParts text parts rest → BeginsRefused rest → WordBreaks (double_quote ∷ text) rest
   later : {text after rest : List ℕ} {first : List Part} → IsWordPart text first after → WordBreaks after rest → WordBreaks text rest
 
--- The text isn't a word: it is rejected at this offset, or the word ends there and something other than blanks follows (own).
+-- The text isn't a word: it is rejected at this offset, or the word ends there and something other than blanks follows.
+-- (own)
 pub data IsBadWord : List ℕ → ℕ → Type 0 where
   word_breaks : {text rest : List ℕ} {at : ℕ} → WordBreaks text rest → BeginsAt at rest text → IsBadWord text at
   goes_on : {text rest : List ℕ} {parts : List Part} {at : ℕ} → AreWordParts text parts rest → word_ends rest ≡ true → list_all is_blank rest ≡ false → BeginsAt at rest text
       → IsBadWord text at
 
--- Bare text has no word at its front: it is rejected at this offset, or the word ends there before one of & | < > ( ) (own).
+-- Bare text has no word at its front: it is rejected at this offset, or the word ends there before one of & | < > ( ).
+-- (own)
 pub data IsBadFront : List ℕ → ℕ → Type 0 where
   front_breaks : {text rest : List ℕ} {at : ℕ} → WordBreaks text rest → BeginsAt at rest text → IsBadFront text at
   operator : {text rest : List ℕ} {parts : List Part} {at : ℕ} → AreWordParts text parts rest → word_ends rest ≡ true → is_parted rest ≡ false → BeginsAt at rest text
       → IsBadFront text at
 
--- A here text is rejected before this rest of the text (own).
+-- A here text is rejected before this rest of the text. (own)
 pub data HereBreaks : List ℕ → List ℕ → Type 0 where
   refused : {text : List ℕ} → BeginsRefused text → HereBreaks text text
   later : {text after rest : List ℕ} {first : List Part} → IsHerePart text first after → HereBreaks after rest → HereBreaks text rest
 
--- The text isn't a here text, because of the byte at this offset (own).
+-- The text isn't a here text, because of the byte at this offset. (own)
 pub record IsBadHere (text : List ℕ) (at : ℕ) : Type 0 where
   pub rest : List ℕ
   pub breaks : HereBreaks text rest
   pub place : BeginsAt at rest text
 
--- an error with an offset that satisfies `Bad`, or out of memory (own)
+-- An error with an offset that satisfies `Bad`, or out of memory. (own)
 abbrev pub IsRefusal : (ℕ → Type 0) → ShellFault → Type 0
 IsRefusal Bad (BadWord at) = Bad at
 IsRefusal Bad OutOfMemory = Unit {0}

@@ -1,4 +1,4 @@
--- The form in which a text is shown on a terminal (own).
+-- The form in which a text is shown on a terminal. (own)
 use Rattle.std.specs.Prelude.{ℕ, ◌+◌, ◌-◌, ◌/◌, ◌%◌, ◌==◌, ◌&&◌, ◌||◌, nat_lt, nat_le, not, Bool, List, [], ◌∷◌, ◌++◌, fold, if◌then◌else◌}
 use Rattle.shown.specs.declared.awaited.Awaited.{Awaited}
 
@@ -18,8 +18,9 @@ nothing = record { low = 1; high = 0; more = 0 }
 abbrev pub continues : Awaited → ℕ → Bool
 continues w b = nat_le w.low b && nat_le b w.high
 
--- What is lacking after the first byte of a character of UTF-8. The characters 0x80 to 0x9f, which are control characters, are none
--- here. (The Unicode Standard, table 3-7, "Well-Formed UTF-8 Byte Sequences"; that control characters are none is own)
+-- What is lacking after the first byte of a character of UTF-8. The characters 0x80 to 0x9f, which are control
+-- characters, are none here. (The Unicode Standard, table 3-7, "Well-Formed UTF-8 Byte Sequences"; that control
+-- characters are none is own).
 unfoldable pub begun : ℕ → Awaited
 begun b =
     if nat_le 194 b && nat_le b 223
@@ -37,7 +38,7 @@ after w b =
     then (if w.more == 0 then nothing else record { low = 128; high = 191; more = w.more - 1 })
     else begun b
 
--- The control bytes, but newline and tab. (ECMA-48, 5.2 and 5.3)
+-- The control bytes, but newline and tab. (ECMA-48, 5.2 and 5.3).
 abbrev pub is_control : ℕ → Bool
 is_control b = (nat_lt b 32 && not (b == 9 || b == 10)) || (nat_le 127 b && nat_le b 159)
 

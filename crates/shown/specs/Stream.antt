@@ -1,4 +1,4 @@
--- What contracts see of a stream that shows (own).
+-- What contracts see of a stream that shows. (own)
 use Rattle.std.specs.Prelude.{ℕ, Bool, List, Option, None, if◌then◌else◌}
 use Rattle.shown.specs.declared.awaited.Awaited.{Awaited}
 

@@ -1,4 +1,4 @@
--- Which arguments of a call hold statements, by their indexes from 0 (Autoconf's manual, the sections of the macros).
+-- Which arguments of a call hold statements, by their indexes from 0. (Autoconf's manual, the sections of the macros)
 use Rattle.std.specs.Prelude.{ℕ, ◌+◌, ◌%◌, Bool, false, ◌&&◌, ◌||◌, ◌==◌, nat_lt}
 use Rattle.acmacros.specs.declared.macros.ChoiceMacro.{ChoiceMacro}
 use Rattle.acmacros.specs.declared.macros.ChoiceMacro.TheVariants.{If, Case}

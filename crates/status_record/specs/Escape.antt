@@ -2,15 +2,15 @@
 use Rattle.std.specs.Prelude.{ℕ, Bool, true, false, ◌==◌, List, [], ◌∷◌, ◌++◌, Option, Some, None, option_and_then, option_map, if◌then◌else◌}
 use Rattle.std.specs.List.{flat_map}
 
--- a byte of a value, as it is written in a line (own)
+-- A byte of a value, as it is written in a line. (own)
 unfoldable pub escaped_byte : ℕ → List ℕ
 escaped_byte b = if b == 92 then 92 ∷ 92 ∷ [] else (if b == 10 then 92 ∷ 110 ∷ [] else b ∷ [])
 
--- a value, as it is written in a line (own)
+-- A value, as it is written in a line. (own)
 abbrev pub escaped : List ℕ → List ℕ
 escaped value = flat_map escaped_byte value
 
--- the byte that a backslash and this byte are written for, or none if they are no escape (own)
+-- The byte that a backslash and this byte are written for, or none if they are no escape. (own)
 unfoldable pub byte_after_backslash : ℕ → Option ℕ
 byte_after_backslash b = if b == 92 then Some 92 else (if b == 110 then Some 10 else None)
 
@@ -21,11 +21,11 @@ with_byte true value b = option_map (λ m. (false, value ++ m ∷ [])) (byte_aft
 with_byte false value b =
     if b == 92 then Some (true, value) else (if b == 10 then None else Some (false, value ++ b ∷ []))
 
--- the value so far followed by that of the text, or none if the text is no escaped value (own)
+-- The value so far followed by that of the text, or none if the text is no escaped value. (own)
 unfoldable pub unescaped_from : Bool → List ℕ → List ℕ → Option (List ℕ)
 unescaped_from in_escape value [] = if in_escape then None else Some value
 unescaped_from in_escape value (b ∷ bs) = option_and_then (λ s. unescaped_from s.0 s.1 bs) (with_byte in_escape value b)
 
--- the value of a text that is an escaped value, and otherwise none (own)
+-- The value of a text that is an escaped value, and otherwise none. (own)
 abbrev pub unescaped : List ℕ → Option (List ℕ)
 unescaped text = unescaped_from false [] text

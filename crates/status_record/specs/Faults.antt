@@ -12,11 +12,11 @@ use Rattle.status_record.specs.declared.record.Record.{Record}
 use Rattle.status_record.specs.RecordText.{record_lines, IsRecord}
 use Rattle.status_record.specs.Reading.{last_of, front_of, IsTruncated}
 
--- the lines of the text, each of which a newline ends (own)
+-- The lines of the text, each of which a newline ends. (own)
 abbrev pub whole_lines : List ℕ → List (List ℕ)
 whole_lines text = front_of (parts 10 text)
 
--- the text after its last newline (own)
+-- The text after its last newline. (own)
 abbrev pub rest_of : List ℕ → List ℕ
 rest_of text = last_of (parts 10 text)
 
@@ -28,16 +28,16 @@ pub record IsNumber (number : List ℕ) : Type 0 where
   pub digits : list_all is_ascii_digit number ≡ true
   pub no_zeros : (more : List ℕ) → number ≡ 48 ∷ more → more ≡ []
 
--- the line is `acrun-record` and this number, with one space between them (own)
+-- The line is `acrun-record` and this number, with one space between them. (own)
 pub record IsVersion (line number : List ℕ) : Type 0 where
   pub line_is : line ≡ codes "acrun-record " ++ number
   pub is_number : IsNumber number
 
--- the text has no newline, or its first line is not `acrun-record` and a number (own)
+-- The text has no newline, or its first line is not `acrun-record` and a number. (own)
 pub record HasBadMagic (text : List ℕ) : Type 0 where
   pub no_version : (first number : List ℕ) (more : List (List ℕ)) → whole_lines text ≡ first ∷ more → ¬ (IsVersion first number)
 
--- the first line has a number that is neither 1 nor 2 (own)
+-- The first line has a number that is neither 1 nor 2. (own)
 pub record HasUnknownVersion (text : List ℕ) : Type 0 where
   pub first : List ℕ
   pub number : List ℕ
@@ -49,7 +49,7 @@ pub record HasUnknownVersion (text : List ℕ) : Type 0 where
 
 -- ---- the lines after it
 
--- the lines are the first of a record, or all its lines (own)
+-- The lines are the first of a record, or all its lines. (own)
 pub record BeginRecord (lines : List (List ℕ)) : Type 0 where
   pub whole : Record
   pub more : List (List ℕ)
@@ -63,7 +63,7 @@ pub record HasForms (r : Record) : Type 0 where
   pub files : AllByRecursion IsOutput r.files
   pub headers : AllByRecursion IsOutput r.headers
 
--- the lines are the first of a record, or all its lines, but for names that are given more than once (own)
+-- The lines are the first of a record, or all its lines, but for names that are given more than once. (own)
 pub record BeginButForNames (lines : List (List ℕ)) : Type 0 where
   pub whole : Record
   pub more : List (List ℕ)
@@ -106,7 +106,7 @@ pub record EndsEarly (text : List ℕ) : Type 0 where
   pub has_first : whole_lines text ≢ []
   pub truncated : IsTruncated (whole_lines text)
 
--- the text is no record, and this is its first fault (own)
+-- The text is no record, and this is its first fault. (own)
 pub data IsRecordFault (text : List ℕ) : RecordFault → Type 0 where
   bad_magic : HasBadMagic text → IsRecordFault text BadMagic
   unknown_version : HasUnknownVersion text → IsRecordFault text UnknownVersion

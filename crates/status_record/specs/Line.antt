@@ -6,45 +6,45 @@ use Rattle.outputlist.specs.declared.output.Output.{Output}
 use Rattle.status_record.specs.Escape.{escaped, unescaped}
 use Rattle.outputlist.specs.Path.{is_path}
 
--- the lines, each followed by a newline (own)
+-- The lines, each followed by a newline. (own)
 abbrev pub ended : List (List ℕ) → List ℕ
 ended lines = flat_map (λ l. l ++ 10 ∷ []) lines
 
--- two fields, with one space between them (own)
+-- Two fields, with one space between them. (own)
 abbrev pub two_fields : List ℕ → List ℕ → List ℕ
 two_fields first second = first ++ 32 ∷ second
 
--- the fields of a variable or a definition: NAME VALUE (own)
+-- The fields of a variable or a definition: NAME VALUE. (own)
 abbrev pub entry_fields : (List ℕ × List ℕ) → List ℕ
 entry_fields e = two_fields e.0 (escaped e.1)
 
--- the fields of an output: NAME TEMPLATE (own)
+-- The fields of an output: NAME TEMPLATE. (own)
 abbrev pub output_fields : Output → List ℕ
 output_fields o = two_fields (escaped o.name) (escaped o.template)
 
--- the text after the prefix, or none if the text doesn't begin with it (own)
+-- The text after the prefix, or none if the text doesn't begin with it. (own)
 unfoldable pub after_prefix : List ℕ → List ℕ → Option (List ℕ)
 after_prefix [] text = Some text
 after_prefix (p ∷ prefix) [] = None
 after_prefix (p ∷ prefix) (b ∷ bs) = if b == p then after_prefix prefix bs else None
 
--- the text before the first space and that after it, or none if there is no space (own)
+-- The text before the first space and that after it, or none if there is no space. (own)
 abbrev pub cut : List ℕ → Option (List ℕ × List ℕ)
 cut fields = option_map (λ i. (take i fields, drop (i + 1) fields)) (position (λ b. b == 32) fields)
 
--- the name and the value of two fields, or none if they aren't a shell name and an escaped value (own)
+-- The name and the value of two fields, or none if they aren't a shell name and an escaped value. (own)
 abbrev pub entry_of : (List ℕ × List ℕ) → Option (List ℕ × List ℕ)
 entry_of f = if is_shell_name_of f.0 then option_map (λ v. (f.0, v)) (unescaped f.1) else None
 
--- the name and the value of a text NAME VALUE, and otherwise none (own)
+-- The name and the value of a text NAME VALUE, and otherwise none. (own)
 unfoldable pub entry_in : List ℕ → Option (List ℕ × List ℕ)
 entry_in fields = option_and_then entry_of (cut fields)
 
--- the output of a name and a template, or none if one of them is no path (own)
+-- The output of a name and a template, or none if one of them is no path. (own)
 abbrev pub output_of : List ℕ → List ℕ → Option Output
 output_of name template = if is_path name && is_path template then Some (record { name = name; template = template }) else None
 
--- the output of a text NAME TEMPLATE, and otherwise none (own)
+-- The output of a text NAME TEMPLATE, and otherwise none. (own)
 unfoldable pub output_in : List ℕ → Option Output
 output_in fields =
     option_and_then (λ f. option_and_then (λ name. option_and_then (output_of name) (unescaped f.1)) (unescaped f.0)) (cut fields)

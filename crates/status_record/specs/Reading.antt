@@ -27,28 +27,28 @@ Fails f read = read ≡ Err f
 abbrev pub Gives : {X Y : Type 0} → (X → Y) → Result X RecordFault → Result Y RecordFault → Type 0
 Gives view given read = GivesBy Fails view given read
 
--- the value, or a bad line of this number if there is none (own)
+-- The value, or a bad line of this number if there is none. (own)
 abbrev pub or_bad : {A : Type 0} → ℕ → Option A → Result A RecordFault
 or_bad n None = Err (BadLine n)
 or_bad n (Some x) = Ok x
 
--- the function of the text, or the other value if there is no text (own)
+-- The function of the text, or the other value if there is no text. (own)
 abbrev pub either : {X : Type 0} → Option (List ℕ) → (List ℕ → X) → X → X
 either None f other = other
 either (Some t) f other = f t
 
--- what was read, the number of lines before those that are left, and the lines that are left (own)
+-- What was read, the number of lines before those that are left, and the lines that are left. (own)
 abbrev pub Read : Type 0 → Type 0
 Read A = A × (ℕ × List (List ℕ))
 
 -- ---- lines of one kind
 
--- the items and that of the fields of line n, unless it has the name of one before (own)
+-- The items and that of the fields of line n, unless it has the name of one before. (own)
 abbrev pub with_item : {A : Type 0} → (List ℕ → Option A) → (List A → A → Bool) → List A → ℕ → List ℕ → Result (List A) RecordFault
 with_item read is_given items n fields =
     or_bad n (read fields) >>= λ x. (if is_given items x then Err (DuplicateName n) else Ok (items ++ x ∷ []))
 
--- the items and those of the lines at the front that begin with the keyword, after n lines (own)
+-- The items and those of the lines at the front that begin with the keyword, after n lines. (own)
 unfoldable pub several : {A : Type 0} → List ℕ → (List ℕ → Option A) → (List A → A → Bool) → List A → ℕ → List (List ℕ) → Result (Read (List A)) RecordFault
 several keyword read is_given items n [] = Ok (items, (n, []))
 several keyword read is_given items n (line ∷ more) =
@@ -56,55 +56,55 @@ several keyword read is_given items n (line ∷ more) =
     (λ fields. with_item read is_given items (n + 1) fields >>= λ now. several keyword read is_given now (n + 1) more)
     (Ok (items, (n, line ∷ more)))
 
--- whether an entry has the name (own)
+-- Whether an entry has the name. (own)
 abbrev pub is_entry : List (List ℕ × List ℕ) → (List ℕ × List ℕ) → Bool
 is_entry entries e = has_name (names_of entries) e.0
 
--- whether an output has the name, or it is one of the names before (own)
+-- Whether an output has the name, or it is one of the names before. (own)
 abbrev pub is_output : List (List ℕ) → List Output → Output → Bool
 is_output before outputs o = has_name (before ++ output_names outputs) o.name
 
--- the variables or the definitions, after n lines (own)
+-- The variables or the definitions, after n lines. (own)
 abbrev pub entries_in : List ℕ → ℕ → List (List ℕ) → Result (Read (List (List ℕ × List ℕ))) RecordFault
 entries_in keyword n lines = several keyword entry_in is_entry [] n lines
 
--- the files or the headers, after n lines and outputs with the names before (own)
+-- The files or the headers, after n lines and outputs with the names before. (own)
 abbrev pub outputs_in : List ℕ → List (List ℕ) → ℕ → List (List ℕ) → Result (Read (List Output)) RecordFault
 outputs_in keyword before n lines = several keyword output_in (is_output before) [] n lines
 
--- no argument repeats another one (own)
+-- No argument repeats another one. (own)
 abbrev pub is_repeated : List (List ℕ) → List ℕ → Bool
 is_repeated args arg = false
 
--- the arguments, after the first two lines (own)
+-- The arguments, after the first two lines. (own)
 abbrev pub texts_in : List (List ℕ) → Result (Read (List (List ℕ))) RecordFault
 texts_in lines = several (codes "arg ") unescaped is_repeated [] 2 lines
 
--- the arguments after the first two lines, if the version has them (own)
+-- The arguments after the first two lines, if the version has them. (own)
 abbrev pub args_in : Version → List (List ℕ) → Result (Read (Option (List (List ℕ)))) RecordFault
 args_in First lines = Ok (None, (2, lines))
 args_in Second lines = texts_in lines >>= λ args. Ok (Some args.0, args.1)
 
 -- ---- a whole text
 
--- whether the text is a decimal number without leading zeros (own)
+-- Whether the text is a decimal number without leading zeros. (own)
 abbrev pub is_number : List ℕ → Bool
 is_number [] = false
 is_number (b ∷ []) = is_ascii_digit b
 is_number (b ∷ c ∷ more) = not (b == 48) && list_all is_ascii_digit (b ∷ c ∷ more)
 
--- whether the line is `acrun-record` and a number, with one space between them (own)
+-- Whether the line is `acrun-record` and a number, with one space between them. (own)
 abbrev pub is_magic : List ℕ → Bool
 is_magic line = either (after_prefix (codes "acrun-record ") line) is_number false
 
--- the version of the first line (own)
+-- The version of the first line. (own)
 unfoldable pub version_in : List ℕ → Result Version RecordFault
 version_in line =
     if bytes_eq line (codes "acrun-record 1") then Ok First
     else (if bytes_eq line (codes "acrun-record 2") then Ok Second
     else (if is_magic line then Err UnknownVersion else Err BadMagic))
 
--- the source directory of the second line (own)
+-- The source directory of the second line. (own)
 unfoldable pub srcdir_in : List ℕ → Result (List ℕ) RecordFault
 srcdir_in line = either (after_prefix (codes "srcdir ") line) (λ value. or_bad 2 (unescaped value)) (Err (BadLine 2))
 
@@ -115,7 +115,7 @@ ending rest n (line ∷ []) =
     if bytes_eq line (codes "end") then (if length rest == 0 then Ok tt else Err (BadLine (n + 2))) else Err (BadLine (n + 1))
 ending rest n (line ∷ next ∷ more) = if bytes_eq line (codes "end") then Err (BadLine (n + 2)) else Err (BadLine (n + 1))
 
--- the lines after the second, and the text after the last newline (own)
+-- The lines after the second, and the text after the last newline. (own)
 unfoldable pub body_in : List ℕ → Version → List ℕ → List (List ℕ) → Result Record RecordFault
 body_in rest version srcdir lines = do
   args ← args_in version lines
@@ -126,7 +126,7 @@ body_in rest version srcdir lines = do
   _ ← ending rest headers.1.0 headers.1.1
   Ok (record { srcdir = srcdir; args = args.0; vars = vars.0; defs = defs.0; files = files.0; headers = headers.0 })
 
--- the lines that a newline ends, and the text after the last newline (own)
+-- The lines that a newline ends, and the text after the last newline. (own)
 unfoldable pub lines_in : List ℕ → List (List ℕ) → Result Record RecordFault
 lines_in rest [] = Err BadMagic
 lines_in rest (first ∷ []) = version_in first >>= λ _. Err Truncated
@@ -135,23 +135,23 @@ lines_in rest (first ∷ second ∷ more) = do
   srcdir ← srcdir_in second
   body_in rest version srcdir more
 
--- the last of several texts (own)
+-- The last of several texts. (own)
 unfoldable pub last_of : List (List ℕ) → List ℕ
 last_of [] = []
 last_of (x ∷ []) = x
 last_of (x ∷ y ∷ more) = last_of (y ∷ more)
 
--- the texts before the last (own)
+-- The texts before the last. (own)
 unfoldable pub front_of : List (List ℕ) → List (List ℕ)
 front_of [] = []
 front_of (x ∷ []) = []
 front_of (x ∷ y ∷ more) = x ∷ front_of (y ∷ more)
 
--- the record of a text, or the text's first fault (own)
+-- The record of a text, or the text's first fault. (own)
 unfoldable pub record_in : List ℕ → Result Record RecordFault
 record_in text = lines_in (last_of (parts 10 text)) (front_of (parts 10 text))
 
--- the lines are the first of a record that has more (own)
+-- The lines are the first of a record that has more. (own)
 pub record IsTruncated (lines : List (List ℕ)) : Type 0 where
   pub whole : Record
   pub next : List ℕ

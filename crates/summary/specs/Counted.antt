@@ -1,4 +1,4 @@
--- What contracts see of a stream whose checks are counted (own).
+-- What contracts see of a stream whose checks are counted. (own)
 use Rattle.std.specs.Prelude.{ℕ, List, fold}
 use Rattle.summary.specs.declared.tally.Tally.{Tally}
 

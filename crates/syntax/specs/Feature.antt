@@ -1,5 +1,5 @@
--- Names of optional features and packages, and the variables of their options (Autoconf's manual, "Choosing Package
--- Options" and "External Software"; that a name isn't empty is own).
+-- Names of optional features and packages, and the variables of their options. (Autoconf's manual, "Choosing Package
+-- Options" and "External Software"; that a name isn't empty is own)
 use Rattle.std.specs.Prelude.{ℕ, Bool, not, ◌&&◌, ◌||◌, ◌==◌, List, ◌++◌, map, codes, if◌then◌else◌}
 use Rattle.std.specs.Char.{is_ascii_alphanumeric}
 use Rattle.std.specs.List.{list_all}

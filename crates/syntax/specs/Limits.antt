@@ -1,4 +1,4 @@
--- The limits of a source's lists (own).
+-- The limits of a source's lists. (own)
 use Rattle.std.specs.Prelude.{◌≡◌, ℕ, ◌≤◌, true, List, length}
 use Rattle.deftable.specs.NameList.{has_name, AreDistinct}
 use Rattle.outputlist.specs.Output.{AreOutputs}

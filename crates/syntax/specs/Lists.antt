@@ -1,5 +1,5 @@
--- How far a source is after its statements, and the lists that they declare, also in cases that a run does not take
--- (Autoconf's manual, the sections of the macros; that files count in every case is own).
+-- How far a source is after its statements, and the lists that they declare, also in cases that a run does not take.
+-- (Autoconf's manual, the sections of the macros; that files count in every case is own)
 use Rattle.std.specs.Prelude.{ℕ, List, [], ◌∷◌, ◌++◌, codes}
 use Rattle.deftable.specs.NameList.{with_name}
 use Rattle.syntax.specs.declared.declarations.Declarations as declarations

@@ -1,4 +1,4 @@
--- The names of tests, under which their values are cached (Autoconf's manual, "Cache Variable Names").
+-- The names of tests, under which their values are cached. (Autoconf's manual, "Cache Variable Names")
 use Rattle.std.specs.Prelude.{ℕ, List, ◌++◌, map, codes}
 use Rattle.deftable.specs.ShellName.{IsShellName}
 use Rattle.m4quote.specs.Names.{sh_byte}

@@ -4,11 +4,11 @@ use Rattle.std.specs.Prelude.{◌≡◌, ℕ, zero, suc, ◌==◌, List, [], ◌
 use Rattle.std.specs.Option.{option_map_or}
 use Rattle.deftable.specs.Table.{value_of}
 
--- the byte `@` (Autoconf's manual, "Setting Output Variables")
+-- The byte `@`. (Autoconf's manual, "Setting Output Variables")
 abbrev pub at_sign : ℕ
 at_sign = 64
 
--- the text begins with a key between two `@` (Autoconf's manual, "Setting Output Variables")
+-- The text begins with a key between two `@`. (Autoconf's manual, "Setting Output Variables")
 pub record BeginsWithKey (es : List (List ℕ × List ℕ)) (text : List ℕ) : Type 0 where
   pub key : List ℕ
   pub value : List ℕ
@@ -26,27 +26,27 @@ pub data Fills (es : List (List ℕ × List ℕ)) : List ℕ → List ℕ → Ty
 
 -- ---- the same as a function
 
--- the bytes before the first `@`, if there is one (own)
+-- The bytes before the first `@`, if there is one. (own)
 unfoldable pub before_at : List ℕ → Option (List ℕ)
 before_at [] = None
 before_at (b ∷ bs) = if b == at_sign then Some [] else option_map (λ k. b ∷ k) (before_at bs)
 
--- a key with its value, if the name is a key (own)
+-- A key with its value, if the name is a key. (own)
 abbrev pub entry_of : List (List ℕ × List ℕ) → List ℕ → Option (List ℕ × List ℕ)
 entry_of es k = option_map (λ v. (k, v)) (value_of es k)
 
--- the key between two `@` at the front of the text, with its value, if there is one (own)
+-- The key between two `@` at the front of the text, with its value, if there is one. (own)
 unfoldable pub key_at_front : List (List ℕ × List ℕ) → List ℕ → Option (List ℕ × List ℕ)
 key_at_front es [] = None
 key_at_front es (b ∷ bs) = if b == at_sign then option_and_then (entry_of es) (before_at bs) else None
 
--- the filled text after the first n bytes, which belong to a key that is already replaced (own)
+-- The filled text after the first n bytes, which belong to a key that is already replaced. (own)
 unfoldable pub filled_after : List (List ℕ × List ℕ) → ℕ → List ℕ → List ℕ
 filled_after es n [] = []
 filled_after es (suc n) (b ∷ bs) = filled_after es n bs
 filled_after es zero (b ∷ bs) =
     option_map_or (λ p. p.1 ++ filled_after es (suc (length p.0)) bs) (key_at_front es (b ∷ bs)) (b ∷ filled_after es 0 bs)
 
--- the filled text (own)
+-- The filled text. (own)
 abbrev pub filled : List (List ℕ × List ℕ) → List ℕ → List ℕ
 filled es text = filled_after es 0 text

@@ -6,28 +6,28 @@ use Rattle.deftable.specs.ShellName.{is_shell_name_of, continues_name}
 use Rattle.deftable.specs.Table.{value_of}
 use Rattle.template.specs.declared.header.Parts.{Parts}
 
--- a space or a tab (own)
+-- A space or a tab. (own)
 abbrev pub is_space : ℕ → Bool
 is_space b = b == 32 || b == 9
 
--- what a line says about a name: the spaces and tabs before and after its `#`, whether the keyword is `undef`, and the name
--- (Autoconf's manual, "Header Templates")
+-- What a line says about a name: the spaces and tabs before and after its `#`, whether the keyword is `undef`, and the
+-- name. (Autoconf's manual, "Header Templates")
 pub record Directive : Type 0 where
   pub indent : List ℕ
   pub gap : List ℕ
   pub is_undef : Bool
   pub name : List ℕ
 
--- what is before the keyword (own)
+-- What is before the keyword. (own)
 abbrev pub before : Directive → List ℕ
 before d = d.indent ++ 35 ∷ d.gap
 
--- `undef` or `define` (Autoconf's manual, "Header Templates")
+-- `undef` or `define`. (Autoconf's manual, "Header Templates")
 abbrev pub keyword : Bool → List ℕ
 keyword true = codes "undef"
 keyword false = codes "define"
 
--- whether a name may end before this text: it is empty, or begins with a space, a tab, `(` or the line's newline (own)
+-- Whether a name may end before this text: it is empty, or begins with a space, a tab, `(` or the line's newline. (own)
 abbrev pub ends_name : List ℕ → Bool
 ends_name [] = true
 ends_name (b ∷ bs) = is_space b || b == 40 || b == 10
@@ -45,15 +45,15 @@ pub record IsDirective (line : List ℕ) (d : Directive) : Type 0 where
   pub ends : ends_name rest ≡ true
   pub is_line : line ≡ d.indent ++ 35 ∷ (d.gap ++ (keyword d.is_undef ++ (space ++ (d.name ++ rest))))
 
--- the newline of a line, if it has one (own)
+-- The newline of a line, if it has one. (own)
 unfoldable pub newline_of : List ℕ → List ℕ
 newline_of line = if ends_with nat_eq line (codes "\n") then codes "\n" else []
 
--- the line that defines the name (Autoconf's manual, "Header Templates")
+-- The line that defines the name. (Autoconf's manual, "Header Templates")
 abbrev pub defined_line : Directive → List ℕ → List ℕ
 defined_line d value = before d ++ (codes "define " ++ (d.name ++ (codes " " ++ value)))
 
--- the comment that says that the name isn't defined (Autoconf's manual, "Header Templates")
+-- The comment that says that the name isn't defined. (Autoconf's manual, "Header Templates")
 abbrev pub undefined_line : Directive → List ℕ
 undefined_line d = codes "/* " ++ (before d ++ (codes "undef " ++ (d.name ++ codes " */")))
 
@@ -72,72 +72,72 @@ pub data AreMadeOf (defs : List (List ℕ × List ℕ)) : List (List ℕ) → Li
 
 -- ---- the same as a function
 
--- what a function gives for the value, or something else if there is none (own)
+-- What a function gives for the value, or something else if there is none. (own)
 abbrev pub either : {A B : Type 0} → Option A → (A → B) → B → B
 either None f otherwise = otherwise
 either (Some x) f otherwise = f x
 
--- the text after this front, or none if it doesn't begin with it (own)
+-- The text after this front, or none if it doesn't begin with it. (own)
 unfoldable pub rest_after : List ℕ → List ℕ → Option (List ℕ)
 rest_after front text = if bytes_eq (take (length front) text) front then Some (drop (length front) text) else None
 
--- the spaces and tabs at the front, and the text after them (own)
+-- The spaces and tabs at the front, and the text after them. (own)
 abbrev pub spaces_of : List ℕ → List ℕ
 spaces_of text = take (prefix_len is_space text) text
 
 abbrev pub after_spaces : List ℕ → List ℕ
 after_spaces text = drop (prefix_len is_space text) text
 
--- the letters, digits and `_` at the front, and the text after them (own)
+-- The letters, digits and `_` at the front, and the text after them. (own)
 abbrev pub word_of : List ℕ → List ℕ
 word_of text = take (prefix_len continues_name text) text
 
 abbrev pub after_word : List ℕ → List ℕ
 after_word text = drop (prefix_len continues_name text) text
 
--- the name at the front, if there is one that may end there (own)
+-- The name at the front, if there is one that may end there. (own)
 unfoldable pub name_at : List ℕ → Option (List ℕ)
 name_at text = if is_shell_name_of (word_of text) && ends_name (after_word text) then Some (word_of text) else None
 
--- the name after one or more spaces and tabs (own)
+-- The name after one or more spaces and tabs. (own)
 unfoldable pub name_after : List ℕ → Option (List ℕ)
 name_after text = if prefix_len is_space text == 0 then None else name_at (after_spaces text)
 
--- whether the keyword was `undef`, and the name after it (own)
+-- Whether the keyword was `undef`, and the name after it. (own)
 abbrev pub with_keyword : Bool → Option (List ℕ) → Option (Bool × List ℕ)
 with_keyword is_undef name = option_map (λ n. (is_undef, n)) name
 
--- whether the keyword at the front is `undef`, and the name after it (own)
+-- Whether the keyword at the front is `undef`, and the name after it. (own)
 unfoldable pub keyword_at : List ℕ → Option (Bool × List ℕ)
 keyword_at text =
     either (rest_after (keyword true) text) (λ rest. with_keyword true (name_after rest))
     (with_keyword false (option_and_then name_after (rest_after (keyword false) text)))
 
--- the directive of the text after a `#`, which is after this indent (own)
+-- The directive of the text after a `#`, which is after this indent. (own)
 unfoldable pub directive_after : List ℕ → List ℕ → Option Directive
 directive_after indent text =
     option_map (λ k. record { indent = indent; gap = spaces_of text; is_undef = k.0; name = k.1 }) (keyword_at (after_spaces text))
 
--- the directive of a line, if it has one (own)
+-- The directive of a line, if it has one. (own)
 unfoldable pub directive_of : List ℕ → Option Directive
 directive_of line = option_and_then (directive_after (spaces_of line)) (rest_after (codes "#") (after_spaces line))
 
--- the directive with these parts (own)
+-- The directive with these parts. (own)
 abbrev pub directive : Parts → Directive
 directive p = record { indent = p.indent.now; gap = p.gap.now; is_undef = p.is_undef; name = p.name.now }
 
--- the line of a name that isn't defined (own)
+-- The line of a name that isn't defined. (own)
 abbrev pub without_definition : Directive → List ℕ → List ℕ
 without_definition d line = if d.is_undef then undefined_line d ++ newline_of line else line
 
--- the line that is made of one with this directive (own)
+-- The line that is made of one with this directive. (own)
 abbrev pub changed : List (List ℕ × List ℕ) → List ℕ → Directive → List ℕ
 changed defs line d = either (value_of defs d.name) (λ value. defined_line d value ++ newline_of line) (without_definition d line)
 
--- the line that is made of a line (own)
+-- The line that is made of a line. (own)
 unfoldable pub headed_line : List (List ℕ × List ℕ) → List ℕ → List ℕ
 headed_line defs line = either (directive_of line) (changed defs line) line
 
--- the header that is made of a template (own)
+-- The header that is made of a template. (own)
 abbrev pub headed : List (List ℕ × List ℕ) → List ℕ → List ℕ
 headed defs text = flat_map (headed_line defs) (lines_of text)

@@ -3,26 +3,26 @@ use Rattle.std.specs.Prelude.{◌≡◌, ℕ, ◌+◌, ◌<◌, ◌≤◌, Bool,
 use Rattle.std.specs.List.{AllByRecursion}
 use Rattle.template.specs.Fill.{at_sign, filled}
 
--- no byte is `@` (own)
+-- No byte is `@`. (own)
 abbrev pub HasNoAt : List ℕ → Type 0
 HasNoAt s = AllByRecursion (λ b. (b == at_sign) ≡ false) s
 
--- the byte at this offset is `@` (own)
+-- The byte at this offset is `@`. (own)
 abbrev pub HasAt : List ℕ → ℕ → Type 0
 HasAt text at = drop at text ≡ at_sign ∷ drop (at + 1) text
 
--- the first `@` from the offset `from` on is at the offset `at` (own)
+-- The first `@` from the offset `from` on is at the offset `at`. (own)
 pub record HasNextAt (text : List ℕ) (from at : ℕ) : Type 0 where
   pub low : from ≤ at
   pub high : at < length text
   pub clean : HasNoAt (slice_range text from at)
   pub there : HasAt text at
 
--- the offset up to which the text has been read: an open `@` at `last` has been read (own)
+-- The offset up to which the text has been read: an open `@` at `last` has been read. (own)
 abbrev pub read_to : ℕ → Bool → ℕ
 read_to last opened = if opened then last + 1 else last
 
--- what may follow an open `@` and the text after it: nothing, or a text that begins with `@` (own)
+-- What may follow an open `@` and the text after it: nothing, or a text that begins with `@`. (own)
 abbrev pub MayFollow : List ℕ → Type 0
 MayFollow [] = Unit {0}
 MayFollow (b ∷ bs) = b ≡ at_sign

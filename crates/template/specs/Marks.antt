@@ -3,12 +3,12 @@ use Rattle.std.specs.Prelude.{◌≡◌, ℕ, ◌+◌, ◌<◌, ◌≤◌, List,
 use Rattle.std.specs.Int.{bit_at}
 use Rattle.template.specs.Fill.{at_sign}
 
--- no `@` is at an offset from i up to j (own)
+-- No `@` is at an offset from i up to j. (own)
 abbrev pub IsClear : List ℕ → ℕ → ℕ → Type 0
 IsClear text i j = (k : ℕ) → i ≤ k → k < j → ¬ (slice_index text k ≡ at_sign)
 
 -- A window on the text from `base` to `end`: no `@` is between `from` and `base`, and bit k of `marks` is set if and
--- only if an `@` is at `base + k` in the window, at or after `from` (own).
+-- only if an `@` is at `base + k` in the window, at or after `from`. (own)
 pub record IsWindow (text : List ℕ) (base end marks from : ℕ) : Type 0 where
   pub reached : from ≤ end
   pub ordered : base ≤ end

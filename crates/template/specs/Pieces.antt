@@ -4,12 +4,12 @@ use Rattle.std.specs.List.{starts_with}
 use Rattle.deftable.specs.Table.{value_of}
 use Rattle.template.specs.Fill.{at_sign, filled}
 
--- what a filler has: the entries of its table, and what it holds of the text so far (own)
+-- What a filler has: the entries of its table, and what it holds of the text so far. (own)
 pub record FillerState : Type 0 where
   pub entries : List (List ℕ × List ℕ)
   pub held : List ℕ
 
--- an `@` and the front of a key (own)
+-- An `@` and the front of a key. (own)
 pub record OpensKey (es : List (List ℕ × List ℕ)) (held : List ℕ) : Type 0 where
   pub front : List ℕ
   pub rest : List ℕ
@@ -17,7 +17,7 @@ pub record OpensKey (es : List (List ℕ × List ℕ)) (held : List ℕ) : Type 
   pub opens : held ≡ at_sign ∷ front
   pub is_key : value_of es (front ++ rest) ≡ Some value
 
--- what may be held: nothing, or an `@` and the front of a key (own)
+-- What may be held: nothing, or an `@` and the front of a key. (own)
 abbrev pub MayBeHeld : List (List ℕ × List ℕ) → List ℕ → Type 0
 MayBeHeld es held = (held ≡ []) ⊎ OpensKey es held
 
@@ -47,12 +47,12 @@ pub data FeedsAll (es : List (List ℕ × List ℕ)) : List ℕ → List (List �
 
 -- ---- the same as a function
 
--- whether the text is the front of a key (own)
+-- Whether the text is the front of a key. (own)
 abbrev pub begins_key : List (List ℕ × List ℕ) → List ℕ → Bool
 begins_key [] text = false
 begins_key (e ∷ es) text = starts_with nat_eq e.0 text || begins_key es text
 
--- whether the text may be held (own)
+-- Whether the text may be held. (own)
 abbrev pub may_be_held : List (List ℕ × List ℕ) → List ℕ → Bool
 may_be_held es [] = true
 may_be_held es (b ∷ bs) = b == at_sign && begins_key es bs

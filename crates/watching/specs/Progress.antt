@@ -1,4 +1,4 @@
--- The line of progress, and what is written after a list of events (own).
+-- The line of progress, and what is written after a list of events. (own)
 use Rattle.std.specs.Prelude.{ℕ, ◌+◌, ◌==◌, List, [], ◌∷◌, ◌++◌, codes, decimal, fold, if◌then◌else◌}
 use Rattle.crew_trait.specs.declared.event.CrewEvent.{CrewEvent}
 use Rattle.crew_trait.specs.declared.event.CrewEvent.TheVariants.{Started, Ended}
@@ -9,12 +9,12 @@ use Rattle.watching.specs.Subject.{subject_of}
 unfoldable pub line_of : ℕ → ℕ → List ℕ → List ℕ
 line_of started ended subject = shown (decimal started ++ codes " started, " ++ decimal ended ++ codes " ended:" ++ subject)
 
--- A carriage return and the control sequence `EL`: the line on which the cursor is, is empty. (ECMA-48, 8.3.41)
+-- A carriage return and the control sequence `EL`: the line on which the cursor is, is empty. (ECMA-48, 8.3.41).
 abbrev pub erasure : List ℕ
 erasure = 13 ∷ 27 ∷ 91 ∷ 75 ∷ []
 
--- The control sequences after which a line that is wider than the terminal is cut at its edge, and after which it is continued
--- below. (DEC's private mode 7, autowrap)
+-- The control sequences after which a line that is wider than the terminal is cut at its edge, and after which it is
+-- continued below. (DEC's private mode 7, autowrap).
 abbrev pub wrapping_off : List ℕ
 wrapping_off = 27 ∷ 91 ∷ 63 ∷ 55 ∷ 108 ∷ []
 

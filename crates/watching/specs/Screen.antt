@@ -1,4 +1,4 @@
--- What a line of a terminal is given of a text (own).
+-- What a line of a terminal is given of a text. (own)
 use Rattle.std.specs.Prelude.{◌≡◌, ℕ, ◌-◌, ◌≤◌, ◌&&◌, nat_le, Bool, true, false, List, [], ◌∷◌, ◌++◌, flat_map, length, if◌then◌else◌}
 use Rattle.shown.specs.Form.{escape}
 

@@ -1,4 +1,4 @@
--- What a line of progress says of a job (own).
+-- What a line of progress says of a job. (own)
 use Rattle.std.specs.Prelude.{ℕ, ◌-◌, ◌==◌, List, ◌∷◌, ◌++◌, Option, Some, None, bytes_eq, codes, drop, flat_map, length, option_and_then, option_map, take, unwrap_or, if◌then◌else◌}
 use Rattle.std.specs.List.{after_last}
 use Rattle.std.specs.Option.{option_or}

@@ -1,4 +1,4 @@
--- What contracts see of a watched crew (own).
+-- What contracts see of a watched crew. (own)
 use Rattle.std.specs.Prelude.{◌≡◌, ℕ, ◌+◌, ◌≤◌, Bool, List, length}
 use Rattle.crew_trait.specs.Events.{Account}
 use Rattle.crew.specs.Sound.{ListsBusy}
