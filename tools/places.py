@@ -18,7 +18,7 @@ import sys
 DOCUMENT = pathlib.Path("docs/architecture.md")
 BEGIN, END = "<!-- tools/places.py writes what follows -->", "<!-- up to here -->"
 WIDTH = 116
-CASES = ["crates/cases/data"]
+CASES = ["crates/case_tests/data"]
 PAGE = ["docs/language.md", "CHANGELOG.md"]
 MACRO = [*CASES, *PAGE, "docs/guide.md", "README.md", "crates/macrotable/macros.txt"]
 LINT = ["examples/lint/sources.txt", "examples/lint/expected.txt"]
@@ -50,7 +50,7 @@ KINDS = [
 
 def is_test(file):
     """Returns whether a file is of a crate that tests others."""
-    return bool(re.search(r"/(?:\w+_tests|cases)/", str(file)))
+    return bool(re.search(r"/\w+_tests/", str(file)))
 
 
 @functools.cache

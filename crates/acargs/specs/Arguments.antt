@@ -18,13 +18,13 @@ abbrev pub text : Span → Result (List ℕ) ParseFault
 text arg = quoted_at arg.at (used arg.text)
 
 -- The used text without the blanks at its ends. (own)
-unfoldable pub bare_text : Span → Result (List ℕ) ParseFault
-bare_text arg = text arg >>= λ t. Ok (trimmed t)
+unfoldable pub trimmed_text : Span → Result (List ℕ) ParseFault
+trimmed_text arg = text arg >>= λ t. Ok (trimmed t)
 
 -- A shell name or a C identifier, which have the same form. (POSIX, "Name")
 unfoldable pub name : Span → Result (List ℕ) ParseFault
 name arg = do
-  t ← bare_text arg
+  t ← trimmed_text arg
   _ ← wants (is_shell_name_of t) (BadName arg.at)
   Ok t
 
@@ -38,7 +38,7 @@ cache_name arg = do
 -- A text on one line, without the blanks at its ends. (own)
 unfoldable pub title : Span → Result (List ℕ) ParseFault
 title arg = do
-  t ← bare_text arg
+  t ← trimmed_text arg
   _ ← wants (is_line t) (BadName arg.at)
   Ok t
 

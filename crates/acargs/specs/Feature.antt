@@ -4,7 +4,7 @@ use Rattle.std.specs.Prelude.{ℕ, List, Result, Ok}
 use Rattle.m4quote.specs.Entry.{Span}
 use Rattle.syntax.specs.Feature.{is_feature, option_variable}
 use Rattle.syntax.specs.declared.feature.OptionKind.{OptionKind}
-use Rattle.acargs.specs.Arguments.{bare_text}
+use Rattle.acargs.specs.Arguments.{trimmed_text}
 use Rattle.acstatement.specs.Reading.{◌>>=◌, wants}
 use Rattle.acstatement.specs.declared.fault.ParseFault.{ParseFault}
 use Rattle.acstatement.specs.declared.fault.ParseFault.TheVariants.{BadName}
@@ -12,6 +12,6 @@ use Rattle.acstatement.specs.declared.fault.ParseFault.TheVariants.{BadName}
 -- The variable of the option that an argument names. (Autoconf's manual, "Choosing Package Options")
 unfoldable pub feature_variable : OptionKind → Span → Result (List ℕ) ParseFault
 feature_variable kind arg = do
-  t ← bare_text arg
+  t ← trimmed_text arg
   _ ← wants (is_feature t) (BadName arg.at)
   Ok (option_variable kind t)

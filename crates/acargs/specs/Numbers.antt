@@ -7,7 +7,7 @@ use Rattle.m4quote.specs.Entry.{Span}
 use Rattle.textcut.specs.Cuts.{parts}
 use Rattle.acstatement.specs.declared.fault.ParseFault.{ParseFault}
 use Rattle.acstatement.specs.declared.fault.ParseFault.TheVariants.{BadName, NewerVersion}
-use Rattle.acargs.specs.Arguments.{text, bare_text}
+use Rattle.acargs.specs.Arguments.{text, trimmed_text}
 use Rattle.acstatement.specs.Reading.{◌>>=◌, wants}
 use Rattle.syntax.specs.Texts.{is_empty}
 
@@ -61,6 +61,6 @@ status arg = do
 -- The name of the one language that is read. (own)
 unfoldable pub language : Span → Result (Unit {0}) ParseFault
 language arg = do
-  t ← bare_text arg
+  t ← trimmed_text arg
   _ ← wants (bytes_eq t (codes "C")) (BadName arg.at)
   Ok tt

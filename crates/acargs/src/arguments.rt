@@ -37,9 +37,9 @@ pub fn is_given(alloc: Global, arg: Arg<'_>) -> Result<bool, AllocError>
 }
 
 /// Returns the used text of an argument without the blanks at its ends.
-#[tactic(auto, unfolding(crate::specs::Arguments::bare_text))]
-pub(crate) fn bare_text(alloc: Global, arg: Arg<'_>) -> Result<Bytes, ParseFault>
-    ensures { Gives (λ t. t) result (forms.bare_text (span arg.entry)) }
+#[tactic(auto, unfolding(crate::specs::Arguments::trimmed_text))]
+pub(crate) fn trimmed_text(alloc: Global, arg: Arg<'_>) -> Result<Bytes, ParseFault>
+    ensures { Gives (λ t. t) result (forms.trimmed_text (span arg.entry)) }
 {
     let text = text(alloc, arg)?;
     Ok(Bytes::from_slice(alloc, trim(text.as_slice()))?)
@@ -54,7 +54,7 @@ pub(crate) fn bare_text(alloc: Global, arg: Arg<'_>) -> Result<Bytes, ParseFault
 pub fn name(alloc: Global, arg: Arg<'_>) -> Result<Name, ParseFault>
     ensures { Gives (λ n. n) result (forms.name (span arg.entry)) }
 {
-    let text = bare_text(alloc, arg)?;
+    let text = trimmed_text(alloc, arg)?;
     match Name::new(text) {
         Some(name) => Ok(name),
         None => Err(ParseFault::BadName(arg.at)),
@@ -86,7 +86,7 @@ pub fn cache_name(alloc: Global, arg: Arg<'_>) -> Result<Name, ParseFault>
 pub fn title(alloc: Global, arg: Arg<'_>) -> Result<Bytes, ParseFault>
     ensures { Gives (λ t. t) result (forms.title (span arg.entry)) }
 {
-    let text = bare_text(alloc, arg)?;
+    let text = trimmed_text(alloc, arg)?;
     if !is_line(text.as_slice()) {
         return Err(ParseFault::BadName(arg.at));
     }

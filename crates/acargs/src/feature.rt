@@ -5,7 +5,7 @@ ghost use Rattle.m4quote.specs.Entry.{span};
 ghost use Rattle.acargs.specs.Feature as words;
 ghost use Rattle.acstatement.specs.Reading.{Gives};
 
-use crate::arguments::bare_text;
+use crate::arguments::trimmed_text;
 use acstatement::fault::ParseFault;
 use deftable::Name;
 use m4quote::Arg;
@@ -22,7 +22,7 @@ use syntax::{OptionKind, is_feature, option_variable};
 pub fn feature_variable(alloc: Global, kind: OptionKind, arg: Arg<'_>) -> Result<Name, ParseFault>
     ensures { Gives (λ n. n) result (words.feature_variable kind (span arg.entry)) }
 {
-    let text = bare_text(alloc, arg)?;
+    let text = trimmed_text(alloc, arg)?;
     if !is_feature(text.as_slice()) {
         return Err(ParseFault::BadName(arg.at));
     }

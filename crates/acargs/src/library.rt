@@ -7,7 +7,7 @@ ghost use Rattle.textcut.specs.Cuts.{fields};
 ghost use Rattle.acargs.specs.Libraries as words;
 ghost use Rattle.acstatement.specs.Reading.{Gives};
 
-use crate::arguments::{bare_text, text};
+use crate::arguments::{text, trimmed_text};
 use acstatement::fault::ParseFault;
 use deftable::Bytes;
 use deftable::texts::copies;
@@ -48,7 +48,7 @@ fn lists_libraries(alloc: Global, text: &[u8]) -> Result<bool, AllocError>
 pub fn library(alloc: Global, arg: Arg<'_>) -> Result<Bytes, ParseFault>
     ensures { Gives (λ t. t) result (words.library (span arg.entry)) }
 {
-    let text = bare_text(alloc, arg)?;
+    let text = trimmed_text(alloc, arg)?;
     if !is_library(text.as_slice()) {
         return Err(ParseFault::BadName(arg.at));
     }

@@ -8,7 +8,7 @@ ghost use Rattle.textcut.specs.Cuts as cuts;
 ghost use Rattle.acargs.specs.Numbers as forms;
 ghost use Rattle.acstatement.specs.Reading.{Gives};
 
-use crate::arguments::{bare_text, text};
+use crate::arguments::{text, trimmed_text};
 use acstatement::fault::ParseFault;
 use m4quote::Arg;
 use std::alloc::Global;
@@ -132,7 +132,7 @@ pub fn status(alloc: Global, arg: Arg<'_>) -> Result<u8, ParseFault>
 pub fn language(alloc: Global, arg: Arg<'_>) -> Result<(), ParseFault>
     ensures { Gives (λ x. x) result (forms.language (span arg.entry)) }
 {
-    let text = bare_text(alloc, arg)?;
+    let text = trimmed_text(alloc, arg)?;
     if text.as_slice() != b"C".as_slice() {
         return Err(ParseFault::BadName(arg.at));
     }

@@ -9,7 +9,7 @@ use crate::arguments::text;
 use crate::path::output_in;
 use acstatement::fault::ParseFault;
 use m4quote::Arg;
-use outputlist::{Output, Outputs, is_path};
+use outputlist::{Output, OutputList, is_path};
 use std::alloc::Global;
 use textcut::fields;
 
@@ -22,9 +22,9 @@ const MAX_OUTPUTS: usize = 1024;
 fn check_output(
     alloc: Global,
     at: usize,
-    own: &Outputs,
-    other: &Outputs,
-    outputs: &Outputs,
+    own: &OutputList,
+    other: &OutputList,
+    outputs: &OutputList,
     output: &Output,
 ) -> Result<(), ParseFault>
     ensures { Gives (λ _. tt) result (specs.wanted at own.now other.now outputs.now output.now) }
@@ -54,9 +54,9 @@ fn check_output(
 fn add_output(
     alloc: Global,
     at: usize,
-    own: &Outputs,
-    other: &Outputs,
-    outputs: &mut Outputs,
+    own: &OutputList,
+    other: &OutputList,
+    outputs: &mut OutputList,
     field: &[u8],
 ) -> Result<(), ParseFault>
     ensures { Gives (λ _. outputs.new) result (specs.one_more at own.now other.now outputs.old field.now) }
@@ -71,9 +71,9 @@ fn add_output(
 fn add_fields(
     alloc: Global,
     at: usize,
-    own: &Outputs,
-    other: &Outputs,
-    outputs: &mut Outputs,
+    own: &OutputList,
+    other: &OutputList,
+    outputs: &mut OutputList,
     fields: &[&[u8]],
 ) -> Result<(), ParseFault>
     ensures { Gives (λ _. outputs.new) result (specs.with_fields at own.now other.now outputs.old (map (λ f. f.now) fields.now)) }
@@ -88,17 +88,17 @@ fn add_fields(
 fn outputs_in(
     alloc: Global,
     at: usize,
-    own: &Outputs,
-    other: &Outputs,
+    own: &OutputList,
+    other: &OutputList,
     text: &[u8],
-) -> Result<Outputs, ParseFault>
+) -> Result<OutputList, ParseFault>
     ensures { Gives (λ o. o) result (specs.outputs_in at own.now other.now text.now) }
 {
     let fields = fields(alloc, text)?;
     if fields.is_empty() {
         return Err(ParseFault::BadName(at));
     }
-    let mut outputs = Outputs::new(alloc);
+    let mut outputs = OutputList::new(alloc);
     add_fields(alloc, at, own, other, &mut outputs, fields.as_slice())?;
     Ok(outputs)
 }
@@ -115,10 +115,10 @@ fn outputs_in(
 #[tactic(auto, unfolding(crate::specs::Outputs::outputs))]
 pub fn outputs(
     alloc: Global,
-    own: &Outputs,
-    other: &Outputs,
+    own: &OutputList,
+    other: &OutputList,
     arg: Arg<'_>,
-) -> Result<Outputs, ParseFault>
+) -> Result<OutputList, ParseFault>
     ensures { Gives (λ o. o) result (specs.outputs own.now other.now (span arg.entry)) }
 {
     let text = text(alloc, arg)?;

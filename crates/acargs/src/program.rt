@@ -7,7 +7,7 @@ ghost use Rattle.textcut.specs.Cuts.{fields};
 ghost use Rattle.acargs.specs.Programs as words;
 ghost use Rattle.acstatement.specs.Reading.{Gives};
 
-use crate::arguments::{bare_text, text};
+use crate::arguments::{text, trimmed_text};
 use acstatement::fault::{ParseFault, shell_fault};
 use csource::default_includes;
 use deftable::Bytes;
@@ -64,7 +64,7 @@ fn lists_programs(alloc: Global, text: &[u8]) -> Result<bool, AllocError>
 pub fn program(alloc: Global, arg: Arg<'_>) -> Result<Bytes, ParseFault>
     ensures { Gives (λ t. t) result (words.program (span arg.entry)) }
 {
-    let text = bare_text(alloc, arg)?;
+    let text = trimmed_text(alloc, arg)?;
     if !is_program(text.as_slice()) {
         return Err(ParseFault::BadName(arg.at));
     }

@@ -51,7 +51,7 @@ use Rattle.acmacros.specs.Tries.{tried_program, tries}
 use Rattle.acmacros.specs.Checks.{checks, checks_each}
 use Rattle.acmacros.specs.Libraries.{check_lib, search_libs}
 use Rattle.acargs.specs.Libraries.{library, libraries}
-use Rattle.entries.specs.Readers.{entry_of, entries_of}
+use Rattle.acentries.specs.Readers.{entry_of, entries_of}
 use Rattle.syntax.specs.declared.listed.Listed.TheVariants.{Function}
 use Rattle.syntax.specs.declared.listed.Sought.{Sought}
 use Rattle.syntax.specs.declared.listed.Sought.TheVariants.{Entry}

@@ -10,7 +10,7 @@ use Rattle.acstatement.specs.declared.fault.ParseFault.{ParseFault}
 use Rattle.acstatement.specs.Reading.{◌>>=◌}
 use Rattle.acstatement.specs.Texts.{arg_at}
 use Rattle.acargs.specs.Programs.{includes}
-use Rattle.entries.specs.Readers.{entry_of, entries_of}
+use Rattle.acentries.specs.Readers.{entry_of, entries_of}
 use Rattle.syntax.specs.declared.listed.Sought.{Sought}
 use Rattle.syntax.specs.declared.statement.Question.{Question}
 use Rattle.syntax.specs.declared.statement.Question.TheVariants.{Given, Tries, Checks, ChecksEach, Library, Libraries}

@@ -7,4 +7,4 @@ pub mod Checks
 pub mod Libraries
 pub mod Rows
 pub mod Placement
-pub mod Scene
+pub mod ListKind

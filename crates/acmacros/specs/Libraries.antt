@@ -5,7 +5,7 @@ use Rattle.acstatement.specs.declared.fault.ParseFault.{ParseFault}
 use Rattle.acstatement.specs.Reading.{◌>>=◌}
 use Rattle.acstatement.specs.Texts.{arg_at}
 use Rattle.acargs.specs.Libraries.{library, libraries}
-use Rattle.entries.specs.Readers.{entry_of}
+use Rattle.acentries.specs.Readers.{entry_of}
 use Rattle.syntax.specs.declared.listed.Listed.TheVariants.{Function}
 use Rattle.syntax.specs.declared.listed.Sought.TheVariants.{Entry}
 use Rattle.syntax.specs.declared.statement.Question.{Question}

@@ -5,7 +5,7 @@
 //! `tries` for those that try programs, `checks` for those that look for headers and their like, and `libraries` for
 //! those that look for libraries: each reads the arguments of a call from the left, each by its form, and gives a
 //! statement or a question of the crate `syntax`. `placement` says which calls are allowed before, between and after
-//! AC_INIT and AC_OUTPUT, and `scene` which are allowed in the commands of AC_CACHE_CHECK. `limits` has the law that the
+//! AC_INIT and AC_OUTPUT, and `list_kind` which are allowed in the commands of AC_CACHE_CHECK. `limits` has the law that the
 //! lists of a source stay within their limits. Read `macros`, `table`, `rows`, then the rest in any order.
 //!
 //! `AC_DEFINE([HAVE_X])` is looked up as `PlainMacro::Define`, which takes one to three arguments, and is read as the
@@ -17,10 +17,10 @@
 pub mod checks;
 mod libraries;
 pub mod limits;
+pub mod list_kind;
 pub mod macros;
 pub mod placement;
 pub mod rows;
-pub mod scene;
 mod searches;
 pub mod table;
 mod tries;

@@ -7,9 +7,9 @@ ghost use Rattle.acmacros.specs.Libraries as rows;
 
 use acargs::ParseFault;
 use acargs::library::{libraries, library};
+use acentries::reading::entry;
 use acstatement::texts::arg_at;
 use deftable::Texts;
-use entries::reading::entry;
 use m4quote::Arg;
 use std::alloc::Global;
 use syntax::{Listed, Question, Sought};

@@ -4,9 +4,9 @@ use Rattle.m4quote.specs.Entry.{Span, Entry, call, bare}
 use Rattle.m4quote.specs.declared.fault.QuoteFault.{QuoteFault}
 use Rattle.acstatement.specs.declared.fault.ParseFault.{ParseFault}
 use Rattle.acstatement.specs.declared.fault.ParseFault.TheVariants.{UnknownMacro}
-use Rattle.acstatement.specs.declared.stand.Edge.{Edge}
+use Rattle.acstatement.specs.declared.placement.LineStart.{LineStart}
 use Rattle.acstatement.specs.Reading.{quoted, quote_fault}
-use Rattle.acstatement.specs.Stand.{edge_of, no_edge}
+use Rattle.acstatement.specs.Stand.{line_start_of, no_line_start}
 use Rattle.acstatement.proofs.Binds.{bind_err, wants_err, err_is}
 use Rattle.acargs.specs.Arguments.{cache_name, is_given}
 use Rattle.acargs.specs.Shell.{here_text}
@@ -25,7 +25,7 @@ use Rattle.syntax.specs.declared.tree.When.{When}
 use Rattle.syntax.specs.declared.tree.When.TheVariants.{Yes, No, Always}
 use Rattle.syntax.specs.declared.declarations.Declarations as declarations
 use Rattle.syntax.specs.declared.declarations.Stage.{Stage}
-use Rattle.acmacros.specs.Scene.{Scene, Commands, of_case}
+use Rattle.acmacros.specs.ListKind.{ListKind, Commands, of_case}
 use Rattle.acmacros.specs.Table.{row_named}
 use Rattle.acmacros.specs.declared.table.Row.{Row}
 use Rattle.m4quote.proofs.Laws.{outcome_is_spelling, outcome_is_fault}
@@ -54,11 +54,11 @@ is_of_arguments : (stage : Stage) (at : ℕ) (named : Named) (f : ParseFault) �
 is_of_arguments stage at (Statement m) f e = absurd cc
 is_of_arguments stage at (Argument m) f e = (m, refl, sym (err_is {A = Macro} _ f e))
 
-may_not_stand_by : (scene : Scene) (stage : Stage) (edge : Edge) (name : List ℕ) (args : List Span) (at : ℕ) (next : List Entry) (f : ParseFault)
-    → checked scene stage edge name args at next ≡ Err f → MayNotStand scene stage edge name args at next f
+may_not_stand_by : (list_kind : ListKind) (stage : Stage) (line_start : LineStart) (name : List ℕ) (args : List Span) (at : ℕ) (next : List Entry) (f : ParseFault)
+    → checked list_kind stage line_start name args at next ≡ Err f → MayNotStand list_kind stage line_start name args at next f
 unfolding checked
-may_not_stand_by scene stage edge name args at next f e =
-    let P : ParseFault → Type 0 = MayNotStand scene stage edge name args at next in
+may_not_stand_by list_kind stage line_start name args at next f e =
+    let P : ParseFault → Type 0 = MayNotStand list_kind stage line_start name args at next in
     elim (bind_err _ _ _ e) [
       | inl h ↦ let k = known_none at (row_named name) f h in subst P (sym k.1) (unknown k.0)
       | inr m ↦ elim (bind_err _ _ _ m.2) [
@@ -121,47 +121,47 @@ action_breaks bodies Broken bad when (a ∷ more) c f e =
       | inr x ↦ absurd (no_cases_end _ f x.2)
     ]
 
-item_breaks : (scene : Scene) (bodies : Scene → Bodies) (Inside : Scene → Within) (Broken : Scene → WithinBreaks) (ok : (x : Scene) → Reads (bodies x) (Inside x)) (bad : (x : Scene) → Faults (bodies x) (Broken x)) (c : declarations.Declarations) (edge : Edge) (item : Entry) (next : List Entry) (f : ParseFault)
-    → item_of scene bodies c edge item next ≡ Err f → ItemBreaks scene Inside Broken c edge item next f
+item_breaks : (list_kind : ListKind) (bodies : ListKind → Bodies) (Inside : ListKind → Within) (Broken : ListKind → WithinBreaks) (ok : (x : ListKind) → Reads (bodies x) (Inside x)) (bad : (x : ListKind) → Faults (bodies x) (Broken x)) (c : declarations.Declarations) (line_start : LineStart) (item : Entry) (next : List Entry) (f : ParseFault)
+    → item_of list_kind bodies c line_start item next ≡ Err f → ItemBreaks list_kind Inside Broken c line_start item next f
 unfolding choice_of asked_of asked_with check_of
-item_breaks scene bodies Inside Broken ok bad c edge (bare text at) next f e = other_text e
-item_breaks scene bodies Inside Broken ok bad c edge (call name args at) next f e =
+item_breaks list_kind bodies Inside Broken ok bad c line_start (bare text at) next f e = other_text e
+item_breaks list_kind bodies Inside Broken ok bad c line_start (call name args at) next f e =
     elim (bind_err _ _ _ e) [
-      | inl h ↦ may_not_stand (may_not_stand_by scene c.stage edge name args at next f h)
-      | inr m ↦ call_breaks m.0 (may_stand scene c.stage edge name args at next m.0 m.1) m.2
+      | inl h ↦ may_not_stand (may_not_stand_by list_kind c.stage line_start name args at next f h)
+      | inr m ↦ call_breaks m.0 (may_stand list_kind c.stage line_start name args at next m.0 m.1) m.2
     ]
   where
-    choice_breaks : (m : ChoiceMacro) → MayStand scene c.stage edge name args at next (A_choice m) → choice_of (bodies (of_case scene)) m c args ≡ Err f → ItemBreaks scene Inside Broken c edge (call name args at) next f
+    choice_breaks : (m : ChoiceMacro) → MayStand list_kind c.stage line_start name args at next (A_choice m) → choice_of (bodies (of_case list_kind)) m c args ≡ Err f → ItemBreaks list_kind Inside Broken c line_start (call name args at) next f
     choice_breaks m stands e =
         elim (bind_err _ _ _ e) [
           | inl h ↦ in_subject stands h
           | inr x ↦ elim (bind_err _ _ _ x.2) [
-            | inl h ↦ in_cases stands x.1 (cases_break (bodies (of_case scene)) (Inside (of_case scene)) (Broken (of_case scene)) (ok (of_case scene)) (bad (of_case scene)) m (case_args m args) c f h)
+            | inl h ↦ in_cases stands x.1 (cases_break (bodies (of_case list_kind)) (Inside (of_case list_kind)) (Broken (of_case list_kind)) (ok (of_case list_kind)) (bad (of_case list_kind)) m (case_args m args) c f h)
             | inr y ↦ absurd (no_end _ f y.2)
           ]
         ]
 
-    question_breaks : (m : QuestionMacro) → MayStand scene c.stage edge name args at next (A_question m) → asked_of (bodies (of_case scene)) m c args ≡ Err f → ItemBreaks scene Inside Broken c edge (call name args at) next f
+    question_breaks : (m : QuestionMacro) → MayStand list_kind c.stage line_start name args at next (A_question m) → asked_of (bodies (of_case list_kind)) m c args ≡ Err f → ItemBreaks list_kind Inside Broken c line_start (call name args at) next f
     question_breaks m stands e =
         elim (bind_err _ _ _ e) [
           | inl h ↦ in_question stands h
           | inr x ↦ elim (bind_err _ _ _ x.2) [
-            | inl h ↦ in_yes stands x.1 (action_breaks (bodies (of_case scene)) (Broken (of_case scene)) (bad (of_case scene)) Yes (action_args m args) (after_question c x.0) f h)
+            | inl h ↦ in_yes stands x.1 (action_breaks (bodies (of_case list_kind)) (Broken (of_case list_kind)) (bad (of_case list_kind)) Yes (action_args m args) (after_question c x.0) f h)
             | inr y ↦ elim (bind_err _ _ _ y.2) [
               | inl h ↦
-                  in_no stands x.1 (action_found (bodies (of_case scene)) (Inside (of_case scene)) (ok (of_case scene)) Yes (action_args m args) (after_question c x.0) y.0 y.1)
-                  (action_breaks (bodies (of_case scene)) (Broken (of_case scene)) (bad (of_case scene)) No (drop 1 (action_args m args)) (after_cases (after_question c x.0) y.0) f h)
+                  in_no stands x.1 (action_found (bodies (of_case list_kind)) (Inside (of_case list_kind)) (ok (of_case list_kind)) Yes (action_args m args) (after_question c x.0) y.0 y.1)
+                  (action_breaks (bodies (of_case list_kind)) (Broken (of_case list_kind)) (bad (of_case list_kind)) No (drop 1 (action_args m args)) (after_cases (after_question c x.0) y.0) f h)
               | inr z ↦ elim (bind_err (completed_of x.0 args) _ _ z.2) [
                 | inl h ↦
-                    in_includes stands x.1 (action_found (bodies (of_case scene)) (Inside (of_case scene)) (ok (of_case scene)) Yes (action_args m args) (after_question c x.0) y.0 y.1)
-                    (action_found (bodies (of_case scene)) (Inside (of_case scene)) (ok (of_case scene)) No (drop 1 (action_args m args)) (after_cases (after_question c x.0) y.0) z.0 z.1) h
+                    in_includes stands x.1 (action_found (bodies (of_case list_kind)) (Inside (of_case list_kind)) (ok (of_case list_kind)) Yes (action_args m args) (after_question c x.0) y.0 y.1)
+                    (action_found (bodies (of_case list_kind)) (Inside (of_case list_kind)) (ok (of_case list_kind)) No (drop 1 (action_args m args)) (after_cases (after_question c x.0) y.0) z.0 z.1) h
                 | inr w ↦ absurd (no_end _ f w.2)
               ]
             ]
           ]
         ]
 
-    check_breaks : MayStand scene c.stage edge name args at next A_check → check_of bodies c args ≡ Err f → ItemBreaks scene Inside Broken c edge (call name args at) next f
+    check_breaks : MayStand list_kind c.stage line_start name args at next A_check → check_of bodies c args ≡ Err f → ItemBreaks list_kind Inside Broken c line_start (call name args at) next f
     check_breaks stands e =
         elim (bind_err (here_text (arg_at args 0)) _ _ e) [
           | inl h ↦ in_message stands h
@@ -174,7 +174,7 @@ item_breaks scene bodies Inside Broken ok bad c edge (call name args at) next f 
           ]
         ]
 
-    call_breaks : (m : Macro) → MayStand scene c.stage edge name args at next m → call_of scene bodies c m at args ≡ Err f → ItemBreaks scene Inside Broken c edge (call name args at) next f
+    call_breaks : (m : Macro) → MayStand list_kind c.stage line_start name args at next m → call_of list_kind bodies c m at args ≡ Err f → ItemBreaks list_kind Inside Broken c line_start (call name args at) next f
     call_breaks (Plain m) stands e =
         elim (bind_err _ _ _ e) [
           | inl h ↦ argument stands h
@@ -184,24 +184,24 @@ item_breaks scene bodies Inside Broken ok bad c edge (call name args at) next f 
     call_breaks (A_question m) stands e = question_breaks m stands e
     call_breaks A_check stands e = check_breaks stands e
 
-pub items_break : (scene : Scene) (bodies : Scene → Bodies) (Inside : Scene → Within) (Broken : Scene → WithinBreaks) (ok : (x : Scene) → Reads (bodies x) (Inside x)) (bad : (x : Scene) → Faults (bodies x) (Broken x)) (items : List Entry) (c : declarations.Declarations) (edge : Edge) (f : ParseFault)
-    → items_of scene bodies c edge items ≡ Err f → Breaks scene Inside Broken c edge items f
+pub items_break : (list_kind : ListKind) (bodies : ListKind → Bodies) (Inside : ListKind → Within) (Broken : ListKind → WithinBreaks) (ok : (x : ListKind) → Reads (bodies x) (Inside x)) (bad : (x : ListKind) → Faults (bodies x) (Broken x)) (items : List Entry) (c : declarations.Declarations) (line_start : LineStart) (f : ParseFault)
+    → items_of list_kind bodies c line_start items ≡ Err f → Breaks list_kind Inside Broken c line_start items f
 unfolding items_of
-items_break scene bodies Inside Broken ok bad [] c edge f e = absurd (no_end _ f e)
-items_break scene bodies Inside Broken ok bad (item ∷ items) c edge f e =
+items_break list_kind bodies Inside Broken ok bad [] c line_start f e = absurd (no_end _ f e)
+items_break list_kind bodies Inside Broken ok bad (item ∷ items) c line_start f e =
     elim (bind_err _ _ _ e) [
-      | inl h ↦ here (item_breaks scene bodies Inside Broken ok bad c edge item items f h)
+      | inl h ↦ here (item_breaks list_kind bodies Inside Broken ok bad c line_start item items f h)
       | inr x ↦ elim (bind_err _ _ _ x.2) [
-        | inl h ↦ following (item_found scene bodies Inside ok c edge item items x.0 x.1) (items_break scene bodies Inside Broken ok bad items (after_all c x.0) (edge_of item) f h)
+        | inl h ↦ following (item_found list_kind bodies Inside ok c line_start item items x.0 x.1) (items_break list_kind bodies Inside Broken ok bad items (after_all c x.0) (line_start_of item) f h)
         | inr z ↦ absurd (no_end _ f z.2)
       ]
     ]
 
 -- An error of a statement argument.
-pub body_breaks : (room : ℕ) (scene : Scene) → Faults (body_of room scene) (IsBroken room scene)
+pub body_breaks : (room : ℕ) (list_kind : ListKind) → Faults (body_of room list_kind) (IsBroken room list_kind)
 unfolding body_of
-body_breaks zero scene c arg f e = sym (err_is {A = Script} _ f e)
-body_breaks (suc room) scene c arg f e =
+body_breaks zero list_kind c arg f e = sym (err_is {A = Script} _ f e)
+body_breaks (suc room) list_kind c arg f e =
     elim (bind_err _ _ _ e) [
       | inl h ↦ inl h
       | inr a ↦ inr (
@@ -210,10 +210,10 @@ body_breaks (suc room) scene c arg f e =
         elim (bind_err _ _ _ a.2) [
           | inl h ↦
               let q = quoted_err (outcome a.0.at a.0.text) f h in
-              subst (TextBreaks scene (IsBody room) (IsBroken room) c a.0) (sym q.2) (no_items ((outcome_is_fault a.0.at a.0.text q.0).0 q.1))
+              subst (TextBreaks list_kind (IsBody room) (IsBroken room) c a.0) (sym q.2) (no_items ((outcome_is_fault a.0.at a.0.text q.0).0 q.1))
           | inr i ↦
               in_items ((outcome_is_spelling a.0.at a.0.text i.0).0 (quoted_ok (outcome a.0.at a.0.text) i.0 i.1))
-              (items_break scene (body_of room) (IsBody room) (IsBroken room) (body_found room) (body_breaks room) i.0 c no_edge f i.2)
+              (items_break list_kind (body_of room) (IsBody room) (IsBroken room) (body_found room) (body_breaks room) i.0 c no_line_start f i.2)
         ],
       )
     ]

@@ -3,7 +3,7 @@ use Rattle.std.proofs.Common.{◌≡◌, ℕ, zero, suc, Bool, true, false, List
 use Rattle.std.specs.Prelude.{IfOk}
 use Rattle.m4quote.specs.Entry.{Span, Entry}
 use Rattle.acstatement.specs.declared.fault.ParseFault.{ParseFault}
-use Rattle.acstatement.specs.declared.stand.Edge.{Edge}
+use Rattle.acstatement.specs.declared.placement.LineStart.{LineStart}
 use Rattle.acargs.specs.Arguments.{is_given}
 use Rattle.acstatement.specs.Texts.{arg_at}
 use Rattle.acstatement.specs.Reading.{Gives}
@@ -16,7 +16,7 @@ use Rattle.syntax.specs.declared.declarations.Stage.{Stage}
 use Rattle.syntax.specs.Limits.{IsWithinLimits, HasShortLists}
 use Rattle.syntax.specs.Lists.{start, after_question}
 use Rattle.outputlist.specs.Output.{AreOutputs}
-use Rattle.acmacros.specs.Scene.{Scene, Top, of_case}
+use Rattle.acmacros.specs.ListKind.{ListKind, Top, of_case}
 use Rattle.acmacros.proofs.CheckLemmas.{completed_known}
 use Rattle.acmacros.proofs.LimitLemmas.{plain_keeps, question_keeps, precious_count, start_fits}
 use Rattle.syntax.specs.declared.tree.Subject.{Subject}
@@ -38,7 +38,7 @@ use Rattle.acparse.proofs.Whole.{source_found}
 abbrev Keeps : Within → Type 0
 Keeps Inside = (c : declarations.Declarations) (arg : Span) (s : Script) → Inside c arg s → IsWithinLimits c → IsWithinLimits (after_all c s)
 
-bare_keeps : {scene : Scene} {stage : Stage} {text : List ℕ} {s : Script} (c : declarations.Declarations) → IsBare scene stage text s → IsWithinLimits c → IsWithinLimits (after_all c s)
+bare_keeps : {list_kind : ListKind} {stage : Stage} {text : List ℕ} {s : Script} (c : declarations.Declarations) → IsBare list_kind stage text s → IsWithinLimits c → IsWithinLimits (after_all c s)
 bare_keeps c (before is) h = h
 bare_keeps c (ended is) h = h
 bare_keeps c (assignments {list = list} v l may) h = subst IsWithinLimits (sym (assigned_known list c)) h
@@ -66,27 +66,27 @@ subject_known As_case args subject c e =
     let w = bind_ok (word (arg_at args 0)) _ _ e in
     subst (λ (s : Subject). after_subject c s ≡ c) (ok_is (Word w.0) subject w.2) refl
 
-item_keeps : (scene : Scene) (Inside : Scene → Within) (keeps : (x : Scene) → Keeps (Inside x)) (c : declarations.Declarations) (edge : Edge) {item : Entry} {next : List Entry} {s : Script}
-    → IsItem scene Inside c edge item next s → IsWithinLimits c → IsWithinLimits (after_all c s)
-item_keeps scene Inside keeps c edge (bare_text i) h = bare_keeps c i h
-item_keeps scene Inside keeps c edge (plain_call stands p) h = plain_keeps c _ _ _ _ p h
-item_keeps scene Inside keeps c edge (choice {m = m} {subject = subject} {cases = cases} stands p i) h =
-    subst (λ (d : declarations.Declarations). IsWithinLimits (after_cases d cases)) (sym (subject_known m _ subject c p)) (cases_keep (Inside (of_case scene)) (keeps (of_case scene)) m i h)
-item_keeps scene Inside keeps c edge (question {args = args} {q = q} {whole = whole} {first = first} {other = other} stands p f o w) h =
+item_keeps : (list_kind : ListKind) (Inside : ListKind → Within) (keeps : (x : ListKind) → Keeps (Inside x)) (c : declarations.Declarations) (line_start : LineStart) {item : Entry} {next : List Entry} {s : Script}
+    → IsItem list_kind Inside c line_start item next s → IsWithinLimits c → IsWithinLimits (after_all c s)
+item_keeps list_kind Inside keeps c line_start (bare_text i) h = bare_keeps c i h
+item_keeps list_kind Inside keeps c line_start (plain_call stands p) h = plain_keeps c _ _ _ _ p h
+item_keeps list_kind Inside keeps c line_start (choice {m = m} {subject = subject} {cases = cases} stands p i) h =
+    subst (λ (d : declarations.Declarations). IsWithinLimits (after_cases d cases)) (sym (subject_known m _ subject c p)) (cases_keep (Inside (of_case list_kind)) (keeps (of_case list_kind)) m i h)
+item_keeps list_kind Inside keeps c line_start (question {args = args} {q = q} {whole = whole} {first = first} {other = other} stands p f o w) h =
     let both = followed first other in
     subst IsWithinLimits (sym (asked_known c whole both ∙ ap (λ d. after_cases d both) (completed_known c q whole args w) ∙ after_followed first other (after_question c q)))
-    (action_keeps (Inside (of_case scene)) (keeps (of_case scene)) _ o (action_keeps (Inside (of_case scene)) (keeps (of_case scene)) _ f (question_keeps c _ _ q p h)))
-item_keeps scene Inside keeps c edge (check stands m n i) h = keeps _ c _ _ i h
+    (action_keeps (Inside (of_case list_kind)) (keeps (of_case list_kind)) _ o (action_keeps (Inside (of_case list_kind)) (keeps (of_case list_kind)) _ f (question_keeps c _ _ q p h)))
+item_keeps list_kind Inside keeps c line_start (check stands m n i) h = keeps _ c _ _ i h
 
-items_keep : (scene : Scene) (Inside : Scene → Within) (keeps : (x : Scene) → Keeps (Inside x)) {c : declarations.Declarations} {edge : Edge} {items : List Entry} {s : Script}
-    → AreStatements scene Inside c edge items s → IsWithinLimits c → IsWithinLimits (after_all c s)
-items_keep scene Inside keeps none h = h
-items_keep scene Inside keeps (one {c = c} {first = first} {rest = rest} i more) h =
-    subst IsWithinLimits (sym (after_joined first rest c)) (items_keep scene Inside keeps more (item_keeps scene Inside keeps c _ i h))
+items_keep : (list_kind : ListKind) (Inside : ListKind → Within) (keeps : (x : ListKind) → Keeps (Inside x)) {c : declarations.Declarations} {line_start : LineStart} {items : List Entry} {s : Script}
+    → AreStatements list_kind Inside c line_start items s → IsWithinLimits c → IsWithinLimits (after_all c s)
+items_keep list_kind Inside keeps none h = h
+items_keep list_kind Inside keeps (one {c = c} {first = first} {rest = rest} i more) h =
+    subst IsWithinLimits (sym (after_joined first rest c)) (items_keep list_kind Inside keeps more (item_keeps list_kind Inside keeps c _ i h))
 
-body_keeps : (room : ℕ) (scene : Scene) → Keeps (IsBody room scene)
-body_keeps zero scene c arg s i h = absurd i
-body_keeps (suc room) scene c arg s i h = items_keep scene (IsBody room) (body_keeps room) i.2.2 h
+body_keeps : (room : ℕ) (list_kind : ListKind) → Keeps (IsBody room list_kind)
+body_keeps zero list_kind c arg s i h = absurd i
+body_keeps (suc room) list_kind c arg s i h = items_keep list_kind (IsBody room) (body_keeps room) i.2.2 h
 
 -- The lists of a source.
 pub source_fits : (text : List ℕ) (s : Script) → IsSource text s → IsWithinLimits (after_all start s)

@@ -3,7 +3,7 @@ use Rattle.std.proofs.Common.{◌≡◌, ℕ, zero, suc, List, Ok, refl, ap, ◌
 use Rattle.m4quote.specs.Entry.{Span, Entry}
 use Rattle.m4quote.proofs.Laws.{outcome_is_spelling, bare_value_is_value}
 use Rattle.baretext.proofs.Laws.{text-read}
-use Rattle.acstatement.specs.declared.stand.Edge.{Edge}
+use Rattle.acstatement.specs.declared.placement.LineStart.{LineStart}
 use Rattle.acstatement.specs.Reading.{quoted}
 use Rattle.acstatement.proofs.Binds.{then_ok, wants_true}
 use Rattle.acmacros.specs.declared.macros.ChoiceMacro.{ChoiceMacro}
@@ -12,7 +12,7 @@ use Rattle.syntax.specs.declared.declarations.Declarations as declarations
 use Rattle.syntax.specs.declared.declarations.Stage.{Stage}
 use Rattle.syntax.specs.declared.declarations.Stage.TheVariants.{Before, Ended}
 use Rattle.acmacros.specs.Placement.{bare_fault, as_statement}
-use Rattle.acmacros.specs.Scene.{Scene, of_case}
+use Rattle.acmacros.specs.ListKind.{ListKind, of_case}
 use Rattle.syntax.specs.declared.tree.When.{When}
 use Rattle.syntax.specs.Script.{Script, Cases}
 use Rattle.m4quote.specs.Scan.{bare_value_of}
@@ -25,15 +25,15 @@ use Rattle.acparse.specs.Statements.{Within, MayStand, IsBare, before, ended, as
 abbrev pub Gets : Bodies → Within → Type 0
 Gets bodies Inside = (c : declarations.Declarations) (arg : Span) (s : Script) → Inside c arg s → bodies c arg ≡ Ok s
 
-pub is_checked : (scene : Scene) (stage : Stage) (edge : Edge) (name : List ℕ) (args : List Span) (at : ℕ) (next : List Entry) (m : Macro)
-    → MayStand scene stage edge name args at next m → checked scene stage edge name args at next ≡ Ok m
+pub is_checked : (list_kind : ListKind) (stage : Stage) (line_start : LineStart) (name : List ℕ) (args : List Span) (at : ℕ) (next : List Entry) (m : Macro)
+    → MayStand list_kind stage line_start name args at next m → checked list_kind stage line_start name args at next ≡ Ok m
 unfolding checked
-is_checked scene stage edge name args at next m h =
+is_checked list_kind stage line_start name args at next m h =
     then_ok _ _ h.row _ (ap (known at) h.known)
     (then_ok _ _ tt _ (wants_true _ _ h.taken)
     (then_ok _ _ m _ (ap (as_statement stage at) h.named) (then_ok _ _ tt _ h.in_place (then_ok _ _ tt _ (wants_true _ _ h.parted) (then_ok _ _ tt _ h.held refl)))))
 
-bare_only : {scene : Scene} {stage : Stage} (at : ℕ) {text : List ℕ} {s : Script} → IsBare scene stage text s → bare_of scene stage at text ≡ Ok s
+bare_only : {list_kind : ListKind} {stage : Stage} (at : ℕ) {text : List ℕ} {s : Script} → IsBare list_kind stage text s → bare_of list_kind stage at text ≡ Ok s
 unfolding bare_of assigned_in
 bare_only at (before is) = ap (λ b. idle_or b (bare_fault Before at)) is
 bare_only at (ended is) = ap (λ b. idle_or b (bare_fault Ended at)) is
@@ -52,29 +52,29 @@ unfolding action_in
 action_only bodies Inside ok when absent = refl
 action_only bodies Inside ok when (there h) = then_ok _ _ _ _ (ok _ _ _ h) refl
 
-item_only : (scene : Scene) (bodies : Scene → Bodies) (Inside : Scene → Within) (ok : (x : Scene) → Gets (bodies x) (Inside x)) (c : declarations.Declarations) (edge : Edge) {item : Entry} {next : List Entry} {s : Script}
-    → IsItem scene Inside c edge item next s → item_of scene bodies c edge item next ≡ Ok s
+item_only : (list_kind : ListKind) (bodies : ListKind → Bodies) (Inside : ListKind → Within) (ok : (x : ListKind) → Gets (bodies x) (Inside x)) (c : declarations.Declarations) (line_start : LineStart) {item : Entry} {next : List Entry} {s : Script}
+    → IsItem list_kind Inside c line_start item next s → item_of list_kind bodies c line_start item next ≡ Ok s
 unfolding choice_of asked_of asked_with check_of
-item_only scene bodies Inside ok c edge (bare_text h) = bare_only _ h
-item_only scene bodies Inside ok c edge (plain_call stands p) = then_ok _ _ _ _ (is_checked _ _ _ _ _ _ _ _ stands) (then_ok _ _ _ _ p refl)
-item_only scene bodies Inside ok c edge (choice stands p h) =
-    then_ok _ _ _ _ (is_checked _ _ _ _ _ _ _ _ stands) (then_ok _ _ _ _ p (then_ok _ _ _ _ (cases_only (bodies (of_case scene)) (Inside (of_case scene)) (ok (of_case scene)) _ h) refl))
-item_only scene bodies Inside ok c edge (question stands p f o w) =
+item_only list_kind bodies Inside ok c line_start (bare_text h) = bare_only _ h
+item_only list_kind bodies Inside ok c line_start (plain_call stands p) = then_ok _ _ _ _ (is_checked _ _ _ _ _ _ _ _ stands) (then_ok _ _ _ _ p refl)
+item_only list_kind bodies Inside ok c line_start (choice stands p h) =
+    then_ok _ _ _ _ (is_checked _ _ _ _ _ _ _ _ stands) (then_ok _ _ _ _ p (then_ok _ _ _ _ (cases_only (bodies (of_case list_kind)) (Inside (of_case list_kind)) (ok (of_case list_kind)) _ h) refl))
+item_only list_kind bodies Inside ok c line_start (question stands p f o w) =
     then_ok _ _ _ _ (is_checked _ _ _ _ _ _ _ _ stands)
-    (then_ok _ _ _ _ p (then_ok _ _ _ _ (action_only (bodies (of_case scene)) (Inside (of_case scene)) (ok (of_case scene)) _ f) (then_ok _ _ _ _ (action_only (bodies (of_case scene)) (Inside (of_case scene)) (ok (of_case scene)) _ o) (then_ok _ _ _ _ w refl))))
-item_only scene bodies Inside ok c edge (check stands m n h) =
+    (then_ok _ _ _ _ p (then_ok _ _ _ _ (action_only (bodies (of_case list_kind)) (Inside (of_case list_kind)) (ok (of_case list_kind)) _ f) (then_ok _ _ _ _ (action_only (bodies (of_case list_kind)) (Inside (of_case list_kind)) (ok (of_case list_kind)) _ o) (then_ok _ _ _ _ w refl))))
+item_only list_kind bodies Inside ok c line_start (check stands m n h) =
     then_ok _ _ _ _ (is_checked _ _ _ _ _ _ _ _ stands) (then_ok _ _ _ _ m (then_ok _ _ _ _ n (then_ok _ _ _ _ (ok _ _ _ _ h) refl)))
 
-pub items_only : (scene : Scene) (bodies : Scene → Bodies) (Inside : Scene → Within) (ok : (x : Scene) → Gets (bodies x) (Inside x)) {c : declarations.Declarations} {edge : Edge} {items : List Entry} {s : Script}
-    → AreStatements scene Inside c edge items s → items_of scene bodies c edge items ≡ Ok s
+pub items_only : (list_kind : ListKind) (bodies : ListKind → Bodies) (Inside : ListKind → Within) (ok : (x : ListKind) → Gets (bodies x) (Inside x)) {c : declarations.Declarations} {line_start : LineStart} {items : List Entry} {s : Script}
+    → AreStatements list_kind Inside c line_start items s → items_of list_kind bodies c line_start items ≡ Ok s
 unfolding items_of
-items_only scene bodies Inside ok none = refl
-items_only scene bodies Inside ok (one i more) = then_ok _ _ _ _ (item_only scene bodies Inside ok _ _ i) (then_ok _ _ _ _ (items_only scene bodies Inside ok more) refl)
+items_only list_kind bodies Inside ok none = refl
+items_only list_kind bodies Inside ok (one i more) = then_ok _ _ _ _ (item_only list_kind bodies Inside ok _ _ i) (then_ok _ _ _ _ (items_only list_kind bodies Inside ok more) refl)
 
 -- The statements of a statement argument are read.
-pub body_only : (room : ℕ) (scene : Scene) → Gets (body_of room scene) (IsBody room scene)
+pub body_only : (room : ℕ) (list_kind : ListKind) → Gets (body_of room list_kind) (IsBody room list_kind)
 unfolding body_of
-body_only zero scene c arg s h = absurd h
-body_only (suc room) scene c arg s h =
+body_only zero list_kind c arg s h = absurd h
+body_only (suc room) list_kind c arg s h =
     then_ok _ _ h.0 _ h.1 (then_ok _ _ h.2.0 _ (ap quoted ((outcome_is_spelling h.0.at h.0.text h.2.0).1 h.2.1))
-    (items_only scene (body_of room) (IsBody room) (body_only room) h.2.2))
+    (items_only list_kind (body_of room) (IsBody room) (body_only room) h.2.2))

@@ -9,7 +9,7 @@ use Rattle.m4quote.specs.Entry.{Span}
 use Rattle.m4quote.specs.Entry as items
 use Rattle.deftable.specs.CacheName.{is_cache_name}
 use Rattle.acstatement.specs.declared.fault.ParseFault.{ParseFault}
-use Rattle.acstatement.specs.declared.stand.Edge.{Edge}
+use Rattle.acstatement.specs.declared.placement.LineStart.{LineStart}
 use Rattle.acstatement.specs.Reading.{Gives}
 use Rattle.acstatement.specs.Texts.{arg_at}
 use Rattle.acstatement.proofs.Binds.{bind_ok, ok_is, wants_ok}
@@ -23,7 +23,7 @@ use Rattle.acmacros.specs.declared.macros.QuestionMacro.{QuestionMacro}
 use Rattle.acmacros.specs.declared.macros.QuestionMacro.TheVariants.{Given, Tries, Checks, ChecksEach, Library, Libraries}
 use Rattle.acmacros.specs.Checks.{completed_of}
 use Rattle.acmacros.specs.Rows.{question_of}
-use Rattle.acmacros.specs.Scene.{Scene, Top, Nested, Commands, of_case, may_hold}
+use Rattle.acmacros.specs.ListKind.{ListKind, Top, Nested, Commands, of_case, may_hold}
 use Rattle.acmacros.specs.Tries.{tries, tried_program}
 use Rattle.syntax.specs.declared.declarations.Declarations as declarations
 use Rattle.syntax.specs.declared.declarations.Stage.{Stage}
@@ -45,20 +45,20 @@ use Rattle.acparse.specs.Source.{IsSource}
 use Rattle.acparse.specs.Statements.{Within, IsBare, before, ended, assignments, AreCases, no_more, default, pair, IsAction, absent, there, IsItem, bare_text, plain_call, choice, question, check, AreStatements, none, one, IsBody}
 use Rattle.acparse.proofs.Whole.{source_found}
 
--- The statements of a scene: commands, or statements with commands in them.
-abbrev Held : Scene → Script → Type 0
+-- The statements of a list_kind: commands, or statements with commands in them.
+abbrev Held : ListKind → Script → Type 0
 Held Top s = HasCommands s
 Held Nested s = HasCommands s
 Held (Commands n at) s = AreCommands n s
 
-abbrev HeldIn : Scene → Cases → Type 0
+abbrev HeldIn : ListKind → Cases → Type 0
 HeldIn Top cases = HasCommandsIn cases
 HeldIn Nested cases = HasCommandsIn cases
 HeldIn (Commands n at) cases = AreCommandsIn n cases
 
--- Each statement argument of a scene has such statements.
-abbrev Holds : Scene → Within → Type 0
-Holds scene Inside = (c : declarations.Declarations) (arg : Span) (s : Script) → Inside c arg s → Held scene s
+-- Each statement argument of a list_kind has such statements.
+abbrev Holds : ListKind → Within → Type 0
+Holds list_kind Inside = (c : declarations.Declarations) (arg : Span) (s : Script) → Inside c arg s → Held list_kind s
 
 -- ---- one list after another
 
@@ -74,7 +74,7 @@ has_joined (Then s rest) b h k = has_joined rest b h k
 has_joined (Choice subject cases rest) b h k = (h.0, has_joined rest b h.1 k)
 has_joined (Check message n commands rest) b h k = (h.0, (h.1.0, has_joined rest b h.1.1 k))
 
-held_joined : (scene : Scene) (a b : Script) → Held scene a → Held scene b → Held scene (joined a b)
+held_joined : (list_kind : ListKind) (a b : Script) → Held list_kind a → Held list_kind b → Held list_kind (joined a b)
 held_joined Top a b h k = has_joined a b h k
 held_joined Nested a b h k = has_joined a b h k
 held_joined (Commands n at) a b h k = commands_joined n a b h k
@@ -87,7 +87,7 @@ has_followed : (a b : Cases) → HasCommandsIn a → HasCommandsIn b → HasComm
 has_followed No_case b h k = k
 has_followed (Case when body more) b h k = (h.0, has_followed more b h.1 k)
 
-held_followed : (scene : Scene) (a b : Cases) → HeldIn scene a → HeldIn scene b → HeldIn scene (followed a b)
+held_followed : (list_kind : ListKind) (a b : Cases) → HeldIn list_kind a → HeldIn list_kind b → HeldIn list_kind (followed a b)
 held_followed Top a b h k = has_followed a b h k
 held_followed Nested a b h k = has_followed a b h k
 held_followed (Commands n at) a b h k = commands_followed n a b h k
@@ -107,59 +107,59 @@ has_assigned : (list : List Assignment) → HasCommands (assigned list)
 has_assigned [] = tt
 has_assigned (a ∷ more) = has_assigned more
 
-held_assigned : (scene : Scene) (list : List Assignment) → may_assign scene list ≡ Ok tt → Held scene (assigned list)
+held_assigned : (list_kind : ListKind) (list : List Assignment) → may_assign list_kind list ≡ Ok tt → Held list_kind (assigned list)
 unfolding may_assign
 held_assigned Top list e = has_assigned list
 held_assigned Nested list e = has_assigned list
 held_assigned (Commands n at) list e = commands_assigned n list (wants_ok (set_alone n list) _ _ e)
 
-held_done : (scene : Scene) → Held scene Done
+held_done : (list_kind : ListKind) → Held list_kind Done
 held_done Top = tt
 held_done Nested = tt
 held_done (Commands n at) = tt
 
-bare_held : {stage : Stage} {text : List ℕ} {s : Script} (scene : Scene) → IsBare scene stage text s → Held scene s
-bare_held scene (before is) = held_done scene
-bare_held scene (ended is) = held_done scene
-bare_held scene (assignments {list = list} v l may) = held_assigned scene list may
+bare_held : {stage : Stage} {text : List ℕ} {s : Script} (list_kind : ListKind) → IsBare list_kind stage text s → Held list_kind s
+bare_held list_kind (before is) = held_done list_kind
+bare_held list_kind (ended is) = held_done list_kind
+bare_held list_kind (assignments {list = list} v l may) = held_assigned list_kind list may
 
 -- ---- cases
 
-held_case : (scene : Scene) (when : When) (body : Script) (more : Cases) → Held scene body → HeldIn scene more → HeldIn scene (Case when body more)
+held_case : (list_kind : ListKind) (when : When) (body : Script) (more : Cases) → Held list_kind body → HeldIn list_kind more → HeldIn list_kind (Case when body more)
 held_case Top when body more h k = (h, k)
 held_case Nested when body more h k = (h, k)
 held_case (Commands n at) when body more h k = (h, k)
 
-held_no_case : (scene : Scene) → HeldIn scene No_case
+held_no_case : (list_kind : ListKind) → HeldIn list_kind No_case
 held_no_case Top = tt
 held_no_case Nested = tt
 held_no_case (Commands n at) = tt
 
-held_if : (scene : Scene) (when : When) (given : Bool) (body : Script) → Held scene body → HeldIn scene (case_if when given body)
-held_if scene when true body h = held_case scene when body No_case h (held_no_case scene)
-held_if scene when false Done h = held_no_case scene
-held_if scene when false (Then s rest) h = held_case scene when (Then s rest) No_case h (held_no_case scene)
-held_if scene when false (Choice subject cases rest) h = held_case scene when (Choice subject cases rest) No_case h (held_no_case scene)
-held_if scene when false (Check message n commands rest) h = held_case scene when (Check message n commands rest) No_case h (held_no_case scene)
+held_if : (list_kind : ListKind) (when : When) (given : Bool) (body : Script) → Held list_kind body → HeldIn list_kind (case_if when given body)
+held_if list_kind when true body h = held_case list_kind when body No_case h (held_no_case list_kind)
+held_if list_kind when false Done h = held_no_case list_kind
+held_if list_kind when false (Then s rest) h = held_case list_kind when (Then s rest) No_case h (held_no_case list_kind)
+held_if list_kind when false (Choice subject cases rest) h = held_case list_kind when (Choice subject cases rest) No_case h (held_no_case list_kind)
+held_if list_kind when false (Check message n commands rest) h = held_case list_kind when (Check message n commands rest) No_case h (held_no_case list_kind)
 
-cases_held : (scene : Scene) (Inside : Within) (holds : Holds scene Inside) (m : ChoiceMacro) {c : declarations.Declarations} {args : List Span} {cases : Cases} → AreCases Inside m c args cases → HeldIn scene cases
-cases_held scene Inside holds m no_more = held_no_case scene
-cases_held scene Inside holds m (default {c = c} {arg = arg} {body = body} i) = held_if scene Always (is_given arg) body (holds c arg body i)
-cases_held scene Inside holds m (pair {when = when} {body = body} {others = others} w i more) = held_case scene when body others (holds _ _ _ i) (cases_held scene Inside holds m more)
+cases_held : (list_kind : ListKind) (Inside : Within) (holds : Holds list_kind Inside) (m : ChoiceMacro) {c : declarations.Declarations} {args : List Span} {cases : Cases} → AreCases Inside m c args cases → HeldIn list_kind cases
+cases_held list_kind Inside holds m no_more = held_no_case list_kind
+cases_held list_kind Inside holds m (default {c = c} {arg = arg} {body = body} i) = held_if list_kind Always (is_given arg) body (holds c arg body i)
+cases_held list_kind Inside holds m (pair {when = when} {body = body} {others = others} w i more) = held_case list_kind when body others (holds _ _ _ i) (cases_held list_kind Inside holds m more)
 
-action_held : (scene : Scene) (Inside : Within) (holds : Holds scene Inside) (when : When) {c : declarations.Declarations} {args : List Span} {cases : Cases} → IsAction Inside when c args cases → HeldIn scene cases
-action_held scene Inside holds when absent = held_no_case scene
-action_held scene Inside holds when (there {c = c} {arg = arg} {body = body} i) = held_if scene when (is_given arg) body (holds c arg body i)
+action_held : (list_kind : ListKind) (Inside : Within) (holds : Holds list_kind Inside) (when : When) {c : declarations.Declarations} {args : List Span} {cases : Cases} → IsAction Inside when c args cases → HeldIn list_kind cases
+action_held list_kind Inside holds when absent = held_no_case list_kind
+action_held list_kind Inside holds when (there {c = c} {arg = arg} {body = body} i) = held_if list_kind when (is_given arg) body (holds c arg body i)
 
 -- ---- calls
 
--- The statements of a case are those of its scene.
-of_case_held : (scene : Scene) (s : Script) → Held (of_case scene) s → Held scene s
+-- The statements of a case are those of its list_kind.
+of_case_held : (list_kind : ListKind) (s : Script) → Held (of_case list_kind) s → Held list_kind s
 of_case_held Top s h = h
 of_case_held Nested s h = h
 of_case_held (Commands n at) s h = h
 
-plain_held : (scene : Scene) (m : PlainMacro) (s : plain.Plain) → may_hold scene (A_plain m) ≡ Ok tt → Held scene (Then s Done)
+plain_held : (list_kind : ListKind) (m : PlainMacro) (s : plain.Plain) → may_hold list_kind (A_plain m) ≡ Ok tt → Held list_kind (Then s Done)
 unfolding may_hold
 plain_held Top m s e = tt
 plain_held Nested m s e = tt
@@ -172,7 +172,7 @@ subject_tries As_case args subject e =
     let w = bind_ok (word (arg_at args 0)) _ _ e in
     subst TriesAlone (ok_is (Word w.0) subject w.2) tt
 
-held_choice : (scene : Scene) (subject : Subject) (cases : Cases) → TriesAlone subject → HeldIn scene cases → Held scene (Choice subject cases Done)
+held_choice : (list_kind : ListKind) (subject : Subject) (cases : Cases) → TriesAlone subject → HeldIn list_kind cases → Held list_kind (Choice subject cases Done)
 held_choice Top subject cases t h = (h, tt)
 held_choice Nested subject cases t h = (h, tt)
 held_choice (Commands n at) subject cases t h = (t, (h, tt))
@@ -215,8 +215,8 @@ commands_asked n (asks.ChecksEach sought entries includes) cases t h = absurd t
 commands_asked n (asks.Library library function others adds) cases t h = absurd t
 commands_asked n (asks.Libraries function libraries others) cases t h = absurd t
 
-held_question : (scene : Scene) (c : declarations.Declarations) (m : QuestionMacro) (args : List Span) (q whole : question_of_tree.Question) (cases : Cases) → may_hold scene (A_question m) ≡ Ok tt → question_of c m args ≡ Ok q
-    → completed_of q args ≡ Ok whole → HeldIn scene cases → Held scene (asked_by whole cases)
+held_question : (list_kind : ListKind) (c : declarations.Declarations) (m : QuestionMacro) (args : List Span) (q whole : question_of_tree.Question) (cases : Cases) → may_hold list_kind (A_question m) ≡ Ok tt → question_of c m args ≡ Ok q
+    → completed_of q args ≡ Ok whole → HeldIn list_kind cases → Held list_kind (asked_by whole cases)
 held_question Top c m args q whole cases e f w h = has_asked whole cases h
 held_question Nested c m args q whole cases e f w h = has_asked whole cases h
 held_question (Commands n at) c m args q whole cases e f w h = commands_asked n whole cases (tried_whole q whole args (tried c m args q n at e f) w) h
@@ -228,7 +228,7 @@ named arg n e =
     let y = bind_ok _ _ _ x.2 in
     subst (λ (n : List ℕ). is_cache_name n ≡ true) (ok_is x.0 n y.2) (wants_ok (is_cache_name x.0) _ _ y.1)
 
-held_check : (scene : Scene) (arg : Span) (message : List Part) (n : List ℕ) (at : ℕ) (commands : Script) → may_hold scene A_check ≡ Ok tt → cache_name arg ≡ Ok n → AreCommands n commands → Held scene (Check message n commands Done)
+held_check : (list_kind : ListKind) (arg : Span) (message : List Part) (n : List ℕ) (at : ℕ) (commands : Script) → may_hold list_kind A_check ≡ Ok tt → cache_name arg ≡ Ok n → AreCommands n commands → Held list_kind (Check message n commands Done)
 unfolding may_hold
 held_check Top arg message n at commands e f h = (named arg n f, (h, tt))
 held_check Nested arg message n at commands e f h = (named arg n f, (h, tt))
@@ -236,28 +236,28 @@ held_check (Commands other to) arg message n at commands e f h = absurd cc
 
 -- ---- items
 
-item_held : (scene : Scene) (Inside : Scene → Within) (holds : (x : Scene) → Holds x (Inside x)) (c : declarations.Declarations) (edge : Edge) {item : items.Entry} {next : List items.Entry} {s : Script}
-    → IsItem scene Inside c edge item next s → Held scene s
-item_held scene Inside holds c edge (bare_text i) = bare_held scene i
-item_held scene Inside holds c edge (plain_call {m = m} {s = s} stands p) = plain_held scene m s stands.held
-item_held scene Inside holds c edge (choice {args = args} {m = m} {subject = subject} {cases = cases} stands p i) =
-    held_choice scene subject cases (subject_tries m args subject p) (cases_held scene (Inside (of_case scene)) (λ c arg s x. of_case_held scene s (holds (of_case scene) c arg s x)) m i)
-item_held scene Inside holds c edge (question {args = args} {m = m} {q = q} {whole = whole} {first = first} {other = other} stands p f o w) =
-    let inner : Holds scene (Inside (of_case scene)) = λ c arg s x. of_case_held scene s (holds (of_case scene) c arg s x) in
-    held_question scene c m args q whole (followed first other) stands.held p w
-    (held_followed scene first other (action_held scene (Inside (of_case scene)) inner _ f) (action_held scene (Inside (of_case scene)) inner _ o))
-item_held scene Inside holds c edge (check {args = args} {message = message} {variable = variable} {commands = commands} stands m n i) =
+item_held : (list_kind : ListKind) (Inside : ListKind → Within) (holds : (x : ListKind) → Holds x (Inside x)) (c : declarations.Declarations) (line_start : LineStart) {item : items.Entry} {next : List items.Entry} {s : Script}
+    → IsItem list_kind Inside c line_start item next s → Held list_kind s
+item_held list_kind Inside holds c line_start (bare_text i) = bare_held list_kind i
+item_held list_kind Inside holds c line_start (plain_call {m = m} {s = s} stands p) = plain_held list_kind m s stands.held
+item_held list_kind Inside holds c line_start (choice {args = args} {m = m} {subject = subject} {cases = cases} stands p i) =
+    held_choice list_kind subject cases (subject_tries m args subject p) (cases_held list_kind (Inside (of_case list_kind)) (λ c arg s x. of_case_held list_kind s (holds (of_case list_kind) c arg s x)) m i)
+item_held list_kind Inside holds c line_start (question {args = args} {m = m} {q = q} {whole = whole} {first = first} {other = other} stands p f o w) =
+    let inner : Holds list_kind (Inside (of_case list_kind)) = λ c arg s x. of_case_held list_kind s (holds (of_case list_kind) c arg s x) in
+    held_question list_kind c m args q whole (followed first other) stands.held p w
+    (held_followed list_kind first other (action_held list_kind (Inside (of_case list_kind)) inner _ f) (action_held list_kind (Inside (of_case list_kind)) inner _ o))
+item_held list_kind Inside holds c line_start (check {args = args} {message = message} {variable = variable} {commands = commands} stands m n i) =
     let at = (arg_at args 2).at in
-    held_check scene (arg_at args 1) message variable at commands stands.held n (holds (Commands variable at) c (arg_at args 2) commands i)
+    held_check list_kind (arg_at args 1) message variable at commands stands.held n (holds (Commands variable at) c (arg_at args 2) commands i)
 
-items_held : (scene : Scene) (Inside : Scene → Within) (holds : (x : Scene) → Holds x (Inside x)) {c : declarations.Declarations} {edge : Edge} {items : List items.Entry} {s : Script}
-    → AreStatements scene Inside c edge items s → Held scene s
-items_held scene Inside holds none = held_done scene
-items_held scene Inside holds (one {c = c} {first = first} {rest = rest} i more) = held_joined scene first rest (item_held scene Inside holds c _ i) (items_held scene Inside holds more)
+items_held : (list_kind : ListKind) (Inside : ListKind → Within) (holds : (x : ListKind) → Holds x (Inside x)) {c : declarations.Declarations} {line_start : LineStart} {items : List items.Entry} {s : Script}
+    → AreStatements list_kind Inside c line_start items s → Held list_kind s
+items_held list_kind Inside holds none = held_done list_kind
+items_held list_kind Inside holds (one {c = c} {first = first} {rest = rest} i more) = held_joined list_kind first rest (item_held list_kind Inside holds c _ i) (items_held list_kind Inside holds more)
 
-body_held : (room : ℕ) (scene : Scene) → Holds scene (IsBody room scene)
-body_held zero scene c arg s i = absurd i
-body_held (suc room) scene c arg s i = items_held scene (IsBody room) (body_held room) i.2.2
+body_held : (room : ℕ) (list_kind : ListKind) → Holds list_kind (IsBody room list_kind)
+body_held zero list_kind c arg s i = absurd i
+body_held (suc room) list_kind c arg s i = items_held list_kind (IsBody room) (body_held room) i.2.2
 
 -- The commands in a source.
 pub source_held : (text : List ℕ) (s : Script) → IsSource text s → HasCommands s

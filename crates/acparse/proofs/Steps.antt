@@ -8,9 +8,9 @@ use Rattle.m4quote.specs.declared.item.Item.{Item}
 use Rattle.m4quote.specs.Entry.{Span, Entry, span, view, views, call, bare}
 use Rattle.acstatement.specs.declared.fault.ParseFault.{ParseFault}
 use Rattle.acstatement.specs.declared.fault.ParseFault.TheVariants.{OutOfMemory}
-use Rattle.acstatement.specs.declared.stand.Edge.{Edge}
+use Rattle.acstatement.specs.declared.placement.LineStart.{LineStart}
 use Rattle.acstatement.specs.Reading.{◌>>=◌, Fails, Gives}
-use Rattle.acstatement.specs.Stand.{edge_of, no_edge}
+use Rattle.acstatement.specs.Stand.{line_start_of, no_line_start}
 use Rattle.acstatement.proofs.Binds.{bind_ok, ok_is, fails_bind, fails_along}
 use Rattle.acmacros.specs.declared.macros.ChoiceMacro.{ChoiceMacro}
 use Rattle.acmacros.specs.declared.macros.Macro.{Macro}
@@ -20,7 +20,7 @@ use Rattle.syntax.specs.declared.statement.Question.{Question}
 use Rattle.acmacros.proofs.CheckLemmas.{completed_known}
 use Rattle.acmacros.specs.Checks.{completed_of}
 use Rattle.acmacros.specs.Rows.{question_of}
-use Rattle.acmacros.specs.Scene.{Scene}
+use Rattle.acmacros.specs.ListKind.{ListKind}
 use Rattle.syntax.specs.Lists.{after_question}
 use Rattle.syntax.specs.declared.tree.Case as case
 use Rattle.syntax.specs.declared.tree.Stmt.{Stmt}
@@ -38,36 +38,36 @@ use Rattle.acparse.proofs.Texts.{bare_known, fails_inside}
 -- ---- items
 
 -- The statements so far, followed by those of the rest of the items, are the list.
-pub record Items (scene : Scene) (bodies : Scene → Bodies) (before c : declarations.Declarations) (edge : Edge) (out : Script) (all rest : List Entry) : Type 0 where
-  pub value : following out (items_of scene bodies c edge rest) ≡ items_of scene bodies before no_edge all
+pub record Items (list_kind : ListKind) (bodies : ListKind → Bodies) (before c : declarations.Declarations) (line_start : LineStart) (out : Script) (all rest : List Entry) : Type 0 where
+  pub value : following out (items_of list_kind bodies c line_start rest) ≡ items_of list_kind bodies before no_line_start all
   pub known : after_all before out ≡ c
 
 regroup : (out first : Script) (read : Result Script ParseFault) → following out (read >>= λ r. Ok (joined first r)) ≡ following (joined out first) read
 regroup out first (Ok r) = ap (λ (s : Script). Ok s) (sym (joined_assoc out first r))
 regroup out first (Err f) = refl
 
-items_next : (scene : Scene) (bodies : Scene → Bodies) (before c c' : declarations.Declarations) (edge : Edge) (out out' : Script) (all : List Entry) (item : Entry) (rest : List Entry)
-    → Items scene bodies before c edge out all (item ∷ rest) → Adds c c' out out' (item_of scene bodies c edge item rest) → Items scene bodies before c' (edge_of item) out' all rest
+items_next : (list_kind : ListKind) (bodies : ListKind → Bodies) (before c c' : declarations.Declarations) (line_start : LineStart) (out out' : Script) (all : List Entry) (item : Entry) (rest : List Entry)
+    → Items list_kind bodies before c line_start out all (item ∷ rest) → Adds c c' out out' (item_of list_kind bodies c line_start item rest) → Items list_kind bodies before c' (line_start_of item) out' all rest
 unfolding items_of
-items_next scene bodies before c c' edge out out' all item rest i a =
-    let step = λ (s : Script). items_of scene bodies (after_all c s) (edge_of item) rest >>= λ r. Ok (joined s r) in
-    let one : following out (item_of scene bodies c edge item rest >>= step) ≡ following (joined out a.first) (items_of scene bodies (after_all c a.first) (edge_of item) rest) =
-    ap (λ x. following out (x >>= step)) a.value ∙ regroup out a.first (items_of scene bodies (after_all c a.first) (edge_of item) rest) in
+items_next list_kind bodies before c c' line_start out out' all item rest i a =
+    let step = λ (s : Script). items_of list_kind bodies (after_all c s) (line_start_of item) rest >>= λ r. Ok (joined s r) in
+    let one : following out (item_of list_kind bodies c line_start item rest >>= step) ≡ following (joined out a.first) (items_of list_kind bodies (after_all c a.first) (line_start_of item) rest) =
+    ap (λ x. following out (x >>= step)) a.value ∙ regroup out a.first (items_of list_kind bodies (after_all c a.first) (line_start_of item) rest) in
     record {
-      value = ap (λ s. following s (items_of scene bodies c' (edge_of item) rest)) a.list ∙ ap (λ k. following (joined out a.first) (items_of scene bodies k (edge_of item) rest)) a.known ∙ sym one ∙ i.value;
+      value = ap (λ s. following s (items_of list_kind bodies c' (line_start_of item) rest)) a.list ∙ ap (λ k. following (joined out a.first) (items_of list_kind bodies k (line_start_of item) rest)) a.known ∙ sym one ∙ i.value;
       known = ap (after_all before) a.list ∙ after_joined out a.first before ∙ ap (λ k. after_all k a.first) i.known ∙ sym a.known;
     }
 
-items_fail : (e : ParseFault) (scene : Scene) (bodies : Scene → Bodies) (before c : declarations.Declarations) (edge : Edge) (out : Script) (all : List Entry) (item : Entry) (rest : List Entry)
-    → Items scene bodies before c edge out all (item ∷ rest) → Fails e (item_of scene bodies c edge item rest) → Fails e (items_of scene bodies before no_edge all)
+items_fail : (e : ParseFault) (list_kind : ListKind) (bodies : ListKind → Bodies) (before c : declarations.Declarations) (line_start : LineStart) (out : Script) (all : List Entry) (item : Entry) (rest : List Entry)
+    → Items list_kind bodies before c line_start out all (item ∷ rest) → Fails e (item_of list_kind bodies c line_start item rest) → Fails e (items_of list_kind bodies before no_line_start all)
 unfolding items_of
-items_fail e scene bodies before c edge out all item rest i h = fails_along e _ _ i.value (fails_bind e _ _ (fails_bind e _ _ h))
+items_fail e list_kind bodies before c line_start out all item rest i h = fails_along e _ _ i.value (fails_bind e _ _ (fails_bind e _ _ h))
 
-pub items_done : (scene : Scene) (bodies : Scene → Bodies) (before c : declarations.Declarations) (edge : Edge) (out : Script) (all rest : List Entry)
-    → rest ≡ [] → Items scene bodies before c edge out all rest → items_of scene bodies before no_edge all ≡ Ok out
+pub items_done : (list_kind : ListKind) (bodies : ListKind → Bodies) (before c : declarations.Declarations) (line_start : LineStart) (out : Script) (all rest : List Entry)
+    → rest ≡ [] → Items list_kind bodies before c line_start out all rest → items_of list_kind bodies before no_line_start all ≡ Ok out
 unfolding items_of
-items_done scene bodies before c edge out all rest eq i =
-    sym i.value ∙ ap (λ l. following out (items_of scene bodies c edge l)) eq ∙ ap (λ (s : Script). Ok s) (joined_done out)
+items_done list_kind bodies before c line_start out all rest eq i =
+    sym i.value ∙ ap (λ l. following out (items_of list_kind bodies c line_start l)) eq ∙ ap (λ (s : Script). Ok s) (joined_done out)
 
 -- ---- as the loop over items uses them
 
@@ -78,41 +78,41 @@ views_drop items i item lt is = ap views (drop_more items i item lt) ∙ ap (λ 
 pub slice_from : {A : Type 0} (items : List A) (n : ℕ) → take (length items - n) (drop n items) ≡ drop n items
 slice_from items n = take_all (length items - n) (drop n items) (omega (arith, length-drop n items))
 
-pub items_step : (scene : Scene) (bodies : Scene → Bodies) (before c c' : declarations.Declarations) (edge edge' : Edge) (out out' : Script) (all : List Entry) (item : Entry) (here next rest : List Entry)
-    → here ≡ item ∷ rest → next ≡ rest → edge' ≡ edge_of item
-    → Items scene bodies before c edge out all here → Adds c c' out out' (item_of scene bodies c edge item next) → Items scene bodies before c' edge' out' all rest
-items_step scene bodies before c c' edge edge' out out' all item here next rest e n f i a =
-    subst (λ k. Items scene bodies before c' k out' all rest) (sym f)
-    (items_next scene bodies before c c' edge out out' all item rest (subst (λ l. Items scene bodies before c edge out all l) e i) (subst (λ l. Adds c c' out out' (item_of scene bodies c edge item l)) n a))
+pub items_step : (list_kind : ListKind) (bodies : ListKind → Bodies) (before c c' : declarations.Declarations) (line_start line_start' : LineStart) (out out' : Script) (all : List Entry) (item : Entry) (here next rest : List Entry)
+    → here ≡ item ∷ rest → next ≡ rest → line_start' ≡ line_start_of item
+    → Items list_kind bodies before c line_start out all here → Adds c c' out out' (item_of list_kind bodies c line_start item next) → Items list_kind bodies before c' line_start' out' all rest
+items_step list_kind bodies before c c' line_start line_start' out out' all item here next rest e n f i a =
+    subst (λ k. Items list_kind bodies before c' k out' all rest) (sym f)
+    (items_next list_kind bodies before c c' line_start out out' all item rest (subst (λ l. Items list_kind bodies before c line_start out all l) e i) (subst (λ l. Adds c c' out out' (item_of list_kind bodies c line_start item l)) n a))
 
-pub items_stop : (x : ParseFault) (scene : Scene) (bodies : Scene → Bodies) (before c : declarations.Declarations) (edge : Edge) (out : Script) (all : List Entry) (item : Entry) (here next rest : List Entry)
-    → here ≡ item ∷ rest → next ≡ rest → Items scene bodies before c edge out all here → Fails x (item_of scene bodies c edge item next) → Fails x (items_of scene bodies before no_edge all)
-items_stop x scene bodies before c edge out all item here next rest e n i h =
-    items_fail x scene bodies before c edge out all item rest (subst (λ l. Items scene bodies before c edge out all l) e i) (subst (λ l. Fails x (item_of scene bodies c edge item l)) n h)
+pub items_stop : (x : ParseFault) (list_kind : ListKind) (bodies : ListKind → Bodies) (before c : declarations.Declarations) (line_start : LineStart) (out : Script) (all : List Entry) (item : Entry) (here next rest : List Entry)
+    → here ≡ item ∷ rest → next ≡ rest → Items list_kind bodies before c line_start out all here → Fails x (item_of list_kind bodies c line_start item next) → Fails x (items_of list_kind bodies before no_line_start all)
+items_stop x list_kind bodies before c line_start out all item here next rest e n i h =
+    items_fail x list_kind bodies before c line_start out all item rest (subst (λ l. Items list_kind bodies before c line_start out all l) e i) (subst (λ l. Fails x (item_of list_kind bodies c line_start item l)) n h)
 
-pub call_adds : (scene : Scene) (bodies : Scene → Bodies) (c c' : declarations.Declarations) (at : ℕ) (edge : Edge) (name : List ℕ) (args : List Span) (item : Entry) (next : List Entry) (m : Macro) (out out' : List Stmt) (s : Stmt)
-    → item ≡ call name args at → checked scene c.stage edge name args at next ≡ Ok m → call_of scene bodies c m at args ≡ Ok (script_of (s ∷ []))
-    → c' ≡ after_all c (script_of (s ∷ [])) → out' ≡ out ++ s ∷ [] → Adds c c' (script_of out) (script_of out') (item_of scene bodies c edge item next)
-call_adds scene bodies c c' at edge name args item next m out out' s is check value known list = record {
+pub call_adds : (list_kind : ListKind) (bodies : ListKind → Bodies) (c c' : declarations.Declarations) (at : ℕ) (line_start : LineStart) (name : List ℕ) (args : List Span) (item : Entry) (next : List Entry) (m : Macro) (out out' : List Stmt) (s : Stmt)
+    → item ≡ call name args at → checked list_kind c.stage line_start name args at next ≡ Ok m → call_of list_kind bodies c m at args ≡ Ok (script_of (s ∷ []))
+    → c' ≡ after_all c (script_of (s ∷ [])) → out' ≡ out ++ s ∷ [] → Adds c c' (script_of out) (script_of out') (item_of list_kind bodies c line_start item next)
+call_adds list_kind bodies c c' at line_start name args item next m out out' s is check value known list = record {
   first = script_of (s ∷ []);
-  value = ap (λ i. item_of scene bodies c edge i next) is ∙ ap (λ r. r >>= λ m. call_of scene bodies c m at args) check ∙ value;
+  value = ap (λ i. item_of list_kind bodies c line_start i next) is ∙ ap (λ r. r >>= λ m. call_of list_kind bodies c m at args) check ∙ value;
   list = ap script_of list ∙ script_push out s;
   known = known;
 }
 
-pub bare_adds : (r : Result (Unit {0}) ParseFault) (scene : Scene) (bodies : Scene → Bodies) (c : declarations.Declarations) (at : ℕ) (edge : Edge) (text : List ℕ) (item : Entry) (next : List Entry) (out out' : Script)
-    → item ≡ bare text at → Gives (λ _. out') r (following out (bare_of scene c.stage at text))
-    → MatchResult r (λ _. Adds c c out out' (item_of scene bodies c edge item next)) (λ e. Fails e (item_of scene bodies c edge item next))
-bare_adds (Ok x) scene bodies c at edge text item next out out' is h =
-    let f = bind_ok (bare_of scene c.stage at text) (λ s. Ok (joined out s)) out' h in
+pub bare_adds : (r : Result (Unit {0}) ParseFault) (list_kind : ListKind) (bodies : ListKind → Bodies) (c : declarations.Declarations) (at : ℕ) (line_start : LineStart) (text : List ℕ) (item : Entry) (next : List Entry) (out out' : Script)
+    → item ≡ bare text at → Gives (λ _. out') r (following out (bare_of list_kind c.stage at text))
+    → MatchResult r (λ _. Adds c c out out' (item_of list_kind bodies c line_start item next)) (λ e. Fails e (item_of list_kind bodies c line_start item next))
+bare_adds (Ok x) list_kind bodies c at line_start text item next out out' is h =
+    let f = bind_ok (bare_of list_kind c.stage at text) (λ s. Ok (joined out s)) out' h in
     record {
       first = f.0;
-      value = ap (λ i. item_of scene bodies c edge i next) is ∙ f.1;
+      value = ap (λ i. item_of list_kind bodies c line_start i next) is ∙ f.1;
       list = sym (ok_is _ out' f.2);
-      known = sym (bare_known c scene c.stage at text f.0 f.1);
+      known = sym (bare_known c list_kind c.stage at text f.0 f.1);
     }
-bare_adds (Err e) scene bodies c at edge text item next out out' is h =
-    fails_along e _ _ (ap (λ i. item_of scene bodies c edge i next) (sym is)) (fails_inside e out _ h)
+bare_adds (Err e) list_kind bodies c at line_start text item next out out' is h =
+    fails_along e _ _ (ap (λ i. item_of list_kind bodies c line_start i next) (sym is)) (fails_inside e out _ h)
 
 -- ---- cases
 

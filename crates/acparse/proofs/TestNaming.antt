@@ -7,7 +7,7 @@ use Rattle.m4quote.specs.Entry as items
 use Rattle.deftable.specs.ShellName.{is_shell_name_of, IsShellName}
 use Rattle.acstatement.specs.declared.fault.ParseFault.{ParseFault}
 use Rattle.acstatement.specs.declared.fault.ParseFault.TheVariants.{TooMany}
-use Rattle.acstatement.specs.declared.stand.Edge.{Edge}
+use Rattle.acstatement.specs.declared.placement.LineStart.{LineStart}
 use Rattle.acstatement.specs.Reading.{◌>>=◌, Gives, wants}
 use Rattle.acstatement.specs.Texts.{arg_at}
 use Rattle.acstatement.proofs.Binds.{bind_ok, ok_is, wants_ok}
@@ -22,7 +22,7 @@ use Rattle.acmacros.specs.declared.macros.PlainMacro.{PlainMacro}
 use Rattle.acmacros.specs.declared.macros.PlainMacro.TheVariants as macro
 use Rattle.acmacros.specs.Room.{has_room}
 use Rattle.acmacros.specs.Rows.{plain_of, init, tarname, prereq, lang, config_files, config_headers, subst as subst_row, subst_of, defined, define, unquoted_of, unquoted, define_unquoted, msg_error, message_of, arg_var}
-use Rattle.acmacros.specs.Scene.{Scene, Top, of_case}
+use Rattle.acmacros.specs.ListKind.{ListKind, Top, of_case}
 use Rattle.acmacros.specs.Searches.{has_tool_room, output_variable, optional_text, compilers, check_prog, check_progs, path_prog, prog_cc}
 use Rattle.syntax.specs.declared.declarations.Declarations as declarations
 use Rattle.syntax.specs.declared.declarations.Stage.{Stage}
@@ -50,7 +50,7 @@ use Rattle.acparse.proofs.Whole.{source_found}
 name_form : (arg : Span) (n : List ℕ) → name arg ≡ Ok n → IsShellName n
 unfolding name
 name_form arg n e =
-    let t = bind_ok (arguments.bare_text arg) _ _ e in
+    let t = bind_ok (arguments.trimmed_text arg) _ _ e in
     let w = bind_ok _ _ _ t.2 in
     subst IsShellName (ok_is t.0 n w.2) (wants_ok (is_shell_name_of t.0) _ _ w.1)
 
@@ -172,10 +172,10 @@ assigned_named : (list : List Assignment) → HasTestNames (assigned list)
 assigned_named [] = tt
 assigned_named (a ∷ more) = (tt, assigned_named more)
 
-bare_named : {stage : Stage} {text : List ℕ} {s : Script} (scene : Scene) → IsBare scene stage text s → HasTestNames s
-bare_named scene (before is) = tt
-bare_named scene (ended is) = tt
-bare_named scene (assignments {list = list} v l may) = assigned_named list
+bare_named : {stage : Stage} {text : List ℕ} {s : Script} (list_kind : ListKind) → IsBare list_kind stage text s → HasTestNames s
+bare_named list_kind (before is) = tt
+bare_named list_kind (ended is) = tt
+bare_named list_kind (assignments {list = list} v l may) = assigned_named list
 
 -- ---- cases
 
@@ -211,24 +211,24 @@ asked_named (asks.Libraries function libraries others) cases h = (h, tt)
 
 -- ---- items
 
-item_named : (scene : Scene) (Inside : Scene → Within) (holds : (x : Scene) → Holds (Inside x)) (c : declarations.Declarations) (edge : Edge) {item : items.Entry} {next : List items.Entry} {s : Script}
-    → IsItem scene Inside c edge item next s → HasTestNames s
-item_named scene Inside holds c edge (bare_text i) = bare_named scene i
-item_named scene Inside holds c edge (plain_call {m = m} {s = s} stands p) = (plain_named c m _ _ s p, tt)
-item_named scene Inside holds c edge (choice {m = m} stands p i) = (cases_named (Inside (of_case scene)) (holds (of_case scene)) m i, tt)
-item_named scene Inside holds c edge (question {whole = whole} {first = first} {other = other} stands p f o w) =
-    let inner = holds (of_case scene) in
-    asked_named whole (followed first other) (followed_named first other (action_named (Inside (of_case scene)) inner _ f) (action_named (Inside (of_case scene)) inner _ o))
-item_named scene Inside holds c edge (check stands m n i) = (holds _ _ _ _ i, tt)
+item_named : (list_kind : ListKind) (Inside : ListKind → Within) (holds : (x : ListKind) → Holds (Inside x)) (c : declarations.Declarations) (line_start : LineStart) {item : items.Entry} {next : List items.Entry} {s : Script}
+    → IsItem list_kind Inside c line_start item next s → HasTestNames s
+item_named list_kind Inside holds c line_start (bare_text i) = bare_named list_kind i
+item_named list_kind Inside holds c line_start (plain_call {m = m} {s = s} stands p) = (plain_named c m _ _ s p, tt)
+item_named list_kind Inside holds c line_start (choice {m = m} stands p i) = (cases_named (Inside (of_case list_kind)) (holds (of_case list_kind)) m i, tt)
+item_named list_kind Inside holds c line_start (question {whole = whole} {first = first} {other = other} stands p f o w) =
+    let inner = holds (of_case list_kind) in
+    asked_named whole (followed first other) (followed_named first other (action_named (Inside (of_case list_kind)) inner _ f) (action_named (Inside (of_case list_kind)) inner _ o))
+item_named list_kind Inside holds c line_start (check stands m n i) = (holds _ _ _ _ i, tt)
 
-items_named : (scene : Scene) (Inside : Scene → Within) (holds : (x : Scene) → Holds (Inside x)) {c : declarations.Declarations} {edge : Edge} {items : List items.Entry} {s : Script}
-    → AreStatements scene Inside c edge items s → HasTestNames s
-items_named scene Inside holds none = tt
-items_named scene Inside holds (one {c = c} {first = first} {rest = rest} i more) = joined_named first rest (item_named scene Inside holds c _ i) (items_named scene Inside holds more)
+items_named : (list_kind : ListKind) (Inside : ListKind → Within) (holds : (x : ListKind) → Holds (Inside x)) {c : declarations.Declarations} {line_start : LineStart} {items : List items.Entry} {s : Script}
+    → AreStatements list_kind Inside c line_start items s → HasTestNames s
+items_named list_kind Inside holds none = tt
+items_named list_kind Inside holds (one {c = c} {first = first} {rest = rest} i more) = joined_named first rest (item_named list_kind Inside holds c _ i) (items_named list_kind Inside holds more)
 
-body_named : (room : ℕ) (scene : Scene) → Holds (IsBody room scene)
-body_named zero scene c arg s i = absurd i
-body_named (suc room) scene c arg s i = items_named scene (IsBody room) (body_named room) i.2.2
+body_named : (room : ℕ) (list_kind : ListKind) → Holds (IsBody room list_kind)
+body_named zero list_kind c arg s i = absurd i
+body_named (suc room) list_kind c arg s i = items_named list_kind (IsBody room) (body_named room) i.2.2
 
 -- The variables of the programs in a source.
 pub source_named : (text : List ℕ) (s : Script) → IsSource text s → HasTestNames s

@@ -13,7 +13,7 @@ use Rattle.syntax.specs.declared.declarations.Stage.TheVariants.{Before, Open, E
 use Rattle.syntax.specs.declared.statement.Plain.TheVariants.{Assign}
 use Rattle.syntax.specs.Lists.{after}
 use Rattle.acmacros.specs.Placement.{bare_fault}
-use Rattle.acmacros.specs.Scene.{Scene}
+use Rattle.acmacros.specs.ListKind.{ListKind}
 use Rattle.m4quote.specs.Scan.{bare_value_of}
 use Rattle.syntax.specs.declared.tree.Stmt.{Stmt}
 use Rattle.syntax.specs.declared.tree.Stmt.TheVariants.{Plain, Choose', CacheCheck'}
@@ -38,14 +38,14 @@ assign_more before out out' seen a e h =
     ∙ ap (joined before) (sym (assigned_push seen a))
 
 -- Text without effect, if no statement is allowed.
-pub idle_adds : (scene : Scene) (at : ℕ) (text : List ℕ) (out : Script) (stage : Stage) (r : Result (Unit {0}) ParseFault) → (stage ≡ Open → ⊥) → Gives (λ _. Done) r (idle_or (is_idle text) (bare_fault stage at))
-    → Gives (λ _. out) r (following out (bare_of scene stage at text))
+pub idle_adds : (list_kind : ListKind) (at : ℕ) (text : List ℕ) (out : Script) (stage : Stage) (r : Result (Unit {0}) ParseFault) → (stage ≡ Open → ⊥) → Gives (λ _. Done) r (idle_or (is_idle text) (bare_fault stage at))
+    → Gives (λ _. out) r (following out (bare_of list_kind stage at text))
 unfolding bare_of
-idle_adds scene at text out Open r n h = absurd (n refl)
-idle_adds scene at text out Before (Ok x) n h = ap (following out) h ∙ ap (λ (s : Script). Ok s) (joined_done out)
-idle_adds scene at text out Before (Err f) n h = fails_bind f _ _ h
-idle_adds scene at text out Ended (Ok x) n h = ap (following out) h ∙ ap (λ (s : Script). Ok s) (joined_done out)
-idle_adds scene at text out Ended (Err f) n h = fails_bind f _ _ h
+idle_adds list_kind at text out Open r n h = absurd (n refl)
+idle_adds list_kind at text out Before (Ok x) n h = ap (following out) h ∙ ap (λ (s : Script). Ok s) (joined_done out)
+idle_adds list_kind at text out Before (Err f) n h = fails_bind f _ _ h
+idle_adds list_kind at text out Ended (Ok x) n h = ap (following out) h ∙ ap (λ (s : Script). Ok s) (joined_done out)
+idle_adds list_kind at text out Ended (Err f) n h = fails_bind f _ _ h
 
 pub before_open : (stage : Stage) → stage ≡ Before → stage ≡ Open → ⊥
 before_open stage e f = cc
@@ -61,11 +61,11 @@ unfolding after
 assigned_known [] c = refl
 assigned_known (a ∷ more) c = assigned_known more c
 
-value_known : (c : declarations.Declarations) (scene : Scene) (at : ℕ) (text : List ℕ) (s : Script) → assigned_in scene at text ≡ Ok s → after_all c s ≡ c
+value_known : (c : declarations.Declarations) (list_kind : ListKind) (at : ℕ) (text : List ℕ) (s : Script) → assigned_in list_kind at text ≡ Ok s → after_all c s ≡ c
 unfolding assigned_in
-value_known c scene at text s e =
+value_known c list_kind at text s e =
     let l = bind_ok (of_value at (bare_value_of text)) _ s e in
-    let m = bind_ok (may_assign scene l.0) _ s l.2 in
+    let m = bind_ok (may_assign list_kind l.0) _ s l.2 in
     ap (after_all c) (sym (ok_is _ s m.2)) ∙ assigned_known l.0 c
 
 idle_known : (c : declarations.Declarations) (b : Bool) (f : ParseFault) (s : Script) → idle_or b f ≡ Ok s → after_all c s ≡ c
@@ -73,11 +73,11 @@ idle_known c true f s e = ap (after_all c) (sym (ok_is Done s e))
 idle_known c false f s e = absurd cc
 
 -- Bare text declares nothing.
-pub bare_known : (c : declarations.Declarations) (scene : Scene) (stage : Stage) (at : ℕ) (text : List ℕ) (s : Script) → bare_of scene stage at text ≡ Ok s → after_all c s ≡ c
+pub bare_known : (c : declarations.Declarations) (list_kind : ListKind) (stage : Stage) (at : ℕ) (text : List ℕ) (s : Script) → bare_of list_kind stage at text ≡ Ok s → after_all c s ≡ c
 unfolding bare_of
-bare_known c scene Before at text s e = idle_known c (is_idle text) _ s e
-bare_known c scene Open at text s e = value_known c scene at text s e
-bare_known c scene Ended at text s e = idle_known c (is_idle text) _ s e
+bare_known c list_kind Before at text s e = idle_known c (is_idle text) _ s e
+bare_known c list_kind Open at text s e = value_known c list_kind at text s e
+bare_known c list_kind Ended at text s e = idle_known c (is_idle text) _ s e
 
 failed : (out : Script) (r : Result Script ParseFault) (x : ParseFault) → following out r ≡ Err x → r ≡ Err x
 failed out (Ok s) x h = absurd cc

@@ -6,13 +6,13 @@ use Rattle.m4quote.specs.Scan.{outcome}
 use Rattle.acstatement.specs.declared.fault.ParseFault.{ParseFault}
 use Rattle.acstatement.specs.declared.fault.ParseFault.TheVariants.{OutOfMemory}
 use Rattle.acstatement.specs.Reading.{Gives, quoted}
-use Rattle.acstatement.specs.Stand.{no_edge}
+use Rattle.acstatement.specs.Stand.{no_line_start}
 use Rattle.acstatement.proofs.Binds.{bind_ok, bind_err, then_ok, ok_is, err_is}
 use Rattle.syntax.specs.declared.declarations.Stage.{Stage}
 use Rattle.syntax.specs.declared.declarations.Stage.TheVariants.{Before, Open, Ended}
 use Rattle.syntax.specs.Lists.{start}
 use Rattle.syntax.specs.Lists.{after_all}
-use Rattle.acmacros.specs.Scene.{Top}
+use Rattle.acmacros.specs.ListKind.{Top}
 use Rattle.acparse.specs.Profile.{source_of, body_of, ended}
 use Rattle.syntax.specs.declared.tree.Stmt.{Stmt}
 use Rattle.syntax.specs.Script.{Script, script_of}
@@ -35,7 +35,7 @@ source_found text s e =
     let l = bind_ok _ _ _ i.2 in
     let z = ended_ok _ l.0 s l.2 in
     subst (IsSource text) z.1 (record {
-      list = record { items = i.0; spelled = (outcome_is_spelling 0 text i.0).0 (quoted_ok (outcome 0 text) i.0 i.1); statements = items_found Top (body_of 31) (IsBody 31) (body_found 31) i.0 start no_edge l.0 l.1 };
+      list = record { items = i.0; spelled = (outcome_is_spelling 0 text i.0).0 (quoted_ok (outcome 0 text) i.0 i.1); statements = items_found Top (body_of 31) (IsBody 31) (body_found 31) i.0 start no_line_start l.0 l.1 };
       ended = z.0;
     })
 
@@ -58,8 +58,8 @@ source_fault text f e =
       | inr i ↦
           let spelled = (outcome_is_spelling 0 text i.0).0 (quoted_ok (outcome 0 text) i.0 i.1) in
           elim (bind_err _ _ _ i.2) [
-            | inl h ↦ in_items spelled (items_break Top (body_of 31) (IsBody 31) (IsBroken 31) (body_found 31) (body_breaks 31) i.0 start no_edge f h)
-            | inr s ↦ ended_err text (after_all start s.0).stage s.0 f refl (record { items = i.0; spelled = spelled; statements = items_found Top (body_of 31) (IsBody 31) (body_found 31) i.0 start no_edge s.0 s.1 }) s.2
+            | inl h ↦ in_items spelled (items_break Top (body_of 31) (IsBody 31) (IsBroken 31) (body_found 31) (body_breaks 31) i.0 start no_line_start f h)
+            | inr s ↦ ended_err text (after_all start s.0).stage s.0 f refl (record { items = i.0; spelled = spelled; statements = items_found Top (body_of 31) (IsBody 31) (body_found 31) i.0 start no_line_start s.0 s.1 }) s.2
           ]
     ]
 

@@ -16,7 +16,7 @@ use Rattle.syntax.specs.declared.declarations.Stage.{Stage}
 use Rattle.syntax.specs.declared.declarations.Stage.TheVariants.{Before, Open, Ended}
 use Rattle.syntax.specs.declared.statement.Plain.TheVariants.{Assign}
 use Rattle.acmacros.specs.Placement.{bare_fault}
-use Rattle.acmacros.specs.Scene.{Scene, Top, Nested, Commands}
+use Rattle.acmacros.specs.ListKind.{ListKind, Top, Nested, Commands}
 use Rattle.syntax.specs.Script.{Script, Done, Then}
 
 -- An error of bare text, as an error of the source at the offset of the text. (own)
@@ -39,8 +39,8 @@ assigned (a ∷ more) = Then (Assign a.name a.value) (assigned more)
 abbrev pub set_alone : List ℕ → List Assignment → Bool
 set_alone name list = list_all (λ a. bytes_eq a.name name) list
 
--- The scene may hold these assignments: commands set their own name alone. (own)
-unfoldable pub may_assign : Scene → List Assignment → Result (Unit {0}) ParseFault
+-- The list_kind may hold these assignments: commands set their own name alone. (own)
+unfoldable pub may_assign : ListKind → List Assignment → Result (Unit {0}) ParseFault
 may_assign Top list = Ok tt
 may_assign Nested list = Ok tt
 may_assign (Commands name at) list = wants (set_alone name list) (CacheBody at)
@@ -50,11 +50,11 @@ abbrev pub of_value : ℕ → Result (List ℕ) QuoteFault → Result (List Assi
 of_value at (Ok value) = bare_at at (statements_of value)
 of_value at (Err f) = Err (UnknownStatement at)
 
--- The assignments in bare text at an offset, if the scene may hold them. (own)
-unfoldable pub assigned_in : Scene → ℕ → List ℕ → Result Script ParseFault
-assigned_in scene at text = do
+-- The assignments in bare text at an offset, if the list_kind may hold them. (own)
+unfoldable pub assigned_in : ListKind → ℕ → List ℕ → Result Script ParseFault
+assigned_in list_kind at text = do
   list ← of_value at (bare_value_of text)
-  _ ← may_assign scene list
+  _ ← may_assign list_kind list
   Ok (assigned list)
 
 -- Text without effect, or this error. (own)
@@ -63,7 +63,7 @@ idle_or true f = Ok Done
 idle_or false f = Err f
 
 -- The statements of bare text at an offset: before AC_INIT and after AC_OUTPUT, none are allowed. (own)
-unfoldable pub bare_of : Scene → Stage → ℕ → List ℕ → Result Script ParseFault
-bare_of scene Before at text = idle_or (is_idle text) (bare_fault Before at)
-bare_of scene Open at text = assigned_in scene at text
-bare_of scene Ended at text = idle_or (is_idle text) (bare_fault Ended at)
+unfoldable pub bare_of : ListKind → Stage → ℕ → List ℕ → Result Script ParseFault
+bare_of list_kind Before at text = idle_or (is_idle text) (bare_fault Before at)
+bare_of list_kind Open at text = assigned_in list_kind at text
+bare_of list_kind Ended at text = idle_or (is_idle text) (bare_fault Ended at)

@@ -7,14 +7,14 @@ use Rattle.m4quote.specs.Spelling.{IsSpelling}
 use Rattle.m4quote.specs.declared.fault.QuoteFault.{QuoteFault}
 use Rattle.acstatement.specs.declared.fault.ParseFault.{ParseFault}
 use Rattle.acstatement.specs.declared.fault.ParseFault.TheVariants.{UnknownMacro, UnknownStatement, ArgCount, TooDeep}
-use Rattle.acstatement.specs.declared.stand.Edge.{Edge}
+use Rattle.acstatement.specs.declared.placement.LineStart.{LineStart}
 use Rattle.acstatement.specs.Inside.{inside}
 use Rattle.acstatement.specs.Texts.{arg_at}
 use Rattle.acargs.specs.Arguments.{cache_name}
 use Rattle.acargs.specs.Shell.{here_text}
 use Rattle.shellword.specs.declared.part.Part.{Part}
 use Rattle.acstatement.specs.Reading.{quote_fault}
-use Rattle.acstatement.specs.Stand.{edge_of, no_edge, is_statement}
+use Rattle.acstatement.specs.Stand.{line_start_of, no_line_start, is_statement}
 use Rattle.acmacros.specs.declared.macros.ArgumentMacro.{ArgumentMacro}
 use Rattle.acmacros.specs.declared.macros.ChoiceMacro.{ChoiceMacro}
 use Rattle.acmacros.specs.declared.macros.Macro.{Macro}
@@ -30,7 +30,7 @@ use Rattle.acmacros.specs.Checks.{completed_of}
 use Rattle.acmacros.specs.Rows.{plain_of, question_of}
 use Rattle.syntax.specs.Lists.{after_question}
 use Rattle.acmacros.specs.Placement.{bare_fault, placed}
-use Rattle.acmacros.specs.Scene.{Scene, Commands, is_top, of_case, may_hold}
+use Rattle.acmacros.specs.ListKind.{ListKind, Commands, is_top, of_case, may_hold}
 use Rattle.acmacros.specs.Table.{row_named, takes}
 use Rattle.syntax.specs.declared.tree.Subject.{Subject}
 use Rattle.syntax.specs.declared.tree.When.{When}
@@ -47,13 +47,13 @@ WithinBreaks = declarations.Declarations → Span → ParseFault → Type 0
 
 -- A call is no statement here: its macro is unknown, takes other arguments, is read only in arguments, or isn't allowed
 -- here, or the call isn't separate from other text, or the list may not hold it. (own)
-pub data MayNotStand (scene : Scene) (stage : Stage) (edge : Edge) (name : List ℕ) (args : List Span) (at : ℕ) (following : List Entry) : ParseFault → Type 0 where
-  unknown : row_named name ≡ None → MayNotStand scene stage edge name args at following (UnknownMacro at)
-  other_arguments : {row : Row} → row_named name ≡ Some row → takes row args ≡ false → MayNotStand scene stage edge name args at following (ArgCount at)
-  in_arguments_alone : {row : Row} {m : ArgumentMacro} → row_named name ≡ Some row → row.named ≡ An_argument m → MayNotStand scene stage edge name args at following (bare_fault stage at)
-  not_here : {row : Row} {m : Macro} {f : ParseFault} → row_named name ≡ Some row → row.named ≡ Statement m → placed (is_top scene) stage row.top m at ≡ Err f → MayNotStand scene stage edge name args at following f
-  in_text : {row : Row} {m : Macro} → row_named name ≡ Some row → row.named ≡ Statement m → is_statement edge name args at following ≡ false → MayNotStand scene stage edge name args at following (UnknownStatement at)
-  not_held : {row : Row} {m : Macro} {f : ParseFault} → row_named name ≡ Some row → row.named ≡ Statement m → may_hold scene m ≡ Err f → MayNotStand scene stage edge name args at following f
+pub data MayNotStand (list_kind : ListKind) (stage : Stage) (line_start : LineStart) (name : List ℕ) (args : List Span) (at : ℕ) (following : List Entry) : ParseFault → Type 0 where
+  unknown : row_named name ≡ None → MayNotStand list_kind stage line_start name args at following (UnknownMacro at)
+  other_arguments : {row : Row} → row_named name ≡ Some row → takes row args ≡ false → MayNotStand list_kind stage line_start name args at following (ArgCount at)
+  in_arguments_alone : {row : Row} {m : ArgumentMacro} → row_named name ≡ Some row → row.named ≡ An_argument m → MayNotStand list_kind stage line_start name args at following (bare_fault stage at)
+  not_here : {row : Row} {m : Macro} {f : ParseFault} → row_named name ≡ Some row → row.named ≡ Statement m → placed (is_top list_kind) stage row.top m at ≡ Err f → MayNotStand list_kind stage line_start name args at following f
+  in_text : {row : Row} {m : Macro} → row_named name ≡ Some row → row.named ≡ Statement m → is_statement line_start name args at following ≡ false → MayNotStand list_kind stage line_start name args at following (UnknownStatement at)
+  not_held : {row : Row} {m : Macro} {f : ParseFault} → row_named name ≡ Some row → row.named ≡ Statement m → may_hold list_kind m ≡ Err f → MayNotStand list_kind stage line_start name args at following f
 
 -- An argument among cases has an error, and those before it have none. (own)
 pub data CasesBreak (Inside : Within) (Broken : WithinBreaks) (m : ChoiceMacro) : declarations.Declarations → List Span → ParseFault → Type 0 where
@@ -72,57 +72,57 @@ pub data ActionBreaks (Broken : WithinBreaks) : declarations.Declarations → Li
 
 -- An item has an error: bare text isn't statements, a call isn't allowed, or an argument of it doesn't have its form.
 -- (own)
-pub data ItemBreaks (scene : Scene) (Inside : Scene → Within) (Broken : Scene → WithinBreaks) (c : declarations.Declarations) (edge : Edge) : Entry → List Entry → ParseFault → Type 0 where
-  other_text : {text : List ℕ} {at : ℕ} {following : List Entry} {f : ParseFault} → bare_of scene c.stage at text ≡ Err f → ItemBreaks scene Inside Broken c edge (bare text at) following f
+pub data ItemBreaks (list_kind : ListKind) (Inside : ListKind → Within) (Broken : ListKind → WithinBreaks) (c : declarations.Declarations) (line_start : LineStart) : Entry → List Entry → ParseFault → Type 0 where
+  other_text : {text : List ℕ} {at : ℕ} {following : List Entry} {f : ParseFault} → bare_of list_kind c.stage at text ≡ Err f → ItemBreaks list_kind Inside Broken c line_start (bare text at) following f
   may_not_stand : {name : List ℕ} {args : List Span} {at : ℕ} {following : List Entry} {f : ParseFault}
-      → MayNotStand scene c.stage edge name args at following f → ItemBreaks scene Inside Broken c edge (call name args at) following f
+      → MayNotStand list_kind c.stage line_start name args at following f → ItemBreaks list_kind Inside Broken c line_start (call name args at) following f
   argument : {name : List ℕ} {args : List Span} {at : ℕ} {following : List Entry} {m : PlainMacro} {f : ParseFault}
-      → MayStand scene c.stage edge name args at following (Plain m) → plain_of c m at args ≡ Err f → ItemBreaks scene Inside Broken c edge (call name args at) following f
+      → MayStand list_kind c.stage line_start name args at following (Plain m) → plain_of c m at args ≡ Err f → ItemBreaks list_kind Inside Broken c line_start (call name args at) following f
   in_subject : {name : List ℕ} {args : List Span} {at : ℕ} {following : List Entry} {m : ChoiceMacro} {f : ParseFault}
-      → MayStand scene c.stage edge name args at following (A_choice m) → subject_of m args ≡ Err f → ItemBreaks scene Inside Broken c edge (call name args at) following f
+      → MayStand list_kind c.stage line_start name args at following (A_choice m) → subject_of m args ≡ Err f → ItemBreaks list_kind Inside Broken c line_start (call name args at) following f
   in_cases : {name : List ℕ} {args : List Span} {at : ℕ} {following : List Entry} {m : ChoiceMacro} {subject : Subject} {f : ParseFault}
-      → MayStand scene c.stage edge name args at following (A_choice m) → subject_of m args ≡ Ok subject → CasesBreak (Inside (of_case scene)) (Broken (of_case scene)) m c (case_args m args) f
-      → ItemBreaks scene Inside Broken c edge (call name args at) following f
+      → MayStand list_kind c.stage line_start name args at following (A_choice m) → subject_of m args ≡ Ok subject → CasesBreak (Inside (of_case list_kind)) (Broken (of_case list_kind)) m c (case_args m args) f
+      → ItemBreaks list_kind Inside Broken c line_start (call name args at) following f
   in_question : {name : List ℕ} {args : List Span} {at : ℕ} {following : List Entry} {m : QuestionMacro} {f : ParseFault}
-      → MayStand scene c.stage edge name args at following (A_question m) → question_of c m args ≡ Err f → ItemBreaks scene Inside Broken c edge (call name args at) following f
+      → MayStand list_kind c.stage line_start name args at following (A_question m) → question_of c m args ≡ Err f → ItemBreaks list_kind Inside Broken c line_start (call name args at) following f
   in_yes : {name : List ℕ} {args : List Span} {at : ℕ} {following : List Entry} {m : QuestionMacro} {q : Question} {f : ParseFault}
-      → MayStand scene c.stage edge name args at following (A_question m) → question_of c m args ≡ Ok q → ActionBreaks (Broken (of_case scene)) (after_question c q) (action_args m args) f
-      → ItemBreaks scene Inside Broken c edge (call name args at) following f
+      → MayStand list_kind c.stage line_start name args at following (A_question m) → question_of c m args ≡ Ok q → ActionBreaks (Broken (of_case list_kind)) (after_question c q) (action_args m args) f
+      → ItemBreaks list_kind Inside Broken c line_start (call name args at) following f
   in_no : {name : List ℕ} {args : List Span} {at : ℕ} {following : List Entry} {m : QuestionMacro} {q : Question} {first : Cases} {f : ParseFault}
-      → MayStand scene c.stage edge name args at following (A_question m) → question_of c m args ≡ Ok q
-      → IsAction (Inside (of_case scene)) Yes (after_question c q) (action_args m args) first
-      → ActionBreaks (Broken (of_case scene)) (after_cases (after_question c q) first) (drop 1 (action_args m args)) f
-      → ItemBreaks scene Inside Broken c edge (call name args at) following f
+      → MayStand list_kind c.stage line_start name args at following (A_question m) → question_of c m args ≡ Ok q
+      → IsAction (Inside (of_case list_kind)) Yes (after_question c q) (action_args m args) first
+      → ActionBreaks (Broken (of_case list_kind)) (after_cases (after_question c q) first) (drop 1 (action_args m args)) f
+      → ItemBreaks list_kind Inside Broken c line_start (call name args at) following f
   in_includes : {name : List ℕ} {args : List Span} {at : ℕ} {following : List Entry} {m : QuestionMacro} {q : Question} {first other : Cases} {f : ParseFault}
-      → MayStand scene c.stage edge name args at following (A_question m) → question_of c m args ≡ Ok q
-      → IsAction (Inside (of_case scene)) Yes (after_question c q) (action_args m args) first
-      → IsAction (Inside (of_case scene)) No (after_cases (after_question c q) first) (drop 1 (action_args m args)) other
+      → MayStand list_kind c.stage line_start name args at following (A_question m) → question_of c m args ≡ Ok q
+      → IsAction (Inside (of_case list_kind)) Yes (after_question c q) (action_args m args) first
+      → IsAction (Inside (of_case list_kind)) No (after_cases (after_question c q) first) (drop 1 (action_args m args)) other
       → completed_of q args ≡ Err f
-      → ItemBreaks scene Inside Broken c edge (call name args at) following f
+      → ItemBreaks list_kind Inside Broken c line_start (call name args at) following f
   in_message : {name : List ℕ} {args : List Span} {at : ℕ} {following : List Entry} {f : ParseFault}
-      → MayStand scene c.stage edge name args at following A_check → here_text (arg_at args 0) ≡ Err f → ItemBreaks scene Inside Broken c edge (call name args at) following f
+      → MayStand list_kind c.stage line_start name args at following A_check → here_text (arg_at args 0) ≡ Err f → ItemBreaks list_kind Inside Broken c line_start (call name args at) following f
   in_name : {name : List ℕ} {args : List Span} {at : ℕ} {following : List Entry} {message : List Part} {f : ParseFault}
-      → MayStand scene c.stage edge name args at following A_check → here_text (arg_at args 0) ≡ Ok message → cache_name (arg_at args 1) ≡ Err f
-      → ItemBreaks scene Inside Broken c edge (call name args at) following f
+      → MayStand list_kind c.stage line_start name args at following A_check → here_text (arg_at args 0) ≡ Ok message → cache_name (arg_at args 1) ≡ Err f
+      → ItemBreaks list_kind Inside Broken c line_start (call name args at) following f
   in_commands : {name : List ℕ} {args : List Span} {at : ℕ} {following : List Entry} {message : List Part} {variable : List ℕ} {f : ParseFault}
-      → MayStand scene c.stage edge name args at following A_check → here_text (arg_at args 0) ≡ Ok message → cache_name (arg_at args 1) ≡ Ok variable
+      → MayStand list_kind c.stage line_start name args at following A_check → here_text (arg_at args 0) ≡ Ok message → cache_name (arg_at args 1) ≡ Ok variable
       → Broken (Commands variable (arg_at args 2).at) c (arg_at args 2) f
-      → ItemBreaks scene Inside Broken c edge (call name args at) following f
+      → ItemBreaks list_kind Inside Broken c line_start (call name args at) following f
 
 -- The first item with an error, after items that have statements. (own)
-pub data Breaks (scene : Scene) (Inside : Scene → Within) (Broken : Scene → WithinBreaks) : declarations.Declarations → Edge → List Entry → ParseFault → Type 0 where
-  here : {c : declarations.Declarations} {edge : Edge} {item : Entry} {items : List Entry} {f : ParseFault}
-      → ItemBreaks scene Inside Broken c edge item items f → Breaks scene Inside Broken c edge (item ∷ items) f
-  following : {c : declarations.Declarations} {edge : Edge} {item : Entry} {items : List Entry} {first : Script} {f : ParseFault}
-      → IsItem scene Inside c edge item items first → Breaks scene Inside Broken (after_all c first) (edge_of item) items f
-      → Breaks scene Inside Broken c edge (item ∷ items) f
+pub data Breaks (list_kind : ListKind) (Inside : ListKind → Within) (Broken : ListKind → WithinBreaks) : declarations.Declarations → LineStart → List Entry → ParseFault → Type 0 where
+  here : {c : declarations.Declarations} {line_start : LineStart} {item : Entry} {items : List Entry} {f : ParseFault}
+      → ItemBreaks list_kind Inside Broken c line_start item items f → Breaks list_kind Inside Broken c line_start (item ∷ items) f
+  following : {c : declarations.Declarations} {line_start : LineStart} {item : Entry} {items : List Entry} {first : Script} {f : ParseFault}
+      → IsItem list_kind Inside c line_start item items first → Breaks list_kind Inside Broken (after_all c first) (line_start_of item) items f
+      → Breaks list_kind Inside Broken c line_start (item ∷ items) f
 
 -- The text that an argument denotes has an error: it can't be read as items, or an item has an error. (own)
-pub data TextBreaks (scene : Scene) (Inside : Scene → Within) (Broken : Scene → WithinBreaks) (c : declarations.Declarations) (a : Span) : ParseFault → Type 0 where
-  no_items : {q : QuoteFault} → IsFirstFault a.at a.text q → TextBreaks scene Inside Broken c a (quote_fault q)
-  in_items : {items : List Entry} {f : ParseFault} → IsSpelling a.at a.text items → Breaks scene Inside Broken c no_edge items f → TextBreaks scene Inside Broken c a f
+pub data TextBreaks (list_kind : ListKind) (Inside : ListKind → Within) (Broken : ListKind → WithinBreaks) (c : declarations.Declarations) (a : Span) : ParseFault → Type 0 where
+  no_items : {q : QuoteFault} → IsFirstFault a.at a.text q → TextBreaks list_kind Inside Broken c a (quote_fault q)
+  in_items : {items : List Entry} {f : ParseFault} → IsSpelling a.at a.text items → Breaks list_kind Inside Broken c no_line_start items f → TextBreaks list_kind Inside Broken c a f
 
 -- A statement argument has an error: it nests too deep, denotes no text, or its text has an error. (own)
-abbrev pub IsBroken : ℕ → Scene → WithinBreaks
-IsBroken zero scene c arg f = f ≡ TooDeep arg.at
-IsBroken (suc room) scene c arg f = (inside arg ≡ Err f) ⊎ ((a : Span) × (inside arg ≡ Ok a) × TextBreaks scene (IsBody room) (IsBroken room) c a f)
+abbrev pub IsBroken : ℕ → ListKind → WithinBreaks
+IsBroken zero list_kind c arg f = f ≡ TooDeep arg.at
+IsBroken (suc room) list_kind c arg f = (inside arg ≡ Err f) ⊎ ((a : Span) × (inside arg ≡ Ok a) × TextBreaks list_kind (IsBody room) (IsBroken room) c a f)

@@ -5,13 +5,13 @@ use Rattle.m4quote.specs.Entry.{Span, Entry, call, bare}
 use Rattle.m4quote.specs.Scan.{outcome}
 use Rattle.acstatement.specs.declared.fault.ParseFault.{ParseFault}
 use Rattle.acstatement.specs.declared.fault.ParseFault.TheVariants.{UnknownMacro, UnknownStatement, ArgCount, NoInit, NoOutput, TooDeep}
-use Rattle.acstatement.specs.declared.stand.Edge.{Edge}
+use Rattle.acstatement.specs.declared.placement.LineStart.{LineStart}
 use Rattle.acargs.specs.Arguments.{cache_name, is_given}
 use Rattle.acstatement.specs.Texts.{arg_at}
 use Rattle.acstatement.specs.Inside.{inside}
 use Rattle.acstatement.specs.Reading.{◌>>=◌, wants, quoted}
 use Rattle.acargs.specs.Shell.{word, here_text, shell_test, patterns}
-use Rattle.acstatement.specs.Stand.{edge_of, no_edge, is_statement}
+use Rattle.acstatement.specs.Stand.{line_start_of, no_line_start, is_statement}
 use Rattle.acmacros.specs.declared.macros.ChoiceMacro.{ChoiceMacro}
 use Rattle.acmacros.specs.declared.macros.ChoiceMacro.TheVariants.{If, Case as As_case}
 use Rattle.acmacros.specs.declared.macros.Macro.{Macro}
@@ -25,7 +25,7 @@ use Rattle.syntax.specs.declared.declarations.Declarations as declarations
 use Rattle.acmacros.specs.Rows.{plain_of, question_of}
 use Rattle.syntax.specs.Lists.{start, after_question}
 use Rattle.acmacros.specs.Placement.{as_statement, placed}
-use Rattle.acmacros.specs.Scene.{Scene, Top, Commands, is_top, of_case, may_hold}
+use Rattle.acmacros.specs.ListKind.{ListKind, Top, Commands, is_top, of_case, may_hold}
 use Rattle.acmacros.specs.Table.{row_named, takes}
 use Rattle.syntax.specs.declared.tree.Subject.{Subject}
 use Rattle.syntax.specs.declared.tree.Subject.TheVariants.{Nothing, Word}
@@ -147,7 +147,7 @@ asked_of bodies m c args = do
 -- ---- checks
 
 -- AC_CACHE_CHECK(message, name, commands). (Autoconf's manual, "Caching Results")
-unfoldable pub check_of : (Scene → Bodies) → declarations.Declarations → List Span → Result Script ParseFault
+unfoldable pub check_of : (ListKind → Bodies) → declarations.Declarations → List Span → Result Script ParseFault
 check_of bodies c args = do
   message ← here_text (arg_at args 0)
   name ← cache_name (arg_at args 1)
@@ -164,47 +164,47 @@ known at (Some row) = Ok row
 -- The macro of a call between what precedes it and the items after it. The conditions are checked in this order: its
 -- name is known, it takes these arguments, its calls are statements, one is allowed here, this one is separate from other
 -- text, and the list may hold it. (own)
-unfoldable pub checked : Scene → Stage → Edge → List ℕ → List Span → ℕ → List Entry → Result Macro ParseFault
-checked scene stage edge name args at following = do
+unfoldable pub checked : ListKind → Stage → LineStart → List ℕ → List Span → ℕ → List Entry → Result Macro ParseFault
+checked list_kind stage line_start name args at following = do
   row ← known at (row_named name)
   _ ← wants (takes row args) (ArgCount at)
   m ← as_statement stage at row.named
-  _ ← placed (is_top scene) stage row.top m at
-  _ ← wants (is_statement edge name args at following) (UnknownStatement at)
-  _ ← may_hold scene m
+  _ ← placed (is_top list_kind) stage row.top m at
+  _ ← wants (is_statement line_start name args at following) (UnknownStatement at)
+  _ ← may_hold list_kind m
   Ok m
 
 -- The statement of a call of a macro with its name at this offset. (own)
-abbrev pub call_of : Scene → (Scene → Bodies) → declarations.Declarations → Macro → ℕ → List Span → Result Script ParseFault
-call_of scene bodies c (Plain m) at args = do
+abbrev pub call_of : ListKind → (ListKind → Bodies) → declarations.Declarations → Macro → ℕ → List Span → Result Script ParseFault
+call_of list_kind bodies c (Plain m) at args = do
   s ← plain_of c m at args
   Ok (Then s Done)
-call_of scene bodies c (A_choice m) at args = choice_of (bodies (of_case scene)) m c args
-call_of scene bodies c (A_question m) at args = asked_of (bodies (of_case scene)) m c args
-call_of scene bodies c A_check at args = check_of bodies c args
+call_of list_kind bodies c (A_choice m) at args = choice_of (bodies (of_case list_kind)) m c args
+call_of list_kind bodies c (A_question m) at args = asked_of (bodies (of_case list_kind)) m c args
+call_of list_kind bodies c A_check at args = check_of bodies c args
 
 -- The statements of an item between what precedes it and the items after it. (own)
-abbrev pub item_of : Scene → (Scene → Bodies) → declarations.Declarations → Edge → Entry → List Entry → Result Script ParseFault
-item_of scene bodies c edge (bare text at) following = bare_of scene c.stage at text
-item_of scene bodies c edge (call name args at) following = do
-  m ← checked scene c.stage edge name args at following
-  call_of scene bodies c m at args
+abbrev pub item_of : ListKind → (ListKind → Bodies) → declarations.Declarations → LineStart → Entry → List Entry → Result Script ParseFault
+item_of list_kind bodies c line_start (bare text at) following = bare_of list_kind c.stage at text
+item_of list_kind bodies c line_start (call name args at) following = do
+  m ← checked list_kind c.stage line_start name args at following
+  call_of list_kind bodies c m at args
 
 -- The statements of items, one after another. (own)
-unfoldable pub items_of : Scene → (Scene → Bodies) → declarations.Declarations → Edge → List Entry → Result Script ParseFault
-items_of scene bodies c edge [] = Ok Done
-items_of scene bodies c edge (item ∷ items) = do
-  first ← item_of scene bodies c edge item items
-  rest ← items_of scene bodies (after_all c first) (edge_of item) items
+unfoldable pub items_of : ListKind → (ListKind → Bodies) → declarations.Declarations → LineStart → List Entry → Result Script ParseFault
+items_of list_kind bodies c line_start [] = Ok Done
+items_of list_kind bodies c line_start (item ∷ items) = do
+  first ← item_of list_kind bodies c line_start item items
+  rest ← items_of list_kind bodies (after_all c first) (line_start_of item) items
   Ok (joined first rest)
 
 -- The statements of an argument in which lists nest at most room deep, counting its own. (own)
-unfoldable pub body_of : (room : ℕ) → Scene → Bodies
-body_of zero scene c arg = Err (TooDeep arg.at)
-body_of (suc room) scene c arg = do
+unfoldable pub body_of : (room : ℕ) → ListKind → Bodies
+body_of zero list_kind c arg = Err (TooDeep arg.at)
+body_of (suc room) list_kind c arg = do
   a ← inside arg
   items ← quoted (outcome a.at a.text)
-  items_of scene (body_of room) c no_edge items
+  items_of list_kind (body_of room) c no_line_start items
 
 -- ---- a source
 
@@ -218,5 +218,5 @@ ended Ended s = Ok s
 unfoldable pub source_of : List ℕ → Result Script ParseFault
 source_of text = do
   items ← quoted (outcome 0 text)
-  s ← items_of Top (body_of 31) start no_edge items
+  s ← items_of Top (body_of 31) start no_line_start items
   ended (after_all start s).stage s

@@ -7,9 +7,9 @@ use Rattle.m4quote.specs.declared.fault.QuoteFault.{QuoteFault}
 use Rattle.acstatement.specs.declared.fault.ParseFault.{ParseFault}
 use Rattle.acstatement.specs.declared.fault.ParseFault.TheVariants.{NoInit, NoOutput}
 use Rattle.acstatement.specs.Reading.{quote_fault}
-use Rattle.acstatement.specs.Stand.{no_edge}
+use Rattle.acstatement.specs.Stand.{no_line_start}
 use Rattle.syntax.specs.declared.declarations.Stage.TheVariants.{Before, Open, Ended}
-use Rattle.acmacros.specs.Scene.{Top}
+use Rattle.acmacros.specs.ListKind.{Top}
 use Rattle.acparse.specs.Breaks.{Breaks, IsBroken}
 use Rattle.syntax.specs.Lists.{start}
 use Rattle.syntax.specs.Lists.{after_all}
@@ -20,7 +20,7 @@ use Rattle.acparse.specs.Statements.{AreStatements, IsBody}
 pub record IsList (text : List ℕ) (s : Script) : Type 0 where
   pub items : List Entry
   pub spelled : IsSpelling 0 text items
-  pub statements : AreStatements Top (IsBody 31) start no_edge items s
+  pub statements : AreStatements Top (IsBody 31) start no_line_start items s
 
 -- The source has these statements, from AC_INIT to AC_OUTPUT. (own)
 pub record IsSource (text : List ℕ) (s : Script) : Type 0 where
@@ -30,6 +30,6 @@ pub record IsSource (text : List ℕ) (s : Script) : Type 0 where
 -- The error names what is wrong at its offset, and everything before it is right. (own)
 pub data IsSourceFault (text : List ℕ) : ParseFault → Type 0 where
   no_items : {q : QuoteFault} → IsFirstFault 0 text q → IsSourceFault text (quote_fault q)
-  in_items : {items : List Entry} {f : ParseFault} → IsSpelling 0 text items → Breaks Top (IsBody 31) (IsBroken 31) start no_edge items f → IsSourceFault text f
+  in_items : {items : List Entry} {f : ParseFault} → IsSpelling 0 text items → Breaks Top (IsBody 31) (IsBroken 31) start no_line_start items f → IsSourceFault text f
   no_init : {s : Script} → IsList text s → (after_all start s).stage ≡ Before → IsSourceFault text NoInit
   no_output : {s : Script} → IsList text s → (after_all start s).stage ≡ Open → IsSourceFault text NoOutput

@@ -5,13 +5,13 @@ use Rattle.m4quote.specs.Spelling.{IsSpelling}
 use Rattle.m4quote.specs.Used.{IsBareValue}
 use Rattle.baretext.specs.declared.assignments.Assignment.{Assignment}
 use Rattle.baretext.specs.Statements.{IsBareText}
-use Rattle.acstatement.specs.declared.stand.Edge.{Edge}
+use Rattle.acstatement.specs.declared.placement.LineStart.{LineStart}
 use Rattle.acargs.specs.Arguments.{cache_name, is_given}
 use Rattle.acargs.specs.Shell.{here_text}
 use Rattle.acstatement.specs.Idle.{is_idle}
 use Rattle.acstatement.specs.Inside.{inside}
 use Rattle.acstatement.specs.Texts.{arg_at}
-use Rattle.acstatement.specs.Stand.{edge_of, no_edge, is_statement}
+use Rattle.acstatement.specs.Stand.{line_start_of, no_line_start, is_statement}
 use Rattle.acmacros.specs.declared.macros.ChoiceMacro.{ChoiceMacro}
 use Rattle.acmacros.specs.declared.macros.Macro.{Macro}
 use Rattle.acmacros.specs.declared.macros.Macro.TheVariants.{Plain, Choice as A_choice, Question as A_question, Check as A_check}
@@ -29,7 +29,7 @@ use Rattle.acmacros.specs.Checks.{completed_of}
 use Rattle.acmacros.specs.Rows.{plain_of, question_of}
 use Rattle.syntax.specs.Lists.{after_question}
 use Rattle.acmacros.specs.Placement.{placed}
-use Rattle.acmacros.specs.Scene.{Scene, Commands, is_top, of_case, may_hold}
+use Rattle.acmacros.specs.ListKind.{ListKind, Commands, is_top, of_case, may_hold}
 use Rattle.acmacros.specs.Table.{row_named, takes}
 use Rattle.syntax.specs.declared.tree.Subject.{Subject}
 use Rattle.syntax.specs.declared.tree.When.{When}
@@ -44,23 +44,23 @@ use Rattle.acparse.specs.Profile.{when_of, subject_of, case_args, case_if, actio
 abbrev pub Within : Type 1
 Within = declarations.Declarations → Span → Script → Type 0
 
--- A call of the macro is a statement between what precedes it and the items after it, and the scene may hold it. (own)
-pub record MayStand (scene : Scene) (stage : Stage) (edge : Edge) (name : List ℕ) (args : List Span) (at : ℕ) (following : List Entry) (m : Macro) : Type 0 where
+-- A call of the macro is a statement between what precedes it and the items after it, and the list_kind may hold it. (own)
+pub record MayStand (list_kind : ListKind) (stage : Stage) (line_start : LineStart) (name : List ℕ) (args : List Span) (at : ℕ) (following : List Entry) (m : Macro) : Type 0 where
   pub row : Row
   pub known : row_named name ≡ Some row
   pub named : row.named ≡ Statement m
   pub taken : takes row args ≡ true
-  pub in_place : placed (is_top scene) stage row.top m at ≡ Ok tt
-  pub parted : is_statement edge name args at following ≡ true
-  pub held : may_hold scene m ≡ Ok tt
+  pub in_place : placed (is_top list_kind) stage row.top m at ≡ Ok tt
+  pub parted : is_statement line_start name args at following ≡ true
+  pub held : may_hold list_kind m ≡ Ok tt
 
--- Bare text has these statements: the assignments in its value, which the scene may hold; before AC_INIT and after
+-- Bare text has these statements: the assignments in its value, which the list_kind may hold; before AC_INIT and after
 -- AC_OUTPUT, none. (own)
-pub data IsBare (scene : Scene) : Stage → List ℕ → Script → Type 0 where
-  before : {text : List ℕ} → is_idle text ≡ true → IsBare scene Before text Done
-  ended : {text : List ℕ} → is_idle text ≡ true → IsBare scene Ended text Done
-  assignments : {text value : List ℕ} {list : List Assignment} → IsBareValue text value → IsBareText value list → may_assign scene list ≡ Ok tt
-      → IsBare scene Open text (assigned list)
+pub data IsBare (list_kind : ListKind) : Stage → List ℕ → Script → Type 0 where
+  before : {text : List ℕ} → is_idle text ≡ true → IsBare list_kind Before text Done
+  ended : {text : List ℕ} → is_idle text ≡ true → IsBare list_kind Ended text Done
+  assignments : {text value : List ℕ} {list : List Assignment} → IsBareValue text value → IsBareText value list → may_assign list_kind list ≡ Ok tt
+      → IsBare list_kind Open text (assigned list)
 
 -- Arguments make these cases: conditions and statements in pairs, and at the end a default alone. (Autoconf's manual,
 -- "Common Shell Constructs")
@@ -77,35 +77,35 @@ pub data IsAction (Inside : Within) (when : When) : declarations.Declarations �
   there : {c : declarations.Declarations} {arg : Span} {more : List Span} {body : Script} → Inside c arg body → IsAction Inside when c (arg ∷ more) (case_if when (is_given arg) body)
 
 -- An item has these statements. (own)
-pub data IsItem (scene : Scene) (Inside : Scene → Within) (c : declarations.Declarations) (edge : Edge) : Entry → List Entry → Script → Type 0 where
-  bare_text : {text : List ℕ} {at : ℕ} {following : List Entry} {s : Script} → IsBare scene c.stage text s → IsItem scene Inside c edge (bare text at) following s
+pub data IsItem (list_kind : ListKind) (Inside : ListKind → Within) (c : declarations.Declarations) (line_start : LineStart) : Entry → List Entry → Script → Type 0 where
+  bare_text : {text : List ℕ} {at : ℕ} {following : List Entry} {s : Script} → IsBare list_kind c.stage text s → IsItem list_kind Inside c line_start (bare text at) following s
   plain_call : {name : List ℕ} {args : List Span} {at : ℕ} {following : List Entry} {m : PlainMacro} {s : plain.Plain}
-      → MayStand scene c.stage edge name args at following (Plain m) → plain_of c m at args ≡ Ok s
-      → IsItem scene Inside c edge (call name args at) following (Then s Done)
+      → MayStand list_kind c.stage line_start name args at following (Plain m) → plain_of c m at args ≡ Ok s
+      → IsItem list_kind Inside c line_start (call name args at) following (Then s Done)
   choice : {name : List ℕ} {args : List Span} {at : ℕ} {following : List Entry} {m : ChoiceMacro} {subject : Subject} {cases : Cases}
-      → MayStand scene c.stage edge name args at following (A_choice m) → subject_of m args ≡ Ok subject → AreCases (Inside (of_case scene)) m c (case_args m args) cases
-      → IsItem scene Inside c edge (call name args at) following (Choice subject cases Done)
+      → MayStand list_kind c.stage line_start name args at following (A_choice m) → subject_of m args ≡ Ok subject → AreCases (Inside (of_case list_kind)) m c (case_args m args) cases
+      → IsItem list_kind Inside c line_start (call name args at) following (Choice subject cases Done)
   question : {name : List ℕ} {args : List Span} {at : ℕ} {following : List Entry} {m : QuestionMacro} {q whole : Question} {first other : Cases}
-      → MayStand scene c.stage edge name args at following (A_question m) → question_of c m args ≡ Ok q
-      → IsAction (Inside (of_case scene)) Yes (after_question c q) (action_args m args) first
-      → IsAction (Inside (of_case scene)) No (after_cases (after_question c q) first) (drop 1 (action_args m args)) other
+      → MayStand list_kind c.stage line_start name args at following (A_question m) → question_of c m args ≡ Ok q
+      → IsAction (Inside (of_case list_kind)) Yes (after_question c q) (action_args m args) first
+      → IsAction (Inside (of_case list_kind)) No (after_cases (after_question c q) first) (drop 1 (action_args m args)) other
       → completed_of q args ≡ Ok whole
-      → IsItem scene Inside c edge (call name args at) following (asked_by whole (followed first other))
+      → IsItem list_kind Inside c line_start (call name args at) following (asked_by whole (followed first other))
   check : {name : List ℕ} {args : List Span} {at : ℕ} {following : List Entry} {message : List Part} {variable : List ℕ} {commands : Script}
-      → MayStand scene c.stage edge name args at following A_check → here_text (arg_at args 0) ≡ Ok message → cache_name (arg_at args 1) ≡ Ok variable
+      → MayStand list_kind c.stage line_start name args at following A_check → here_text (arg_at args 0) ≡ Ok message → cache_name (arg_at args 1) ≡ Ok variable
       → Inside (Commands variable (arg_at args 2).at) c (arg_at args 2) commands
-      → IsItem scene Inside c edge (call name args at) following (Check message variable commands Done)
+      → IsItem list_kind Inside c line_start (call name args at) following (Check message variable commands Done)
 
 -- Items have these statements, one after another. (own)
-pub data AreStatements (scene : Scene) (Inside : Scene → Within) : declarations.Declarations → Edge → List Entry → Script → Type 0 where
-  none : {c : declarations.Declarations} {edge : Edge} → AreStatements scene Inside c edge [] Done
-  one : {c : declarations.Declarations} {edge : Edge} {item : Entry} {items : List Entry} {first rest : Script}
-      → IsItem scene Inside c edge item items first → AreStatements scene Inside (after_all c first) (edge_of item) items rest
-      → AreStatements scene Inside c edge (item ∷ items) (joined first rest)
+pub data AreStatements (list_kind : ListKind) (Inside : ListKind → Within) : declarations.Declarations → LineStart → List Entry → Script → Type 0 where
+  none : {c : declarations.Declarations} {line_start : LineStart} → AreStatements list_kind Inside c line_start [] Done
+  one : {c : declarations.Declarations} {line_start : LineStart} {item : Entry} {items : List Entry} {first rest : Script}
+      → IsItem list_kind Inside c line_start item items first → AreStatements list_kind Inside (after_all c first) (line_start_of item) items rest
+      → AreStatements list_kind Inside c line_start (item ∷ items) (joined first rest)
 
 -- A statement argument has these statements, with lists that nest at most n deep, counting its own: the text that it
 -- denotes spells items, and these are their statements. (own)
-abbrev pub IsBody : ℕ → Scene → Within
-IsBody zero scene c arg s = ⊥
-IsBody (suc room) scene c arg s =
-    (a : Span) × (inside arg ≡ Ok a) × ((items : List Entry) × IsSpelling a.at a.text items × AreStatements scene (IsBody room) c no_edge items s)
+abbrev pub IsBody : ℕ → ListKind → Within
+IsBody zero list_kind c arg s = ⊥
+IsBody (suc room) list_kind c arg s =
+    (a : Span) × (inside arg ≡ Ok a) × ((items : List Entry) × IsSpelling a.at a.text items × AreStatements list_kind (IsBody room) c no_line_start items s)

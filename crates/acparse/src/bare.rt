@@ -2,7 +2,7 @@
 
 ghost use Rattle.std.specs.Prelude.{◌≡◌, OnOk};
 ghost use Rattle.m4quote.specs.Scan.{bare_value_of};
-ghost use Rattle.acmacros.specs.Scene.{scene_of};
+ghost use Rattle.acmacros.specs.ListKind.{list_kind_of};
 ghost use Rattle.acstatement.specs.Reading.{Gives};
 ghost use Rattle.acparse.specs.Bare as words;
 ghost use Rattle.acparse.specs.Profile.{following};
@@ -11,8 +11,8 @@ ghost use Rattle.acmacros.specs.Placement.{bare_fault};
 ghost use Rattle.syntax.specs.Script.{script_of, joined, Done};
 
 use acargs::ParseFault;
+use acmacros::list_kind::ListKind;
 use acmacros::placement::bare_fault;
-use acmacros::scene::Scene;
 use acstatement::fault::shell_fault;
 use acstatement::idle::is_idle;
 use baretext::{Assignment, Assignments, BareFault, read_statements};
@@ -40,13 +40,13 @@ fn set_alone(name: &[u8], assignments: &[Assignment]) -> bool
 
 /// Checks that a list may hold these assignments.
 #[tactic(auto, unfolding(crate::specs::Bare::may_assign))]
-fn check_assignments(scene: Scene<'_>, assignments: &[Assignment]) -> Result<(), ParseFault>
-    ensures { Gives (λ x. x) result (words.may_assign (scene_of scene.entry) assignments.now) }
+fn check_assignments(list_kind: ListKind<'_>, assignments: &[Assignment]) -> Result<(), ParseFault>
+    ensures { Gives (λ x. x) result (words.may_assign (list_kind_of list_kind.entry) assignments.now) }
 {
-    match scene {
-        Scene::Top => Ok(()),
-        Scene::Nested => Ok(()),
-        Scene::Commands { name, at } => {
+    match list_kind {
+        ListKind::Top => Ok(()),
+        ListKind::Nested => Ok(()),
+        ListKind::Commands { name, at } => {
             if set_alone(name, assignments) {
                 Ok(())
             } else {
@@ -74,14 +74,14 @@ fn value_assignments(alloc: Global, at: usize, text: &[u8]) -> Result<Assignment
 #[tactic(auto, unfolding(crate::specs::Bare::assigned_in))]
 fn assignments(
     alloc: Global,
-    scene: Scene<'_>,
+    list_kind: ListKind<'_>,
     at: usize,
     text: &[u8],
 ) -> Result<Assignments, ParseFault>
-    ensures { Gives words.assigned result (words.assigned_in (scene_of scene.entry) at text.now) }
+    ensures { Gives words.assigned result (words.assigned_in (list_kind_of list_kind.entry) at text.now) }
 {
     let assignments = value_assignments(alloc, at, text)?;
-    check_assignments(scene, assignments.as_slice()).map(|()| assignments)
+    check_assignments(list_kind, assignments.as_slice()).map(|()| assignments)
 }
 
 /// Appends assignments to statements.
@@ -111,17 +111,17 @@ fn check_idle(alloc: Global, stage: Stage, at: usize, text: &[u8]) -> Result<(),
 #[tactic(auto, unfolding(crate::specs::Bare::bare_of))]
 pub(crate) fn read_bare(
     alloc: Global,
-    scene: Scene<'_>,
+    list_kind: ListKind<'_>,
     stage: Stage,
     at: usize,
     text: &[u8],
     out: &mut Vec<Stmt>,
 ) -> Result<(), ParseFault>
-    ensures { Gives (λ _. script_of out.new.items) result (following (script_of out.old.items) (words.bare_of (scene_of scene.entry) stage at text.now)) }
+    ensures { Gives (λ _. script_of out.new.items) result (following (script_of out.old.items) (words.bare_of (list_kind_of list_kind.entry) stage at text.now)) }
 {
     match stage {
         Stage::Open => {
-            let assignments = assignments(alloc, scene, at, text)?;
+            let assignments = assignments(alloc, list_kind, at, text)?;
             push_all(assignments.into_vec(), out)?;
             Ok(())
         }

@@ -5,7 +5,7 @@
 //!
 //! Read `bare` (text), then `asked` (questions and their cases), `read` (calls and lists of statements), and `source`, which has the theorem: unless memory
 //! runs out, `parse` returns a tree exactly if the source has one by `specs/Source.antt` and, item by item,
-//! `specs/Statements.antt`. A list of statements is read with its scene (`acmacros::scene`): the file's own list and the
+//! `specs/Statements.antt`. A list of statements is read with its list_kind (`acmacros::list_kind`): the file's own list and the
 //! commands of AC_CACHE_CHECK differ from other lists in what they may hold.
 //!
 //! `parse` also decides whether the source can be resumed (`testorder`), and `is_resumable` tells it. `forms` has a law on
@@ -23,6 +23,6 @@ pub mod read;
 pub mod source;
 
 pub use acargs::ParseFault;
-pub use outputlist::{Output, Outputs};
+pub use outputlist::{Output, OutputList};
 pub use source::{is_resumable, parse};
 pub use syntax::{Case, Help, HelpList, Plain, Question, Source, Stmt, Subject, When};

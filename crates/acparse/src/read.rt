@@ -3,14 +3,14 @@
 ghost use Rattle.std.specs.Prelude.{◌≡◌, ◌≤◌, MatchResult, [], ◌∷◌, map, drop, length, option_to_list, IfOk, Ok};
 ghost use Rattle.m4quote.specs.Entry.{span, view, views};
 ghost use Rattle.acstatement.specs.Reading.{Gives, Fails};
-ghost use Rattle.acstatement.specs.Stand.{no_edge};
+ghost use Rattle.acstatement.specs.Stand.{no_line_start};
 ghost use Rattle.acparse.specs.Profile as profile;
 ghost use Rattle.acparse.specs.Profile.{Adds};
 ghost use Rattle.acmacros.specs.declared.macros.Macro.TheVariants.{Plain};
 ghost use Rattle.syntax.specs.declared.declarations.Declarations as declarations;
 ghost use Rattle.acmacros.specs.Rows.{question_of};
-ghost use Rattle.acmacros.specs.Scene as scenes;
-ghost use Rattle.acmacros.specs.Scene.{scene_of};
+ghost use Rattle.acmacros.specs.ListKind as list_kinds;
+ghost use Rattle.acmacros.specs.ListKind.{list_kind_of};
 ghost use Rattle.syntax.specs.Lists.{after_question};
 ghost use Rattle.syntax.specs.Lists.{after_all, after_cases, after_subject};
 ghost use Rattle.syntax.specs.Script.{script_of, cases_of, followed, Done};
@@ -20,14 +20,14 @@ use crate::bare::read_bare;
 use acargs::ParseFault;
 use acargs::arguments::{cache_name, is_given};
 use acargs::shell::{here_text, patterns, test, word};
+use acmacros::list_kind::{ListKind, check_list_kind};
 use acmacros::placement::{as_statement, check_place};
 use acmacros::rows::{plain, question};
-use acmacros::scene::{Scene, check_scene};
 use acmacros::table::{row_named, takes};
 use acmacros::{ChoiceMacro, Macro, PlainMacro, QuestionMacro};
 use acstatement::fault::quote_fault;
 use acstatement::inside::inside;
-use acstatement::stand::{Edge, NO_EDGE, edge_of, is_statement};
+use acstatement::placement::{LIST_START, LineStart, is_statement, line_start_of};
 use acstatement::texts::arg_at;
 use deftable::Name;
 use m4quote::{Arg, Item, read_items_at};
@@ -35,20 +35,20 @@ use std::alloc::{AllocError, Global};
 use syntax::declarations::{declare, declare_question};
 use syntax::{Case, Declarations, Question, Stage, Stmt, Subject, When, cache_check, choose};
 
-/// Returns the macro of a call, if the call is a statement between what precedes it (`edge`) and the items after it
+/// Returns the macro of a call, if the call is a statement between what precedes it (`line_start`) and the items after it
 /// (`following`), and the list may hold it.
 #[tactic(auto, unfolding(crate::specs::Profile::checked))]
 fn check_call(
     alloc: Global,
-    scene: Scene<'_>,
+    list_kind: ListKind<'_>,
     stage: Stage,
-    edge: Edge,
+    line_start: LineStart,
     name: &[u8],
     args: &[Arg<'_>],
     at: usize,
     following: &[Item<'_>],
 ) -> Result<Macro, ParseFault>
-    ensures { Gives (λ m. m) result (profile.checked (scene_of scene.entry) stage edge name.now (map span args.now) at (views following.now)) }
+    ensures { Gives (λ m. m) result (profile.checked (list_kind_of list_kind.entry) stage line_start name.now (map span args.now) at (views following.now)) }
 {
     let Some(row) = row_named(name) else {
         return Err(ParseFault::UnknownMacro(at));
@@ -57,11 +57,11 @@ fn check_call(
         return Err(ParseFault::ArgCount(at));
     }
     let m = as_statement(stage, at, row.named)?;
-    check_place(scene.is_top(), stage, row.top, m, at)?;
-    if !is_statement(edge, name, args, at, following) {
+    check_place(list_kind.is_top(), stage, row.top, m, at)?;
+    if !is_statement(line_start, name, args, at, following) {
         return Err(ParseFault::UnknownStatement(at));
     }
-    check_scene(scene, m)?;
+    check_list_kind(list_kind, m)?;
     Ok(m)
 }
 
@@ -163,18 +163,18 @@ fn both(alloc: Global, first: Option<Case>, other: Option<Case>) -> Result<Vec<C
     with_last(one, other)
 }
 
-/// Reads the statements of a statement argument, whose list has this scene. Lists nest at most `room` deep in it, counting
+/// Reads the statements of a statement argument, whose list has this list_kind. Lists nest at most `room` deep in it, counting
 /// its own.
 #[cycle(list)]
 #[tactic(auto, unfolding(crate::specs::Profile::body_of))]
 fn read_body(
     alloc: Global,
     room: u8,
-    scene: Scene<'_>,
+    list_kind: ListKind<'_>,
     known: &mut Declarations,
     arg: Arg<'_>,
 ) -> Result<Vec<Stmt>, ParseFault>
-    ensures value { Gives (λ v. script_of v.items) result (profile.body_of room (scene_of scene.entry) known.old (span arg.entry)) }
+    ensures value { Gives (λ v. script_of v.items) result (profile.body_of room (list_kind_of list_kind.entry) known.old (span arg.entry)) }
     ensures after { IfOk result (λ v. known.new ≡ after_all known.old (script_of v.items)) }
 {
     if room == 0 {
@@ -183,7 +183,7 @@ fn read_body(
     let inner = inside(alloc, arg)?;
     match read_items_at(alloc, inner.text, inner.at) {
         Err(fault) => Err(quote_fault(fault)),
-        Ok(items) => read_statements(alloc, room - 1, scene, known, &items),
+        Ok(items) => read_statements(alloc, room - 1, list_kind, known, &items),
     }
 }
 
@@ -193,20 +193,20 @@ fn read_body(
 fn read_default(
     alloc: Global,
     room: u8,
-    scene: Scene<'_>,
+    list_kind: ListKind<'_>,
     known: &mut Declarations,
     m: ChoiceMacro,
     args: &[Arg<'_>],
 ) -> Result<Option<Case>, ParseFault>
     requires { length args.now ≤ 1 }
-    ensures value { Gives (λ o. cases_of (option_to_list o)) result (profile.cases_in (profile.body_of room (scene_of scene.entry)) m known.old (map span args.now)) }
+    ensures value { Gives (λ o. cases_of (option_to_list o)) result (profile.cases_in (profile.body_of room (list_kind_of list_kind.entry)) m known.old (map span args.now)) }
     ensures after { IfOk result (λ o. known.new ≡ after_cases known.old (cases_of (option_to_list o))) }
 {
     match args {
         [] => Ok(None),
         [only, ..] => {
             let given = is_given(alloc, *only)?;
-            let body = read_body(alloc, room, scene, known, *only)?;
+            let body = read_body(alloc, room, list_kind, known, *only)?;
             Ok(case_if(When::Always, given, body))
         }
     }
@@ -218,17 +218,17 @@ fn read_default(
 fn read_case(
     alloc: Global,
     room: u8,
-    scene: Scene<'_>,
+    list_kind: ListKind<'_>,
     known: &mut Declarations,
     m: ChoiceMacro,
     condition: Arg<'_>,
     arg: Arg<'_>,
 ) -> Result<Case, ParseFault>
-    ensures value { Gives (λ k. cases_of (k ∷ [])) result (profile.case_of (profile.body_of room (scene_of scene.entry)) m known.old (span condition.entry) (span arg.entry)) }
+    ensures value { Gives (λ k. cases_of (k ∷ [])) result (profile.case_of (profile.body_of room (list_kind_of list_kind.entry)) m known.old (span condition.entry) (span arg.entry)) }
     ensures after { IfOk result (λ k. known.new ≡ after_all known.old (script_of k.body.items)) }
 {
     let when = when(alloc, m, condition)?;
-    read_body(alloc, room, scene, known, arg).map(|body| Case { when, body })
+    read_body(alloc, room, list_kind, known, arg).map(|body| Case { when, body })
 }
 
 /// Reads the cases of a choice.
@@ -236,22 +236,22 @@ fn read_case(
 fn read_cases(
     alloc: Global,
     room: u8,
-    scene: Scene<'_>,
+    list_kind: ListKind<'_>,
     known: &mut Declarations,
     m: ChoiceMacro,
     args: &[Arg<'_>],
 ) -> Result<Vec<Case>, ParseFault>
-    ensures value { Gives (λ v. cases_of v.items) result (profile.cases_in (profile.body_of room (scene_of scene.entry)) m known.old (map span args.now)) }
+    ensures value { Gives (λ v. cases_of v.items) result (profile.cases_in (profile.body_of room (list_kind_of list_kind.entry)) m known.old (map span args.now)) }
     ensures after { IfOk result (λ v. known.new ≡ after_cases known.old (cases_of v.items)) }
 {
     let mut cases = Vec::new(alloc);
     let mut i = 0;
     while i + 1 < args.len() {
-        let case = read_case(alloc, room, scene, known, m, args[i], args[i + 1])?;
+        let case = read_case(alloc, room, list_kind, known, m, args[i], args[i + 1])?;
         cases.push(case)?;
         i += 2;
     }
-    let last = read_default(alloc, room, scene, known, m, &args[i..])?;
+    let last = read_default(alloc, room, list_kind, known, m, &args[i..])?;
     Ok(with_last(cases, last)?)
 }
 
@@ -261,16 +261,18 @@ fn read_cases(
 fn read_choice(
     alloc: Global,
     room: u8,
-    scene: Scene<'_>,
+    list_kind: ListKind<'_>,
     known: &mut Declarations,
     m: ChoiceMacro,
     args: &[Arg<'_>],
 ) -> Result<Stmt, ParseFault>
-    ensures value { Gives (λ s. script_of (s ∷ [])) result (profile.choice_of (profile.body_of room (scene_of scene.entry)) m known.old (map span args.now)) }
+    ensures value { Gives (λ s. script_of (s ∷ [])) result (profile.choice_of (profile.body_of room (list_kind_of list_kind.entry)) m known.old (map span args.now)) }
     ensures after { IfOk result (λ s. known.new ≡ after_all known.old (script_of (s ∷ []))) }
 {
     let subject = subject(alloc, m, args)?;
-    read_cases(alloc, room, scene, known, m, case_args(m, args)).map(|cases| choose(subject, cases))
+    read_cases(alloc, room, list_kind, known, m, case_args(m, args)).map(|cases| choose(
+        subject, cases,
+    ))
 }
 
 /// Returns the condition of the case for an answer.
@@ -286,19 +288,19 @@ fn answer(yes: bool) -> When
 fn read_action(
     alloc: Global,
     room: u8,
-    scene: Scene<'_>,
+    list_kind: ListKind<'_>,
     known: &mut Declarations,
     yes: bool,
     args: &[Arg<'_>],
 ) -> Result<Option<Case>, ParseFault>
-    ensures value { Gives (λ o. cases_of (option_to_list o)) result (profile.action_in (profile.body_of room (scene_of scene.entry)) (profile.answer yes) known.old (map span args.now)) }
+    ensures value { Gives (λ o. cases_of (option_to_list o)) result (profile.action_in (profile.body_of room (list_kind_of list_kind.entry)) (profile.answer yes) known.old (map span args.now)) }
     ensures after { IfOk result (λ o. known.new ≡ after_cases known.old (cases_of (option_to_list o))) }
 {
     match args {
         [] => Ok(None),
         [first, ..] => {
             let given = is_given(alloc, *first)?;
-            read_body(alloc, room, scene, known, *first).map(|body| case_if(
+            read_body(alloc, room, list_kind, known, *first).map(|body| case_if(
                 answer(yes),
                 given,
                 body,
@@ -313,15 +315,15 @@ fn read_action(
 fn read_answers(
     alloc: Global,
     room: u8,
-    scene: Scene<'_>,
+    list_kind: ListKind<'_>,
     known: &mut Declarations,
     args: &[Arg<'_>],
 ) -> Result<Vec<Case>, ParseFault>
-    ensures value { Gives (λ v. cases_of v.items) result (profile.answers_in (profile.body_of room (scene_of scene.entry)) known.old (map span args.now)) }
+    ensures value { Gives (λ v. cases_of v.items) result (profile.answers_in (profile.body_of room (list_kind_of list_kind.entry)) known.old (map span args.now)) }
     ensures after { IfOk result (λ v. known.new ≡ after_cases known.old (cases_of v.items)) }
 {
-    let first = read_action(alloc, room, scene, known, true, args)?;
-    let read = read_action(alloc, room, scene, known, false, after_first(args));
+    let first = read_action(alloc, room, list_kind, known, true, args)?;
+    let read = read_action(alloc, room, list_kind, known, false, after_first(args));
     read.and_then(|other| Ok(both(alloc, first, other)?))
 }
 
@@ -345,24 +347,24 @@ fn ask(
 fn read_question(
     alloc: Global,
     room: u8,
-    scene: Scene<'_>,
+    list_kind: ListKind<'_>,
     known: &mut Declarations,
     m: QuestionMacro,
     args: &[Arg<'_>],
 ) -> Result<Stmt, ParseFault>
-    ensures value { Gives (λ s. script_of (s ∷ [])) result (profile.asked_of (profile.body_of room (scene_of scene.entry)) m known.old (map span args.now)) }
+    ensures value { Gives (λ s. script_of (s ∷ [])) result (profile.asked_of (profile.body_of room (list_kind_of list_kind.entry)) m known.old (map span args.now)) }
     ensures after { IfOk result (λ s. known.new ≡ after_all known.old (script_of (s ∷ []))) }
 {
     let question = ask(alloc, known, m, args)?;
-    let cases = read_answers(alloc, room, scene, known, action_args(m, args))?;
+    let cases = read_answers(alloc, room, list_kind, known, action_args(m, args))?;
     asked_with(alloc, question, cases, args)
 }
 
-/// Returns the scene of the commands in an argument, which set this name.
-fn commands_in<'a>(name: &'a Name, arg: Arg<'_>) -> Scene<'a>
-    ensures { scene_of result ≡ scenes.Commands name.now (span arg.entry).at }
+/// Returns the list_kind of the commands in an argument, which set this name.
+fn commands_in<'a>(name: &'a Name, arg: Arg<'_>) -> ListKind<'a>
+    ensures { list_kind_of result ≡ list_kinds.Commands name.now (span arg.entry).at }
 {
-    Scene::Commands {
+    ListKind::Commands {
         name: name.as_slice(),
         at: arg.at,
     }
@@ -395,7 +397,7 @@ fn read_plain(
     at: usize,
     args: &[Arg<'_>],
 ) -> Result<Stmt, ParseFault>
-    ensures value { Gives (λ s. script_of (s ∷ [])) result (profile.call_of scenes.Top (profile.body_of 0) known.old (Plain m) at (map span args.now)) }
+    ensures value { Gives (λ s. script_of (s ∷ [])) result (profile.call_of list_kinds.Top (profile.body_of 0) known.old (Plain m) at (map span args.now)) }
     ensures after { IfOk result (λ s. known.new ≡ after_all known.old (script_of (s ∷ []))) }
 {
     let s = plain(alloc, known, m, at, args)?;
@@ -407,43 +409,52 @@ fn read_plain(
 fn read_call(
     alloc: Global,
     room: u8,
-    scene: Scene<'_>,
+    list_kind: ListKind<'_>,
     known: &mut Declarations,
     m: Macro,
     at: usize,
     args: &[Arg<'_>],
 ) -> Result<Stmt, ParseFault>
-    ensures value { Gives (λ s. script_of (s ∷ [])) result (profile.call_of (scene_of scene.entry) (profile.body_of room) known.old m at (map span args.now)) }
+    ensures value { Gives (λ s. script_of (s ∷ [])) result (profile.call_of (list_kind_of list_kind.entry) (profile.body_of room) known.old m at (map span args.now)) }
     ensures after { IfOk result (λ s. known.new ≡ after_all known.old (script_of (s ∷ []))) }
 {
     match m {
         Macro::Plain(m) => read_plain(alloc, known, m, at, args),
-        Macro::Choice(m) => read_choice(alloc, room, scene.of_case(), known, m, args),
-        Macro::Question(m) => read_question(alloc, room, scene.of_case(), known, m, args),
+        Macro::Choice(m) => read_choice(alloc, room, list_kind.of_case(), known, m, args),
+        Macro::Question(m) => read_question(alloc, room, list_kind.of_case(), known, m, args),
         Macro::Check => read_check(alloc, room, known, args),
     }
 }
 
-/// Appends the statements of an item between what precedes it (`edge`) and the items after it (`following`).
+/// Appends the statements of an item between what precedes it (`line_start`) and the items after it (`following`).
 #[cycle(list)]
 fn read_item(
     alloc: Global,
     room: u8,
-    scene: Scene<'_>,
+    list_kind: ListKind<'_>,
     known: &mut Declarations,
-    edge: Edge,
+    line_start: LineStart,
     item: &Item<'_>,
     following: &[Item<'_>],
     out: &mut Vec<Stmt>,
 ) -> Result<(), ParseFault>
-    ensures { MatchResult result (λ _. Adds known.old known.new (script_of out.old.items) (script_of out.new.items) (profile.item_of (scene_of scene.entry) (profile.body_of room) known.old edge (view item.now) (views following.now)))
-        (λ e. Fails e (profile.item_of (scene_of scene.entry) (profile.body_of room) known.old edge (view item.now) (views following.now))) }
+    ensures { MatchResult result (λ _. Adds known.old known.new (script_of out.old.items) (script_of out.new.items) (profile.item_of (list_kind_of list_kind.entry) (profile.body_of room) known.old line_start (view item.now) (views following.now)))
+        (λ e. Fails e (profile.item_of (list_kind_of list_kind.entry) (profile.body_of room) known.old line_start (view item.now) (views following.now))) }
 {
     match item {
-        Item::Bare { text, at } => read_bare(alloc, scene, known.stage, *at, text, out),
+        Item::Bare { text, at } => read_bare(alloc, list_kind, known.stage, *at, text, out),
         Item::Call { name, args, at } => {
-            let m = check_call(alloc, scene, known.stage, edge, name, args, *at, following)?;
-            let s = read_call(alloc, room, scene, known, m, *at, args)?;
+            let m = check_call(
+                alloc,
+                list_kind,
+                known.stage,
+                line_start,
+                name,
+                args,
+                *at,
+                following,
+            )?;
+            let s = read_call(alloc, room, list_kind, known, m, *at, args)?;
             out.push(s)?;
             Ok(())
         }
@@ -455,28 +466,28 @@ fn read_item(
 pub(crate) fn read_statements(
     alloc: Global,
     room: u8,
-    scene: Scene<'_>,
+    list_kind: ListKind<'_>,
     known: &mut Declarations,
     items: &[Item<'_>],
 ) -> Result<Vec<Stmt>, ParseFault>
-    ensures value { Gives (λ v. script_of v.items) result (profile.items_of (scene_of scene.entry) (profile.body_of room) known.old no_edge (views items.now)) }
+    ensures value { Gives (λ v. script_of v.items) result (profile.items_of (list_kind_of list_kind.entry) (profile.body_of room) known.old no_line_start (views items.now)) }
     ensures after { IfOk result (λ v. known.new ≡ after_all known.old (script_of v.items)) }
 {
     let mut out = Vec::new(alloc);
-    let mut edge = NO_EDGE;
+    let mut line_start = LIST_START;
     for i in 0..items.len() {
         let item = &items[i];
         read_item(
             alloc,
             room,
-            scene,
+            list_kind,
             known,
-            edge,
+            line_start,
             item,
             &items[i + 1..],
             &mut out,
         )?;
-        edge = edge_of(item);
+        line_start = line_start_of(item);
     }
     Ok(out)
 }

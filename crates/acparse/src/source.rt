@@ -16,7 +16,7 @@ ghost use Rattle.outputlist.specs.Output.{AreOutputs};
 
 use crate::read::read_statements;
 use acargs::ParseFault;
-use acmacros::scene::Scene;
+use acmacros::list_kind::ListKind;
 use acstatement::fault::quote_fault;
 use m4quote::read_items;
 use std::alloc::Global;
@@ -44,7 +44,7 @@ fn read_whole(alloc: Global, known: &mut Declarations, text: &[u8]) -> Result<Ve
         Ok(items) => items,
         Err(fault) => return Err(quote_fault(fault)),
     };
-    let statements = read_statements(alloc, 31, Scene::Top, known, &items)?;
+    let statements = read_statements(alloc, 31, ListKind::Top, known, &items)?;
     check_end(known)?;
     Ok(statements)
 }

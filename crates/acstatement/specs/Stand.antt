@@ -3,7 +3,7 @@
 use Rattle.std.specs.Prelude.{ℕ, ◌+◌, ◌-◌, Bool, true, not, ◌&&◌, ◌||◌, ◌==◌, List, [], ◌∷◌, length, reverse, slice_index, if◌then◌else◌}
 use Rattle.std.specs.List.{prefix_len}
 use Rattle.m4quote.specs.Entry.{Span, Entry, call, bare}
-use Rattle.acstatement.specs.declared.stand.Edge.{Edge}
+use Rattle.acstatement.specs.declared.placement.LineStart.{LineStart}
 use Rattle.acstatement.specs.Texts.{arg_at, is_all_blank}
 
 -- A space or a tab. (own)
@@ -24,17 +24,17 @@ ends_line text =
 
 -- What an item is to a call after it: bare text with its offset and length, which a call may follow if the text is
 -- blank or ends a line. A call may always follow a call. (own)
-abbrev pub edge_of : Entry → Edge
-edge_of (call name args at) = record { at = 0; len = 0; free = true }
-edge_of (bare text at) = record { at = at; len = length text; free = is_all_blank text || ends_line text }
+abbrev pub line_start_of : Entry → LineStart
+line_start_of (call name args at) = record { at = 0; len = 0; free = true }
+line_start_of (bare text at) = record { at = at; len = length text; free = is_all_blank text || ends_line text }
 
 -- Nothing precedes the first item. (own)
-abbrev pub no_edge : Edge
-no_edge = record { at = 0; len = 0; free = true }
+abbrev pub no_line_start : LineStart
+no_line_start = record { at = 0; len = 0; free = true }
 
 -- The bare text extends to this offset: no dropped line is between. (own)
-abbrev pub reaches : Edge → ℕ → Bool
-reaches edge at = at - edge.at == edge.len
+abbrev pub reaches : LineStart → ℕ → Bool
+reaches line_start at = at - line_start.at == line_start.len
 
 -- The call extends to this offset, with its closing parenthesis if it has one. (own)
 abbrev pub call_reaches : List ℕ → List Span → ℕ → ℕ → Bool
@@ -49,5 +49,5 @@ is_free_after name args at (call name' args' to ∷ items) = true
 is_free_after name args at (bare text to ∷ items) = not (call_reaches name args at to) || is_all_blank text || begins_line text
 
 -- A call, between what precedes it and the items after it, is a statement. (own)
-unfoldable pub is_statement : Edge → List ℕ → List Span → ℕ → List Entry → Bool
-is_statement edge name args at after = (edge.free || not (reaches edge at)) && is_free_after name args at after
+unfoldable pub is_statement : LineStart → List ℕ → List Span → ℕ → List Entry → Bool
+is_statement line_start name args at after = (line_start.free || not (reaches line_start at)) && is_free_after name args at after

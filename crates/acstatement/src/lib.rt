@@ -13,7 +13,7 @@ mod facts;
 pub mod fault;
 pub mod idle;
 pub mod inside;
-pub mod stand;
+pub mod placement;
 pub mod texts;
 
 pub use facts::inside_laws;

@@ -6,7 +6,7 @@ use Rattle.std.proofs.Math.ListN.{drop_of_length-le}
 use Rattle.commandline.proofs.Turns.{next_of}
 use Rattle.commandline.proofs.Words.{Means, option_said, option_given, switch_said, said_means}
 use Rattle.commandline.proofs.Lines.{Word as Reading, gives, awaits, fails, word_of}
-use Rattle.commandline.specs.Arguments.{Said, Turns, Gives, Awaits, Chooses, Misnames, Assigns, Misassigns, Nothing, awaited_by, awaited_after, said_by}
+use Rattle.commandline.specs.Arguments.{Argument, Flag, OptionValue, OptionName, FeatureValue, BadFeatureName, VariableValue, BadVariableName, Unrecognized, awaited_by, awaited_after, read_argument}
 use Rattle.commandline.specs.CommandLine as line
 use Rattle.commandline.specs.CommandLine.{Setting, Variable, Choice, Cache, Source, Switched, valued, IsSwitch, IsOption, GivesAlone}
 use Rattle.commandline.specs.Kept as kept
@@ -43,7 +43,7 @@ some_parts : (word : List ℕ) (more : List (List ℕ)) → ((parts : List Part)
     → ((next : List ℕ) (rest : List (List ℕ)) → more ≡ next ∷ rest → (parts : List Part) × AreParts rest parts)
     → (parts : List Part) × AreParts (word ∷ more) parts
 some_parts word more after later = at (word_of 0 word) where
-  alone : awaited_by (said_by word) ≡ None → (parts : List Part) × AreParts (word ∷ more) parts
+  alone : awaited_by (read_argument word) ≡ None → (parts : List Part) × AreParts (word ∷ more) parts
   alone none = (Word word ∷ after.0, parts.one_word (λ target is. let e = ap awaited_by (option_said is) in absurd (cc)) after.1)
 
   value_at : (target : Target) → IsOption word target → (rest : List (List ℕ)) → more ≡ rest → (parts : List Part) × AreParts (word ∷ rest) parts
@@ -63,9 +63,9 @@ both_cut (word ∷ more) =
     (some_parts word more tail.0 tail.1, λ next rest e. let same : more ≡ rest = cc in subst (λ r. (parts : List Part) × AreParts r parts) same tail.0)
 
 -- A word that takes no value.
-no_option : (word : List ℕ) → ((target : Target) → ¬ (IsOption word target)) → awaited_by (said_by word) ≡ None
+no_option : (word : List ℕ) → ((target : Target) → ¬ (IsOption word target)) → awaited_by (read_argument word) ≡ None
 no_option word never = at (word_of 0 word) where
-  at : Reading 0 word → awaited_by (said_by word) ≡ None
+  at : Reading 0 word → awaited_by (read_argument word) ≡ None
   at (gives setting is said none) = none
   at (awaits target is e) = absurd (never target is)
   at (fails fault is said none) = none
@@ -87,26 +87,26 @@ source_is (line.enabled_as kind name value h) = tt
 source_is (line.disabled kind name h) = tt
 source_is (line.assignment name value h) = tt
 
-given_source : (word directory : List ℕ) → said_by word ≡ Gives Srcdir directory → word ≡ codes "--srcdir=" ++ directory
+given_source : (word directory : List ℕ) → read_argument word ≡ OptionValue Srcdir directory → word ≡ codes "--srcdir=" ++ directory
 given_source word directory e = source_is {i = 0} (subst (Means 0 word) e (said_means 0 word))
 
-source_given : (directory : List ℕ) → said_by (codes "--srcdir=" ++ directory) ≡ Gives Srcdir directory
+source_given : (directory : List ℕ) → read_argument (codes "--srcdir=" ++ directory) ≡ OptionValue Srcdir directory
 source_given directory = option_given line.srcdir directory
 
 -- After a word that names none.
-word_passed : (word before : List ℕ) → ((directory : List ℕ) → ¬ (NamesSource (Word word) directory)) → srcdir_said (said_by word) before ≡ before
-word_passed word before never = at (said_by word) refl where
-  at : (said : Said) → said_by word ≡ said → srcdir_said said before ≡ before
-  at (Gives Srcdir value) e = absurd (never value (subst (λ w. NamesSource (Word w) value) (sym (given_source word value e)) (source.in_one value)))
-  at (Gives CacheFile value) e = refl
-  at (Gives (InstallDirectory d) value) e = refl
-  at (Turns switch) e = refl
-  at (Awaits target) e = refl
-  at (Chooses kind name value option) e = refl
-  at Misnames e = refl
-  at (Assigns name value) e = refl
-  at Misassigns e = refl
-  at Nothing e = refl
+word_passed : (word before : List ℕ) → ((directory : List ℕ) → ¬ (NamesSource (Word word) directory)) → srcdir_said (read_argument word) before ≡ before
+word_passed word before never = at (read_argument word) refl where
+  at : (said : Argument) → read_argument word ≡ said → srcdir_said said before ≡ before
+  at (OptionValue Srcdir value) e = absurd (never value (subst (λ w. NamesSource (Word w) value) (sym (given_source word value e)) (source.in_one value)))
+  at (OptionValue CacheFile value) e = refl
+  at (OptionValue (InstallDirectory d) value) e = refl
+  at (Flag switch) e = refl
+  at (OptionName target) e = refl
+  at (FeatureValue kind name value option) e = refl
+  at BadFeatureName e = refl
+  at (VariableValue name value) e = refl
+  at BadVariableName e = refl
+  at Unrecognized e = refl
 
 value_passed : (option value before : List ℕ) (target : Target) → ((directory : List ℕ) → ¬ (NamesSource (Valued option target value) directory)) → srcdir_of_value target value before ≡ before
 value_passed option value before Srcdir never = absurd (never value (source.in_two option value))
@@ -115,7 +115,7 @@ value_passed option value before (InstallDirectory d) never = refl
 
 -- What a part makes of the directory before it.
 abbrev after_part : Part → List ℕ → List ℕ
-after_part (Word word) before = srcdir_said (said_by word) before
+after_part (Word word) before = srcdir_said (read_argument word) before
 after_part (Valued option target value) before = srcdir_of_value target value before
 
 named_after : {part : Part} {directory : List ℕ} (before : List ℕ) → NamesSource part directory → after_part part before ≡ directory
@@ -141,31 +141,31 @@ data Naming (part : Part) (before : List ℕ) : Type 0 where
   names : (directory : List ℕ) → NamesSource part directory → after_part part before ≡ directory → Naming part before
   passes : ((directory : List ℕ) → ¬ (NamesSource part directory)) → after_part part before ≡ before → Naming part before
 
-never_given : (word directory : List ℕ) (said : Said) → said_by word ≡ said → NamesSource (Word word) directory → said ≡ Gives Srcdir directory
+never_given : (word directory : List ℕ) (said : Argument) → read_argument word ≡ said → NamesSource (Word word) directory → said ≡ OptionValue Srcdir directory
 never_given word directory said e h = sym e ∙ names_given h refl where
-  names_given : {part : Part} → NamesSource part directory → part ≡ Word word → said_by word ≡ Gives Srcdir directory
-  names_given (source.in_one d) same = let w : codes "--srcdir=" ++ d ≡ word = cc in ap said_by (sym w) ∙ source_given d
+  names_given : {part : Part} → NamesSource part directory → part ≡ Word word → read_argument word ≡ OptionValue Srcdir directory
+  names_given (source.in_one d) same = let w : codes "--srcdir=" ++ d ≡ word = cc in ap read_argument (sym w) ∙ source_given d
   names_given (source.in_two option d) same = absurd (cc)
 
 naming : (part : Part) (before : List ℕ) → Naming part before
-naming (Word word) before = at (said_by word) refl where
-  none : (said : Said) → said_by word ≡ said → ((d : List ℕ) → said ≡ Gives Srcdir d → ⊥) → Naming (Word word) before
+naming (Word word) before = at (read_argument word) refl where
+  none : (said : Argument) → read_argument word ≡ said → ((d : List ℕ) → said ≡ OptionValue Srcdir d → ⊥) → Naming (Word word) before
   none said e other =
       let never : (d : List ℕ) → ¬ (NamesSource (Word word) d) = λ d h. other d (never_given word d said e h) in
       passes never (word_passed word before never)
 
-  at : (said : Said) → said_by word ≡ said → Naming (Word word) before
-  at (Gives Srcdir value) e =
+  at : (said : Argument) → read_argument word ≡ said → Naming (Word word) before
+  at (OptionValue Srcdir value) e =
       names value (subst (λ w. NamesSource (Word w) value) (sym (given_source word value e)) (source.in_one value)) (ap (λ s. srcdir_said s before) e)
-  at (Gives CacheFile value) e = none _ e (λ d h. cc)
-  at (Gives (InstallDirectory directory) value) e = none _ e (λ d h. cc)
-  at (Turns switch) e = none _ e (λ d h. cc)
-  at (Awaits target) e = none _ e (λ d h. cc)
-  at (Chooses kind name value option) e = none _ e (λ d h. cc)
-  at Misnames e = none _ e (λ d h. cc)
-  at (Assigns name value) e = none _ e (λ d h. cc)
-  at Misassigns e = none _ e (λ d h. cc)
-  at Nothing e = none _ e (λ d h. cc)
+  at (OptionValue CacheFile value) e = none _ e (λ d h. cc)
+  at (OptionValue (InstallDirectory directory) value) e = none _ e (λ d h. cc)
+  at (Flag switch) e = none _ e (λ d h. cc)
+  at (OptionName target) e = none _ e (λ d h. cc)
+  at (FeatureValue kind name value option) e = none _ e (λ d h. cc)
+  at BadFeatureName e = none _ e (λ d h. cc)
+  at (VariableValue name value) e = none _ e (λ d h. cc)
+  at BadVariableName e = none _ e (λ d h. cc)
+  at Unrecognized e = none _ e (λ d h. cc)
 naming (Valued option Srcdir value) before = names value (source.in_two option value) refl
 naming (Valued option CacheFile value) before = passes (λ d h. other d h refl) refl where
   other : {part : Part} (d : List ℕ) → NamesSource part d → part ≡ Valued option CacheFile value → ⊥
@@ -189,7 +189,7 @@ parts_after : {args : List (List ℕ)} {parts : List Part} → AreParts args par
 unfolding srcdir_from
 parts_after parts.no_more before = refl
 parts_after (parts.one_word {word = word} {more = more} never rest) before =
-    ap (λ t. srcdir_from t (srcdir_said (said_by word) before) more) (no_option word never) ∙ parts_after rest (srcdir_said (said_by word) before)
+    ap (λ t. srcdir_from t (srcdir_said (read_argument word) before) more) (no_option word never) ∙ parts_after rest (srcdir_said (read_argument word) before)
 parts_after (parts.two_words {option = option} {target = target} {more = more} is value rest) before =
     ap (λ s. srcdir_from (awaited_by s) (srcdir_said s before) (value ∷ more)) (option_said is) ∙ parts_after rest (srcdir_of_value target value before)
 parts_after (parts.no_value {option = option} is) before = ap (λ s. srcdir_from (awaited_by s) (srcdir_said s before) []) (option_said is) ∙ sym (ap (λ s. srcdir_said s before) (option_said is))
@@ -211,7 +211,7 @@ directory_only args d h = h.is ∙ ap without_slashes (sym (last_after h.is_last
 -- ---- what is kept
 
 abbrev kept_part : Part → List (List ℕ)
-kept_part (Word word) = if is_no_create (said_by word) then [] else word ∷ []
+kept_part (Word word) = if is_no_create (read_argument word) then [] else word ∷ []
 kept_part (Valued option target value) = option ∷ value ∷ []
 
 abbrev kept_parts : List Part → List (List ℕ)
@@ -249,30 +249,30 @@ no_create_is (line.enabled_as kind name value h) = tt
 no_create_is (line.disabled kind name h) = tt
 no_create_is (line.assignment name value h) = tt
 
-is_switch : (word : List ℕ) → is_no_create (said_by word) ≡ true → IsSwitch word NoCreate
-is_switch word = at (said_by word) refl where
-  at : (said : Said) → said_by word ≡ said → is_no_create said ≡ true → IsSwitch word NoCreate
-  at (Turns NoCreate) e h = no_create_is {i = 0} (subst (Means 0 word) e (said_means 0 word))
-  at (Turns ConfigCache) e h = absurd (cc)
-  at (Turns Quiet) e h = absurd (cc)
-  at (Turns Help) e h = absurd (cc)
-  at (Turns Version) e h = absurd (cc)
-  at (Turns Ignored) e h = absurd (cc)
-  at (Gives target value) e h = absurd (cc)
-  at (Awaits target) e h = absurd (cc)
-  at (Chooses kind name value option) e h = absurd (cc)
-  at Misnames e h = absurd (cc)
-  at (Assigns name value) e h = absurd (cc)
-  at Misassigns e h = absurd (cc)
-  at Nothing e h = absurd (cc)
+is_switch : (word : List ℕ) → is_no_create (read_argument word) ≡ true → IsSwitch word NoCreate
+is_switch word = at (read_argument word) refl where
+  at : (said : Argument) → read_argument word ≡ said → is_no_create said ≡ true → IsSwitch word NoCreate
+  at (Flag NoCreate) e h = no_create_is {i = 0} (subst (Means 0 word) e (said_means 0 word))
+  at (Flag ConfigCache) e h = absurd (cc)
+  at (Flag Quiet) e h = absurd (cc)
+  at (Flag Help) e h = absurd (cc)
+  at (Flag Version) e h = absurd (cc)
+  at (Flag Ignored) e h = absurd (cc)
+  at (OptionValue target value) e h = absurd (cc)
+  at (OptionName target) e h = absurd (cc)
+  at (FeatureValue kind name value option) e h = absurd (cc)
+  at BadFeatureName e h = absurd (cc)
+  at (VariableValue name value) e h = absurd (cc)
+  at BadVariableName e h = absurd (cc)
+  at Unrecognized e h = absurd (cc)
 
-left_out_is : (word : List ℕ) → IsSwitch word NoCreate → is_no_create (said_by word) ≡ true
+left_out_is : (word : List ℕ) → IsSwitch word NoCreate → is_no_create (read_argument word) ≡ true
 left_out_is word is = ap is_no_create (switch_said is)
 
 parts_are_kept : (parts : List Part) → KeptParts parts (kept_parts parts)
 parts_are_kept [] = kept.no_more
-parts_are_kept (Word word ∷ parts) = at (is_no_create (said_by word)) refl (parts_are_kept parts) where
-  at : (t : Bool) → is_no_create (said_by word) ≡ t → KeptParts parts (kept_parts parts) → KeptParts (Word word ∷ parts) ((if t then [] else word ∷ []) ++ kept_parts parts)
+parts_are_kept (Word word ∷ parts) = at (is_no_create (read_argument word)) refl (parts_are_kept parts) where
+  at : (t : Bool) → is_no_create (read_argument word) ≡ t → KeptParts parts (kept_parts parts) → KeptParts (Word word ∷ parts) ((if t then [] else word ∷ []) ++ kept_parts parts)
   at true e rest = kept.left_out (is_switch word e) rest
   at false e rest = kept.word (λ is. let yes = left_out_is word is in absurd (cc)) rest
 parts_are_kept (Valued option target value ∷ parts) = kept.valued (parts_are_kept parts)
@@ -280,8 +280,8 @@ parts_are_kept (Valued option target value ∷ parts) = kept.valued (parts_are_k
 kept_is : {parts : List Part} {left : List (List ℕ)} → KeptParts parts left → left ≡ kept_parts parts
 kept_is kept.no_more = refl
 kept_is (kept.left_out {word = word} {parts = parts} is rest) = kept_is rest ∙ sym (ap (λ t. (if t then [] else word ∷ []) ++ kept_parts parts) (left_out_is word is))
-kept_is (kept.word {word = word} {parts = parts} never rest) = ap (λ k. word ∷ k) (kept_is rest) ∙ at (is_no_create (said_by word)) refl where
-  at : (t : Bool) → is_no_create (said_by word) ≡ t → word ∷ kept_parts parts ≡ (if t then [] else word ∷ []) ++ kept_parts parts
+kept_is (kept.word {word = word} {parts = parts} never rest) = ap (λ k. word ∷ k) (kept_is rest) ∙ at (is_no_create (read_argument word)) refl where
+  at : (t : Bool) → is_no_create (read_argument word) ≡ t → word ∷ kept_parts parts ≡ (if t then [] else word ∷ []) ++ kept_parts parts
   at true e = absurd (never (is_switch word e))
   at false e = refl
 kept_is (kept.valued {option = option} {value = value} rest) = ap (λ k. option ∷ value ∷ k) (kept_is rest)

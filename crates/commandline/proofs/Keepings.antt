@@ -2,7 +2,7 @@
 use Rattle.std.proofs.Common.{◌≡◌, ◌≢◌, ℕ, ◌+◌, Bool, true, false, List, [], ◌∷◌, ◌++◌, if◌then◌else◌, None, Ok, refl, sym, ap, subst, ◌∙◌}
 use Rattle.commandline.proofs.Words.{setting_said, option_said}
 use Rattle.commandline.proofs.Lines.{alone_awaits}
-use Rattle.commandline.specs.Arguments.{Said, Turns, Gives, Awaits, Chooses, Misnames, Assigns, Misassigns, Nothing, alone, awaited_by, said_by}
+use Rattle.commandline.specs.Arguments.{Argument, Flag, OptionValue, OptionName, FeatureValue, BadFeatureName, VariableValue, BadVariableName, Unrecognized, alone, awaited_by, read_argument}
 use Rattle.commandline.specs.CommandLine as line
 use Rattle.commandline.specs.CommandLine.{Setting, Variable, Choice, Cache, Source, Switched, valued, IsOption, GivesAlone, GivesSettings}
 use Rattle.commandline.specs.Kept.{is_no_create, kept_of, kept_from, kept_args}
@@ -34,37 +34,37 @@ other_valued Srcdir value = λ e. cc
 other_valued CacheFile value = λ e. cc
 
 -- The setting of a word that is left out, and of one that isn't.
-no_create_set : (i : ℕ) (said : Said) (setting : Setting) → alone i said ≡ Ok setting → is_no_create said ≡ true → setting ≡ Switched NoCreate
-no_create_set i (Turns NoCreate) setting e h = cc
-no_create_set i (Turns ConfigCache) setting e h = absurd (cc)
-no_create_set i (Turns Quiet) setting e h = absurd (cc)
-no_create_set i (Turns Help) setting e h = absurd (cc)
-no_create_set i (Turns Version) setting e h = absurd (cc)
-no_create_set i (Turns Ignored) setting e h = absurd (cc)
-no_create_set i (Gives target value) setting e h = absurd (cc)
-no_create_set i (Awaits target) setting e h = absurd (cc)
-no_create_set i (Chooses kind name value option) setting e h = absurd (cc)
-no_create_set i Misnames setting e h = absurd (cc)
-no_create_set i (Assigns name value) setting e h = absurd (cc)
-no_create_set i Misassigns setting e h = absurd (cc)
-no_create_set i Nothing setting e h = absurd (cc)
+no_create_set : (i : ℕ) (said : Argument) (setting : Setting) → alone i said ≡ Ok setting → is_no_create said ≡ true → setting ≡ Switched NoCreate
+no_create_set i (Flag NoCreate) setting e h = cc
+no_create_set i (Flag ConfigCache) setting e h = absurd (cc)
+no_create_set i (Flag Quiet) setting e h = absurd (cc)
+no_create_set i (Flag Help) setting e h = absurd (cc)
+no_create_set i (Flag Version) setting e h = absurd (cc)
+no_create_set i (Flag Ignored) setting e h = absurd (cc)
+no_create_set i (OptionValue target value) setting e h = absurd (cc)
+no_create_set i (OptionName target) setting e h = absurd (cc)
+no_create_set i (FeatureValue kind name value option) setting e h = absurd (cc)
+no_create_set i BadFeatureName setting e h = absurd (cc)
+no_create_set i (VariableValue name value) setting e h = absurd (cc)
+no_create_set i BadVariableName setting e h = absurd (cc)
+no_create_set i Unrecognized setting e h = absurd (cc)
 
-other_set : (i : ℕ) (said : Said) (setting : Setting) → alone i said ≡ Ok setting → is_no_create said ≡ false → setting ≢ Switched NoCreate
-other_set i (Turns NoCreate) setting e h = λ is. let no : true ≡ false = h in cc
-other_set i (Turns ConfigCache) setting e h = λ is. cc
-other_set i (Turns Quiet) setting e h = λ is. cc
-other_set i (Turns Help) setting e h = λ is. cc
-other_set i (Turns Version) setting e h = λ is. cc
-other_set i (Turns Ignored) setting e h = λ is. cc
-other_set i (Gives target value) setting e h = λ is. other_valued target value (let same : valued target value ≡ setting = cc in same ∙ is)
-other_set i (Awaits target) setting e h = λ is. cc
-other_set i (Chooses kind name value option) setting e h = λ is. cc
-other_set i Misnames setting e h = λ is. cc
-other_set i (Assigns name value) setting e h = λ is. cc
-other_set i Misassigns setting e h = λ is. cc
-other_set i Nothing setting e h = λ is. cc
+other_set : (i : ℕ) (said : Argument) (setting : Setting) → alone i said ≡ Ok setting → is_no_create said ≡ false → setting ≢ Switched NoCreate
+other_set i (Flag NoCreate) setting e h = λ is. let no : true ≡ false = h in cc
+other_set i (Flag ConfigCache) setting e h = λ is. cc
+other_set i (Flag Quiet) setting e h = λ is. cc
+other_set i (Flag Help) setting e h = λ is. cc
+other_set i (Flag Version) setting e h = λ is. cc
+other_set i (Flag Ignored) setting e h = λ is. cc
+other_set i (OptionValue target value) setting e h = λ is. other_valued target value (let same : valued target value ≡ setting = cc in same ∙ is)
+other_set i (OptionName target) setting e h = λ is. cc
+other_set i (FeatureValue kind name value option) setting e h = λ is. cc
+other_set i BadFeatureName setting e h = λ is. cc
+other_set i (VariableValue name value) setting e h = λ is. cc
+other_set i BadVariableName setting e h = λ is. cc
+other_set i Unrecognized setting e h = λ is. cc
 
-kept_word : (word : List ℕ) (more : List (List ℕ)) → awaited_by (said_by word) ≡ None → kept_args (word ∷ more) ≡ kept_of None word ++ kept_args more
+kept_word : (word : List ℕ) (more : List (List ℕ)) → awaited_by (read_argument word) ≡ None → kept_args (word ∷ more) ≡ kept_of None word ++ kept_args more
 unfolding kept_from
 kept_word word more e = ap (λ t. kept_of None word ++ kept_from t more) e
 
@@ -78,18 +78,18 @@ kept_none = refl
 
 one_kept : (i j : ℕ) (word : List ℕ) (more : List (List ℕ)) (setting : Setting) (settings : List Setting) → GivesAlone i word setting
     → ((n : ℕ) → GivesKept n more settings) → GivesKept j (word ∷ more) (setting ∷ settings)
-one_kept i j word more setting settings h rest = at (is_no_create (said_by word)) refl where
+one_kept i j word more setting settings h rest = at (is_no_create (read_argument word)) refl where
   whole : kept_args (word ∷ more) ≡ kept_of None word ++ kept_args more
-  whole = kept_word word more (alone_awaits i (said_by word) setting (setting_said h))
+  whole = kept_word word more (alone_awaits i (read_argument word) setting (setting_said h))
 
-  at : (t : Bool) → is_no_create (said_by word) ≡ t → GivesKept j (word ∷ more) (setting ∷ settings)
+  at : (t : Bool) → is_no_create (read_argument word) ≡ t → GivesKept j (word ∷ more) (setting ∷ settings)
   at true e =
       let r = rest j in
       let left : kept_args (word ∷ more) ≡ kept_args more = whole ∙ ap (λ t. (if t then [] else word ∷ []) ++ kept_args more) e in
       record {
         kept = r.kept;
         gives = subst (λ a. GivesSettings j a r.kept) (sym left) r.gives;
-        are = subst (λ s. AreKept (s ∷ settings) r.kept) (sym (no_create_set i (said_by word) setting (setting_said h) e)) (keeping.left_out r.are);
+        are = subst (λ s. AreKept (s ∷ settings) r.kept) (sym (no_create_set i (read_argument word) setting (setting_said h) e)) (keeping.left_out r.are);
       }
   at false e =
       let r = rest (j + 1) in
@@ -97,7 +97,7 @@ one_kept i j word more setting settings h rest = at (is_no_create (said_by word)
       record {
         kept = placed (j + 1) setting ∷ r.kept;
         gives = subst (λ a. GivesSettings j a (placed (j + 1) setting ∷ r.kept)) (sym stays) (line.one_word (placed_alone (j + 1) h) r.gives);
-        are = keeping.one_more (j + 1) (other_set i (said_by word) setting (setting_said h) e) r.are;
+        are = keeping.one_more (j + 1) (other_set i (read_argument word) setting (setting_said h) e) r.are;
       }
 
 two_kept : (j : ℕ) (option value : List ℕ) (target : Target) (more : List (List ℕ)) (settings : List Setting) → IsOption option target

@@ -1,7 +1,7 @@
 -- What all arguments give, as a function and by its rule.
 use Rattle.std.proofs.Common.{◌≡◌, ℕ, ◌+◌, List, [], ◌∷◌, Option, Some, None, Result, Ok, Err, refl, sym, ap, subst, ◌∙◌, arith}
 use Rattle.commandline.proofs.Words.{Means, option_said, setting_said, misnamed_said, misassigned_said, said_means}
-use Rattle.commandline.specs.Arguments.{Said, Turns, Gives, Awaits, Chooses, Misnames, Assigns, Misassigns, Nothing, said_by, alone, awaited_by, and_then, given}
+use Rattle.commandline.specs.Arguments.{Argument, Flag, OptionValue, OptionName, FeatureValue, BadFeatureName, VariableValue, BadVariableName, Unrecognized, read_argument, alone, awaited_by, and_then, given}
 use Rattle.commandline.specs.CommandLine as line
 use Rattle.commandline.specs.CommandLine.{Setting, valued, IsOption, GivesAlone, IsOther, IsMisnamed, IsMisassigned, IsAtFault, GivesSettings, IsFirstFault}
 use Rattle.commandline.specs.declared.argument.Target.{Target}
@@ -11,27 +11,27 @@ use Rattle.commandline.specs.declared.fault.OptionFault.TheVariants.{Unknown, Mi
 -- ---- one argument
 
 -- What gives a setting alone needs no value.
-pub alone_awaits : (i : ℕ) (said : Said) (setting : Setting) → alone i said ≡ Ok setting → awaited_by said ≡ None
-alone_awaits i (Awaits target) setting h = absurd (cc)
+pub alone_awaits : (i : ℕ) (said : Argument) (setting : Setting) → alone i said ≡ Ok setting → awaited_by said ≡ None
+alone_awaits i (OptionName target) setting h = absurd (cc)
 alone_awaits i said setting h = refl
 
 -- An argument with an error is none of these.
-pub fault_said : {i : ℕ} {word : List ℕ} {fault : OptionFault} → IsAtFault i word fault → (alone i (said_by word) ≡ Err fault) × (awaited_by (said_by word) ≡ None)
-fault_said {i = i} {word = word} (line.unknown other) = at (said_by word) refl (said_means i word) where
-  at : (said : Said) → said_by word ≡ said → Means i word said → (alone i said ≡ Err (Unknown i)) × (awaited_by said ≡ None)
-  at (Turns switch) e means = absurd (other.no_setting _ means)
-  at (Gives target value) e means = absurd (other.no_setting _ means)
-  at (Awaits target) e means = absurd (other.no_option target means)
-  at (Chooses kind name value option) e means = absurd (other.no_setting _ means)
-  at Misnames e means = absurd (other.no_feature means)
-  at (Assigns name value) e means = absurd (other.no_setting _ means)
-  at Misassigns e means = absurd (other.no_assignment means)
-  at Nothing e means = (refl, refl)
+pub fault_said : {i : ℕ} {word : List ℕ} {fault : OptionFault} → IsAtFault i word fault → (alone i (read_argument word) ≡ Err fault) × (awaited_by (read_argument word) ≡ None)
+fault_said {i = i} {word = word} (line.unknown other) = at (read_argument word) refl (said_means i word) where
+  at : (said : Argument) → read_argument word ≡ said → Means i word said → (alone i said ≡ Err (Unknown i)) × (awaited_by said ≡ None)
+  at (Flag switch) e means = absurd (other.no_setting _ means)
+  at (OptionValue target value) e means = absurd (other.no_setting _ means)
+  at (OptionName target) e means = absurd (other.no_option target means)
+  at (FeatureValue kind name value option) e means = absurd (other.no_setting _ means)
+  at BadFeatureName e means = absurd (other.no_feature means)
+  at (VariableValue name value) e means = absurd (other.no_setting _ means)
+  at BadVariableName e means = absurd (other.no_assignment means)
+  at Unrecognized e means = (refl, refl)
 fault_said {i = i} (line.bad_feature h) = let said = misnamed_said h in (ap (alone i) said, ap awaited_by said)
 fault_said {i = i} (line.bad_variable h) = let said = misassigned_said h in (ap (alone i) said, ap awaited_by said)
 
 -- An argument that is read as nothing known is none of these.
-other_is : (i : ℕ) (word : List ℕ) → said_by word ≡ Nothing → IsOther i word
+other_is : (i : ℕ) (word : List ℕ) → read_argument word ≡ Unrecognized → IsOther i word
 other_is i word e = record {
   no_setting = λ setting h. let said = setting_said h in let none = ap (alone i) e in absurd (cc);
   no_option = λ target h. let said = option_said h in absurd (cc);
@@ -41,37 +41,37 @@ other_is i word e = record {
 
 -- What an argument gives alone, or its error.
 pub data Word (i : ℕ) (word : List ℕ) : Type 0 where
-  gives : (setting : Setting) → GivesAlone i word setting → alone i (said_by word) ≡ Ok setting → awaited_by (said_by word) ≡ None → Word i word
-  awaits : (target : Target) → IsOption word target → awaited_by (said_by word) ≡ Some target → Word i word
-  fails : (fault : OptionFault) → IsAtFault i word fault → alone i (said_by word) ≡ Err fault → awaited_by (said_by word) ≡ None → Word i word
+  gives : (setting : Setting) → GivesAlone i word setting → alone i (read_argument word) ≡ Ok setting → awaited_by (read_argument word) ≡ None → Word i word
+  awaits : (target : Target) → IsOption word target → awaited_by (read_argument word) ≡ Some target → Word i word
+  fails : (fault : OptionFault) → IsAtFault i word fault → alone i (read_argument word) ≡ Err fault → awaited_by (read_argument word) ≡ None → Word i word
 
 pub word_of : (i : ℕ) (word : List ℕ) → Word i word
-word_of i word = at (said_by word) refl (said_means i word) where
-  at : (said : Said) → said_by word ≡ said → Means i word said → Word i word
-  at (Turns switch) e means = gives _ means (ap (alone i) e) (ap awaited_by e)
-  at (Gives target value) e means = gives _ means (ap (alone i) e) (ap awaited_by e)
-  at (Awaits target) e means = awaits target means (ap awaited_by e)
-  at (Chooses kind name value option) e means = gives _ means (ap (alone i) e) (ap awaited_by e)
-  at Misnames e means = fails _ (line.bad_feature means) (ap (alone i) e) (ap awaited_by e)
-  at (Assigns name value) e means = gives _ means (ap (alone i) e) (ap awaited_by e)
-  at Misassigns e means = fails _ (line.bad_variable means) (ap (alone i) e) (ap awaited_by e)
-  at Nothing e means = fails _ (line.unknown (other_is i word e)) (ap (alone i) e) (ap awaited_by e)
+word_of i word = at (read_argument word) refl (said_means i word) where
+  at : (said : Argument) → read_argument word ≡ said → Means i word said → Word i word
+  at (Flag switch) e means = gives _ means (ap (alone i) e) (ap awaited_by e)
+  at (OptionValue target value) e means = gives _ means (ap (alone i) e) (ap awaited_by e)
+  at (OptionName target) e means = awaits target means (ap awaited_by e)
+  at (FeatureValue kind name value option) e means = gives _ means (ap (alone i) e) (ap awaited_by e)
+  at BadFeatureName e means = fails _ (line.bad_feature means) (ap (alone i) e) (ap awaited_by e)
+  at (VariableValue name value) e means = gives _ means (ap (alone i) e) (ap awaited_by e)
+  at BadVariableName e means = fails _ (line.bad_variable means) (ap (alone i) e) (ap awaited_by e)
+  at Unrecognized e means = fails _ (line.unknown (other_is i word e)) (ap (alone i) e) (ap awaited_by e)
 
 -- ---- the function, at an argument
 
 abbrev at_word : ℕ → List ℕ → List (List ℕ) → Option Target → Result (List Setting) OptionFault
 at_word i word more awaited = elim awaited as (λ r. Result (List Setting) OptionFault) [
   | Some target ↦ given (Some target) (i + 1) more
-  | None ↦ and_then (alone (i + 1) (said_by word)) (given None (i + 1) more)
+  | None ↦ and_then (alone (i + 1) (read_argument word)) (given None (i + 1) more)
 ]
 
-given_awaits : (i : ℕ) (word : List ℕ) (more : List (List ℕ)) (target : Target) → awaited_by (said_by word) ≡ Some target
+given_awaits : (i : ℕ) (word : List ℕ) (more : List (List ℕ)) (target : Target) → awaited_by (read_argument word) ≡ Some target
     → given None i (word ∷ more) ≡ given (Some target) (i + 1) more
 unfolding given
 given_awaits i word more target e = ap (at_word i word more) e
 
-given_alone : (i : ℕ) (word : List ℕ) (more : List (List ℕ)) → awaited_by (said_by word) ≡ None
-    → given None i (word ∷ more) ≡ and_then (alone (i + 1) (said_by word)) (given None (i + 1) more)
+given_alone : (i : ℕ) (word : List ℕ) (more : List (List ℕ)) → awaited_by (read_argument word) ≡ None
+    → given None i (word ∷ more) ≡ and_then (alone (i + 1) (read_argument word)) (given None (i + 1) more)
 unfolding given
 given_alone i word more e = ap (at_word i word more) e
 
@@ -93,7 +93,7 @@ given_end i target = refl
 pub settings_given : {i : ℕ} {arguments : List (List ℕ)} {settings : List Setting} → GivesSettings i arguments settings → given None i arguments ≡ Ok settings
 settings_given {i = i} line.no_more = given_none i
 settings_given {i = i} (line.one_word {word = word} {setting = setting} {more = more} {settings = settings} h rest) =
-    given_alone i word more (alone_awaits (i + 1) (said_by word) setting (setting_said h))
+    given_alone i word more (alone_awaits (i + 1) (read_argument word) setting (setting_said h))
     ∙ ap (λ first. and_then first (given None (i + 1) more)) (setting_said h)
     ∙ ap (and_then (Ok setting)) (settings_given rest)
 settings_given {i = i} (line.two_words {option = option} {target = target} {more = more} {settings = settings} h value rest) =
@@ -108,7 +108,7 @@ fault_given {i = i} (line.at_once {word = word} {more = more} h) =
 fault_given {i = i} (line.no_value {option = option} {target = target} h) =
     given_awaits i option [] target (ap awaited_by (option_said h)) ∙ given_end (i + 1) target
 fault_given {i = i} (line.after_word {word = word} {setting = setting} {more = more} h rest) =
-    given_alone i word more (alone_awaits (i + 1) (said_by word) setting (setting_said h))
+    given_alone i word more (alone_awaits (i + 1) (read_argument word) setting (setting_said h))
     ∙ ap (λ first. and_then first (given None (i + 1) more)) (setting_said h)
     ∙ ap (and_then (Ok setting)) (fault_given rest)
 fault_given {i = i} (line.after_words {option = option} {value = value} {target = target} {more = more} h rest) =
@@ -137,7 +137,7 @@ two_read i option value more target h (Err fault) rest = line.after_words h rest
 reads_at : (i : ℕ) (word : List ℕ) (more : List (List ℕ)) → ((n : ℕ) → Reads n more (given None n more))
     → ((n : ℕ) (next : List ℕ) (rest : List (List ℕ)) → more ≡ next ∷ rest → Reads n rest (given None n rest)) → Reads i (word ∷ more) (given None i (word ∷ more))
 reads_at i word more after later = at (word_of (i + 1) word) where
-  value_at : (target : Target) → IsOption word target → awaited_by (said_by word) ≡ Some target → (rest : List (List ℕ)) → more ≡ rest → Reads i (word ∷ rest) (given None i (word ∷ rest))
+  value_at : (target : Target) → IsOption word target → awaited_by (read_argument word) ≡ Some target → (rest : List (List ℕ)) → more ≡ rest → Reads i (word ∷ rest) (given None i (word ∷ rest))
   value_at target is e [] same = subst (Reads i (word ∷ [])) (sym (given_awaits i word [] target e ∙ given_end (i + 1) target)) (line.no_value is)
   value_at target is e (value ∷ rest) same =
       subst (Reads i (word ∷ value ∷ rest)) (sym (given_awaits i word (value ∷ rest) target e ∙ given_value i target value rest))

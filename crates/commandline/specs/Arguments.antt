@@ -16,23 +16,23 @@ use Rattle.commandline.specs.declared.fault.OptionFault.{OptionFault}
 use Rattle.commandline.specs.declared.fault.OptionFault.TheVariants.{Unknown, BadFeature, BadVariable, MissingValue}
 
 -- The reading of an argument that isn't the value of the option before it. (own)
-pub data Said : Type 0 where
+pub data Argument : Type 0 where
   -- An option without a value.
-  Turns : (switch : Switch) → Said
+  Flag : (switch : Switch) → Argument
   -- An option with its value.
-  Gives : (target : Target) → (value : List ℕ) → Said
+  OptionValue : (target : Target) → (value : List ℕ) → Argument
   -- An option whose value is the next argument.
-  Awaits : (target : Target) → Said
+  OptionName : (target : Target) → Argument
   -- A feature or a package, its value, and the text before the `=`.
-  Chooses : (kind : OptionKind) → (name : List ℕ) → (value : List ℕ) → (option : List ℕ) → Said
+  FeatureValue : (kind : OptionKind) → (name : List ℕ) → (value : List ℕ) → (option : List ℕ) → Argument
   -- A feature or a package whose name has not the form of one.
-  Misnames : Said
+  BadFeatureName : Argument
   -- A variable and its value.
-  Assigns : (name : List ℕ) → (value : List ℕ) → Said
+  VariableValue : (name : List ℕ) → (value : List ℕ) → Argument
   -- A value for a name that is no shell name.
-  Misassigns : Said
+  BadVariableName : Argument
   -- Neither a known option nor an assignment.
-  Nothing : Said
+  Unrecognized : Argument
 
 -- The text after the first `=`, if there is one. (own)
 unfoldable pub value_in : List ℕ → Option (List ℕ)
@@ -72,80 +72,80 @@ target_of key =
     else install_directory_of key)
 
 -- A feature or a package with its value, if its name has the form of one. (own)
-abbrev pub chosen : OptionKind → List ℕ → List ℕ → List ℕ → Said
-chosen kind name value option = if is_feature name then Chooses kind name value option else Misnames
+abbrev pub chosen : OptionKind → List ℕ → List ℕ → List ℕ → Argument
+chosen kind name value option = if is_feature name then FeatureValue kind name value option else BadFeatureName
 
 -- A feature or a package that is turned on, by the text after `--enable-` or `--with-`. (Autoconf's manual, "Package
 -- Options")
-abbrev pub enabled : OptionKind → List ℕ → List ℕ → Said
+abbrev pub enabled : OptionKind → List ℕ → List ℕ → Argument
 enabled kind rest argument = chosen kind (key_of rest) (unwrap_or (value_in rest) (codes "yes")) (key_of argument)
 
 -- A feature or a package that is turned off, by the text after `--disable-` or `--without-`. (Autoconf's manual,
 -- "Package Options")
-abbrev pub disabled : OptionKind → List ℕ → List ℕ → Said
+abbrev pub disabled : OptionKind → List ℕ → List ℕ → Argument
 disabled kind rest argument = chosen kind rest (codes "no") (key_of argument)
 
 -- The options of packages. (Autoconf's manual, "External Software")
-unfoldable pub package_of : List ℕ → Said
+unfoldable pub package_of : List ℕ → Argument
 package_of argument = elim (rest_after (enabling Package) argument) [
   | Some rest ↦ enabled Package rest argument
-  | None ↦ elim (rest_after (disabling Package) argument) [ Some rest ↦ disabled Package rest argument | None ↦ Nothing ]
+  | None ↦ elim (rest_after (disabling Package) argument) [ Some rest ↦ disabled Package rest argument | None ↦ Unrecognized ]
 ]
 
 -- The options of features and packages. (Autoconf's manual, "Package Options")
-unfoldable pub choice_of : List ℕ → Said
+unfoldable pub choice_of : List ℕ → Argument
 choice_of argument = elim (rest_after (enabling Feature) argument) [
   | Some rest ↦ enabled Feature rest argument
   | None ↦ elim (rest_after (disabling Feature) argument) [ Some rest ↦ disabled Feature rest argument | None ↦ package_of argument ]
 ]
 
 -- An option with a value, in one argument or in two. (own)
-abbrev pub given_or_awaited : Target → Option (List ℕ) → Said
-given_or_awaited target (Some value) = Gives target value
-given_or_awaited target None = Awaits target
+abbrev pub given_or_awaited : Target → Option (List ℕ) → Argument
+given_or_awaited target (Some value) = OptionValue target value
+given_or_awaited target None = OptionName target
 
 -- The options with a value, or for features and packages. (own)
-unfoldable pub said_with_value : List ℕ → Said
+unfoldable pub said_with_value : List ℕ → Argument
 said_with_value argument = elim (target_of (key_of argument)) [
   | Some target ↦ given_or_awaited target (value_in argument)
   | None ↦ choice_of argument
 ]
 
 -- The reading of an argument that begins with `-`. (own)
-unfoldable pub dashed_of : List ℕ → Said
-dashed_of argument = elim (switch_of argument) [ Some switch ↦ Turns switch | None ↦ said_with_value argument ]
+unfoldable pub dashed_of : List ℕ → Argument
+dashed_of argument = elim (switch_of argument) [ Some switch ↦ Flag switch | None ↦ said_with_value argument ]
 
 -- `NAME=VALUE`, if there is a value. (Autoconf's manual, "configure Invocation")
-abbrev pub assigned : List ℕ → Option (List ℕ) → Said
-assigned name None = Nothing
-assigned name (Some value) = if is_shell_name_of name then Assigns name value else Misassigns
+abbrev pub assigned : List ℕ → Option (List ℕ) → Argument
+assigned name None = Unrecognized
+assigned name (Some value) = if is_shell_name_of name then VariableValue name value else BadVariableName
 
 -- The reading of an argument. (Autoconf's manual, "configure Invocation")
-unfoldable pub said_by : List ℕ → Said
-said_by argument = if is_dashed argument then dashed_of argument else assigned (key_of argument) (value_in argument)
+unfoldable pub read_argument : List ℕ → Argument
+read_argument argument = if is_dashed argument then dashed_of argument else assigned (key_of argument) (value_in argument)
 
 -- ---- all arguments
 
 -- What argument i gives by itself, by its reading. (own)
-abbrev pub alone : ℕ → Said → Result Setting OptionFault
-alone i (Turns switch) = Ok (Switched switch)
-alone i (Gives target value) = Ok (valued target value)
-alone i (Awaits target) = Err (MissingValue i)
-alone i (Chooses kind name value option) = Ok (Choice i kind name value option)
-alone i Misnames = Err (BadFeature i)
-alone i (Assigns name value) = Ok (Variable name value)
-alone i Misassigns = Err (BadVariable i)
-alone i Nothing = Err (Unknown i)
+abbrev pub alone : ℕ → Argument → Result Setting OptionFault
+alone i (Flag switch) = Ok (Switched switch)
+alone i (OptionValue target value) = Ok (valued target value)
+alone i (OptionName target) = Err (MissingValue i)
+alone i (FeatureValue kind name value option) = Ok (Choice i kind name value option)
+alone i BadFeatureName = Err (BadFeature i)
+alone i (VariableValue name value) = Ok (Variable name value)
+alone i BadVariableName = Err (BadVariable i)
+alone i Unrecognized = Err (Unknown i)
 
 -- The option that needs the next argument as its value, after an argument with this reading. (own)
-abbrev pub awaited_by : Said → Option Target
-awaited_by (Awaits target) = Some target
+abbrev pub awaited_by : Argument → Option Target
+awaited_by (OptionName target) = Some target
 awaited_by other = None
 
 -- The option that needs the next argument as its value, after an argument that may be such a value itself. (own)
 abbrev pub awaited_after : Option Target → List ℕ → Option Target
 awaited_after (Some target) argument = None
-awaited_after None argument = awaited_by (said_by argument)
+awaited_after None argument = awaited_by (read_argument argument)
 
 -- A setting, and those after it. (own)
 abbrev pub and_then : Result Setting OptionFault → Result (List Setting) OptionFault → Result (List Setting) OptionFault
@@ -157,7 +157,7 @@ unfoldable pub given : Option Target → ℕ → List (List ℕ) → Result (Lis
 given None i [] = Ok []
 given (Some target) i [] = Err (MissingValue i)
 given (Some target) i (value ∷ more) = and_then (Ok (valued target value)) (given None (i + 1) more)
-given None i (word ∷ more) = elim (awaited_by (said_by word)) [
+given None i (word ∷ more) = elim (awaited_by (read_argument word)) [
   | Some target ↦ given (Some target) (i + 1) more
-  | None ↦ and_then (alone (i + 1) (said_by word)) (given None (i + 1) more)
+  | None ↦ and_then (alone (i + 1) (read_argument word)) (given None (i + 1) more)
 ]

@@ -1,6 +1,6 @@
 -- What the record of a run keeps of the arguments of a command line, whether or not they are right. (own)
 use Rattle.std.specs.Prelude.{ℕ, Bool, true, false, List, [], ◌∷◌, ◌++◌, Option, Some, None, if◌then◌else◌}
-use Rattle.commandline.specs.Arguments.{Said, Turns, awaited_after, said_by}
+use Rattle.commandline.specs.Arguments.{Argument, Flag, awaited_after, read_argument}
 use Rattle.commandline.specs.CommandLine.{IsSwitch}
 use Rattle.commandline.specs.Parts.{Part, Word, Valued, AreParts}
 use Rattle.commandline.specs.declared.argument.Target.{Target}
@@ -27,14 +27,14 @@ pub record IsKept (arguments kept : List (List ℕ)) : Type 0 where
 -- ---- as a function
 
 -- The reading is that of `-n` or `--no-create`. (own)
-abbrev pub is_no_create : Said → Bool
-is_no_create (Turns NoCreate) = true
+abbrev pub is_no_create : Argument → Bool
+is_no_create (Flag NoCreate) = true
 is_no_create other = false
 
 -- The argument, which may be the value of the option before it, is left out. (own)
 abbrev pub is_left_out : Option Target → List ℕ → Bool
 is_left_out (Some target) argument = false
-is_left_out None argument = is_no_create (said_by argument)
+is_left_out None argument = is_no_create (read_argument argument)
 
 -- What is kept of an argument that may be the value of the option before it. (own)
 abbrev pub kept_of : Option Target → List ℕ → List (List ℕ)

@@ -5,7 +5,7 @@ pub mod Kept
 pub mod KeptSettings
 pub mod Parts
 pub mod Reading
-pub mod Said
+pub mod Argument
 pub mod Slashes
 pub mod Srcdir
 pub mod FaultText

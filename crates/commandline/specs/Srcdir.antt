@@ -1,6 +1,6 @@
 -- The directory of the source, as a command line names it, whether or not its arguments are right. (own)
 use Rattle.std.specs.Prelude.{◌≡◌, ℕ, List, [], ◌∷◌, ◌++◌, Option, Some, None, codes}
-use Rattle.commandline.specs.Arguments.{Said, Gives, awaited_after, said_by}
+use Rattle.commandline.specs.Arguments.{Argument, OptionValue, awaited_after, read_argument}
 use Rattle.commandline.specs.Parts.{Part, Word, Valued, AreParts}
 use Rattle.commandline.specs.Slashes.{without_slashes}
 use Rattle.commandline.specs.declared.argument.Target.{Target}
@@ -39,14 +39,14 @@ srcdir_of_value CacheFile value srcdir = srcdir
 srcdir_of_value (InstallDirectory directory) value srcdir = srcdir
 
 -- The directory after an argument with this reading. (own)
-abbrev pub srcdir_said : Said → List ℕ → List ℕ
-srcdir_said (Gives target value) srcdir = srcdir_of_value target value srcdir
+abbrev pub srcdir_said : Argument → List ℕ → List ℕ
+srcdir_said (OptionValue target value) srcdir = srcdir_of_value target value srcdir
 srcdir_said other srcdir = srcdir
 
 -- The directory after an argument that may be the value of the option before it. (own)
 abbrev pub srcdir_after : Option Target → List ℕ → List ℕ → List ℕ
 srcdir_after (Some target) argument srcdir = srcdir_of_value target argument srcdir
-srcdir_after None argument srcdir = srcdir_said (said_by argument) srcdir
+srcdir_after None argument srcdir = srcdir_said (read_argument argument) srcdir
 
 -- The directory after all of these arguments; those with errors are passed over. (own)
 unfoldable pub srcdir_from : Option Target → List ℕ → List (List ℕ) → List ℕ

@@ -3,7 +3,7 @@
 ghost use Rattle.std.specs.Prelude.{◌≡◌, ◌<◌, ◌==◌, ◌||◌, Some, None, length, position, option_map, codes, bytes_eq, if◌then◌else◌, IfSome};
 ghost use Rattle.commandline.specs.Arguments as words;
 ghost use Rattle.commandline.specs.CommandLine as lines;
-ghost use Rattle.commandline.specs.Said.{said_of};
+ghost use Rattle.commandline.specs.Argument.{argument_of};
 ghost use Rattle.commandline.specs.declared.argument.Switch.TheVariants.{Help, Version, Ignored};
 
 use crate::directory::{Directory, directory_named};
@@ -40,23 +40,23 @@ pub enum Target {
 
 /// The reading of an argument that isn't the value of the option before it.
 #[derive(Clone, Copy)]
-pub enum Said<'a> {
+pub enum Argument<'a> {
     /// An option without a value.
-    Turns(Switch),
+    Flag(Switch),
     /// An option with its value.
-    Gives(Target, &'a [u8]),
+    OptionValue(Target, &'a [u8]),
     /// An option whose value is the next argument.
-    Awaits(Target),
+    OptionName(Target),
     /// A feature or a package, by its name.
-    Chooses(Choice<'a>),
+    FeatureValue(Choice<'a>),
     /// A feature or a package whose name has not the form of one.
-    Misnames,
+    BadFeatureName,
     /// A variable and its value.
-    Assigns(&'a [u8], &'a [u8]),
+    VariableValue(&'a [u8], &'a [u8]),
     /// A value for a name that is no shell name.
-    Misassigns,
+    BadVariableName,
     /// Neither a known option nor an assignment.
-    Nothing,
+    Unrecognized,
 }
 
 /// A feature or a package, and its value.
@@ -180,25 +180,25 @@ fn target_of(key: &[u8]) -> Option<Target>
 }
 
 /// Reads the option of a feature or a package.
-fn chosen<'a>(kind: OptionKind, name: &'a [u8], value: &'a [u8], option: &'a [u8]) -> Said<'a>
-    ensures { said_of result ≡ words.chosen kind name.now value.now option.now }
+fn chosen<'a>(kind: OptionKind, name: &'a [u8], value: &'a [u8], option: &'a [u8]) -> Argument<'a>
+    ensures { argument_of result ≡ words.chosen kind name.now value.now option.now }
 {
     if is_feature(name) {
-        Said::Chooses(Choice {
+        Argument::FeatureValue(Choice {
             kind,
             name,
             value,
             option,
         })
     } else {
-        Said::Misnames
+        Argument::BadFeatureName
     }
 }
 
 /// Reads the option that turns a feature or a package on. `rest` is its name and, after a `=`, its value; without a `=`
 /// the value is `yes`.
-fn enabled<'a>(kind: OptionKind, rest: &'a [u8], argument: &'a [u8]) -> Said<'a>
-    ensures { said_of result ≡ words.enabled kind rest.now argument.now }
+fn enabled<'a>(kind: OptionKind, rest: &'a [u8], argument: &'a [u8]) -> Argument<'a>
+    ensures { argument_of result ≡ words.enabled kind rest.now argument.now }
 {
     let option = key_of(argument);
     match value_in(rest) {
@@ -208,30 +208,30 @@ fn enabled<'a>(kind: OptionKind, rest: &'a [u8], argument: &'a [u8]) -> Said<'a>
 }
 
 /// Reads the option that turns a feature or a package off: all of `rest` is its name.
-fn disabled<'a>(kind: OptionKind, rest: &'a [u8], argument: &'a [u8]) -> Said<'a>
-    ensures { said_of result ≡ words.disabled kind rest.now argument.now }
+fn disabled<'a>(kind: OptionKind, rest: &'a [u8], argument: &'a [u8]) -> Argument<'a>
+    ensures { argument_of result ≡ words.disabled kind rest.now argument.now }
 {
     chosen(kind, rest, b"no", key_of(argument))
 }
 
 /// Reads `--with-` and `--without-`.
 #[tactic(auto, unfolding(crate::specs::Arguments::package_of))]
-fn package_of(argument: &[u8]) -> Said<'_>
-    ensures { said_of result ≡ words.package_of argument.now }
+fn package_of(argument: &[u8]) -> Argument<'_>
+    ensures { argument_of result ≡ words.package_of argument.now }
 {
     if let Some(rest) = rest_after(b"--with-", argument) {
         return enabled(OptionKind::Package, rest, argument);
     }
     match rest_after(b"--without-", argument) {
         Some(rest) => disabled(OptionKind::Package, rest, argument),
-        None => Said::Nothing,
+        None => Argument::Unrecognized,
     }
 }
 
 /// Reads an option of a feature or a package.
 #[tactic(auto, unfolding(crate::specs::Arguments::choice_of))]
-fn choice_of(argument: &[u8]) -> Said<'_>
-    ensures { said_of result ≡ words.choice_of argument.now }
+fn choice_of(argument: &[u8]) -> Argument<'_>
+    ensures { argument_of result ≡ words.choice_of argument.now }
 {
     if let Some(rest) = rest_after(b"--enable-", argument) {
         return enabled(OptionKind::Feature, rest, argument);
@@ -243,19 +243,19 @@ fn choice_of(argument: &[u8]) -> Said<'_>
 }
 
 /// Reads an option with a value, which is here or is the next argument.
-fn given_or_awaited<'a>(target: Target, value: Option<&'a [u8]>) -> Said<'a>
-    ensures { said_of result ≡ words.given_or_awaited target (option_map (λ v. v.now) value.entry) }
+fn given_or_awaited<'a>(target: Target, value: Option<&'a [u8]>) -> Argument<'a>
+    ensures { argument_of result ≡ words.given_or_awaited target (option_map (λ v. v.now) value.entry) }
 {
     match value {
-        Some(value) => Said::Gives(target, value),
-        None => Said::Awaits(target),
+        Some(value) => Argument::OptionValue(target, value),
+        None => Argument::OptionName(target),
     }
 }
 
 /// Reads an option that has a value, or is for a feature or a package.
 #[tactic(auto, unfolding(crate::specs::Arguments::said_with_value))]
-fn said_with_value(argument: &[u8]) -> Said<'_>
-    ensures { said_of result ≡ words.said_with_value argument.now }
+fn said_with_value(argument: &[u8]) -> Argument<'_>
+    ensures { argument_of result ≡ words.said_with_value argument.now }
 {
     match target_of(key_of(argument)) {
         Some(target) => given_or_awaited(target, value_in(argument)),
@@ -265,26 +265,26 @@ fn said_with_value(argument: &[u8]) -> Said<'_>
 
 /// Reads an argument that begins with `-`.
 #[tactic(auto, unfolding(crate::specs::Arguments::dashed_of))]
-fn dashed_of(argument: &[u8]) -> Said<'_>
-    ensures { said_of result ≡ words.dashed_of argument.now }
+fn dashed_of(argument: &[u8]) -> Argument<'_>
+    ensures { argument_of result ≡ words.dashed_of argument.now }
 {
     match switch_of(argument) {
-        Some(switch) => Said::Turns(switch),
+        Some(switch) => Argument::Flag(switch),
         None => said_with_value(argument),
     }
 }
 
 /// Reads an argument that is no option.
-fn assigned<'a>(name: &'a [u8], value: Option<&'a [u8]>) -> Said<'a>
-    ensures { said_of result ≡ words.assigned name.now (option_map (λ v. v.now) value.entry) }
+fn assigned<'a>(name: &'a [u8], value: Option<&'a [u8]>) -> Argument<'a>
+    ensures { argument_of result ≡ words.assigned name.now (option_map (λ v. v.now) value.entry) }
 {
     let Some(value) = value else {
-        return Said::Nothing;
+        return Argument::Unrecognized;
     };
     if is_shell_name(name) {
-        Said::Assigns(name, value)
+        Argument::VariableValue(name, value)
     } else {
-        Said::Misassigns
+        Argument::BadVariableName
     }
 }
 
@@ -298,9 +298,9 @@ fn is_dashed(argument: &[u8]) -> bool
 }
 
 /// Reads an argument that isn't the value of the option before it (Autoconf's manual, "configure Invocation").
-#[tactic(auto, unfolding(crate::specs::Arguments::said_by))]
-pub fn said_by(argument: &[u8]) -> Said<'_>
-    ensures { said_of result ≡ words.said_by argument.now }
+#[tactic(auto, unfolding(crate::specs::Arguments::read_argument))]
+pub fn read_argument(argument: &[u8]) -> Argument<'_>
+    ensures { argument_of result ≡ words.read_argument argument.now }
 {
     if is_dashed(argument) {
         dashed_of(argument)

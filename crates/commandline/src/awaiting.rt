@@ -2,17 +2,17 @@
 
 ghost use Rattle.std.specs.Prelude.{◌≡◌};
 ghost use Rattle.commandline.specs.Arguments as words;
-ghost use Rattle.commandline.specs.Said.{said_of};
+ghost use Rattle.commandline.specs.Argument.{argument_of};
 
-use crate::argument::{Said, Target, said_by};
+use crate::argument::{Argument, Target, read_argument};
 use deftable::Bytes;
 
 /// Returns the option that needs the next argument as its value, after an argument with this reading.
-fn awaited_by(said: Said<'_>) -> Option<Target>
-    ensures { result ≡ words.awaited_by (said_of said.entry) }
+fn awaited_by(said: Argument<'_>) -> Option<Target>
+    ensures { result ≡ words.awaited_by (argument_of said.entry) }
 {
     match said {
-        Said::Awaits(target) => Some(target),
+        Argument::OptionName(target) => Some(target),
         _ => None,
     }
 }
@@ -23,6 +23,6 @@ pub(crate) fn awaited_after(awaited: Option<Target>, argument: &Bytes) -> Option
 {
     match awaited {
         Some(_) => None,
-        None => awaited_by(said_by(argument.as_slice())),
+        None => awaited_by(read_argument(argument.as_slice())),
     }
 }

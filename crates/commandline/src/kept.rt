@@ -2,19 +2,19 @@
 
 ghost use Rattle.std.specs.Prelude.{◌≡◌, ◌++◌, ℕ, List, IfOk, OnOk};
 ghost use Rattle.commandline.specs.Kept as words;
-ghost use Rattle.commandline.specs.Said.{said_of};
+ghost use Rattle.commandline.specs.Argument.{argument_of};
 
-use crate::argument::{Said, Switch, Target, said_by};
+use crate::argument::{Argument, Switch, Target, read_argument};
 use crate::awaiting::awaited_after;
 use deftable::{Bytes, Texts};
 use std::alloc::{AllocError, Global};
 
 /// Returns whether an argument with this reading is `-n` or `--no-create`.
-fn is_no_create(said: Said<'_>) -> bool
-    ensures { result ≡ words.is_no_create (said_of said.entry) }
+fn is_no_create(said: Argument<'_>) -> bool
+    ensures { result ≡ words.is_no_create (argument_of said.entry) }
 {
     match said {
-        Said::Turns(Switch::NoCreate) => true,
+        Argument::Flag(Switch::NoCreate) => true,
         _ => false,
     }
 }
@@ -25,7 +25,7 @@ fn is_left_out(awaited: Option<Target>, argument: &Bytes) -> bool
 {
     match awaited {
         Some(_) => false,
-        None => is_no_create(said_by(argument.as_slice())),
+        None => is_no_create(read_argument(argument.as_slice())),
     }
 }
 

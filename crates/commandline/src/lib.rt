@@ -5,7 +5,7 @@
 //! and `CC=cc` is an assignment:
 //!
 //! ```text
-//! let said = said_by(b"--enable-nls=no"); // a feature: `enable_nls` is `no`
+//! let said = read_argument(b"--enable-nls=no"); // a feature: `enable_nls` is `no`
 //! let sources = srcdir_of(&args);         // `.` if no argument names a directory
 //! ```
 //!

@@ -1,10 +1,10 @@
 //! The directory of the source.
 
 ghost use Rattle.std.specs.Prelude.{◌≡◌, ℕ, List, None, codes};
-ghost use Rattle.commandline.specs.Said.{said_of};
+ghost use Rattle.commandline.specs.Argument.{argument_of};
 ghost use Rattle.commandline.specs.Srcdir as words;
 
-use crate::argument::{Said, Target, said_by};
+use crate::argument::{Argument, Target, read_argument};
 use crate::awaiting::awaited_after;
 use crate::slashes::without_slashes;
 use deftable::Bytes;
@@ -19,11 +19,11 @@ fn srcdir_of_value<'a>(target: Target, value: &'a [u8], srcdir: &'a [u8]) -> &'a
     }
 }
 
-fn srcdir_said<'a>(said: Said<'a>, srcdir: &'a [u8]) -> &'a [u8]
-    ensures { result.now ≡ words.srcdir_said (said_of said.entry) srcdir.now }
+fn srcdir_said<'a>(said: Argument<'a>, srcdir: &'a [u8]) -> &'a [u8]
+    ensures { result.now ≡ words.srcdir_said (argument_of said.entry) srcdir.now }
 {
     match said {
-        Said::Gives(target, value) => srcdir_of_value(target, value, srcdir),
+        Argument::OptionValue(target, value) => srcdir_of_value(target, value, srcdir),
         _ => srcdir,
     }
 }
@@ -34,7 +34,7 @@ fn srcdir_after<'a>(awaited: Option<Target>, argument: &'a Bytes, srcdir: &'a [u
 {
     match awaited {
         Some(target) => srcdir_of_value(target, argument.as_slice(), srcdir),
-        None => srcdir_said(said_by(argument.as_slice()), srcdir),
+        None => srcdir_said(read_argument(argument.as_slice()), srcdir),
     }
 }
 

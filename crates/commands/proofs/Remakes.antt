@@ -9,7 +9,7 @@ use Rattle.framing.specs.Remade.{remade, IsRemade, refused, memory, all, cut}
 use Rattle.framing.specs.declared.fault.RemakeFault.{RemakeFault}
 use Rattle.invocation.specs.Supplies.{ReadsWhole, GivenAgain}
 use Rattle.outputs.specs.Receipt.{Receipt}
-use Rattle.outputs.specs.declared.thing.Thing.{Thing}
+use Rattle.outputs.specs.declared.artifact.Artifact.{Artifact}
 use Rattle.status_record.specs.Reading.{record_in}
 use Rattle.commands.specs.MadeAgain.{IsMadeAgain}
 
@@ -25,11 +25,11 @@ pub nothing_refused : (failures : ℕ) (closed : Bool) → failures + closings c
 nothing_refused failures false is = (omega (arith, is), refl)
 nothing_refused failures true is = absurd (omega (arith, is))
 
--- What was done is what was done for other names of the same things.
-pub all_done : (known : Option Known) (handed things : List Thing) (failures : ℕ) (said lines : List ℕ) → handed ≡ things → failures ≡ 0 → said ≡ lines
-    → IfSome known (λ k. IsAllDone k handed failures said) → IfSome known (λ k. IsAllDone k things 0 lines)
-all_done known handed things failures said lines things_are none lines_are h =
-    subst (λ ts. IfSome known (λ k. IsAllDone k ts 0 lines)) things_are
+-- What was done is what was done for other names of the same artifacts.
+pub all_done : (known : Option Known) (handed artifacts : List Artifact) (failures : ℕ) (said lines : List ℕ) → handed ≡ artifacts → failures ≡ 0 → said ≡ lines
+    → IfSome known (λ k. IsAllDone k handed failures said) → IfSome known (λ k. IsAllDone k artifacts 0 lines)
+all_done known handed artifacts failures said lines artifacts_are none lines_are h =
+    subst (λ ts. IfSome known (λ k. IsAllDone k ts 0 lines)) artifacts_are
     (subst (λ n. IfSome known (λ k. IsAllDone k handed n lines)) none (subst (λ l. IfSome known (λ k. IsAllDone k handed failures l)) lines_are h))
 
 -- What a call of `remake` made, if it returned a number.
@@ -40,7 +40,7 @@ pub made_again : {D : Type 0} (known : D → Option Known) (d : D) (before now :
 made_again known d before now text templates tags same (Err f) n lines new found given (refused is s) returned shown are done = absurd (cc)
 made_again known d before now text templates tags same (Err f) n lines new found given (memory s) returned shown are done = absurd (cc)
 made_again known d before now text templates tags same (Err f) n lines new found given (cut is at) returned shown are done = absurd (cc)
-made_again known d before now text templates tags same (Ok m) n lines new found given (all {things = made} is handed) returned shown are done =
+made_again known d before now text templates tags same (Ok m) n lines new found given (all {artifacts = made} is handed) returned shown are done =
     let empty : receipt_of before ≡ record { handed = []; failures = 0 } = ap receipt_of new in
     let made_all : now.handed ≡ made = ap (λ (r : Receipt). r.handed) handed ∙ ap (λ (r : Receipt). r.handed ++ made) empty in
     let counted : now.failures + closings now.closed ≡ 0 = ap (λ (r : Receipt). r.failures) handed ∙ ap (λ (r : Receipt). r.failures) empty in

@@ -8,15 +8,15 @@ use Rattle.diskfiles.specs.Steps.{IsReplaced}
 use Rattle.framing.specs.declared.report.Outcome.TheVariants.{Shown}
 use Rattle.framing.specs.declared.report.Report.{Report}
 use Rattle.invocation.specs.Logged.{IsHeld, HasLogged}
-use Rattle.outputs.specs.declared.thing.Thing.{Thing}
+use Rattle.outputs.specs.declared.artifact.Artifact.{Artifact}
 
--- All that was done to files is what was done for these things, none of which was refused, with
+-- All that was done to files is what was done for these artifacts, none of which was refused, with
 -- these lines; and then the log was written, with this text. (own)
-pub record IsLeft (k : Known) (things : List Thing) (lines log : List ℕ) : Type 0 where
+pub record IsLeft (k : Known) (artifacts : List Artifact) (lines log : List ℕ) : Type 0 where
   pub before : List Deed
   pub logged : List Deed
   pub deeds : k.deeds ≡ before ++ logged
-  pub done : AreDone k.texts k.kinds things 0 lines before
+  pub done : AreDone k.texts k.kinds artifacts 0 lines before
   pub written : IsReplaced (record { deeds = before; texts = k.texts; kinds = k.kinds }) (codes "config.log") log logged
 
 -- After a run with this report the log was written, unless a text was shown. (own)

@@ -5,7 +5,7 @@ use Rattle.diskfiles.specs.Done.{IsAllDone}
 use Rattle.diskfiles.specs.Lines.{AreLines}
 use Rattle.framing.specs.Remade.{remade}
 use Rattle.invocation.specs.Supplies.{ReadsWhole, GivenAgain}
-use Rattle.outputs.specs.declared.thing.Thing.{Thing}
+use Rattle.outputs.specs.declared.artifact.Artifact.{Artifact}
 use Rattle.status_record.specs.Reading.{record_in}
 
 -- The outputs with these names are made of the record, which is the text of config.status, and of
@@ -14,7 +14,7 @@ use Rattle.status_record.specs.Reading.{record_in}
 pub record IsMadeAgain (old new : Option Known) (tags : List (List ℕ)) (out : List ℕ) : Type 0 where
   pub text : List ℕ
   pub templates : List (List ℕ × List ℕ)
-  pub made : List Thing
+  pub made : List Artifact
   pub found : ReadsWhole old (codes "config.status") (Some text)
   pub given : GivenAgain old (record_in text) templates
   pub remakes : remade text templates tags ≡ Ok made

@@ -14,11 +14,11 @@
 #![tactic(auto)]
 
 mod answering;
+mod errors;
 mod remaking;
 mod reporting;
-mod telling;
 
 pub use answering::run_standin;
+pub use errors::{tell_fault, tell_remake, tell_unread};
 pub use remaking::{RECORD, run_status};
 pub use reporting::tell_result;
-pub use telling::{tell_fault, tell_remake, tell_unread};

@@ -7,7 +7,7 @@ ghost use Rattle.diskfiles.specs.Held.{fresh};
 ghost use Rattle.invocation.specs.Supplies.{ReadsWhole, GivenAgain};
 ghost use Rattle.status_record.specs.Reading.{record_in};
 
-use crate::telling::{tell_remake, tell_unread};
+use crate::errors::{tell_remake, tell_unread};
 use deftable::Bytes;
 use disk::Disk;
 use diskfiles::{FileOutputs, read_text};

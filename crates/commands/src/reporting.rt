@@ -11,8 +11,8 @@ ghost use Rattle.framing.specs.Told as words;
 ghost use Rattle.invocation.specs.Errors.{AreTold, errors_of};
 ghost use Rattle.invocation.specs.Logged.{HasLogged};
 
+use crate::errors::tell_run;
 use crate::remaking::OUTPUT;
-use crate::telling::tell_run;
 use causes::Causes;
 use disk::Disk;
 use diskfiles::FileOutputs;

@@ -15,12 +15,12 @@ use Rattle.diskfiles.specs.Held.{Held, fresh, receipt_of, closings}
 use Rattle.diskfiles.specs.Lines.{AreLines}
 use Rattle.diskfiles.specs.Steps.{IsReplaced}
 use Rattle.engine.specs.Told.{outcome_of}
-use Rattle.engine.specs.Configured.{IsAnswer, IsNotRun, IfStarts, IfReport, IsMeant, things}
+use Rattle.engine.specs.Configured.{IsAnswer, IsNotRun, IfStarts, IfReport, IsMeant, artifacts}
 use Rattle.framing.specs.Faults.{◌>>=◌, named, wants, of_parse, of_option}
 use Rattle.engine.specs.Judged.{judged}
 use Rattle.framing.specs.Given.{Accepted, Shows, Starts, accepted, started}
 use Rattle.framing.specs.Shown.{shown_report, shown_text}
-use Rattle.framing.specs.declared.accepting.Start.{Start}
+use Rattle.framing.specs.declared.inputs.Start.{Start}
 use Rattle.framing.specs.declared.fault.Fault.{Fault}
 use Rattle.framing.specs.declared.fault.Fault.TheVariants.{Plan, OutOfMemory}
 use Rattle.framing.specs.declared.report.Outcome.TheVariants.{Shown}
@@ -28,8 +28,8 @@ use Rattle.framing.specs.declared.report.Report.{Report}
 use Rattle.framing.specs.Told.{status_of}
 use Rattle.options.specs.Opening.{opening}
 use Rattle.options.specs.declared.settings.Settings.{Settings}
-use Rattle.outputs.specs.Receipt.{Receipt, with_things}
-use Rattle.outputs.specs.declared.thing.Thing.{Thing}
+use Rattle.outputs.specs.Receipt.{Receipt, with_artifacts}
+use Rattle.outputs.specs.declared.artifact.Artifact.{Artifact}
 use Rattle.proberun.specs.Outcomes as run
 use Rattle.plan.specs.Weight.{heaviest, weight}
 use Rattle.plan.specs.declared.fault.PlanFault.TheVariants.{TooLong}
@@ -108,21 +108,21 @@ never_shown run.Completed is = cc
 never_shown (run.Stopped status) is = cc
 never_shown (run.CutShort number) is = cc
 
--- What is left in files by a run that handed over these things, and by its log.
-left_by : (mid fin : Option Known) (things : List Thing) (lines log : List ℕ) → IfSome mid (λ k. IsAllDone k things 0 lines)
-    → Does mid fin (λ k deeds. IsReplaced k (codes "config.log") log deeds) → IfSome fin (λ k. IsLeft k things lines log)
-left_by None None things lines log done logged = tt
-left_by None (Some new) things lines log done logged = absurd logged
-left_by (Some old) None things lines log done logged = tt
-left_by (Some old) (Some new) things lines log done logged =
-    subst (λ k. IsLeft k things lines log) (sym logged.1) (record { before = old.deeds; logged = logged.0; deeds = refl; done = done; written = logged.2 })
+-- What is left in files by a run that handed over these artifacts, and by its log.
+left_by : (mid fin : Option Known) (artifacts : List Artifact) (lines log : List ℕ) → IfSome mid (λ k. IsAllDone k artifacts 0 lines)
+    → Does mid fin (λ k deeds. IsReplaced k (codes "config.log") log deeds) → IfSome fin (λ k. IsLeft k artifacts lines log)
+left_by None None artifacts lines log done logged = tt
+left_by None (Some new) artifacts lines log done logged = absurd logged
+left_by (Some old) None artifacts lines log done logged = tt
+left_by (Some old) (Some new) artifacts lines log done logged =
+    subst (λ k. IsLeft k artifacts lines log) (sym logged.1) (record { before = old.deeds; logged = logged.0; deeds = refl; done = done; written = logged.2 })
 
 -- What holds after a call of `configure` over a receiver `before`, which is `mid` then, and `fin`
 -- after the log was written.
 end_of : {D : Type 0} (known : D → Option Known) (d : D) (before_puts mid fin : Held D) (j : Result Accepted Fault) (window : ℕ) (source : List ℕ) (a : List (List ℕ)) (e : List (List ℕ × List ℕ)) (c : Option (List ℕ)) (t : List (List ℕ × List ℕ)) (before now : Account) (report : Report)
     → before_puts ≡ fresh d → ReadsSource (known d) a source → GivenIn (known d) source a e c t
     → judged source a e c t ≡ j → IsAnswer j (Ok report) → (IsNotRun j → (now ≡ before) × (mid ≡ before_puts)) → IfStarts j (λ script start. IsMeant window script start before now report)
-    → IfStarts j (λ script start. receipt_of mid ≡ with_things (receipt_of before_puts) (things script start t report)) → Logs known mid fin report
+    → IfStarts j (λ script start. receipt_of mid ≡ with_artifacts (receipt_of before_puts) (artifacts script start t report)) → Logs known mid fin report
     → IsConfigured window a e before now (known d) (known fin.disk) (printed (quiet_in source a e) report.messages mid.lines) (errors_of report.messages) (status_of report.outcome)
 end_of known d before_puts mid fin (Err OutOfMemory) window source a e c t before now report new read given j answer same meant handed logs = absurd (cc)
 end_of known d before_puts mid fin (Err f) window source a e c t before now report new read given j answer same meant handed logs = absurd (cc)
@@ -139,25 +139,25 @@ end_of known d before_puts mid fin (Ok (Shows script settings)) window source a 
     subst (λ n. IsConfigured window a e before now (known d) (known fin.disk) (printed (quiet_in source a e) report.messages mid.lines) (errors_of report.messages) n) (sym status) (shown source c t script settings read j (same tt).0 files out said)
 end_of known d before_puts mid fin (Ok (Starts script start)) window source a e c t before now report new read given j answer same meant handed logs =
     let empty : receipt_of before_puts ≡ record { handed = []; failures = 0 } = ap receipt_of new in
-    let all : mid.handed ≡ things script start t report = ap (λ (r : Receipt). r.handed) handed ∙ ap (λ (r : Receipt). r.handed ++ things script start t report) empty in
+    let all : mid.handed ≡ artifacts script start t report = ap (λ (r : Receipt). r.handed) handed ∙ ap (λ (r : Receipt). r.handed ++ artifacts script start t report) empty in
     let counted : mid.failures + closings mid.closed ≡ 0 = ap (λ (r : Receipt). r.failures) handed ∙ ap (λ (r : Receipt). r.failures) empty in
     let none = nothing_refused mid.failures mid.closed counted in
-    let done = all_done (known mid.disk) mid.handed (things script start t report) mid.failures mid.lines mid.lines all none.0 refl (logs.held.done none.1) in
+    let done = all_done (known mid.disk) mid.handed (artifacts script start t report) mid.failures mid.lines mid.lines all none.0 refl (logs.held.done none.1) in
     let run_outcome : report.outcome ≡ outcome_of meant.end.outcome = ap (λ (r : Report). r.outcome) meant.told in
     let logged = logs.log (λ is. never_shown meant.end.outcome (sym run_outcome ∙ is)) in
     ran source c t script start report mid.lines read (given_starts (known d) source a e c t script start j given) j meant (subst (λ l. AreLines l mid.lines) all logs.held.lines)
-    (left_by (known mid.disk) (known fin.disk) (things script start t report) mid.lines (log_of report.log) done logged) refl refl
+    (left_by (known mid.disk) (known fin.disk) (artifacts script start t report) mid.lines (log_of report.log) done logged) refl refl
 
 -- The same after a call of `configure` that returned this report.
 pub run_done : {D : Type 0} (known : D → Option Known) (d : D) (before_puts mid fin : Held D) (window : ℕ) (source : List ℕ) (a : List (List ℕ)) (e : List (List ℕ × List ℕ)) (c : Option (List ℕ)) (t : List (List ℕ × List ℕ)) (before now : Account) (answer : Result Report Fault) (report : Report) (quiet : Bool) (status : ℕ)
     → before_puts ≡ fresh d → ReadsSource (known d) a source → GivenIn (known d) source a e c t
     → IsAnswer (judged source a e c t) answer → (IsNotRun (judged source a e c t) → (now ≡ before) × (mid ≡ before_puts)) → IfStarts (judged source a e c t) (λ script start. IfReport answer (IsMeant window script start before now))
-    → IfStarts (judged source a e c t) (λ script start. IfOk answer (λ report. receipt_of mid ≡ with_things (receipt_of before_puts) (things script start t report)))
+    → IfStarts (judged source a e c t) (λ script start. IfOk answer (λ report. receipt_of mid ≡ with_artifacts (receipt_of before_puts) (artifacts script start t report)))
     → quiet ≡ quiet_in source a e → answer ≡ Ok report → status ≡ status_of report.outcome → Logs known mid fin report
     → IsConfigured window a e before now (known d) (known fin.disk) (printed quiet report.messages mid.lines) (errors_of report.messages) status
 run_done known d before_puts mid fin window source a e c t before now answer report quiet status new read given accepted same meant handed loud is status_is logs =
     let done = end_of known d before_puts mid fin (judged source a e c t) window source a e c t before now report new read given refl (subst (IsAnswer (judged source a e c t)) is accepted) same
     (subst (λ r. IfStarts (judged source a e c t) (λ script start. IfReport r (IsMeant window script start before now))) is meant)
-    (subst (λ r. IfStarts (judged source a e c t) (λ script start. IfOk r (λ report. receipt_of mid ≡ with_things (receipt_of before_puts) (things script start t report)))) is handed) logs in
+    (subst (λ r. IfStarts (judged source a e c t) (λ script start. IfOk r (λ report. receipt_of mid ≡ with_artifacts (receipt_of before_puts) (artifacts script start t report)))) is handed) logs in
     subst (λ n. IsConfigured window a e before now (known d) (known fin.disk) (printed quiet report.messages mid.lines) (errors_of report.messages) n) (sym status_is)
     (subst (λ q. IsConfigured window a e before now (known d) (known fin.disk) (printed q report.messages mid.lines) (errors_of report.messages) (status_of report.outcome)) (sym loud) done)

@@ -9,7 +9,7 @@ use Rattle.disk.specs.Known.{Known}
 use Rattle.engine.specs.Judged.{judged}
 use Rattle.framing.specs.Faults.{◌>>=◌, named, wants, of_parse, of_option, of_precious}
 use Rattle.framing.specs.Given.{Accepted, Shows, Starts, accepted, started, old_of, present}
-use Rattle.framing.specs.declared.accepting.Start.{Start}
+use Rattle.framing.specs.declared.inputs.Start.{Start}
 use Rattle.framing.specs.declared.fault.Fault.{Fault}
 use Rattle.framing.specs.declared.fault.Fault.TheVariants.{Plan}
 use Rattle.configuring.specs.Configures.{ReadsSource}

@@ -7,12 +7,12 @@ use Rattle.commands.specs.Printed.{printed}
 use Rattle.crew_trait.specs.Events.{Account}
 use Rattle.disk.specs.Known.{Known}
 use Rattle.diskfiles.specs.Lines.{AreLines}
-use Rattle.engine.specs.Configured.{IsMeant, things}
+use Rattle.engine.specs.Configured.{IsMeant, artifacts}
 use Rattle.engine.specs.Judged.{judged}
 use Rattle.framing.specs.Given.{Shows, Starts}
 use Rattle.framing.specs.Rechecked as again
 use Rattle.framing.specs.Shown.{shown_text}
-use Rattle.framing.specs.declared.accepting.Start.{Start}
+use Rattle.framing.specs.declared.inputs.Start.{Start}
 use Rattle.framing.specs.declared.report.Report.{Report}
 use Rattle.framing.specs.Told.{status_of}
 use Rattle.invocation.specs.Errors.{errors_of}
@@ -38,7 +38,7 @@ pub data IsConfigured (window : ℕ) (arguments : List (List ℕ)) (environment 
   ran : (source : List ℕ) (cache : Option (List ℕ)) (templates : List (List ℕ × List ℕ)) (script : Script) (start : Start) (report : Report) (lines : List ℕ)
       → ReadsSource old arguments source → AreGiven old script start.cache_name start.srcdir start.no_create cache templates
       → judged source arguments environment cache templates ≡ Ok (Starts script start) → IsMeant window script start before now report
-      → AreLines (things script start templates report) lines → IfSome new (λ k. IsLeft k (things script start templates report) lines (log_of report.log))
+      → AreLines (artifacts script start templates report) lines → IfSome new (λ k. IsLeft k (artifacts script start templates report) lines (log_of report.log))
       → out ≡ printed (quiet_in source arguments environment) report.messages lines → said ≡ errors_of report.messages
       → IsConfigured window arguments environment before now old new out said (status_of report.outcome)
 

@@ -44,8 +44,8 @@ fn run_supplied<D: Disk, C: Crew + Causes, W: Write, E: Write>(
     output: &mut W,
     errors: &mut E,
 ) -> u8
-    requires some { 1 ≤ window }
-    requires few { window ≤ 16 }
+    requires at_least_one { 1 ≤ window }
+    requires at_most_16 { window ≤ 16 }
     requires idle { IsIdle (C.account crew.old).events }
     requires attempts { (C.account crew.old).attempts + 2 ^ 36 ≤ 2 ^ 62 }
     requires failures { (C.account crew.old).failures + 256 ≤ 2 ^ 62 }
@@ -89,8 +89,8 @@ fn run_text<D: Disk, C: Crew + Causes, W: Write, E: Write>(
     output: &mut W,
     errors: &mut E,
 ) -> Result<u8, AllocError>
-    requires some { 1 ≤ window }
-    requires few { window ≤ 16 }
+    requires at_least_one { 1 ≤ window }
+    requires at_most_16 { window ≤ 16 }
     requires idle { IsIdle (C.account crew.old).events }
     requires attempts { (C.account crew.old).attempts + 2 ^ 36 ≤ 2 ^ 62 }
     requires failures { (C.account crew.old).failures + 256 ≤ 2 ^ 62 }
@@ -143,8 +143,8 @@ fn run_source<D: Disk, C: Crew + Causes, W: Write, E: Write>(
     output: &mut W,
     errors: &mut E,
 ) -> Result<u8, AllocError>
-    requires some { 1 ≤ window }
-    requires few { window ≤ 16 }
+    requires at_least_one { 1 ≤ window }
+    requires at_most_16 { window ≤ 16 }
     requires idle { IsIdle (C.account crew.old).events }
     requires attempts { (C.account crew.old).attempts + 2 ^ 36 ≤ 2 ^ 62 }
     requires failures { (C.account crew.old).failures + 256 ≤ 2 ^ 62 }
@@ -182,8 +182,8 @@ pub fn run_configure<D: Disk, C: Crew + Causes, W: Write, E: Write>(
     output: &mut W,
     errors: &mut E,
 ) -> u8
-    requires some { 1 ≤ window }
-    requires few { window ≤ 16 }
+    requires at_least_one { 1 ≤ window }
+    requires at_most_16 { window ≤ 16 }
     requires idle { IsIdle (C.account crew.old).events }
     requires attempts { (C.account crew.old).attempts + 2 ^ 36 ≤ 2 ^ 62 }
     requires failures { (C.account crew.old).failures + 256 ≤ 2 ^ 62 }

@@ -4,7 +4,7 @@ use crate::disks::Disk;
 use deftable::Bytes;
 use disk::Host;
 use diskfiles::{FileOutputs, Keeps, path_in, read_limited, read_text, write_text};
-use outputs::{Kind, Thing, Things, put_all};
+use outputs::{Artifact, Artifacts, Kind, put_all};
 use std::alloc::AllocError;
 use std::fs::{self, File, Metadata, OpenFile, Permissions};
 use std::os::unix::fs::{MetadataExt, PermissionsExt, symlink};
@@ -90,21 +90,21 @@ fn kind_of(word: &[u8]) -> Kind {
     }
 }
 
-/// Adds a thing: its kind, its name and its text, with blanks between them.
-fn add_thing(page: &mut Page, things: &mut Things, words: &[u8]) {
+/// Adds an artifact: its kind, its name and its text, with blanks between them.
+fn add_artifact(page: &mut Page, artifacts: &mut Artifacts, words: &[u8]) {
     let (kind, rest) = cut(words, b" ");
     let (name, text) = cut(rest, b" ");
-    let made = Thing::from_slices(page.alloc(), kind_of(kind), name, text);
-    if let Some(thing) = page.given(made) {
-        page.given(things.push(thing));
+    let made = Artifact::from_slices(page.alloc(), kind_of(kind), name, text);
+    if let Some(artifact) = page.given(made) {
+        page.given(artifacts.push(artifact));
     }
 }
 
-/// Puts whether the things were taken, or which was refused, and the lines. A put to the file that is kept is refused.
-fn put_put(page: &mut Page, disk: &Disk<'_>, kept: &[u8], things: &[Thing]) {
+/// Puts whether the artifacts were taken, or which was refused, and the lines. A put to the file that is kept is refused.
+fn put_put(page: &mut Page, disk: &Disk<'_>, kept: &[u8], artifacts: &[Artifact]) {
     let mut outputs = FileOutputs::new(page.alloc(), Host::new(disk));
     page.given(outputs.keep(kept));
-    match put_all(&mut outputs, things) {
+    match put_all(&mut outputs, artifacts) {
         Ok(()) => page.put(b"all"),
         Err(number) => {
             page.put(b"not ");
@@ -114,19 +114,19 @@ fn put_put(page: &mut Page, disk: &Disk<'_>, kept: &[u8], things: &[Thing]) {
     page.put_text(outputs.lines());
 }
 
-/// Returns things, with semicolons between them.
-pub fn things_of(page: &mut Page, words: &[u8]) -> Things {
-    let mut things = Things::new(page.alloc());
-    for thing in words.split(|byte| *byte == b';') {
-        add_thing(page, &mut things, thing);
+/// Returns artifacts, with semicolons between them.
+pub fn artifacts_of(page: &mut Page, words: &[u8]) -> Artifacts {
+    let mut artifacts = Artifacts::new(page.alloc());
+    for artifact in words.split(|byte| *byte == b';') {
+        add_artifact(page, &mut artifacts, artifact);
     }
-    things
+    artifacts
 }
 
-/// Hands over things, with semicolons between them.
+/// Hands over artifacts, with semicolons between them.
 fn put_handed(page: &mut Page, disk: &Disk<'_>, kept: &[u8], words: &[u8]) {
-    let things = things_of(page, words);
-    put_put(page, disk, kept, things.as_slice());
+    let artifacts = artifacts_of(page, words);
+    put_put(page, disk, kept, artifacts.as_slice());
 }
 
 // ---- the system
@@ -344,7 +344,7 @@ all[]all[]420[y]all[config.status: creating ff^J]all[config.status: creating ff^
 hand cache config.cache c;record config.status r;file out f;header config.h h => \
 all[config.status: creating out^Jconfig.status: creating config.h^J]
 read config.cache|read config.status|read out|read config.h => [c][r][f][h]
-// A header or a cache whose file has its text isn't touched, and any other thing is written anew.
+// A header or a cache whose file has its text isn't touched, and any other artifact is written anew.
 mark config.h|hand header config.h h|same config.h => all[config.status: config.h is unchanged^J]yes
 mark out|hand file out f|same out => all[config.status: creating out^J]no
 mark config.cache|hand cache config.cache c|same config.cache => all[]yes
@@ -396,7 +396,7 @@ fails write|hand header config.h other|look acrun-1.tmp => not 1[]none
 // A header that is there and can't be read is written. If there is no memory to read it, the put is refused.
 fails read|hand header config.h new|fails |read config.h => all[config.status: creating config.h^J][new]
 fails memory|hand header config.h new => not 1[]
-// no things
+// no artifacts
 hand file five |read five => all[config.status: creating five^J][]
 ";
 

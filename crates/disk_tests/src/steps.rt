@@ -3,11 +3,11 @@
 ghost use Rattle.std.specs.Prelude.{◌≡◌, []};
 
 use crate::done::Step;
-use crate::files::things_of;
+use crate::files::artifacts_of;
 use crate::memory::MemoryDisk;
 use deftable::Bytes;
 use diskfiles::FileOutputs;
-use outputs::{Thing, put_all};
+use outputs::{Artifact, put_all};
 use std::process::Abort;
 use std::test::Fail;
 use testrows::{Call, Page, cut, try_rows};
@@ -66,30 +66,40 @@ fn put_receiver<R: Abort>(page: &mut Page, outputs: &FileOutputs<MemoryDisk<'_, 
     }
 }
 
-/// Hands over things, and then closes the receiver, if a last file is named.
-fn put_before<R: Abort>(page: &mut Page, disk: MemoryDisk<'_, R>, things: &[Thing], last: &[u8])
+/// Hands over artifacts, and then closes the receiver, if a last file is named.
+fn put_before<R: Abort>(
+    page: &mut Page,
+    disk: MemoryDisk<'_, R>,
+    artifacts: &[Artifact],
+    last: &[u8],
+)
     requires { disk.steps.items ≡ [] }
 {
     let mut outputs = FileOutputs::new(page.alloc(), disk);
-    page.put_yes(put_all(&mut outputs, things).is_ok());
+    page.put_yes(put_all(&mut outputs, artifacts).is_ok());
     put_closed(page, &mut outputs, last);
     put_receiver(page, &outputs);
 }
 
-/// Closes a receiver, and then hands over things.
-fn put_after<R: Abort>(page: &mut Page, disk: MemoryDisk<'_, R>, things: &[Thing], last: &[u8])
+/// Closes a receiver, and then hands over artifacts.
+fn put_after<R: Abort>(
+    page: &mut Page,
+    disk: MemoryDisk<'_, R>,
+    artifacts: &[Artifact],
+    last: &[u8],
+)
     requires { disk.steps.items ≡ [] }
 {
     let (name, text) = cut(last, b" ");
     let mut outputs = FileOutputs::new(page.alloc(), disk);
     page.put_yes(outputs.close(name, text).is_ok());
-    page.put_yes(put_all(&mut outputs, things).is_ok());
+    page.put_yes(put_all(&mut outputs, artifacts).is_ok());
     put_receiver(page, &outputs);
 }
 
 /// A row has four parts, with bars between them: the name of the one file that is found, a blank
 /// and its text; `full`, if no file can be filled, or `closed`, if the receiver is closed first;
-/// the things, with semicolons between them; and the last file.
+/// the artifacts, with semicolons between them; and the last file.
 #[derive(Drop)]
 struct Deeds<'a, R: Abort> {
     rt: &'a R,
@@ -100,11 +110,11 @@ impl<R: Abort> Call for Deeds<'_, R> {
         let (file, rest) = cut(given, b"|");
         let (word, rest) = cut(rest, b"|");
         let (words, last) = cut(rest, b"|");
-        let things = things_of(page, words);
+        let artifacts = artifacts_of(page, words);
         let disk = MemoryDisk::new(self.rt, page.alloc(), file, word == b"full".as_slice());
         match word {
-            b"closed" => put_after(page, disk, things.as_slice(), last),
-            _ => put_before(page, disk, things.as_slice(), last),
+            b"closed" => put_after(page, disk, artifacts.as_slice(), last),
+            _ => put_before(page, disk, artifacts.as_slice(), last),
         }
     }
 }

@@ -4,7 +4,7 @@ use Rattle.disk.specs.Known.{Known, Adds, Does, with_deeds}
 use Rattle.disk.proofs.Deeds.{does, does_none, does_then}
 use Rattle.diskfiles.specs.Keeping.{IsStepped, IsUnstepped, before, after, made_for}
 use Rattle.diskfiles.specs.Steps.{IsWritten, IsUndone, nothing}
-use Rattle.diskfiles.specs.declared.saying.Saying.{Saying}
+use Rattle.diskfiles.specs.declared.lines.Saying.{Saying}
 use Rattle.diskfiles.specs.declared.writing.Keeps.{Keeps}
 
 -- Directories were made, and then a text was written.

@@ -1,20 +1,20 @@
--- How a thing is put.
+-- How an artifact is put.
 use Rattle.std.specs.Prelude.{option_map}
 use Rattle.std.proofs.lemmas.Bool.{true≢false}
 use Rattle.std.proofs.Common.{◌≡◌, ℕ, ◌+◌, Bool, true, false, List, [], ◌∷◌, ◌++◌, Option, Some, None, IfSome, Result, Ok, Err, OnOk, OnErr, IfOk, sym, ◌∙◌, subst}
 use Rattle.disk.specs.Known.{Known, Deed, Does, with_deeds, kind_under}
 use Rattle.disk.specs.declared.found.Found.TheVariants as found
 use Rattle.disk.proofs.Deeds.{with_none, does_none, does_more, after_does}
-use Rattle.outputs.specs.declared.thing.Thing.{Thing}
-use Rattle.outputs.specs.declared.thing.Kind.{Kind}
-use Rattle.outputs.specs.declared.thing.Kind.TheVariants.{Cache, Record, File, Header}
+use Rattle.outputs.specs.declared.artifact.Artifact.{Artifact}
+use Rattle.outputs.specs.declared.artifact.Kind.{Kind}
+use Rattle.outputs.specs.declared.artifact.Kind.TheVariants.{Cache, Record, File, Header}
 use Rattle.diskfiles.specs.Done.{IsOther, IsEnd, itself, linked, IsPut, cache_same, cache_put, record_put, file_put, header_same, header_put, IsRefused, AreDone, taken, refused, IsAllDone}
 use Rattle.diskfiles.specs.Done as made
 use Rattle.diskfiles.specs.Keeping.{IsKept, AreSame, IsLeft, IsStepped, IsUnstepped, before, after, Takes, keeps_of, file_of}
 use Rattle.diskfiles.specs.Lines.{AreLines}
 use Rattle.diskfiles.specs.Sayings.{saying_of, said}
 use Rattle.diskfiles.specs.Steps.{IsWritten, nothing}
-use Rattle.diskfiles.specs.declared.saying.Saying.{Saying}
+use Rattle.diskfiles.specs.declared.lines.Saying.{Saying}
 use Rattle.diskfiles.specs.declared.writing.Keeps.{Keeps}
 use Rattle.diskfiles.proofs.Kept.{is_said, one_more}
 
@@ -57,21 +57,21 @@ both : (X Y : Known → Type 0) (a : Option Known) → IfSome a X → IfSome a Y
 both X Y None x y = tt
 both X Y (Some k) x y = (x, y)
 
-pub takes_is : {E : Type 0} (r : Result (Unit {0}) E) (a b : Option Known) (things : List Thing) (lines : List ℕ) (new_things : List Thing) (new_lines : List ℕ)
-    (kind : Kind) (left : Bool) (name file text : List ℕ) (thing : Thing) (saying : Saying)
-    → thing ≡ record { kind = kind; name = name; text = text } → saying ≡ saying_of kind left
+pub takes_is : {E : Type 0} (r : Result (Unit {0}) E) (a b : Option Known) (artifacts : List Artifact) (lines : List ℕ) (new_artifacts : List Artifact) (new_lines : List ℕ)
+    (kind : Kind) (left : Bool) (name file text : List ℕ) (artifact : Artifact) (saying : Saying)
+    → artifact ≡ record { kind = kind; name = name; text = text } → saying ≡ saying_of kind left
     → IfSome a (λ k. IsLeft kind k name text left) → IfSome a (λ k. IsEnd k name kind file)
-    → OnOk r (IsKept things lines new_things new_lines thing (said saying name))
+    → OnOk r (IsKept artifacts lines new_artifacts new_lines artifact (said saying name))
     → OnOk r (Does a b (λ k deeds. IsStepped k saying left (keeps_of kind) name file text deeds))
-    → OnOk r (Takes a b things lines new_things new_lines (record { kind = kind; name = name; text = text }))
-takes_is (Err e) a b things lines new_things new_lines kind left name file text thing saying is says lefts ends kept does = tt
-takes_is (Ok u) a b things lines new_things new_lines kind left name file text thing saying is says lefts ends kept does =
+    → OnOk r (Takes a b artifacts lines new_artifacts new_lines (record { kind = kind; name = name; text = text }))
+takes_is (Err e) a b artifacts lines new_artifacts new_lines kind left name file text artifact saying is says lefts ends kept does = tt
+takes_is (Ok u) a b artifacts lines new_artifacts new_lines kind left name file text artifact saying is says lefts ends kept does =
     let line = said (saying_of kind left) name in
     let steps : Does a b (λ k deeds. IsStepped k (saying_of kind left) left (keeps_of kind) name file text deeds) =
     subst (λ s. Does a b (λ k deeds. IsStepped k s left (keeps_of kind) name file text deeds)) says does in
     record {
       line = line;
-      kept = subst (λ t. IsKept things lines new_things new_lines t line) is (subst (λ s. IsKept things lines new_things new_lines thing (said s name)) says kept);
+      kept = subst (λ t. IsKept artifacts lines new_artifacts new_lines t line) is (subst (λ s. IsKept artifacts lines new_artifacts new_lines artifact (said s name)) says kept);
       said = is_said kind left name;
       does = does_more a b (λ k. IsLeft kind k name text left × IsEnd k name kind file) _ (λ k deeds. IsPut k name text kind line deeds) (both (λ k. IsLeft kind k name text left) (λ k. IsEnd k name kind file) a lefts ends) steps
           (λ k d x s. put_is k kind left name file text d x.0 x.1 s);
@@ -93,39 +93,39 @@ pub refused_before : (a : Option Known) (kind : Kind) (name : List ℕ)
 refused_before a kind name = does_none a (λ k deeds. IsRefused k name kind deeds) (λ k. made.undone name [] itself nothing)
 
 -- The lines after a put that was taken.
-pub lines_after : (a b : Option Known) (things : List Thing) (lines : List ℕ) (new_things : List Thing) (new_lines : List ℕ) (thing : Thing)
-    → AreLines things lines → Takes a b things lines new_things new_lines thing
-    → AreLines new_things new_lines
-lines_after a b things lines new_things new_lines thing are takes =
-    rw (takes.kept.thing_kept, takes.kept.line_kept) (one_more thing takes.line are takes.said)
+pub lines_after : (a b : Option Known) (artifacts : List Artifact) (lines : List ℕ) (new_artifacts : List Artifact) (new_lines : List ℕ) (artifact : Artifact)
+    → AreLines artifacts lines → Takes a b artifacts lines new_artifacts new_lines artifact
+    → AreLines new_artifacts new_lines
+lines_after a b artifacts lines new_artifacts new_lines artifact are takes =
+    rw (takes.kept.artifact_kept, takes.kept.line_kept) (one_more artifact takes.line are takes.said)
 
 -- The deeds after a put that was taken.
-pub done_after : (a b : Option Known) (things : List Thing) (failures : ℕ) (lines : List ℕ) (new_things : List Thing) (new_lines : List ℕ) (thing : Thing)
-    → IfSome a (λ k. IsAllDone k things failures lines)
-    → Takes a b things lines new_things new_lines thing
-    → IfSome b (λ k. IsAllDone k new_things failures new_lines)
-done_after a b things failures lines new_things new_lines thing are takes =
-    let P : Known → List Deed → Type 0 = λ k d. IsPut k thing.name thing.text thing.kind takes.line d in
-    rw (takes.kept.thing_kept, takes.kept.line_kept)
-    (after_does a b (λ k. IsAllDone k things failures lines) (λ k. IsAllDone k (things ++ thing ∷ []) failures (lines ++ takes.line)) P are takes.does
-    (λ k d x p. taken things failures lines k.deeds thing takes.line d x p))
+pub done_after : (a b : Option Known) (artifacts : List Artifact) (failures : ℕ) (lines : List ℕ) (new_artifacts : List Artifact) (new_lines : List ℕ) (artifact : Artifact)
+    → IfSome a (λ k. IsAllDone k artifacts failures lines)
+    → Takes a b artifacts lines new_artifacts new_lines artifact
+    → IfSome b (λ k. IsAllDone k new_artifacts failures new_lines)
+done_after a b artifacts failures lines new_artifacts new_lines artifact are takes =
+    let P : Known → List Deed → Type 0 = λ k d. IsPut k artifact.name artifact.text artifact.kind takes.line d in
+    rw (takes.kept.artifact_kept, takes.kept.line_kept)
+    (after_does a b (λ k. IsAllDone k artifacts failures lines) (λ k. IsAllDone k (artifacts ++ artifact ∷ []) failures (lines ++ takes.line)) P are takes.does
+    (λ k d x p. taken artifacts failures lines k.deeds artifact takes.line d x p))
 
 -- The deeds after a put that was refused.
-pub done_refused : (a b : Option Known) (things : List Thing) (failures : ℕ) (lines : List ℕ) (new_things : List Thing) (new_lines : List ℕ) (kind : Kind) (name : List ℕ)
-    → IfSome a (λ k. IsAllDone k things failures lines) → AreSame things lines new_things new_lines
+pub done_refused : (a b : Option Known) (artifacts : List Artifact) (failures : ℕ) (lines : List ℕ) (new_artifacts : List Artifact) (new_lines : List ℕ) (kind : Kind) (name : List ℕ)
+    → IfSome a (λ k. IsAllDone k artifacts failures lines) → AreSame artifacts lines new_artifacts new_lines
     → Does a b (λ k d. IsRefused k name kind d)
-    → IfSome b (λ k. IsAllDone k new_things (failures + 1) new_lines)
-done_refused a b things failures lines new_things new_lines kind name are same does =
-    rw (same.same_things, same.same_lines)
-    (after_does a b (λ k. IsAllDone k things failures lines) (λ k. IsAllDone k things (failures + 1) lines) (λ k d. IsRefused k name kind d) are does
-    (λ k d x p. refused things failures lines k.deeds kind name d x p))
+    → IfSome b (λ k. IsAllDone k new_artifacts (failures + 1) new_lines)
+done_refused a b artifacts failures lines new_artifacts new_lines kind name are same does =
+    rw (same.same_artifacts, same.same_lines)
+    (after_does a b (λ k. IsAllDone k artifacts failures lines) (λ k. IsAllDone k artifacts (failures + 1) lines) (λ k d. IsRefused k name kind d) are does
+    (λ k d x p. refused artifacts failures lines k.deeds kind name d x p))
 
 -- Nothing was done yet.
 pub begun : (a : Option Known) → IfSome a (λ k. k.deeds ≡ []) → IfSome a (λ k. IsAllDone k [] 0 [])
 begun None e = tt
 begun (Some k) e = subst (λ d. AreDone k.texts k.kinds [] 0 [] d) (sym e) made.none
 
--- A thing is written to the file of its name.
+-- An artifact is written to the file of its name.
 pub ends_itself : (known : Option Known) (name : List ℕ) (kind : Kind)
     → IfSome known (λ k. IsEnd k name kind name)
 ends_itself None name kind = tt
@@ -141,6 +141,6 @@ ends (Ok (Some x)) None name kind text_of is link = tt
 ends (Ok (Some x)) (Some k) name kind text_of is link = subst (λ q. IsEnd k name q (text_of x)) (sym is) (linked (text_of x) link)
 
 -- The lines after a put that was refused.
-pub same_lines_after : (things : List Thing) (lines : List ℕ) (new_things : List Thing) (new_lines : List ℕ) → AreLines things lines
-    → AreSame things lines new_things new_lines → AreLines new_things new_lines
-same_lines_after things lines new_things new_lines are same = rw (same.same_things, same.same_lines) are
+pub same_lines_after : (artifacts : List Artifact) (lines : List ℕ) (new_artifacts : List Artifact) (new_lines : List ℕ) → AreLines artifacts lines
+    → AreSame artifacts lines new_artifacts new_lines → AreLines new_artifacts new_lines
+same_lines_after artifacts lines new_artifacts new_lines are same = rw (same.same_artifacts, same.same_lines) are

@@ -3,9 +3,9 @@ use Rattle.std.specs.Prelude.{◌≡◌, ℕ, ◌+◌, ◌<◌, ◌^◌, List, [
 use Rattle.disk.specs.Known.{Known, Deed, with_deeds, text_under, kind_under}
 use Rattle.disk.specs.declared.found.Found.{Found}
 use Rattle.disk.specs.declared.found.Found.TheVariants as found
-use Rattle.outputs.specs.declared.thing.Thing.{Thing}
-use Rattle.outputs.specs.declared.thing.Kind.{Kind}
-use Rattle.outputs.specs.declared.thing.Kind.TheVariants.{Cache, Record, File, Header}
+use Rattle.outputs.specs.declared.artifact.Artifact.{Artifact}
+use Rattle.outputs.specs.declared.artifact.Kind.{Kind}
+use Rattle.outputs.specs.declared.artifact.Kind.TheVariants.{Cache, Record, File, Header}
 use Rattle.diskfiles.specs.Lines.{creating_line, unchanged_line}
 use Rattle.diskfiles.specs.Steps.{IsWritten, IsUndone, directories_for}
 use Rattle.diskfiles.specs.declared.writing.Keeps.TheVariants.{Permissions, NoExecution}
@@ -15,13 +15,13 @@ use Rattle.diskfiles.specs.declared.writing.Keeps.TheVariants.{Permissions, NoEx
 abbrev pub IsOther : Known → List ℕ → List ℕ → Type 0
 IsOther k name text = text_under k name ≡ Some text → 2 ^ 26 < length text
 
--- A thing of this name is written to this file: the file of its name, or, if it is a cache and a
+-- An artifact of this name is written to this file: the file of its name, or, if it is a cache and a
 -- link is under its name, any file: where a link leads is not known. (own)
 pub data IsEnd (k : Known) (name : List ℕ) : Kind → List ℕ → Type 0 where
   itself : {kind : Kind} → IsEnd k name kind name
   linked : (file : List ℕ) → kind_under k name ≡ found.Link → IsEnd k name Cache file
 
--- If this is known, a thing of this kind, name and text was put in this way: what is said of it,
+-- If this is known, an artifact of this kind, name and text was put in this way: what is said of it,
 -- and the deeds. A cache or a header is left as it is exactly if the file under its name has its
 -- text, and only then a header is said to be unchanged. Anything else is written. For a file and a
 -- header its directories are made. (own)
@@ -50,21 +50,21 @@ pub data IsRefused (k : Known) (name : List ℕ) : Kind → List Deed → Type 0
   header_undone : (deeds : List Deed) → IsUndone name deeds
       → IsRefused k name Header (directories_for name ++ deeds)
 
--- On a disk with these texts and kinds under its names, these are the things that were taken, in
--- order, how many puts were refused, what was said of the things, and all that was done to files:
+-- On a disk with these texts and kinds under its names, these are the artifacts that were taken, in
+-- order, how many puts were refused, what was said of the artifacts, and all that was done to files:
 -- for each put, in order, its deeds. (own)
-pub data AreDone (texts : List Deed → List ℕ → Option (List ℕ)) (kinds : List Deed → List ℕ → Found) : List Thing → ℕ → List ℕ → List Deed → Type 0 where
+pub data AreDone (texts : List Deed → List ℕ → Option (List ℕ)) (kinds : List Deed → List ℕ → Found) : List Artifact → ℕ → List ℕ → List Deed → Type 0 where
   none : AreDone texts kinds [] 0 [] []
-  taken : (things : List Thing) (failures : ℕ) (lines : List ℕ) (deeds : List Deed) (thing : Thing) (line : List ℕ) (more : List Deed)
-      → AreDone texts kinds things failures lines deeds
-      → IsPut (record { deeds = deeds; texts = texts; kinds = kinds }) thing.name thing.text thing.kind line more
-      → AreDone texts kinds (things ++ thing ∷ []) failures (lines ++ line) (deeds ++ more)
-  refused : (things : List Thing) (failures : ℕ) (lines : List ℕ) (deeds : List Deed) (kind : Kind) (name : List ℕ) (more : List Deed)
-      → AreDone texts kinds things failures lines deeds
+  taken : (artifacts : List Artifact) (failures : ℕ) (lines : List ℕ) (deeds : List Deed) (artifact : Artifact) (line : List ℕ) (more : List Deed)
+      → AreDone texts kinds artifacts failures lines deeds
+      → IsPut (record { deeds = deeds; texts = texts; kinds = kinds }) artifact.name artifact.text artifact.kind line more
+      → AreDone texts kinds (artifacts ++ artifact ∷ []) failures (lines ++ line) (deeds ++ more)
+  refused : (artifacts : List Artifact) (failures : ℕ) (lines : List ℕ) (deeds : List Deed) (kind : Kind) (name : List ℕ) (more : List Deed)
+      → AreDone texts kinds artifacts failures lines deeds
       → IsRefused (record { deeds = deeds; texts = texts; kinds = kinds }) name kind more
-      → AreDone texts kinds things (failures + 1) lines (deeds ++ more)
+      → AreDone texts kinds artifacts (failures + 1) lines (deeds ++ more)
 
--- All that was done to the disk is what was done for these things, with so many puts refused, and
+-- All that was done to the disk is what was done for these artifacts, with so many puts refused, and
 -- these lines. (own)
-abbrev pub IsAllDone : Known → List Thing → ℕ → List ℕ → Type 0
-IsAllDone k things failures lines = AreDone k.texts k.kinds things failures lines k.deeds
+abbrev pub IsAllDone : Known → List Artifact → ℕ → List ℕ → Type 0
+IsAllDone k artifacts failures lines = AreDone k.texts k.kinds artifacts failures lines k.deeds

@@ -1,12 +1,12 @@
 -- What contracts see of the receiver that writes to files.
 use Rattle.std.specs.Prelude.{◌≡◌, ℕ, ◌+◌, Bool, true, false, List, [], ◌∷◌, ◌++◌}
 use Rattle.outputs.specs.Receipt.{Receipt}
-use Rattle.outputs.specs.declared.thing.Thing.{Thing}
+use Rattle.outputs.specs.declared.artifact.Artifact.{Artifact}
 
 -- What it took, in order; the number of puts that it refused; the lines on what it took; whether it is closed; and its
 -- disk. (own)
 pub record Held (D : Type 0) : Type 0 where
-  pub handed : List Thing
+  pub handed : List Artifact
   pub failures : ℕ
   pub lines : List ℕ
   pub closed : Bool
@@ -25,9 +25,9 @@ closings true = 1
 abbrev pub receipt_of : {D : Type 0} → Held D → Receipt
 receipt_of o = record { handed = o.handed; failures = o.failures + closings o.closed }
 
--- The thing was taken, with this line on it, and nothing else changed but the disk. (own)
-abbrev pub IsTaken : {D : Type 0} → Held D → Held D → Thing → List ℕ → Type 0
-IsTaken old new thing line = new ≡ record { handed = old.handed ++ thing ∷ []; failures = old.failures; lines = old.lines ++ line; closed = old.closed; disk = new.disk }
+-- The artifact was taken, with this line on it, and nothing else changed but the disk. (own)
+abbrev pub IsTaken : {D : Type 0} → Held D → Held D → Artifact → List ℕ → Type 0
+IsTaken old new artifact line = new ≡ record { handed = old.handed ++ artifact ∷ []; failures = old.failures; lines = old.lines ++ line; closed = old.closed; disk = new.disk }
 
 -- One refusal more is counted, and nothing else changed but the disk. (own)
 abbrev pub IsCounted : {D : Type 0} → Held D → Held D → Type 0

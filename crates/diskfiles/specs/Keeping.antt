@@ -1,35 +1,35 @@
 -- What a receiver keeps of a put, and the steps of one.
 use Rattle.std.specs.Prelude.{◌≡◌, ℕ, Bool, true, false, List, [], ◌∷◌, ◌++◌, Option, Some, None, bytes_eq}
 use Rattle.disk.specs.Known.{Known, Deed, Does, with_deeds, text_under}
-use Rattle.outputs.specs.declared.thing.Thing.{Thing}
-use Rattle.outputs.specs.declared.thing.Kind.{Kind}
-use Rattle.outputs.specs.declared.thing.Kind.TheVariants.{Cache, Record, File, Header}
+use Rattle.outputs.specs.declared.artifact.Artifact.{Artifact}
+use Rattle.outputs.specs.declared.artifact.Kind.{Kind}
+use Rattle.outputs.specs.declared.artifact.Kind.TheVariants.{Cache, Record, File, Header}
 use Rattle.diskfiles.specs.Done.{IsOther, IsPut}
 use Rattle.diskfiles.specs.Lines.{IsSaid}
 use Rattle.diskfiles.specs.Steps.{IsWritten, IsUndone, directories_for}
-use Rattle.diskfiles.specs.declared.saying.Saying.{Saying}
-use Rattle.diskfiles.specs.declared.saying.Saying.TheVariants.{Nothing, Creating, Unchanged}
+use Rattle.diskfiles.specs.declared.lines.Saying.{Saying}
+use Rattle.diskfiles.specs.declared.lines.Saying.TheVariants.{Nothing, Creating, Unchanged}
 use Rattle.diskfiles.specs.declared.writing.Keeps.{Keeps}
 use Rattle.diskfiles.specs.declared.writing.Keeps.TheVariants.{Permissions, NoExecution}
 
--- The thing was appended to the things, and its line to the lines. (own)
-pub record IsKept (things : List Thing) (lines : List ℕ) (new_things : List Thing) (new_lines : List ℕ) (thing : Thing) (line : List ℕ) : Type 0 where
-  pub thing_kept : new_things ≡ things ++ thing ∷ []
+-- The artifact was appended to the artifacts, and its line to the lines. (own)
+pub record IsKept (artifacts : List Artifact) (lines : List ℕ) (new_artifacts : List Artifact) (new_lines : List ℕ) (artifact : Artifact) (line : List ℕ) : Type 0 where
+  pub artifact_kept : new_artifacts ≡ artifacts ++ artifact ∷ []
   pub line_kept : new_lines ≡ lines ++ line
 
 -- Neither list changed. (own)
-pub record AreSame (things : List Thing) (lines : List ℕ) (new_things : List Thing) (new_lines : List ℕ) : Type 0 where
-  pub same_things : new_things ≡ things
+pub record AreSame (artifacts : List Artifact) (lines : List ℕ) (new_artifacts : List Artifact) (new_lines : List ℕ) : Type 0 where
+  pub same_artifacts : new_artifacts ≡ artifacts
   pub same_lines : new_lines ≡ lines
 
--- What the file of a thing of this kind keeps. (own)
+-- What the file of an artifact of this kind keeps. (own)
 abbrev pub keeps_of : Kind → Keeps
 keeps_of Cache = Permissions
 keeps_of Record = NoExecution
 keeps_of File = Permissions
 keeps_of Header = Permissions
 
--- A thing of this kind is compared with the text that its file has. (own)
+-- An artifact of this kind is compared with the text that its file has. (own)
 abbrev pub is_compared : Kind → Bool
 is_compared Cache = true
 is_compared Record = false
@@ -41,7 +41,7 @@ abbrev pub is_same : Option (List ℕ) → List ℕ → Bool
 is_same None text = false
 is_same (Some found) text = bytes_eq found text
 
--- The name of the file that a thing is written to: where a link leads to, or else its own name. (own)
+-- The name of the file that an artifact is written to: where a link leads to, or else its own name. (own)
 abbrev pub file_of : Option (List ℕ) → List ℕ → List ℕ
 file_of None name = name
 file_of (Some end) name = end
@@ -52,7 +52,7 @@ abbrev pub HasText : Known → List ℕ → List ℕ → Bool → Type 0
 HasText k name text true = text_under k name ≡ Some text
 HasText k name text false = IsOther k name text
 
--- This says whether a thing of this kind is left as it is: a header or a cache, if its file has its
+-- This says whether an artifact of this kind is left as it is: a header or a cache, if its file has its
 -- text. (own)
 abbrev pub IsLeft : Kind → Known → List ℕ → List ℕ → Bool → Type 0
 IsLeft Cache k name text left = HasText k name text left
@@ -71,13 +71,13 @@ abbrev pub Fills : Bool → Known → Keeps → List ℕ → List ℕ → List D
 Fills true k keeps file text deeds = deeds ≡ []
 Fills false k keeps file text deeds = IsWritten k keeps file text deeds
 
--- The thing was appended to the things, and a line to the lines, and if the deeds are known, they
+-- The artifact was appended to the artifacts, and a line to the lines, and if the deeds are known, they
 -- put it in this way. (own)
-pub record Takes (known new : Option Known) (things : List Thing) (lines : List ℕ) (new_things : List Thing) (new_lines : List ℕ) (thing : Thing) : Type 0 where
+pub record Takes (known new : Option Known) (artifacts : List Artifact) (lines : List ℕ) (new_artifacts : List Artifact) (new_lines : List ℕ) (artifact : Artifact) : Type 0 where
   pub line : List ℕ
-  pub kept : IsKept things lines new_things new_lines thing line
-  pub said : IsSaid thing.kind thing.name line
-  pub does : Does known new (λ k deeds. IsPut k thing.name thing.text thing.kind line deeds)
+  pub kept : IsKept artifacts lines new_artifacts new_lines artifact line
+  pub said : IsSaid artifact.kind artifact.name line
+  pub does : Does known new (λ k deeds. IsPut k artifact.name artifact.text artifact.kind line deeds)
 
 -- The directories were made, and then the text was written, unless the file was left as it was.
 -- (own)

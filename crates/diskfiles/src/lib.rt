@@ -12,7 +12,7 @@
 //! let mut outputs = FileOutputs::new(alloc, disk);
 //! outputs.put(Kind::File, b"src/Makefile", text)?;           // makes the directory src
 //! outputs.lines()                                            // config.status: creating src/Makefile
-//! outputs.close(b"config.log", log)?;                        // the last file, which is no thing
+//! outputs.close(b"config.log", log)?;                        // the last file, which is no artifact
 //! ```
 //!
 //! Contracts are over any `disk::Disk`. If it is known what is under its names, they say what is
@@ -24,12 +24,12 @@
 //! `writing`, `links`, `places`, `saying`, which has the lines, and `receiver`.
 #![tactic(auto)]
 
+mod lines;
 mod links;
 mod names;
 mod places;
 mod reading;
 mod receiver;
-mod saying;
 mod writing;
 
 pub use disk::LARGEST_TEXT;

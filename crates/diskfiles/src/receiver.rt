@@ -2,7 +2,7 @@
 
 ghost use Rattle.std.specs.Prelude.{◌≡◌, ◌+◌, ◌^◌, ◌<◌, false, List, ℕ, [], OnOk, OnErr, IfOk, IfSome, option_map, string_bytes};
 ghost use Rattle.disk.specs.Known.{Adds, Does};
-ghost use Rattle.outputs.specs.Receipt.{with_thing, with_refusal};
+ghost use Rattle.outputs.specs.Receipt.{with_artifact, with_refusal};
 ghost use Rattle.diskfiles.specs.Done.{IsEnd, IsPut, IsRefused, IsAllDone};
 ghost use Rattle.diskfiles.specs.Held.{fresh, receipt_of, IsTaken, IsCounted, IsClosed};
 ghost use Rattle.diskfiles.specs.Keeping as meant;
@@ -12,21 +12,21 @@ ghost use Rattle.diskfiles.specs.Names.{IsFileName};
 ghost use Rattle.diskfiles.specs.Sayings.{said};
 ghost use Rattle.diskfiles.specs.Steps.{IsReplaced, IsBegun, directories_for};
 
+use crate::lines::{Saying, say, saying_of};
 use crate::links::end_of;
 use crate::names::{directory_of, file_name, no_name};
 use crate::places::{Place, is_among, place_of};
 use crate::reading::read_text;
-use crate::saying::{Saying, say, saying_of};
 use crate::writing::{Keeps, write_new, write_text};
 use causes::words_of;
 use deftable::Bytes;
 use disk::Disk;
-use outputs::{Kind, Outputs, PutRefused, Thing};
+use outputs::{Artifact, Kind, Outputs, PutRefused};
 use std::alloc::{AllocError, Global};
 use std::io::{self, ErrorKind};
 use std::marker::Model;
 
-/// A receiver that writes each thing to the file of its name (own).
+/// A receiver that writes each artifact to the file of its name (own).
 ///
 /// For a file and a header it makes the directories of the name. A header or a cache whose file has
 /// this text already isn't written, and its file isn't touched. If a cache is a link, the file that
@@ -41,7 +41,7 @@ pub struct FileOutputs<D: Disk> {
     alloc: Global,
     disk: D,
     places: Vec<Place>,
-    things: Vec<Thing>,
+    artifacts: Vec<Artifact>,
     failures: u64,
     lines: Vec<u8>,
     cause: Bytes,
@@ -54,7 +54,7 @@ impl<D: Disk> Drop for FileOutputs<D> {
             alloc: _alloc,
             disk: _disk,
             places: _places,
-            things: _things,
+            artifacts: _artifacts,
             failures: _failures,
             lines: _lines,
             cause: _cause,
@@ -71,11 +71,11 @@ impl<D: Disk> Model for FileOutputs<D> {
 
     ghost Value = { Held D };
 
-    ghost view = { λ o. record { handed = o.things.items; failures = o.failures; lines = o.lines.items; closed = o.is_closed; disk = o.disk } };
+    ghost view = { λ o. record { handed = o.artifacts.items; failures = o.failures; lines = o.lines.items; closed = o.is_closed; disk = o.disk } };
 
-    ghost invariant = { λ o. AreLines o.things.items o.lines.items
+    ghost invariant = { λ o. AreLines o.artifacts.items o.lines.items
         × (o.is_closed ≡ false → IfSome (D.known o.disk)
-        (λ k. IsAllDone k o.things.items o.failures o.lines.items)) };
+        (λ k. IsAllDone k o.artifacts.items o.failures o.lines.items)) };
 }
 
 /// Returns the error of an allocation that failed.
@@ -122,7 +122,7 @@ fn add_place<D: Disk>(
     add(places, place_of(alloc, disk, name)?)
 }
 
-/// Adds the place of a thing. If its name is that of a link which leads to the file, adds the place
+/// Adds the place of an artifact. If its name is that of a link which leads to the file, adds the place
 /// of the file before that.
 fn add_places<D: Disk>(
     alloc: Global,
@@ -138,7 +138,7 @@ fn add_places<D: Disk>(
     add_place(alloc, disk, places, name)
 }
 
-/// Returns what permissions the file of a thing of this kind keeps. A record is no program, so
+/// Returns what permissions the file of an artifact of this kind keeps. A record is no program, so
 /// nobody is to execute it.
 fn kept_by(kind: Kind) -> Keeps
     ensures { result ≡ keeps_of kind }
@@ -149,7 +149,7 @@ fn kept_by(kind: Kind) -> Keeps
     }
 }
 
-/// Writes a thing, if it isn't unchanged, and adds its places. If that fails, some place may have
+/// Writes an artifact, if it isn't unchanged, and adds its places. If that fails, some place may have
 /// been added.
 fn write_placed<D: Disk>(
     alloc: Global,
@@ -178,8 +178,8 @@ fn write_placed<D: Disk>(
     write_text(alloc, disk, file.as_bytes(), kept_by(kind), text)
 }
 
-/// Writes a thing, if it isn't unchanged, and adds its places. If that fails, no place is added.
-fn write_thing<D: Disk>(
+/// Writes an artifact, if it isn't unchanged, and adds its places. If that fails, no place is added.
+fn write_artifact<D: Disk>(
     alloc: Global,
     disk: &mut D,
     places: &mut Vec<Place>,
@@ -208,7 +208,7 @@ fn write_thing<D: Disk>(
     done
 }
 
-/// Returns whether a thing of this kind is compared with the text that its file has. What is not
+/// Returns whether an artifact of this kind is compared with the text that its file has. What is not
 /// compared is written in any case: a file, and the record, so that it is newer than what it was
 /// made of.
 fn is_compared(kind: Kind) -> bool
@@ -263,7 +263,7 @@ fn end_for<D: Disk>(alloc: Global, disk: &D, kind: Kind, name: &str) -> io::Resu
     }
 }
 
-/// Returns the name of the file that a thing is written to.
+/// Returns the name of the file that an artifact is written to.
 fn file_of<'a>(end: &'a Option<String>, name: &'a str) -> &'a str
     ensures { result.now ≡ meant.file_of (option_map string_bytes end.now) name.now }
 {
@@ -273,38 +273,38 @@ fn file_of<'a>(end: &'a Option<String>, name: &'a str) -> &'a str
     }
 }
 
-/// Appends a thing, and what is said of it. If memory runs out, it appends neither.
+/// Appends an artifact, and what is said of it. If memory runs out, it appends neither.
 fn keep(
     alloc: Global,
-    things: &mut Vec<Thing>,
+    artifacts: &mut Vec<Artifact>,
     lines: &mut Vec<u8>,
-    thing: Thing,
+    artifact: Artifact,
     saying: Saying,
     name: &[u8],
 ) -> Result<(), AllocError>
     ensures ok { OnOk result
-        (IsKept things.old.items lines.old.items things.new.items lines.new.items thing (said saying name.now)) }
+        (IsKept artifacts.old.items lines.old.items artifacts.new.items lines.new.items artifact (said saying name.now)) }
     ensures err { OnErr result
-        (AreSame things.old.items lines.old.items things.new.items lines.new.items) }
+        (AreSame artifacts.old.items lines.old.items artifacts.new.items lines.new.items) }
 {
-    let count = things.len();
-    things.push(thing)?;
+    let count = artifacts.len();
+    artifacts.push(artifact)?;
     let answer = say(alloc, lines, saying, name);
     if answer.is_err() {
-        things.truncate(count);
+        artifacts.truncate(count);
     }
     answer
 }
 
-/// Appends a thing and what is said of it, and writes the thing. If the put is refused, it appends
-/// neither. So there is memory to keep the thing before its file is written.
+/// Appends an artifact and what is said of it, and writes the artifact. If the put is refused, it appends
+/// neither. So there is memory to keep the artifact before its file is written.
 fn keep_written<D: Disk>(
     alloc: Global,
     disk: &mut D,
     places: &mut Vec<Place>,
-    things: &mut Vec<Thing>,
+    artifacts: &mut Vec<Artifact>,
     lines: &mut Vec<u8>,
-    thing: Thing,
+    artifact: Artifact,
     kind: Kind,
     saying: Saying,
     unchanged: bool,
@@ -314,9 +314,9 @@ fn keep_written<D: Disk>(
     text: &[u8],
 ) -> io::Result<()>
     ensures ok { OnOk result
-        (IsKept things.old.items lines.old.items things.new.items lines.new.items thing (said saying name.now)) }
+        (IsKept artifacts.old.items lines.old.items artifacts.new.items lines.new.items artifact (said saying name.now)) }
     ensures err { OnErr result
-        (AreSame things.old.items lines.old.items things.new.items lines.new.items) }
+        (AreSame artifacts.old.items lines.old.items artifacts.new.items lines.new.items) }
     ensures stepped { OnOk result (Does (D.known disk.old) (D.known disk.new)
         (λ k deeds. IsStepped k saying unchanged
         (keeps_of kind) name.now file.now text.now deeds)) }
@@ -324,28 +324,28 @@ fn keep_written<D: Disk>(
         (Does (D.known disk.old) (D.known disk.new)
         (λ _ deeds. IsUnstepped saying name.now file.now deeds)) }
 {
-    let count = things.len();
+    let count = artifacts.len();
     let len = lines.len();
-    if keep(alloc, things, lines, thing, saying, name.as_bytes()).is_err() {
+    if keep(alloc, artifacts, lines, artifact, saying, name.as_bytes()).is_err() {
         return Err(no_memory());
     }
-    let done = write_thing(
+    let done = write_artifact(
         alloc, disk, places, kind, saying, unchanged, name, file, is_linked, text,
     );
     if done.is_err() {
-        things.truncate(count);
+        artifacts.truncate(count);
         lines.truncate(len);
     }
     done
 }
 
-/// Takes a thing whose name is that of a file. If the put is refused, only its deeds are left of
+/// Takes an artifact whose name is that of a file. If the put is refused, only its deeds are left of
 /// it.
 fn take_named<D: Disk>(
     alloc: Global,
     disk: &mut D,
     places: &mut Vec<Place>,
-    things: &mut Vec<Thing>,
+    artifacts: &mut Vec<Artifact>,
     lines: &mut Vec<u8>,
     kind: Kind,
     name: &str,
@@ -353,10 +353,10 @@ fn take_named<D: Disk>(
 ) -> io::Result<()>
     requires { IsFileName name.now }
     ensures taken { OnOk result
-        (Takes (D.known disk.old) (D.known disk.new) things.old.items lines.old.items things.new.items lines.new.items
+        (Takes (D.known disk.old) (D.known disk.new) artifacts.old.items lines.old.items artifacts.new.items lines.new.items
         (record { kind = kind; name = name.now; text = text.now })) }
     ensures same { OnErr result
-        (AreSame things.old.items lines.old.items things.new.items lines.new.items) }
+        (AreSame artifacts.old.items lines.old.items artifacts.new.items lines.new.items) }
     ensures undone { OnErr result
         (Does (D.known disk.old) (D.known disk.new) (λ k deeds. IsRefused k name.now kind deeds)) }
 {
@@ -364,7 +364,7 @@ fn take_named<D: Disk>(
         return Err(no_memory());
     };
     let end = end_for(alloc, disk, kind, name)?;
-    let Ok(thing) = Thing::from_slices(alloc, kind, name.as_bytes(), text) else {
+    let Ok(artifact) = Artifact::from_slices(alloc, kind, name.as_bytes(), text) else {
         return Err(no_memory());
     };
     let saying = saying_of(kind, unchanged);
@@ -373,9 +373,9 @@ fn take_named<D: Disk>(
         alloc,
         disk,
         places,
-        things,
+        artifacts,
         lines,
-        thing,
+        artifact,
         kind,
         saying,
         unchanged,
@@ -386,12 +386,12 @@ fn take_named<D: Disk>(
     )
 }
 
-/// Takes a thing. If the put is refused, only its deeds are left of it.
+/// Takes an artifact. If the put is refused, only its deeds are left of it.
 fn take<D: Disk>(
     alloc: Global,
     disk: &mut D,
     places: &mut Vec<Place>,
-    things: &mut Vec<Thing>,
+    artifacts: &mut Vec<Artifact>,
     lines: &mut Vec<u8>,
     is_closed: bool,
     kind: Kind,
@@ -400,11 +400,11 @@ fn take<D: Disk>(
 ) -> io::Result<()>
     ensures unclosed { OnOk result (is_closed ≡ false) }
     ensures taken { OnOk result
-        (Takes (D.known disk.old) (D.known disk.new) things.old.items lines.old.items things.new.items lines.new.items
+        (Takes (D.known disk.old) (D.known disk.new) artifacts.old.items lines.old.items artifacts.new.items lines.new.items
         (record { kind = kind; name = name.now; text = text.now })) }
     ensures name { IfOk result (λ _. IsFileName name.now) }
     ensures same { OnErr result
-        (AreSame things.old.items lines.old.items things.new.items lines.new.items) }
+        (AreSame artifacts.old.items lines.old.items artifacts.new.items lines.new.items) }
     ensures undone { OnErr result
         (Does (D.known disk.old) (D.known disk.new) (λ k deeds. IsRefused k name.now kind deeds)) }
 {
@@ -414,7 +414,7 @@ fn take<D: Disk>(
     let Some(path) = file_name(name) else {
         return Err(no_name());
     };
-    take_named(alloc, disk, places, things, lines, kind, path, text)
+    take_named(alloc, disk, places, artifacts, lines, kind, path, text)
 }
 
 impl<D: Disk> FileOutputs<D> {
@@ -427,7 +427,7 @@ impl<D: Disk> FileOutputs<D> {
             alloc,
             disk,
             places: Vec::new(alloc),
-            things: Vec::new(alloc),
+            artifacts: Vec::new(alloc),
             failures: 0,
             lines: Vec::new(alloc),
             cause: Bytes::new(alloc),
@@ -483,7 +483,7 @@ impl<D: Disk> FileOutputs<D> {
         }
     }
 
-    /// Writes a last file, which is no thing, such as a log. A regular file or a link of this name
+    /// Writes a last file, which is no artifact, such as a log. A regular file or a link of this name
     /// is removed first. From then on each put is refused.
     ///
     /// # Errors
@@ -509,7 +509,7 @@ impl<D: Disk> FileOutputs<D> {
         write_new(&mut self.disk, name, text)
     }
 
-    /// Takes a thing, or counts the refusal.
+    /// Takes an artifact, or counts the refusal.
     fn take_counted(&mut self, kind: Kind, name: &[u8], text: &[u8]) -> io::Result<()>
         requires failures { self.old.failures < 2 ^ 62 }
         ensures taken { OnOk result
@@ -526,7 +526,7 @@ impl<D: Disk> FileOutputs<D> {
             self.alloc,
             &mut self.disk,
             &mut self.places,
-            &mut self.things,
+            &mut self.artifacts,
             &mut self.lines,
             self.is_closed,
             kind,
@@ -555,11 +555,11 @@ impl<D: Disk> Outputs for FileOutputs<D> {
     fn put(&mut self, kind: Kind, name: &[u8], text: &[u8]) -> Result<(), PutRefused>
         requires failures { (receipt_of self.old).failures < 2 ^ 62 }
         ensures taken { OnOk result
-            (receipt_of self.new ≡ with_thing (receipt_of self.old) (record { kind = kind; name = name.now; text = text.now })) }
+            (receipt_of self.new ≡ with_artifact (receipt_of self.old) (record { kind = kind; name = name.now; text = text.now })) }
         ensures refused { OnErr result (receipt_of self.new ≡ with_refusal (receipt_of self.old)) }
         ensures name { IfOk result (λ _. IsFileName name.now) }
         ensures unclosed { OnOk result (self.old.closed ≡ false) }
-        // What was done to the disk, if that is known, and what is said of the thing.
+        // What was done to the disk, if that is known, and what is said of the artifact.
         ensures done { OnOk result
             ((line : List ℕ) × IsTaken self.old self.new (record { kind = kind; name = name.now; text = text.now }) line
             × Does (D.known self.old.disk) (D.known self.new.disk) (λ k deeds. IsPut k name.now text.now kind line deeds)) }

@@ -5,7 +5,7 @@ use Rattle.meaning.specs.Play.{whole}
 use Rattle.meaning.specs.State.{opened}
 use Rattle.proberun.specs.Agreeing.{RunsAgree}
 use Rattle.engine.specs.Agreeing.{ConfiguresAgree}
-use Rattle.engine.specs.Configured.{report_of, things}
+use Rattle.engine.specs.Configured.{report_of, artifacts}
 use Rattle.framing.specs.declared.report.Report.{Report}
 
 pub configures_agree : RunsAgree → ConfiguresAgree
@@ -14,4 +14,4 @@ configures_agree law script start window other_window before now other_before ot
     let counted : Report → Report = λ r. record r { handed = other_report.handed } in
     let reports : counted report ≡ other_report =
     ap counted one.told ∙ ap (λ e. report_of start e other_report.handed) same.1 ∙ sym other.told in
-    (same.0, reports, λ templates. ap (things script start templates) reports)
+    (same.0, reports, λ templates. ap (artifacts script start templates) reports)

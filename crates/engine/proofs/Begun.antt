@@ -7,7 +7,7 @@ use Rattle.meaning.specs.State.{Run, opened}
 use Rattle.plan.specs.Walk.{Instruction, DoesWhat, empty_mind, walk}
 use Rattle.proberun.specs.Ran.{Ran, RunEnd}
 use Rattle.syntax.specs.Script.{Script}
-use Rattle.framing.specs.declared.accepting.Start.{Start}
+use Rattle.framing.specs.declared.inputs.Start.{Start}
 use Rattle.engine.specs.Configured.{HasRunPart, ended}
 
 on_err : {T E P : Type 0} (result : Result T E) → P → OnErr result P

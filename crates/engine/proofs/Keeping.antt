@@ -11,7 +11,7 @@ use Rattle.meaning.specs.Play.{Played, play, whole}
 use Rattle.meaning.specs.State.{opened}
 use Rattle.syntax.specs.Script.{Script}
 use Rattle.framing.specs.Handing.{IfNamed, IsCacheOf, is_one_line, saved_value}
-use Rattle.framing.specs.declared.accepting.Start.{Start}
+use Rattle.framing.specs.declared.inputs.Start.{Start}
 use Rattle.framing.specs.declared.report.Report.{Report}
 use Rattle.engine.specs.Configured.{IsMeant}
 use Rattle.engine.specs.Kept.{replies_of, IsKept}

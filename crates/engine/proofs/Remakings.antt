@@ -3,16 +3,16 @@ use Rattle.std.proofs.Common.{◌≡◌, ℕ, Bool, true, false, cond, List, [],
 use Rattle.std.specs.Prelude.{filter, Option, Some, None, Result}
 use Rattle.std.proofs.lemmas.List.Elements.{filter-append}
 use Rattle.outputlist.specs.declared.output.Output.{Output}
-use Rattle.outputs.specs.declared.thing.Thing.{Thing}
+use Rattle.outputs.specs.declared.artifact.Artifact.{Artifact}
 use Rattle.status_record.specs.Reading.{record_in}
 use Rattle.status_record.specs.RecordText.{record_text}
 use Rattle.status_record.specs.declared.record.Record.{Record}
 use Rattle.syntax.specs.Script.{Script}
 use Rattle.framing.specs.Faults.{of_record, named, ◌>>=◌}
-use Rattle.framing.specs.Handing.{ReadsBack, IfCompleted, record_thing, wanted_outputs, things_of}
+use Rattle.framing.specs.Handing.{ReadsBack, IfCompleted, record_artifact, wanted_outputs, artifacts_of}
 use Rattle.framing.specs.Remade as choice
 use Rattle.framing.specs.Remade.{none_unknown, present, remade, unknown, made, made_file, made_header}
-use Rattle.framing.specs.declared.accepting.Start.{Start}
+use Rattle.framing.specs.declared.inputs.Start.{Start}
 use Rattle.framing.specs.declared.fault.RemakeFault.{RemakeFault}
 use Rattle.framing.specs.declared.report.Outcome.{Outcome}
 use Rattle.framing.specs.declared.report.Outcome.TheVariants.{Completed, Stopped, CutShort, Shown}
@@ -61,47 +61,47 @@ outputs_made r templates tags =
         ∙ filter_mapped (is_chosen tags) (choice.is_chosen tags) (made_header r templates) xs (λ o. refl)
 
 -- No record is made of a record.
-no_record_made : (r : Record) (templates : List (List ℕ × List ℕ)) → filter (λ thing. is_record thing.kind) (made r templates []) ≡ []
+no_record_made : (r : Record) (templates : List (List ℕ × List ℕ)) → filter (λ artifact. is_record artifact.kind) (made r templates []) ≡ []
 unfolding made made_file made_header
 no_record_made r templates =
-    filter-append (λ thing. is_record thing.kind) (map (made_file r templates) (choice.chosen [] r.files)) (map (made_header r templates) (choice.chosen [] r.headers))
-    ∙ ap (λ l. l ++ filter (λ thing. is_record thing.kind) (map (made_header r templates) (choice.chosen [] r.headers))) (files (choice.chosen [] r.files))
+    filter-append (λ artifact. is_record artifact.kind) (map (made_file r templates) (choice.chosen [] r.files)) (map (made_header r templates) (choice.chosen [] r.headers))
+    ∙ ap (λ l. l ++ filter (λ artifact. is_record artifact.kind) (map (made_header r templates) (choice.chosen [] r.headers))) (files (choice.chosen [] r.files))
     ∙ headers (choice.chosen [] r.headers)
   where
-    files : (xs : List Output) → filter (λ thing. is_record thing.kind) (map (made_file r templates) xs) ≡ []
+    files : (xs : List Output) → filter (λ artifact. is_record artifact.kind) (map (made_file r templates) xs) ≡ []
     files xs =
-        filter_mapped (λ thing. is_record thing.kind) (λ o. false) (made_file r templates) xs (λ o. refl)
+        filter_mapped (λ artifact. is_record artifact.kind) (λ o. false) (made_file r templates) xs (λ o. refl)
         ∙ ap (map (made_file r templates)) (filter_none (λ o. false) xs (λ o. refl))
 
-    headers : (xs : List Output) → filter (λ thing. is_record thing.kind) (map (made_header r templates) xs) ≡ []
+    headers : (xs : List Output) → filter (λ artifact. is_record artifact.kind) (map (made_header r templates) xs) ≡ []
     headers xs =
-        filter_mapped (λ thing. is_record thing.kind) (λ o. false) (made_header r templates) xs (λ o. refl)
+        filter_mapped (λ artifact. is_record artifact.kind) (λ o. false) (made_header r templates) xs (λ o. refl)
         ∙ ap (map (made_header r templates)) (filter_none (λ o. false) xs (λ o. refl))
 
-no_record_wanted : (no_create : Bool) (templates : List (List ℕ × List ℕ)) (r : Record) → filter (λ thing. is_record thing.kind) (wanted_outputs no_create templates r) ≡ []
+no_record_wanted : (no_create : Bool) (templates : List (List ℕ × List ℕ)) (r : Record) → filter (λ artifact. is_record artifact.kind) (wanted_outputs no_create templates r) ≡ []
 no_record_wanted true templates r = refl
 no_record_wanted false templates r = no_record_made r templates
 
 -- One record is handed over after the cache.
 one_record : (name : Option (List ℕ)) (no_create : Bool) (templates : List (List ℕ × List ℕ)) (vars : List (List ℕ × List ℕ)) (r : Record)
-    → filter (λ thing. is_record thing.kind) (things_of name no_create templates Completed vars r) ≡ record_thing r ∷ []
-unfolding things_of
-one_record None no_create templates vars r = ap (λ l. record_thing r ∷ l) (no_record_wanted no_create templates r)
-one_record (Some name) no_create templates vars r = ap (λ l. record_thing r ∷ l) (no_record_wanted no_create templates r)
+    → filter (λ artifact. is_record artifact.kind) (artifacts_of name no_create templates Completed vars r) ≡ record_artifact r ∷ []
+unfolding artifacts_of
+one_record None no_create templates vars r = ap (λ l. record_artifact r ∷ l) (no_record_wanted no_create templates r)
+one_record (Some name) no_create templates vars r = ap (λ l. record_artifact r ∷ l) (no_record_wanted no_create templates r)
 
 -- The files and headers that tags choose, of all that is handed over.
 outputs_handed : (name : Option (List ℕ)) (templates : List (List ℕ × List ℕ)) (vars : List (List ℕ × List ℕ)) (r : Record) (tags : List (List ℕ))
-    → filter (is_chosen tags) (things_of name false templates Completed vars r) ≡ made r templates tags
-unfolding things_of
+    → filter (is_chosen tags) (artifacts_of name false templates Completed vars r) ≡ made r templates tags
+unfolding artifacts_of
 outputs_handed None templates vars r tags = outputs_made r templates tags
 outputs_handed (Some name) templates vars r tags = outputs_made r templates tags
 
 -- ---- what is made again
 
-abbrev after_checks : Record → List (List ℕ × List ℕ) → List (List ℕ) → List Thing → Result (List Thing) RemakeFault
+abbrev after_checks : Record → List (List ℕ × List ℕ) → List (List ℕ) → List Artifact → Result (List Artifact) RemakeFault
 after_checks r templates tags all = none_unknown (unknown r tags) >>= λ _. present r templates tags >>= λ _. Ok all
 
-abbrev from_record : List (List ℕ × List ℕ) → List (List ℕ) → Record → Result (List Thing) RemakeFault
+abbrev from_record : List (List ℕ × List ℕ) → List (List ℕ) → Record → Result (List Artifact) RemakeFault
 from_record templates tags r = after_checks r templates tags (made r templates tags)
 
 remade_is : (text : List ℕ) (templates : List (List ℕ × List ℕ)) (tags : List (List ℕ)) → remade text templates tags ≡ (named of_record (record_in text) >>= from_record templates tags)
@@ -111,11 +111,11 @@ remade_is text templates tags = refl
 pub remakes_agree : RemakesAgree
 remakes_agree script start templates report completed read =
     let r = record_after script start report in
-    let given : List (List ℕ × List ℕ) → Bool → Outcome → List Thing = λ ts no_create o. things_of start.cache_name no_create ts o report.vars r in
+    let given : List (List ℕ × List ℕ) → Bool → Outcome → List Artifact = λ ts no_create o. artifacts_of start.cache_name no_create ts o report.vars r in
     record {
       text = record_text r;
       handed =
-          ap (λ o. filter (λ thing. is_record thing.kind) (given templates start.no_create o)) completed
+          ap (λ o. filter (λ artifact. is_record artifact.kind) (given templates start.no_create o)) completed
           ∙ one_record start.cache_name start.no_create templates report.vars r;
       read = read;
       again = λ others tags.

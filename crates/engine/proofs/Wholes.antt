@@ -1,7 +1,7 @@
 -- What follows from all of a call, clause by clause.
 use Rattle.std.proofs.Common.{◌≡◌, ℕ, List, Option, Some, None, length, Result, Ok, Err, refl, sym, subst, ap, ◌∙◌}
 use Rattle.std.specs.Prelude.{IfOk, IsErrAnd, nat_le}
-use Rattle.outputs.specs.Receipt.{Receipt, with_things}
+use Rattle.outputs.specs.Receipt.{Receipt, with_artifacts}
 use Rattle.acparse.specs.Profile.{source_of}
 use Rattle.crew_trait.specs.Events.{Account}
 use Rattle.options.specs.declared.settings.Settings.{Settings}
@@ -11,16 +11,16 @@ use Rattle.syntax.specs.Script.{Script}
 use Rattle.framing.specs.Faults.{Fails, ◌>>=◌, named, wants, of_parse}
 use Rattle.engine.specs.Judged.{judged}
 use Rattle.framing.specs.Given.{Accepted, Shows, Starts, accepted, seen}
-use Rattle.engine.specs.Configured.{IsWhole, refused, memory, shown, ran, IsAnswer, IsNotRun, IfStarts, IfReport, IfPutRefused, IsMeant, IsDone, IsCut, HasRunPart, not_begun, things, record_after}
+use Rattle.engine.specs.Configured.{IsWhole, refused, memory, shown, ran, IsAnswer, IsNotRun, IfStarts, IfReport, IfPutRefused, IsMeant, IsDone, IsCut, HasRunPart, not_begun, artifacts, record_after}
 use Rattle.engine.specs.Kept.{IsKept}
 use Rattle.engine.specs.Remaking.{Remakes}
 use Rattle.engine.proofs.Keeping.{kept_if_named}
 use Rattle.engine.proofs.Remakings.{remakes_completed}
 use Rattle.framing.specs.Handing.{IfCompleted, ReadsBack, IfNamed, CacheReadsBack}
 use Rattle.framing.specs.Shown.{shown_report}
-use Rattle.framing.specs.declared.accepting.Start.{Start}
-use Rattle.framing.specs.declared.accepting.Found.{Found}
-use Rattle.framing.specs.declared.accepting.Found.TheVariants as founds
+use Rattle.framing.specs.declared.inputs.Start.{Start}
+use Rattle.framing.specs.declared.inputs.Accepted.{Accepted as Taken}
+use Rattle.framing.specs.declared.inputs.Accepted.TheVariants as founds
 use Rattle.framing.specs.declared.fault.Fault.{Fault}
 use Rattle.framing.specs.declared.fault.Fault.TheVariants.{Plan, OutOfMemory, PutRefused}
 use Rattle.framing.specs.declared.report.Report.{Report}
@@ -60,12 +60,12 @@ fails_last OutOfMemory part same window j templates before now old new (Err e) i
 fails_last f part same window j templates before now old new (Err e) is gives h s =
     subst (λ e. IsWhole same window j templates before now old new (Err e)) (sym h) (refused (is ∙ gives) s)
 
-pub shows : (same : Type 0) (window : ℕ) (j : Result Accepted Fault) (templates : List (List ℕ × List ℕ)) (before now : Account) (old new : Receipt) (script : Script) (found : Found) (settings : Settings) (report : Report)
+pub shows : (same : Type 0) (window : ℕ) (j : Result Accepted Fault) (templates : List (List ℕ × List ℕ)) (before now : Account) (old new : Receipt) (script : Script) (found : Taken) (settings : Settings) (report : Report)
     → j ≡ Ok (seen script found) → found ≡ founds.Shows settings → report ≡ shown_report script settings → same → IsWhole same window j templates before now old new (Ok report)
 shows same window j templates before now old new script found settings report is kind told s =
     subst (λ r. IsWhole same window j templates before now old new (Ok r)) (sym told) (shown {script = script} {settings = settings} (is ∙ ap (λ f. Ok (seen script f)) kind) s)
 
-pub starts : (same : Type 0) (window : ℕ) (j : Result Accepted Fault) (templates : List (List ℕ × List ℕ)) (before now : Account) (old new : Receipt) (script : Script) (found : Found) (start : Start) (result : Result Report Fault)
+pub starts : (same : Type 0) (window : ℕ) (j : Result Accepted Fault) (templates : List (List ℕ × List ℕ)) (before now : Account) (old new : Receipt) (script : Script) (found : Taken) (start : Start) (result : Result Report Fault)
     → j ≡ Ok (seen script found) → found ≡ founds.Starts start → IsDone window script start templates before now old new result → IsWhole same window j templates before now old new result
 starts same window j templates before now old new script found start result is kind done =
     ran {script = script} {start = start} (is ∙ ap (λ f. Ok (seen script f)) kind) done
@@ -136,12 +136,12 @@ meant_done window script start templates before now old new (Err (PutRefused k r
 meant_done window script start templates before now old new (Err f) done = tt
 
 handed_done : (window : ℕ) (script : Script) (start : Start) (templates : List (List ℕ × List ℕ)) (before now : Account) (old new : Receipt) (result : Result Report Fault)
-    → IsDone window script start templates before now old new result → IfOk result (λ report. new ≡ with_things old (things script start templates report))
+    → IsDone window script start templates before now old new result → IfOk result (λ report. new ≡ with_artifacts old (artifacts script start templates report))
 handed_done window script start templates before now old new (Ok report) done = done.1
 handed_done window script start templates before now old new (Err f) done = tt
 
 reported_done : (window : ℕ) (script : Script) (start : Start) (templates : List (List ℕ × List ℕ)) (before now : Account) (old new : Receipt) (result : Result Report Fault)
-    → IsDone window script start templates before now old new result → IfOk result (λ report. report.handed ≡ length (things script start templates report))
+    → IsDone window script start templates before now old new result → IfOk result (λ report. report.handed ≡ length (artifacts script start templates report))
 reported_done window script start templates before now old new (Ok report) done = done.2
 reported_done window script start templates before now old new (Err f) done = tt
 
@@ -152,7 +152,7 @@ remade_done window script start templates before now old new (Err (PutRefused k 
 remade_done window script start templates before now old new (Err f) done = tt
 
 cut_done : (window : ℕ) (script : Script) (start : Start) (templates : List (List ℕ × List ℕ)) (before now : Account) (old new : Receipt) (result : Result Report Fault)
-    → IsDone window script start templates before now old new result → IfPutRefused result (λ number report. IsCut (things script start templates report) old new number report)
+    → IsDone window script start templates before now old new result → IfPutRefused result (λ number report. IsCut (artifacts script start templates report) old new number report)
 cut_done window script start templates before now old new (Ok report) done = tt
 cut_done window script start templates before now old new (Err (PutRefused k report)) done = done.1
 cut_done window script start templates before now old new (Err f) done = tt
@@ -193,18 +193,18 @@ is_meant same window j templates before now old new result whole =
     (λ e script start. subst (λ (r : Result Report Fault). IfReport r (IsMeant window script start before now)) (sym e) tt)
 
 pub is_handed : (same : Type 0) (window : ℕ) (j : Result Accepted Fault) (templates : List (List ℕ × List ℕ)) (before now : Account) (old new : Receipt) (result : Result Report Fault)
-    → IsWhole same window j templates before now old new result → IfStarts j (λ script start. IfOk result (λ report. new ≡ with_things old (things script start templates report)))
+    → IsWhole same window j templates before now old new result → IfStarts j (λ script start. IfOk result (λ report. new ≡ with_artifacts old (artifacts script start templates report)))
 is_handed same window j templates before now old new result whole =
-    when_starts (λ script start. IfOk result (λ report. new ≡ with_things old (things script start templates report))) same window j templates before now old new result whole
+    when_starts (λ script start. IfOk result (λ report. new ≡ with_artifacts old (artifacts script start templates report))) same window j templates before now old new result whole
     (λ script start d. handed_done window script start templates before now old new result d)
-    (λ e script start. subst (λ (r : Result Report Fault). IfOk r (λ report. new ≡ with_things old (things script start templates report))) (sym e) tt)
+    (λ e script start. subst (λ (r : Result Report Fault). IfOk r (λ report. new ≡ with_artifacts old (artifacts script start templates report))) (sym e) tt)
 
 pub is_reported : (same : Type 0) (window : ℕ) (j : Result Accepted Fault) (templates : List (List ℕ × List ℕ)) (before now : Account) (old new : Receipt) (result : Result Report Fault)
-    → IsWhole same window j templates before now old new result → IfStarts j (λ script start. IfOk result (λ report. report.handed ≡ length (things script start templates report)))
+    → IsWhole same window j templates before now old new result → IfStarts j (λ script start. IfOk result (λ report. report.handed ≡ length (artifacts script start templates report)))
 is_reported same window j templates before now old new result whole =
-    when_starts (λ script start. IfOk result (λ report. report.handed ≡ length (things script start templates report))) same window j templates before now old new result whole
+    when_starts (λ script start. IfOk result (λ report. report.handed ≡ length (artifacts script start templates report))) same window j templates before now old new result whole
     (λ script start d. reported_done window script start templates before now old new result d)
-    (λ e script start. subst (λ (r : Result Report Fault). IfOk r (λ report. report.handed ≡ length (things script start templates report))) (sym e) tt)
+    (λ e script start. subst (λ (r : Result Report Fault). IfOk r (λ report. report.handed ≡ length (artifacts script start templates report))) (sym e) tt)
 
 pub is_remade : (same : Type 0) (window : ℕ) (j : Result Accepted Fault) (templates : List (List ℕ × List ℕ)) (before now : Account) (old new : Receipt) (result : Result Report Fault)
     → IsWhole same window j templates before now old new result → IfStarts j (λ script start. IfReport result (λ report. IfCompleted report.outcome (ReadsBack (record_after script start report))))
@@ -214,11 +214,11 @@ is_remade same window j templates before now old new result whole =
     (λ e script start. subst (λ (r : Result Report Fault). IfReport r (λ report. IfCompleted report.outcome (ReadsBack (record_after script start report)))) (sym e) tt)
 
 pub is_cut : (same : Type 0) (window : ℕ) (j : Result Accepted Fault) (templates : List (List ℕ × List ℕ)) (before now : Account) (old new : Receipt) (result : Result Report Fault)
-    → IsWhole same window j templates before now old new result → IfStarts j (λ script start. IfPutRefused result (λ number report. IsCut (things script start templates report) old new number report))
+    → IsWhole same window j templates before now old new result → IfStarts j (λ script start. IfPutRefused result (λ number report. IsCut (artifacts script start templates report) old new number report))
 is_cut same window j templates before now old new result whole =
-    when_starts (λ script start. IfPutRefused result (λ number report. IsCut (things script start templates report) old new number report)) same window j templates before now old new result whole
+    when_starts (λ script start. IfPutRefused result (λ number report. IsCut (artifacts script start templates report) old new number report)) same window j templates before now old new result whole
     (λ script start d. cut_done window script start templates before now old new result d)
-    (λ e script start. subst (λ (r : Result Report Fault). IfPutRefused r (λ number report. IsCut (things script start templates report) old new number report)) (sym e) tt)
+    (λ e script start. subst (λ (r : Result Report Fault). IfPutRefused r (λ number report. IsCut (artifacts script start templates report) old new number report)) (sym e) tt)
 
 pub holds_set : (same : Type 0) (window : ℕ) (j : Result Accepted Fault) (templates : List (List ℕ × List ℕ)) (before now : Account) (old new : Receipt) (result : Result Report Fault)
     → IsWhole same window j templates before now old new result → IfStarts j (λ script start. IfReport result (λ report. IfNamed start.cache_name (IsKept window script start before now report)))

@@ -4,8 +4,8 @@ use Rattle.crew_trait.specs.Events.{Account, replies_in}
 use Rattle.meaning.specs.Play.{all_jobs}
 use Rattle.proberun.specs.Agreeing.{Agree}
 use Rattle.syntax.specs.Script.{Script}
-use Rattle.engine.specs.Configured.{IsMeant, things}
-use Rattle.framing.specs.declared.accepting.Start.{Start}
+use Rattle.engine.specs.Configured.{IsMeant, artifacts}
+use Rattle.framing.specs.declared.inputs.Start.{Start}
 use Rattle.framing.specs.declared.report.Report.{Report}
 
 -- Two runs of one source from one opening, whose n-th replies are the same for every n that both have, ask for the same groups of
@@ -17,4 +17,4 @@ ConfiguresAgree = (script : Script) (start : Start) (window other_window : ℕ) 
     → Agree (replies_in before.attempts (length (all_jobs one.ran.groups)) one.ran.since) (replies_in other_before.attempts (length (all_jobs other.ran.groups)) other.ran.since)
     → (one.ran.groups ≡ other.ran.groups)
     × (record report { handed = other_report.handed } ≡ other_report)
-    × ((templates : List (List ℕ × List ℕ)) → things script start templates report ≡ things script start templates other_report)
+    × ((templates : List (List ℕ × List ℕ)) → artifacts script start templates report ≡ artifacts script start templates other_report)

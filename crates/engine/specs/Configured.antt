@@ -5,23 +5,23 @@ use Rattle.meaning.specs.Meaning.{meaning}
 use Rattle.meaning.specs.Play.{whole}
 use Rattle.meaning.specs.State.{opened}
 use Rattle.options.specs.declared.settings.Settings.{Settings}
-use Rattle.outputs.specs.Receipt.{Receipt, with_things, IsCutAt}
-use Rattle.outputs.specs.declared.thing.Thing.{Thing}
+use Rattle.outputs.specs.Receipt.{Receipt, with_artifacts, IsCutAt}
+use Rattle.outputs.specs.declared.artifact.Artifact.{Artifact}
 use Rattle.proberun.specs.Progress.{HasBegun}
 pub use Rattle.proberun.specs.Ran.{Ran, RunEnd, outcome_from, state_of}
 use Rattle.status_record.specs.declared.record.Record.{Record}
 use Rattle.syntax.specs.Script.{Script}
 use Rattle.framing.specs.Given.{Accepted, Shows, Starts}
-use Rattle.framing.specs.Handing.{things_of, run_record, IfCompleted, ReadsBack, IfNamed, IsCacheOf}
+use Rattle.framing.specs.Handing.{artifacts_of, run_record, IfCompleted, ReadsBack, IfNamed, IsCacheOf}
 use Rattle.framing.specs.Shown.{shown_report}
 use Rattle.framing.specs.Told.{entries_of}
 use Rattle.engine.specs.Told.{outcome_of}
-use Rattle.framing.specs.declared.accepting.Start.{Start}
+use Rattle.framing.specs.declared.inputs.Start.{Start}
 use Rattle.framing.specs.declared.fault.Fault.{Fault}
 use Rattle.framing.specs.declared.fault.Fault.TheVariants.{PutRefused, OutOfMemory}
 use Rattle.framing.specs.declared.report.Report.{Report}
 
--- The report of a run that leaves this, of which so many things were handed over: its pieces follow those of its opening.
+-- The report of a run that leaves this, of which so many artifacts were handed over: its pieces follow those of its opening.
 -- (own)
 abbrev pub report_of : Start → RunEnd → ℕ → Report
 report_of start end handed =
@@ -80,17 +80,17 @@ abbrev pub record_after : Script → Start → Report → Record
 record_after script start report = run_record script start.srcdir start.args report.vars report.defs
 
 -- What a run that has this report hands over. (own)
-abbrev pub things : Script → Start → List (List ℕ × List ℕ) → Report → List Thing
-things script start templates report =
-    things_of start.cache_name start.no_create templates report.outcome report.vars (record_after script start report)
+abbrev pub artifacts : Script → Start → List (List ℕ × List ℕ) → Report → List Artifact
+artifacts script start templates report =
+    artifacts_of start.cache_name start.no_create templates report.outcome report.vars (record_after script start report)
 
--- Put number k was refused: the things before it were handed over, and nothing after them. (own)
-pub record IsCut (all : List Thing) (before now : Receipt) (k : ℕ) (report : Report) : Type 0 where
+-- Put number k was refused: the artifacts before it were handed over, and nothing after them. (own)
+pub record IsCut (all : List Artifact) (before now : Receipt) (k : ℕ) (report : Report) : Type 0 where
   pub cut : IsCutAt all before now k
   pub handed : report.handed + 1 ≡ k
 
--- The fault is that of a refused put, and its report counts the things before it. (own)
-pub record IsRefusedPut (report : Report) (all : List Thing) (before now : Receipt) (f : Fault) : Type 0 where
+-- The fault is that of a refused put, and its report counts the artifacts before it. (own)
+pub record IsRefusedPut (report : Report) (all : List Artifact) (before now : Receipt) (f : Fault) : Type 0 where
   pub number : ℕ
   pub handed : ℕ
   pub is : f ≡ PutRefused number (record report { handed = handed })
@@ -101,13 +101,13 @@ pub record IsRefusedPut (report : Report) (all : List Thing) (before now : Recei
 abbrev pub IsDone : ℕ → Script → Start → List (List ℕ × List ℕ) → Account → Account → Receipt → Receipt → Result Report Fault → Type 0
 IsDone window script start templates before now old new (Ok report) =
     IsMeant window script start before now report
-    × (new ≡ with_things old (things script start templates report))
-    × (report.handed ≡ length (things script start templates report))
+    × (new ≡ with_artifacts old (artifacts script start templates report))
+    × (report.handed ≡ length (artifacts script start templates report))
     × IfCompleted report.outcome (ReadsBack (record_after script start report))
     × IfNamed start.cache_name (IsCacheOf report.vars)
 IsDone window script start templates before now old new (Err (PutRefused number report)) =
     IsMeant window script start before now report
-    × IsCut (things script start templates report) old new number report
+    × IsCut (artifacts script start templates report) old new number report
     × IfCompleted report.outcome (ReadsBack (record_after script start report))
     × IfNamed start.cache_name (IsCacheOf report.vars)
 IsDone window script start templates before now old new (Err f) = (f ≡ OutOfMemory) × HasRunPart window script start before now

@@ -1,40 +1,40 @@
 -- The record that a completed run hands over, and what is made of it again.
 use Rattle.std.specs.Prelude.{◌≡◌, ℕ, ◌==◌, ◌&&◌, ◌||◌, Bool, true, false, List, [], ◌∷◌, length, filter, Ok, codes}
 use Rattle.deftable.specs.NameList.{has_name}
-use Rattle.outputs.specs.declared.thing.Thing.{Thing}
-use Rattle.outputs.specs.declared.thing.Kind.{Kind}
-use Rattle.outputs.specs.declared.thing.Kind.TheVariants.{Record as Recorded, File, Header}
+use Rattle.outputs.specs.declared.artifact.Artifact.{Artifact}
+use Rattle.outputs.specs.declared.artifact.Kind.{Kind}
+use Rattle.outputs.specs.declared.artifact.Kind.TheVariants.{Record as Recorded, File, Header}
 use Rattle.status_record.specs.Reading.{record_in}
 use Rattle.syntax.specs.Script.{Script}
 use Rattle.framing.specs.Faults.{◌>>=◌}
 use Rattle.framing.specs.Handing.{ReadsBack}
 use Rattle.framing.specs.Remade.{none_unknown, present, remade, unknown}
-use Rattle.framing.specs.declared.accepting.Start.{Start}
+use Rattle.framing.specs.declared.inputs.Start.{Start}
 use Rattle.framing.specs.declared.report.Outcome.TheVariants.{Completed}
 use Rattle.framing.specs.declared.report.Report.{Report}
-use Rattle.engine.specs.Configured.{things, record_after}
+use Rattle.engine.specs.Configured.{artifacts, record_after}
 
--- The thing is a record. (own)
+-- The artifact is a record. (own)
 abbrev pub is_record : Kind → Bool
 is_record Recorded = true
 is_record kind = false
 
--- The thing is a file or a header. (own)
+-- The artifact is a file or a header. (own)
 abbrev pub is_output : Kind → Bool
 is_output File = true
 is_output Header = true
 is_output kind = false
 
--- The thing is a file or a header that is to be made: there are no tags, or one of them is its
+-- The artifact is a file or a header that is to be made: there are no tags, or one of them is its
 -- name. (Autoconf's manual, "config.status Invocation")
-abbrev pub is_chosen : List (List ℕ) → Thing → Bool
-is_chosen tags thing = is_output thing.kind && (length tags == 0 || has_name tags thing.name)
+abbrev pub is_chosen : List (List ℕ) → Artifact → Bool
+is_chosen tags artifact = is_output artifact.kind && (length tags == 0 || has_name tags artifact.name)
 
 -- The files and headers that a run with this report hands over if it has these templates and no
 -- `--no-create`, without those that the tags leave out. (own)
-abbrev pub outputs_with : Script → Start → Report → List (List ℕ × List ℕ) → List (List ℕ) → List Thing
+abbrev pub outputs_with : Script → Start → Report → List (List ℕ × List ℕ) → List (List ℕ) → List Artifact
 outputs_with script start report templates tags =
-    filter (is_chosen tags) (things script (record start { no_create = false }) templates report)
+    filter (is_chosen tags) (artifacts script (record start { no_create = false }) templates report)
 
 -- What the run handed over has one record. It is read as the record of the run. Given to `remake`
 -- with any templates and any tags, it gives the files and headers that the run would have handed
@@ -42,7 +42,7 @@ outputs_with script start report templates tags =
 -- no output of the run, or if a template isn't there. (own)
 pub record Remakes (script : Script) (start : Start) (templates : List (List ℕ × List ℕ)) (report : Report) : Type 0 where
   pub text : List ℕ
-  pub handed : filter (λ thing. is_record thing.kind) (things script start templates report)
+  pub handed : filter (λ artifact. is_record artifact.kind) (artifacts script start templates report)
       ≡ record { kind = Recorded; name = codes "config.status"; text = text } ∷ []
   pub read : record_in text ≡ Ok (record_after script start report)
   pub again : (others : List (List ℕ × List ℕ)) (tags : List (List ℕ)) → remade text others tags

@@ -3,13 +3,13 @@
 ghost use Rattle.std.specs.Prelude.{◌≡◌, ◌+◌, ◌^◌, ◌<◌, ◌≤◌, length, IfOk, IfErr, OnErr, Ok, Err, option_map};
 ghost use Rattle.crew_trait.specs.Events.{IsIdle, in_flight};
 ghost use Rattle.outputlist.specs.Output.{AreOutputs};
-ghost use Rattle.outputs.specs.Receipt.{with_things};
+ghost use Rattle.outputs.specs.Receipt.{with_artifacts};
 ghost use Rattle.plan.specs.Walk.{DoesWhat};
 ghost use Rattle.syntax.specs.Lists.{lists_of};
 ghost use Rattle.syntax.specs.Script.{script_of};
 ghost use Rattle.engine.specs.Judged.{judged};
 ghost use Rattle.framing.specs.Handing.{IfCompleted, ReadsBack, IfNamed, IsCacheOf, CacheReadsBack};
-ghost use Rattle.engine.specs.Configured.{IfStarts, IsNotRun, IfReport, IfPutRefused, IsAnswer, IsDone, IsWhole, IsRefusedPut, IsMeant, IsCut, HasRunPart, things, record_after};
+ghost use Rattle.engine.specs.Configured.{IfStarts, IsNotRun, IfReport, IfPutRefused, IsAnswer, IsDone, IsWhole, IsRefusedPut, IsMeant, IsCut, HasRunPart, artifacts, record_after};
 ghost use Rattle.engine.specs.Kept.{IsKept};
 ghost use Rattle.engine.specs.Remaking.{Remakes};
 ghost use Rattle.framing.specs.declared.fault.Fault.TheVariants.{OutOfMemory};
@@ -19,9 +19,9 @@ use crate::reading::parsed;
 use crew_trait::Crew;
 use deftable::Bytes;
 use framing::{
-    Fault, Found, Report, Start, accepted, joined, planned, shown, things_of, with_notes,
+    Accepted, Fault, Report, Start, accept, artifacts_of, joined, planned, shown, with_notes,
 };
-use outputs::{Outputs, Things, put_all};
+use outputs::{Artifacts, Outputs, put_all};
 use plan::Plan;
 use proberun::run;
 use std::alloc::{AllocError, Global};
@@ -30,7 +30,7 @@ use syntax::Source;
 /// What a run hands over, and its report if all of it is taken.
 struct Ready {
     report: Report,
-    things: Things,
+    artifacts: Artifacts,
 }
 
 /// Runs a plan, and makes all that it hands over.
@@ -45,8 +45,8 @@ fn run_ready<C: Crew>(
 ) -> Result<Ready, AllocError>
     requires outputs { AreOutputs (lists_of (script_of source.now)).files (lists_of (script_of source.now)).headers }
     requires plan { DoesWhat plan.now (script_of source.now) }
-    requires some { 1 ≤ window }
-    requires few { window ≤ 16 }
+    requires at_least_one { 1 ≤ window }
+    requires at_most_16 { window ≤ 16 }
     requires idle { IsIdle (C.account crew.old).events }
     requires attempts { (C.account crew.old).attempts + 2 ^ 36 ≤ 2 ^ 62 }
     requires failures { (C.account crew.old).failures + 256 ≤ 2 ^ 62 }
@@ -54,8 +54,8 @@ fn run_ready<C: Crew>(
     ensures landed { in_flight (C.account crew.new).events ≡ in_flight (C.account crew.old).events }
     ensures begun { OnErr result (HasRunPart window (script_of source.now) start (C.account crew.old) (C.account crew.new)) }
     ensures meant { IfOk result (λ r. IsMeant window (script_of source.now) start (C.account crew.old) (C.account crew.new) r.report) }
-    ensures things { IfOk result (λ r. r.things ≡ things (script_of source.now) start templates.now r.report) }
-    ensures handed { IfOk result (λ r. r.report.handed ≡ length r.things) }
+    ensures artifacts { IfOk result (λ r. r.artifacts ≡ artifacts (script_of source.now) start templates.now r.report) }
+    ensures handed { IfOk result (λ r. r.report.handed ≡ length r.artifacts) }
     ensures reads_back { IfOk result (λ r. IfCompleted r.report.outcome (ReadsBack (record_after (script_of source.now) start r.report))) }
     ensures saved { IfOk result (λ r. IfNamed start.cache_name (IsCacheOf r.report.vars)) }
 {
@@ -69,7 +69,7 @@ fn run_ready<C: Crew>(
     } = start;
     let end = run(alloc, plan, vars, crew, window)?;
     let outcome = outcome_of(end.outcome);
-    let things = things_of(
+    let artifacts = artifacts_of(
         alloc,
         source,
         cache_name.as_ref(),
@@ -83,7 +83,7 @@ fn run_ready<C: Crew>(
     )?;
     let messages = joined(alloc, &notes, end.messages)?;
     let log = with_notes(alloc, &notes, end.log)?;
-    let handed = things.as_slice().len() as u64;
+    let handed = artifacts.as_slice().len() as u64;
     let report = Report {
         outcome,
         vars: end.vars,
@@ -92,18 +92,21 @@ fn run_ready<C: Crew>(
         log,
         handed,
     };
-    Ok(Ready { report, things })
+    Ok(Ready { report, artifacts })
 }
 
 /// Hands over what a run left.
 fn hand_over<O: Outputs>(ready: Ready, outputs: &mut O) -> Result<Report, Fault>
     requires puts { (O.receipt outputs.old).failures < 2 ^ 62 }
-    requires handed { ready.report.handed ≡ length ready.things }
-    ensures all { IfOk result (λ report. (report ≡ ready.report) × (O.receipt outputs.new ≡ with_things (O.receipt outputs.old) ready.things)) }
-    ensures cut { IfErr result (λ f. IsRefusedPut ready.report ready.things (O.receipt outputs.old) (O.receipt outputs.new) f) }
+    requires handed { ready.report.handed ≡ length ready.artifacts }
+    ensures all { IfOk result (λ report. (report ≡ ready.report) × (O.receipt outputs.new ≡ with_artifacts (O.receipt outputs.old) ready.artifacts)) }
+    ensures cut { IfErr result (λ f. IsRefusedPut ready.report ready.artifacts (O.receipt outputs.old) (O.receipt outputs.new) f) }
 {
-    let Ready { mut report, things } = ready;
-    match put_all(outputs, things.as_slice()) {
+    let Ready {
+        mut report,
+        artifacts,
+    } = ready;
+    match put_all(outputs, artifacts.as_slice()) {
         Ok(()) => Ok(report),
         Err(number) => {
             report.handed = number - 1;
@@ -125,8 +128,8 @@ fn configured<C: Crew, O: Outputs>(
 ) -> Result<Report, Fault>
     requires outputs { AreOutputs (lists_of (script_of source.now)).files (lists_of (script_of source.now)).headers }
     requires plan { DoesWhat plan.now (script_of source.now) }
-    requires some { 1 ≤ window }
-    requires few { window ≤ 16 }
+    requires at_least_one { 1 ≤ window }
+    requires at_most_16 { window ≤ 16 }
     requires idle { IsIdle (C.account crew.old).events }
     requires attempts { (C.account crew.old).attempts + 2 ^ 36 ≤ 2 ^ 62 }
     requires failures { (C.account crew.old).failures + 256 ≤ 2 ^ 62 }
@@ -152,8 +155,8 @@ fn whole<C: Crew, O: Outputs>(
     outputs: &mut O,
     window: usize,
 ) -> Result<Report, Fault>
-    requires some { 1 ≤ window }
-    requires few { window ≤ 16 }
+    requires at_least_one { 1 ≤ window }
+    requires at_most_16 { window ≤ 16 }
     requires idle { IsIdle (C.account crew.old).events }
     requires attempts { (C.account crew.old).attempts + 2 ^ 36 ≤ 2 ^ 62 }
     requires failures { (C.account crew.old).failures + 256 ≤ 2 ^ 62 }
@@ -166,12 +169,12 @@ fn whole<C: Crew, O: Outputs>(
 {
     let source = parsed(alloc, source)?;
     let plan = planned(alloc, &source)?;
-    match accepted(alloc, &source, args, env, cache, templates)? {
-        Found::Shows(settings) => {
+    match accept(alloc, &source, args, env, cache, templates)? {
+        Accepted::Shows(settings) => {
             let report = shown(alloc, &source, settings)?;
             Ok(report)
         }
-        Found::Starts(start) => configured(
+        Accepted::Starts(start) => configured(
             alloc, &source, &plan, start, templates, crew, outputs, window,
         ),
     }
@@ -201,8 +204,8 @@ pub fn configure<C: Crew, O: Outputs>(
     outputs: &mut O,
     window: usize,
 ) -> Result<Report, Fault>
-    requires some { 1 ≤ window }
-    requires few { window ≤ 16 }
+    requires at_least_one { 1 ≤ window }
+    requires at_most_16 { window ≤ 16 }
     requires idle { IsIdle (C.account crew.old).events }
     requires attempts { (C.account crew.old).attempts + 2 ^ 36 ≤ 2 ^ 62 }
     requires failures { (C.account crew.old).failures + 256 ≤ 2 ^ 62 }
@@ -216,16 +219,16 @@ pub fn configure<C: Crew, O: Outputs>(
         IfReport result (IsMeant window script start (C.account crew.old) (C.account crew.new))) }
     // The cache is handed over, if one is named, and after it, if the run is completed, the record and the outputs.
     ensures handed { IfStarts (judged source.now args.now env.now (option_map (λ c. c.now) cache.entry) templates.now) (λ script start.
-        IfOk result (λ report. O.receipt outputs.new ≡ with_things (O.receipt outputs.old) (things script start templates.now report))) }
+        IfOk result (λ report. O.receipt outputs.new ≡ with_artifacts (O.receipt outputs.old) (artifacts script start templates.now report))) }
     // The text of the record of a completed run is read as the record that its outputs are made of.
     ensures remade { IfStarts (judged source.now args.now env.now (option_map (λ c. c.now) cache.entry) templates.now) (λ script start.
         IfReport result (λ report. IfCompleted report.outcome (ReadsBack (record_after script start report)))) }
     // The report counts what was handed over.
     ensures reported { IfStarts (judged source.now args.now env.now (option_map (λ c. c.now) cache.entry) templates.now) (λ script start.
-        IfOk result (λ report. report.handed ≡ length (things script start templates.now report))) }
-    // If a put was refused, the things before it were handed over, each whole, and nothing after them.
+        IfOk result (λ report. report.handed ≡ length (artifacts script start templates.now report))) }
+    // If a put was refused, the artifacts before it were handed over, each whole, and nothing after them.
     ensures cut { IfStarts (judged source.now args.now env.now (option_map (λ c. c.now) cache.entry) templates.now) (λ script start.
-        IfPutRefused result (λ number report. IsCut (things script start templates.now report) (O.receipt outputs.old) (O.receipt outputs.new) number report)) }
+        IfPutRefused result (λ number report. IsCut (artifacts script start templates.now report) (O.receipt outputs.old) (O.receipt outputs.new) number report)) }
     // If a cache is named, its text holds each cache name that was set when the run began, that a
     // statement assigned, or that a test which came to its end left set, with its value at the end,
     // unless that has a newline. It holds nothing else.

@@ -26,5 +26,5 @@ mod remaking;
 pub use agreeing::configures_agree;
 pub use configuring::configure;
 pub use framing::{Fault, Outcome, RemakeFault, Report, recheck_args, remake, status_of};
-pub use outputs::{Kind, MemoryOutputs, Outputs, PutRefused, Thing};
+pub use outputs::{Artifact, Kind, MemoryOutputs, Outputs, PutRefused};
 pub use remaking::remakes_agree;

@@ -4,15 +4,15 @@ use Rattle.std.proofs.lemmas.Bool.Decides.{eqb_tells}
 use Rattle.std.specs.Prelude.{◌==◌, IfOk, IfErr, IsErrAnd, replicate}
 use Rattle.crew_trait.specs.Events.{Account, replies_in}
 use Rattle.crew_trait.specs.declared.reply.Reply.TheVariants.{StartRefused}
-use Rattle.engine.specs.Configured.{Ran, RunEnd, outcome_from, IfReport, IfStarts, IsAnswer, IsMeant, things}
+use Rattle.engine.specs.Configured.{Ran, RunEnd, outcome_from, IfReport, IfStarts, IsAnswer, IsMeant, artifacts}
 use Rattle.framing.specs.Given.{Accepted, Shows, Starts}
-use Rattle.framing.specs.declared.accepting.Start.{Start}
+use Rattle.framing.specs.declared.inputs.Start.{Start}
 use Rattle.framing.specs.declared.fault.Fault.{Fault}
 use Rattle.framing.specs.declared.fault.Fault.TheVariants as faults
 use Rattle.framing.specs.declared.report.Report.{Report}
 use Rattle.meaning.specs.Play.{play, all_jobs, first_refused}
 use Rattle.meaning.specs.State.{Run}
-use Rattle.outputs.specs.Receipt.{Receipt, with_things}
+use Rattle.outputs.specs.Receipt.{Receipt, with_artifacts}
 use Rattle.syntax.specs.Script.{Script}
 use Rattle.filtering.specs.Faults.{of_run}
 use Rattle.filtering.specs.Handed.{IsNotRun, refused, no_memory, IsReported}
@@ -48,9 +48,9 @@ is_alone script start before now report fresh none m = record { end = m.end; ran
 
 pub is_reported : (j : Result Accepted Fault) (templates : List (List ℕ × List ℕ)) (before now : Account) (old new : Receipt) (report : Report) → before.events ≡ [] → now.events ≡ [] → old.handed ≡ []
     → IsAnswer j (Ok report) → IfStarts j (λ script start. IfReport (Ok report) (IsMeant 1 script start before now))
-    → IfStarts j (λ script start. IfOk (let r : Result Report Fault = Ok report in r) (λ r. new ≡ with_things old (things script start templates r))) → IsReported j templates report new.handed
+    → IfStarts j (λ script start. IfOk (let r : Result Report Fault = Ok report in r) (λ r. new ≡ with_artifacts old (artifacts script start templates r))) → IsReported j templates report new.handed
 is_reported (Ok (Starts script start)) templates before now old new report fresh none empty a m h =
-    (is_alone script start before now report fresh none m, ap (λ (r : Receipt). r.handed) h ∙ ap (λ l. l ++ things script start templates report) empty)
+    (is_alone script start before now report fresh none m, ap (λ (r : Receipt). r.handed) h ∙ ap (λ l. l ++ artifacts script start templates report) empty)
 is_reported (Ok (Shows script settings)) templates before now old new report fresh none empty a m h = cc
 is_reported (Err f) templates before now old new report fresh none empty a m h = cc
 

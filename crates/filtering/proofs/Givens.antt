@@ -3,18 +3,18 @@ use Rattle.std.proofs.Common.{◌≡◌, ℕ, List, [], Result, Ok, Err, None, r
 use Rattle.std.specs.Prelude.{IfOk, IfErr, nat_le}
 use Rattle.acparse.specs.Profile.{source_of}
 use Rattle.commandline.specs.Arguments.{given}
-use Rattle.engine.specs.Configured.{things}
+use Rattle.engine.specs.Configured.{artifacts}
 use Rattle.framing.specs.Faults.{◌>>=◌, named, of_parse, wants}
 use Rattle.engine.specs.Judged.{judged}
 use Rattle.framing.specs.Given.{Accepted, Starts, accepted, started}
-use Rattle.framing.specs.declared.accepting.Start.{Start}
+use Rattle.framing.specs.declared.inputs.Start.{Start}
 use Rattle.framing.specs.declared.fault.Fault.{Fault}
 use Rattle.framing.specs.declared.fault.Fault.TheVariants.{Plan}
 use Rattle.framing.specs.declared.report.Report.{Report}
 use Rattle.options.specs.Opening.{opened_by, opening, run_settings, set_by, setters}
 use Rattle.options.specs.Unrecognized.{notes_of}
 use Rattle.options.specs.declared.settings.Settings.{Settings}
-use Rattle.outputs.specs.declared.thing.Thing.{Thing}
+use Rattle.outputs.specs.declared.artifact.Artifact.{Artifact}
 use Rattle.plan.specs.Weight.{heaviest, weight}
 use Rattle.plan.specs.declared.fault.PlanFault.TheVariants.{TooLong}
 use Rattle.syntax.specs.Lists.{lists_of}
@@ -42,17 +42,17 @@ judged_is source templates s is =
     ap (λ r. named of_parse r >>= after_source templates) is ∙ ap (λ a. wants (nat_le (weight s) heaviest) (Plan TooLong) >>= λ _. a) (accepted_alone templates s)
 
 -- What a report is of, if no text can be shown.
-record IsStarted (j : Result Accepted Fault) (s : Script) (templates : List (List ℕ × List ℕ)) (report : Report) (handed : List Thing) : Type 0 where
+record IsStarted (j : Result Accepted Fault) (s : Script) (templates : List (List ℕ × List ℕ)) (report : Report) (handed : List Artifact) : Type 0 where
   start : Start
   is : j ≡ Ok (Starts s start)
   alone : IsAlone s start report
-  things_are : handed ≡ things s start templates report
+  artifacts_are : handed ≡ artifacts s start templates report
 
-is_started : (fits : Result (Unit {0}) Fault) (begun : Result Start Fault) (j : Result Accepted Fault) (s : Script) (templates : List (List ℕ × List ℕ)) (report : Report) (handed : List Thing)
+is_started : (fits : Result (Unit {0}) Fault) (begun : Result Start Fault) (j : Result Accepted Fault) (s : Script) (templates : List (List ℕ × List ℕ)) (report : Report) (handed : List Artifact)
     → j ≡ (fits >>= λ _. (begun >>= λ start. Ok (Starts s start))) → IsReported j templates report handed → IsStarted j s templates report handed
 is_started (Ok u) (Ok start) j s templates report handed is h =
     let k : IsReported (Ok (Starts s start)) templates report handed = subst (λ x. IsReported x templates report handed) is h in
-    record { start = start; is = is; alone = k.0; things_are = k.1 }
+    record { start = start; is = is; alone = k.0; artifacts_are = k.1 }
 is_started (Ok u) (Err f) j s templates report handed is h = absurd (subst (λ x. IsReported x templates report handed) is h)
 is_started (Err f) begun j s templates report handed is h = absurd (subst (λ x. IsReported x templates report handed) is h)
 
@@ -65,7 +65,7 @@ run_of source template out errors status s is t =
       accepted = b.is;
       report = t.report;
       alone = b.alone;
-      written = t.written ∙ ap first_text b.things_are;
+      written = t.written ∙ ap first_text b.artifacts_are;
       told = t.told;
       exits = t.exits;
     }

@@ -9,9 +9,9 @@ use Rattle.acparse.specs.Source.{IsSource, IsSourceFault}
 use Rattle.framing.specs.Faults.{of_parse}
 use Rattle.framing.specs.Given.{Accepted}
 use Rattle.framing.specs.declared.fault.Fault.{Fault}
-use Rattle.input.specs.Parted.{IsParted}
-use Rattle.input.specs.declared.fault.ReadFault.{ReadFault}
-use Rattle.input.specs.declared.fault.ReadFault.TheVariants as reads
+use Rattle.filter_input.specs.Parted.{IsParted}
+use Rattle.filter_input.specs.declared.fault.ReadFault.{ReadFault}
+use Rattle.filter_input.specs.declared.fault.ReadFault.TheVariants as reads
 use Rattle.syntax.specs.Script.{Script}
 use Rattle.filtering.specs.Faults.{of_run}
 use Rattle.filtering.specs.Filtered.{IsRun, IsFiltered, IsInputFault, IsRefused, fault, unread, unwritten, memory, parse, not_run, no_memory_to_parse}

@@ -6,13 +6,13 @@ use Rattle.acparse.specs.Profile.{source_of}
 use Rattle.acparse.specs.Source.{IsSource, IsSourceFault}
 use Rattle.cfglog.specs.Texts.{messages_of}
 use Rattle.deftable.specs.declared.note.Stream.TheVariants as streams
-use Rattle.engine.specs.Configured.{things}
+use Rattle.engine.specs.Configured.{artifacts}
 use Rattle.framing.specs.Given.{Starts}
 use Rattle.framing.specs.Told.{status_of}
-use Rattle.framing.specs.declared.accepting.Start.{Start}
+use Rattle.framing.specs.declared.inputs.Start.{Start}
 use Rattle.framing.specs.declared.fault.Fault.TheVariants.{Parse}
 use Rattle.framing.specs.declared.report.Report.{Report}
-use Rattle.input.specs.Parted.{IsParted, HasNoMarker}
+use Rattle.filter_input.specs.Parted.{IsParted, HasNoMarker}
 use Rattle.syntax.specs.Script.{Script}
 use Rattle.filtering.specs.Handed.{templates_of, judged_alone, first_text, IsNotRun}
 use Rattle.filtering.specs.Ran.{IsAlone}
@@ -32,7 +32,7 @@ pub record IsRun (source : List ℕ) (s : Script) (template out errors : List �
   pub accepted : judged_alone source (templates_of s template) ≡ Ok (Starts s start)
   pub report : Report
   pub alone : IsAlone s start report
-  pub written : out ≡ first_text (things s start (templates_of s template) report)
+  pub written : out ≡ first_text (artifacts s start (templates_of s template) report)
   pub told : errors ≡ messages_of streams.Err false report.messages
   pub exits : status ≡ status_of report.outcome
 

@@ -2,7 +2,7 @@
 use Rattle.std.specs.Prelude.{◌≡◌, ℕ, Bool, true, false, List, [], ◌∷◌, Option, Some, None, Result, Ok, Err, find}
 use Rattle.cfglog.specs.Texts.{messages_of}
 use Rattle.deftable.specs.declared.note.Stream.TheVariants as streams
-use Rattle.engine.specs.Configured.{things}
+use Rattle.engine.specs.Configured.{artifacts}
 use Rattle.engine.specs.Judged.{judged}
 use Rattle.framing.specs.Given.{Accepted, Shows, Starts}
 use Rattle.framing.specs.Shown.{shown_report}
@@ -10,9 +10,9 @@ use Rattle.framing.specs.Told.{status_of}
 use Rattle.framing.specs.declared.fault.Fault.{Fault}
 use Rattle.framing.specs.declared.report.Report.{Report}
 use Rattle.outputlist.specs.declared.output.Output.{Output}
-use Rattle.outputs.specs.declared.thing.Kind as kind
-use Rattle.outputs.specs.declared.thing.Kind.TheVariants as kinds
-use Rattle.outputs.specs.declared.thing.Thing.{Thing}
+use Rattle.outputs.specs.declared.artifact.Kind as kind
+use Rattle.outputs.specs.declared.artifact.Kind.TheVariants as kinds
+use Rattle.outputs.specs.declared.artifact.Artifact.{Artifact}
 use Rattle.syntax.specs.Lists.{lists_of}
 use Rattle.syntax.specs.Script.{Script}
 use Rattle.filtering.specs.Ran.{IsAlone}
@@ -38,8 +38,8 @@ pub data IsNotRun (judged : Result Accepted Fault) : FilterFault → Type 0 wher
   no_memory : IsNotRun judged OutOfMemory
 
 -- The report of what is accepted, and what is handed over. (own)
-abbrev pub IsReported : Result Accepted Fault → List (List ℕ × List ℕ) → Report → List Thing → Type 0
-IsReported (Ok (Starts script start)) templates report handed = IsAlone script start report × (handed ≡ things script start templates report)
+abbrev pub IsReported : Result Accepted Fault → List (List ℕ × List ℕ) → Report → List Artifact → Type 0
+IsReported (Ok (Starts script start)) templates report handed = IsAlone script start report × (handed ≡ artifacts script start templates report)
 IsReported (Ok (Shows script settings)) templates report handed = report ≡ shown_report script settings
 IsReported (Err f) templates report handed = ⊥
 
@@ -48,24 +48,24 @@ abbrev pub is_file_kind : kind.Kind → Bool
 is_file_kind kinds.File = true
 is_file_kind other = false
 
--- The thing is a file. (own)
-abbrev pub is_file : Thing → Bool
-is_file thing = is_file_kind thing.kind
+-- The artifact is a file. (own)
+abbrev pub is_file : Artifact → Bool
+is_file artifact = is_file_kind artifact.kind
 
--- The text of a thing, and none if there is no thing. (own)
-abbrev pub text_of : Option Thing → List ℕ
+-- The text of an artifact, and none if there is no artifact. (own)
+abbrev pub text_of : Option Artifact → List ℕ
 text_of None = []
-text_of (Some thing) = thing.text
+text_of (Some artifact) = artifact.text
 
--- The text of the first file among these things, and none if there is no file. (own)
-abbrev pub first_text : List Thing → List ℕ
-first_text things = text_of (find is_file things)
+-- The text of the first file among these artifacts, and none if there is no file. (own)
+abbrev pub first_text : List Artifact → List ℕ
+first_text artifacts = text_of (find is_file artifacts)
 
 -- What the filter takes of what follows from what is given: the text of the first file that is handed over, what the report has for
 -- standard error, and the exit status. (own)
 pub record IsTaken (judged : Result Accepted Fault) (templates : List (List ℕ × List ℕ)) (out errors : List ℕ) (status : ℕ) : Type 0 where
   pub report : Report
-  pub handed : List Thing
+  pub handed : List Artifact
   pub reported : IsReported judged templates report handed
   pub written : out ≡ first_text handed
   pub told : errors ≡ messages_of streams.Err false report.messages

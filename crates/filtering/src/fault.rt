@@ -1,7 +1,7 @@
 //! Why the filter writes no text.
 
 ghost use Rattle.std.specs.Prelude.{◌≡◌, Some};
-ghost use Rattle.input.specs.declared.fault.ReadFault.TheVariants.{Read as Unread, OutOfMemory as NoReadMemory};
+ghost use Rattle.filter_input.specs.declared.fault.ReadFault.TheVariants.{Read as Unread, OutOfMemory as NoReadMemory};
 ghost use Rattle.framing.specs.Faults.{of_parse};
 ghost use Rattle.filtering.specs.Faults.{of_run};
 ghost use Rattle.filtering.specs.FaultText.{filter_text};
@@ -9,7 +9,7 @@ ghost use Rattle.filtering.specs.declared.fault.FilterFault.TheVariants.{OutOfMe
 
 use acparse::ParseFault;
 use engine::Fault;
-use input::ReadFault;
+use filter_input::ReadFault;
 use std::alloc::{AllocError, AllocFailed};
 use std::error::Error;
 use std::fmt;

@@ -14,8 +14,8 @@
 #![tactic(auto)]
 
 mod fault;
+mod result;
 mod running;
-mod taking;
 mod whole;
 
 pub use fault::FilterFault;

@@ -10,12 +10,12 @@ ghost use Rattle.filtering.specs.Handed.{IsNotRun, judged_alone, templates_of};
 ghost use Rattle.filtering.specs.declared.fault.FilterFault.{FilterFault};
 
 use crate::fault::FilterFault;
+use crate::result::{Written, taken};
 use crate::running::run_alone;
-use crate::taking::{Written, taken};
 use acparse::parse;
 use deftable::Bytes;
 use engine::MemoryOutputs;
-use input::{marker_place, read_input};
+use filter_input::{marker_place, read_input};
 use outputlist::Output;
 use std::alloc::{AllocError, Global};
 use std::io::{Read, Write};

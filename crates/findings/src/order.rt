@@ -14,7 +14,7 @@ use std::alloc::AllocError;
 ///
 /// Fails only if memory runs out, and then changes nothing.
 pub fn put_in_order(findings: &mut Vec<Finding>) -> Result<(), AllocError>
-    ensures same { IsPermutation findings.old.items findings.new.items }
+    ensures permutation { IsPermutation findings.old.items findings.new.items }
     ensures len { vec_len findings.new ≡ vec_len findings.old }
     ensures sorted { OnOk result (IsSorted place_cmp findings.new.items) }
     ensures stable { OnOk result (IsStable place_cmp findings.old.items findings.new.items) }

@@ -12,9 +12,9 @@ use Rattle.outputlist.specs.declared.output.Output.{Output}
 use Rattle.syntax.specs.Lists.{lists_of}
 use Rattle.syntax.specs.Script.{Script}
 use Rattle.framing.specs.Faults.{of_option, of_cache, of_precious, named, ◌>>=◌}
-use Rattle.framing.specs.declared.accepting.Start.{Start}
-use Rattle.framing.specs.declared.accepting.Found as found
-use Rattle.framing.specs.declared.accepting.Found.TheVariants as founds
+use Rattle.framing.specs.declared.inputs.Start.{Start}
+use Rattle.framing.specs.declared.inputs.Accepted as found
+use Rattle.framing.specs.declared.inputs.Accepted.TheVariants as founds
 use Rattle.framing.specs.declared.fault.Fault.{Fault}
 use Rattle.framing.specs.declared.fault.Fault.TheVariants.{NoTemplate}
 
@@ -63,6 +63,6 @@ accepted arguments environment cache templates script = do
       else (started arguments cache templates script settings >>= λ start. Ok (Starts script start))
 
 -- What a function found, given the statements. (own)
-abbrev pub seen : Script → found.Found → Accepted
+abbrev pub seen : Script → found.Accepted → Accepted
 seen script (founds.Shows settings) = Shows script settings
 seen script (founds.Starts start) = Starts script start

@@ -4,8 +4,8 @@ use Rattle.cachefile.specs.Cache.{limit}
 use Rattle.cachefile.specs.Text as cachefile
 pub use Rattle.cachefile.specs.Text.{cache_text_of, AreInOrder, lines_for, is_one_line, saved_value}
 use Rattle.making.specs.Making.{made, record_of_run}
-use Rattle.outputs.specs.declared.thing.Thing.{Thing}
-use Rattle.outputs.specs.declared.thing.Kind.TheVariants.{Cache, Record as Recorded}
+use Rattle.outputs.specs.declared.artifact.Artifact.{Artifact}
+use Rattle.outputs.specs.declared.artifact.Kind.TheVariants.{Cache, Record as Recorded}
 use Rattle.status_record.specs.Reading.{record_in}
 use Rattle.status_record.specs.RecordText.{record_text}
 use Rattle.status_record.specs.declared.record.Record.{Record}
@@ -15,9 +15,9 @@ use Rattle.framing.specs.declared.report.Outcome.{Outcome}
 use Rattle.framing.specs.declared.report.Outcome.TheVariants.{Completed, Stopped, CutShort, Shown}
 
 -- The cache, if one is named. (Autoconf's manual, "Cache Files")
-abbrev pub cache_things : Option (List ℕ) → List (List ℕ × List ℕ) → List Thing
-cache_things None vars = []
-cache_things (Some name) vars = record { kind = Cache; name = name; text = cache_text_of vars } ∷ []
+abbrev pub cache_artifacts : Option (List ℕ) → List (List ℕ × List ℕ) → List Artifact
+cache_artifacts None vars = []
+cache_artifacts (Some name) vars = record { kind = Cache; name = name; text = cache_text_of vars } ∷ []
 
 -- If a cache is named, this holds. (own)
 abbrev pub IfNamed : Option (List ℕ) → Type 0 → Type 0
@@ -42,22 +42,22 @@ run_record script srcdir args vars defs =
     record_of_run vars defs (lists_of script).substituted srcdir args (lists_of script).files (lists_of script).headers
 
 -- The record. (Autoconf's manual, "config.status Invocation")
-abbrev pub record_thing : Record → Thing
-record_thing r = record { kind = Recorded; name = codes "config.status"; text = record_text r }
+abbrev pub record_artifact : Record → Artifact
+record_artifact r = record { kind = Recorded; name = codes "config.status"; text = record_text r }
 
 -- The files and headers that are made of a record, if they are wanted. (Autoconf's manual, "config.status Invocation")
-abbrev pub wanted_outputs : Bool → List (List ℕ × List ℕ) → Record → List Thing
+abbrev pub wanted_outputs : Bool → List (List ℕ × List ℕ) → Record → List Artifact
 wanted_outputs no_create templates r = if no_create then [] else made r templates []
 
 -- What a completed run hands over after its cache: its record, and the files and headers that are made of it.
 -- (Autoconf's manual, "config.status Invocation")
-abbrev pub completed_things : Bool → List (List ℕ × List ℕ) → Record → List Thing
-completed_things no_create templates r = record_thing r ∷ wanted_outputs no_create templates r
+abbrev pub completed_artifacts : Bool → List (List ℕ × List ℕ) → Record → List Artifact
+completed_artifacts no_create templates r = record_artifact r ∷ wanted_outputs no_create templates r
 
 -- What a run with this outcome, these variables and this record hands over. (own)
-unfoldable pub things_of : Option (List ℕ) → Bool → List (List ℕ × List ℕ) → Outcome → List (List ℕ × List ℕ) → Record → List Thing
-things_of cache_name no_create templates Completed vars r = cache_things cache_name vars ++ completed_things no_create templates r
-things_of cache_name no_create templates outcome vars r = cache_things cache_name vars
+unfoldable pub artifacts_of : Option (List ℕ) → Bool → List (List ℕ × List ℕ) → Outcome → List (List ℕ × List ℕ) → Record → List Artifact
+artifacts_of cache_name no_create templates Completed vars r = cache_artifacts cache_name vars ++ completed_artifacts no_create templates r
+artifacts_of cache_name no_create templates outcome vars r = cache_artifacts cache_name vars
 
 -- If the run is completed, this holds. (own)
 abbrev pub IfCompleted : Outcome → Type 0 → Type 0

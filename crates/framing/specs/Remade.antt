@@ -4,8 +4,8 @@ use Rattle.making.specs.Choice.{missing}
 pub use Rattle.making.specs.Choice.{unknown, is_chosen, chosen}
 unfoldable pub use Rattle.making.specs.Making.{made, made_file, made_header}
 use Rattle.outputlist.specs.declared.output.Output.{Output}
-use Rattle.outputs.specs.Receipt.{Receipt, with_things, IsCutAt}
-use Rattle.outputs.specs.declared.thing.Thing.{Thing}
+use Rattle.outputs.specs.Receipt.{Receipt, with_artifacts, IsCutAt}
+use Rattle.outputs.specs.declared.artifact.Artifact.{Artifact}
 use Rattle.status_record.specs.Reading.{record_in}
 use Rattle.status_record.specs.declared.record.Record.{Record}
 use Rattle.framing.specs.Faults.{of_record, named, ◌>>=◌}
@@ -28,7 +28,7 @@ present r templates tags = none_missing (missing templates r.files tags) >>= λ 
 
 -- What the text of a record gives with these templates, if these tags are chosen, or its first fault. (Autoconf's manual,
 -- "config.status Invocation")
-unfoldable pub remade : List ℕ → List (List ℕ × List ℕ) → List (List ℕ) → Result (List Thing) RemakeFault
+unfoldable pub remade : List ℕ → List (List ℕ × List ℕ) → List (List ℕ) → Result (List Artifact) RemakeFault
 remade text templates tags = do
   r ← named of_record (record_in text)
   _ ← none_unknown (unknown r tags)
@@ -36,13 +36,13 @@ remade text templates tags = do
   Ok (made r templates tags)
 
 -- What is returned: a fault, and nothing is handed over; or everything is handed over; or a put was refused. (own)
-pub data IsRemade (wanted : Result (List Thing) RemakeFault) (same : Type 0) (old new : Receipt) : Result ℕ RemakeFault → Type 0 where
+pub data IsRemade (wanted : Result (List Artifact) RemakeFault) (same : Type 0) (old new : Receipt) : Result ℕ RemakeFault → Type 0 where
   refused : {f : RemakeFault} → wanted ≡ Err f → same → IsRemade wanted same old new (Err f)
   memory : same → IsRemade wanted same old new (Err OutOfMemory)
-  all : {things : List Thing} → wanted ≡ Ok things → new ≡ with_things old things → IsRemade wanted same old new (Ok (length things))
-  cut : {things : List Thing} {k : ℕ} → wanted ≡ Ok things → IsCutAt things old new k → IsRemade wanted same old new (Err (PutRefused k))
+  all : {artifacts : List Artifact} → wanted ≡ Ok artifacts → new ≡ with_artifacts old artifacts → IsRemade wanted same old new (Ok (length artifacts))
+  cut : {artifacts : List Artifact} {k : ℕ} → wanted ≡ Ok artifacts → IsCutAt artifacts old new k → IsRemade wanted same old new (Err (PutRefused k))
 
--- All of these things were handed over, or put number k was refused. (own)
-abbrev pub IsPut : List Thing → Receipt → Receipt → Result ℕ RemakeFault → Type 0
-IsPut things old new (Ok n) = (n ≡ length things) × (new ≡ with_things old things)
-IsPut things old new (Err f) = (k : ℕ) × (f ≡ PutRefused k) × IsCutAt things old new k
+-- All of these artifacts were handed over, or put number k was refused. (own)
+abbrev pub IsPut : List Artifact → Receipt → Receipt → Result ℕ RemakeFault → Type 0
+IsPut artifacts old new (Ok n) = (n ≡ length artifacts) × (new ≡ with_artifacts old artifacts)
+IsPut artifacts old new (Err f) = (k : ℕ) × (f ≡ PutRefused k) × IsCutAt artifacts old new k

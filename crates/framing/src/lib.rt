@@ -1,8 +1,8 @@
 //! What comes before and after a run: its inputs are accepted or refused, and its results become what it hands over.
 //! Nothing here reads a source or starts a child.
 //!
-//! [`accepted`] goes over the arguments, the environment, the cache and the templates of a source, up to the first
-//! fault. It returns what a run begins with, or that a text is to be [`shown`]. [`things_of`] makes the cache, the
+//! [`accept`] goes over the arguments, the environment, the cache and the templates of a source, up to the first
+//! fault. It returns what a run begins with, or that a text is to be [`shown`]. [`artifacts_of`] makes the cache, the
 //! record, the files and the headers that a run hands over. [`remake`] makes files and headers again from a record, and
 //! puts them, and [`recheck_args`] returns the arguments with which a run is made again. The crate `engine` puts the
 //! run in between.
@@ -19,19 +19,19 @@
 //! `noting`, `report` and `fault` are small.
 #![tactic(auto)]
 
-mod accepting;
+mod artifacts;
 mod fault;
-mod handing;
-mod noting;
+mod inputs;
+mod notes;
 mod rechecking;
 mod remaking;
 mod report;
 mod showing;
 
-pub use accepting::{Found, Start, accepted, planned};
+pub use artifacts::artifacts_of;
 pub use fault::{Fault, RemakeFault};
-pub use handing::things_of;
-pub use noting::{joined, with_notes};
+pub use inputs::{Accepted, Start, accept, planned};
+pub use notes::{joined, with_notes};
 pub use rechecking::recheck_args;
 pub use remaking::remake;
 pub use report::{Outcome, Report, status_of};

@@ -12,7 +12,7 @@ use crate::fault::RemakeFault;
 use deftable::Bytes;
 use making::{find_missing, find_unknown, make_outputs};
 use outputlist::Output;
-use outputs::{Outputs, Thing, Things, put_all};
+use outputs::{Artifact, Artifacts, Outputs, put_all};
 use status_record::{Record, read_record};
 use std::alloc::Global;
 
@@ -72,7 +72,7 @@ fn outputs_of(
     recorded: &Record,
     templates: &[(Bytes, Bytes)],
     tags: &[Bytes],
-) -> Result<Things, RemakeFault>
+) -> Result<Artifacts, RemakeFault>
     ensures { GivesAgain (λ t. t) result (Ok (made recorded.now templates.now tags.now)) }
 {
     Ok(make_outputs(alloc, recorded, templates, tags)?)
@@ -80,12 +80,12 @@ fn outputs_of(
 
 /// Returns what a record's text gives.
 #[tactic(auto, unfolding(crate::specs::Remade::remade))]
-fn things_in(
+fn artifacts_in(
     alloc: Global,
     text: &[u8],
     templates: &[(Bytes, Bytes)],
     tags: &[Bytes],
-) -> Result<Things, RemakeFault>
+) -> Result<Artifacts, RemakeFault>
     ensures { GivesAgain (λ t. t) result (words.remade text.now templates.now tags.now) }
 {
     let record = read(alloc, text)?;
@@ -94,13 +94,13 @@ fn things_in(
     outputs_of(alloc, &record, templates, tags)
 }
 
-/// Hands over things.
-fn put_things<O: Outputs>(outputs: &mut O, things: &[Thing]) -> Result<usize, RemakeFault>
+/// Hands over artifacts.
+fn put_artifacts<O: Outputs>(outputs: &mut O, artifacts: &[Artifact]) -> Result<usize, RemakeFault>
     requires { (O.receipt outputs.old).failures < 2 ^ 62 }
-    ensures { words.IsPut things.now (O.receipt outputs.old) (O.receipt outputs.new) result }
+    ensures { words.IsPut artifacts.now (O.receipt outputs.old) (O.receipt outputs.new) result }
 {
-    match put_all(outputs, things) {
-        Ok(()) => Ok(things.len()),
+    match put_all(outputs, artifacts) {
+        Ok(()) => Ok(artifacts.len()),
         Err(number) => Err(RemakeFault::PutRefused(number)),
     }
 }
@@ -112,7 +112,7 @@ fn put_things<O: Outputs>(outputs: &mut O, things: &[Thing]) -> Result<usize, Re
 ///
 /// # Errors
 ///
-/// Returns the first fault, in the order of [`RemakeFault`]. If a put is refused, the things before it were handed over,
+/// Returns the first fault, in the order of [`RemakeFault`]. If a put is refused, the artifacts before it were handed over,
 /// each whole; after any other fault nothing is handed over.
 pub fn remake<O: Outputs>(
     alloc: Global,
@@ -124,6 +124,6 @@ pub fn remake<O: Outputs>(
     requires puts { (O.receipt outputs.old).failures + 256 ≤ 2 ^ 62 }
     ensures remade { words.IsRemade (words.remade text.now templates.now tags.now) (outputs.new ≡ outputs.old) (O.receipt outputs.old) (O.receipt outputs.new) result }
 {
-    let things = things_in(alloc, text, templates, tags)?;
-    put_things(outputs, things.as_slice())
+    let artifacts = artifacts_in(alloc, text, templates, tags)?;
+    put_artifacts(outputs, artifacts.as_slice())
 }

@@ -33,7 +33,7 @@ pub struct Report {
     pub messages: Notes,
     /// The same pieces, and the children that were asked for. If a text is shown, it is empty.
     pub log: Log,
-    /// The number of things that were handed over.
+    /// The number of artifacts that were handed over.
     pub handed: u64,
 }
 

@@ -2,7 +2,7 @@
 use Rattle.std.proofs.Common.{◌≡◌, ℕ, ◌+◌, Bool, true, false, not, cond, List, [], ◌∷◌, Option, Some, None, Result, Ok, Err, refl, sym, ap, ◌∙◌}
 use Rattle.std.specs.Prelude.{◌||◌, IsTrue}
 use Rattle.std.specs.List.{list_any}
-use Rattle.commandline.specs.Arguments.{Said, Turns, Gives, Awaits, Chooses, Misnames, Assigns, Misassigns, Nothing, alone, and_then, awaited_by, given, said_by}
+use Rattle.commandline.specs.Arguments.{Argument, Flag, OptionValue, OptionName, FeatureValue, BadFeatureName, VariableValue, BadVariableName, Unrecognized, alone, and_then, awaited_by, given, read_argument}
 use Rattle.commandline.specs.CommandLine.{Setting, valued}
 use Rattle.commandline.specs.Reading.{◌>>=◌}
 use Rattle.commandline.specs.declared.argument.Switch.TheVariants.{ConfigCache, Quiet, NoCreate, Help, Version, Ignored}
@@ -34,20 +34,20 @@ value_quiet (InstallDirectory directory) value = refl
 value_quiet Srcdir value = refl
 value_quiet CacheFile value = refl
 
-alone_quiet : (i : ℕ) (said : Said) → one_quiet (alone i said) ≡ turns_quiet said
-alone_quiet i (Turns ConfigCache) = refl
-alone_quiet i (Turns Quiet) = refl
-alone_quiet i (Turns NoCreate) = refl
-alone_quiet i (Turns Help) = refl
-alone_quiet i (Turns Version) = refl
-alone_quiet i (Turns Ignored) = refl
-alone_quiet i (Gives target value) = value_quiet target value
-alone_quiet i (Awaits target) = refl
-alone_quiet i (Chooses kind name value option) = refl
-alone_quiet i Misnames = refl
-alone_quiet i (Assigns name value) = refl
-alone_quiet i Misassigns = refl
-alone_quiet i Nothing = refl
+alone_quiet : (i : ℕ) (said : Argument) → one_quiet (alone i said) ≡ turns_quiet said
+alone_quiet i (Flag ConfigCache) = refl
+alone_quiet i (Flag Quiet) = refl
+alone_quiet i (Flag NoCreate) = refl
+alone_quiet i (Flag Help) = refl
+alone_quiet i (Flag Version) = refl
+alone_quiet i (Flag Ignored) = refl
+alone_quiet i (OptionValue target value) = value_quiet target value
+alone_quiet i (OptionName target) = refl
+alone_quiet i (FeatureValue kind name value option) = refl
+alone_quiet i BadFeatureName = refl
+alone_quiet i (VariableValue name value) = refl
+alone_quiet i BadVariableName = refl
+alone_quiet i Unrecognized = refl
 
 or_mono : (a b c : Bool) → (b ≡ true → c ≡ true) → (a || b) ≡ true → (a || c) ≡ true
 or_mono true b c h e = refl
@@ -58,29 +58,29 @@ or_second true b e = refl
 or_second false b e = e
 
 -- What follows an argument with this reading.
-abbrev after_said : Said → ℕ → List (List ℕ) → Result (List Setting) OptionFault
+abbrev after_said : Argument → ℕ → List (List ℕ) → Result (List Setting) OptionFault
 after_said said i more = elim (awaited_by said) [
   | Some target ↦ given (Some target) (i + 1) more
   | None ↦ and_then (alone (i + 1) said) (given None (i + 1) more)
 ]
 
-by_itself : (i : ℕ) (said : Said) (more : List (List ℕ)) → (any_quiet (given None (i + 1) more) ≡ true → list_any is_quiet more ≡ true)
+by_itself : (i : ℕ) (said : Argument) (more : List (List ℕ)) → (any_quiet (given None (i + 1) more) ≡ true → list_any is_quiet more ≡ true)
     → any_quiet (and_then (alone (i + 1) said) (given None (i + 1) more)) ≡ true → (turns_quiet said || list_any is_quiet more) ≡ true
 by_itself i said more later e =
     or_mono (turns_quiet said) _ _ later
     (sym (ap (λ b. b || any_quiet (given None (i + 1) more)) (alone_quiet (i + 1) said)) ∙ one_more (alone (i + 1) said) (given None (i + 1) more) e)
 
-by_reading : (said : Said) (i : ℕ) (more : List (List ℕ)) → (any_quiet (given None (i + 1) more) ≡ true → list_any is_quiet more ≡ true)
+by_reading : (said : Argument) (i : ℕ) (more : List (List ℕ)) → (any_quiet (given None (i + 1) more) ≡ true → list_any is_quiet more ≡ true)
     → ((target : Target) → any_quiet (given (Some target) (i + 1) more) ≡ true → list_any is_quiet more ≡ true)
     → any_quiet (after_said said i more) ≡ true → (turns_quiet said || list_any is_quiet more) ≡ true
-by_reading (Awaits target) i more later awaited e = awaited target e
-by_reading (Turns switch) i more later awaited e = by_itself i (Turns switch) more later e
-by_reading (Gives target value) i more later awaited e = by_itself i (Gives target value) more later e
-by_reading (Chooses kind name value option) i more later awaited e = by_itself i (Chooses kind name value option) more later e
-by_reading Misnames i more later awaited e = by_itself i Misnames more later e
-by_reading (Assigns name value) i more later awaited e = by_itself i (Assigns name value) more later e
-by_reading Misassigns i more later awaited e = by_itself i Misassigns more later e
-by_reading Nothing i more later awaited e = by_itself i Nothing more later e
+by_reading (OptionName target) i more later awaited e = awaited target e
+by_reading (Flag switch) i more later awaited e = by_itself i (Flag switch) more later e
+by_reading (OptionValue target value) i more later awaited e = by_itself i (OptionValue target value) more later e
+by_reading (FeatureValue kind name value option) i more later awaited e = by_itself i (FeatureValue kind name value option) more later e
+by_reading BadFeatureName i more later awaited e = by_itself i BadFeatureName more later e
+by_reading (VariableValue name value) i more later awaited e = by_itself i (VariableValue name value) more later e
+by_reading BadVariableName i more later awaited e = by_itself i BadVariableName more later e
+by_reading Unrecognized i more later awaited e = by_itself i Unrecognized more later e
 
 -- If the settings of arguments turn quiet on, one of the arguments is `--quiet`.
 quiet_given : (arguments : List (List ℕ)) (awaited : Option Target) (i : ℕ) → any_quiet (given awaited i arguments) ≡ true → list_any is_quiet arguments ≡ true
@@ -91,7 +91,7 @@ quiet_given (value ∷ more) (Some target) i e =
     let rest = one_more (Ok (valued target value)) (given None (i + 1) more) e in
     or_second (is_quiet value) (list_any is_quiet more)
     (quiet_given more None (i + 1) (sym (ap (λ b. b || any_quiet (given None (i + 1) more)) (value_quiet target value)) ∙ rest))
-quiet_given (word ∷ more) None i e = by_reading (said_by word) i more (quiet_given more None (i + 1)) (λ target. quiet_given more (Some target) (i + 1)) e
+quiet_given (word ∷ more) None i e = by_reading (read_argument word) i more (quiet_given more None (i + 1)) (λ target. quiet_given more (Some target) (i + 1)) e
 
 -- The settings of a run are quiet if those of its arguments turn quiet on.
 quiet_chosen : (help version quiet : Bool) → cond (help || version) false quiet ≡ true → quiet ≡ true

@@ -1,20 +1,20 @@
 -- Whether the program may show its progress. (own)
 use Rattle.std.specs.Prelude.{◌≡◌, ℕ, Bool, true, false, not, List}
 use Rattle.std.specs.List.{list_any}
-use Rattle.commandline.specs.Arguments.{Said, Turns, said_by}
+use Rattle.commandline.specs.Arguments.{Argument, Flag, read_argument}
 use Rattle.commandline.specs.declared.argument.Switch.TheVariants.{Quiet}
 use Rattle.options.specs.Opening.{opening}
 use Rattle.invocation.specs.Calls.{Call, Configure}
 use Rattle.invocation.specs.Quiet.{quiet_with}
 
 -- The reading is that of `--quiet`, in any of its forms. (Autoconf's manual, "configure Invocation")
-abbrev pub turns_quiet : Said → Bool
-turns_quiet (Turns Quiet) = true
+abbrev pub turns_quiet : Argument → Bool
+turns_quiet (Flag Quiet) = true
 turns_quiet said = false
 
 -- The argument is `--quiet`, in any of its forms. (Autoconf's manual, "configure Invocation")
 abbrev pub is_quiet : List ℕ → Bool
-is_quiet argument = turns_quiet (said_by argument)
+is_quiet argument = turns_quiet (read_argument argument)
 
 -- The program may show its progress: it is asked to run a configure.ac, and no argument is `--quiet`. (own)
 abbrev pub may_show_progress : Call → Bool

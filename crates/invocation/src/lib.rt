@@ -19,15 +19,15 @@
 #![tactic(auto)]
 
 mod call;
+mod errors;
 mod printing;
 mod process;
 mod progress;
 mod supplies;
-mod telling;
 
 pub use call::{Call, call_of};
+pub use errors::{FAULT, tell_file, tell_memory, tell_named, tell_precious, tell_put, tell_usage};
 pub use printing::{LOG, print_all, print_lines, tell_text, write_log};
 pub use process::{environment, words};
 pub use progress::may_show_progress;
 pub use supplies::{RecordSupplies, Supplies, keep_inputs, read_supplies, record_supplies};
-pub use telling::{FAULT, tell_file, tell_memory, tell_named, tell_precious, tell_put, tell_usage};

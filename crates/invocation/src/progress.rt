@@ -2,20 +2,20 @@
 
 ghost use Rattle.std.specs.Prelude.{◌≡◌, false, IsTrue};
 ghost use Rattle.std.specs.List.{list_any};
-ghost use Rattle.commandline.specs.Said.{said_of};
+ghost use Rattle.commandline.specs.Argument.{argument_of};
 ghost use Rattle.invocation.specs.Calls.{call_of, IfConfigure};
 ghost use Rattle.invocation.specs.Progress as meant;
 
 use crate::call::{Call, call_of};
-use commandline::argument::{Said, Switch, said_by};
+use commandline::argument::{Argument, Switch, read_argument};
 use deftable::Bytes;
 
 /// Returns whether an argument with this reading is `--quiet`, in any of its forms.
-fn turns_quiet(said: Said<'_>) -> bool
-    ensures { result ≡ meant.turns_quiet (said_of said.entry) }
+fn turns_quiet(said: Argument<'_>) -> bool
+    ensures { result ≡ meant.turns_quiet (argument_of said.entry) }
 {
     match said {
-        Said::Turns(Switch::Quiet) => true,
+        Argument::Flag(Switch::Quiet) => true,
         _ => false,
     }
 }
@@ -24,7 +24,7 @@ fn turns_quiet(said: Said<'_>) -> bool
 fn is_quiet(argument: &Bytes) -> bool
     ensures { result ≡ meant.is_quiet argument.now }
 {
-    turns_quiet(said_by(argument.as_slice()))
+    turns_quiet(read_argument(argument.as_slice()))
 }
 
 /// Returns whether one of the arguments is `--quiet`, in any of its forms.

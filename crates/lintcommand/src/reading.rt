@@ -6,7 +6,7 @@ use bstr::ByteSlice;
 use deftable::Bytes;
 use disk::Disk;
 use diskfiles::{path_in, read_text};
-use input::{ReadFault, read_input};
+use filter_input::{ReadFault, read_input};
 use std::alloc::{AllocError, Global};
 use std::io::Read;
 

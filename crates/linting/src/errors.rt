@@ -127,7 +127,7 @@ pub fn errors_of(alloc: Global, text: &[u8]) -> Result<Vec<Finding>, AllocError>
     // Each ends in the text.
     ensures ends { IfOk result (λ v. All (specs.EndsIn (length text.now)) v.items) }
     // There is none exactly if the source is read and has a plan.
-    ensures none { IfOk result (λ v. (v.items ≡ []) ↔ specs.IsAccepted text.now) }
+    ensures no_error { IfOk result (λ v. (v.items ≡ []) ↔ specs.IsAccepted text.now) }
 {
     find_errors(alloc, text)
 }

@@ -184,8 +184,8 @@ impl Machine {
         ensures turned { IfOk result (λ turn. Turned plan.now turn self.old self.new) }
         ensures failed { self.old.phase ≡ Phase.Failed → IsErr result }
         ensures err { OnErr result (self.new.phase ≡ Phase.Failed) }
-        ensures still { OnErr result (Fits plan.now self.new) }
-        ensures again { IsSome (outcome_of self.old.phase) → self.new ≡ self.old }
+        ensures fits_after_error { OnErr result (Fits plan.now self.new) }
+        ensures repeats { IsSome (outcome_of self.old.phase) → self.new ≡ self.old }
         ensures answers { IsSome (outcome_of self.old.phase) → IsOk result }
     {
         match self.phase {
@@ -235,7 +235,7 @@ impl Machine {
 
     // Does a step. The machine stays before it until `arrive`.
     fn step(&mut self, step: &Step) -> Result<Flow, AllocError>
-        ensures same { OnOk result (self.new ≡ record self.old { phase = Phase.Failed; mind = self.new.mind; state = self.new.state }) }
+        ensures unchanged { OnOk result (self.new ≡ record self.old { phase = Phase.Failed; mind = self.new.mind; state = self.new.state }) }
         ensures err { OnErr result (self.new ≡ record self.old { phase = Phase.Failed; mind = self.new.mind; state = self.new.state }) }
         ensures within { IfOk result (λ flow. passed flow ≤ reach (shown step.now)) }
         ensures asks { IfOk result (λ flow. asks_now flow ≤ asks_of (shown step.now)) }
@@ -258,7 +258,7 @@ impl Machine {
         requires awaits { Awaits self.old.wait self.old.jobs }
         requires replies { length self.old.replies ≡ length self.old.jobs }
         requires room { self.old.before + length self.old.jobs < 2 ^ 64 }
-        ensures same { OnOk result (self.new ≡ record self.old { phase = Phase.Failed; mind = minded self.new.mind.scope self.old.mind.open_tests; state = self.new.state; wait = waits.Nothing; before = self.old.before + length self.old.jobs; jobs = []; replies = [] }) }
+        ensures unchanged { OnOk result (self.new ≡ record self.old { phase = Phase.Failed; mind = minded self.new.mind.scope self.old.mind.open_tests; state = self.new.state; wait = waits.Nothing; before = self.old.before + length self.old.jobs; jobs = []; replies = [] }) }
         ensures err { OnErr result (self.new ≡ record self.old { phase = Phase.Failed; mind = minded self.new.mind.scope self.old.mind.open_tests; state = self.new.state; wait = waits.Nothing; before = self.old.before + length self.old.jobs; jobs = []; replies = [] }) }
         ensures within { IfOk result (λ flow. passed flow ≤ 0) }
         ensures asks { IfOk result (λ flow. asks_now flow ≤ waits_for self.old.wait) }
@@ -377,7 +377,7 @@ impl Machine {
         requires inside { StaysInside (map shown steps.now) }
         ensures turned { IfOk result (λ turn. Turned (map shown steps.now) turn (with_phase Phase.Going self.old) self.new) }
         ensures err { OnErr result (self.new.phase ≡ Phase.Failed) }
-        ensures still { OnErr result (Fits (map shown steps.now) self.new) }
+        ensures fits_after_error { OnErr result (Fits (map shown steps.now) self.new) }
     {
         // the label is for the proof only
         'steps: while self.place() < steps.len() {
@@ -398,7 +398,7 @@ impl Machine {
         requires few { asks_after (map shown steps.now) 0 ≤ 2 ^ 36 }
         ensures turned { IfOk result (λ turn. Turned (map shown steps.now) turn self.old self.new) }
         ensures err { OnErr result (self.new.phase ≡ Phase.Failed) }
-        ensures still { OnErr result (Fits (map shown steps.now) self.new) }
+        ensures fits_after_error { OnErr result (Fits (map shown steps.now) self.new) }
     {
         let flow = self.hear()?;
         match self.arrive(flow)? {

@@ -209,7 +209,7 @@ impl Index {
             option_map words.said found ≡ words.entry_of name.now TABLE.now) }
         ensures about { IfOk result (λ found. IfSome found
             (λ e. words.is_about name.now (words.said e) ≡ true)) }
-        ensures none { IfOk result (λ found. IfNone found
+        ensures missing { IfOk result (λ found. IfNone found
             (All (λ r. words.said_about name.now r ≡ None) (parts 126 TABLE.now))) }
     {
         self.find(alloc, name)

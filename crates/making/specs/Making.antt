@@ -2,13 +2,13 @@
 use Rattle.std.specs.Prelude.{ℕ, ◌==◌, not, List, ◌++◌, length, map, Some, codes}
 use Rattle.deftable.specs.Table.{with_entry}
 use Rattle.outputlist.specs.declared.output.Output.{Output}
-use Rattle.outputs.specs.declared.thing.Kind.TheVariants as kind
-use Rattle.outputs.specs.declared.thing.Thing.{Thing}
+use Rattle.outputs.specs.declared.artifact.Kind.TheVariants as kind
+use Rattle.outputs.specs.declared.artifact.Artifact.{Artifact}
 use Rattle.status_record.specs.declared.record.Record.{Record}
 use Rattle.template.specs.Fill.{filled}
 use Rattle.template.specs.Header.{headed}
 use Rattle.template.specs.Place.{place_of, configure_input_of, header_note_of}
-use Rattle.template.specs.declared.placing.Place.{Place}
+use Rattle.template.specs.declared.paths.Place.{Place}
 use Rattle.making.specs.Choice.{template_of, chosen}
 use Rattle.making.specs.Variables.{output_variables}
 
@@ -37,7 +37,7 @@ file_table r o =
     with_place (with_entry r.vars (codes "configure_input") (configure_input_of o.name o.template)) (place_of o.name r.srcdir)
 
 -- The file that is made of its template. (Autoconf's manual, "Configuration Files")
-unfoldable pub made_file : Record → List (List ℕ × List ℕ) → Output → Thing
+unfoldable pub made_file : Record → List (List ℕ × List ℕ) → Output → Artifact
 made_file r templates o = record {
   kind = kind.File;
   name = o.name;
@@ -50,10 +50,10 @@ abbrev pub header_text : Record → List (List ℕ × List ℕ) → Output → L
 header_text r templates o = header_note_of o.name o.template ++ headed r.defs (template_of templates o.template)
 
 -- The header that is made of its template. (Autoconf's manual, "Configuration Header Files")
-unfoldable pub made_header : Record → List (List ℕ × List ℕ) → Output → Thing
+unfoldable pub made_header : Record → List (List ℕ × List ℕ) → Output → Artifact
 made_header r templates o = record { kind = kind.Header; name = o.name; text = header_text r templates o }
 
 -- What is made of a record with these templates: the files and then the headers, each in the record's order, without those
 -- that the tags leave out. (own)
-unfoldable pub made : Record → List (List ℕ × List ℕ) → List (List ℕ) → List Thing
+unfoldable pub made : Record → List (List ℕ × List ℕ) → List (List ℕ) → List Artifact
 made r templates tags = map (made_file r templates) (chosen tags r.files) ++ map (made_header r templates) (chosen tags r.headers)

@@ -9,7 +9,7 @@ ghost use Rattle.template.specs.Place.{configure_input_of, place_of};
 use crate::choosing::{is_chosen, template_of};
 use deftable::{Bytes, Defs};
 use outputlist::Output;
-use outputs::{Kind, Thing, Things};
+use outputs::{Artifact, Artifacts, Kind};
 use status_record::Record;
 use std::alloc::{AllocError, Global};
 use template::{Place, Table, configure_input, fill, fill_header, header_note, place_vars};
@@ -80,14 +80,14 @@ pub fn make_file(
     recorded: &Record,
     templates: &[(Bytes, Bytes)],
     file: &Output,
-) -> Result<Thing, AllocError>
-    ensures { IfOk result (λ thing. thing ≡ words.made_file recorded.now templates.now file.now) }
+) -> Result<Artifact, AllocError>
+    ensures { IfOk result (λ artifact. artifact ≡ words.made_file recorded.now templates.now file.now) }
 {
     let table = file_table(alloc, recorded, file)?;
     let name = file.name.copy(alloc)?;
     let template = template_of(templates, file.template.as_slice());
     let text = fill(alloc, template, &table)?;
-    Ok(Thing {
+    Ok(Artifact {
         kind: Kind::File,
         name,
         text: Bytes::from_vec(text),
@@ -118,12 +118,12 @@ fn make_header(
     recorded: &Record,
     templates: &[(Bytes, Bytes)],
     header: &Output,
-) -> Result<Thing, AllocError>
-    ensures { IfOk result (λ thing. thing ≡ words.made_header recorded.now templates.now header.now) }
+) -> Result<Artifact, AllocError>
+    ensures { IfOk result (λ artifact. artifact ≡ words.made_header recorded.now templates.now header.now) }
 {
     let name = header.name.copy(alloc)?;
     let text = header_text(alloc, recorded, templates, header)?;
-    Ok(Thing {
+    Ok(Artifact {
         kind: Kind::Header,
         name,
         text,
@@ -133,34 +133,34 @@ fn make_header(
 /// Makes a file and appends it, unless the tags leave it out.
 fn add_file(
     alloc: Global,
-    things: &mut Things,
+    artifacts: &mut Artifacts,
     recorded: &Record,
     templates: &[(Bytes, Bytes)],
     tags: &[Bytes],
     file: &Output,
 ) -> Result<(), AllocError>
-    ensures { OnOk result (things.new ≡ things.old ++ map (words.made_file recorded.now templates.now) (chosen tags.now (file.now ∷ []))) }
+    ensures { OnOk result (artifacts.new ≡ artifacts.old ++ map (words.made_file recorded.now templates.now) (chosen tags.now (file.now ∷ []))) }
 {
     if !is_chosen(tags, file) {
         return Ok(());
     }
-    let thing = make_file(alloc, recorded, templates, file)?;
-    things.push(thing)
+    let artifact = make_file(alloc, recorded, templates, file)?;
+    artifacts.push(artifact)
 }
 
 /// Makes the files that the tags do not leave out, and appends them.
 fn add_files(
     alloc: Global,
-    things: &mut Things,
+    artifacts: &mut Artifacts,
     recorded: &Record,
     templates: &[(Bytes, Bytes)],
     tags: &[Bytes],
     files: &[Output],
 ) -> Result<(), AllocError>
-    ensures { OnOk result (things.new ≡ things.old ++ map (words.made_file recorded.now templates.now) (chosen tags.now files.now)) }
+    ensures { OnOk result (artifacts.new ≡ artifacts.old ++ map (words.made_file recorded.now templates.now) (chosen tags.now files.now)) }
 {
     'outputs: for file in files {
-        add_file(alloc, things, recorded, templates, tags, file)?;
+        add_file(alloc, artifacts, recorded, templates, tags, file)?;
     }
     Ok(())
 }
@@ -168,34 +168,34 @@ fn add_files(
 /// Makes a header and appends it, unless the tags leave it out.
 fn add_header(
     alloc: Global,
-    things: &mut Things,
+    artifacts: &mut Artifacts,
     recorded: &Record,
     templates: &[(Bytes, Bytes)],
     tags: &[Bytes],
     header: &Output,
 ) -> Result<(), AllocError>
-    ensures { OnOk result (things.new ≡ things.old ++ map (words.made_header recorded.now templates.now) (chosen tags.now (header.now ∷ []))) }
+    ensures { OnOk result (artifacts.new ≡ artifacts.old ++ map (words.made_header recorded.now templates.now) (chosen tags.now (header.now ∷ []))) }
 {
     if !is_chosen(tags, header) {
         return Ok(());
     }
-    let thing = make_header(alloc, recorded, templates, header)?;
-    things.push(thing)
+    let artifact = make_header(alloc, recorded, templates, header)?;
+    artifacts.push(artifact)
 }
 
 /// Makes the headers that the tags do not leave out, and appends them.
 fn add_headers(
     alloc: Global,
-    things: &mut Things,
+    artifacts: &mut Artifacts,
     recorded: &Record,
     templates: &[(Bytes, Bytes)],
     tags: &[Bytes],
     headers: &[Output],
 ) -> Result<(), AllocError>
-    ensures { OnOk result (things.new ≡ things.old ++ map (words.made_header recorded.now templates.now) (chosen tags.now headers.now)) }
+    ensures { OnOk result (artifacts.new ≡ artifacts.old ++ map (words.made_header recorded.now templates.now) (chosen tags.now headers.now)) }
 {
     'outputs: for header in headers {
-        add_header(alloc, things, recorded, templates, tags, header)?;
+        add_header(alloc, artifacts, recorded, templates, tags, header)?;
     }
     Ok(())
 }
@@ -206,17 +206,17 @@ fn add_headers(
 #[tactic(auto, unfolding(crate::specs::Making::made))]
 pub fn add_outputs(
     alloc: Global,
-    things: &mut Things,
+    artifacts: &mut Artifacts,
     recorded: &Record,
     templates: &[(Bytes, Bytes)],
     tags: &[Bytes],
 ) -> Result<(), AllocError>
-    ensures { OnOk result (things.new ≡ things.old ++ words.made recorded.now templates.now tags.now) }
+    ensures { OnOk result (artifacts.new ≡ artifacts.old ++ words.made recorded.now templates.now tags.now) }
 {
     let files = recorded.files.as_slice();
     let headers = recorded.headers.as_slice();
-    add_files(alloc, things, recorded, templates, tags, files)?;
-    add_headers(alloc, things, recorded, templates, tags, headers)
+    add_files(alloc, artifacts, recorded, templates, tags, files)?;
+    add_headers(alloc, artifacts, recorded, templates, tags, headers)
 }
 
 /// Makes the files and then the headers of a record, each of its template, in the record's order.
@@ -233,10 +233,10 @@ pub fn make_outputs(
     recorded: &Record,
     templates: &[(Bytes, Bytes)],
     tags: &[Bytes],
-) -> Result<Things, AllocError>
-    ensures { IfOk result (λ things. things ≡ words.made recorded.now templates.now tags.now) }
+) -> Result<Artifacts, AllocError>
+    ensures { IfOk result (λ artifacts. artifacts ≡ words.made recorded.now templates.now tags.now) }
 {
-    let mut things = Things::new(alloc);
-    add_outputs(alloc, &mut things, recorded, templates, tags)?;
-    Ok(things)
+    let mut artifacts = Artifacts::new(alloc);
+    add_outputs(alloc, &mut artifacts, recorded, templates, tags)?;
+    Ok(artifacts)
 }

@@ -7,8 +7,8 @@
 //!
 //! ```text
 //! let record = record_of(alloc, &vars, &defs, &names, b".", &args, &files, &headers)?;
-//! let things = make_outputs(alloc, &record, templates, &[])?;   // each file and then each header
-//! let things = make_outputs(alloc, &record, templates, tags)?;  // those whose names are tags
+//! let artifacts = make_outputs(alloc, &record, templates, &[])?;   // each file and then each header
+//! let artifacts = make_outputs(alloc, &record, templates, tags)?;  // those whose names are tags
 //! ```
 //!
 //! A template is a name and a text. If two templates have one name, the first one counts. A missing template is the empty

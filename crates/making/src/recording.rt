@@ -8,15 +8,15 @@ ghost use Rattle.status_record.specs.RecordText.{IsRecord};
 
 use crate::variables::output_variables;
 use deftable::{Bytes, Defs, SubstList, Texts, Vars};
-use outputlist::Outputs;
+use outputlist::OutputList;
 use status_record::Record;
 use std::alloc::{AllocError, Global};
 
 /// Copies outputs.
-fn copy_of_outputs(alloc: Global, outputs: &Outputs) -> Result<Outputs, AllocError>
+fn copy_of_outputs(alloc: Global, outputs: &OutputList) -> Result<OutputList, AllocError>
     ensures { IfOk result (λ copy. copy ≡ outputs.now) }
 {
-    let mut copy = Outputs::new(alloc);
+    let mut copy = OutputList::new(alloc);
     copy.push_copies(alloc, outputs.as_slice())?;
     Ok(copy)
 }
@@ -39,8 +39,8 @@ pub fn record_of(
     names: &SubstList,
     srcdir: &[u8],
     args: &Texts,
-    files: &Outputs,
-    headers: &Outputs,
+    files: &OutputList,
+    headers: &OutputList,
 ) -> Result<Record, AllocError>
     ensures record { IfOk result (λ r. r ≡ words.record_of_run vars.now defs.now names.now srcdir.now args.now files.now headers.now) }
     // It has each output variable once, with its value, and no other variable.

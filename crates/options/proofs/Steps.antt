@@ -8,7 +8,7 @@ use Rattle.deftable.specs.Table.{with_entry}
 use Rattle.syntax.specs.Feature.{option_variable}
 use Rattle.commandline.proofs.Lines.{alone_awaits, given_reads, Reads}
 use Rattle.commandline.proofs.Words.{option_said, setting_said}
-use Rattle.commandline.specs.Arguments.{Said, Turns, Gives, Awaits, Chooses, Misnames, Assigns, Misassigns, Nothing, said_by, alone, awaited_by, and_then, given}
+use Rattle.commandline.specs.Arguments.{Argument, Flag, OptionValue, OptionName, FeatureValue, BadFeatureName, VariableValue, BadVariableName, Unrecognized, read_argument, alone, awaited_by, and_then, given}
 use Rattle.commandline.specs.CommandLine as line
 use Rattle.commandline.specs.CommandLine.{Setting, Variable, Choice, Cache, Source, Switched, valued, GivesSettings}
 use Rattle.commandline.specs.Directories.{directories, variable_of, default_of}
@@ -45,27 +45,27 @@ value_after features packages (InstallDirectory directory) value r = refl
 value_after features packages Srcdir value r = refl
 value_after features packages CacheFile value r = refl
 
-said_after : (features packages : List (List ℕ)) (i : ℕ) (said : Said) (r : Reader) → awaited_by said ≡ None
+said_after : (features packages : List (List ℕ)) (i : ℕ) (said : Argument) (r : Reader) → awaited_by said ≡ None
     → with_said features packages i said r ≡ (alone i said >>= λ setting. Ok (after features packages setting r))
-said_after features packages i (Turns switch) r e = refl
-said_after features packages i (Gives target value) r e = ap (λ next. Ok next) (value_after features packages target value r)
-said_after features packages i (Awaits target) r e = absurd (cc)
-said_after features packages i (Chooses kind name value option) r e = refl
-said_after features packages i Misnames r e = refl
-said_after features packages i (Assigns name value) r e = refl
-said_after features packages i Misassigns r e = refl
-said_after features packages i Nothing r e = refl
+said_after features packages i (Flag switch) r e = refl
+said_after features packages i (OptionValue target value) r e = ap (λ next. Ok next) (value_after features packages target value r)
+said_after features packages i (OptionName target) r e = absurd (cc)
+said_after features packages i (FeatureValue kind name value option) r e = refl
+said_after features packages i BadFeatureName r e = refl
+said_after features packages i (VariableValue name value) r e = refl
+said_after features packages i BadVariableName r e = refl
+said_after features packages i Unrecognized r e = refl
 
-awaits_is : (features packages : List (List ℕ)) (i : ℕ) (said : Said) (target : Target) (r : Reader) → awaited_by said ≡ Some target
+awaits_is : (features packages : List (List ℕ)) (i : ℕ) (said : Argument) (target : Target) (r : Reader) → awaited_by said ≡ Some target
     → with_said features packages i said r ≡ Ok (record r { awaited = Some target })
-awaits_is features packages i (Turns switch) t r e = absurd (cc)
-awaits_is features packages i (Gives target value) t r e = absurd (cc)
-awaits_is features packages i (Awaits target) t r e = ap (λ a. Ok (record r { awaited = a })) e
-awaits_is features packages i (Chooses kind name value option) t r e = absurd (cc)
-awaits_is features packages i Misnames t r e = absurd (cc)
-awaits_is features packages i (Assigns name value) t r e = absurd (cc)
-awaits_is features packages i Misassigns t r e = absurd (cc)
-awaits_is features packages i Nothing t r e = absurd (cc)
+awaits_is features packages i (Flag switch) t r e = absurd (cc)
+awaits_is features packages i (OptionValue target value) t r e = absurd (cc)
+awaits_is features packages i (OptionName target) t r e = ap (λ a. Ok (record r { awaited = a })) e
+awaits_is features packages i (FeatureValue kind name value option) t r e = absurd (cc)
+awaits_is features packages i BadFeatureName t r e = absurd (cc)
+awaits_is features packages i (VariableValue name value) t r e = absurd (cc)
+awaits_is features packages i BadVariableName t r e = absurd (cc)
+awaits_is features packages i Unrecognized t r e = absurd (cc)
 
 -- No option needs a value.
 abbrev idle : Reader → Reader
@@ -122,7 +122,7 @@ value_steps : (features packages : List (List ℕ)) (target : Target) (value : L
     ≡ (given (Some target) i (value ∷ more) >>= λ settings. Ok (after_all features packages settings (idle r)))
 unfolding with_arguments with_argument given
 value_steps features packages target value more i r e step =
-    ap (λ a. (elim a as (λ a. Result Reader OptionFault) [ Some t ↦ Ok (with_value t value (idle r)) | None ↦ with_said features packages (i + 1) (said_by value) r ])
+    ap (λ a. (elim a as (λ a. Result Reader OptionFault) [ Some t ↦ Ok (with_value t value (idle r)) | None ↦ with_said features packages (i + 1) (read_argument value) r ])
     >>= λ next. with_arguments features packages (i + 1) next more) e
     ∙ ap (λ next. with_arguments features packages (i + 1) next more) (value_after features packages target value (idle r))
     ∙ after_setting features packages more (i + 1) (valued target value) (idle r) refl step
@@ -132,9 +132,9 @@ word_steps : (features packages : List (List ℕ)) (word : List ℕ) (more : Lis
     → with_arguments features packages i r (word ∷ more) ≡ (given None i (word ∷ more) >>= λ settings. Ok (after_all features packages settings (idle r)))
 unfolding with_arguments with_argument given
 word_steps features packages word more i r e step =
-    ap (λ a. (elim a as (λ a. Result Reader OptionFault) [ Some t ↦ Ok (with_value t word (idle r)) | None ↦ with_said features packages (i + 1) (said_by word) r ])
+    ap (λ a. (elim a as (λ a. Result Reader OptionFault) [ Some t ↦ Ok (with_value t word (idle r)) | None ↦ with_said features packages (i + 1) (read_argument word) r ])
     >>= λ next. with_arguments features packages (i + 1) next more) e
-    ∙ at (awaited_by (said_by word)) refl where
+    ∙ at (awaited_by (read_argument word)) refl where
       alone_at : (first : Result Setting OptionFault) → ((first >>= λ setting. Ok (after features packages setting r)) >>= λ next. with_arguments features packages (i + 1) next more)
           ≡ (and_then first (given None (i + 1) more) >>= λ settings. Ok (after_all features packages settings (idle r)))
       alone_at (Ok setting) =
@@ -142,18 +142,18 @@ word_steps features packages word more i r e step =
           ∙ ap (λ q. and_then (Ok setting) (given None (i + 1) more) >>= λ settings. Ok (after_all features packages settings q)) (sym (idle_is r e))
       alone_at (Err fault) = refl
 
-      at : (a : Option Target) → awaited_by (said_by word) ≡ a
-          → (with_said features packages (i + 1) (said_by word) r >>= λ next. with_arguments features packages (i + 1) next more)
+      at : (a : Option Target) → awaited_by (read_argument word) ≡ a
+          → (with_said features packages (i + 1) (read_argument word) r >>= λ next. with_arguments features packages (i + 1) next more)
           ≡ ((elim a as (λ a. Result (List Setting) OptionFault) [
             | Some target ↦ given (Some target) (i + 1) more
-            | None ↦ and_then (alone (i + 1) (said_by word)) (given None (i + 1) more)
+            | None ↦ and_then (alone (i + 1) (read_argument word)) (given None (i + 1) more)
           ]) >>= λ settings. Ok (after_all features packages settings (idle r)))
       at (Some target) is =
-          ap (λ q. q >>= λ next. with_arguments features packages (i + 1) next more) (awaits_is features packages (i + 1) (said_by word) target r is)
+          ap (λ q. q >>= λ next. with_arguments features packages (i + 1) next more) (awaits_is features packages (i + 1) (read_argument word) target r is)
           ∙ step (Some target) (i + 1) (record r { awaited = Some target }) refl
       at None is =
-          ap (λ q. q >>= λ next. with_arguments features packages (i + 1) next more) (said_after features packages (i + 1) (said_by word) r is)
-          ∙ alone_at (alone (i + 1) (said_by word))
+          ap (λ q. q >>= λ next. with_arguments features packages (i + 1) next more) (said_after features packages (i + 1) (read_argument word) r is)
+          ∙ alone_at (alone (i + 1) (read_argument word))
 
 steps : (features packages arguments : List (List ℕ)) → Step features packages arguments
 steps features packages [] = end_steps features packages
@@ -350,19 +350,19 @@ vars_are environment settings =
 
 -- ---- the directory of the source
 
-said_source : (i : ℕ) (said : Said) (setting : Setting) (srcdir : List ℕ) → alone i said ≡ Ok setting → srcdir_said said srcdir ≡ last_of srcdir (sources_in setting)
-said_source i (Turns switch) setting srcdir e = ap (λ s. last_of srcdir (sources_in s)) (let same : Switched switch ≡ setting = cc in same)
-said_source i (Gives (InstallDirectory d) value) setting srcdir e = ap (λ s. last_of srcdir (sources_in s)) (let same : Variable (variable_of d) value ≡ setting = cc in same)
-said_source i (Gives Srcdir value) setting srcdir e = ap (λ s. last_of srcdir (sources_in s)) (let same : Source value ≡ setting = cc in same)
-said_source i (Gives CacheFile value) setting srcdir e = ap (λ s. last_of srcdir (sources_in s)) (let same : Cache value ≡ setting = cc in same)
-said_source i (Awaits target) setting srcdir e = absurd (cc)
-said_source i (Chooses kind name value option) setting srcdir e = ap (λ s. last_of srcdir (sources_in s)) (let same : Choice i kind name value option ≡ setting = cc in same)
-said_source i Misnames setting srcdir e = absurd (cc)
-said_source i (Assigns name value) setting srcdir e = ap (λ s. last_of srcdir (sources_in s)) (let same : Variable name value ≡ setting = cc in same)
-said_source i Misassigns setting srcdir e = absurd (cc)
-said_source i Nothing setting srcdir e = absurd (cc)
+said_source : (i : ℕ) (said : Argument) (setting : Setting) (srcdir : List ℕ) → alone i said ≡ Ok setting → srcdir_said said srcdir ≡ last_of srcdir (sources_in setting)
+said_source i (Flag switch) setting srcdir e = ap (λ s. last_of srcdir (sources_in s)) (let same : Switched switch ≡ setting = cc in same)
+said_source i (OptionValue (InstallDirectory d) value) setting srcdir e = ap (λ s. last_of srcdir (sources_in s)) (let same : Variable (variable_of d) value ≡ setting = cc in same)
+said_source i (OptionValue Srcdir value) setting srcdir e = ap (λ s. last_of srcdir (sources_in s)) (let same : Source value ≡ setting = cc in same)
+said_source i (OptionValue CacheFile value) setting srcdir e = ap (λ s. last_of srcdir (sources_in s)) (let same : Cache value ≡ setting = cc in same)
+said_source i (OptionName target) setting srcdir e = absurd (cc)
+said_source i (FeatureValue kind name value option) setting srcdir e = ap (λ s. last_of srcdir (sources_in s)) (let same : Choice i kind name value option ≡ setting = cc in same)
+said_source i BadFeatureName setting srcdir e = absurd (cc)
+said_source i (VariableValue name value) setting srcdir e = ap (λ s. last_of srcdir (sources_in s)) (let same : Variable name value ≡ setting = cc in same)
+said_source i BadVariableName setting srcdir e = absurd (cc)
+said_source i Unrecognized setting srcdir e = absurd (cc)
 
-value_source : (target : Target) (value srcdir : List ℕ) → srcdir_said (Gives target value) srcdir ≡ last_of srcdir (sources_in (valued target value))
+value_source : (target : Target) (value srcdir : List ℕ) → srcdir_said (OptionValue target value) srcdir ≡ last_of srcdir (sources_in (valued target value))
 value_source (InstallDirectory d) value srcdir = refl
 value_source Srcdir value srcdir = refl
 value_source CacheFile value srcdir = refl
@@ -380,8 +380,8 @@ unfolding srcdir_from
 named_source line.no_more srcdir = refl
 named_source {i = i} (line.one_word {word = word} {setting = setting} {more = more} {settings = settings} h rest) srcdir =
     let said = setting_said h in
-    ap (λ a. srcdir_from a (srcdir_said (said_by word) srcdir) more) (alone_awaits (i + 1) (said_by word) setting said)
-    ∙ ap (λ d. srcdir_from None d more) (said_source (i + 1) (said_by word) setting srcdir said)
+    ap (λ a. srcdir_from a (srcdir_said (read_argument word) srcdir) more) (alone_awaits (i + 1) (read_argument word) setting said)
+    ∙ ap (λ d. srcdir_from None d more) (said_source (i + 1) (read_argument word) setting srcdir said)
     ∙ named_source rest (last_of srcdir (sources_in setting))
     ∙ last_more setting srcdir (flat_map sources_in settings)
 named_source (line.two_words {option = option} {target = target} {more = more} {settings = settings} h value rest) srcdir =

@@ -4,7 +4,7 @@ use Rattle.deftable.specs.ShellName.{is_shell_name_of}
 use Rattle.deftable.specs.Table.{with_entry}
 use Rattle.syntax.specs.Feature.{option_variable}
 use Rattle.syntax.specs.declared.feature.OptionKind.{OptionKind}
-use Rattle.commandline.specs.Arguments.{Said, Turns, Gives, Awaits, Chooses, Misnames, Assigns, Misassigns, Nothing, said_by}
+use Rattle.commandline.specs.Arguments.{Argument, Flag, OptionValue, OptionName, FeatureValue, BadFeatureName, VariableValue, BadVariableName, Unrecognized, read_argument}
 use Rattle.commandline.specs.Directories.{directories, variable_of, default_of}
 use Rattle.options.specs.Opening.{cache_named, is_declared, checking_in, finished}
 use Rattle.commandline.specs.Reading.{◌>>=◌}
@@ -74,21 +74,21 @@ with_choice features packages i kind name value option r = record r {
 }
 
 -- The reader after argument i with this reading. (own)
-abbrev pub with_said : List (List ℕ) → List (List ℕ) → ℕ → Said → Reader → Result Reader OptionFault
-with_said features packages i (Turns switch) r = Ok (with_switch switch r)
-with_said features packages i (Gives target value) r = Ok (with_value target value r)
-with_said features packages i (Awaits target) r = Ok (record r { awaited = Some target })
-with_said features packages i (Chooses kind name value option) r = Ok (with_choice features packages i kind name value option r)
-with_said features packages i Misnames r = Err (BadFeature i)
-with_said features packages i (Assigns name value) r = Ok (record r { vars = with_entry r.vars name value })
-with_said features packages i Misassigns r = Err (BadVariable i)
-with_said features packages i Nothing r = Err (Unknown i)
+abbrev pub with_said : List (List ℕ) → List (List ℕ) → ℕ → Argument → Reader → Result Reader OptionFault
+with_said features packages i (Flag switch) r = Ok (with_switch switch r)
+with_said features packages i (OptionValue target value) r = Ok (with_value target value r)
+with_said features packages i (OptionName target) r = Ok (record r { awaited = Some target })
+with_said features packages i (FeatureValue kind name value option) r = Ok (with_choice features packages i kind name value option r)
+with_said features packages i BadFeatureName r = Err (BadFeature i)
+with_said features packages i (VariableValue name value) r = Ok (record r { vars = with_entry r.vars name value })
+with_said features packages i BadVariableName r = Err (BadVariable i)
+with_said features packages i Unrecognized r = Err (Unknown i)
 
 -- The reader after argument i, which is a value if the option before it needs one. (own)
 unfoldable pub with_argument : List (List ℕ) → List (List ℕ) → ℕ → List ℕ → Reader → Result Reader OptionFault
 with_argument features packages i argument r = elim r.awaited [
   | Some target ↦ Ok (with_value target argument (record r { awaited = None }))
-  | None ↦ with_said features packages i (said_by argument) r
+  | None ↦ with_said features packages i (read_argument argument) r
 ]
 
 -- The reader after all i arguments: no option still needs a value. (own)

@@ -4,10 +4,10 @@ ghost use Rattle.std.specs.Prelude.{◌≡◌, ◌+◌, ◌||◌, Option, IfOk, 
 ghost use Rattle.options.specs.Opening.{cache_named as cache_of, is_declared as declared_of};
 ghost use Rattle.options.specs.Stepwise as words;
 ghost use Rattle.commandline.specs.Reading.{Gives};
-ghost use Rattle.commandline.specs.Said.{said_of};
+ghost use Rattle.commandline.specs.Argument.{argument_of};
 
 use crate::unrecognized::Unrecognized;
-use commandline::argument::{Choice, Said, Switch, Target, said_by};
+use commandline::argument::{Argument, Choice, Switch, Target, read_argument};
 use commandline::fault::OptionFault;
 use deftable::{Bytes, SubstList, Vars};
 use std::alloc::{AllocError, Global};
@@ -105,19 +105,19 @@ impl Reader {
         features: &SubstList,
         packages: &SubstList,
         i: u64,
-        said: Said<'_>,
+        said: Argument<'_>,
     ) -> Result<(), OptionFault>
-        ensures { Gives (λ _. self.new) result (words.with_said features.now packages.now i (said_of said.entry) self.old) }
+        ensures { Gives (λ _. self.new) result (words.with_said features.now packages.now i (argument_of said.entry) self.old) }
     {
         match said {
-            Said::Turns(switch) => self.turn(alloc, switch)?,
-            Said::Gives(target, value) => self.set_value(alloc, target, value)?,
-            Said::Awaits(target) => self.awaited = Some(target),
-            Said::Chooses(choice) => self.choose(alloc, features, packages, i, choice)?,
-            Said::Misnames => return Err(OptionFault::BadFeature(i)),
-            Said::Assigns(name, value) => self.vars.set(name, value)?,
-            Said::Misassigns => return Err(OptionFault::BadVariable(i)),
-            Said::Nothing => return Err(OptionFault::Unknown(i)),
+            Argument::Flag(switch) => self.turn(alloc, switch)?,
+            Argument::OptionValue(target, value) => self.set_value(alloc, target, value)?,
+            Argument::OptionName(target) => self.awaited = Some(target),
+            Argument::FeatureValue(choice) => self.choose(alloc, features, packages, i, choice)?,
+            Argument::BadFeatureName => return Err(OptionFault::BadFeature(i)),
+            Argument::VariableValue(name, value) => self.vars.set(name, value)?,
+            Argument::BadVariableName => return Err(OptionFault::BadVariable(i)),
+            Argument::Unrecognized => return Err(OptionFault::Unknown(i)),
         }
         Ok(())
     }
@@ -135,7 +135,13 @@ impl Reader {
         ensures { Gives (λ _. self.new) result (words.with_argument features.now packages.now i argument.now self.old) }
     {
         let Some(target) = self.awaited else {
-            return self.read_said(alloc, features, packages, i, said_by(argument.as_slice()));
+            return self.read_said(
+                alloc,
+                features,
+                packages,
+                i,
+                read_argument(argument.as_slice()),
+            );
         };
         self.awaited = None;
         self.set_value(alloc, target, argument.as_slice())?;

@@ -14,5 +14,5 @@
 mod output;
 mod path;
 
-pub use output::{Output, Outputs};
+pub use output::{Output, OutputList};
 pub use path::is_path;

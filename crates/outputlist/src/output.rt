@@ -28,28 +28,28 @@ impl Output {
 }
 
 /// A list of outputs.
-pub struct Outputs {
+pub struct OutputList {
     outputs: Vec<Output>,
 }
 
-impl Drop for Outputs {
+impl Drop for OutputList {
     fn drop(self) {
-        let Outputs { outputs: _outputs } = self;
+        let OutputList { outputs: _outputs } = self;
     }
 }
 
-impl Model for Outputs {
+impl Model for OutputList {
     ghost Value = { List Output };
 
     ghost view = { λ t. t.outputs.items };
 }
 
-impl Outputs {
+impl OutputList {
     /// Returns an empty list.
     pub fn new(alloc: Global) -> Self
         ensures { result ≡ [] }
     {
-        Outputs {
+        OutputList {
             outputs: Vec::new(alloc),
         }
     }

@@ -1,20 +1,20 @@
 //! A receiver that keeps what it takes.
 
 ghost use Rattle.std.specs.Prelude.{◌≡◌, ◌+◌, ◌^◌, ◌<◌, [], OnOk, OnErr, is_err, true};
-ghost use Rattle.outputs.specs.Receipt.{with_thing, with_refusal};
+ghost use Rattle.outputs.specs.Receipt.{with_artifact, with_refusal};
 ghost use Rattle.outputs.specs.Kept.{number_of};
 
+use crate::artifact::{Artifact, Artifacts, Kind};
 use crate::receiver::{Outputs, PutRefused};
-use crate::thing::{Kind, Thing, Things};
 use std::alloc::Global;
 use std::marker::Model;
 
-/// A receiver in memory: takes a copy of each thing, and refuses the put with a given number.
+/// A receiver in memory: takes a copy of each artifact, and refuses the put with a given number.
 ///
 /// If memory runs out in a put, it refuses that put too. It refuses no other.
 pub struct MemoryOutputs {
     alloc: Global,
-    handed: Things,
+    handed: Artifacts,
     failures: u64,
     refuse: u64,
 }
@@ -46,24 +46,24 @@ impl MemoryOutputs {
     {
         MemoryOutputs {
             alloc,
-            handed: Things::new(alloc),
+            handed: Artifacts::new(alloc),
             failures: 0,
             refuse,
         }
     }
 
-    /// Returns the things that were taken, in order.
-    pub fn handed(&self) -> &[Thing]
+    /// Returns the artifacts that were taken, in order.
+    pub fn handed(&self) -> &[Artifact]
         ensures { result.now ≡ self.now.receipt.handed }
     {
         self.handed.as_slice()
     }
 
-    /// Takes a copy of a thing. If the put is refused, it isn't counted yet.
+    /// Takes a copy of an artifact. If the put is refused, it isn't counted yet.
     fn take(&mut self, kind: Kind, name: &[u8], text: &[u8]) -> Result<(), PutRefused>
         requires { self.old.receipt.failures < 2 ^ 62 }
         ensures taken { OnOk result (self.new
-            ≡ record self.old { receipt = with_thing self.old.receipt (record { kind = kind; name = name.now; text = text.now }) }) }
+            ≡ record self.old { receipt = with_artifact self.old.receipt (record { kind = kind; name = name.now; text = text.now }) }) }
         ensures refused { OnErr result (self.new ≡ self.old) }
         ensures chosen { number_of self.old.receipt ≡ self.old.refuse → is_err result ≡ true }
     {
@@ -71,10 +71,10 @@ impl MemoryOutputs {
         if number == self.refuse {
             return Err(PutRefused);
         }
-        let Ok(thing) = Thing::from_slices(self.alloc, kind, name, text) else {
+        let Ok(artifact) = Artifact::from_slices(self.alloc, kind, name, text) else {
             return Err(PutRefused);
         };
-        match self.handed.push(thing) {
+        match self.handed.push(artifact) {
             Ok(()) => Ok(()),
             Err(_) => Err(PutRefused),
         }
@@ -87,9 +87,9 @@ impl Outputs for MemoryOutputs {
     fn put(&mut self, kind: Kind, name: &[u8], text: &[u8]) -> Result<(), PutRefused>
         requires failures { self.old.receipt.failures < 2 ^ 62 }
         ensures taken { OnOk result (self.new.receipt
-            ≡ with_thing self.old.receipt (record { kind = kind; name = name.now; text = text.now })) }
+            ≡ with_artifact self.old.receipt (record { kind = kind; name = name.now; text = text.now })) }
         ensures refused { OnErr result (self.new.receipt ≡ with_refusal self.old.receipt) }
-        ensures same { self.new.refuse ≡ self.old.refuse }
+        ensures unchanged { self.new.refuse ≡ self.old.refuse }
         ensures chosen { number_of self.old.receipt ≡ self.old.refuse → is_err result ≡ true }
     {
         let answer = self.take(kind, name, text);

@@ -1,9 +1,9 @@
-//! The trait of what receives things.
+//! The trait of what receives artifacts.
 
 ghost use Rattle.std.specs.Prelude.{◌≡◌, ◌+◌, ◌^◌, ◌<◌, OnOk, OnErr};
-ghost use Rattle.outputs.specs.Receipt.{Receipt, with_thing, with_refusal};
+ghost use Rattle.outputs.specs.Receipt.{Receipt, with_artifact, with_refusal};
 
-use crate::thing::Kind;
+use crate::artifact::Kind;
 use std::error::Error;
 use std::fmt;
 
@@ -19,18 +19,18 @@ impl fmt::Display for PutRefused {
 
 impl Error for PutRefused {}
 
-/// Receives things, one after the other. The meaning of a receiver is its receipt: what it took, and how many puts it refused.
+/// Receives artifacts, one after the other. The meaning of a receiver is its receipt: what it took, and how many puts it refused.
 pub trait Outputs {
     ghost receipt: { Self → Receipt };
 
-    /// Hands over a thing, with its whole text (own).
+    /// Hands over an artifact, with its whole text (own).
     ///
     /// # Errors
     ///
-    /// Returns [`PutRefused`] if the thing isn't taken. Nothing of it is then handed over.
+    /// Returns [`PutRefused`] if the artifact isn't taken. Nothing of it is then handed over.
     fn put(&mut self, kind: Kind, name: &[u8], text: &[u8]) -> Result<(), PutRefused>
         requires failures { (receipt self.old).failures < 2 ^ 62 }
         ensures taken { OnOk result (receipt self.new
-            ≡ with_thing (receipt self.old) (record { kind = kind; name = name.now; text = text.now })) }
+            ≡ with_artifact (receipt self.old) (record { kind = kind; name = name.now; text = text.now })) }
         ensures refused { OnErr result (receipt self.new ≡ with_refusal (receipt self.old)) };
 }

@@ -10,8 +10,8 @@ use syntax::{Case, Plain, Question, Stmt, Subject};
 /// Returns what is left of `room` after the weight of the statements, or `None` if they weigh more.
 #[cycle(weigh)]
 pub(crate) fn weigh(room: usize, statements: &[Stmt]) -> Option<usize>
-    ensures some { IfSome result (λ left. left + weight (script_of statements.now) ≡ room) }
-    ensures none { IfNone result (room < weight (script_of statements.now)) }
+    ensures fits { IfSome result (λ left. left + weight (script_of statements.now) ≡ room) }
+    ensures exceeds { IfNone result (room < weight (script_of statements.now)) }
 {
     let mut left = room;
     for statement in statements {
@@ -50,7 +50,7 @@ fn entries_asked(subject: &Subject) -> usize
 /// Returns the number of rounds of a choice.
 fn rounds(subject: &Subject) -> usize
     ensures number { result ≡ length (rounds_of subject.now) }
-    ensures some { 0 < result }
+    ensures at_least_one { 0 < result }
 {
     match subject {
         Subject::Asked(Question::ChecksEach { entries, .. }) => entries.as_slice().len(),
@@ -61,8 +61,8 @@ fn rounds(subject: &Subject) -> usize
 /// Returns what is left of `room` after so many times the difference between `room` and `left`.
 fn spend(room: usize, left: usize, rounds: usize) -> Option<usize>
     requires { left ≤ room }
-    ensures some { IfSome result (λ rest. rest + times rounds (room - left) ≡ room) }
-    ensures none { IfNone result (room < times rounds (room - left)) }
+    ensures fits { IfSome result (λ rest. rest + times rounds (room - left) ≡ room) }
+    ensures exceeds { IfNone result (room < times rounds (room - left)) }
 {
     let Some(all) = (room - left).checked_mul(rounds) else {
         return None;
@@ -72,8 +72,8 @@ fn spend(room: usize, left: usize, rounds: usize) -> Option<usize>
 
 #[cycle(weigh)]
 fn weigh_statement(room: usize, statement: &Stmt) -> Option<usize>
-    ensures some { IfSome result (λ left. left + weight (stmt_then statement.now Done) ≡ room) }
-    ensures none { IfNone result (room < weight (stmt_then statement.now Done)) }
+    ensures fits { IfSome result (λ left. left + weight (stmt_then statement.now Done) ≡ room) }
+    ensures exceeds { IfNone result (room < weight (stmt_then statement.now Done)) }
 {
     let Some(left) = room.checked_sub(1) else {
         return None;
@@ -88,8 +88,8 @@ fn weigh_statement(room: usize, statement: &Stmt) -> Option<usize>
 /// A choice, without the 1 of its statement. Its cases weigh as much in each round.
 #[cycle(weigh)]
 fn weigh_choice(room: usize, subject: &Subject, cases: &[Case]) -> Option<usize>
-    ensures some { IfSome result (λ left. left + (entries_asked subject.now + times (length (rounds_of subject.now)) (weight_of_cases (cases_of cases.now))) ≡ room) }
-    ensures none { IfNone result (room < entries_asked subject.now + times (length (rounds_of subject.now)) (weight_of_cases (cases_of cases.now))) }
+    ensures fits { IfSome result (λ left. left + (entries_asked subject.now + times (length (rounds_of subject.now)) (weight_of_cases (cases_of cases.now))) ≡ room) }
+    ensures exceeds { IfNone result (room < entries_asked subject.now + times (length (rounds_of subject.now)) (weight_of_cases (cases_of cases.now))) }
 {
     let rounds = rounds(subject);
     let Some(room) = room.checked_sub(entries_asked(subject)) else {
@@ -103,8 +103,8 @@ fn weigh_choice(room: usize, subject: &Subject, cases: &[Case]) -> Option<usize>
 
 #[cycle(weigh)]
 fn weigh_cases(room: usize, cases: &[Case]) -> Option<usize>
-    ensures some { IfSome result (λ left. left + weight_of_cases (cases_of cases.now) ≡ room) }
-    ensures none { IfNone result (room < weight_of_cases (cases_of cases.now)) }
+    ensures fits { IfSome result (λ left. left + weight_of_cases (cases_of cases.now) ≡ room) }
+    ensures exceeds { IfNone result (room < weight_of_cases (cases_of cases.now)) }
 {
     let mut left = room;
     for case in cases {
@@ -118,8 +118,8 @@ fn weigh_cases(room: usize, cases: &[Case]) -> Option<usize>
 
 #[cycle(weigh)]
 fn weigh_case(room: usize, case: &Case) -> Option<usize>
-    ensures some { IfSome result (λ left. left + weight_of_cases (cases_of (case.now ∷ [])) ≡ room) }
-    ensures none { IfNone result (room < weight_of_cases (cases_of (case.now ∷ []))) }
+    ensures fits { IfSome result (λ left. left + weight_of_cases (cases_of (case.now ∷ [])) ≡ room) }
+    ensures exceeds { IfNone result (room < weight_of_cases (cases_of (case.now ∷ []))) }
 {
     let Some(left) = room.checked_sub(1) else {
         return None;

@@ -38,8 +38,8 @@ fn run_groups<C: Crew>(
 ) -> Result<(), AllocError>
     requires first { machine.old ≡ before_steps machine.old.state }
     requires free { AllFree slots.old }
-    requires some { 1 ≤ length slots.old }
-    requires few { length slots.old ≤ 16 }
+    requires at_least_one { 1 ≤ length slots.old }
+    requires at_most_16 { length slots.old ≤ 16 }
     requires idle { IsIdle (C.account crew.old).events }
     requires attempts { (C.account crew.old).attempts + 2 ^ 36 ≤ 2 ^ 62 }
     requires failures { (C.account crew.old).failures + 256 ≤ 2 ^ 62 }
@@ -71,8 +71,8 @@ fn run_in<C: Crew>(
     slots: &mut [Option<usize>],
 ) -> Result<RunEnd, AllocError>
     requires free { AllFree slots.old }
-    requires some { 1 ≤ length slots.old }
-    requires few { length slots.old ≤ 16 }
+    requires at_least_one { 1 ≤ length slots.old }
+    requires at_most_16 { length slots.old ≤ 16 }
     requires idle { IsIdle (C.account crew.old).events }
     requires attempts { (C.account crew.old).attempts + 2 ^ 36 ≤ 2 ^ 62 }
     requires failures { (C.account crew.old).failures + 256 ≤ 2 ^ 62 }
@@ -101,8 +101,8 @@ pub fn run<C: Crew>(
     crew: &mut C,
     window: usize,
 ) -> Result<RunEnd, AllocError>
-    requires some { 1 ≤ window }
-    requires few { window ≤ 16 }
+    requires at_least_one { 1 ≤ window }
+    requires at_most_16 { window ≤ 16 }
     requires idle { IsIdle (C.account crew.old).events }
     requires attempts { (C.account crew.old).attempts + 2 ^ 36 ≤ 2 ^ 62 }
     requires failures { (C.account crew.old).failures + 256 ≤ 2 ^ 62 }

@@ -16,7 +16,7 @@ fn next_start(slots: &[Option<usize>], jobs: &mut Queue) -> Option<(usize, Job)>
     ensures least { IfSome result (λ r. HeldBelow r.0 slots.now) }
     ensures job { IfSome result (λ r. jobs.old ≡ r.1 ∷ jobs.new) }
     ensures none { IfNone result (AllHeld slots.now ⊎ (jobs.old ≡ [])) }
-    ensures same { IfNone result (jobs.new ≡ jobs.old) }
+    ensures unchanged { IfNone result (jobs.new ≡ jobs.old) }
 {
     let slot = free_slot(slots)?;
     let job = jobs.take_first()?;
@@ -36,13 +36,13 @@ fn start_one<C: Crew>(
     requires next { slice_get machine.old.jobs started ≡ Some job }
     requires free { slice_get slots.old slot ≡ Some None }
     requires least { HeldBelow slot slots.old }
-    requires few { length slots.old ≤ 16 }
+    requires at_most_16 { length slots.old ≤ 16 }
     requires attempts { (C.account crew.old).attempts < 2 ^ 62 }
     requires failures { (C.account crew.old).failures < 2 ^ 62 }
     ensures serving { (before : Account) → Serving before machine.old.jobs started machine.old.replies slots.old (C.account crew.old)
         → Serving before machine.old.jobs (started + 1) machine.new.replies slots.new (C.account crew.new) }
     ensures fewer { open_count machine.new.replies ≤ open_count machine.old.replies }
-    ensures same { machine.new ≡ record machine.old { replies = machine.new.replies } }
+    ensures unchanged { machine.new ≡ record machine.old { replies = machine.new.replies } }
 {
     match crew.start(slot, job) {
         Ok(()) => slots[slot] = Some(started),
@@ -59,7 +59,7 @@ fn end_one<C: Crew>(machine: &mut Machine, crew: &mut C, slots: &mut [Option<usi
         → MayWait slots.old started machine.old.jobs
         → Serving before machine.old.jobs started machine.new.replies slots.new (C.account crew.new) }
     ensures fewer { open_count machine.new.replies < open_count machine.old.replies }
-    ensures same { machine.new ≡ record machine.old { replies = machine.new.replies } }
+    ensures unchanged { machine.new ≡ record machine.old { replies = machine.new.replies } }
 {
     let (slot, reply) = crew.next();
     if let Some(job) = slots[slot] {
@@ -79,12 +79,12 @@ pub(crate) fn serve<C: Crew>(
     requires fresh { machine.old.replies ≡ replicate (length machine.old.jobs) None }
     requires idle { IsIdle (C.account crew.old).events }
     requires free { AllFree slots.old }
-    requires some { 0 < length slots.old }
-    requires few { length slots.old ≤ 16 }
+    requires at_least_one { 0 < length slots.old }
+    requires at_most_16 { length slots.old ≤ 16 }
     requires attempts { (C.account crew.old).attempts + length machine.old.jobs ≤ 2 ^ 62 }
     requires failures { (C.account crew.old).failures + length machine.old.jobs ≤ 2 ^ 62 }
     ensures served { Served (length slots.old) (C.account crew.old) machine.old.jobs machine.new.replies (C.account crew.new) }
-    ensures same { machine.new ≡ record machine.old { replies = machine.new.replies } }
+    ensures unchanged { machine.new ≡ record machine.old { replies = machine.new.replies } }
     ensures free { AllFree slots.new }
 {
     let mut started = 0;

@@ -10,7 +10,7 @@ use Rattle.deftable.specs.declared.note.Note.{Note}
 use Rattle.engine.specs.Judged.{judged}
 use Rattle.framing.specs.Faults.{of_parse, of_option, of_precious, named, ◌>>=◌, wants}
 use Rattle.framing.specs.Given.{Accepted, Shows, Starts, old_of, present, started, accepted}
-use Rattle.framing.specs.declared.accepting.Start.{Start}
+use Rattle.framing.specs.declared.inputs.Start.{Start}
 use Rattle.framing.specs.declared.fault.Fault.{Fault}
 use Rattle.framing.specs.declared.fault.Fault.TheVariants.{Plan}
 use Rattle.options.specs.Opening.{opening}

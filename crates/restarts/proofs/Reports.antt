@@ -3,16 +3,16 @@ use Rattle.std.proofs.Common.{◌≡◌, ℕ, List, [], Option, Some, None, Resu
 use Rattle.std.specs.Prelude.{option_map}
 use Rattle.cachefile.specs.Text.{saved_value}
 use Rattle.deftable.specs.Table.{value_of, HasDistinctNames}
-use Rattle.engine.specs.Configured.{things}
+use Rattle.engine.specs.Configured.{artifacts}
 use Rattle.engine.specs.Told.{outcome_of}
 use Rattle.framing.specs.Given.{Accepted, Starts}
-use Rattle.framing.specs.Handing.{run_record, things_of}
-use Rattle.framing.specs.declared.accepting.Start.{Start}
+use Rattle.framing.specs.Handing.{run_record, artifacts_of}
+use Rattle.framing.specs.declared.inputs.Start.{Start}
 use Rattle.framing.specs.declared.fault.Fault.{Fault}
 use Rattle.framing.specs.declared.report.Outcome.{Outcome}
 use Rattle.meaning.specs.Play.{first_refused}
 use Rattle.meaning.specs.State.{How, Goes_on, Completed, Stopped, Cut, opened}
-use Rattle.outputs.specs.declared.thing.Thing.{Thing}
+use Rattle.outputs.specs.declared.artifact.Artifact.{Artifact}
 use Rattle.proberun.specs.Outcomes as run
 use Rattle.proberun.specs.Ran.{outcome_from}
 use Rattle.resuming.specs.Asked.{AsksNoSaved}
@@ -23,7 +23,7 @@ use Rattle.restarts.specs.Calls.{replies_to, IsCutShort}
 use Rattle.restarts.specs.Second.{end_of}
 use Rattle.restarts.specs.Law.{joined, ConfiguresResume}
 use Rattle.restarts.proofs.Distinct.{played_distinct}
-use Rattle.restarts.proofs.Sorting.{same_text, same_record, same_things}
+use Rattle.restarts.proofs.Sorting.{same_text, same_record, same_artifacts}
 use Rattle.restarts.proofs.Starting.{start_distinct, second_call_starts}
 use Rattle.restarts.proofs.Tellings.{tells}
 
@@ -112,9 +112,9 @@ configures_resume resume asks given cache script start second window other_windo
             λ n. ap (λ vs. value_of vs n) t.vars ∙ law.ends.value n ∙ sym (ap (λ vs. value_of vs n) two.vars) in
             let other_distinct = subst HasDistinctNames (sym t.vars) (played_distinct script start.vars all first_distinct) in
             let report_distinct = subst HasDistinctNames (sym two.vars) (played_distinct script second.vars more second_distinct) in
-            let handed : Start → List Thing = λ s. things script s given.templates report in
-            ap (λ o. things_of start.cache_name start.no_create given.templates o other.vars (run_record script start.srcdir start.args other.vars other.defs)) outcomes
-            ∙ same_things start.cache_name start.no_create given.templates report.outcome other.vars report.vars
+            let handed : Start → List Artifact = λ s. artifacts script s given.templates report in
+            ap (λ o. artifacts_of start.cache_name start.no_create given.templates o other.vars (run_record script start.srcdir start.args other.vars other.defs)) outcomes
+            ∙ same_artifacts start.cache_name start.no_create given.templates report.outcome other.vars report.vars
             (run_record script start.srcdir start.args other.vars other.defs) (run_record script start.srcdir start.args report.vars report.defs)
             (same_text other.vars report.vars other_distinct report_distinct values)
             (ap (λ d. run_record script start.srcdir start.args other.vars d) defs ∙ same_record script start.srcdir start.args other.vars report.vars report.defs values)

@@ -13,13 +13,13 @@ use Rattle.cachefile.specs.Text.{is_saved, saved_value, with_placed, saved_entri
 use Rattle.cachefile.proofs.Texts.{values_saved}
 use Rattle.cachefile.proofs.Orders.{Entries}
 use Rattle.deftable.specs.Table.{value_of, with_entry, names_of, HasDistinctNames}
-use Rattle.framing.specs.Handing.{cache_things, completed_things, run_record, things_of}
+use Rattle.framing.specs.Handing.{cache_artifacts, completed_artifacts, run_record, artifacts_of}
 use Rattle.framing.specs.declared.report.Outcome.{Outcome}
 use Rattle.framing.specs.declared.report.Outcome.TheVariants.{Completed, Stopped, CutShort, Shown}
 use Rattle.making.specs.Making.{record_of_run}
 use Rattle.making.specs.Variables.{output_names_of, output_value, output_variables}
-use Rattle.outputs.specs.declared.thing.Thing.{Thing}
-use Rattle.outputs.specs.declared.thing.Kind.TheVariants.{Cache}
+use Rattle.outputs.specs.declared.artifact.Artifact.{Artifact}
+use Rattle.outputs.specs.declared.artifact.Kind.TheVariants.{Cache}
 use Rattle.status_record.specs.declared.record.Record.{Record}
 use Rattle.syntax.specs.Lists.{lists_of}
 use Rattle.syntax.specs.Script.{Script}
@@ -102,17 +102,17 @@ same_record script srcdir args xs ys defs h =
     let made : Entries → Record = λ vars. record { srcdir = srcdir; args = Some args; vars = vars; defs = defs; files = lists.files; headers = lists.headers } in
     ap made (same_outputs xs ys (not (length lists.headers == 0)) lists.substituted h)
 
-same_cache : (name : Option (List ℕ)) (xs ys : Entries) → cache_text_of xs ≡ cache_text_of ys → cache_things name xs ≡ cache_things name ys
+same_cache : (name : Option (List ℕ)) (xs ys : Entries) → cache_text_of xs ≡ cache_text_of ys → cache_artifacts name xs ≡ cache_artifacts name ys
 same_cache None xs ys e = refl
 same_cache (Some name) xs ys e =
-    let thing : List ℕ → List Thing = λ text. record { kind = Cache; name = name; text = text } ∷ [] in
-    ap thing e
+    let artifact : List ℕ → List Artifact = λ text. record { kind = Cache; name = name; text = text } ∷ [] in
+    ap artifact e
 
-pub same_things : (name : Option (List ℕ)) (no_create : Bool) (templates : Entries) (outcome : Outcome) (xs ys : Entries) (r s : Record) → cache_text_of xs ≡ cache_text_of ys → r ≡ s
-    → things_of name no_create templates outcome xs r ≡ things_of name no_create templates outcome ys s
-unfolding things_of
-same_things name no_create templates Completed xs ys r s e h =
-    ap (λ c. c ++ completed_things no_create templates r) (same_cache name xs ys e) ∙ ap (λ x. cache_things name ys ++ completed_things no_create templates x) h
-same_things name no_create templates (Stopped status) xs ys r s e h = same_cache name xs ys e
-same_things name no_create templates (CutShort number) xs ys r s e h = same_cache name xs ys e
-same_things name no_create templates Shown xs ys r s e h = same_cache name xs ys e
+pub same_artifacts : (name : Option (List ℕ)) (no_create : Bool) (templates : Entries) (outcome : Outcome) (xs ys : Entries) (r s : Record) → cache_text_of xs ≡ cache_text_of ys → r ≡ s
+    → artifacts_of name no_create templates outcome xs r ≡ artifacts_of name no_create templates outcome ys s
+unfolding artifacts_of
+same_artifacts name no_create templates Completed xs ys r s e h =
+    ap (λ c. c ++ completed_artifacts no_create templates r) (same_cache name xs ys e) ∙ ap (λ x. cache_artifacts name ys ++ completed_artifacts no_create templates x) h
+same_artifacts name no_create templates (Stopped status) xs ys r s e h = same_cache name xs ys e
+same_artifacts name no_create templates (CutShort number) xs ys r s e h = same_cache name xs ys e
+same_artifacts name no_create templates Shown xs ys r s e h = same_cache name xs ys e

@@ -4,9 +4,9 @@ use Rattle.cachefile.specs.Text.{cache_text_of, saved_value}
 use Rattle.crew_trait.specs.declared.reply.Reply.{Reply}
 use Rattle.crew_trait.specs.Events.{Account}
 use Rattle.deftable.specs.Table.{value_of}
-use Rattle.engine.specs.Configured.{IsMeant, things}
+use Rattle.engine.specs.Configured.{IsMeant, artifacts}
 use Rattle.framing.specs.Given.{Starts}
-use Rattle.framing.specs.declared.accepting.Start.{Start}
+use Rattle.framing.specs.declared.inputs.Start.{Start}
 use Rattle.framing.specs.declared.report.Report.{Report}
 use Rattle.meaning.specs.Play.{first_refused}
 use Rattle.meaning.specs.State.{opened}
@@ -53,7 +53,7 @@ pub record EndsAsOne (given : Given) (script : Script) (start second : Start) (r
   pub one : Report
   pub tells : Tells script start replies one
   pub like : (other : Report) → Tells script start replies other → ReportsSo other report
-  pub hands : (other : Report) → Tells script start replies other → things script start given.templates other ≡ things script second given.templates report
+  pub hands : (other : Report) → Tells script start replies other → artifacts script start given.templates other ≡ artifacts script second given.templates report
 
 -- A call under these replies makes no test of a name that the first one saved. (own)
 abbrev pub AsksNoSavedName : Script → Report → Start → List Reply → Type 0

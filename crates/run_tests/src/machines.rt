@@ -17,7 +17,7 @@ use testrows::{Call, Page, number_of, try_rows};
 /// Replies to the first job that is asked by this exit status, or cuts all if the text is empty.
 fn reply(alloc: Global, machine: &mut Machine, status: &[u8])
     requires { slice_get machine.old.replies 0 ≡ Some None }
-    ensures same { machine.new ≡ record machine.old { replies = machine.new.replies } }
+    ensures unchanged { machine.new ≡ record machine.old { replies = machine.new.replies } }
     ensures each { length machine.new.replies ≡ length machine.old.replies }
 {
     if status.is_empty() {

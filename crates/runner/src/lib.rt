@@ -13,13 +13,13 @@
 //! in `commands`, and `Filtered` in `filtering`. `specs/Puts` is small. In `src`, read `inputs` and `program`; `telling` is small.
 #![tactic(auto)]
 
+mod errors;
 mod inputs;
 mod program;
-mod telling;
 
+pub use errors::tell;
 pub use explaining::asks_why;
 pub use filtering::{FilterFault, Filtered, filter};
 pub use framing::Fault;
 pub use invocation::{LOG, environment, may_show_progress, words};
 pub use program::{command, run};
-pub use telling::tell;

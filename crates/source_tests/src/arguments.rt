@@ -12,10 +12,10 @@ use acargs::shell::{here_text, patterns, test, word};
 use acstatement::fault::{quote_fault, shell_fault};
 use acstatement::idle::is_idle;
 use acstatement::inside::{call_items, inside};
-use acstatement::stand::{NO_EDGE, edge_of, is_statement};
+use acstatement::placement::{LIST_START, is_statement, line_start_of};
 use acstatement::texts::arg_at;
 use m4quote::{Arg, Item, QuoteFault, read_items};
-use outputlist::{Output, Outputs};
+use outputlist::{Output, OutputList};
 use shellword::ShellFault;
 use std::test::Fail;
 use syntax::{Help, HelpList, OptionKind, is_feature, option_variable};
@@ -259,13 +259,13 @@ fn put_calls(page: &mut Page, items: &[Item<'_>]) {
 
 /// Returns whether the first call among items stands as a statement does.
 fn stands(items: &[Item<'_>]) -> bool {
-    let mut edge = NO_EDGE;
+    let mut line_start = LIST_START;
     for (i, item) in items.iter().enumerate() {
         if let Item::Call { name, args, at } = item {
             let rest = items.get(i.saturating_add(1)..).unwrap_or(&[]);
-            return is_statement(edge, name, args.as_slice(), *at, rest);
+            return is_statement(line_start, name, args.as_slice(), *at, rest);
         }
-        edge = edge_of(item);
+        line_start = line_start_of(item);
     }
     false
 }
@@ -281,8 +281,8 @@ impl Next<Vec<Item<'_>>> for Other {
 }
 
 /// Returns the files that an argument names.
-fn files_of(page: &mut Page, given: &[u8]) -> Outputs {
-    let none = Outputs::new(page.alloc());
+fn files_of(page: &mut Page, given: &[u8]) -> OutputList {
+    let none = OutputList::new(page.alloc());
     match outputs(page.alloc(), &none, &none, Arg { text: given, at: 0 }) {
         Ok(files) => files,
         Err(_) => none,
@@ -297,7 +297,7 @@ fn put_files(page: &mut Page, arg: Arg<'_>) {
 }
 
 /// Adds files to a list twice: all at once, and one after another.
-fn add_files(page: &mut Page, files: &mut Outputs, added: &[Output]) {
+fn add_files(page: &mut Page, files: &mut OutputList, added: &[Output]) {
     page.given(files.push_copies(page.alloc(), added));
     for file in added {
         if let Some(copy) = page.given(file.copy(page.alloc())) {
@@ -309,7 +309,7 @@ fn add_files(page: &mut Page, files: &mut Outputs, added: &[Output]) {
 /// A list of files to which those of another are added, and one more.
 fn put_added(page: &mut Page, given: &[u8]) {
     let old = files_of(page, given);
-    let mut files = Outputs::new(page.alloc());
+    let mut files = OutputList::new(page.alloc());
     page.put_yes(files.is_empty());
     add_files(page, &mut files, old.as_slice());
     page.put_yes(files.is_empty());

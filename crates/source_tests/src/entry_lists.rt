@@ -1,7 +1,7 @@
 //! entries: lists of headers, functions, declarations and types.
 
 use crate::told::{Next, put_made, put_next};
-use entries::reading::{entries, entry};
+use acentries::reading::{entries, entry};
 use m4quote::Arg;
 use std::test::Fail;
 use syntax::{Entries, Listed, Sought};

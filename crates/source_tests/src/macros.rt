@@ -4,9 +4,9 @@
 use crate::told::{Next, Told, add, put_each, put_if, put_made, put_next, put_of, put_sought};
 use acargs::ParseFault;
 use acmacros::checks::complete;
+use acmacros::list_kind::{ListKind, check_list_kind};
 use acmacros::placement::{as_statement, bare_fault, check_place};
 use acmacros::rows::{plain, question};
-use acmacros::scene::{Scene, check_scene};
 use acmacros::table::{row_named, takes};
 use acmacros::{ArgumentMacro, ChoiceMacro, Macro, Named, PlainMacro, QuestionMacro};
 use deftable::{Bytes, Texts};
@@ -90,7 +90,7 @@ fn allowed(is_top: bool, stage: Stage, name: &[u8]) -> Result<(), ParseFault> {
 
 /// Checks whether the commands of AC_CACHE_CHECK may call a macro of this name.
 fn allowed_in_commands(name: &[u8]) -> Result<(), ParseFault> {
-    let scene = Scene::Commands {
+    let list_kind = ListKind::Commands {
         name: b"v_cv_x",
         at: 9,
     };
@@ -98,7 +98,7 @@ fn allowed_in_commands(name: &[u8]) -> Result<(), ParseFault> {
         return Err(bare_fault(Stage::Open, 3));
     };
     let m = as_statement(Stage::Open, 3, row.named)?;
-    check_scene(scene.of_case(), m)
+    check_list_kind(list_kind.of_case(), m)
 }
 
 // ---- readers

@@ -2,7 +2,7 @@
 
 use deftable::{Bytes, Name, Vars};
 use m4quote::Arg;
-use outputlist::Outputs;
+use outputlist::OutputList;
 use shellword::{HereText, Part, Pattern, Patterns, Piece, Test, Word};
 use std::fmt::Display;
 use syntax::{Entries, Help, Listed, Sought};
@@ -217,7 +217,7 @@ impl Told for Help {
 }
 
 /// How many there are, and the name and the template of each.
-impl Told for Outputs {
+impl Told for OutputList {
     fn tell(&self, page: &mut Page) {
         page.put_number(self.len());
         for output in self.as_slice() {

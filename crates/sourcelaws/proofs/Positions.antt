@@ -4,15 +4,15 @@ use Rattle.std.proofs.lemmas.List.{append-nil}
 use Rattle.m4quote.specs.Entry.{Span, Entry, call}
 use Rattle.m4quote.specs.Spelling.{Spells, nothing, bare_text, dropped_line, bare_name, with_arguments}
 use Rattle.m4quote.proofs.Insides.{front_fits}
-use Rattle.acstatement.specs.Stand.{no_edge, edge_of, is_statement}
-use Rattle.acstatement.specs.declared.stand.Edge.{Edge}
+use Rattle.acstatement.specs.Stand.{no_line_start, line_start_of, is_statement}
+use Rattle.acstatement.specs.declared.placement.LineStart.{LineStart}
 use Rattle.syntax.specs.declared.declarations.Declarations as declarations
 use Rattle.syntax.specs.Lists.{after_all}
 use Rattle.syntax.specs.Script.{Script}
-use Rattle.acmacros.specs.Scene.{Scene}
+use Rattle.acmacros.specs.ListKind.{ListKind}
 use Rattle.acparse.specs.Statements.{Within, IsBody, IsItem, plain_call, choice, question, check, AreStatements, one}
 use Rattle.sourcelaws.specs.Signs.{Sign, call_sign, byte_sign, bytes, signs_of}
-use Rattle.sourcelaws.specs.Position.{edge_after, StatementsAreApart, ReadAreApart}
+use Rattle.sourcelaws.specs.Position.{line_start_after, StatementsAreApart, ReadAreApart}
 use Rattle.sourcelaws.proofs.Opens.{ends_before, ends_after, signs_open, both_true}
 use Rattle.sourcelaws.proofs.Founds.{find, Pending}
 use Rattle.sourcelaws.proofs.Clear.{clear_after-opens, opens-clear_after, clear_before-opens, opens-clear_before}
@@ -88,9 +88,9 @@ pub statements_are_apart : StatementsAreApart
 unfolding is_statement
 statements_are_apart base text before after name args at spelling =
     let s = spelling.spells in
-    let alone : Pending [] base base no_edge [] =
+    let alone : Pending [] base base no_line_start [] =
     record { touches = omega arith; leaves = refl; past = λ e to le. refl } in
-    let f = find s [] base no_edge [] alone before name args at after refl in
+    let f = find s [] base no_line_start [] alone before name args at after refl in
     let left = f.left ∙ ap (signs_open ends_before) (append-nil (reverse f.front)) in (
       (λ is.
           let both = both_true _ _ is in
@@ -115,29 +115,29 @@ statements_are_apart base text before after name args at spelling =
 
 -- ---- calls of a list that is read
 
-item_parted : (scene : Scene) (Inside : Scene → Within) (c : declarations.Declarations)
-    (edge : Edge) (name : List ℕ) (args : List Span) (at : ℕ) (after : List Entry) (s : Script)
-    → IsItem scene Inside c edge (call name args at) after s
-    → is_statement edge name args at after ≡ true
-item_parted scene Inside c edge name args at after s (plain_call may is) = may.parted
-item_parted scene Inside c edge name args at after s (choice may is cases) = may.parted
-item_parted scene Inside c edge name args at after s (question may is first other whole) =
+item_parted : (list_kind : ListKind) (Inside : ListKind → Within) (c : declarations.Declarations)
+    (line_start : LineStart) (name : List ℕ) (args : List Span) (at : ℕ) (after : List Entry) (s : Script)
+    → IsItem list_kind Inside c line_start (call name args at) after s
+    → is_statement line_start name args at after ≡ true
+item_parted list_kind Inside c line_start name args at after s (plain_call may is) = may.parted
+item_parted list_kind Inside c line_start name args at after s (choice may is cases) = may.parted
+item_parted list_kind Inside c line_start name args at after s (question may is first other whole) =
     may.parted
-item_parted scene Inside c edge name args at after s (check may message variable commands) =
+item_parted list_kind Inside c line_start name args at after s (check may message variable commands) =
     may.parted
 
-list_parted : (scene : Scene) (Inside : Scene → Within) (before : List Entry) (name : List ℕ)
-    (args : List Span) (at : ℕ) (after : List Entry) (c : declarations.Declarations) (edge : Edge)
+list_parted : (list_kind : ListKind) (Inside : ListKind → Within) (before : List Entry) (name : List ℕ)
+    (args : List Span) (at : ℕ) (after : List Entry) (c : declarations.Declarations) (line_start : LineStart)
     (s : Script)
-    → AreStatements scene Inside c edge (before ++ call name args at ∷ after) s
-    → is_statement (edge_after edge before) name args at after ≡ true
-list_parted scene Inside [] name args at after c edge s (one {first} {rest = more} item rest) =
-    item_parted scene Inside c edge name args at after first item
-list_parted scene Inside (x ∷ before) name args at after c edge s
+    → AreStatements list_kind Inside c line_start (before ++ call name args at ∷ after) s
+    → is_statement (line_start_after line_start before) name args at after ≡ true
+list_parted list_kind Inside [] name args at after c line_start s (one {first} {rest = more} item rest) =
+    item_parted list_kind Inside c line_start name args at after first item
+list_parted list_kind Inside (x ∷ before) name args at after c line_start s
     (one {first} {rest = more} item rest) =
-    list_parted scene Inside before name args at after (after_all c first) (edge_of x) more rest
+    list_parted list_kind Inside before name args at after (after_all c first) (line_start_of x) more rest
 
 pub read_are_apart : ReadAreApart
-read_are_apart scene room c base text before after name args at s spelling are =
+read_are_apart list_kind room c base text before after name args at s spelling are =
     (statements_are_apart base text before after name args at spelling).0
-    (list_parted scene (IsBody room) before name args at after c no_edge s are)
+    (list_parted list_kind (IsBody room) before name args at after c no_line_start s are)

@@ -3,11 +3,11 @@ use Rattle.std.specs.Prelude.{◌≡◌, ◌⊎◌, ◌↔◌, ℕ, true, List, 
 use Rattle.std.specs.List.{list_all}
 use Rattle.m4quote.specs.Entry.{Span, Entry, call}
 use Rattle.m4quote.specs.Spelling.{IsSpelling}
-use Rattle.acstatement.specs.declared.stand.Edge.{Edge}
-use Rattle.acstatement.specs.Stand.{is_space, no_edge, edge_of, is_statement}
+use Rattle.acstatement.specs.declared.placement.LineStart.{LineStart}
+use Rattle.acstatement.specs.Stand.{is_space, no_line_start, line_start_of, is_statement}
 use Rattle.syntax.specs.declared.declarations.Declarations as declarations
 use Rattle.syntax.specs.Script.{Script}
-use Rattle.acmacros.specs.Scene.{Scene}
+use Rattle.acmacros.specs.ListKind.{ListKind}
 use Rattle.acparse.specs.Statements.{AreStatements, IsBody}
 use Rattle.sourcelaws.specs.Signs.{Sign, call_sign, byte_sign, bytes, newline, signs_of}
 
@@ -54,23 +54,23 @@ pub record IsApart (signs : List Sign) (at : ℕ) : Type 0 where
   pub clear_after : IsClearAfter after
 
 -- What the last of the items is to a call after them. (own)
-abbrev pub edge_after : Edge → List Entry → Edge
-edge_after edge [] = edge
-edge_after edge (item ∷ items) = edge_after (edge_of item) items
+abbrev pub line_start_after : LineStart → List Entry → LineStart
+line_start_after line_start [] = line_start
+line_start_after line_start (item ∷ items) = line_start_after (line_start_of item) items
 
 -- A call of a text is a statement exactly if it is apart. (own)
 abbrev pub StatementsAreApart : Type 0
 StatementsAreApart = (base : ℕ) (text : List ℕ) (before after : List Entry)
     (name : List ℕ) (args : List Span) (at : ℕ)
     → (spelling : IsSpelling base text (before ++ call name args at ∷ after))
-    → (is_statement (edge_after no_edge before) name args at after ≡ true) ↔ IsApart (signs_of spelling.spells) at
+    → (is_statement (line_start_after no_line_start before) name args at after ≡ true) ↔ IsApart (signs_of spelling.spells) at
 
 -- Each call of a list that is read is apart, in the file's own list and in each statement argument.
 -- (own)
 abbrev pub ReadAreApart : Type 0
-ReadAreApart = (scene : Scene) (room : ℕ) (c : declarations.Declarations)
+ReadAreApart = (list_kind : ListKind) (room : ℕ) (c : declarations.Declarations)
     (base : ℕ) (text : List ℕ) (before after : List Entry)
     (name : List ℕ) (args : List Span) (at : ℕ) (s : Script)
     → (spelling : IsSpelling base text (before ++ call name args at ∷ after))
-    → AreStatements scene (IsBody room) c no_edge (before ++ call name args at ∷ after) s
+    → AreStatements list_kind (IsBody room) c no_line_start (before ++ call name args at ∷ after) s
     → IsApart (signs_of spelling.spells) at

@@ -5,7 +5,7 @@ use Rattle.bstr.specs.Text.{Contains}
 use Rattle.disk.specs.Known.{Known}
 use Rattle.diskfiles.specs.Reading.{IsReadLimited}
 use Rattle.textcut.specs.Cuts.{parts}
-use Rattle.input.specs.Parted.{first_line}
+use Rattle.filter_input.specs.Parted.{first_line}
 
 -- The word is the name of a C source file. (own)
 abbrev pub names_source : List ℕ → Bool

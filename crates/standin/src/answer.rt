@@ -15,7 +15,7 @@ use crate::texts::{text_of, text_of_conftest};
 use bstr::ByteSlice;
 use deftable::Bytes;
 use disk::Disk;
-use input::line_len;
+use filter_input::line_len;
 use std::alloc::{AllocError, Global};
 use std::fs;
 use std::io::Write;

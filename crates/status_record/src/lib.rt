@@ -28,7 +28,7 @@ mod record;
 mod write;
 
 pub use fault::RecordFault;
-pub use outputlist::{Output, Outputs, is_path};
+pub use outputlist::{Output, OutputList, is_path};
 pub use read::read_record;
 pub use record::Record;
 pub use write::write_record;

@@ -20,7 +20,7 @@ use crate::fault::RecordFault;
 use crate::line::{after_prefix, entry_in, output_in};
 use crate::record::Record;
 use deftable::{Bytes, Defs, Texts, Vars};
-use outputlist::Outputs;
+use outputlist::OutputList;
 use std::alloc::{AllocError, Global};
 use textcut::parts;
 
@@ -80,7 +80,7 @@ fn add_name(names: &mut Vars, name: &[u8]) -> Result<(), AllocError>
 fn add_output(
     alloc: Global,
     names: &mut Vars,
-    outputs: &mut Outputs,
+    outputs: &mut OutputList,
     number: u64,
     fields: &[u8],
 ) -> Result<(), RecordFault>
@@ -161,13 +161,13 @@ fn read_outputs(
     names: &mut Vars,
     lines: &[&[u8]],
     from: usize,
-) -> Result<(Outputs, usize), RecordFault>
+) -> Result<(OutputList, usize), RecordFault>
     requires { from ≤ length lines.now }
     ensures reads { specs.Gives (λ r. (r.0, (r.1, drop r.1 (map (λ t. t.now) lines.now)))) result (specs.outputs_in keyword.now (names_of names.old) from (drop from (map (λ t. t.now) lines.now))) }
     ensures within { IfOk result (λ r. r.1 ≤ length lines.now) }
     ensures named { IfOk result (λ r. names_of names.new ≡ names_of names.old ++ output_names r.0) }
 {
-    let mut outputs = Outputs::new(alloc);
+    let mut outputs = OutputList::new(alloc);
     for i in from..lines.len() {
         let Some(fields) = after_prefix(keyword, lines[i]) else {
             return Ok((outputs, i));

@@ -1,7 +1,7 @@
 //! The record of a run.
 
 use deftable::{Bytes, Defs, Texts};
-use outputlist::Outputs;
+use outputlist::OutputList;
 
 /// What the outputs of a run are made from again, and the run is done again with (own): the source directory, the arguments,
 /// the output variables, the definitions, the files and the headers, each in order.
@@ -12,6 +12,6 @@ pub struct Record {
     pub args: Option<Texts>,
     pub vars: Defs,
     pub defs: Defs,
-    pub files: Outputs,
-    pub headers: Outputs,
+    pub files: OutputList,
+    pub headers: OutputList,
 }

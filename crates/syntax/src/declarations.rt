@@ -8,7 +8,7 @@ use crate::feature::OptionKind;
 use crate::help::{Help, HelpList};
 use crate::statement::{Plain, Question};
 use deftable::{Bytes, Name, SubstList};
-use outputlist::Outputs;
+use outputlist::OutputList;
 use std::alloc::{AllocError, Global};
 
 /// How far a source is: which of AC_INIT and AC_OUTPUT it has passed.
@@ -37,9 +37,9 @@ pub struct Declarations {
     /// The help entries of AC_ARG_ENABLE, AC_ARG_WITH and AC_ARG_VAR, one for each call, in order.
     pub help: HelpList,
     /// The files to be made, in the order in which they are named.
-    pub files: Outputs,
+    pub files: OutputList,
     /// The headers to be made, in the same way.
-    pub headers: Outputs,
+    pub headers: OutputList,
 }
 
 impl Drop for Declarations {
@@ -69,8 +69,8 @@ impl Declarations {
             features: SubstList::new(alloc),
             packages: SubstList::new(alloc),
             help: HelpList::new(alloc),
-            files: Outputs::new(alloc),
-            headers: Outputs::new(alloc),
+            files: OutputList::new(alloc),
+            headers: OutputList::new(alloc),
         }
     }
 }

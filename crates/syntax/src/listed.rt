@@ -50,7 +50,7 @@ impl Model for Entries {
 impl Entries {
     /// Makes the list from a vector, without a copy.
     pub fn from_vec(entries: Vec<Bytes>) -> Entries
-        requires some { 0 < length entries.items }
+        requires at_least_one { 0 < length entries.items }
         requires bounded { length entries.items ≤ 256 }
         ensures { result ≡ entries.items }
     {
@@ -60,7 +60,7 @@ impl Entries {
     /// Returns the entries, in order.
     pub fn as_slice(&self) -> &[Bytes]
         ensures value { result.now ≡ self.now }
-        ensures some { 0 < length self.now }
+        ensures at_least_one { 0 < length self.now }
         ensures bounded { length self.now ≤ 256 }
     {
         self.entries.as_slice()

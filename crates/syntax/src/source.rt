@@ -10,7 +10,7 @@ use crate::declarations::Declarations;
 use crate::help::HelpList;
 use crate::tree::Stmt;
 use deftable::SubstList;
-use outputlist::Outputs;
+use outputlist::OutputList;
 use std::marker::Model;
 
 /// A configure.ac that was read. Contracts see its statements; its lists are those that the statements declare.
@@ -116,14 +116,14 @@ impl Source {
     }
 
     /// Returns the files that AC_CONFIG_FILES names, in order, each name once.
-    pub fn files(&self) -> &Outputs
+    pub fn files(&self) -> &OutputList
         ensures { result.now ≡ (lists_of (script_of self.now)).files }
     {
         &self.lists.files
     }
 
     /// Returns the headers that AC_CONFIG_HEADERS names, in order, each name once.
-    pub fn headers(&self) -> &Outputs
+    pub fn headers(&self) -> &OutputList
         ensures { result.now ≡ (lists_of (script_of self.now)).headers }
     {
         &self.lists.headers

@@ -5,7 +5,7 @@ use crate::help::Help;
 use crate::listed::{Entries, Listed, Sought};
 use crate::program::{Program, Try};
 use deftable::{Bytes, Name, Texts};
-use outputlist::Outputs;
+use outputlist::OutputList;
 use shellword::{HereText, Word};
 
 /// What a message is (Autoconf's manual, "Printing Messages").
@@ -37,11 +37,11 @@ pub enum Plain {
     Accepted,
     /// AC_CONFIG_FILES: files to be made.
     ConfigFiles {
-        outputs: Outputs,
+        outputs: OutputList,
     },
     /// AC_CONFIG_HEADERS: headers to be made.
     ConfigHeaders {
-        outputs: Outputs,
+        outputs: OutputList,
     },
     /// `NAME=WORD`: a shell variable and the word that gives its value.
     Assign {

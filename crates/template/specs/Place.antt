@@ -2,7 +2,7 @@
 -- manual, "Preset Output Variables")
 use Rattle.std.specs.Prelude.{ℕ, zero, suc, ◌==◌, nat_eq, Bool, ◌||◌, List, ◌++◌, bytes_eq, codes, count_by, if◌then◌else◌}
 use Rattle.std.specs.List.{starts_with, before_last, after_last}
-use Rattle.template.specs.declared.placing.Place.{Place}
+use Rattle.template.specs.declared.paths.Place.{Place}
 
 -- The byte that separates the directories in a file's name. (own)
 abbrev pub is_slash : ℕ → Bool

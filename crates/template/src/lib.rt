@@ -24,14 +24,14 @@
 
 pub mod filling;
 pub mod header;
+pub mod paths;
 pub mod pieces;
-pub mod placing;
 mod sieve;
 mod signs;
 pub mod table;
 
 pub use filling::{fill, has_one_filled_text};
 pub use header::{fill_header, has_one_header};
+pub use paths::{Place, configure_input, header_note, place_vars};
 pub use pieces::{Filler, pieces_join};
-pub use placing::{Place, configure_input, header_note, place_vars};
 pub use table::Table;

@@ -5,7 +5,7 @@ ghost use Rattle.findings.specs.Within.{KeepsWithin};
 
 use crate::advice::variable_advice;
 use crate::given::Given;
-use crate::saying::{Form, warn_at, warn_of_name};
+use crate::messages::{Form, warn_at, warn_of_name};
 use bstr::ByteSlice;
 use deftable::{SubstList, is_shell_name};
 use findings::{Finding, Span};

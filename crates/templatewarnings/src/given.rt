@@ -3,7 +3,7 @@
 use commandline::{Directory, directories};
 use deftable::{Bytes, SubstList, is_shell_name};
 use m4quote::cpp_name;
-use outputlist::Outputs;
+use outputlist::OutputList;
 use std::alloc::{AllocError, Global};
 use syntax::{Case, Listed, Plain, Question, Sought, Source, Stmt, Subject};
 
@@ -56,7 +56,7 @@ fn add_named(list: &mut SubstList, names: &[Bytes]) -> Result<(), AllocError> {
 }
 
 /// Adds DEFS, if the source makes a header.
-fn add_defs(list: &mut SubstList, headers: &Outputs) -> Result<(), AllocError> {
+fn add_defs(list: &mut SubstList, headers: &OutputList) -> Result<(), AllocError> {
     if headers.is_empty() {
         return Ok(());
     }

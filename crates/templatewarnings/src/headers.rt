@@ -5,7 +5,7 @@ ghost use Rattle.findings.specs.Within.{KeepsWithin};
 
 use crate::advice::definition_advice;
 use crate::given::{Given, add_name};
-use crate::saying::{Form, joined, warn_of_name};
+use crate::messages::{Form, joined, warn_of_name};
 use bstr::ByteSlice;
 use deftable::{SubstList, is_shell_name};
 use findings::{Finding, Span, warn};

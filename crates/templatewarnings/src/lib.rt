@@ -17,7 +17,7 @@ mod advice;
 mod files;
 mod given;
 mod headers;
-mod saying;
+mod messages;
 
 pub use files::warn_of_file;
 pub use given::Given;

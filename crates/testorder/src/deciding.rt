@@ -43,7 +43,7 @@ fn keeps_apart(
     statements: &[Stmt],
 ) -> Result<bool, AllocError>
     ensures value { IfOk result (λ b. b ≡ decide.resumable (option_map (λ x. x.now) own.entry) tested.old (script_of statements.now)) }
-    ensures same { OnOk result (tested.new ≡ tested.old) }
+    ensures unchanged { OnOk result (tested.new ≡ tested.old) }
 {
     let length = tested.len();
     let kept = keeps_all(alloc, own, tested, statements)?;
@@ -60,7 +60,7 @@ fn keeps_case(
     case: &Case,
 ) -> Result<bool, AllocError>
     ensures value { IfOk result (λ b. b ≡ decide.reads_when tested.old case.now.when && decide.resumable (option_map (λ x. x.now) own.entry) tested.old (script_of case.now.body.items)) }
-    ensures same { OnOk result (tested.new ≡ tested.old) }
+    ensures unchanged { OnOk result (tested.new ≡ tested.old) }
 {
     if !reads_when(tested, &case.when) {
         return Ok(false);
@@ -77,7 +77,7 @@ fn keeps_cases(
     cases: &[Case],
 ) -> Result<bool, AllocError>
     ensures value { IfOk result (λ b. b ≡ decide.resumable_in (option_map (λ x. x.now) own.entry) tested.old (cases_of cases.now)) }
-    ensures same { OnOk result (tested.new ≡ tested.old) }
+    ensures unchanged { OnOk result (tested.new ≡ tested.old) }
 {
     for case in cases {
         if !keeps_case(alloc, own, tested, case)? {

@@ -2,8 +2,8 @@
 
 use deftable::{Bytes, Defs, SubstList, Texts, Vars, is_shell_name};
 use making::{add_outputs, find_missing, find_unknown, make_file, make_outputs, record_of};
-use outputs::{Kind, Thing, Things};
-use status_record::{Output, Outputs, Record};
+use outputs::{Artifact, Artifacts, Kind};
+use status_record::{Output, OutputList, Record};
 use std::alloc::{AllocError, Global};
 use std::test::Fail;
 use testrows::{Call, Page, cut, try_rows};
@@ -88,8 +88,8 @@ fn output_of(alloc: Global, names: &[u8]) -> Result<Output, AllocError> {
 }
 
 /// Returns the outputs of this kind.
-fn outputs_of(alloc: Global, list: &[u8], kind: &[u8]) -> Result<Outputs, AllocError> {
-    let mut outputs = Outputs::new(alloc);
+fn outputs_of(alloc: Global, list: &[u8], kind: &[u8]) -> Result<OutputList, AllocError> {
+    let mut outputs = OutputList::new(alloc);
     for piece in list.split(|byte| *byte == b';') {
         let (first, names) = cut(piece, b" ");
         if first == kind {
@@ -200,7 +200,7 @@ fn put_defs(page: &mut Page, defs: &Defs) {
     }
 }
 
-fn put_outputs(page: &mut Page, outputs: &Outputs) {
+fn put_outputs(page: &mut Page, outputs: &OutputList) {
     for output in outputs.as_slice() {
         page.put(output.name.as_slice());
         page.put_text(output.template.as_slice());
@@ -236,15 +236,15 @@ fn put_kind(page: &mut Page, kind: Kind) {
     }
 }
 
-fn put_thing(page: &mut Page, thing: &Thing) {
-    put_kind(page, thing.kind);
-    page.put(thing.name.as_slice());
-    page.put_text(thing.text.as_slice());
+fn put_artifact(page: &mut Page, artifact: &Artifact) {
+    put_kind(page, artifact.kind);
+    page.put(artifact.name.as_slice());
+    page.put_text(artifact.text.as_slice());
 }
 
-fn put_things(page: &mut Page, things: &[Thing]) {
-    for thing in things {
-        put_thing(page, thing);
+fn put_artifacts(page: &mut Page, artifacts: &[Artifact]) {
+    for artifact in artifacts {
+        put_artifact(page, artifact);
     }
 }
 
@@ -253,24 +253,24 @@ fn made_twice(
     record: &Record,
     templates: &[(Bytes, Bytes)],
     tags: &[Bytes],
-) -> Result<Things, AllocError> {
-    let mut things = Things::new(alloc);
-    add_outputs(alloc, &mut things, record, templates, tags)?;
-    add_outputs(alloc, &mut things, record, templates, tags)?;
-    Ok(things)
+) -> Result<Artifacts, AllocError> {
+    let mut artifacts = Artifacts::new(alloc);
+    add_outputs(alloc, &mut artifacts, record, templates, tags)?;
+    add_outputs(alloc, &mut artifacts, record, templates, tags)?;
+    Ok(artifacts)
 }
 
-fn put_made(page: &mut Page, made: Result<Things, AllocError>) {
-    if let Some(things) = page.given(made) {
-        put_things(page, things.as_slice());
+fn put_made(page: &mut Page, made: Result<Artifacts, AllocError>) {
+    if let Some(artifacts) = page.given(made) {
+        put_artifacts(page, artifacts.as_slice());
     }
 }
 
 fn put_first_file(page: &mut Page, record: &Record, templates: &[(Bytes, Bytes)]) {
     if let Some(file) = record.files.as_slice().first() {
         let made = make_file(page.alloc(), record, templates, file);
-        if let Some(thing) = page.given(made) {
-            put_thing(page, &thing);
+        if let Some(artifact) = page.given(made) {
+            put_artifact(page, &artifact);
         }
     }
 }

@@ -1,12 +1,12 @@
-//! outputs: things that are put to a receiver in memory.
+//! outputs: artifacts that are put to a receiver in memory.
 
-use outputs::{Kind, MemoryOutputs, Outputs, Thing, Things, put_all};
+use outputs::{Artifact, Artifacts, Kind, MemoryOutputs, Outputs, put_all};
 use std::alloc::{AllocError, Global};
 use std::test::Fail;
 use testrows::{Call, Page, cut, try_rows};
 
-/// `all`, the number of the put that is refused, a bar, and things with `;` between them, each a kind, a name and a text:
-/// `done` or the number that is returned, and what was handed over. `twice`: the same of two calls with the same things. `one`:
+/// `all`, the number of the put that is refused, a bar, and artifacts with `;` between them, each a kind, a name and a text:
+/// `done` or the number that is returned, and what was handed over. `twice`: the same of two calls with the same artifacts. `one`:
 /// the same of a single put, with its error in place of a number.
 const PUTS: &[u8] = b"
 all 0|cache config.cache a=b^J;record config.status r;file src/Makefile x^J y^J;header config.h  => done;cache config.cache[a=b^J]record config.status[r]file src/Makefile[x^J y^J]header config.h[]
@@ -48,20 +48,20 @@ fn put_kind(page: &mut Page, kind: Kind) {
     }
 }
 
-fn thing_of(alloc: Global, text: &[u8]) -> Result<Thing, AllocError> {
+fn artifact_of(alloc: Global, text: &[u8]) -> Result<Artifact, AllocError> {
     let (kind, rest) = cut(text, b" ");
     let (name, text) = cut(rest, b" ");
-    Thing::from_slices(alloc, kind_of(kind), name, text)
+    Artifact::from_slices(alloc, kind_of(kind), name, text)
 }
 
-fn things_of(alloc: Global, text: &[u8]) -> Result<Things, AllocError> {
-    let mut things = Things::new(alloc);
+fn artifacts_of(alloc: Global, text: &[u8]) -> Result<Artifacts, AllocError> {
+    let mut artifacts = Artifacts::new(alloc);
     for piece in text.split(|byte| *byte == b';') {
         if !piece.is_empty() {
-            things.push(thing_of(alloc, piece)?)?;
+            artifacts.push(artifact_of(alloc, piece)?)?;
         }
     }
-    Ok(things)
+    Ok(artifacts)
 }
 
 fn number_of(text: &[u8]) -> u64 {
@@ -71,11 +71,11 @@ fn number_of(text: &[u8]) -> u64 {
     }
 }
 
-fn put_handed(page: &mut Page, things: &[Thing]) {
-    for thing in things {
-        put_kind(page, thing.kind);
-        page.put(thing.name.as_slice());
-        page.put_text(thing.text.as_slice());
+fn put_handed(page: &mut Page, artifacts: &[Artifact]) {
+    for artifact in artifacts {
+        put_kind(page, artifact.kind);
+        page.put(artifact.name.as_slice());
+        page.put_text(artifact.text.as_slice());
     }
 }
 
@@ -87,16 +87,16 @@ fn put_answer(page: &mut Page, answer: Result<(), u64>) {
     page.put(b";");
 }
 
-fn put_all_once(page: &mut Page, refuse: u64, things: &[Thing]) {
+fn put_all_once(page: &mut Page, refuse: u64, artifacts: &[Artifact]) {
     let mut outputs = MemoryOutputs::new(page.alloc(), refuse);
-    put_answer(page, put_all(&mut outputs, things));
+    put_answer(page, put_all(&mut outputs, artifacts));
     put_handed(page, outputs.handed());
 }
 
-fn put_all_twice(page: &mut Page, refuse: u64, things: &[Thing]) {
+fn put_all_twice(page: &mut Page, refuse: u64, artifacts: &[Artifact]) {
     let mut outputs = MemoryOutputs::new(page.alloc(), refuse);
-    put_answer(page, put_all(&mut outputs, things));
-    put_answer(page, put_all(&mut outputs, things));
+    put_answer(page, put_all(&mut outputs, artifacts));
+    put_answer(page, put_all(&mut outputs, artifacts));
     put_handed(page, outputs.handed());
 }
 
@@ -117,11 +117,11 @@ fn put_single(page: &mut Page, refuse: u64, text: &[u8]) {
 }
 
 fn put_several(page: &mut Page, call: &[u8], refuse: u64, text: &[u8]) {
-    let things = things_of(page.alloc(), text);
-    if let Some(things) = page.given(things) {
+    let artifacts = artifacts_of(page.alloc(), text);
+    if let Some(artifacts) = page.given(artifacts) {
         match call {
-            [b'a', ..] => put_all_once(page, refuse, things.as_slice()),
-            _ => put_all_twice(page, refuse, things.as_slice()),
+            [b'a', ..] => put_all_once(page, refuse, artifacts.as_slice()),
+            _ => put_all_twice(page, refuse, artifacts.as_slice()),
         }
     }
 }

@@ -1,7 +1,7 @@
 //! status_record: records that are read and written again, and the faults of other texts.
 
 use deftable::{Bytes, Defs, Texts};
-use status_record::{Outputs, Record, RecordFault, read_record, write_record};
+use status_record::{OutputList, Record, RecordFault, read_record, write_record};
 use std::alloc::Global;
 use std::test::Fail;
 use testrows::{Call, Page, cut, try_rows};
@@ -129,7 +129,7 @@ fn put_defs(page: &mut Page, defs: &Defs) {
     }
 }
 
-fn put_outputs(page: &mut Page, outputs: &Outputs) {
+fn put_outputs(page: &mut Page, outputs: &OutputList) {
     for output in outputs.as_slice() {
         page.put(output.name.as_slice());
         page.put_text(output.template.as_slice());

@@ -2,7 +2,7 @@ use Rattle.std.proofs.Common.{[], ◌∷◌, map, subst, ◌+◌, arith, ap, sym
 use Rattle.syntax.specs.Lists.{after_cases}
 use Rattle.syntax.specs.Script.{Cases, script_of}
 use Rattle.acstatement.specs.Reading.{Gives}
-use Rattle.acmacros.specs.Scene.{scene_of}
+use Rattle.acmacros.specs.ListKind.{list_kind_of}
 use Rattle.std.proofs.lemmas.Result.{err_from_is_err_and}
 use Rattle.std.proofs.Math.ListN.{drop_of_length-le}
 use Rattle.m4quote.specs.Entry.{span, view, views}
@@ -15,7 +15,7 @@ use Rattle.acparse.proofs.read.+list.Goals as goal
 pub read_statements-loop-i-preserved : goal.read_statements-loop-i-preserved
 read_statements-loop-i-preserved t c =
     let item = c.index-items-i.result in
-    items_step _ _ _ _ _ _ _ _ _ _ (view item) _ _ _ (views_drop c.args.items.now c.loop-i.i item c.loop-i-test.true c.index-items-i.is) (ap views (slice_from c.args.items.now (c.loop-i.i + 1))) c.edge_of-edge.ensures c.loop-i.invariant c.in_ok-read_item.ensures
+    items_step _ _ _ _ _ _ _ _ _ _ (view item) _ _ _ (views_drop c.args.items.now c.loop-i.i item c.loop-i-test.true c.index-items-i.is) (ap views (slice_from c.args.items.now (c.loop-i.i + 1))) c.line_start_of-line_start.ensures c.loop-i.invariant c.in_ok-read_item.ensures
 
 pub read_statements-returns-in_err-read_item-clause-value : goal.read_statements-returns-in_err-read_item-clause-value
 read_statements-returns-in_err-read_item-clause-value t c =
@@ -67,14 +67,14 @@ pub read_question-returns-in_err-cases : goal.read_question-returns-in_err-cases
 read_question-returns-in_err-cases t c =
     let p = err_from_is_err_and c.from_residual-in_err-cases.result c.from_residual-in_err-cases.ensures.1 in
     record {
-      value = rw (p.1, p.2) (asked_fails c.in_err-cases.field-0.0 (body_of c.args.room (scene_of c.args.scene)) c.args.m _ _ _ _ _ c.in_ok-question.ensures.value c.in_ok-question.ensures.after c.action_args.ensures c.in_err-cases.ensures.value);
+      value = rw (p.1, p.2) (asked_fails c.in_err-cases.field-0.0 (body_of c.args.room (list_kind_of c.args.list_kind)) c.args.m _ _ _ _ _ c.in_ok-question.ensures.value c.in_ok-question.ensures.after c.action_args.ensures c.in_err-cases.ensures.value);
       after = rw p.1 tt;
     }
 
 pub read_question-returns-clause-value : goal.read_question-returns-clause-value
 read_question-returns-clause-value t c =
     subst (Gives (λ s. script_of (s ∷ [])) c.asked_with.result)
-    (sym (asked_rest (body_of c.args.room (scene_of c.args.scene)) c.args.m _ _ _ _ _ _ c.in_ok-question.ensures.value c.in_ok-question.ensures.after c.action_args.ensures c.in_ok-cases.ensures.value))
+    (sym (asked_rest (body_of c.args.room (list_kind_of c.args.list_kind)) c.args.m _ _ _ _ _ _ c.in_ok-question.ensures.value c.in_ok-question.ensures.after c.action_args.ensures c.in_ok-cases.ensures.value))
     c.asked_with.ensures
 
 pub read_question-returns-clause-after : goal.read_question-returns-clause-after

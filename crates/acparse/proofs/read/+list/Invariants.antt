@@ -1,7 +1,7 @@
 use Rattle.std.proofs.Common.{◌≤◌, ◌-◌, ◌+◌, ◌*◌, length, drop, map}
 use Rattle.m4quote.specs.Entry.{span, views}
 use Rattle.syntax.specs.Script.{script_of, cases_of}
-use Rattle.acmacros.specs.Scene.{scene_of}
+use Rattle.acmacros.specs.ListKind.{list_kind_of}
 use Rattle.acparse.specs.Profile.{body_of}
 use Rattle.acparse.proofs.Steps.{Items, Choices}
 use Rattle.acparse.proofs.read.+list.Given as goal
@@ -43,10 +43,10 @@ abbrev pub decreases-read_statements : goal.decreases-read_statements
 decreases-read_statements l = 8 * l.room + 6
 
 abbrev pub invariant-read_cases-loop-i : goal.invariant-read_cases-loop-i
-invariant-read_cases-loop-i l = (l.i ≤ length l.args) × Choices (body_of l.room (scene_of l.scene)) l.m l.fn.known l.known (cases_of l.cases.items) (map span l.args) (map span (drop l.i l.args))
+invariant-read_cases-loop-i l = (l.i ≤ length l.args) × Choices (body_of l.room (list_kind_of l.list_kind)) l.m l.fn.known l.known (cases_of l.cases.items) (map span l.args) (map span (drop l.i l.args))
 
 abbrev pub decreases-read_cases-loop-i : goal.decreases-read_cases-loop-i
 decreases-read_cases-loop-i l = length l.args - l.i
 
 abbrev pub invariant-read_statements-loop-i : goal.invariant-read_statements-loop-i
-invariant-read_statements-loop-i l = Items (scene_of l.scene) (body_of l.room) l.fn.known l.known l.edge (script_of l.out.items) (views l.items) (views (drop l.i l.items))
+invariant-read_statements-loop-i l = Items (list_kind_of l.list_kind) (body_of l.room) l.fn.known l.known l.line_start (script_of l.out.items) (views l.items) (views (drop l.i l.items))

@@ -1,5 +1,5 @@
 use Rattle.std.proofs.Common.{ℕ, List, IfSome, ap, sym, subst, ◌∙◌}
-use Rattle.outputs.specs.declared.thing.Thing.{Thing}
+use Rattle.outputs.specs.declared.artifact.Artifact.{Artifact}
 use Rattle.diskfiles.specs.Done.{IsEnd}
 use Rattle.diskfiles.proofs.Puts.{takes_is, refuses_is, refused_before}
 use Rattle.diskfiles.proofs.Writings.{on_err}
@@ -19,8 +19,8 @@ returns-clause-taken g c =
     let known = g.D.Disk.known c.args.disk.now in
     let name = c.args.name.now in
     let file = c.file_of-file.result.now in
-    let named : List ℕ → Thing = λ n. record { kind = c.args.kind; name = n; text = c.args.text.now } in
-    takes_is c.keep_written.result known _ _ _ _ _ c.args.kind c.in-Ok.unchanged name file c.args.text.now c.in-Ok-from_slices.thing c.saying_of-saying.result
+    let named : List ℕ → Artifact = λ n. record { kind = c.args.kind; name = n; text = c.args.text.now } in
+    takes_is c.keep_written.result known _ _ _ _ _ c.args.kind c.in-Ok.unchanged name file c.args.text.now c.in-Ok-from_slices.artifact c.saying_of-saying.result
     (c.in-Ok-from_slices.ensures ∙ ap named c.as_bytes.ensures.value) c.saying_of-saying.ensures c.in-Ok.ensures
     (subst (λ f. IfSome known (λ k. IsEnd k name c.args.kind f)) (sym c.file_of-file.ensures) c.in_ok-end.ensures)
     c.keep_written.ensures.ok c.keep_written.ensures.stepped

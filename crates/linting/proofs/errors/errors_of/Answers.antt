@@ -4,7 +4,7 @@ use Rattle.linting.specs.Errors.{AreErrors, IsAccepted}
 use Rattle.linting.proofs.Acceptance.{along, none_if_accepted}
 use Rattle.linting.proofs.errors.errors_of.Goals as goal
 
-pub returns-clause-none : goal.returns-clause-none
-returns-clause-none c =
+pub returns-clause-no_error : goal.returns-clause-no_error
+returns-clause-no_error c =
     let text = c.args.text.now in
     along (λ v. AreErrors text (source_of text) v.items) (λ v. (v.items ≡ []) ↔ IsAccepted text) (λ v errors. none_if_accepted text v.items errors) c.find_errors.result c.find_errors.ensures.exact

@@ -11,7 +11,7 @@ use Rattle.plan.proofs.compiling.compile_statements.Goals as goal
 
 pub new-requires : goal.new-requires
 new-requires c =
-    let fits = within _ _ _ (sym c.if-is_none.ensures) c.weigh.ensures.some in
+    let fits = within _ _ _ (sym c.if-is_none.ensures) c.weigh.ensures.fits in
     record {
       inside = subst StaysInside (sym c.in_ok-code.ensures) (code_stays (script_of c.args.statements.now));
       few = omega (arith, ap length c.in_ok-code.ensures, code_bound (script_of c.args.statements.now), fits);
@@ -24,7 +24,7 @@ returns-clause-meaning c = λ st.
 
 pub returns-clause-steps : goal.returns-clause-steps
 returns-clause-steps c =
-    omega (arith, ap length (c.new.ensures ∙ c.in_ok-code.ensures), code_bound (script_of c.args.statements.now), within _ _ _ (sym c.if-is_none.ensures) c.weigh.ensures.some)
+    omega (arith, ap length (c.new.ensures ∙ c.in_ok-code.ensures), code_bound (script_of c.args.statements.now), within _ _ _ (sym c.if-is_none.ensures) c.weigh.ensures.fits)
 
 pub returns-clause-asks : goal.returns-clause-asks
 returns-clause-asks c =

@@ -20,7 +20,7 @@ pub groups-preserved : goal.groups-preserved
 groups-preserved g c =
     let t : Turned c.args.plan.now turn.Ask c.groups.machine c.advance.new.self = subst (λ x. Turned c.args.plan.now x c.groups.machine c.advance.new.self) c.in-Ask.is c.in_ok-advance.ensures.turned in
     let served = subst (λ n. Served n (g.C.Crew.account c.groups.crew) c.advance.new.self.jobs c.serve.new.machine.replies (g.C.Crew.account c.serve.new.crew)) c.groups.auto.slots c.serve.ensures.served in
-    let r = serves (length c.args.slots.now) _ _ _ _ _ c.groups.machine c.advance.new.self c.serve.new.machine t c.groups.invariant.fits c.groups.invariant.progress served c.serve.ensures.same in
+    let r = serves (length c.args.slots.now) _ _ _ _ _ c.groups.machine c.advance.new.self c.serve.new.machine t c.groups.invariant.fits c.groups.invariant.progress served c.serve.ensures.unchanged in
     record {
       progress = r.progress;
       fits = r.fits;

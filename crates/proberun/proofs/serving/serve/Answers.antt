@@ -24,7 +24,7 @@ turns-preserved-in-Some g c =
     record {
       serving = subst (λ js. Serving before js (c.turns.started + 1) c.start_one.new.machine.replies c.start_one.new.slots (g.C.Crew.account c.start_one.new.crew)) jobs
           (c.start_one.ensures.serving before (subst (λ js. Serving before js c.turns.started c.turns.machine.replies c.turns.slots (g.C.Crew.account c.turns.crew)) (sym jobs) c.turns.invariant.serving));
-      same = c.start_one.ensures.same ∙ ap {A = Standing} (λ m. record m { replies = c.start_one.new.machine.replies }) c.turns.invariant.same;
+      same = c.start_one.ensures.unchanged ∙ ap {A = Standing} (λ m. record m { replies = c.start_one.new.machine.replies }) c.turns.invariant.same;
       queue = (next_job c.args.machine.now.jobs c.next_start.new.jobs c.turns.started c.in-Some.job (sym c.turns.invariant.queue ∙ c.in-Some.ensures.job)).1;
     }
 
@@ -33,7 +33,7 @@ returns-then-is_idle-clause-served g c =
     let started = c.turns.started in
     let jobs = c.args.machine.now.jobs in
     subst (λ n. Served n (g.C.Crew.account c.args.crew.now) jobs c.turns.machine.replies (g.C.Crew.account c.turns.crew)) c.turns.auto.slots
-    (serving_ends _ _ _ _ _ _ c.turns.invariant.serving (c.if-is_idle.ensures.idle refl) (omega (arith, c.turns.auto.slots, c.requires.some))
+    (serving_ends _ _ _ _ _ _ c.turns.invariant.serving (c.if-is_idle.ensures.idle refl) (omega (arith, c.turns.auto.slots, c.requires.at_least_one))
     (λ lt. ⊎_elim (λ held. held) (λ none. let all = all_attempted jobs started (sym c.turns.invariant.queue ∙ none) in absurd (omega arith)) c.in_default.ensures.none))
 
 pub end_one-requires-clause-failures : goal.end_one-requires-clause-failures

@@ -18,9 +18,9 @@ keeps_asked-returns-then-not-branch-clause-value t c =
 pub keeps_asked-returns-clause-value : goal.keeps_asked-returns-clause-value
 keeps_asked-returns-clause-value t c =
     asked_yes (option_map {T = Bor (List ℕ)} {U = List ℕ} (λ x. x.now) c.args.own) c.args.names.now _ c.args.tested.now _ _ _ (cases_of c.args.cases.now) _ c.first_of.ensures c.in_ok-add_all.ensures.added c.in_ok-keeps_cases.ensures.value c.if-not-branch.false
-    c.in_ok-keeps_cases.ensures.same c.in_ok-add_all-2.ensures.added
+    c.in_ok-keeps_cases.ensures.unchanged c.in_ok-add_all-2.ensures.added
 
 pub keeps_check-returns-clause-value : goal.keeps_check-returns-clause-value
 keeps_check-returns-clause-value t c =
     check_yes (option_map {T = Bor (List ℕ)} {U = List ℕ} (λ x. x.now) c.args.own) c.args.tested.now _ _ c.args.message.now _ c.args.name.now (script_of c.args.commands.now) _ _ c.reads_text.ensures c.parts.ensures c.if-not-reads_text.false
-    c.in_ok-keeps_apart.ensures.value c.if-not-branch.false c.in_ok-keeps_apart.ensures.same c.in_ok-add_one.ensures.added
+    c.in_ok-keeps_apart.ensures.value c.if-not-branch.false c.in_ok-keeps_apart.ensures.unchanged c.in_ok-add_one.ensures.added

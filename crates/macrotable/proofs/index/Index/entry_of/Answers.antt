@@ -9,6 +9,6 @@ pub returns-clause-about : goal.returns-clause-about
 unfolding entry_of
 returns-clause-about c = about _ (parts 126 TABLE.now) (parts 126 TABLE.now) _ refl c.find.ensures
 
-pub returns-clause-none : goal.returns-clause-none
+pub returns-clause-missing : goal.returns-clause-missing
 unfolding entry_of
-returns-clause-none c = none _ (parts 126 TABLE.now) (parts 126 TABLE.now) _ refl c.find.ensures
+returns-clause-missing c = none _ (parts 126 TABLE.now) (parts 126 TABLE.now) _ refl c.find.ensures
