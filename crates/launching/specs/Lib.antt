@@ -1,3 +1,4 @@
 pub mod Ending
+pub mod Fresh
 pub mod Launch
 pub mod Piped

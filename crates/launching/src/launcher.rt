@@ -1,13 +1,15 @@
 //! The launcher, which connects children to the system.
 
-ghost use Rattle.std.specs.Prelude.{[], ◌∷◌, None, Option, List, OnOk, OnErr};
+ghost use Rattle.std.specs.Prelude.{◌≡◌, [], ◌∷◌, None, Option, List, OnOk, OnErr, option_map};
 ghost use Rattle.std.specs.Process.{command_args, command_program};
+ghost use Rattle.launching.specs.Fresh.{DoesAll, DoesFront, after, clearing_stale, replacing, spoiling};
 ghost use Rattle.launching.specs.Launch.{Adds, Call, Failed, Spawned, Wrote};
 
-use std::fs::{self, File};
-use std::io::{self, Write};
+use crate::fresh::{clear, write_fresh};
+use disk::Disk;
+use std::io;
+use std::marker::Model;
 use std::process::{Child, Command, OpenProcess, Processes, Stdio};
-use std::rt::Files;
 
 /// Writes files and starts commands. The meaning of a launcher is what it did (own).
 pub trait Launcher {
@@ -37,59 +39,70 @@ pub trait Launcher {
         ensures refused { OnErr result (Adds (calls self.old) (calls self.new) (Failed ∷ [])) };
 }
 
-/// Removes a regular file or a link of this name, and nothing else. That it can't be removed is not reported.
-fn remove<F: Files>(files: &F, name: &str) {
-    match fs::symlink_metadata(files, name) {
-        Ok(found) if found.is_file() || found.is_symlink() => {
-            let _ = fs::remove_file(files, name);
-        }
-        _ => {}
-    }
-}
-
-/// The launcher of a real system.
+/// The launcher over a disk that can start programs.
 #[derive(Drop)]
-pub struct Host<R: Files + Processes + Drop> {
-    rt: R,
+pub struct Host<D: Disk + Processes> {
+    system: D,
     stale: Option<&'static str>,
 }
 
-impl<R: Files + Processes + Drop> Host<R> {
+impl<D: Disk + Processes> Model for Host<D> {
+    ghost use Rattle.std.specs.Prelude.{option_map};
+    ghost use Rattle.launching.specs.Fresh.{Hosted};
+
+    ghost Value = { Hosted D };
+
+    ghost view = { λ h. record { disk = h.system; stale = option_map (λ name. name.now) h.stale } };
+}
+
+impl<D: Disk + Processes> Host<D> {
     /// Returns a launcher. Before it first writes a file or starts a command, it removes the file that is stale, if there is one.
-    pub fn new(rt: R, stale: Option<&'static str>) -> Host<R> {
-        Host { rt, stale }
+    pub fn new(system: D, stale: Option<&'static str>) -> Host<D>
+        ensures { result ≡ record { disk = system; stale = option_map (λ name. name.now) stale.entry } }
+    {
+        Host { system, stale }
     }
 
     /// Removes the file that is stale, once.
-    fn clear(&mut self) {
-        if let Some(name) = self.stale {
-            self.stale = None;
-            remove(&self.rt, name);
+    fn clear(&mut self) -> io::Result<()>
+        ensures cleared { OnOk result (DoesAll (D.known self.old.disk) (D.known self.new.disk) (clearing_stale self.old.stale)) }
+        ensures refused { OnErr result (DoesAll (D.known self.old.disk) (D.known self.new.disk) (λ _. [])) }
+        ensures once { self.new.stale ≡ None }
+    {
+        match self.stale.take() {
+            Some(name) => clear(&mut self.system, name),
+            None => Ok(()),
         }
     }
 }
 
-impl<R: Files + Processes + Drop> Launcher for Host<R> {
-    type Process = R::Started;
+impl<D: Disk + Processes> Launcher for Host<D> {
+    type Process = D::Started;
 
-    // The file is new: one of this name is removed first, and so is a link. So nothing is written through a link, and a pipe or a
-    // device is not opened. A new file is also faster: ext4 writes one that was truncated to the disk when it is closed.
-    fn write(&mut self, name: &str, text: &[u8]) -> io::Result<()> {
-        self.clear();
-        remove(&self.rt, name);
-        let mut file = File::options()
-            .write(true)
-            .create_new(true)
-            .open(&self.rt, name)?;
-        file.write_all(text)
+    // The file is new, as `write_fresh` says.
+    fn write(&mut self, name: &str, text: &[u8]) -> io::Result<()>
+        ensures written { OnOk result (DoesAll (D.known self.old.disk) (D.known self.new.disk)
+            (after (clearing_stale self.old.stale) (replacing name.now text.now))) }
+        ensures spoilt { OnErr result (DoesFront (D.known self.old.disk) (D.known self.new.disk)
+            (after (clearing_stale self.old.stale) (spoiling name.now))) }
+        ensures once { self.new.stale ≡ None }
+    {
+        match self.clear() {
+            Ok(()) => write_fresh(&mut self.system, name, text),
+            Err(e) => Err(e),
+        }
     }
 
-    fn spawn(&mut self, command: &mut Command) -> io::Result<Child<R::Started>> {
-        self.clear();
+    fn spawn(&mut self, command: &mut Command) -> io::Result<Child<D::Started>>
+        ensures started { OnOk result (DoesAll (D.known self.old.disk) (D.known self.new.disk) (clearing_stale self.old.stale)) }
+        ensures failed { OnErr result (DoesFront (D.known self.old.disk) (D.known self.new.disk) (clearing_stale self.old.stale)) }
+        ensures once { self.new.stale ≡ None }
+    {
+        self.clear()?;
         command
             .stdin(Stdio::null())
             .stdout(Stdio::null())
             .stderr(Stdio::piped());
-        command.spawn(&self.rt)
+        command.spawn(&self.system)
     }
 }

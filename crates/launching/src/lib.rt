@@ -18,13 +18,16 @@
 
 mod diagnostics;
 mod ending;
+mod fresh;
 mod launcher;
 mod pipe;
 mod started;
 mod starting;
+mod system;
 
 pub use ending::end_child;
 pub use launcher::{Host, Launcher};
 pub use pipe::Pipe;
 pub use started::Started;
 pub use starting::start_child;
+pub use system::System;
