@@ -46,7 +46,8 @@ impl<R: Files + Processes + Drop> ReadyCrew<R> {
     }
 
     /// Returns a crew that has started nothing, and that removes a file before the first start that it attempts, such as a log that
-    /// an earlier run left. Only a regular file or a link is removed, and that it can't be is not reported.
+    /// an earlier run left. Only a regular file or a link is removed, and that it can't be is not reported. If the system refuses to
+    /// look at it, that start is refused.
     ///
     /// # Errors
     ///

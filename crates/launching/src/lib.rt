@@ -1,19 +1,22 @@
 //! Starts and ends a real child.
 //!
 //! ```text
-//! let mut host = Host::new(rt, None);
+//! let mut host = Host::new(System::new(rt), None);
 //! let mut child = start_child(&mut host, alloc, &job)?;  // writes the conftest, and starts the command
 //! let (reply, cause) = end_child(alloc, &mut child);     // reads what it writes to standard error, and waits for it
 //! ```
 //!
 //! "own" marks a rule that no manual gives.
 //!
-//! [`Launcher`] is what writes files and starts commands. [`Host`] is that of a real system, in two short functions that only tests
-//! check; what is asked of a launcher is proved for every launcher. If a start or an end is refused, a cause comes with it.
+//! [`Launcher`] is what writes files and starts commands; what is asked of a launcher is proved for every launcher. [`Host`] is that of
+//! the program, over any disk that can start programs. It is proved by which steps it writes a file; that it starts the command only
+//! tests check. [`System`] is a real disk with its programs, of which nothing is known. If a start or an end is refused, a cause comes
+//! with it.
 //!
-//! Read `specs/Launch.antt`, which defines the requests for a job, and `specs/Ending.antt`, which defines the reply at the end of a
-//! child. `specs/Piped.antt` defines what is counted of its reads. Then read `launcher`, `pipe`,
-//! `started`, which is a child, `starting`, `ending`, and `diagnostics`, which reads what a child writes.
+//! Read `specs/Launch.antt`, which defines the requests for a job, `specs/Fresh.antt`, which defines what is done to files for them, and
+//! `specs/Ending.antt`, which defines the reply at the end of a child. `specs/Piped.antt` defines what is counted of its reads. Then
+//! read `launcher`, `fresh`, which writes new files, `system`, `pipe`, `started`, which is a child, `starting`, `ending`, and
+//! `diagnostics`, which reads what a child writes.
 #![tactic(auto)]
 
 mod diagnostics;
