@@ -1,7 +1,13 @@
 //! Which macros have an exact idiom.
 
+ghost use Rattle.std.specs.Prelude.{◌≡◌, Some, option_map, IfOk, IfSome};
+ghost use Rattle.macrotable.specs.Entries.{entry_of, said};
+ghost use Rattle.macrotable.specs.declared.text.TheConstants.{TABLE};
+ghost use Rattle.exactidioms.specs.Exact as specs;
+ghost use Rattle.exactidioms.specs.Rows.{put_by};
+
 use crate::table::rows;
-use macrotable::{Index, Kind};
+use macrotable::{Entry, Index, Kind};
 use std::alloc::{AllocError, Global};
 
 /// Returns the digit at an index, or 0.
@@ -37,22 +43,32 @@ pub enum Exact {
     Nothing,
 }
 
+/// Returns what the entry of a macro puts in the place of a call.
+fn exact_by(entry: Option<Entry>) -> Option<Exact>
+    ensures { option_map specs.text_of result ≡ put_by (option_map said entry) }
+{
+    let entry = entry?;
+    match entry.kind {
+        Kind::Idiom => Some(Exact::Idiom(entry.text)),
+        Kind::Dropped => Some(Exact::Nothing),
+        Kind::Missing => None,
+        Kind::Family => None,
+    }
+}
+
 /// Returns what a call of a macro of this name with so many arguments is replaced by, if there is something exact.
 pub fn exact_of(
     alloc: Global,
     index: &Index,
     name: &[u8],
     count: usize,
-) -> Result<Option<Exact>, AllocError> {
+) -> Result<Option<Exact>, AllocError>
+    // It is the text of the idiom that the table has for the name, or nothing if the table says that the call has no meaning.
+    ensures of_table { IfOk result (λ o. IfSome o (λ e. put_by (entry_of name.now TABLE.now) ≡ Some (specs.text_of e))) }
+{
     if !is_exact(name, count) {
         return Ok(None);
     }
-    Ok(match index.entry_of(alloc, name)? {
-        Some(entry) => match entry.kind {
-            Kind::Idiom => Some(Exact::Idiom(entry.text)),
-            Kind::Dropped => Some(Exact::Nothing),
-            Kind::Missing | Kind::Family => None,
-        },
-        None => None,
-    })
+    let entry = index.entry_of(alloc, name)?;
+    Ok(exact_by(entry))
 }

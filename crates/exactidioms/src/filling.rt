@@ -1,7 +1,14 @@
 //! An idiom with the arguments of a call.
 
+ghost use Rattle.std.specs.Prelude.{◌≡◌, ◌==◌, ◌<◌, ◌++◌, ◌∷◌, map, length, position, option_map, slice_get, bytes_eq, IfOk, IfSome, IsTrue};
+ghost use Rattle.macrotable.specs.Around.{around};
+ghost use Rattle.macrotable.specs.Values.{unquoted};
+ghost use Rattle.textcut.specs.Cuts.{trimmed};
+ghost use Rattle.exactidioms.specs.Filled as specs;
+
 use std::alloc::{AllocError, Global};
-use textpieces::{from, is_word_byte, without_end_blanks};
+use textcut::{parts, trim};
+use textpieces::is_word_byte;
 
 /// Returns whether m4 may have a definition of the word.
 fn is_known(word: &[u8]) -> bool {
@@ -32,11 +39,15 @@ fn is_one_text(inner: &[u8]) -> bool {
     depth == 0
 }
 
-/// Returns what is between the brackets of an argument, if it is one quoted text.
-fn quoted(argument: &[u8]) -> Option<&[u8]> {
-    match argument {
-        [b'[', inner @ .., b']'] if is_one_text(inner) => Some(inner),
-        _ => None,
+/// Returns the text without the pair of brackets around it, if it has one.
+fn unquoted(text: &[u8]) -> &[u8]
+    ensures { result.now ≡ unquoted text.now }
+{
+    let len = text.len();
+    if len >= 2 && text[0] == b'[' && text[len - 1] == b']' {
+        &text[1..len - 1]
+    } else {
+        text
     }
 }
 
@@ -45,16 +56,37 @@ fn is_verbatim(byte: u8) -> bool {
     !matches!(byte, b'[' | b']' | b'(' | b')' | b',' | b'#')
 }
 
+/// Returns whether m4 puts the one text in the place of the other, which is the same or has brackets around it, whatever the macros
+/// are.
+fn is_certain(written: &[u8], inner: &[u8]) -> bool {
+    if inner.len() < written.len() {
+        is_one_text(inner)
+    } else {
+        written.iter().all(|byte| is_verbatim(*byte)) && !has_macro(written)
+    }
+}
+
 /// Returns the text that m4 puts in the place of an argument, if that is known without a definition of any macro.
-fn text_of(argument: &[u8]) -> Option<&[u8]> {
-    let argument = without_end_blanks(argument);
-    if let Some(inner) = quoted(argument) {
-        return Some(inner);
+fn text_of(argument: &[u8]) -> Option<&[u8]>
+    ensures { IfSome result (λ t. t.now ≡ unquoted (trimmed argument.now)) }
+{
+    let written = trim(argument);
+    let inner = unquoted(written);
+    if is_certain(written, inner) {
+        Some(inner)
+    } else {
+        None
     }
-    if argument.iter().all(|byte| is_verbatim(*byte)) && !has_macro(argument) {
-        return Some(argument);
+}
+
+/// Returns the text of the argument of an index, if that is known. An argument that isn't given is empty.
+fn text_at<'a>(args: &[&'a [u8]], index: usize) -> Option<&'a [u8]>
+    ensures { IfSome result (λ t. t.now ≡ specs.text_of (slice_get (map (λ a. a.now) args.now) index)) }
+{
+    match args.get(index) {
+        Some(argument) => text_of(argument),
+        None => Some(b""),
     }
-    None
 }
 
 /// Returns whether an argument is one word.
@@ -64,45 +96,87 @@ fn is_word(text: &[u8]) -> bool {
             || matches!(*byte, b'_' | b'.' | b'/' | b'-' | b'+'))
 }
 
-/// A place of an idiom: the index of the argument, whether that has to be one word, and the length of the place after its `$`.
+/// A place of an idiom: the index of the argument, whether that has to be one word, and the text after the place.
 #[derive(Clone, Copy)]
-struct Place {
+struct Place<'a> {
     index: usize,
     is_word: bool,
-    len: usize,
+    rest: &'a [u8],
 }
 
-/// Returns the place that a text after a `$` begins with.
-fn place_of(text: &[u8]) -> Option<Place> {
-    let len = text
-        .iter()
-        .position(|byte| *byte == b'}')?
-        .saturating_add(1);
-    match text {
-        [digit, b'{', ..] if digit.is_ascii_digit() && *digit > b'0' => {
-            Some(Place {
-                index: (*digit - b'1') as usize,
-                is_word: false,
-                len,
-            })
-        }
-        [digit, b'!', b'{', ..] if digit.is_ascii_digit() && *digit > b'0' => {
-            Some(Place {
-                index: (*digit - b'1') as usize,
-                is_word: true,
-                len,
-            })
-        }
-        _ => None,
+/// Returns the offset of the first such byte.
+fn offset_of(text: &[u8], byte: u8) -> Option<usize>
+    ensures value { result ≡ position (λ b. b == byte) text.now }
+    ensures within { IfSome result (λ i. i < length text.now) }
+{
+    text.iter().position(|it| *it == byte)
+}
+
+/// Returns the text before the first such byte, and the text after it.
+fn cut(text: &[u8], byte: u8) -> Option<(&[u8], &[u8])>
+    ensures { option_map (λ p. (p.0.now, p.1.now)) result ≡ around byte text.now }
+{
+    match offset_of(text, byte) {
+        Some(i) => Some((&text[..i], &text[i + 1..])),
+        None => None,
     }
 }
 
-/// Returns the text for a place, if the argument can be put there. An argument that isn't given is empty.
-fn value_of<'a>(place: Place, args: &[&'a [u8]]) -> Option<&'a [u8]> {
-    let text = match args.get(place.index) {
-        Some(argument) => text_of(argument)?,
-        None => b"",
-    };
+/// Returns the index that a digit stands for.
+fn index_of(byte: u8) -> Option<usize>
+    ensures { result ≡ specs.index_of byte }
+{
+    if b'1' <= byte && byte <= b'9' {
+        Some((byte - b'1') as usize)
+    } else {
+        None
+    }
+}
+
+/// Returns whether the text is the one that is wanted.
+fn is(text: &[u8], wanted: &[u8]) -> bool
+    ensures { result ≡ bytes_eq text.now wanted.now }
+{
+    text == wanted
+}
+
+/// Returns whether nothing or `!` is between the digit of a place and its brace.
+fn is_sign(sign: &[u8]) -> bool
+    ensures { result ≡ specs.is_sign sign.now }
+{
+    is(sign, b"") || is(sign, b"!")
+}
+
+/// Returns the place that begins after the digit for this index.
+fn place_from(index: usize, text: &[u8]) -> Option<Place<'_>>
+    ensures { option_map specs.seen result ≡ specs.place_from (Some index) (around 123 text.now) }
+{
+    let (sign, more) = cut(text, b'{')?;
+    if !is_sign(sign) {
+        return None;
+    }
+    let (_word, rest) = cut(more, b'}')?;
+    Some(Place {
+        index,
+        is_word: !sign.is_empty(),
+        rest,
+    })
+}
+
+/// Returns the place that a text after a `$` begins with.
+fn place_of(text: &[u8]) -> Option<Place<'_>>
+    ensures { option_map specs.seen result ≡ specs.place_of text.now }
+{
+    let (byte, more) = text.split_first()?;
+    let index = index_of(*byte)?;
+    place_from(index, more)
+}
+
+/// Returns the text for a place, if the argument can be put there.
+fn value_of<'a>(place: &Place<'_>, args: &[&'a [u8]]) -> Option<&'a [u8]>
+    ensures { IfSome result (λ t. t.now ≡ specs.text_of (slice_get (map (λ a. a.now) args.now) place.now.index)) }
+{
+    let text = text_at(args, place.index)?;
     if place.is_word && !is_word(text) {
         None
     } else {
@@ -110,54 +184,133 @@ fn value_of<'a>(place: Place, args: &[&'a [u8]]) -> Option<&'a [u8]> {
     }
 }
 
-/// Appends a line of an idiom, with the arguments in their places. Returns whether each could be put there.
-fn put_pieces(out: &mut Vec<u8>, text: &[u8], args: &[&[u8]]) -> Result<bool, AllocError> {
-    let mut is_first = true;
-    for piece in text.split(|byte| *byte == b'$') {
-        if is_first {
-            is_first = false;
-            out.extend_from_slice(piece)?;
-        } else if !put_piece(out, piece, args)? {
+/// Appends the text for a place and the text after it. Returns whether the argument can be put there.
+fn put_place(out: &mut Vec<u8>, place: &Place<'_>, args: &[&[u8]]) -> Result<bool, AllocError>
+    ensures { IfOk result (λ b. IsTrue b → out.new.items ≡ out.old.items ++ (specs.text_of (slice_get (map (λ a. a.now) args.now) place.now.index) ++ place.now.rest.now)) }
+{
+    let Some(value) = value_of(place, args) else {
+        return Ok(false);
+    };
+    out.extend_from_slice(value)?;
+    out.extend_from_slice(place.rest)?;
+    Ok(true)
+}
+
+/// Appends a `$` and the text after it, with the argument in the place that the text may begin with. Returns whether it could be put
+/// there.
+fn put_sign(out: &mut Vec<u8>, text: &[u8], args: &[&[u8]]) -> Result<bool, AllocError>
+    ensures { IfOk result (λ b. IsTrue b → out.new.items ≡ out.old.items ++ specs.filled_sign (map (λ a. a.now) args.now) text.now) }
+{
+    match place_of(text) {
+        Some(place) => put_place(out, &place, args),
+        None => {
+            out.push(b'$')?;
+            out.extend_from_slice(text)?;
+            Ok(true)
+        }
+    }
+}
+
+/// Appends the texts after each `$`, with what becomes of these. Returns whether each argument could be put there.
+fn put_signs(out: &mut Vec<u8>, texts: &[&[u8]], args: &[&[u8]]) -> Result<bool, AllocError>
+    ensures { IfOk result (λ b. IsTrue b → out.new.items ≡ out.old.items ++ specs.filled_signs (map (λ a. a.now) args.now) (map (λ t. t.now) texts.now)) }
+{
+    for text in texts {
+        if !put_sign(out, text, args)? {
             return Ok(false);
         }
     }
     Ok(true)
 }
 
-/// Appends what is after a `$`, with the argument in its place if it begins with a place. Returns whether it could be put there.
-fn put_piece(out: &mut Vec<u8>, piece: &[u8], args: &[&[u8]]) -> Result<bool, AllocError> {
-    let Some(place) = place_of(piece) else {
-        out.push(b'$')?;
-        out.extend_from_slice(piece)?;
+/// Appends a line of an idiom, with the arguments in their places. Returns whether each could be put there.
+#[tactic(auto, unfolding(crate::specs::Filled::filled_line))]
+fn put_line(
+    alloc: Global,
+    out: &mut Vec<u8>,
+    line: &[u8],
+    args: &[&[u8]],
+) -> Result<bool, AllocError>
+    ensures { IfOk result (λ b. IsTrue b → out.new.items ≡ out.old.items ++ specs.filled_line (map (λ a. a.now) args.now) line.now) }
+{
+    let texts = parts(alloc, line, b'$')?;
+    if let Some((first, more)) = texts.as_slice().split_first() {
+        out.extend_from_slice(first)?;
+        return put_signs(out, more, args);
+    }
+    Ok(true)
+}
+
+/// Appends a newline, the indent, and a line of an idiom. Returns whether each argument could be put there.
+fn put_next(
+    alloc: Global,
+    out: &mut Vec<u8>,
+    line: &[u8],
+    args: &[&[u8]],
+    indent: &[u8],
+) -> Result<bool, AllocError>
+    ensures { IfOk result (λ b. IsTrue b → out.new.items ≡ out.old.items ++ ((10 ∷ indent.now) ++ specs.filled_line (map (λ a. a.now) args.now) line.now)) }
+{
+    out.push(b'\n')?;
+    out.extend_from_slice(indent)?;
+    put_line(alloc, out, line, args)
+}
+
+/// Appends further lines of an idiom. Returns whether each argument could be put there.
+fn put_more(
+    alloc: Global,
+    out: &mut Vec<u8>,
+    texts: &[&[u8]],
+    args: &[&[u8]],
+    indent: &[u8],
+) -> Result<bool, AllocError>
+    ensures { IfOk result (λ b. IsTrue b → out.new.items ≡ out.old.items ++ specs.filled_more (map (λ a. a.now) args.now) indent.now (map (λ t. t.now) texts.now)) }
+{
+    for text in texts {
+        if !put_next(alloc, out, text, args, indent)? {
+            return Ok(false);
+        }
+    }
+    Ok(true)
+}
+
+/// Appends the lines of an idiom. Returns whether each argument could be put there.
+fn put_lines(
+    alloc: Global,
+    out: &mut Vec<u8>,
+    texts: &[&[u8]],
+    args: &[&[u8]],
+    indent: &[u8],
+) -> Result<bool, AllocError>
+    ensures { IfOk result (λ b. IsTrue b → out.new.items ≡ out.old.items ++ specs.filled_lines (map (λ a. a.now) args.now) indent.now (map (λ t. t.now) texts.now)) }
+{
+    let Some((first, more)) = texts.split_first() else {
         return Ok(true);
     };
-    let Some(value) = value_of(place, args) else {
+    if !put_line(alloc, out, first, args)? {
         return Ok(false);
-    };
-    out.extend_from_slice(value)?;
-    out.extend_from_slice(from(piece, place.len))?;
-    Ok(true)
+    }
+    put_more(alloc, out, more, args, indent)
 }
 
 /// Returns an idiom with the arguments in their places and the indent at the front of each line but the first, or `None` if one can't
 /// be put there.
+///
+/// An argument is put in its place without the blanks and the pair of brackets around it.
+#[tactic(auto, unfolding(crate::specs::Filled::filled))]
 pub fn filled(
     alloc: Global,
     idiom: &[u8],
     args: &[&[u8]],
     indent: &[u8],
-) -> Result<Option<Vec<u8>>, AllocError> {
+) -> Result<Option<Vec<u8>>, AllocError>
+    ensures filled { IfOk result (λ o. IfSome o (λ v. v.items ≡ specs.filled (map (λ a. a.now) args.now) indent.now idiom.now)) }
+{
+    let lines = parts(alloc, idiom, b'\n')?;
     let mut out = Vec::new(alloc);
-    let mut is_first = true;
-    for line in idiom.split(|byte| *byte == b'\n') {
-        if !is_first {
-            out.push(b'\n')?;
-            out.extend_from_slice(indent)?;
-        }
-        is_first = false;
-        if !put_pieces(&mut out, line, args)? {
-            return Ok(None);
-        }
+    if put_lines(alloc, &mut out, lines.as_slice(), args, indent)? {
+        Ok(Some(out))
+    } else {
+        Ok(None)
     }
-    Ok(Some(out))
 }
