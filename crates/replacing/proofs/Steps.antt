@@ -7,11 +7,12 @@ use Rattle.sourcecalls.specs.declared.call.CallAt.{CallAt}
 use Rattle.sourcecalls.specs.Calls.{Call, calls_in, seen}
 use Rattle.replacing.specs.Rewritten.{IsPass, IsRewritten, HasToGo, IsAround, DeclaresOption, IsOldHelp}
 use Rattle.replacing.specs.Rewritten as specs
+use Rattle.replacing.specs.Put.{IsPut}
 
 pub pass_bound : (text : List ℕ) (at : ℕ) (out : List ℕ) → IsPass text at out → at ≤ length text
 pass_bound text at out specs.IsPass.begun = omega arith
 pass_bound text at out (specs.IsPass.copied next before from to) = to
-pass_bound text at out (specs.IsPass.replaced c put end before is goes around to) = to
+pass_bound text at out (specs.IsPass.replaced c put end before is goes puts around to) = to
 pass_bound text at out (specs.IsPass.renamed c end before is declares help to) = to
 
 -- What follows from what an `Ok` says holds of the `Ok`.
@@ -20,10 +21,10 @@ on_ok f (Ok v) p = f p
 on_ok f (Err e) p = tt
 
 pub pass_step : (text : List ℕ) (at : ℕ) (out : List ℕ) (c : Call) (start end : ℕ) (put : List ℕ) (new_at : ℕ) (new : List ℕ)
-    → IsPass text at out → Contains (calls_in text) c → HasToGo text c → at ≤ start → IsAround text c start end × (end ≤ length text) × (start ≤ length text)
+    → IsPass text at out → Contains (calls_in text) c → HasToGo text c → IsPut text c put → at ≤ start → IsAround text c start end × (end ≤ length text) × (start ≤ length text)
     → (new_at ≡ end) × (new ≡ (out ++ slice_range text at start) ++ put) → IsPass text new_at new
-pass_step text at out c start end put new_at new before is goes from (around, to, within) (at_is, new_is) =
-    subst (λ a. IsPass text a new) (sym at_is) (subst (IsPass text end) (sym new_is) (specs.IsPass.replaced c put end (specs.IsPass.copied start before from within) is goes around to))
+pass_step text at out c start end put new_at new before is goes puts from (around, to, within) (at_is, new_is) =
+    subst (λ a. IsPass text a new) (sym at_is) (subst (IsPass text end) (sym new_is) (specs.IsPass.replaced c put end (specs.IsPass.copied start before from within) is goes puts around to))
 
 pub help_step : (text : List ℕ) (at : ℕ) (out : List ℕ) (c : Call) (start end : ℕ) (new_at : ℕ) (new : List ℕ)
     → IsPass text at out → Contains (calls_in text) c → DeclaresOption text c → at ≤ start → IsOldHelp text c start end × (end ≤ length text) × (start ≤ length text)

@@ -2,6 +2,7 @@
 use Rattle.std.specs.Prelude.{◌≡◌, ◌⊎◌, ℕ, ◌<◌, ◌≤◌, ◌==◌, ◌||◌, Bool, true, false, List, [], ◌++◌, length, slice_range, Contains, codes}
 use Rattle.std.specs.List.{list_all}
 use Rattle.sourcecalls.specs.Calls.{Call, calls_in}
+use Rattle.replacing.specs.Put.{IsPut}
 
 -- A space, a tab, a carriage return or a newline.
 abbrev pub is_blank : ℕ → Bool
@@ -23,13 +24,13 @@ DeclaresOption text c = (slice_range text c.start c.name_end ≡ codes "AC_ARG_E
 abbrev pub IsOldHelp : List ℕ → Call → ℕ → ℕ → Type 0
 IsOldHelp text c start end = (c.start ≤ start) × (end ≤ c.end) × (slice_range text start end ≡ codes "AC_HELP_STRING")
 
--- One pass over the calls of a text has read so much of it, and written this: everything is copied, but calls that have to go, with
--- blanks around them, may be replaced, each by any text, and the old name of AS_HELP_STRING in a call that declares an option by
--- the name.
+-- One pass over the calls of a text has read so much of it, and written this. Everything is copied, with two exceptions: a call that has
+-- to go, with blanks around it, may be replaced by what may be put in its place; and in a call that declares an option the old name of
+-- AS_HELP_STRING may become the name.
 pub data IsPass (text : List ℕ) : ℕ → List ℕ → Type 0 where
   begun : IsPass text 0 []
   copied : {at : ℕ} {out : List ℕ} (next : ℕ) → IsPass text at out → at ≤ next → next ≤ length text → IsPass text next (out ++ slice_range text at next)
-  replaced : {at : ℕ} {out : List ℕ} (c : Call) (put : List ℕ) (end : ℕ) → IsPass text at out → Contains (calls_in text) c → HasToGo text c → IsAround text c at end → end ≤ length text
+  replaced : {at : ℕ} {out : List ℕ} (c : Call) (put : List ℕ) (end : ℕ) → IsPass text at out → Contains (calls_in text) c → HasToGo text c → IsPut text c put → IsAround text c at end → end ≤ length text
       → IsPass text end (out ++ put)
   renamed : {at : ℕ} {out : List ℕ} (c : Call) (end : ℕ) → IsPass text at out → Contains (calls_in text) c → DeclaresOption text c → IsOldHelp text c at end → end ≤ length text
       → IsPass text end (out ++ codes "AS_HELP_STRING")

@@ -1,15 +1,27 @@
 //! What is before and after a place of a text.
 
+ghost use Rattle.std.specs.Prelude.{◌≡◌, true};
+ghost use Rattle.std.specs.List.{list_all};
+ghost use Rattle.replacing.specs.Put as specs;
+
 use crate::spots::Spot;
 use textpieces::{before, from};
 
 /// Returns a part of the text, or nothing if the text has no such part.
-pub(crate) fn part(text: &[u8], start: usize, end: usize) -> &[u8] {
-    text.get(start..end).unwrap_or(b"")
+pub(crate) fn part(text: &[u8], start: usize, end: usize) -> &[u8]
+    ensures { result.now ≡ specs.part text.now start end }
+{
+    if start <= end && end <= text.len() {
+        &text[start..end]
+    } else {
+        b""
+    }
 }
 
 /// Returns whether the byte is a space, a tab or a carriage return.
-pub(crate) fn is_space(byte: u8) -> bool {
+pub(crate) fn is_space(byte: u8) -> bool
+    ensures { result ≡ specs.is_space byte }
+{
     byte == b' ' || byte == b'\t' || byte == b'\r'
 }
 
@@ -37,10 +49,25 @@ pub(crate) fn without_end_blanks(text: &[u8]) -> &[u8] {
     before(text, text.len().saturating_sub(blanks))
 }
 
+fn are_spaces(text: &[u8]) -> bool
+    ensures { result ≡ list_all specs.is_space text.now }
+{
+    text.iter().all(|byte| is_space(*byte))
+}
+
+/// Returns the text if it has nothing but spaces and tabs, and otherwise nothing.
+fn spaces_of(text: &[u8]) -> &[u8]
+    ensures { list_all specs.is_space result.now ≡ true }
+{
+    if are_spaces(text) { text } else { b"" }
+}
+
 /// Returns the spaces and tabs that the line of a place begins with, if there is nothing else before it.
-pub(crate) fn indent_of(text: &[u8], spot: Spot, at: usize) -> &[u8] {
+pub(crate) fn indent_of(text: &[u8], spot: Spot, at: usize) -> &[u8]
+    ensures { list_all specs.is_space result.now ≡ true }
+{
     if spot.is_first {
-        part(text, spot.line, at)
+        spaces_of(part(text, spot.line, at))
     } else {
         b""
     }

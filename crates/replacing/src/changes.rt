@@ -1,5 +1,10 @@
 //! What the calls of a text become.
 
+ghost use Rattle.std.specs.Prelude.{◌≡◌, Some, [], map, IfOk, IfSome};
+ghost use Rattle.sourcecalls.specs.Calls.{seen};
+ghost use Rattle.exactidioms.specs.Exact.{text_of};
+ghost use Rattle.replacing.specs.Put as specs;
+
 use crate::around::{before_idle, begins_statement, ends_statement, indent_of, part, space_len};
 use crate::spots::Spot;
 use exactidioms::{Exact, exact_of, filled};
@@ -58,7 +63,9 @@ pub(crate) fn known_of(alloc: Global, text: &[u8], calls: &[CallAt]) -> Result<K
 }
 
 /// Returns the texts of the arguments. Empty parentheses have none.
-fn texts<'a>(alloc: Global, text: &'a [u8], args: &[Extent]) -> Result<Vec<&'a [u8]>, AllocError> {
+fn texts<'a>(alloc: Global, text: &'a [u8], args: &[Extent]) -> Result<Vec<&'a [u8]>, AllocError>
+    ensures { IfOk result (λ v. map (λ a. a.now) v.items ≡ map (specs.arg_text text.now) args.now) }
+{
     let mut out = Vec::new(alloc);
     for arg in args {
         out.push(part(text, arg.start, arg.end))?;
@@ -67,12 +74,41 @@ fn texts<'a>(alloc: Global, text: &'a [u8], args: &[Extent]) -> Result<Vec<&'a [
 }
 
 /// Returns the name that the table has for a call: that of AC_OUTPUT with arguments says so.
-fn name_of<'a>(text: &'a [u8], call: &CallAt) -> &'a [u8] {
+fn name_of<'a>(text: &'a [u8], call: &CallAt) -> &'a [u8]
+    ensures { result.now ≡ specs.row_name text.now (seen call.now) }
+{
     if call.is_of_profile {
         b"AC_OUTPUT(files)"
     } else {
         part(text, call.start, call.name_end)
     }
+}
+
+/// Returns the change of a call to a text.
+fn change_to(call: &CallAt, put: Vec<u8>) -> Change
+    ensures { result.put.items ≡ put.items }
+{
+    Change {
+        start: call.start,
+        end: call.end,
+        put,
+    }
+}
+
+/// Returns an idiom with the arguments of a call, unless an argument can't be put into it.
+fn idiom_text(
+    alloc: Global,
+    text: &[u8],
+    spot: Spot,
+    call: &CallAt,
+    idiom: &[u8],
+) -> Result<Option<Vec<u8>>, AllocError>
+    requires idiom { specs.put_for text.now (seen call.now) ≡ Some idiom.now }
+    ensures { IfOk result (λ o. IfSome o (λ v. specs.IsPut text.now (seen call.now) v.items)) }
+{
+    let args = texts(alloc, text, call.args.as_slice())?;
+    let indent = indent_of(text, spot, call.start);
+    filled(alloc, idiom, args.as_slice(), indent)
 }
 
 /// Returns the change of a call to an idiom, unless an argument can't be put into it.
@@ -82,32 +118,22 @@ fn to_idiom(
     spot: Spot,
     call: &CallAt,
     idiom: &[u8],
-) -> Result<Option<Change>, AllocError> {
-    let args = texts(alloc, text, &call.args)?;
-    let put = filled(
-        alloc,
-        idiom,
-        args.as_slice(),
-        indent_of(text, spot, call.start),
-    )?;
-    Ok(match put {
-        Some(put) => Some(Change {
-            start: call.start,
-            end: call.end,
-            put,
-        }),
-        None => None,
-    })
+) -> Result<Option<Change>, AllocError>
+    requires idiom { specs.put_for text.now (seen call.now) ≡ Some idiom.now }
+    ensures { IfOk result (λ o. IfSome o (λ change. specs.IsPut text.now (seen call.now) change.put.items)) }
+{
+    match idiom_text(alloc, text, spot, call, idiom)? {
+        Some(put) => Ok(Some(change_to(call, put))),
+        None => Ok(None),
+    }
 }
 
 /// Returns the change of a call to a text.
-fn to_text(alloc: Global, call: &CallAt, text: &[u8]) -> Result<Change, AllocError> {
+fn to_text(alloc: Global, call: &CallAt, text: &[u8]) -> Result<Change, AllocError>
+    ensures { IfOk result (λ change. change.put.items ≡ text.now) }
+{
     let put = Vec::from_slice(alloc, text)?;
-    Ok(Change {
-        start: call.start,
-        end: call.end,
-        put,
-    })
+    Ok(change_to(call, put))
 }
 
 /// Returns whether nothing but a comment follows on the line.
@@ -117,12 +143,9 @@ fn is_last(rest: &[u8]) -> bool {
 
 /// Returns the change of a call that can be left out: with its line if nothing else is on it, and otherwise to `:` if anything but a
 /// comment follows.
-fn without_call(
-    alloc: Global,
-    text: &[u8],
-    spot: Spot,
-    call: &CallAt,
-) -> Result<Change, AllocError> {
+fn without_call(alloc: Global, text: &[u8], spot: Spot, call: &CallAt) -> Result<Change, AllocError>
+    ensures { IfOk result (λ change. specs.DoesNothing change.put.items) }
+{
     let blanks = space_len(from(text, call.end));
     let after = call.end.saturating_add(blanks);
     if text.get(after) == Some(&b'\n') {
@@ -157,7 +180,9 @@ fn to_nothing(
     text: &[u8],
     spot: Spot,
     call: &CallAt,
-) -> Result<Change, AllocError> {
+) -> Result<Change, AllocError>
+    ensures { IfOk result (λ change. specs.DoesNothing change.put.items) }
+{
     if can_be_left_out(known, text, spot) {
         without_call(alloc, text, spot, call)
     } else {
@@ -180,11 +205,28 @@ fn left_out(
     text: &[u8],
     spot: Spot,
     call: &CallAt,
-) -> Result<Option<Change>, AllocError> {
+) -> Result<Option<Change>, AllocError>
+    requires dropped { specs.put_for text.now (seen call.now) ≡ Some [] }
+    ensures { IfOk result (λ o. IfSome o (λ change. specs.IsPut text.now (seen call.now) change.put.items)) }
+{
     if !known.has_compiler {
         return Ok(None);
     }
-    to_nothing(alloc, known, text, spot, call).map(|change| Some(change))
+    let change = to_nothing(alloc, known, text, spot, call)?;
+    Ok(Some(change))
+}
+
+/// Returns what a call is replaced by, if there is something exact.
+#[tactic(auto, unfolding(crate::specs::Put::put_for))]
+fn exact_for(
+    alloc: Global,
+    known: &Known,
+    text: &[u8],
+    call: &CallAt,
+) -> Result<Option<Exact>, AllocError>
+    ensures { IfOk result (λ o. IfSome o (λ e. specs.put_for text.now (seen call.now) ≡ Some (text_of e))) }
+{
+    exact_of(alloc, &known.index, name_of(text, call), call.args.len())
 }
 
 /// Returns the change of a call that has to go, if it has an exact idiom.
@@ -194,11 +236,13 @@ pub(crate) fn change_of(
     text: &[u8],
     spot: Spot,
     call: &CallAt,
-) -> Result<Option<Change>, AllocError> {
+) -> Result<Option<Change>, AllocError>
+    ensures { IfOk result (λ o. IfSome o (λ change. specs.IsPut text.now (seen call.now) change.put.items)) }
+{
     if !is_same_here(text, spot, call) {
         return Ok(None);
     }
-    match exact_of(alloc, &known.index, name_of(text, call), call.args.len())? {
+    match exact_for(alloc, known, text, call)? {
         None => Ok(None),
         Some(Exact::Nothing) => left_out(alloc, known, text, spot, call),
         Some(Exact::Idiom(idiom)) => to_idiom(alloc, text, spot, call, idiom),

@@ -3,6 +3,7 @@
 ghost use Rattle.std.specs.Prelude.{◌≡◌, ◌⊎◌, ◌≤◌, ◌<◌, ◌++◌, true, map, length, slice_range, codes, Contains, IfOk, IfSome, OnOk, IsTrue};
 ghost use Rattle.std.specs.List.{list_all};
 ghost use Rattle.sourcecalls.specs.Calls.{calls_in, seen};
+ghost use Rattle.replacing.specs.Put.{IsPut};
 ghost use Rattle.replacing.specs.Rewritten as specs;
 
 use crate::around::{blank_len, part};
@@ -136,6 +137,7 @@ fn put_change(
 ) -> Result<(), AllocError>
     requires call { Contains (calls_in text.now) (seen call.now) }
     requires goes { specs.HasToGo text.now (seen call.now) }
+    requires put { IsPut text.now (seen call.now) change.now.put.items }
     requires begun { specs.IsPass text.now pass.old.at pass.old.out.items }
     ensures { OnOk result (specs.IsPass text.now pass.new.at pass.new.out.items) }
 {

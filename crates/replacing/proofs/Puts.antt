@@ -1,0 +1,16 @@
+-- What is put in the place of a call.
+use Rattle.std.proofs.Common.{◌≡◌, ℕ, List, true, Result, Ok, Err, Option, Some, None, map, subst, sym, ap, ◌∙◌}
+use Rattle.std.specs.Prelude.{IfOk, IfSome}
+use Rattle.std.specs.List.{list_all}
+use Rattle.exactidioms.specs.Filled.{filled}
+use Rattle.sourcecalls.specs.Calls.{Call}
+use Rattle.replacing.specs.Put.{IsPut, arg_text, is_space, put_for}
+use Rattle.replacing.specs.Put as specs
+
+pub idiom_puts : {V E : Type 0} (items : V → List ℕ) (r : Result (Option V) E) (text : List ℕ) (c : Call) (args : List (List ℕ)) (indent it : List ℕ)
+    → put_for text c ≡ Some it → args ≡ map (arg_text text) c.args → list_all is_space indent ≡ true
+    → IfOk r (λ o. IfSome o (λ v. items v ≡ filled args indent it)) → IfOk r (λ o. IfSome o (λ v. IsPut text c (items v)))
+idiom_puts items (Ok (Some v)) text c args indent it puts are spaces is =
+    subst (IsPut text c) (sym (is ∙ ap (λ a. filled a indent it) are)) (specs.IsPut.idiom it indent puts spaces)
+idiom_puts items (Ok None) text c args indent it puts are spaces is = tt
+idiom_puts items (Err e) text c args indent it puts are spaces is = tt
