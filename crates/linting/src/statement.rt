@@ -173,8 +173,8 @@ fn statement_start(piece: &[u8], offset: usize) -> usize
     start + blank_len(&piece[start..])
 }
 
-/// Returns the number of blanks and comments at the front.
-fn idle_len(piece: &[u8]) -> usize
+/// Returns the number of blanks and comments at the front. A semicolon is a blank, unless it `counts`.
+fn idle_len(piece: &[u8], counts: bool) -> usize
     ensures { result ≤ length piece.now }
 {
     let mut in_comment = false;
@@ -183,11 +183,23 @@ fn idle_len(piece: &[u8]) -> usize
             in_comment = *byte != b'\n';
         } else if *byte == b'#' {
             in_comment = true;
-        } else if !is_blank(*byte) {
+        } else if !is_blank(*byte) || counts && *byte == b';' {
             return i;
         }
     }
     piece.len()
+}
+
+/// Returns the start of the first statement of a piece, or of the first semicolon if it has no statement.
+fn first_statement(piece: &[u8]) -> usize
+    ensures { result ≤ length piece.now }
+{
+    let start = idle_len(piece, false);
+    if start < piece.len() {
+        start
+    } else {
+        idle_len(piece, true)
+    }
 }
 
 /// Returns the offset of the first error in a value, without its line continuations, or `None` if it has none.
@@ -210,7 +222,7 @@ fn refused_in(alloc: Global, piece: &[u8]) -> Result<usize, AllocError>
         Err(_) => Ok(0),
         Ok(value) => match error_in(alloc, &value)? {
             Some(offset) => Ok(statement_start(piece, offset)),
-            None => Ok(idle_len(piece)),
+            None => Ok(first_statement(piece)),
         },
     }
 }

@@ -384,7 +384,13 @@ fn put_no_init(page: &mut Page, text: &[u8]) {
 }
 
 fn put_after_output(page: &mut Page, around: Around<'_>) {
-    page.say_text(first_word(around.rest()));
+    let rest = around.rest();
+    let word = if rest.starts_with(b";") {
+        before(rest, 1)
+    } else {
+        first_word(rest)
+    };
+    page.say_text(word);
     page.say(b" is after AC_OUTPUT");
     page.advise(b"only blanks and comments may be there: move it before AC_OUTPUT");
 }
