@@ -20,7 +20,7 @@ pub(crate) struct Line {
     pub below: usize,
     /// The offset of the innermost call that is open at its start, if one is.
     call: Option<usize>,
-    /// The offset after the argument of that call which is open too, or 0.
+    /// The offset after the argument of that call which is open too, if that argument begins with a bracket, or 0.
     arg_end: usize,
     /// The offset of the bracket that is open within that argument, or between calls, if one is.
     bracket: Option<usize>,
@@ -130,10 +130,14 @@ fn close_calls(calls: &[CallAt], at: usize, walk: &mut Walk) {
     }
 }
 
+/// Returns whether an argument begins with a bracket. Without one, a line of comment would be a part of it.
+fn is_quoted(text: &[u8], arg: &Extent) -> bool {
+    text.get(arg.start) == Some(&b'[')
+}
+
 /// Returns the offset at which what is in an argument begins: after its bracket, if it has one.
 fn inner_start(text: &[u8], arg: &Extent) -> usize {
-    let is_quoted = text.get(arg.start) == Some(&b'[');
-    arg.start.saturating_add(usize::from(is_quoted))
+    arg.start.saturating_add(usize::from(is_quoted(text, arg)))
 }
 
 /// Goes on to the next argument of the innermost call, if one ends before an offset. Returns whether what is in it begins there.
@@ -168,15 +172,24 @@ fn open_calls(calls: &[CallAt], at: usize, walk: &mut Walk) -> Result<(), AllocE
     Ok(())
 }
 
-/// Returns the argument that is open.
-fn open_argument<'a>(calls: &'a [CallAt], open: Open, at: usize) -> Option<&'a Extent> {
+/// Returns the argument that is open, if it begins with a bracket.
+fn open_argument<'a>(
+    text: &[u8],
+    calls: &'a [CallAt],
+    open: Open,
+    at: usize,
+) -> Option<&'a Extent> {
     let call = calls.get(open.call)?;
     let arg = call.args.get(open.arg)?;
-    if arg.start < at { Some(arg) } else { None }
+    if arg.start < at && is_quoted(text, arg) {
+        Some(arg)
+    } else {
+        None
+    }
 }
 
 /// Returns the line that begins at an offset.
-fn line_at(calls: &[CallAt], at: usize, walk: &Walk) -> Line {
+fn line_at(text: &[u8], calls: &[CallAt], at: usize, walk: &Walk) -> Line {
     let mut line = Line {
         start: at,
         below: at,
@@ -187,7 +200,7 @@ fn line_at(calls: &[CallAt], at: usize, walk: &Walk) -> Line {
     };
     if let Some(open) = walk.open.last() {
         line.call = calls.get(open.call).map(|call| call.start);
-        line.arg_end = open_argument(calls, *open, at).map_or(0, |arg| arg.end);
+        line.arg_end = open_argument(text, calls, *open, at).map_or(0, |arg| arg.end);
     }
     line
 }
@@ -206,7 +219,7 @@ fn go_to(
         restart(walk);
     }
     if is_start {
-        let line = line_at(calls, at, walk);
+        let line = line_at(text, calls, at, walk);
         walk.lines.push(line)?;
     }
     Ok(())
