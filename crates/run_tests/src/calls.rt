@@ -1,4 +1,4 @@
-//! The filter and the program's commands: streams that fail, and the words of the program. The crate `cases` has what the
+//! The filter and the program's commands: streams that fail, and the words of the program. The crate `case_tests` has what the
 //! filter writes and which faults it names.
 
 ghost use Rattle.std.specs.Prelude.{◌+◌, ◌^◌, ◌≤◌};

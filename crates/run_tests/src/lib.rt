@@ -6,7 +6,7 @@
 //! show how far they are, `plans` what a source weighs and its steps, `machines` a machine that a test answers,
 //! `calls` the filter and the program's commands over streams that fail, and `stand_ins` the stand-in for a compiler,
 //! as a child too, of which the start or the end may be refused (`refused_children`). `texts` reads the parts of a
-//! row, and `streams` has the streams that fail. Whole runs of sources are cases of the crate `cases`.
+//! row, and `streams` has the streams that fail. Whole runs of sources are cases of the crate `case_tests`.
 #![tactic(auto)]
 
 #[cfg(test)]

@@ -1,4 +1,4 @@
-//! A machine whose first job a test answers or cuts. The crate `cases` has runs of sources over crews.
+//! A machine whose first job a test answers or cuts. The crate `case_tests` has runs of sources over crews.
 
 ghost use Rattle.std.specs.Prelude.{◌≡◌, None, Some, length, slice_get, IsSome};
 ghost use Rattle.std.specs.Bool.{OnTrue};

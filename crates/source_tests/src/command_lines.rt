@@ -1,4 +1,4 @@
-//! Command lines and help texts. The crate `cases` has the table of arguments, one by one.
+//! Command lines and help texts. The crate `case_tests` has the table of arguments, one by one.
 
 use crate::sources::read_source;
 use crate::told::{Next, Told, add, put_if, put_made, put_next};

@@ -4,7 +4,7 @@
 //! Each test is a table of rows, in the form that the crate `testrows` reads. A row begins with the name of a call. There is a
 //! module for each crate: `shell_words` for shellword, `bare_texts` for baretext, `arguments` for acargs, `entry_lists` for
 //! entries, `macros` for acmacros, `sources` for acparse, and for options `command_lines` and `precious`. `sizes` has
-//! calls of them that are given many arguments or entries. `told` has how answers are written. The crate `cases` has more sources and command lines, in files.
+//! calls of them that are given many arguments or entries. `told` has how answers are written. The crate `case_tests` has more sources and command lines, in files.
 #![tactic(auto)]
 
 #[cfg(test)]

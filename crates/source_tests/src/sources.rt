@@ -1,4 +1,4 @@
-//! Whole sources. The crate `cases` has them macro by macro and error by error.
+//! Whole sources. The crate `case_tests` has them macro by macro and error by error.
 
 use crate::told::{Told, put_each, put_made, put_sought};
 use acparse::{ParseFault, Plain, Question, Source, Stmt, Subject, parse};

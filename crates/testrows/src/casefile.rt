@@ -1,4 +1,4 @@
-//! The form of a file of cases, which `crates/cases/data/README` describes.
+//! The form of a file of cases, which `crates/case_tests/data/README` describes.
 //!
 //! A line `=== NAME` begins a case, a line `--- NAME` a section of it. The newline before such a line is no part of
 //! the text before it, nor is the file's last one. Sections before the first case hold for each case that has none of
