@@ -19,73 +19,66 @@ use std::process::ExitCode;
 /// How many definitions the sample with many of them has.
 const DEFINITIONS: u32 = 2000;
 
-/// The samples: the name, what is done with the conftest, and whether that succeeds.
-const SAMPLES: &[(&str, &str, &str)] = &[
-    ("header", "compile", "yes"),
-    ("header-missing", "compile", "no"),
-    ("header-given", "compile", "yes"),
-    ("header-broken", "compile", "no"),
-    ("function", "link", "yes"),
-    ("function-missing", "link", "no"),
-    ("function-exit", "link", "yes"),
-    ("function-printf", "link", "yes"),
-    ("declaration", "compile", "yes"),
-    ("declaration-macro", "compile", "yes"),
-    ("declaration-missing", "compile", "no"),
-    ("type", "compile", "yes"),
-    ("type-again", "compile", "no"),
-    ("pointer", "compile", "yes"),
-    ("pointer-again", "compile", "no"),
-    ("value", "compile", "yes"),
-    ("value-again", "compile", "yes"),
-    ("type-missing", "compile", "no"),
-    ("type-given", "compile", "yes"),
-    ("type-given-again", "compile", "no"),
-    ("type-not-given", "compile", "no"),
-    ("type-of-words", "compile", "yes"),
-    ("type-of-words-again", "compile", "no"),
-    ("program", "run", "yes"),
-    ("definitions", "run", "yes"),
-    ("definitions-missing", "compile", "no"),
+/// What a conftest tests.
+#[derive(Clone, Copy)]
+enum Test {
+    Header,
+    Function,
+    Declaration,
+    Type,
+    SecondType,
+    Program,
+}
+
+/// A sample: the name, what is done with the conftest, whether that succeeds, the test, its includes if they are not the
+/// default ones, and what is tested.
+type Sample<'a> = (&'a str, &'a str, &'a str, Test, Option<&'a [u8]>, &'a [u8]);
+
+#[rattlefmt::skip]
+const SAMPLES: &[Sample] = &[
+    ("header", "compile", "yes", Test::Header, None, b"sys/stat.h"),
+    ("header-missing", "compile", "no", Test::Header, None, b"no/such/header.h"),
+    ("header-given", "compile", "yes", Test::Header, Some(b"#include <sys/types.h>"), b"sys/stat.h"),
+    ("header-broken", "compile", "no", Test::Header, Some(b"int int;"), b"sys/stat.h"),
+    ("function", "link", "yes", Test::Function, None, b"getpid"),
+    ("function-missing", "link", "no", Test::Function, None, b"no_such_function"),
+    ("function-exit", "link", "yes", Test::Function, None, b"exit"),
+    ("function-printf", "link", "yes", Test::Function, None, b"printf"),
+    ("declaration", "compile", "yes", Test::Declaration, None, b"strlen"),
+    ("declaration-macro", "compile", "yes", Test::Declaration, None, b"offsetof"),
+    ("declaration-missing", "compile", "no", Test::Declaration, None, b"no_such_name"),
+    ("type", "compile", "yes", Test::Type, None, b"size_t"),
+    ("type-again", "compile", "no", Test::SecondType, None, b"size_t"),
+    ("pointer", "compile", "yes", Test::Type, None, b"char *"),
+    ("pointer-again", "compile", "no", Test::SecondType, None, b"char *"),
+    ("value", "compile", "yes", Test::Type, None, b"stdout"),
+    ("value-again", "compile", "yes", Test::SecondType, None, b"stdout"),
+    ("type-missing", "compile", "no", Test::Type, None, b"no_such_type"),
+    ("type-given", "compile", "yes", Test::Type, Some(GIVEN), b"struct stat"),
+    ("type-given-again", "compile", "no", Test::SecondType, Some(GIVEN), b"struct stat"),
+    ("type-not-given", "compile", "no", Test::Type, Some(b""), b"struct stat"),
+    ("type-of-words", "compile", "yes", Test::Type, None, b"unsigned long int * const *"),
+    ("type-of-words-again", "compile", "no", Test::SecondType, None, b"unsigned long int * const *"),
+    ("program", "run", "yes", Test::Program, None, b""),
+    ("definitions", "run", "yes", Test::Program, None, LAST_DEFINITION),
+    ("definitions-missing", "compile", "no", Test::Program, None, LAST_DEFINITION),
 ];
 
 /// Includes that a macro gives.
-const GIVEN_INCLUDES: &[u8] = b"#include <sys/types.h>\n#include <sys/stat.h>\n";
+const GIVEN: &[u8] = b"#include <sys/types.h>\n#include <sys/stat.h>\n";
 
 /// The source of a sample.
-fn source_of(alloc: Global, name: &str) -> Result<Option<Bytes>, AllocError> {
-    let includes = default_includes();
-    let source = match name {
-        "header" => header_source(alloc, includes, b"sys/stat.h")?,
-        "header-missing" => header_source(alloc, includes, b"no/such/header.h")?,
-        "header-given" => header_source(alloc, b"#include <sys/types.h>", b"sys/stat.h")?,
-        "header-broken" => header_source(alloc, b"int int;", b"sys/stat.h")?,
-        "function" => function_source(alloc, b"getpid")?,
-        "function-missing" => function_source(alloc, b"no_such_function")?,
-        "function-exit" => function_source(alloc, b"exit")?,
-        "function-printf" => function_source(alloc, b"printf")?,
-        "declaration" => declaration_source(alloc, includes, b"strlen")?,
-        "declaration-macro" => declaration_source(alloc, includes, b"offsetof")?,
-        "declaration-missing" => declaration_source(alloc, includes, b"no_such_name")?,
-        "type" => type_source(alloc, includes, b"size_t")?,
-        "type-again" => second_type_source(alloc, includes, b"size_t")?,
-        "pointer" => type_source(alloc, includes, b"char *")?,
-        "pointer-again" => second_type_source(alloc, includes, b"char *")?,
-        "value" => type_source(alloc, includes, b"stdout")?,
-        "value-again" => second_type_source(alloc, includes, b"stdout")?,
-        "type-missing" => type_source(alloc, includes, b"no_such_type")?,
-        "type-given" => type_source(alloc, GIVEN_INCLUDES, b"struct stat")?,
-        "type-given-again" => second_type_source(alloc, GIVEN_INCLUDES, b"struct stat")?,
-        "type-not-given" => type_source(alloc, b"", b"struct stat")?,
-        "type-of-words" => type_source(alloc, includes, b"unsigned long int * const *")?,
-        "type-of-words-again" => {
-            second_type_source(alloc, includes, b"unsigned long int * const *")?
-        }
-        "program" => program_source(alloc, b"", b"")?,
-        "definitions" | "definitions-missing" => program_source(alloc, b"", LAST_DEFINITION)?,
-        _ => return Ok(None),
-    };
-    Ok(Some(source))
+fn source_of(alloc: Global, sample: &Sample) -> Result<Bytes, AllocError> {
+    let (_, _, _, test, includes, tested) = *sample;
+    let includes = includes.unwrap_or(default_includes());
+    match test {
+        Test::Header => header_source(alloc, includes, tested),
+        Test::Function => function_source(alloc, tested),
+        Test::Declaration => declaration_source(alloc, includes, tested),
+        Test::Type => type_source(alloc, includes, tested),
+        Test::SecondType => second_type_source(alloc, includes, tested),
+        Test::Program => program_source(alloc, b"", tested),
+    }
 }
 
 /// A body that wants the last of many definitions, and one that holds quotes.
@@ -117,32 +110,32 @@ fn define_numbered(alloc: Global, defs: &mut Defs, value: &[u8]) -> Result<(), A
     Ok(())
 }
 
-/// Whether the conftest of a sample is linked.
-fn is_linked(name: &str) -> bool {
-    SAMPLES
-        .iter()
-        .any(|(sample, how, _)| *sample == name && *how != "compile")
-}
-
-/// The job of a sample, if there is one of this name.
-fn job_of(alloc: Global, compiler: &str, name: &str) -> Result<Option<Job>, JobFault> {
-    let Some(source) = source_of(alloc, name)? else {
-        return Ok(None);
-    };
-    let defs = definitions_of(alloc, name)?;
+/// The job of a sample.
+fn job_of(alloc: Global, compiler: &str, sample: &Sample) -> Result<Job, JobFault> {
+    let source = source_of(alloc, sample)?;
+    let defs = definitions_of(alloc, sample.0)?;
     let mut vars = Vars::new(alloc);
     vars.set(b"CC", compiler.as_bytes())?;
-    let job = if is_linked(name) {
-        link_job(alloc, &vars, &defs, source.as_slice(), 0)?
+    if sample.1 == "compile" {
+        compile_job(alloc, &vars, &defs, source.as_slice(), 0)
     } else {
-        compile_job(alloc, &vars, &defs, source.as_slice(), 0)?
-    };
-    Ok(Some(job))
+        link_job(alloc, &vars, &defs, source.as_slice(), 0)
+    }
+}
+
+/// The job of the sample of this name: none if there is no such sample, or memory runs out.
+fn job_named(alloc: Global, compiler: &str, name: &str) -> Option<Job> {
+    for sample in SAMPLES {
+        if sample.0 == name {
+            return job_of(alloc, compiler, sample).ok();
+        }
+    }
+    None
 }
 
 /// Writes the list of samples.
 fn list<W: Write>(output: &mut W) -> io::Result<()> {
-    for (name, how, passes) in SAMPLES {
+    for (name, how, passes, ..) in SAMPLES {
         writeln!(output, "{name} {how} {passes}")?;
     }
     Ok(())
@@ -171,11 +164,11 @@ fn main(rt: HostRuntime) -> io::Result<ExitCode> {
     let Some(name) = args.next() else {
         return Ok(ExitCode::from(2));
     };
-    match job_of(rt.alloc(), compiler.as_str(), name.as_str()) {
-        Ok(Some(job)) => {
+    match job_named(rt.alloc(), compiler.as_str(), name.as_str()) {
+        Some(job) => {
             write_job(&mut output, &job)?;
             Ok(ExitCode::from(0))
         }
-        _ => Ok(ExitCode::from(2)),
+        None => Ok(ExitCode::from(2)),
     }
 }
