@@ -21,14 +21,6 @@ pub on_err : {X E A : Type 0} (r : Result X E) → A → OnErr r A
 on_err (Ok x) a = tt
 on_err (Err e) a = a
 
--- A file that was removed after it was not filled, or not renamed.
-pub failed : (a b c : Option Known) (mode : Option ℕ) (text other : List ℕ)
-    → (Adds a b (Failed other ∷ []) ⊎ Adds a b (Filled other mode text ∷ []))
-    → Adds b c (Removed other ∷ [])
-    → (Adds a c (Failed other ∷ Removed other ∷ []) ⊎ Adds a c (Filled other mode text ∷ Removed other ∷ []))
-failed a b c mode text other (inl f) removed = inl (adds_then a b c (Failed other ∷ []) (Removed other ∷ []) f removed)
-failed a b c mode text other (inr f) removed = inr (adds_then a b c (Filled other mode text ∷ []) (Removed other ∷ []) f removed)
-
 pub undone : (a b c : Option Known) (name : List ℕ) (n : ℕ) (mode : Option ℕ) (text other : List ℕ)
     → other ≡ temporary name n
     → Adds a b (Made (temporary name n) ∷ [])

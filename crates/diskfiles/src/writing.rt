@@ -42,27 +42,6 @@ fn make_beside<D: Disk>(alloc: Global, disk: &mut D, name: &str) -> io::Result<N
     ))
 }
 
-/// Writes a text to a new file, closes it, and gives it another name.
-fn fill_and_rename<D: Disk>(
-    disk: &mut D,
-    other: &str,
-    file: D::File,
-    mode: Option<u32>,
-    text: &[u8],
-    name: &str,
-) -> io::Result<()>
-    ensures done { OnOk result (Adds (D.known disk.old) (D.known disk.new)
-        (Filled other.now mode text.now ∷ Renamed other.now name.now ∷ [])) }
-    ensures failed { OnErr result
-        (Adds (D.known disk.old) (D.known disk.new) (Failed other.now ∷ [])
-        ⊎ Adds (D.known disk.old) (D.known disk.new) (Filled other.now mode text.now ∷ [])) }
-{
-    match disk.fill(other, file, mode, text) {
-        Ok(()) => disk.rename(other, name),
-        Err(e) => Err(e),
-    }
-}
-
 /// Writes a text to a new file, closes it, and gives it another name. If that fails, removes it.
 fn finish<D: Disk>(
     disk: &mut D,
@@ -78,8 +57,14 @@ fn finish<D: Disk>(
         (Adds (D.known disk.old) (D.known disk.new) (Failed other.now ∷ Removed other.now ∷ [])
         ⊎ Adds (D.known disk.old) (D.known disk.new) (Filled other.now mode text.now ∷ Removed other.now ∷ [])) }
 {
-    match fill_and_rename(disk, other, file, mode, text, name) {
-        Ok(()) => Ok(()),
+    match disk.fill(other, file, mode, text) {
+        Ok(()) => match disk.rename(other, name) {
+            Ok(()) => Ok(()),
+            Err(e) => {
+                disk.remove(other);
+                Err(e)
+            }
+        },
         Err(e) => {
             disk.remove(other);
             Err(e)
@@ -142,25 +127,6 @@ fn mode_of(found: Found, keeps: Keeps) -> io::Result<Option<u32>>
     }
 }
 
-/// Writes a text to a file as [`write_text`] says.
-fn write_to<D: Disk>(
-    alloc: Global,
-    disk: &mut D,
-    name: &str,
-    keeps: Keeps,
-    text: &[u8],
-) -> io::Result<()>
-    ensures written { OnOk result
-        (Does (D.known disk.old) (D.known disk.new)
-        (λ k deeds. IsWritten k keeps name.now text.now deeds)) }
-    ensures undone { OnErr result
-        (Does (D.known disk.old) (D.known disk.new) (λ _ deeds. IsUndone name.now deeds)) }
-{
-    let found = disk.look(name)?;
-    let mode = mode_of(found, keeps)?;
-    replace(alloc, disk, name, mode, text)
-}
-
 /// Writes a text to a file (own).
 ///
 /// The text is written to a new file in the same directory, under the first name `acrun-N.tmp` that
@@ -189,10 +155,12 @@ pub fn write_text<D: Disk>(
     ensures undone { OnErr result
         (Does (D.known disk.old) (D.known disk.new) (λ _ deeds. IsUndone name.now deeds)) }
 {
-    let Some(name) = file_name(name) else {
+    let Some(path) = file_name(name) else {
         return Err(no_name());
     };
-    write_to(alloc, disk, name, keeps, text)
+    let found = disk.look(path)?;
+    let mode = mode_of(found, keeps)?;
+    replace(alloc, disk, path, mode, text)
 }
 
 /// Removes a regular file or a link of this name, and nothing else. That it can't be removed is not
