@@ -178,36 +178,6 @@ fn write_placed<D: Disk>(
     write_text(alloc, disk, file.as_bytes(), kept_by(kind), text)
 }
 
-/// Writes an artifact, if it isn't unchanged, and adds its places. If that fails, no place is added.
-fn write_artifact<D: Disk>(
-    alloc: Global,
-    disk: &mut D,
-    places: &mut Vec<Place>,
-    kind: Kind,
-    saying: Saying,
-    unchanged: bool,
-    name: &str,
-    file: &str,
-    is_linked: bool,
-    text: &[u8],
-) -> io::Result<()>
-    ensures stepped { OnOk result (Does (D.known disk.old) (D.known disk.new)
-        (λ k deeds. IsStepped k saying unchanged
-        (keeps_of kind) name.now file.now text.now deeds)) }
-    ensures undone { OnErr result
-        (Does (D.known disk.old) (D.known disk.new)
-        (λ _ deeds. IsUnstepped saying name.now file.now deeds)) }
-{
-    let count = places.len();
-    let done = write_placed(
-        alloc, disk, places, kind, saying, unchanged, name, file, is_linked, text,
-    );
-    if done.is_err() {
-        places.truncate(count);
-    }
-    done
-}
-
 /// Returns whether an artifact of this kind is compared with the text that its file has. What is not
 /// compared is written in any case: a file, and the record, so that it is newer than what it was
 /// made of.
@@ -273,31 +243,9 @@ fn file_of<'a>(end: &'a Option<String>, name: &'a str) -> &'a str
     }
 }
 
-/// Appends an artifact, and what is said of it. If memory runs out, it appends neither.
-fn keep(
-    alloc: Global,
-    artifacts: &mut Vec<Artifact>,
-    lines: &mut Vec<u8>,
-    artifact: Artifact,
-    saying: Saying,
-    name: &[u8],
-) -> Result<(), AllocError>
-    ensures ok { OnOk result
-        (IsKept artifacts.old.items lines.old.items artifacts.new.items lines.new.items artifact (said saying name.now)) }
-    ensures err { OnErr result
-        (AreSame artifacts.old.items lines.old.items artifacts.new.items lines.new.items) }
-{
-    let count = artifacts.len();
-    artifacts.push(artifact)?;
-    let answer = say(alloc, lines, saying, name);
-    if answer.is_err() {
-        artifacts.truncate(count);
-    }
-    answer
-}
-
-/// Appends an artifact and what is said of it, and writes the artifact. If the put is refused, it appends
-/// neither. So there is memory to keep the artifact before its file is written.
+/// Appends an artifact and what is said of it, writes the artifact, and adds its places. If the put is
+/// refused, it appends nothing and adds no place. So there is memory to keep the artifact before its
+/// file is written.
 fn keep_written<D: Disk>(
     alloc: Global,
     disk: &mut D,
@@ -326,64 +274,23 @@ fn keep_written<D: Disk>(
 {
     let count = artifacts.len();
     let len = lines.len();
-    if keep(alloc, artifacts, lines, artifact, saying, name.as_bytes()).is_err() {
+    let placed = places.len();
+    if artifacts.push(artifact).is_err() {
         return Err(no_memory());
     }
-    let done = write_artifact(
+    if say(alloc, lines, saying, name.as_bytes()).is_err() {
+        artifacts.truncate(count);
+        return Err(no_memory());
+    }
+    let done = write_placed(
         alloc, disk, places, kind, saying, unchanged, name, file, is_linked, text,
     );
     if done.is_err() {
         artifacts.truncate(count);
         lines.truncate(len);
+        places.truncate(placed);
     }
     done
-}
-
-/// Takes an artifact whose name is that of a file. If the put is refused, only its deeds are left of
-/// it.
-fn take_named<D: Disk>(
-    alloc: Global,
-    disk: &mut D,
-    places: &mut Vec<Place>,
-    artifacts: &mut Vec<Artifact>,
-    lines: &mut Vec<u8>,
-    kind: Kind,
-    name: &str,
-    text: &[u8],
-) -> io::Result<()>
-    requires { IsFileName name.now }
-    ensures taken { OnOk result
-        (Takes (D.known disk.old) (D.known disk.new) artifacts.old.items lines.old.items artifacts.new.items lines.new.items
-        (record { kind = kind; name = name.now; text = text.now })) }
-    ensures same { OnErr result
-        (AreSame artifacts.old.items lines.old.items artifacts.new.items lines.new.items) }
-    ensures undone { OnErr result
-        (Does (D.known disk.old) (D.known disk.new) (λ k deeds. IsRefused k name.now kind deeds)) }
-{
-    let Ok(unchanged) = is_unchanged(alloc, disk, kind, name, text) else {
-        return Err(no_memory());
-    };
-    let end = end_for(alloc, disk, kind, name)?;
-    let Ok(artifact) = Artifact::from_slices(alloc, kind, name.as_bytes(), text) else {
-        return Err(no_memory());
-    };
-    let saying = saying_of(kind, unchanged);
-    let file = file_of(&end, name);
-    keep_written(
-        alloc,
-        disk,
-        places,
-        artifacts,
-        lines,
-        artifact,
-        kind,
-        saying,
-        unchanged,
-        name,
-        file,
-        end.is_some(),
-        text,
-    )
 }
 
 /// Takes an artifact. If the put is refused, only its deeds are left of it.
@@ -414,7 +321,30 @@ fn take<D: Disk>(
     let Some(path) = file_name(name) else {
         return Err(no_name());
     };
-    take_named(alloc, disk, places, artifacts, lines, kind, path, text)
+    let Ok(unchanged) = is_unchanged(alloc, disk, kind, path, text) else {
+        return Err(no_memory());
+    };
+    let end = end_for(alloc, disk, kind, path)?;
+    let Ok(artifact) = Artifact::from_slices(alloc, kind, name, text) else {
+        return Err(no_memory());
+    };
+    let saying = saying_of(kind, unchanged);
+    let file = file_of(&end, path);
+    keep_written(
+        alloc,
+        disk,
+        places,
+        artifacts,
+        lines,
+        artifact,
+        kind,
+        saying,
+        unchanged,
+        path,
+        file,
+        end.is_some(),
+        text,
+    )
 }
 
 impl<D: Disk> FileOutputs<D> {
@@ -508,45 +438,6 @@ impl<D: Disk> FileOutputs<D> {
         self.is_closed = true;
         write_new(&mut self.disk, name, text)
     }
-
-    /// Takes an artifact, or counts the refusal.
-    fn take_counted(&mut self, kind: Kind, name: &[u8], text: &[u8]) -> io::Result<()>
-        requires failures { self.old.failures < 2 ^ 62 }
-        ensures taken { OnOk result
-            ((line : List ℕ) × IsTaken self.old self.new (record { kind = kind; name = name.now; text = text.now }) line
-            × Does (D.known self.old.disk) (D.known self.new.disk) (λ k deeds. IsPut k name.now text.now kind line deeds)) }
-        ensures unclosed { OnOk result (self.old.closed ≡ false) }
-        ensures name { IfOk result (λ _. IsFileName name.now) }
-        ensures counted { OnErr result (IsCounted self.old self.new) }
-        ensures undone { OnErr result
-            (Does (D.known self.old.disk) (D.known self.new.disk)
-            (λ k deeds. IsRefused k name.now kind deeds)) }
-    {
-        match take(
-            self.alloc,
-            &mut self.disk,
-            &mut self.places,
-            &mut self.artifacts,
-            &mut self.lines,
-            self.is_closed,
-            kind,
-            name,
-            text,
-        ) {
-            Ok(()) => Ok(()),
-            Err(e) => {
-                self.failures += 1;
-                Err(e)
-            }
-        }
-    }
-
-    /// Keeps why a put was refused. If memory runs out, keeps nothing.
-    fn keep_cause(&mut self, name: &[u8], error: &io::Error)
-        ensures { self.new ≡ self.old }
-    {
-        self.cause = words_of(self.alloc, name, error).unwrap_or(Bytes::new(self.alloc));
-    }
 }
 
 impl<D: Disk> Outputs for FileOutputs<D> {
@@ -568,10 +459,21 @@ impl<D: Disk> Outputs for FileOutputs<D> {
             (Does (D.known self.old.disk) (D.known self.new.disk)
             (λ k deeds. IsRefused k name.now kind deeds)) }
     {
-        match self.take_counted(kind, name, text) {
+        match take(
+            self.alloc,
+            &mut self.disk,
+            &mut self.places,
+            &mut self.artifacts,
+            &mut self.lines,
+            self.is_closed,
+            kind,
+            name,
+            text,
+        ) {
             Ok(()) => Ok(()),
             Err(e) => {
-                self.keep_cause(name, &e);
+                self.failures += 1;
+                self.cause = words_of(self.alloc, name, &e).unwrap_or(Bytes::new(self.alloc));
                 Err(PutRefused)
             }
         }

@@ -1,4 +1,10 @@
-use Rattle.diskfiles.proofs.Puts.{refused_before}
+use Rattle.std.proofs.Common.{ℕ, List, IfSome, OnOk, OnErr, ap, sym, subst, ◌∙◌}
+use Rattle.disk.specs.Known.{Does}
+use Rattle.outputs.specs.declared.artifact.Artifact.{Artifact}
+use Rattle.diskfiles.specs.Done.{IsEnd, IsRefused}
+use Rattle.diskfiles.specs.Keeping.{Takes}
+use Rattle.diskfiles.proofs.Puts.{takes_is, refuses_is, refused_before}
+use Rattle.diskfiles.proofs.Writings.{on_err}
 use Rattle.diskfiles.proofs.receiver.take.Goals as goal
 
 pub returns-then-is_closed-clause-undone : goal.returns-then-is_closed-clause-undone
@@ -6,3 +12,36 @@ returns-then-is_closed-clause-undone g c = refused_before _ c.args.kind c.args.n
 
 pub returns-in_default-clause-undone : goal.returns-in_default-clause-undone
 returns-in_default-clause-undone g c = refused_before _ c.args.kind c.args.name.now
+
+pub returns-in_default-is_unchanged-clause-undone : goal.returns-in_default-is_unchanged-clause-undone
+returns-in_default-is_unchanged-clause-undone g c = refused_before _ c.args.kind c.args.name.now
+
+pub returns-in_err-end-clause-undone : goal.returns-in_err-end-clause-undone
+returns-in_err-end-clause-undone g c = on_err _ (refused_before _ c.args.kind c.args.name.now)
+
+pub returns-in_default-from_slices-clause-undone : goal.returns-in_default-from_slices-clause-undone
+returns-in_default-from_slices-clause-undone g c = refused_before _ c.args.kind c.args.name.now
+
+pub returns-clause-taken : goal.returns-clause-taken
+returns-clause-taken g c =
+    let known = g.D.Disk.known c.args.disk.now in
+    let after = g.D.Disk.known c.keep_written.new.disk in
+    let path = c.in-Some.path.now in
+    let file = c.file_of-file.result.now in
+    let named : List ℕ → Artifact = λ n. record { kind = c.args.kind; name = n; text = c.args.text.now } in
+    subst (λ n. OnOk c.keep_written.result (Takes known after c.args.artifacts.now.items c.args.lines.now.items c.keep_written.new.artifacts.items c.keep_written.new.lines.items (named n))) c.in-Some.ensures.same
+    (takes_is c.keep_written.result known _ _ _ _ _ c.args.kind c.in-Ok.unchanged path file c.args.text.now c.in-Ok-from_slices.artifact c.saying_of-saying.result
+    (c.in-Ok-from_slices.ensures ∙ ap named (sym c.in-Some.ensures.same)) c.saying_of-saying.ensures c.in-Ok.ensures
+    (subst (λ f. IfSome known (λ k. IsEnd k path c.args.kind f)) (sym c.file_of-file.ensures) c.in_ok-end.ensures)
+    c.keep_written.ensures.ok c.keep_written.ensures.stepped)
+
+pub returns-clause-undone : goal.returns-clause-undone
+returns-clause-undone g c =
+    let known = g.D.Disk.known c.args.disk.now in
+    let after = g.D.Disk.known c.keep_written.new.disk in
+    let path = c.in-Some.path.now in
+    let file = c.file_of-file.result.now in
+    subst (λ n. OnErr c.keep_written.result (Does known after (λ k deeds. IsRefused k n c.args.kind deeds))) c.in-Some.ensures.same
+    (refuses_is c.keep_written.result known _ c.args.kind c.in-Ok.unchanged path file c.saying_of-saying.result c.saying_of-saying.ensures
+    (subst (λ f. IfSome known (λ k. IsEnd k path c.args.kind f)) (sym c.file_of-file.ensures) c.in_ok-end.ensures)
+    c.keep_written.ensures.undone)

@@ -1,5 +1,5 @@
 use Rattle.diskfiles.proofs.Puts.{lines_after, same_lines_after, done_after, done_refused}
-use Rattle.diskfiles.proofs.receiver.FileOutputs.take_counted.Goals as goal
+use Rattle.diskfiles.proofs.receiver.FileOutputsOutputs.put.Goals as goal
 
 pub invariant_of-self : goal.invariant_of-self
 invariant_of-self g c = (
