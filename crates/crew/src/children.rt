@@ -23,7 +23,7 @@ use std::process::OpenProcess;
 
 const SLOTS: usize = 16;
 
-/// A crew of the children that a launcher starts.
+/// A crew of the children that a launcher starts, whose `next` takes the first child that has ended, or the oldest if none has.
 #[derive(Drop)]
 pub(crate) struct Children<L: Launcher + Drop> {
     launcher: L,
@@ -149,17 +149,9 @@ impl<L: Launcher + Drop> Crew for Children<L> {
         Ok(())
     }
 
-    fn next(&mut self) -> (usize, Reply)
-        requires flying { IsSomeBusy self.old.events }
-        requires failures { self.old.failures < 2 ^ 62 }
-        ensures was_busy { busy result.0 self.old.events ≡ true }
-        ensures ended { self.new.events ≡ self.old.events ++ Ended result.0 result.1 self.old.attempts ∷ [] }
-        ensures number { self.new.attempts ≡ self.old.attempts }
-        ensures reply { result.1 ≢ StartRefused }
-        ensures count { self.new.failures ≡ self.old.failures + failure_of result.1 }
-        ensures oldest { slots_in_flight self.old.events ≡ result.0 ∷ slots_in_flight self.new.events }
-    {
-        self.end_at(0)
+    fn next(&mut self) -> (usize, Reply) {
+        let place = self.place_of_ended();
+        self.end_at(place)
     }
 }
 
@@ -299,6 +291,7 @@ fn put_slot(slots: &mut VecDeque<usize>, slot: usize)
 fn take_slot(slots: &mut VecDeque<usize>, place: usize) -> usize
     requires place { place < length slots.old.items }
     requires within { All (λ s. s < 16) slots.old.items }
+    ensures inside { place < length slots.old.items }
     ensures slot { result ≡ get_or slots.old.items place result }
     ensures others { slots.new.items ≡ remove slots.old.items place }
     ensures low { result < 16 }

@@ -83,7 +83,7 @@ impl<R: Files + Processes + Drop> Crew for ProcessCrew<R> {
         ensures count { self.new.failures ≡ self.old.failures + failure_of result.1 }
         ensures oldest { slots_in_flight self.old.events ≡ result.0 ∷ slots_in_flight self.new.events }
     {
-        self.children.next()
+        self.children.end_at(0)
     }
 }
 

@@ -1,9 +1,6 @@
 //! A crew of real children that takes one that has ended.
 
-ghost use Rattle.std.specs.Prelude.{◌≡◌, ◌≢◌, ◌+◌, ◌^◌, ◌<◌, [], ◌∷◌, ◌++◌, true, IfOk};
-ghost use Rattle.crew_trait.specs.Events.{IsSomeBusy, busy, failure_of};
-ghost use Rattle.crew_trait.specs.declared.reply.Reply.TheVariants.{StartRefused};
-ghost use Rattle.crew_trait.specs.declared.event.CrewEvent.TheVariants.{Ended};
+ghost use Rattle.std.specs.Prelude.{◌≡◌, [], IfOk};
 
 use crate::children::Children;
 use causes::Causes;
@@ -45,9 +42,8 @@ impl<R: Files + Processes + Drop> ReadyCrew<R> {
         Ok(ReadyCrew { children })
     }
 
-    /// Returns a crew that has started nothing, and that removes a file before the first start that it attempts, such as a log that
-    /// an earlier run left. Only a regular file or a link is removed, and that it can't be is not reported. If the system refuses to
-    /// look at it, that start is refused.
+    /// Returns a crew that has started nothing, and that removes a file before the first start that it attempts, as
+    /// [`ProcessCrew::removing`](crate::ProcessCrew::removing) says.
     ///
     /// # Errors
     ///
@@ -67,17 +63,8 @@ impl<R: Files + Processes + Drop> Crew for ReadyCrew<R> {
         self.children.start(slot, job)
     }
 
-    fn next(&mut self) -> (usize, Reply)
-        requires flying { IsSomeBusy self.old.events }
-        requires failures { self.old.failures < 2 ^ 62 }
-        ensures was_busy { busy result.0 self.old.events ≡ true }
-        ensures ended { self.new.events ≡ self.old.events ++ Ended result.0 result.1 self.old.attempts ∷ [] }
-        ensures number { self.new.attempts ≡ self.old.attempts }
-        ensures reply { result.1 ≢ StartRefused }
-        ensures count { self.new.failures ≡ self.old.failures + failure_of result.1 }
-    {
-        let place = self.children.place_of_ended();
-        self.children.end_at(place)
+    fn next(&mut self) -> (usize, Reply) {
+        self.children.next()
     }
 }
 

@@ -1,4 +1,4 @@
-use Rattle.std.proofs.Common.{◌≡◌, ◌+◌, ◌≤◌, ◌<◌, ◌∷◌, None, is_some, get_or, length, vec_capacity, ap, sym, ◌∙◌, arith, length-append}
+use Rattle.std.proofs.Common.{◌≡◌, ◌+◌, ◌≤◌, ◌∷◌, None, is_some, get_or, length, vec_capacity, ap, sym, ◌∙◌, arith, length-append}
 use Rattle.std.specs.Prelude.{remove, set}
 use Rattle.std.proofs.lemmas.List.{length-set}
 use Rattle.std.proofs.lemmas.List.Edits.{length-remove}
@@ -15,14 +15,11 @@ take_slot-slot-requires-clause-place g c =
 
 pub take_child-child-requires-clause-some : goal.take_child-child-requires-clause-some
 take_child-child-requires-clause-some g c =
-    let within = place_within c.self.inside.slots.items c.self.inside.events.items _ _ c.self.invariant.1 c.self.invariant.2 (ap (λ m. m.events) c.self.view_is) c.requires.flying c.requires.place in
     ap (λ l. is_some (get_or l c.take_slot-slot.result None)) c.as_mut_slice.ensures.value
-    ∙ has_child c.self.inside.children.items c.self.inside.slots.items c.self.inside.events.items c.args.place c.take_slot-slot.result within c.take_slot-slot.ensures.slot c.self.invariant.6
+    ∙ has_child c.self.inside.children.items c.self.inside.slots.items c.self.inside.events.items c.args.place c.take_slot-slot.result c.take_slot-slot.ensures.inside c.take_slot-slot.ensures.slot c.self.invariant.6
 
 pub put-requires-2 : goal.put-requires-2
-put-requires-2 g c =
-    let within = place_within c.self.inside.slots.items c.self.inside.events.items _ _ c.self.invariant.1 c.self.invariant.2 (ap (λ m. m.events) c.self.view_is) c.requires.flying c.requires.place in
-    omega (arith, within, c.self.invariant.4)
+put-requires-2 g c = omega (arith, c.take_slot-slot.ensures.inside, c.self.invariant.4)
 
 pub invariant_of-self : goal.invariant_of-self
 invariant_of-self g c =
@@ -31,7 +28,7 @@ invariant_of-self g c =
     let slot = c.take_slot-slot.result in
     let at = c.take_slot-slot.ensures.slot in
     let others = c.take_slot-slot.ensures.others in
-    let within : c.args.place < length xs = place_within xs es _ _ c.self.invariant.1 c.self.invariant.2 (ap (λ m. m.events) c.self.view_is) c.requires.flying c.requires.place in
+    let within = c.take_slot-slot.ensures.inside in
     let order : c.take_slot-slot.new.slots.items ≡ slots_in_flight c.put-2.new.list.items = slots_end xs _ es _ c.args.place slot _ _ c.self.invariant.1 c.self.invariant.2 within at others c.put-2.ensures.items in
     let lists : ListsBusy c.take_slot-slot.new.slots.items c.put-2.new.list.items = lists_end xs _ es _ c.args.place slot _ _ c.self.invariant.2 within at others c.put-2.ensures.items in
     let size = sym (ap length c.take_child-child.ensures.left ∙ length-set c.as_mut_slice.result.now slot None ∙ c.as_mut_slice.ensures.len) in
@@ -49,16 +46,12 @@ invariant_of-self g c =
 
 pub returns-clause-was_busy : goal.returns-clause-was_busy
 returns-clause-was_busy g c =
-    let xs = c.self.inside.slots.items in
-    let within : c.args.place < length xs = place_within xs c.self.inside.events.items _ _ c.self.invariant.1 c.self.invariant.2 (ap (λ m. m.events) c.self.view_is) c.requires.flying c.requires.place in
-    ap (λ m. busy c.take_slot-slot.result m.events) (sym c.self.view_is) ∙ lists_busy xs c.self.inside.events.items c.args.place c.take_slot-slot.result c.self.invariant.2 within c.take_slot-slot.ensures.slot
+    ap (λ m. busy c.take_slot-slot.result m.events) (sym c.self.view_is)
+    ∙ lists_busy c.self.inside.slots.items c.self.inside.events.items c.args.place c.take_slot-slot.result c.self.invariant.2 c.take_slot-slot.ensures.inside c.take_slot-slot.ensures.slot
 
 pub returns-clause-others : goal.returns-clause-others
 returns-clause-others g c =
-    let xs = c.self.inside.slots.items in
-    let es = c.self.inside.events.items in
-    let within : c.args.place < length xs = place_within xs es _ _ c.self.invariant.1 c.self.invariant.2 (ap (λ m. m.events) c.self.view_is) c.requires.flying c.requires.place in
-    let order : c.take_slot-slot.new.slots.items ≡ slots_in_flight c.put-2.new.list.items = slots_end xs _ es _ c.args.place c.take_slot-slot.result _ _ c.self.invariant.1 c.self.invariant.2 within c.take_slot-slot.ensures.slot c.take_slot-slot.ensures.others c.put-2.ensures.items in
+    let order : c.take_slot-slot.new.slots.items ≡ slots_in_flight c.put-2.new.list.items = slots_end c.self.inside.slots.items _ c.self.inside.events.items _ c.args.place c.take_slot-slot.result _ _ c.self.invariant.1 c.self.invariant.2 c.take_slot-slot.ensures.inside c.take_slot-slot.ensures.slot c.take_slot-slot.ensures.others c.put-2.ensures.items in
     sym order ∙ c.take_slot-slot.ensures.others ∙ ap (λ s. remove s c.args.place) (c.self.invariant.1 ∙ ap (λ m. slots_in_flight m.events) c.self.view_is)
 
 pub returns-clause-oldest : goal.returns-clause-oldest
@@ -66,6 +59,6 @@ returns-clause-oldest g c = λ none.
     let xs = c.self.inside.slots.items in
     let es = c.self.inside.events.items in
     let slot = c.take_slot-slot.result in
-    let within : c.args.place < length xs = place_within xs es _ _ c.self.invariant.1 c.self.invariant.2 (ap (λ m. m.events) c.self.view_is) c.requires.flying c.requires.place in
+    let within = c.take_slot-slot.ensures.inside in
     let order : c.take_slot-slot.new.slots.items ≡ slots_in_flight c.put-2.new.list.items = slots_end xs _ es _ c.args.place slot _ _ c.self.invariant.1 c.self.invariant.2 within c.take_slot-slot.ensures.slot c.take_slot-slot.ensures.others c.put-2.ensures.items in
     ap (λ m. slots_in_flight m.events) (sym c.self.view_is) ∙ sym c.self.invariant.1 ∙ first_and_rest xs _ c.args.place slot within c.take_slot-slot.ensures.slot c.take_slot-slot.ensures.others none ∙ ap (λ t. slot ∷ t) order
