@@ -1,7 +1,8 @@
 -- Each call keeps a crew in memory ready for the next.
 use Rattle.std.proofs.Common.{◌≡◌, ◌≢◌, ℕ, zero, suc, ◌+◌, ◌*◌, ◌<◌, ◌≤◌, true, false, List, [], ◌∷◌, ◌++◌, length, map, get_or, refl, sym, ap, ◌∙◌, subst, arith, length-append}
 use Rattle.std.specs.Prelude.{remove}
-use Rattle.std.proofs.lemmas.List.{map-append, length-map}
+use Rattle.std.proofs.lemmas.List.{map-append, length-map, get_or-map}
+use Rattle.std.proofs.lemmas.List.Edits.{length-remove}
 use Rattle.jobs.specs.declared.job.Job.{Job}
 use Rattle.crew_trait.specs.declared.reply.Reply.{Reply}
 use Rattle.crew_trait.specs.declared.reply.Reply.TheVariants.{StartRefused}
@@ -12,6 +13,10 @@ use Rattle.crew.specs.Child.{Child}
 use Rattle.crew_trait.specs.Events.{busy, IsSomeBusy}
 use Rattle.crew.specs.Sound.{AllStarted, IsReady}
 use Rattle.crew.proofs.SlotLemmas.{lists_none, lists_busy, lists_some, lists_start, lists_end}
+
+-- a child of a list that was lent as a slice
+pub in_lent : {lent cs : List Child} {i : ℕ} → lent ≡ cs → i < length lent → i < length cs
+in_lent same lt = omega (arith, lt, ap length same)
 
 abbrev slots : List Child → List ℕ
 slots cs = map (λ c. c.slot) cs
@@ -31,11 +36,6 @@ started_at [] i c h lt is = absurd (omega arith)
 started_at (x ∷ cs) zero c h lt is = λ e. h.0 (sym (ap (λ k. k.reply) is) ∙ e)
 started_at (x ∷ cs) (suc i) c h lt is = started_at cs i c h.1 (omega arith) is
 
-length-remove : (cs : List Child) (i : ℕ) → i < length cs → length (remove cs i) + 1 ≡ length cs
-length-remove [] i lt = absurd (omega arith)
-length-remove (x ∷ cs) zero lt = omega arith
-length-remove (x ∷ cs) (suc i) lt = let e = length-remove cs i (omega arith) in omega arith
-
 slots-remove : (cs : List Child) (i : ℕ) → slots (remove cs i) ≡ remove (slots cs) i
 slots-remove [] zero = refl
 slots-remove [] (suc i) = refl
@@ -43,9 +43,7 @@ slots-remove (x ∷ cs) zero = refl
 slots-remove (x ∷ cs) (suc i) = ap (λ xs. x.slot ∷ xs) (slots-remove cs i)
 
 slot_at : (cs : List Child) (i : ℕ) (c : Child) → i < length cs → c ≡ get_or cs i c → c.slot ≡ get_or (slots cs) i c.slot
-slot_at [] i c lt is = absurd (omega arith)
-slot_at (x ∷ cs) zero c lt is = ap (λ k. k.slot) is
-slot_at (x ∷ cs) (suc i) c lt is = slot_at cs i c (omega arith) is
+slot_at cs i c lt is = ap (λ k. k.slot) is ∙ sym (get_or-map (λ (k : Child). k.slot) cs i c c.slot lt)
 
 inside : (cs : List Child) (i : ℕ) → i < length cs → i < length (slots cs)
 inside cs i lt = omega (arith, length-map cs (λ (c : Child). c.slot))
