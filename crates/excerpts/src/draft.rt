@@ -58,9 +58,7 @@ impl Draft {
     }
 
     pub(crate) fn put_number(&mut self, number: usize) {
-        let mut digits = Buffer::new();
-        let text = digits.format(number);
-        self.put(text.as_bytes());
+        self.put_right(number, 0);
     }
 
     /// Writes the number at the right of so many columns.

@@ -45,7 +45,8 @@ impl Colours {
     }
 }
 
-fn word_of(severity: Severity) -> &'static [u8] {
+/// Returns how a finding is called.
+pub(crate) fn word_of(severity: Severity) -> &'static [u8] {
     match severity {
         Severity::Error => b"error".as_slice(),
         Severity::Warning => b"warning".as_slice(),

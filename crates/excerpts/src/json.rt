@@ -1,8 +1,9 @@
 //! A finding as JSON.
 
 use crate::draft::Draft;
+use crate::excerpt::word_of;
 use deftable::Bytes;
-use findings::{Finding, Severity};
+use findings::Finding;
 use places::place_of;
 use serde_json::Value;
 use std::alloc::{AllocError, Global};
@@ -34,13 +35,6 @@ fn put_number(draft: &mut Draft, key: &[u8], number: usize) {
     draft.put(b",");
 }
 
-fn word_of(severity: Severity) -> &'static [u8] {
-    match severity {
-        Severity::Error => b"error".as_slice(),
-        Severity::Warning => b"warning".as_slice(),
-    }
-}
-
 /// Returns a finding as one line with an object: `file`, `line`, `column`, `end_line`, `end_column`, `severity`, `code`, `message` and
 /// `help`. Lines and columns count from 1, columns count bytes, and the end is after the last byte. The text is that of the file, and
 /// `name` is what the file is called.
@@ -63,21 +57,11 @@ pub fn json_of(
     put_number(&mut draft, b"column", start.column);
     put_number(&mut draft, b"end_line", end.line);
     put_number(&mut draft, b"end_column", end.column);
-    put_text(
-        alloc,
-        &mut draft,
-        b"severity",
-        word_of(finding.severity),
-        b",",
-    );
+    let severity = word_of(finding.severity);
+    put_text(alloc, &mut draft, b"severity", severity, b",");
     put_text(alloc, &mut draft, b"code", finding.code.as_slice(), b",");
-    put_text(
-        alloc,
-        &mut draft,
-        b"message",
-        finding.message.as_slice(),
-        b",",
-    );
+    let message = finding.message.as_slice();
+    put_text(alloc, &mut draft, b"message", message, b",");
     put_text(alloc, &mut draft, b"help", finding.help.as_slice(), b"}\n");
     draft.finish()
 }
