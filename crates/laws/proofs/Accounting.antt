@@ -14,19 +14,19 @@ use Rattle.syntax.specs.declared.program.Try.TheVariants as kinds_are
 use Rattle.syntax.specs.declared.statement.Plain as plain
 use Rattle.syntax.specs.declared.statement.MessageKind.{MessageKind}
 use Rattle.syntax.specs.declared.statement.MessageKind.TheVariants as messages
-use Rattle.syntax.specs.declared.statement.Plain.TheVariants.{Init, Accepted, ConfigFiles, ConfigHeaders, Assign, Subst, SubstValue, Define, DefineUnquoted, Error, Message, ArgVar, CheckProg, CheckProgs, PathProg, ProgCc, Output}
+use Rattle.syntax.specs.declared.statement.Plain.TheVariants.{Init, Assign, SubstValue, Message, CheckProg, CheckProgs, PathProg, ProgCc, Output}
 use Rattle.syntax.specs.declared.statement.Plain.TheVariants as plain_is
 use Rattle.syntax.specs.declared.statement.Question.TheVariants as questions
 use Rattle.syntax.specs.declared.statement.Question.TheVariants.{Given, Tries, Checks, ChecksEach}
 use Rattle.syntax.specs.declared.tree.Subject.{Subject}
 use Rattle.syntax.specs.declared.tree.Subject.TheVariants.{Nothing, Word, Asked}
 use Rattle.syntax.specs.Script.{Script, Done, Then, Choice, Check, Cases, No_case, Case}
-use Rattle.meaning.specs.State.{State, Scope, no_choice, about, answered, Goes_on, Completed, Stopped, Cut, Run, Ends, Asks, then_run, ended, as_is, with_child, with_variable}
+use Rattle.meaning.specs.State.{State, Scope, no_choice, about, answered, Goes_on, Completed, Cut, Run, Ends, Asks, then_run, ended, as_is, with_child, with_variable}
 use Rattle.meaning.specs.Asking.{success, only_reply, heard, child, compiled}
 use Rattle.meaning.specs.Tests.{checking, cached_test, tested}
 use Rattle.meaning.specs.Rows.{Kind, Program, Library, Libraries, kind_for, is_found, name_of, value_or_empty, value_if, row_of}
 use Rattle.meaning.specs.Package.{package_string, initialised}
-use Rattle.meaning.specs.Play.{play, first_number, refused_after, with_cut_line, last_words}
+use Rattle.meaning.specs.Play.{play, first_number, refused_after, last_words}
 use Rattle.meaning.specs.Tries.{first_probe, after_first, text_of}
 use Rattle.meaning.specs.Meaning.{settled, is_unsettled, has_value, check_prog, looks, looks_all, defaulted, said, effect, value_name, given, found_by, first_found, begun, rounds_of, in_turn, is_taken, check, meaning, chosen}
 use Rattle.laws.specs.Ends.{AtEnds}
@@ -36,6 +36,7 @@ use Rattle.laws.proofs.DeedLemmas.{Variables, joined, nothing, ended_there, writ
 use Rattle.laws.proofs.TestDeeds.{kind_accounts, IsOpen, tested_open}
 use Rattle.laws.proofs.CheckDeeds.{check_accounts}
 use Rattle.laws.proofs.BatchDeeds.{batch_accounts}
+use Rattle.laws.proofs.Plays.{line_vars}
 
 -- Statements.
 either_run : (b : Bool) (before : Variables) (p q : List Deed) (x y : Run) (rs : List Reply) → Accounts before p (play x rs).state.vars → Accounts before q (play y rs).state.vars → Accounts before (cond b p q) (play (cond b x y) rs).state.vars
@@ -72,26 +73,16 @@ prefix_accounts name value st = prefix_by (is_unsettled (value_of st.vars name))
 said_accounts : (kind : MessageKind) (message : List ℕ) (st : State) → Accounts st.vars [] (said kind message st).vars
 unfolding said
 said_accounts messages.Checking message st = nothing st.vars
-said_accounts messages.Results message st = nothing st.vars
-said_accounts messages.Notice message st = nothing st.vars
-said_accounts messages.Warning message st = nothing st.vars
+said_accounts _ message st = nothing st.vars
 
 effect_accounts : (s : plain.Plain) (st : State) (rs : List Reply) → Accounts st.vars (effect_deeds s st rs) (play (effect s st) rs).state.vars
 unfolding effect effect_deeds initialised
 effect_accounts (Init title version bug tarname url) st rs =
     writes_more st.vars _ _ (codes "PACKAGE_URL") url (writes_more st.vars _ _ (codes "PACKAGE_BUGREPORT") bug (writes_more st.vars _ _ (codes "PACKAGE_STRING") (package_string title version)
     (writes_more st.vars _ _ (codes "PACKAGE_VERSION") version (writes_more st.vars _ _ (codes "PACKAGE_TARNAME") tarname (writes st.vars (codes "PACKAGE_NAME") title)))))
-effect_accounts Accepted st rs = nothing st.vars
-effect_accounts (ConfigFiles outputs) st rs = nothing st.vars
-effect_accounts (ConfigHeaders outputs) st rs = nothing st.vars
 effect_accounts (Assign name value) st rs = writes st.vars name (word_value value st.vars)
-effect_accounts (Subst name) st rs = nothing st.vars
 effect_accounts (SubstValue name value) st rs = writes st.vars name (word_value value st.vars)
-effect_accounts (Define name value) st rs = nothing st.vars
-effect_accounts (DefineUnquoted name value) st rs = nothing st.vars
-effect_accounts (Error message status) st rs = nothing st.vars
 effect_accounts (Message kind message) st rs = said_accounts kind (word_value message st.vars) st
-effect_accounts (ArgVar name help) st rs = nothing st.vars
 effect_accounts (CheckProg variable program found otherwise) st rs = kind_accounts (Program _ _) st rs
 effect_accounts (CheckProgs variable programs otherwise) st rs =
     then_accounts (looks_all variable programs true st) rs st.vars (looks_deeds variable programs true st rs) _ (λ now left. default_deeds variable otherwise now)
@@ -103,6 +94,7 @@ effect_accounts Output st rs =
     let first = settled (codes "prefix") (codes "/usr/local") st in
     joined st.vars first.vars (settled (codes "exec_prefix") (codes "${prefix}") first).vars (prefix_deeds (codes "prefix") st) (prefix_deeds (codes "exec_prefix") first)
     (prefix_accounts (codes "prefix") (codes "/usr/local") st) (prefix_accounts (codes "exec_prefix") (codes "${prefix}") first)
+effect_accounts _ st rs = nothing st.vars
 
 -- Choices.
 abbrev FollowChoice : (Scope → State → Run) → (Scope → State → List Reply → List Deed) → Type 0
@@ -156,8 +148,7 @@ run_accounts : (r : Run) (rs : List Reply) (before : Variables) (a : List Deed) 
     → Accounts before (a ++ deeds_answered (then_run (ended as_is r) (λ now. yes_or_no (answered (f now)) now)) rs did) (play (then_run (ended as_is r) (λ now. go (answered (f now)) now)) rs).state.vars
 run_accounts (Ends Goes_on st) rs before a f go did runs x y = answer_accounts (f st) st rs before a go did x y
 run_accounts (Ends Completed st) rs before a f go did runs x y = absurd (runs refl)
-run_accounts (Ends (Stopped s) st) rs before a f go did runs x y = ended_there before st.vars a x
-run_accounts (Ends Cut st) rs before a f go did runs x y = ended_there before st.vars a x
+run_accounts (Ends _ st) rs before a f go did runs x y = ended_there before st.vars a x
 run_accounts (Asks jobs ask) rs before a f go did runs x y =
     run_accounts (ask (take (length jobs) rs)) (drop (length jobs) rs) before a f go did (runs (take (length jobs) rs)) x y
 
@@ -212,16 +203,9 @@ mutual
   case_accounts (Case when body more) scope st rs =
       either_run (is_taken when scope st.vars) st.vars (deeds body st rs) (case_deeds more scope st rs) (meaning body st) (chosen more scope st) rs (meaning_accounts body st rs) (case_accounts more scope st rs)
 
--- The line of a cut.
-cut_vars : (refused : Option ℕ) (st : State) → (with_cut_line refused st).vars ≡ st.vars
-cut_vars None st = refl
-cut_vars (Some number) st = refl
-
 last_vars : (before : ℕ) (refused : Option ℕ) (r : Run) (rs : List Reply) → (play (last_words before refused r) rs).state.vars ≡ (play r rs).state.vars
-last_vars before refused (Ends Goes_on st) rs = refl
-last_vars before refused (Ends Completed st) rs = refl
-last_vars before refused (Ends (Stopped s) st) rs = refl
-last_vars before refused (Ends Cut st) rs = cut_vars refused st
+last_vars before refused (Ends Cut st) rs = line_vars refused st
+last_vars before refused (Ends _ st) rs = refl
 last_vars before refused (Asks jobs ask) rs =
     last_vars (before + length jobs) (first_number refused (refused_after before (take (length jobs) rs))) (ask (take (length jobs) rs)) (drop (length jobs) rs)
 

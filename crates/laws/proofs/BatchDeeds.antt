@@ -19,8 +19,9 @@ use Rattle.laws.specs.Batched.{IsEntry}
 use Rattle.laws.specs.Deeds.{Deed, Assigned, Tested, left_set, batch_deeds, name_in, Among, Accounts}
 use Rattle.laws.proofs.Values.{same_text, apart, cases_value, value_there}
 use Rattle.laws.proofs.Endings.{ends_then, ends_map, ends_commits, ends_asks_all}
-use Rattle.laws.proofs.BatchEntries.{row_at, have_vars, or_false}
-use Rattle.laws.proofs.DeedLemmas.{Variables, among_left, among_right, among_either, at_play}
+use Rattle.laws.proofs.BatchEntries.{row_at, entry_alone, or_false}
+use Rattle.laws.proofs.DeedLemmas.{Variables, among_left, among_right, among_either, at_play, written_or}
+use Rattle.laws.proofs.BatchLemmas.{none_value}
 use Rattle.laws.proofs.TestDeeds.{TestWrites, CachedEnds, cached_ends}
 use Rattle.std.specs.List.{list_any}
 
@@ -40,7 +41,7 @@ entry_writes batch entry job reply first st true =
     let t = (row_at batch entry job reply first).test in
     ends_then (λ how now. CachedEnds name st.vars how now.vars) (λ how now. TestWrites name st.vars now.vars) (cached_test t st) _
     (cached_ends t st (replied_alone name job reply (checking t.message st)))
-    (λ now c. subst (TestWrites name st.vars) (sym (have_vars batch.listed entry (is_yes (value_of now.vars name)) now)) c.own)
+    (λ now c. subst (TestWrites name st.vars) (sym (entry_alone batch.listed entry (is_yes (value_of now.vars name)) now).vars) c.own)
     (λ how now breaks c. c.own)
 entry_writes batch entry job reply first st false = inl refl
 
@@ -67,10 +68,7 @@ write_only : (name : List ℕ) (before mid : Variables) → TestWrites name befo
 write_only name before mid w n h =
     ⊎_elim
     (λ same. inl (h.0, sym (ap (λ l. value_of l n) same) ∙ h.1))
-    (λ set. ⊎_elim
-    (λ t. inr (sym (same_text n name t)))
-    (λ f. inl (h.0, sym (value_there before name set.0 n f) ∙ sym (ap (λ l. value_of l n) set.1.1) ∙ h.1))
-    (cases_Bool (bytes_eq n name)))
+    (λ set. ⊎_elim (λ e. inr e) (λ k. inl k) (written_or before name set.0 n (h.0, sym (ap (λ l. value_of l n) set.1.1) ∙ h.1)))
     w
 
 grown_more : (batch : Batch) (entry : List ℕ) (more : List (List ℕ)) (before mid now : Variables) → TestWrites (entry_name batch.listed entry) before mid → Grown batch more mid now → Grown batch (entry ∷ more) before now
@@ -112,17 +110,13 @@ in_batch listed (entry ∷ more) earlier st now d h =
     (λ r. in_batch listed more (name ∷ earlier) st now d r)
     (among_either d (cond (is_known name earlier st) [] (left_set name None (value_of now.vars name))) (batch_deeds listed (name ∷ earlier) more st now) h)
   where
-    unset_of : (o : Option (List ℕ)) → is_some o ≡ false → o ≡ None
-    unset_of None e = refl
-    unset_of (Some v) e = cc
-
     here : (name : List ℕ) (known : Bool) → is_known name earlier st ≡ known → (o : Option (List ℕ)) → value_of now.vars name ≡ o → Among d (cond known [] (left_set name None o))
         → (n : List ℕ) × ((Tested n ≡ d) × (IsUnset n st.vars × IsSet n now.vars))
     here name true k o e h = absurd h
     here name false k None e h = absurd h
     here name false k (Some v) e h =
         ⊎_elim
-        (λ same. (name, (same, (unset_of (value_of st.vars name) (or_false (is_some (value_of st.vars name)) (list_any (bytes_eq name) earlier) k).0, (v, e)))))
+        (λ same. (name, (same, (none_value (value_of st.vars name) (or_false (is_some (value_of st.vars name)) (list_any (bytes_eq name) earlier) k).0, (v, e)))))
         (λ z. absurd z)
         h
 

@@ -7,7 +7,7 @@ use Rattle.jobs.specs.declared.job.Job.{Job}
 use Rattle.crew_trait.specs.declared.entry.Entry.{Entry}
 use Rattle.crew_trait.specs.declared.entry.Entry.TheVariants.{Said, Child}
 use Rattle.crew_trait.specs.declared.reply.Reply.{Reply}
-use Rattle.crew_trait.specs.declared.reply.Reply.TheVariants.{Answer, StartRefused, EndRefused}
+use Rattle.crew_trait.specs.declared.reply.Reply.TheVariants.{Answer}
 use Rattle.deftable.specs.Table.{value_of, with_entry, without_entry}
 use Rattle.deftable.specs.declared.note.Note.{Note}
 use Rattle.deftable.specs.declared.note.Stream.TheVariants.{Out}
@@ -15,7 +15,7 @@ use Rattle.syntax.specs.declared.listed.Listed.{Listed}
 use Rattle.syntax.specs.declared.listed.Listed.TheVariants.{Header, Function, Declaration}
 use Rattle.meaning.specs.State.{piece, told, with_child, with_variable, State, How, Goes_on, Cut, Run, Ends, then_run, as_is}
 use Rattle.meaning.specs.Asking.{success, only_reply, without_compiler}
-use Rattle.meaning.specs.Tests.{guarded, checking, with_result, Row, tested_by, may_begin, tested}
+use Rattle.meaning.specs.Tests.{guarded, checking, with_result, with_value, Row, tested_by, may_begin, tested}
 use Rattle.meaning.specs.Rows.{Single, entry_name, entry_message, symbol_part, defined_if, with_entry_defined, is_yes, row_of}
 use Rattle.meaning.specs.Batches.{Batch, jobs_in, with_body, yes_or_no, replied, commits, committed}
 use Rattle.laws.specs.Logged.{children_of, paired}
@@ -85,32 +85,20 @@ said log note = children_both log (Said note ∷ []) ∙ append-nil (children_of
 pub added : (log : List Entry) (job : Job) (reply : Reply) → children_of (log ++ Child job reply ∷ []) ≡ children_of log ++ (job, reply) ∷ []
 added log job reply = children_both log (Child job reply ∷ [])
 
-pub defined_log : (b : Bool) (name : List ℕ) (st : State) → (defined_if b name st).log ≡ st.log
-defined_log true name st = refl
-defined_log false name st = refl
+-- Nothing but a definition was made.
+pub record DefinesAlone (before now : State) : Type 0 where
+  pub vars : now.vars ≡ before.vars
+  pub messages : now.messages ≡ before.messages
+  pub log : now.log ≡ before.log
 
-pub have_log : (listed : Listed) (entry : List ℕ) (found : Bool) (st : State) → (with_entry_defined listed entry found st).log ≡ st.log
-have_log Header entry found st = defined_log found (codes "HAVE_" ++ symbol_part entry) st
-have_log Function entry found st = defined_log found (codes "HAVE_" ++ symbol_part entry) st
-have_log Declaration entry found st = refl
+pub if_alone : (b : Bool) (name : List ℕ) (st : State) → DefinesAlone st (defined_if b name st)
+if_alone true name st = record { vars = refl; messages = refl; log = refl }
+if_alone false name st = record { vars = refl; messages = refl; log = refl }
 
-pub defined_vars : (b : Bool) (name : List ℕ) (st : State) → (defined_if b name st).vars ≡ st.vars
-defined_vars true name st = refl
-defined_vars false name st = refl
-
-pub have_vars : (listed : Listed) (entry : List ℕ) (found : Bool) (st : State) → (with_entry_defined listed entry found st).vars ≡ st.vars
-have_vars Header entry found st = defined_vars found (codes "HAVE_" ++ symbol_part entry) st
-have_vars Function entry found st = defined_vars found (codes "HAVE_" ++ symbol_part entry) st
-have_vars Declaration entry found st = refl
-
-defined_messages : (b : Bool) (name : List ℕ) (st : State) → (defined_if b name st).messages ≡ st.messages
-defined_messages true name st = refl
-defined_messages false name st = refl
-
-have_messages : (listed : Listed) (entry : List ℕ) (found : Bool) (st : State) → (with_entry_defined listed entry found st).messages ≡ st.messages
-have_messages Header entry found st = defined_messages found (codes "HAVE_" ++ symbol_part entry) st
-have_messages Function entry found st = defined_messages found (codes "HAVE_" ++ symbol_part entry) st
-have_messages Declaration entry found st = refl
+pub entry_alone : (listed : Listed) (entry : List ℕ) (found : Bool) (st : State) → DefinesAlone st (with_entry_defined listed entry found st)
+entry_alone Header entry found st = if_alone found (codes "HAVE_" ++ symbol_part entry) st
+entry_alone Function entry found st = if_alone found (codes "HAVE_" ++ symbol_part entry) st
+entry_alone Declaration entry found st = record { vars = refl; messages = refl; log = refl }
 
 if_defs : (b : Bool) (name : List ℕ) (st : State) → (defined_if b name st).defs ≡ cond b (with_entry st.defs name (codes "1")) st.defs
 if_defs true name st = refl
@@ -123,7 +111,7 @@ defined_as Declaration entry v st = refl
 
 -- An entry whose name has this value, once the result is printed: what is defined then.
 value_defined : (listed : Listed) (entry v : List ℕ) (st : State) → value_of st.vars (entry_name listed entry) ≡ Some v → value_of (with_entry_defined listed entry (is_yes (Some v)) st).vars (entry_name listed entry) ≡ Some v
-value_defined listed entry v st e = ap (λ l. value_of l (entry_name listed entry)) (have_vars listed entry (is_yes (Some v)) st) ∙ e
+value_defined listed entry v st e = ap (λ l. value_of l (entry_name listed entry)) (entry_alone listed entry (is_yes (Some v)) st).vars ∙ e
 
 found_defs : (listed : Listed) (entry v : List ℕ) (st : State) → value_of st.vars (entry_name listed entry) ≡ Some v
     → (with_entry_defined listed entry (is_yes (Some v)) st).defs ≡ entry_defs listed entry (value_of (with_entry_defined listed entry (is_yes (Some v)) st).vars (entry_name listed entry)) st.defs
@@ -132,7 +120,7 @@ found_defs listed entry v st e = defined_as listed entry v st ∙ ap (λ o. entr
 found_said : (listed : Listed) (entry v : List ℕ) (job : Option Job) (st : State) (before : List Note) → value_of st.vars (entry_name listed entry) ≡ Some v → st.messages ≡ (before ++ asks_line listed entry ∷ []) ++ result_line job (Some v) ∷ []
     → (with_entry_defined listed entry (is_yes (Some v)) st).messages ≡ before ++ asks_line listed entry ∷ result_line job (value_of (with_entry_defined listed entry (is_yes (Some v)) st).vars (entry_name listed entry)) ∷ []
 found_said listed entry v job st before e m =
-    have_messages listed entry (is_yes (Some v)) st ∙ m ∙ append_assoc before (asks_line listed entry ∷ []) (result_line job (Some v) ∷ [])
+    (entry_alone listed entry (is_yes (Some v)) st).messages ∙ m ∙ append_assoc before (asks_line listed entry ∷ []) (result_line job (Some v) ∷ [])
     ∙ ap (λ o. before ++ asks_line listed entry ∷ result_line job o ∷ []) (sym (value_defined listed entry v st e))
 
 -- An entry whose name is unset: nothing is defined, and `refused` is printed.
@@ -163,17 +151,24 @@ answered_kids : (batch : Batch) (entry : List ℕ) (job : Job) (reply : Reply) (
 answered_kids batch entry job reply b now =
     let s = with_variable (entry_name batch.listed entry) (yes_or_no b) (with_child job reply (begins batch entry now)) in
     let o = value_of s.vars (entry_name batch.listed entry) in
-    ap children_of (have_log batch.listed entry (is_yes o) (with_result (unwrap_or o []) s)) ∙ told_kids (unwrap_or o [] ++ codes "\n") s ∙ child_kids batch entry job reply now
+    ap children_of (entry_alone batch.listed entry (is_yes o) (with_result (unwrap_or o []) s)).log ∙ told_kids (unwrap_or o [] ++ codes "\n") s ∙ child_kids batch entry job reply now
 
 set_kids : (batch : Batch) (entry v : List ℕ) (now : State)
     → children_of (with_entry_defined batch.listed entry (is_yes (Some v)) (with_result (codes "(cached) " ++ v) (begins batch entry now))).log ≡ children_of now.log
 set_kids batch entry v now =
-    ap children_of (have_log batch.listed entry (is_yes (Some v)) (with_result (codes "(cached) " ++ v) (begins batch entry now)))
+    ap children_of (entry_alone batch.listed entry (is_yes (Some v)) (with_result (codes "(cached) " ++ v) (begins batch entry now))).log
     ∙ told_kids ((codes "(cached) " ++ v) ++ codes "\n") (begins batch entry now) ∙ begins_kids batch entry now
 
+abbrev pub finds : List ℕ → Option (List ℕ) → State → Run
+finds name value now = Ends Goes_on (with_value name value now)
+
+-- What follows the children of a test.
+abbrev pub rounded : Row → Run → Run
+rounded r run =
+    then_run (then_run (guarded r.test.name run) (λ now. Ends Goes_on (with_result (r.test.shown (value_of now.vars r.test.name)) now))) (λ now. Ends Goes_on (r.after (value_of now.vars r.test.name) now))
+
 -- The run of a test whose name is unset, if it may begin.
-pub unset_run : (r : Row) (st : State) → IsUnset r.test.name st.vars → r.ready ≡ true
-    → tested r st ≡ then_run (then_run (guarded r.test.name (r.test.body (checking r.test.message st))) (λ now. Ends Goes_on (with_result (r.test.shown (value_of now.vars r.test.name)) now))) (λ now. Ends Goes_on (r.after (value_of now.vars r.test.name) now))
+pub unset_run : (r : Row) (st : State) → IsUnset r.test.name st.vars → r.ready ≡ true → tested r st ≡ rounded r (r.test.body (checking r.test.message st))
 unset_run r st e ready =
     ap (λ o. tested_by (may_begin o r.ready) r st) e
     ∙ ap (λ b. tested_by b r st) ready
@@ -223,28 +218,19 @@ one_unset batch entry (Some job) (Answer status text) first now ready e =
     record {
       end = _;
       is = unset_run (row_at batch entry (Some job) (Answer status text) first) now e ready;
-      after = have_vars batch.listed entry _ _;
+      after = (entry_alone batch.listed entry _ _).vars;
       defs = answered_defs batch entry st (value_of st.vars (entry_name batch.listed entry)) (yes_or_no (status == 0)) here here;
       said = answered_said batch entry job st now.messages (value_of st.vars (entry_name batch.listed entry)) (yes_or_no (status == 0)) here here refl;
       logged = answered_kids batch entry job (Answer status text) (status == 0) now;
     }
-one_unset batch entry (Some job) StartRefused first now ready e =
+one_unset batch entry (Some job) refusal first now ready e =
     record {
       end = _;
-      is = unset_run (row_at batch entry (Some job) StartRefused first) now e ready;
+      is = unset_run (row_at batch entry (Some job) refusal first) now e ready;
       after = without_unset now.vars (entry_name batch.listed entry) e;
       defs = unset_defs batch.listed entry _ now.defs (still_unset batch entry now e);
       said = unset_said batch.listed entry (Some job) _ now.messages (still_unset batch entry now e);
-      logged = told_kids (codes "refused\n") (with_child job StartRefused (begins batch entry now)) ∙ child_kids batch entry job StartRefused now;
-    }
-one_unset batch entry (Some job) EndRefused first now ready e =
-    record {
-      end = _;
-      is = unset_run (row_at batch entry (Some job) EndRefused first) now e ready;
-      after = without_unset now.vars (entry_name batch.listed entry) e;
-      defs = unset_defs batch.listed entry _ now.defs (still_unset batch entry now e);
-      said = unset_said batch.listed entry (Some job) _ now.messages (still_unset batch entry now e);
-      logged = told_kids (codes "refused\n") (with_child job EndRefused (begins batch entry now)) ∙ child_kids batch entry job EndRefused now;
+      logged = told_kids (codes "refused\n") (with_child job refusal (begins batch entry now)) ∙ child_kids batch entry job refusal now;
     }
 
 pub one_set : (batch : Batch) (entry : List ℕ) (job : Option Job) (reply : Reply) (first now : State) (v : List ℕ) → value_of now.vars (entry_name batch.listed entry) ≡ Some v
@@ -254,7 +240,7 @@ one_set batch entry job reply first now v e =
     record {
       end = _;
       is = set_row (row_at batch entry job reply first) v now e;
-      after = have_vars batch.listed entry _ _;
+      after = (entry_alone batch.listed entry _ _).vars;
       defs = found_defs batch.listed entry v st e;
       said = found_said batch.listed entry v None st now.messages e refl;
       logged = set_kids batch entry v now;

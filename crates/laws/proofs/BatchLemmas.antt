@@ -25,11 +25,11 @@ use Rattle.std.specs.List.{list_any, AllByRecursion, IsDistinct}
 
 -- ---- what is asked for
 
-job_true : (batch : Batch) (entry : List ℕ) (place : ℕ) (earlier : List (List ℕ)) (st : State) → is_known (entry_name batch.listed entry) earlier st ≡ true → job_for batch place earlier entry st ≡ None
+pub job_true : (batch : Batch) (entry : List ℕ) (place : ℕ) (earlier : List (List ℕ)) (st : State) → is_known (entry_name batch.listed entry) earlier st ≡ true → job_for batch place earlier entry st ≡ None
 job_true batch entry place earlier st t = cond_true (is_known (entry_name batch.listed entry) earlier st) None (entry_job batch.listed entry batch.includes place st) t
 
 -- There is a job exactly if there is a compiler.
-has_job : (listed : Listed) (entry : List ℕ) (includes : Option (List Part)) (number : ℕ) (st : State) → lacks_compiler st ≡ false → (job : Job) × (entry_job listed entry includes number st ≡ Some job)
+pub has_job : (listed : Listed) (entry : List ℕ) (includes : Option (List Part)) (number : ℕ) (st : State) → lacks_compiler st ≡ false → (job : Job) × (entry_job listed entry includes number st ≡ Some job)
 unfolding job_of
 has_job Header entry includes number st f = (_, cond_false (lacks_compiler st) None (Some _) f)
 has_job Function entry includes number st f = (_, cond_false (lacks_compiler st) None (Some _) f)
@@ -41,7 +41,7 @@ lacks_job Header entry includes number st t = cond_true (lacks_compiler st) None
 lacks_job Function entry includes number st t = cond_true (lacks_compiler st) None (Some _) t
 lacks_job Declaration entry includes number st t = cond_true (lacks_compiler st) None (Some _) t
 
-job_false : (batch : Batch) (entry : List ℕ) (place : ℕ) (earlier : List (List ℕ)) (st : State) → lacks_compiler st ≡ false → is_known (entry_name batch.listed entry) earlier st ≡ false
+pub job_false : (batch : Batch) (entry : List ℕ) (place : ℕ) (earlier : List (List ℕ)) (st : State) → lacks_compiler st ≡ false → is_known (entry_name batch.listed entry) earlier st ≡ false
     → (job : Job) × (job_for batch place earlier entry st ≡ Some job)
 job_false batch entry place earlier st c f =
     let own = has_job batch.listed entry batch.includes place st c in
@@ -133,7 +133,7 @@ some_value : (o : Option (List ℕ)) → is_some o ≡ true → (v : List ℕ) �
 some_value None e = cc
 some_value (Some v) e = (v, refl)
 
-none_value : (o : Option (List ℕ)) → is_some o ≡ false → o ≡ None
+pub none_value : (o : Option (List ℕ)) → is_some o ≡ false → o ≡ None
 none_value None e = refl
 none_value (Some v) e = cc
 
@@ -222,7 +222,7 @@ comes batch first c (entry ∷ more) place earlier replies refused now s len =
     (own_job batch first entry earlier place more replies refused now c s later f own.0) len)
     (cases_Bool (is_some (value_of first.vars (entry_name batch.listed entry)) || list_any (bytes_eq (entry_name batch.listed entry)) earlier))
 
-how_is : (replies : List Reply) → how_if (refused_in replies) ≡ cut_by (first_refused replies)
+pub how_is : (replies : List Reply) → how_if (refused_in replies) ≡ cut_by (first_refused replies)
 how_is [] = refl
 how_is (r ∷ rs) = by_first (success r) rs (how_is rs)
   where
@@ -296,7 +296,7 @@ both_true : (a b : Bool) → cond a b false ≡ true → (a ≡ true) × (b ≡ 
 both_true true b e = (refl, e)
 both_true false b e = cc
 
-no_job_set : (batch : Batch) (entry : List ℕ) (place : ℕ) (earlier : List (List ℕ)) (st : State) → is_some (value_of st.vars (entry_name batch.listed entry)) ≡ true → job_for batch place earlier entry st ≡ None
+pub no_job_set : (batch : Batch) (entry : List ℕ) (place : ℕ) (earlier : List (List ℕ)) (st : State) → is_some (value_of st.vars (entry_name batch.listed entry)) ≡ true → job_for batch place earlier entry st ≡ None
 no_job_set batch entry place earlier st e =
     let name = entry_name batch.listed entry in
     job_true batch entry place earlier st (or_first (is_some (value_of st.vars name)) (list_any (bytes_eq name) earlier) e)

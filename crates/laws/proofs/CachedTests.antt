@@ -1,7 +1,7 @@
 -- One test: set, unset, and broken.
 use Rattle.std.proofs.Common.{◌≡◌, ℕ, Some, List, ◌++◌, codes, refl, sym, ap, ◌∙◌, subst, ⊎_elim}
 use Rattle.deftable.specs.Table.{value_of, without_entry}
-use Rattle.meaning.specs.State.{State, How, Goes_on, Completed, Stopped, Cut, Ends, then_run}
+use Rattle.meaning.specs.State.{State, How, Goes_on, Ends, then_run}
 use Rattle.meaning.specs.Tests.{Row, tested_by, may_begin, tested, Test, broken, guarded, checking, with_result, test_by, cached_test}
 use Rattle.laws.specs.Ends.{AtEnds, Breaks}
 use Rattle.laws.specs.Cached.{with_cached, SetRowAsksNothing, IsUnset, StandsOnce, BrokenIsUnset}
@@ -27,21 +27,15 @@ unset_cached t st e = ap (λ o. test_by o t (checking t.message st)) e
 -- What holds after the guard.
 abbrev Middle : (How → State → Type 0) → (How → State → Type 0) → How → State → Type 0
 Middle P Q Goes_on st = P Goes_on st
-Middle P Q Completed st = Q Completed st
-Middle P Q (Stopped s) st = Q (Stopped s) st
-Middle P Q Cut st = Q Cut st
+Middle P Q how st = Q how st
 
 middle : (P Q : How → State → Type 0) (name : List ℕ) → ((how : How) (now : State) → Breaks how → P how now → Q how (broken name how now)) → (how : How) (now : State) → P how now → Middle P Q how (broken name how now)
 middle P Q name off Goes_on now h = h
-middle P Q name off Completed now h = off Completed now (λ e. cc) h
-middle P Q name off (Stopped s) now h = off (Stopped s) now (λ e. cc) h
-middle P Q name off Cut now h = off Cut now (λ e. cc) h
+middle P Q name off how now h = off how now (λ e. cc) h
 
 leaves : (P Q : How → State → Type 0) (how : How) (now : State) → Breaks how → Middle P Q how now → Q how now
 leaves P Q Goes_on now breaks h = absurd (breaks refl)
-leaves P Q Completed now breaks h = h
-leaves P Q (Stopped s) now breaks h = h
-leaves P Q Cut now breaks h = h
+leaves P Q _ now breaks h = h
 
 -- A fact of the ends of a test from one of the ends of its body.
 pub broken_ends : (P Q : How → State → Type 0) (t : Test) (st : State) → IsUnset t.name st.vars → AtEnds P (t.body (checking t.message st))
@@ -56,9 +50,7 @@ broken_ends P Q t st e body off on =
 
 pub broken_vars : (name : List ℕ) (how : How) (st : State) → Breaks how → (broken name how st).vars ≡ without_entry st.vars name
 broken_vars name Goes_on st breaks = absurd (breaks refl)
-broken_vars name Completed st breaks = refl
-broken_vars name (Stopped s) st breaks = refl
-broken_vars name Cut st breaks = refl
+broken_vars name _ st breaks = refl
 
 -- A test that is set continues, so what holds of those that don't holds of it.
 pub set_or_broken : (P : State → Type 0) (t : Test) (st : State) → (IsUnset t.name st.vars → AtEnds (λ how now. Breaks how → P now) (cached_test t st)) → AtEnds (λ how now. Breaks how → P now) (cached_test t st)

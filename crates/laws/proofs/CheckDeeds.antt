@@ -7,7 +7,7 @@ use Rattle.deftable.specs.Table.{value_of, without_entry}
 use Rattle.shellword.specs.declared.part.Part.{Part}
 use Rattle.shellword.specs.Value.{word_value}
 use Rattle.syntax.specs.Script.{Script}
-use Rattle.meaning.specs.State.{State, Goes_on, Completed, Stopped, Cut, Run, Ends, Asks, then_run}
+use Rattle.meaning.specs.State.{State, Goes_on, Run, Ends, Asks, then_run}
 use Rattle.meaning.specs.Tests.{guarded, checking, with_result, cached_test}
 use Rattle.meaning.specs.Play.{play}
 use Rattle.meaning.specs.Meaning.{check, meaning}
@@ -17,7 +17,7 @@ use Rattle.laws.specs.Deeds.{Deed, Assigned, Tested, left_set, name_in, others_t
 use Rattle.laws.proofs.Values.{same_text, not_same, apart, cond_true, cond_false, cases_value, value_without, once_unset}
 use Rattle.laws.proofs.CachedTests.{set_cached, unset_cached}
 use Rattle.laws.proofs.Kept.{names_stand_once}
-use Rattle.laws.proofs.DeedLemmas.{Variables, among_left, among_right, among_either, from_left, from_both, nothing, ended_there}
+use Rattle.laws.proofs.DeedLemmas.{Variables, among_left, among_right, among_either, from_left, from_both, from_test, nothing, ended_there}
 
 -- The deeds about other names.
 among_others : (name : List ℕ) (d : Deed) (ds : List Deed) → bytes_eq name (name_in d) ≡ false → Among d ds → Among d (others_than name ds)
@@ -79,23 +79,16 @@ check_goes name before now inner u (Some v) e x = record {
       (λ t. inr (inr (among_right (Tested n) (others_than name inner) (Tested name ∷ []) (inl (ap Tested (same_text name n t))))))
       (λ f. from_left n before (others_than name inner) (Tested name ∷ []) (from_others name n before inner f (x.only n h)))
       (cases_Bool (bytes_eq name n));
-  all = λ n h. all_set n (from_both n before now (others_than name inner) (Tested name ∷ []) (λ k. x.all n (to_inner name n before inner k)) h);
+  all = λ n h. ⊎_elim
+      (λ k. k)
+      (λ same. (v, ap (value_of now) (sym same) ∙ e))
+      (from_test n name now (from_both n before now (others_than name inner) (Tested name ∷ []) (λ k. x.all n (to_inner name n before inner k)) h));
   tested = λ n h. ⊎_elim
       (λ a. x.tested n (others_among name (Tested n) inner a).1)
       (λ a. ⊎_elim (λ same. subst (λ q. IsUnset q before) (ap name_in same) u) (λ z. absurd z) a)
       (among_either (Tested n) (others_than name inner) (Tested name ∷ []) h);
   keeps = λ n v s no. x.keeps n v s (λ a. no (among_left (Assigned n) (others_than name inner) (Tested name ∷ []) (among_others name (Assigned n) inner (set_is_other name n v before u s) a)));
 }
-  where
-    all_set : (n : List ℕ) → ComesFrom n now (Tested name ∷ []) → IsSet n now
-    all_set n h =
-        ⊎_elim
-        (λ k. k)
-        (λ k. ⊎_elim
-        (λ a. ⊎_elim (λ z. cc) (λ z. absurd z) a)
-        (λ a. ⊎_elim (λ same. (v, ap (value_of now) (sym (ap name_in same)) ∙ e)) (λ z. absurd z) a)
-        k)
-        h
 
 -- They didn't: the name is unset again.
 check_breaks : (name : List ℕ) (before now : Variables) (inner : List Deed) → IsUnset name before → StandsOnce name now → Accounts before inner now → Accounts before (others_than name inner ++ []) (without_entry now name)
@@ -120,9 +113,7 @@ printed shown name now = Ends Goes_on (with_result (shown (value_of now.vars nam
 check_by : (r : Run) (rs : List Reply) (name : List ℕ) (before : Variables) (inner : List Deed) (shown : Option (List ℕ) → List ℕ) → IsUnset name before → AtEnds (λ how now. StandsOnce name now.vars) r → Accounts before inner (play r rs).state.vars
     → Accounts before (check_deeds None name inner (then_run (guarded name r) (printed shown name)) rs) (play (then_run (guarded name r) (printed shown name)) rs).state.vars
 check_by (Ends Goes_on st) rs name before inner shown u once x = check_goes name before st.vars inner u (value_of st.vars name) refl x
-check_by (Ends Completed st) rs name before inner shown u once x = check_breaks name before st.vars inner u once x
-check_by (Ends (Stopped s) st) rs name before inner shown u once x = check_breaks name before st.vars inner u once x
-check_by (Ends Cut st) rs name before inner shown u once x = check_breaks name before st.vars inner u once x
+check_by (Ends _ st) rs name before inner shown u once x = check_breaks name before st.vars inner u once x
 check_by (Asks jobs ask) rs name before inner shown u once x =
     check_by (ask (take (length jobs) rs)) (drop (length jobs) rs) name before inner shown u (once (take (length jobs) rs)) x
 

@@ -5,12 +5,12 @@ use Rattle.deftable.specs.Table.{value_of, with_entry, without_entry}
 use Rattle.shellword.specs.Value.{word_value}
 use Rattle.syntax.specs.declared.statement.Plain as plain
 use Rattle.syntax.specs.declared.statement.Plain.TheVariants.{Assign}
-use Rattle.syntax.specs.declared.statement.Question.TheVariants.{Given, Tries, Checks, ChecksEach, Library, Libraries}
+use Rattle.syntax.specs.declared.statement.Question.TheVariants.{Tries}
 use Rattle.syntax.specs.declared.tree.Subject.{Subject}
 use Rattle.syntax.specs.declared.tree.Subject.TheVariants.{Nothing, Word, Asked}
 use Rattle.syntax.specs.Commands.{AssignsAlone, TriesAlone, AreCommands, AreCommandsIn}
 use Rattle.syntax.specs.Script.{Script, Done, Then, Choice, Check, Cases, No_case, Case}
-use Rattle.meaning.specs.State.{State, Scope, answered, How, Goes_on, Completed, Stopped, Cut, Run, as_is}
+use Rattle.meaning.specs.State.{State, Scope, answered, How, Goes_on, Run, as_is}
 use Rattle.meaning.specs.Tests.{Test, broken, checking, cached_test, with_value, tested_by, may_begin}
 use Rattle.meaning.specs.Rows.{Kind, name_of, attempts_of, otherwise_of, row_of}
 use Rattle.meaning.specs.Tries.{first_probe, text_of}
@@ -19,9 +19,10 @@ use Rattle.laws.specs.Ends.{AtEnds, Breaks}
 use Rattle.laws.specs.Cached.{IsUnset}
 use Rattle.laws.specs.Commands.{WritesOwn, SameIfBroken, BrokenLeavesVariables, BrokenRowLeavesVariables, CommandsWriteAlone, BrokenCheckLeavesVariables}
 use Rattle.laws.proofs.Values.{without_unset, reset_own, rewritten}
-use Rattle.laws.proofs.Endings.{ends_then, ends_either, ends_compiled, ends_attempted}
+use Rattle.laws.proofs.Endings.{ends_then, ends_either, ends_child, ends_compiled, ends_attempted}
 use Rattle.laws.proofs.CachedTests.{broken_ends, broken_vars, set_or_broken}
-use Rattle.laws.proofs.Kept.{Keeps, then_keeps, first_ends}
+use Rattle.laws.proofs.Statements.{first_holds}
+use Rattle.laws.proofs.Kept.{Keeps, KeepsFrom, then_keeps}
 
 -- The variables from before, if the name alone was written and is unset again.
 pub own_unset : (before now : List (List ℕ × List ℕ)) (name : List ℕ) → IsUnset name before → WritesOwn name before now → without_entry now name ≡ before
@@ -46,11 +47,9 @@ Leaves st now = (now.vars ≡ st.vars) × (now.defs ≡ st.defs)
 abbrev pub OwnOnly : List ℕ → State → State → Type 0
 OwnOnly name st now = WritesOwn name st.vars now.vars × (now.defs ≡ st.defs)
 
-broken_defs : (name : List ℕ) (how : How) (st : State) → (broken name how st).defs ≡ st.defs
+pub broken_defs : (name : List ℕ) (how : How) (st : State) → (broken name how st).defs ≡ st.defs
 broken_defs name Goes_on st = refl
-broken_defs name Completed st = refl
-broken_defs name (Stopped s) st = refl
-broken_defs name Cut st = refl
+broken_defs name _ st = refl
 
 broken_same : (t : Test) (st : State) → AtEnds (λ how now. OwnOnly t.name st now) (t.body (checking t.message st)) → SameIfBroken st (cached_test t st)
 broken_same t st alone =
@@ -101,25 +100,18 @@ begun_writes : (name : List ℕ) (first : State) (subject : Subject) (st : State
 unfolding begun
 begun_writes name first Nothing st go a k h = k _ st h
 begun_writes name first (Word word) st go a k h = k _ st h
-begun_writes name first (Asked (Given kind variable help)) st go a k h = absurd a
-begun_writes name first (Asked (Checks sought entry includes)) st go a k h = absurd a
-begun_writes name first (Asked (ChecksEach sought entries includes)) st go a k h = absurd a
-begun_writes name first (Asked (Library library function others adds)) st go a k h = absurd a
-begun_writes name first (Asked (Libraries function libraries others)) st go a k h = absurd a
 begun_writes name first (Asked (Tries kind program)) st go a k h =
     ends_compiled (OwnOnly name first) (λ how now. OwnOnly name first now) (λ job reply now x. x) (job_of (first_probe kind (text_of program st.vars)) 0 st.vars st.defs) st _ (λ now x. x) (λ now x. x)
-    (first_ends (OwnOnly name first) (λ how now. OwnOnly name first now) (λ job reply now x. x) (λ now x. x) kind (λ b. go (answered b)) (λ b now x. k (answered b) now x)) h
+    (first_holds (KeepsFrom (OwnOnly name first)) (λ job now to after. ends_child (OwnOnly name first) (λ how later. OwnOnly name first later) (λ j reply later x. x) job now to (λ later x. x) after)
+    kind (λ b. go (answered b)) (λ b now x. k (answered b) now x)) h
+begun_writes name first (Asked _) st go a k h = absurd a
 
 -- Each of their choices has one round.
 pub one_round : (subject : Subject) → TriesAlone subject → rounds_of subject ≡ subject ∷ []
 one_round Nothing a = refl
 one_round (Word word) a = refl
 one_round (Asked (Tries kind program)) a = refl
-one_round (Asked (Given kind variable help)) a = absurd a
-one_round (Asked (Checks sought entry includes)) a = absurd a
-one_round (Asked (ChecksEach sought entries includes)) a = absurd a
-one_round (Asked (Library library function others adds)) a = absurd a
-one_round (Asked (Libraries function libraries others)) a = absurd a
+one_round (Asked _) a = absurd a
 
 turn_writes : (name : List ℕ) (first : State) (subject : Subject) (st : State) (go : Scope → State → Run) → TriesAlone subject → ((scope : Scope) (now : State) → OwnOnly name first now → Keeps (OwnOnly name first) (go scope now)) → OwnOnly name first st
     → Keeps (OwnOnly name first) (in_turn (rounds_of subject) go st)

@@ -5,7 +5,7 @@ use Rattle.std.proofs.lemmas.Bool.{cases_Bool}
 use Rattle.std.proofs.lemmas.List.{append-nil}
 use Rattle.crew_trait.specs.declared.reply.Reply.{Reply}
 use Rattle.deftable.specs.Table.{value_of, with_entry}
-use Rattle.meaning.specs.State.{State, How, Goes_on, Completed, Stopped, Cut, Run, Ends, Asks, then_run}
+use Rattle.meaning.specs.State.{State, How, Goes_on, Run, Ends, Asks, then_run}
 use Rattle.meaning.specs.Play.{play}
 use Rattle.laws.specs.Ends.{AtEnds, Breaks}
 use Rattle.laws.specs.Cached.{IsSet, IsUnset}
@@ -46,6 +46,11 @@ from_both n before mid a b first h =
     k)
     h
 
+-- A name that comes from one test.
+pub from_test : (n name : List ℕ) (before : Variables) → ComesFrom n before (Tested name ∷ []) → IsSet n before ⊎ (name ≡ n)
+from_test n name before h =
+    ⊎_elim (λ k. inl k) (λ k. ⊎_elim (λ l. ⊎_elim (λ e. cc) (λ z. absurd z) l) (λ l. ⊎_elim (λ e. inr (ap name_in e)) (λ z. absurd z) l) k) h
+
 unset_before : (n : List ℕ) (before mid : Variables) → (IsSet n before → IsSet n mid) → IsUnset n mid → IsUnset n before
 unset_before n before mid stays u =
     ⊎_elim (λ e. e) (λ some. let z : None ≡ Some (stays some).0 = sym u ∙ (stays some).1 in cc) (cases_value (value_of before n))
@@ -72,16 +77,20 @@ unchanged before now e = subst (Accounts before []) (sym e) (nothing before)
 pub ended_there : (before now : Variables) (a : List Deed) → Accounts before a now → Accounts before (a ++ []) now
 ended_there before now a h = subst (λ l. Accounts before l now) (sym (append-nil a)) h
 
+-- A name that is set after a write is the one that was written, or was set before.
+pub written_or : (vars : Variables) (name value n : List ℕ) → IsSet n (with_entry vars name value) → (name ≡ n) ⊎ IsSet n vars
+written_or vars name value n h = ⊎_elim (λ t. inl (sym (same_text n name t))) (λ f. inr (h.0, sym (value_there vars name value n f) ∙ h.1)) (cases_Bool (bytes_eq n name))
+
+pub written_here : (vars : Variables) (name value n : List ℕ) → name ≡ n → IsSet n (with_entry vars name value)
+written_here vars name value n e = (value, ap (value_of (with_entry vars name value)) (sym e) ∙ value_here vars name value)
+
 -- Writes.
 pub writes : (vars : Variables) (name value : List ℕ) → Accounts vars (Assigned name ∷ []) (with_entry vars name value)
 writes vars name value = record {
-  only = λ n h. ⊎_elim
-      (λ t. inr (inl (inl (ap Assigned (sym (same_text n name t))))))
-      (λ f. inl (h.0, sym (value_there vars name value n f) ∙ h.1))
-      (cases_Bool (bytes_eq n name));
+  only = λ n h. ⊎_elim (λ e. inr (inl (inl (ap Assigned e)))) (λ k. inl k) (written_or vars name value n h);
   all = λ n h. ⊎_elim
       (λ k. set_write vars name value n k)
-      (λ k. ⊎_elim (λ l. ⊎_elim (λ e. here n (ap name_in e)) (λ z. absurd z) l) (λ l. ⊎_elim (λ e. cc) (λ z. absurd z) l) k)
+      (λ k. ⊎_elim (λ l. ⊎_elim (λ e. written_here vars name value n (ap name_in e)) (λ z. absurd z) l) (λ l. ⊎_elim (λ e. cc) (λ z. absurd z) l) k)
       h;
   tested = λ n h. ⊎_elim (λ e. cc) (λ z. absurd z) h;
   keeps = λ n v e no. ⊎_elim
@@ -89,9 +98,6 @@ writes vars name value = record {
       (λ f. value_there vars name value n f ∙ e)
       (cases_Bool (bytes_eq n name));
 }
-  where
-    here : (n : List ℕ) → name ≡ n → IsSet n (with_entry vars name value)
-    here n e = (value, ap (value_of (with_entry vars name value)) (sym e) ∙ value_here vars name value)
 
 -- A write after deeds.
 pub writes_more : (before mid : Variables) (a : List Deed) (name value : List ℕ) → Accounts before a mid → Accounts before (a ++ Assigned name ∷ []) (with_entry mid name value)
@@ -106,9 +112,7 @@ pub ends_account : (P : How → State → Type 0) (r : Run) (rs : List Reply) (b
     → ((st : State) → P Goes_on st → Accounts before (own st) st.vars) → ((how : How) (st : State) → Breaks how → P how st → Accounts before [] st.vars)
     → Accounts before (deeds_after r rs (λ now left. own now)) (play r rs).state.vars
 ends_account P (Ends Goes_on st) rs before own h on off = on st h
-ends_account P (Ends Completed st) rs before own h on off = off Completed st (λ e. cc) h
-ends_account P (Ends (Stopped s) st) rs before own h on off = off (Stopped s) st (λ e. cc) h
-ends_account P (Ends Cut st) rs before own h on off = off Cut st (λ e. cc) h
+ends_account P (Ends how st) rs before own h on off = off how st (λ e. cc) h
 ends_account P (Asks jobs ask) rs before own h on off = ends_account P (ask (take (length jobs) rs)) (drop (length jobs) rs) before own (h (take (length jobs) rs)) on off
 
 -- A run, and what follows.
@@ -118,7 +122,5 @@ Follow rest did = (st : State) (rs : List Reply) → Accounts st.vars (did st rs
 pub then_accounts : (r : Run) (rs : List Reply) (before : Variables) (a : List Deed) (rest : State → Run) (did : State → List Reply → List Deed)
     → Accounts before a (play r rs).state.vars → Follow rest did → Accounts before (a ++ deeds_after r rs did) (play (then_run r rest) rs).state.vars
 then_accounts (Ends Goes_on st) rs before a rest did x y = joined before st.vars (play (rest st) rs).state.vars a (did st rs) x (y st rs)
-then_accounts (Ends Completed st) rs before a rest did x y = ended_there before st.vars a x
-then_accounts (Ends (Stopped s) st) rs before a rest did x y = ended_there before st.vars a x
-then_accounts (Ends Cut st) rs before a rest did x y = ended_there before st.vars a x
+then_accounts (Ends _ st) rs before a rest did x y = ended_there before st.vars a x
 then_accounts (Asks jobs ask) rs before a rest did x y = then_accounts (ask (take (length jobs) rs)) (drop (length jobs) rs) before a rest did x y

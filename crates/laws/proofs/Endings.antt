@@ -2,16 +2,14 @@
 use Rattle.std.proofs.Common.{ℕ, Option, Some, None, List, [], ◌∷◌, Bool, true, false, cond}
 use Rattle.jobs.specs.declared.job.Job.{Job}
 use Rattle.crew_trait.specs.declared.reply.Reply.{Reply}
-use Rattle.meaning.specs.State.{State, How, Goes_on, Completed, Stopped, Cut, Run, Ends, Asks, then_run, ended, as_is, with_child}
+use Rattle.meaning.specs.State.{State, How, Goes_on, Cut, Run, Ends, Asks, then_run, ended, as_is, with_child}
 use Rattle.meaning.specs.Asking.{success, only_reply, heard, child, compiled, without_compiler, same, Attempt, attempted}
 use Rattle.meaning.specs.Batches.{asks_all, commits}
 use Rattle.laws.specs.Ends.{AtEnds, Breaks}
 
 pub ends_then : (P Q : How → State → Type 0) (r : Run) (f : State → Run) → AtEnds P r → ((st : State) → P Goes_on st → AtEnds Q (f st)) → ((how : How) (st : State) → Breaks how → P how st → Q how st) → AtEnds Q (then_run r f)
 ends_then P Q (Ends Goes_on st) f h on off = on st h
-ends_then P Q (Ends Completed st) f h on off = off Completed st (λ e. cc) h
-ends_then P Q (Ends (Stopped s) st) f h on off = off (Stopped s) st (λ e. cc) h
-ends_then P Q (Ends Cut st) f h on off = off Cut st (λ e. cc) h
+ends_then P Q (Ends how st) f h on off = off how st (λ e. cc) h
 ends_then P Q (Asks jobs ask) f h on off = λ replies. ends_then P Q (ask replies) f (h replies) on off
 
 pub ends_ended : (P Q : How → State → Type 0) (early : How → State → State) (r : Run) → AtEnds P r → ((how : How) (st : State) → P how st → Q how (early how st)) → AtEnds Q (ended early r)
@@ -30,9 +28,8 @@ ends_either P false x y h k = k
 pub ends_commits : (P Q : How → State → Type 0) (r : Run) (refused : Bool) (rest : Bool → State → Run) → AtEnds P r → ((how : How) (b : Bool) (st : State) → P how st → AtEnds Q (rest b st)) → ((how : How) (st : State) → P how st → Q how st)
     → AtEnds Q (commits r refused rest)
 ends_commits P Q (Ends Goes_on st) refused rest h on off = on Goes_on refused st h
-ends_commits P Q (Ends Completed st) refused rest h on off = off Completed st h
-ends_commits P Q (Ends (Stopped s) st) refused rest h on off = off (Stopped s) st h
 ends_commits P Q (Ends Cut st) refused rest h on off = on Cut true st h
+ends_commits P Q (Ends how st) refused rest h on off = off how st h
 ends_commits P Q (Asks jobs ask) refused rest h on off = λ replies. ends_commits P Q (ask replies) refused rest (h replies) on off
 
 pub ends_asks_all : (P : How → State → Type 0) (jobs : List Job) (next : List Reply → Run) → ((replies : List Reply) → AtEnds P (next replies)) → AtEnds P (asks_all jobs next)

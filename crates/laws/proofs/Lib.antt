@@ -1,6 +1,7 @@
 pub mod Values
 pub mod Endings
 pub mod CachedTests
+pub mod Statements
 pub mod Kept
 pub mod CommandLemmas
 pub mod Questions

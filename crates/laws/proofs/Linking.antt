@@ -2,7 +2,7 @@
 use Rattle.std.proofs.Common.{◌≡◌, ℕ, Option, Some, None, List, [], ◌++◌, codes, Bool, true, false, cond, refl, sym, ap, ◌∙◌, ⊎_elim}
 use Rattle.std.specs.Prelude.{◌&&◌, not, bytes_eq, unwrap_or}
 use Rattle.deftable.specs.Table.{value_of}
-use Rattle.meaning.specs.State.{State, How, Goes_on, Completed, Stopped, Cut, ended, as_is}
+use Rattle.meaning.specs.State.{State, How, Goes_on, Completed, ended, as_is}
 use Rattle.meaning.specs.Tests.{may_begin, tested}
 use Rattle.meaning.specs.Rows.{Kind, Library, Libraries, shell_part, is_yes, is_linked, is_found, name_of, row_of}
 use Rattle.meaning.specs.Meaning.{found_by}
@@ -47,10 +47,7 @@ checked_put library false false vars = refl
 
 checked_off : (library : List ℕ) (adds : Bool) (how : How) (libs : Option (List ℕ)) → Breaks how → libs ≡ libs_checked library adds how libs
 checked_off library true Goes_on libs breaks = absurd (breaks refl)
-checked_off library true Completed libs breaks = refl
-checked_off library true (Stopped status) libs breaks = refl
-checked_off library true Cut libs breaks = refl
-checked_off library false how libs breaks = refl
+checked_off library _ _ libs breaks = refl
 
 pub libs_are_checked : LibsChecked
 libs_are_checked library function others adds st =
@@ -86,9 +83,7 @@ searched_put (Some value) vars = searched_by value (is_linked (Some value)) (byt
 searched_off : (o : Option (List ℕ)) (how : How) (libs : Option (List ℕ)) → Breaks how → libs ≡ libs_searched o how libs
 searched_off None how libs breaks = refl
 searched_off (Some value) Goes_on libs breaks = absurd (breaks refl)
-searched_off (Some value) Completed libs breaks = refl
-searched_off (Some value) (Stopped status) libs breaks = refl
-searched_off (Some value) Cut libs breaks = refl
+searched_off (Some value) _ libs breaks = refl
 
 pub libs_are_searched : LibsSearched
 libs_are_searched function libraries others st =

@@ -6,12 +6,12 @@ use Rattle.crew_trait.specs.declared.reply.Reply.{Reply}
 use Rattle.shellword.specs.Value.{word_value}
 use Rattle.syntax.specs.declared.statement.Plain as plain
 use Rattle.syntax.specs.declared.statement.Plain.TheVariants.{Assign}
-use Rattle.syntax.specs.declared.statement.Question.TheVariants.{Given, Tries, Checks, ChecksEach, Library, Libraries}
+use Rattle.syntax.specs.declared.statement.Question.TheVariants.{Tries}
 use Rattle.syntax.specs.declared.tree.Subject.{Subject}
 use Rattle.syntax.specs.declared.tree.Subject.TheVariants.{Nothing, Word, Asked}
 use Rattle.syntax.specs.Commands.{AssignsAlone, TriesAlone, AreCommands, AreCommandsIn}
 use Rattle.syntax.specs.Script.{Script, Done, Then, Choice, Check, Cases, No_case, Case}
-use Rattle.meaning.specs.State.{State, Scope, no_choice, about, answered, Goes_on, Completed, Stopped, Cut, Run, Ends, Asks, as_is}
+use Rattle.meaning.specs.State.{State, Scope, no_choice, about, answered, Goes_on, Completed, Run, Ends, Asks, as_is}
 use Rattle.meaning.specs.Meaning.{effect, asked, begun, rounds_of, in_turn, is_taken, chosen}
 use Rattle.laws.specs.Deeds.{Deed, Assigned, deeds_after, effect_deeds, deeds_answered, subject_deeds, turn_deeds, name_in, others_than, deeds, case_deeds, CommandsHaveNoDeeds}
 use Rattle.laws.specs.Questions.{yes_or_no}
@@ -37,16 +37,13 @@ none_either name false p q h k = k
 
 none_after : (name : List ℕ) (r : Run) (rs : List Reply) (rest : State → List Reply → List Deed) → ((st : State) (left : List Reply) → NoOthers name (rest st left)) → NoOthers name (deeds_after r rs rest)
 none_after name (Ends Goes_on st) rs rest h = h st rs
-none_after name (Ends Completed st) rs rest h = refl
-none_after name (Ends (Stopped s) st) rs rest h = refl
-none_after name (Ends Cut st) rs rest h = refl
+none_after name (Ends _ st) rs rest h = refl
 none_after name (Asks jobs ask) rs rest h = none_after name (ask (take (length jobs) rs)) (drop (length jobs) rs) rest h
 
 none_answered : (name : List ℕ) (r : Run) (rs : List Reply) (rest : Scope → State → List Reply → List Deed) → ((scope : Scope) (st : State) (left : List Reply) → NoOthers name (rest scope st left)) → NoOthers name (deeds_answered r rs rest)
 none_answered name (Ends Goes_on st) rs rest h = h (answered true) st rs
 none_answered name (Ends Completed st) rs rest h = h (answered false) st rs
-none_answered name (Ends (Stopped s) st) rs rest h = refl
-none_answered name (Ends Cut st) rs rest h = refl
+none_answered name (Ends _ st) rs rest h = refl
 none_answered name (Asks jobs ask) rs rest h = none_answered name (ask (take (length jobs) rs)) (drop (length jobs) rs) rest h
 
 own_assigned : (name variable : List ℕ) → variable ≡ name → NoOthers name (Assigned variable ∷ [])
@@ -60,12 +57,8 @@ effect_none name _ st rs a = absurd a
 subject_none : (name : List ℕ) (subject : Subject) (st : State) (rs : List Reply) (rest : Scope → State → List Reply → List Deed) → TriesAlone subject → ((scope : Scope) (now : State) (left : List Reply) → NoOthers name (rest scope now left)) → NoOthers name (subject_deeds subject st rs rest)
 subject_none name Nothing st rs rest a h = h no_choice st rs
 subject_none name (Word word) st rs rest a h = h (about (word_value word st.vars)) st rs
-subject_none name (Asked (Given kind variable help)) st rs rest a h = absurd a
-subject_none name (Asked (Checks sought entry includes)) st rs rest a h = absurd a
-subject_none name (Asked (ChecksEach sought entries includes)) st rs rest a h = absurd a
-subject_none name (Asked (Library library function others adds)) st rs rest a h = absurd a
-subject_none name (Asked (Libraries function libraries others)) st rs rest a h = absurd a
 subject_none name (Asked (Tries kind program)) st rs rest a h = none_answered name (asked as_is (Tries kind program) st yes_or_no) rs rest h
+subject_none name (Asked _) st rs rest a h = absurd a
 
 turn_none : (name : List ℕ) (subject : Subject) (st : State) (rs : List Reply) (go : Scope → State → Run) (did : Scope → State → List Reply → List Deed) → TriesAlone subject
     → ((scope : Scope) (now : State) (left : List Reply) → NoOthers name (did scope now left)) → NoOthers name (turn_deeds (rounds_of subject) go did st rs)

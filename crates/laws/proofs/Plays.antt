@@ -3,7 +3,7 @@ use Rattle.std.proofs.Common.{◌≡◌, ℕ, suc, ◌+◌, ◌≤◌, Bool, Lis
 use Rattle.std.specs.Prelude.{option_map}
 use Rattle.std.proofs.lemmas.List.{length-drop, length-take-le, take-append-drop, append-nil}
 use Rattle.crew_trait.specs.declared.reply.Reply.{Reply}
-use Rattle.meaning.specs.State.{State, How, Goes_on, Completed, Stopped, Cut, Run, Ends, Asks}
+use Rattle.meaning.specs.State.{State, How, Cut, Run, Ends, Asks}
 use Rattle.meaning.specs.Asking.{success}
 use Rattle.meaning.specs.Play.{Played, play, all_jobs, first_refused, refused_here, first_number, refused_after, with_cut_line, last_words, whole}
 use Rattle.laws.specs.Finished.{Finished, finish, Enough}
@@ -15,7 +15,7 @@ pub record SameEnd (p : Played) (f : Finished) : Type 0 where
   pub vars : p.state.vars ≡ f.state.vars
   pub defs : p.state.defs ≡ f.state.defs
 
-line_vars : (o : Option ℕ) (st : State) → (with_cut_line o st).vars ≡ st.vars
+pub line_vars : (o : Option ℕ) (st : State) → (with_cut_line o st).vars ≡ st.vars
 line_vars None st = refl
 line_vars (Some k) st = refl
 
@@ -24,10 +24,8 @@ line_defs None st = refl
 line_defs (Some k) st = refl
 
 pub same_end : (run : Run) (before : ℕ) (refused : Option ℕ) (rs : List Reply) → SameEnd (play (last_words before refused run) rs) (finish run rs)
-same_end (Ends Goes_on st) before refused rs = record { how = refl; vars = refl; defs = refl }
-same_end (Ends Completed st) before refused rs = record { how = refl; vars = refl; defs = refl }
-same_end (Ends (Stopped s) st) before refused rs = record { how = refl; vars = refl; defs = refl }
 same_end (Ends Cut st) before refused rs = record { how = refl; vars = line_vars refused st; defs = line_defs refused st }
+same_end (Ends _ st) before refused rs = record { how = refl; vars = refl; defs = refl }
 same_end (Asks jobs next) before refused rs =
     let t = take (length jobs) rs in
     let later = same_end (next t) (before + length jobs) (first_number refused (refused_after before t)) (drop (length jobs) rs) in
@@ -51,10 +49,8 @@ none_of [] e = refl
 none_of (r ∷ rs) e = absurd (omega (arith, e))
 
 pub none_left : (run : Run) (before : ℕ) (refused : Option ℕ) (rs : List Reply) → length rs ≡ length (all_jobs (play (last_words before refused run) rs).groups) → (finish run rs).left ≡ []
-none_left (Ends Goes_on st) before refused rs e = none_of rs e
-none_left (Ends Completed st) before refused rs e = none_of rs e
-none_left (Ends (Stopped s) st) before refused rs e = none_of rs e
 none_left (Ends Cut st) before refused rs e = none_of rs e
+none_left (Ends _ st) before refused rs e = none_of rs e
 none_left (Asks jobs next) before refused rs e =
     let t = take (length jobs) rs in
     let rest = play (last_words (before + length jobs) (first_number refused (refused_after before t)) (next t)) (drop (length jobs) rs) in
@@ -64,10 +60,8 @@ none_left (Asks jobs next) before refused rs e =
     none_left (next t) (before + length jobs) (first_number refused (refused_after before t)) (drop (length jobs) rs) later
 
 pub as_many : (run : Run) (before : ℕ) (refused : Option ℕ) (rs : List Reply) → Enough run rs → (finish run rs).left ≡ [] → length rs ≡ length (all_jobs (play (last_words before refused run) rs).groups)
-as_many (Ends Goes_on st) before refused rs h e = ap length e
-as_many (Ends Completed st) before refused rs h e = ap length e
-as_many (Ends (Stopped s) st) before refused rs h e = ap length e
 as_many (Ends Cut st) before refused rs h e = ap length e
+as_many (Ends _ st) before refused rs h e = ap length e
 as_many (Asks jobs next) before refused rs h e =
     let t = take (length jobs) rs in
     let rest = play (last_words (before + length jobs) (first_number refused (refused_after before t)) (next t)) (drop (length jobs) rs) in
@@ -99,9 +93,7 @@ taken_left (Asks jobs next) rs =
 -- The state of a run at its end, with its line if it is cut.
 abbrev pub with_line : How → Option ℕ → State → State
 with_line Cut number st = with_cut_line number st
-with_line Goes_on number st = st
-with_line Completed number st = st
-with_line (Stopped status) number st = st
+with_line how number st = st
 
 number_or : (o : Option ℕ) → first_number o None ≡ o
 number_or None = refl
@@ -133,10 +125,8 @@ after_both before (r ∷ t) u = after_here before (length t) (success r) t (t ++
 -- Where the line says that a run was cut: at the first refused one of the replies that it took.
 pub line_of : (run : Run) (before : ℕ) (refused : Option ℕ) (rs : List Reply) → Enough run rs
     → (play (last_words before refused run) rs).state ≡ with_line (finish run rs).how (first_number refused (refused_after before (finish run rs).taken)) (finish run rs).state
-line_of (Ends Goes_on st) before refused rs h = refl
-line_of (Ends Completed st) before refused rs h = refl
-line_of (Ends (Stopped s) st) before refused rs h = refl
 line_of (Ends Cut st) before refused rs h = ap (λ o. with_cut_line o st) (sym (number_or refused))
+line_of (Ends _ st) before refused rs h = refl
 line_of (Asks jobs next) before refused rs h =
     let t = take (length jobs) rs in
     let f = finish (next t) (drop (length jobs) rs) in

@@ -15,10 +15,10 @@ use Rattle.shellword.specs.declared.part.Part.{Part}
 use Rattle.shellword.specs.Value.{word_value}
 use Rattle.syntax.specs.declared.statement.Plain as plain
 use Rattle.syntax.specs.TestNames.{program_name}
-use Rattle.meaning.specs.State.{State, piece, with_child, with_variable, Goes_on, Completed, Stopped, Cut, Run, Ends, Asks, then_run, as_is}
+use Rattle.meaning.specs.State.{State, piece, with_child, with_variable, Goes_on, Run, Ends, Asks, then_run, as_is}
 use Rattle.meaning.specs.Asking.{success, heard, same, attempted}
 use Rattle.meaning.specs.Directories.{directories_of}
-use Rattle.meaning.specs.Tests.{guarded, checking, with_result, with_value, Row, tested}
+use Rattle.meaning.specs.Tests.{checking, with_result, Row, tested}
 use Rattle.meaning.specs.Rows.{Program, attempts_in, value_or_empty, value_if, row_of}
 use Rattle.meaning.specs.Meaning.{check_prog, has_value, looks_all, defaulted, effect}
 use Rattle.meaning.specs.Play.{first_refused}
@@ -28,7 +28,7 @@ use Rattle.laws.specs.Logged.{children_of}
 use Rattle.laws.specs.Programs.{found_or, default_of, SearchEnds, IsSearch, AreNamed, IsSought, places_in, Searches, ProgramsAreSought, named_by, SearchesNothing, CachedIsNotSought, OwnIsNotSought}
 use Rattle.laws.proofs.Values.{same_text, not_same, value_here, value_there, rewritten}
 use Rattle.laws.proofs.CachedTests.{set_row}
-use Rattle.laws.proofs.BatchEntries.{said, added, unset_run}
+use Rattle.laws.proofs.BatchEntries.{said, added, finds, rounded, unset_run}
 use Rattle.laws.proofs.Searches.{Ending, Answered, Hunt, hunted}
 
 -- ---- values
@@ -151,15 +151,9 @@ empty_ends variable found (Some word) st now kids cached a =
 abbrev row : (variable program : List ℕ) → Option (List ℕ) → State → Row
 row variable program own st = row_of (Program (check_prog variable program program None) own) st
 
-abbrev finds : List ℕ → Option (List ℕ) → State → Run
-finds name value now = Ends Goes_on (with_value name value now)
-
 -- What follows the children of one test.
-abbrev rounded : List ℕ → Row → List (List ℕ) → Option (List Part) → Run → Run
-rounded variable r more otherwise run =
-    then_run
-    (then_run (then_run (then_run (guarded r.test.name run) (λ now. Ends Goes_on (with_result (r.test.shown (value_of now.vars r.test.name)) now))) (λ now. Ends Goes_on (r.after (value_of now.vars r.test.name) now)))
-    (looks_all variable more false)) (lasts variable otherwise)
+abbrev all_rounded : List ℕ → Row → List (List ℕ) → Option (List Part) → Run → Run
+all_rounded variable r more otherwise run = then_run (then_run (rounded r run) (looks_all variable more false)) (lasts variable otherwise)
 
 -- The next directories.
 abbrev goes : (variable program : List ℕ) → List (List ℕ) → Bool → State → Run
@@ -178,11 +172,11 @@ child_at st vars kids x file reply a = record {
 
 -- In each directory.
 in_each : (variable program : List ℕ) (r : Row) (more : List (List ℕ)) (otherwise : Option (List Part)) (P : Option (List ℕ) → List (Job × Reply) → State → Type 0) (rest : List (List ℕ × List ℕ)) (st : State) (vars : List (List ℕ × List ℕ))
-    → ((kids : List (Job × Reply)) (x : State) → At st vars kids x → Ending P (Some program) kids (rounded variable r more otherwise (finds (program_name variable) (Some program) x)))
-    → ((kids : List (Job × Reply)) (x : State) → At st vars kids x → Hunt rest P kids (rounded variable r more otherwise (finds (program_name variable) None x)))
+    → ((kids : List (Job × Reply)) (x : State) → At st vars kids x → Ending P (Some program) kids (all_rounded variable r more otherwise (finds (program_name variable) (Some program) x)))
+    → ((kids : List (Job × Reply)) (x : State) → At st vars kids x → Hunt rest P kids (all_rounded variable r more otherwise (finds (program_name variable) None x)))
     → (directories : List (List ℕ)) (kids : List (Job × Reply)) (x : State) → At st vars kids x
     → Hunt (map (λ directory. (program, directory ++ program)) directories ++ rest) P kids
-    (rounded variable r more otherwise (attempted as_is (attempts_in (check_prog variable program program None) directories) None x (finds (program_name variable))))
+    (all_rounded variable r more otherwise (attempted as_is (attempts_in (check_prog variable program program None) directories) None x (finds (program_name variable))))
 in_each variable program r more otherwise P rest st vars here none [] kids x a = none kids x a
 in_each variable program r more otherwise P rest st vars here none (d ∷ ds) kids x a = (
   _,
@@ -194,11 +188,11 @@ in_each variable program r more otherwise P rest st vars here none (d ∷ ds) ki
 )
   where
     by_answer : (reply : Reply) (o : Option Bool)
-        → ((l : List (Job × Reply)) (y : State) → At st vars l y → Ending P (Some program) l (rounded variable r more otherwise (finds (program_name variable) (Some program) y)))
-        → ((l : List (Job × Reply)) (y : State) → At st vars l y → Hunt (in_all program ds ++ rest) P l (rounded variable r more otherwise (attempted as_is (attempts_in (check_prog variable program program None) ds) None y (finds (program_name variable)))))
+        → ((l : List (Job × Reply)) (y : State) → At st vars l y → Ending P (Some program) l (all_rounded variable r more otherwise (finds (program_name variable) (Some program) y)))
+        → ((l : List (Job × Reply)) (y : State) → At st vars l y → Hunt (in_all program ds ++ rest) P l (all_rounded variable r more otherwise (attempted as_is (attempts_in (check_prog variable program program None) ds) None y (finds (program_name variable)))))
         → Answered o
-        (Ending P (Some program) (kids ++ (path_of (d ++ program), reply) ∷ []) (rounded variable r more otherwise (heard as_is o (with_child (path_of (d ++ program)) reply x) (goes variable program ds))))
-        (Hunt (in_all program ds ++ rest) P (kids ++ (path_of (d ++ program), reply) ∷ []) (rounded variable r more otherwise (heard as_is o (with_child (path_of (d ++ program)) reply x) (goes variable program ds))))
+        (Ending P (Some program) (kids ++ (path_of (d ++ program), reply) ∷ []) (all_rounded variable r more otherwise (heard as_is o (with_child (path_of (d ++ program)) reply x) (goes variable program ds))))
+        (Hunt (in_all program ds ++ rest) P (kids ++ (path_of (d ++ program), reply) ∷ []) (all_rounded variable r more otherwise (heard as_is o (with_child (path_of (d ++ program)) reply x) (goes variable program ds))))
     by_answer reply None found later = tt
     by_answer reply (Some true) found later = found _ _ (child_at st vars kids x (d ++ program) reply a)
     by_answer reply (Some false) found later = later _ _ (child_at st vars kids x (d ++ program) reply a)
@@ -247,7 +241,7 @@ one_program variable program more always otherwise P rest st now vars kids a emp
     (none l _ (quiet_at st vars l x variable program None now None b)))
     (directories_of (value_or_empty now (codes "PATH"))) kids (checking r.test.message now) begun)
   where
-    found : (l : List (Job × Reply)) (x : State) → At st vars l x → Ending P (Some program) l (rounded variable (row variable program None now) more otherwise (finds (program_name variable) (Some program) x))
+    found : (l : List (Job × Reply)) (x : State) → At st vars l x → Ending P (Some program) l (all_rounded variable (row variable program None now) more otherwise (finds (program_name variable) (Some program) x))
     found l x b =
         let name = program_name variable in
         let y = with_variable name program x in
@@ -290,9 +284,7 @@ both variable programs otherwise st = then_run (looks_all variable programs true
 
 goes_on : (run : Run) → then_run run (λ now. Ends Goes_on now) ≡ run
 goes_on (Ends Goes_on st) = refl
-goes_on (Ends Completed st) = refl
-goes_on (Ends (Stopped s) st) = refl
-goes_on (Ends Cut st) = refl
+goes_on (Ends _ st) = refl
 goes_on (Asks jobs ask) = ap (Asks jobs) (fun_ext (λ replies. goes_on (ask replies)))
 
 search_is : (s : plain.Plain) (variable : List ℕ) (programs : List (List ℕ)) (otherwise : Option (List Part)) (st : State) → IsSearch s variable programs otherwise → both variable programs otherwise st ≡ effect s st

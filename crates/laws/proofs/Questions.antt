@@ -13,7 +13,7 @@ use Rattle.laws.specs.Questions.{SaysFound, IsAnswer, FoundByValue, FoundByCache
 use Rattle.laws.proofs.Values.{same_text, apart, value_here, value_there}
 use Rattle.laws.proofs.Endings.{ends_then, ends_ended}
 use Rattle.laws.proofs.CachedTests.{set_row}
-use Rattle.laws.proofs.BatchEntries.{defined_vars, have_vars}
+use Rattle.laws.proofs.BatchEntries.{if_alone, entry_alone}
 use Rattle.laws.proofs.LinkLemmas.{put_other, checked_vars, searched_vars, checked_apart, searched_apart}
 use Rattle.laws.proofs.Kept.{broken_row_is_unset}
 
@@ -83,9 +83,9 @@ value_left (Program s own) value st e =
     (λ f. value_there st.vars s.variable value s.name f ∙ e)
     (cases_Bool (bytes_eq s.name s.variable))
 value_left (Single listed entry includes false) value st e = e
-value_left (Single listed entry includes true) value st e = ap (λ l. value_of l (name_of (Single listed entry includes true))) (have_vars listed entry (is_yes (Some value)) st) ∙ e
+value_left (Single listed entry includes true) value st e = ap (λ l. value_of l (name_of (Single listed entry includes true))) (entry_alone listed entry (is_yes (Some value)) st).vars ∙ e
 value_left (Sized name includes false) value st e = e
-value_left (Sized name includes true) value st e = ap (λ l. value_of l (name_of (Sized name includes true))) (defined_vars (is_yes (Some value)) (codes "HAVE_" ++ symbol_part name) st) ∙ e
+value_left (Sized name includes true) value st e = ap (λ l. value_of l (name_of (Sized name includes true))) (if_alone (is_yes (Some value)) (codes "HAVE_" ++ symbol_part name) st).vars ∙ e
 value_left (Library library function others adds) value st e =
     let name = name_of (Library library function others adds) in
     ap (λ l. value_of l name) (checked_vars library function others adds (Some value) st)

@@ -17,9 +17,9 @@ use Rattle.laws.proofs.Values.{same_text, cases_value, value_here, value_there, 
 use Rattle.laws.proofs.Endings.{ends_then, ends_map, ends_attempted}
 use Rattle.laws.proofs.CachedTests.{set_cached, broken_ends, broken_vars}
 use Rattle.laws.proofs.CommandLemmas.{own_unset, row_alone}
-use Rattle.laws.proofs.BatchEntries.{defined_vars, have_vars}
+use Rattle.laws.proofs.BatchEntries.{if_alone, entry_alone}
 use Rattle.laws.proofs.LinkLemmas.{put_if, put_other, checked_vars, searched_vars, checked_apart, searched_apart}
-use Rattle.laws.proofs.DeedLemmas.{Variables, nothing, unchanged, writes, writes_more, ends_account}
+use Rattle.laws.proofs.DeedLemmas.{Variables, nothing, unchanged, from_test, written_or, written_here, writes, writes_more, ends_account}
 
 -- One test.
 tested_more : (before now : Variables) (ds : List Deed) (name : List ℕ) → IsUnset name before → IsSet name now → Accounts before ds now → Accounts before (Tested name ∷ ds) now
@@ -45,17 +45,8 @@ test_writes name before now u own = ⊎_elim (λ same. inl same) (λ set. inr (s
 
 new_deed : (name : List ℕ) (before : Variables) (w : List ℕ) → IsUnset name before → Accounts before (Tested name ∷ []) (with_entry before name w)
 new_deed name before w u = record {
-  only = λ n h. ⊎_elim
-      (λ t. inr (inr (inl (ap Tested (sym (same_text n name t))))))
-      (λ f. inl (h.0, sym (value_there before name w n f) ∙ h.1))
-      (cases_Bool (bytes_eq n name));
-  all = λ n h. ⊎_elim
-      (λ k. set_write before name w n k)
-      (λ k. ⊎_elim
-      (λ l. ⊎_elim (λ e. cc) (λ z. absurd z) l)
-      (λ l. ⊎_elim (λ e. (w, ap (value_of (with_entry before name w)) (sym (ap name_in e)) ∙ value_here before name w)) (λ z. absurd z) l)
-      k)
-      h;
+  only = λ n h. ⊎_elim (λ e. inr (inr (inl (ap Tested e)))) (λ k. inl k) (written_or before name w n h);
+  all = λ n h. ⊎_elim (λ k. set_write before name w n k) (λ e. written_here before name w n e) (from_test n name before h);
   tested = λ n h. ⊎_elim (λ e. subst (λ q. IsUnset q before) (ap name_in e) u) (λ z. absurd z) h;
   keeps = λ n v e no. ⊎_elim
       (λ t. let z : None ≡ Some v = sym u ∙ ap (value_of before) (sym (same_text n name t)) ∙ e in cc)
@@ -90,10 +81,10 @@ AfterVars (Libraries function libraries others) mid now =
 after_through : (kind : Kind) (st : State) → AfterVars kind st.vars (after_of kind (value_of st.vars (name_of kind)) st).vars
 after_through (Program s own) st = (unwrap_or (value_of st.vars s.name) [], refl)
 after_through (Single listed entry includes false) st = refl
-after_through (Single listed entry includes true) st = have_vars listed entry (is_yes (value_of st.vars (entry_name listed entry))) st
+after_through (Single listed entry includes true) st = (entry_alone listed entry (is_yes (value_of st.vars (entry_name listed entry))) st).vars
 after_through (Sized name includes false) st = refl
 after_through (Sized name includes true) st =
-    defined_vars (is_yes (value_of st.vars (name_of (Sized name includes true)))) (codes "HAVE_" ++ symbol_part name) st
+    (if_alone (is_yes (value_of st.vars (name_of (Sized name includes true)))) (codes "HAVE_" ++ symbol_part name) st).vars
 after_through (Library library function others adds) st =
     checked_vars library function others adds (value_of st.vars (name_of (Library library function others adds))) st
 after_through (Libraries function libraries others) st = searched_vars (value_of st.vars (name_of (Libraries function libraries others))) st

@@ -8,7 +8,7 @@ use Rattle.syntax.specs.declared.feature.OptionKind.{OptionKind}
 use Rattle.syntax.specs.declared.listed.Listed.{Listed}
 use Rattle.syntax.specs.declared.listed.Sought.{Sought}
 use Rattle.syntax.specs.declared.statement.Plain as plain
-use Rattle.syntax.specs.declared.statement.Plain.TheVariants.{Init, Accepted, ConfigFiles, ConfigHeaders, Assign, Subst, SubstValue, Define, DefineUnquoted, Error, Message, ArgVar, CheckProg, CheckProgs, PathProg, ProgCc, Batch, Output}
+use Rattle.syntax.specs.declared.statement.Plain.TheVariants.{Init, Assign, SubstValue, CheckProg, CheckProgs, PathProg, ProgCc, Batch, Output}
 use Rattle.syntax.specs.declared.statement.Question as asks
 use Rattle.syntax.specs.declared.statement.Question.TheVariants as questions
 use Rattle.syntax.specs.declared.statement.Question.TheVariants.{Given, Tries, Checks, ChecksEach}
@@ -114,17 +114,8 @@ unfoldable pub effect_deeds : plain.Plain → State → List Reply → List Deed
 effect_deeds (Init title version bug tarname url) st replies =
     Assigned (codes "PACKAGE_NAME") ∷ Assigned (codes "PACKAGE_TARNAME") ∷ Assigned (codes "PACKAGE_VERSION")
     ∷ Assigned (codes "PACKAGE_STRING") ∷ Assigned (codes "PACKAGE_BUGREPORT") ∷ Assigned (codes "PACKAGE_URL") ∷ []
-effect_deeds Accepted st replies = []
-effect_deeds (ConfigFiles outputs) st replies = []
-effect_deeds (ConfigHeaders outputs) st replies = []
 effect_deeds (Assign name value) st replies = Assigned name ∷ []
-effect_deeds (Subst name) st replies = []
 effect_deeds (SubstValue name value) st replies = Assigned name ∷ []
-effect_deeds (Define name value) st replies = []
-effect_deeds (DefineUnquoted name value) st replies = []
-effect_deeds (Error message status) st replies = []
-effect_deeds (Message kind message) st replies = []
-effect_deeds (ArgVar name help) st replies = []
 effect_deeds (CheckProg variable program found otherwise) st replies =
     program_deeds (check_prog variable program (word_value found st.vars) (option_map (λ t. word_value t st.vars) otherwise))
     (has_value st variable) st replies
@@ -141,6 +132,7 @@ effect_deeds (Batch listed entries includes) st replies =
 effect_deeds Output st replies =
     prefix_deeds (codes "prefix") st
     ++ prefix_deeds (codes "exec_prefix") (settled (codes "prefix") (codes "/usr/local") st)
+effect_deeds statement st replies = []
 
 -- An option that is given assigns its variable. (own)
 abbrev pub given_deeds : Option (List ℕ) → OptionKind → List Deed

@@ -5,13 +5,10 @@ use Rattle.std.specs.List.{list_any}
 use Rattle.std.proofs.lemmas.Bool.{cases_Bool}
 use Rattle.std.proofs.lemmas.List.{append-nil, length-take-le}
 use Rattle.jobs.specs.declared.job.Job.{Job}
-use Rattle.jobs.specs.Probe.{job_of}
 use Rattle.crew_trait.specs.declared.reply.Reply.{Reply}
 use Rattle.crew_trait.specs.declared.reply.Reply.TheVariants.{StartRefused}
 use Rattle.deftable.specs.Table.{value_of}
-use Rattle.shellword.specs.declared.part.Part.{Part}
 use Rattle.syntax.specs.declared.listed.Listed.{Listed}
-use Rattle.syntax.specs.declared.listed.Listed.TheVariants.{Header, Function, Declaration}
 use Rattle.syntax.specs.Resumable.{Among, ReadsIfGiven}
 use Rattle.syntax.specs.TestNames.{entry_name}
 use Rattle.meaning.specs.State.{State, with_child, with_variable, How, Goes_on, Completed, Stopped, Cut, Run, Ends, Asks, as_is}
@@ -19,13 +16,13 @@ use Rattle.meaning.specs.Asking.{success, only_reply, heard}
 use Rattle.meaning.specs.Tests.{tested, tested_by, may_begin, cached_test}
 use Rattle.meaning.specs.Rows.{Single, entry_job, message_of, shown_of, after_of}
 use Rattle.meaning.specs.Batches.{Batch, is_known, job_for, asking, jobs_in, asks_all, with_body, yes_or_no, replied, replies_after, commits, committed, batched}
-use Rattle.meaning.specs.Play.{first_refused, refused_here}
+use Rattle.meaning.specs.Play.{first_refused}
 use Rattle.laws.specs.Ends.{AtEnds}
 use Rattle.laws.specs.Cached.{StandsOnce, KeepsOnce}
 use Rattle.laws.specs.Batched.{lacks_compiler, answer_to, value_by, entry_defs, defs_all, cut_by, all_set, IsEntry}
 use Rattle.laws.proofs.Values.{same_text, same_self, cond_true, cond_false, once_with}
-use Rattle.laws.proofs.BatchEntries.{row_at, how_if, flag_of, refused_in, or_false}
-use Rattle.laws.proofs.BatchLemmas.{batch_commits, batch_asks_unset, batch_keeps_set}
+use Rattle.laws.proofs.BatchEntries.{row_at, how_if, flag_of, refused_in, or_false, by_none}
+use Rattle.laws.proofs.BatchLemmas.{job_true, job_false, none_value, how_is, batch_commits, batch_asks_unset, batch_keeps_set}
 use Rattle.resuming.specs.Finished.{Finished, finish, with_taken, Enough}
 use Rattle.resuming.specs.Joint.{answer_or, joint_entries}
 use Rattle.resuming.proofs.Near.{IsCached, Alike, Every, Like}
@@ -73,21 +70,9 @@ commits_like (Ends Goes_on s) (Ends Goes_on t) refused k l e rest = rest refused
 commits_like (Ends Completed s) (Ends Completed t) refused k l e rest = e
 commits_like (Ends (Stopped x) s) (Ends (Stopped y) t) refused k l e rest = e
 commits_like (Ends Cut s) (Ends Cut t) refused k l e rest = rest true s t e.1
-commits_like (Ends Goes_on s) (Ends Completed t) refused k l e rest = let h = e.0 in cc
-commits_like (Ends Goes_on s) (Ends Cut t) refused k l e rest = let h = e.0 in cc
-commits_like (Ends Goes_on s) (Ends (Stopped y) t) refused k l e rest = let h = e.0 in cc
-commits_like (Ends Completed s) (Ends Goes_on t) refused k l e rest = let h = e.0 in cc
-commits_like (Ends Completed s) (Ends Cut t) refused k l e rest = let h = e.0 in cc
-commits_like (Ends Completed s) (Ends (Stopped y) t) refused k l e rest = let h = e.0 in cc
-commits_like (Ends Cut s) (Ends Goes_on t) refused k l e rest = let h = e.0 in cc
-commits_like (Ends Cut s) (Ends Completed t) refused k l e rest = let h = e.0 in cc
-commits_like (Ends Cut s) (Ends (Stopped y) t) refused k l e rest = let h = e.0 in cc
-commits_like (Ends (Stopped x) s) (Ends Goes_on t) refused k l e rest = let h = e.0 in cc
-commits_like (Ends (Stopped x) s) (Ends Completed t) refused k l e rest = let h = e.0 in cc
-commits_like (Ends (Stopped x) s) (Ends Cut t) refused k l e rest = let h = e.0 in cc
+commits_like (Ends _ s) (Ends _ t) refused k l e rest = let h = e.0 in cc
 commits_like (Asks js n) (Asks ks m) refused k l e rest = (e.0, λ rs. commits_like (n rs) (m rs) refused k l (e.1 rs) rest)
-commits_like (Ends h a) (Asks ks m) refused k l e rest = absurd e
-commits_like (Asks js n) (Ends g b) refused k l e rest = absurd e
+commits_like _ _ refused k l e rest = absurd e
 
 committed_like : (names : List (List ℕ)) (batch : Batch) (asks : List (List ℕ × Option Job)) (rs : List Reply) (refused : Bool) (u v s t : State) → ReadsBatch names batch → Alike Every u v → Alike Every s t → Like Every (committed batch u asks rs refused s) (committed batch v asks rs refused t)
 committed_like names batch [] rs true u v s t r uv h = (refl, h)
@@ -136,18 +121,6 @@ pub record DoneWith (batch : Batch) (st : State) (taken left : List Reply) (f : 
 ends_with : (t l : List Reply) (how : How) (end : State) → with_taken t (finish (Ends how end) l) ≡ record { how = how; state = end; taken = t; left = l }
 ends_with t l how end = ap (λ x. record { how = how; state = end; taken = x; left = l }) (append-nil t)
 
-mapped_cut : (o : Option ℕ) → cut_by (option_map suc o) ≡ cut_by o
-mapped_cut None = refl
-mapped_cut (Some k) = refl
-
-cut_first : (answer : Option Bool) (rs : List Reply) → cut_by (first_refused rs) ≡ how_if (refused_in rs) → cut_by (refused_here answer (first_refused rs)) ≡ how_if (flag_of answer || refused_in rs)
-cut_first None rs e = refl
-cut_first (Some b) rs e = mapped_cut (first_refused rs) ∙ e
-
-cut_is : (rs : List Reply) → cut_by (first_refused rs) ≡ how_if (refused_in rs)
-cut_is [] = refl
-cut_is (r ∷ rs) = cut_first (success r) rs (cut_is rs)
-
 pub with_replies : (batch : Batch) (st : State) (rs : List Reply) → lacks_compiler st ≡ false → length (jobs_in (asking batch 1 [] batch.entries st)) ≤ length rs
     → DoneWith batch st (take (length (jobs_in (asking batch 1 [] batch.entries st))) rs) (drop (length (jobs_in (asking batch 1 [] batch.entries st))) rs) (finish (batched batch st) rs)
 with_replies batch st rs c h =
@@ -158,7 +131,7 @@ with_replies batch st rs c h =
     finish_asks (jobs_in a) (λ replies. committed batch st a replies false st) rs
     ∙ ap (λ run. with_taken t (finish run (drop (length (jobs_in a)) rs))) go.is
     ∙ ends_with t (drop (length (jobs_in a)) rs) (cut_by (first_refused t)) go.now
-    ∙ ap (λ how. record { how = how; state = go.now; taken = t; left = drop (length (jobs_in a)) rs }) (cut_is t) in
+    ∙ ap (λ how. record { how = how; state = go.now; taken = t; left = drop (length (jobs_in a)) rs }) (sym (how_is t)) in
     record {
       end = go.now;
       is = is;
@@ -194,9 +167,6 @@ AllOf batch entries st = (n : List ℕ) → Among n (map (entry_name batch.liste
 
 abbrev pub AllThere : Batch → State → Type 0
 AllThere batch st = AllOf batch batch.entries st
-
-job_true : (batch : Batch) (entry : List ℕ) (place : ℕ) (earlier : List (List ℕ)) (st : State) → is_known (entry_name batch.listed entry) earlier st ≡ true → job_for batch place earlier entry st ≡ None
-job_true batch entry place earlier st t = cond_true (is_known (entry_name batch.listed entry) earlier st) None (entry_job batch.listed entry batch.includes place st) t
 
 all_set_of : (batch : Batch) (entries : List (List ℕ)) (st : State) → AllOf batch entries st → all_set batch entries st ≡ true
 all_set_of batch [] st all = refl
@@ -240,13 +210,8 @@ among_or_not n (m ∷ ms) =
     (λ ne. ⊎_elim (λ h. inl (inr h)) (λ nh. inr (λ h. ⊎_elim ne nh h)) (among_or_not n ms))
     (same_or_not m n)
 
-by_unasked : (o : Option (List ℕ)) (a : Option Reply) → a ≡ None → value_by o a ≡ o
-by_unasked (Some v) a e = refl
-by_unasked None None e = refl
-by_unasked None (Some r) e = cc
-
 pub other_name : (batch : Batch) (st : State) (n : List ℕ) (rs : List Reply) → lacks_compiler st ≡ false → (Among n (names_in batch) → ⊥) → value_by (value_of st.vars n) (answer_to n batch (asking batch 1 [] batch.entries st) rs) ≡ value_of st.vars n
-other_name batch st n rs c none = by_unasked (value_of st.vars n) _ ((batch_asks_unset batch st n rs c).stranger (λ h. none (from_entry batch batch.entries n h)))
+other_name batch st n rs c none = ap (value_by (value_of st.vars n)) ((batch_asks_unset batch st n rs c).stranger (λ h. none (from_entry batch batch.entries n h))) ∙ sym (by_none (value_of st.vars n))
 
 pub unset_asks : (batch : Batch) (st : State) (n : List ℕ) (rs : List Reply) → lacks_compiler st ≡ false → value_of st.vars n ≡ None → Among n (names_in batch) → (r : Reply) × (answer_to n batch (asking batch 1 [] batch.entries st) rs ≡ Some r)
 unset_asks batch st n rs c none h = (batch_asks_unset batch st n rs c).unset (is_entry batch batch.entries n h) none
@@ -293,26 +258,10 @@ pub record Mends (o : Option Reply) : Type 0 where
   pub is : o ≡ Some reply
   pub well : flag_of (success reply) ≡ false
 
-none_in : (o : Option (List ℕ)) → is_some o ≡ false → o ≡ None
-none_in None e = refl
-none_in (Some v) e = cc
-
 head_well : (r : Reply) (s : Option Bool) (o : Option Reply) → success r ≡ s → (s ≡ None → Mends o) → flag_of (success (answer_or s r o)) ≡ false
 head_well r (Some b) o e m = ap flag_of e
 head_well r None None e m = let x = m refl in let z : None ≡ Some x.reply = x.is in cc
 head_well r None (Some q) e m = let x = m refl in let same : Some q ≡ Some x.reply = x.is in let y : q ≡ x.reply = cc in ap (λ z. flag_of (success z)) y ∙ x.well
-
--- There is a job if there is a compiler.
-has_job : (listed : Listed) (entry : List ℕ) (includes : Option (List Part)) (number : ℕ) (st : State) → lacks_compiler st ≡ false → (job : Job) × (entry_job listed entry includes number st ≡ Some job)
-unfolding job_of
-has_job Header entry includes number st f = (_, cond_false (lacks_compiler st) None (Some _) f)
-has_job Function entry includes number st f = (_, cond_false (lacks_compiler st) None (Some _) f)
-has_job Declaration entry includes number st f = (_, cond_false (lacks_compiler st) None (Some _) f)
-
-job_false : (batch : Batch) (entry : List ℕ) (place : ℕ) (earlier : List (List ℕ)) (st : State) → lacks_compiler st ≡ false → is_known (entry_name batch.listed entry) earlier st ≡ false → (job : Job) × (job_for batch place earlier entry st ≡ Some job)
-job_false batch entry place earlier st c f =
-    let own = has_job batch.listed entry batch.includes place st c in
-    (own.0, cond_false (is_known (entry_name batch.listed entry) earlier st) None (entry_job batch.listed entry batch.includes place st) f ∙ own.1)
 
 pub joint_ok : (batch : Batch) (entries : List (List ℕ)) (place : ℕ) (earlier : List (List ℕ)) (first : State) (rs : List Reply) (a2 : List (List ℕ × Option Job)) (rs2 : List Reply) (full : List ℕ → Option Reply) → lacks_compiler first ≡ false
     → length rs ≡ length (jobs_in (asking batch place earlier entries first))
@@ -337,7 +286,7 @@ joint_ok batch (entry ∷ more) place earlier first rs a2 rs2 full c len g h =
     subst (λ j. refused_in (joint_entries batch ((entry, j) ∷ tail) rs a2 rs2) ≡ false) (sym own.1)
     (by_reply own.0 rs
     (subst (λ j. length rs ≡ length (jobs_in ((entry, j) ∷ tail))) own.1 len)
-    (λ m no_m. g m no_m ∙ ap (λ j. answer_to m batch ((entry, j) ∷ tail) rs) own.1) both.1 (none_in (value_of first.vars name) both.0)
+    (λ m no_m. g m no_m ∙ ap (λ j. answer_to m batch ((entry, j) ∷ tail) rs) own.1) both.1 (none_value (value_of first.vars name) both.0)
     (λ qs l k. joint_ok batch more (suc place) (name ∷ earlier) first qs a2 rs2 full c l k (λ m r none e s a. h m r none e s (inr a)))))
     (cases_Bool (is_some (value_of first.vars name) || list_any (bytes_eq name) earlier))
   where

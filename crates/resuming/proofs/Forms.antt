@@ -17,8 +17,8 @@ use Rattle.laws.specs.Cached.{IsSet, with_cached}
 use Rattle.laws.proofs.Values.{cases_value, value_here}
 use Rattle.laws.proofs.Endings.{ends_then, ends_map, ends_either, ends_heard}
 use Rattle.laws.proofs.CachedTests.{set_cached, set_row_asks_nothing, broken_ends, broken_vars}
-use Rattle.laws.proofs.BatchEntries.{defined_vars, have_vars}
-use Rattle.laws.proofs.CommandLemmas.{OwnOnly, own_unset, row_alone, commands_write_alone}
+use Rattle.laws.proofs.BatchEntries.{if_alone, entry_alone}
+use Rattle.laws.proofs.CommandLemmas.{OwnOnly, own_unset, broken_defs, row_alone, commands_write_alone}
 use Rattle.resuming.specs.Joint.{checks}
 use Rattle.resuming.proofs.Near.{IsCached, Alike, Every, Like}
 use Rattle.resuming.proofs.Names.{value_else, cached_apart, libs_plain}
@@ -95,12 +95,6 @@ Settles name part = (st : State) → AtEnds (λ how now. how ≡ Goes_on → IsS
 abbrev Middle : List ℕ → State → How → State → Type 0
 Middle name before how now = OwnOnly name before now × (Breaks how → now.vars ≡ before.vars)
 
-broken_defs : (name : List ℕ) (how : How) (st : State) → (broken name how st).defs ≡ st.defs
-broken_defs name Goes_on st = refl
-broken_defs name Completed st = refl
-broken_defs name (Stopped s) st = refl
-broken_defs name Cut st = refl
-
 cached_form : (t : Test) (st : State) → value_of st.vars t.name ≡ None → AtEnds (λ how now. OwnOnly t.name st now) (t.body (checking t.message st)) → AtEnds (Middle t.name st) (cached_test t st)
 cached_form t st none body =
     broken_ends (λ how now. OwnOnly t.name st now) (Middle t.name st) t st none body
@@ -156,9 +150,9 @@ PlainKind (Libraries function libraries others) = Unit {0}
 
 pub after_values : (kind : Kind) → PlainKind kind → (o : Option (List ℕ)) (n : List ℕ) (st : State) → IsCached n → value_of (after_of kind o st).vars n ≡ value_of st.vars n
 after_values (Program search own) p o n st c = value_else st.vars search.variable (unwrap_or o []) n (λ e. cached_apart n search.variable c p (sym e))
-after_values (Single listed entry includes true) p o n st c = ap (λ l. value_of l n) (have_vars listed entry (is_yes o) st)
+after_values (Single listed entry includes true) p o n st c = ap (λ l. value_of l n) (entry_alone listed entry (is_yes o) st).vars
 after_values (Single listed entry includes false) p o n st c = refl
-after_values (Sized name includes true) p o n st c = ap (λ l. value_of l n) (defined_vars (is_yes o) (codes "HAVE_" ++ symbol_part name) st)
+after_values (Sized name includes true) p o n st c = ap (λ l. value_of l n) (if_alone (is_yes o) (codes "HAVE_" ++ symbol_part name) st).vars
 after_values (Sized name includes false) p o n st c = refl
 after_values (Library library function others true) p o n st c = if_values (is_yes o) library n st c
 after_values (Library library function others false) p o n st c = refl

@@ -1,7 +1,6 @@
 -- Choices as parts: their beginnings, and their rounds.
 use Rattle.std.proofs.Common.{◌≡◌, ℕ, List, [], ◌∷◌, ◌++◌, Bool, true, false, Option, Some, None, ◌⊎◌, inl, inr, refl, sym, ap, ◌∙◌, subst, ⊎_elim, map}
 use Rattle.std.specs.Prelude.{is_some}
-use Rattle.std.proofs.Math.Path.{fun_ext}
 use Rattle.deftable.specs.Table.{value_of}
 use Rattle.shellword.specs.declared.part.Part.{Part}
 use Rattle.syntax.specs.declared.feature.OptionKind.{OptionKind}
@@ -14,11 +13,12 @@ use Rattle.syntax.specs.declared.tree.Subject.{Subject}
 use Rattle.syntax.specs.declared.tree.Subject.TheVariants.{Nothing, Word, Asked}
 use Rattle.syntax.specs.Resumable.{Among, IsOrdinary, MayRead, ReadsIfGiven, tests_at, first_alone, ResumableSubject}
 use Rattle.syntax.specs.TestNames.{sought_name}
-use Rattle.meaning.specs.State.{State, Scope, answered, about, with_variable, Run, Ends, Asks, then_run, ended, as_is}
+use Rattle.meaning.specs.State.{State, Scope, answered, about, with_variable, Run, then_run, ended, as_is}
 use Rattle.meaning.specs.Tests.{tested}
 use Rattle.meaning.specs.Rows.{Kind, Program, Single, Sized, Library, Libraries, kind_for, name_of, is_found, after_of, row_of}
 use Rattle.meaning.specs.Meaning.{value_name, given, begun, rounds_of, in_turn}
 use Rattle.laws.proofs.Values.{value_here}
+use Rattle.laws.proofs.Statements.{ended_as_is}
 use Rattle.resuming.specs.Alone.{tested_rounds, AloneRounds}
 use Rattle.resuming.specs.Joint.{Joint, Pair, joint_then, joint_one, given_then, begins_test, begins, scope_at, joint_rounds}
 use Rattle.resuming.specs.Same.{AndThen, SameOne, SameAt, SameRounds}
@@ -109,10 +109,6 @@ scope_same at names (Asked (ChecksEach sought [] includes)) x y reads own one h 
 scope_same at names (Asked (ChecksEach sought (entry ∷ more) includes)) x y reads own one h a = ap answered (sought_same at sought entry includes true x y (own (sought_name sought entry) (inl refl)) a)
 scope_same at names (Asked (questions.Library library function others adds)) x y reads own one h a = ap (λ o. answered (is_found (Library library function others adds) o)) (a.value _ (own _ (inl refl)))
 scope_same at names (Asked (questions.Libraries function libraries others)) x y reads own one h a = ap (λ o. answered (is_found (Libraries function libraries others) o)) (a.value _ (own _ (inl refl)))
-
-ended_as_is : (run : Run) → ended as_is run ≡ run
-ended_as_is (Ends how st) = refl
-ended_as_is (Asks jobs next) = ap (Asks jobs) (fun_ext (λ replies. ended_as_is (next replies)))
 
 given_begun : (kind : OptionKind) (variable : List ℕ) (o : Option (List ℕ)) (st : State) (go : Scope → State → Run) → value_of st.vars variable ≡ o → given o kind st go ≡ go (answered (is_some (value_of (given_then kind o st).vars variable))) (given_then kind o st)
 given_begun kind variable None st go e = ap (λ o. go (answered (is_some o)) st) (sym e)

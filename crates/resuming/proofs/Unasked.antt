@@ -1,14 +1,13 @@
 -- A name that is set is not tested.
 use Rattle.std.proofs.Common.{◌≡◌, ℕ, suc, List, [], ◌∷◌, codes, Bool, true, false, cond, Option, Some, None, refl, sym, ap, ◌∙◌, subst, ⊎_elim}
-use Rattle.std.specs.Prelude.{◌||◌, bytes_eq, is_some}
-use Rattle.std.specs.List.{list_any}
+use Rattle.std.specs.Prelude.{is_some}
 use Rattle.jobs.specs.declared.job.Job.{Job}
 use Rattle.crew_trait.specs.declared.reply.Reply.{Reply}
 use Rattle.deftable.specs.Table.{value_of}
 use Rattle.shellword.specs.Value.{word_value}
 use Rattle.syntax.specs.declared.statement.Plain as plain
 use Rattle.syntax.specs.declared.statement.Plain.TheVariants as statements
-use Rattle.syntax.specs.declared.statement.Plain.TheVariants.{Init, Accepted, ConfigFiles, ConfigHeaders, Assign, Subst, SubstValue, Define, DefineUnquoted, Error, Message, ArgVar, CheckProg, CheckProgs, PathProg, ProgCc, Output}
+use Rattle.syntax.specs.declared.statement.Plain.TheVariants.{CheckProg, CheckProgs, PathProg, ProgCc}
 use Rattle.syntax.specs.declared.tree.Subject.{Subject}
 use Rattle.syntax.specs.declared.tree.Subject.TheVariants.{Nothing, Word, Asked}
 use Rattle.syntax.specs.Resumable.{Among}
@@ -16,12 +15,14 @@ use Rattle.syntax.specs.Script.{Script, Done, Then, Choice, Check, Cases, No_cas
 use Rattle.syntax.specs.TestNames.{entry_name, program_name, path_name}
 use Rattle.meaning.specs.State.{State, Scope, no_choice, about, answered, How, Goes_on, Completed, Stopped, Cut, Run, as_is}
 use Rattle.meaning.specs.Tests.{checking}
-use Rattle.meaning.specs.Rows.{Kind, name_of, entry_job}
+use Rattle.meaning.specs.Rows.{Kind, name_of}
 use Rattle.meaning.specs.Batches.{Batch, job_for, asking}
 use Rattle.meaning.specs.Meaning.{effect, asked, begun, rounds_of, in_turn, is_taken, check, meaning, chosen}
 use Rattle.laws.specs.Cached.{IsSet}
 use Rattle.laws.specs.Questions.{yes_or_no}
-use Rattle.laws.proofs.Kept.{Keeps, then_keeps, stays_set, cached_keeps, effect_keeps, asked_keeps, begun_keeps, meaning_keeps, chosen_keeps}
+use Rattle.laws.proofs.BatchLemmas.{no_job_set}
+use Rattle.laws.proofs.Statements.{AllSteps, cached_holds, effect_holds, asked_holds, begun_holds, turns_hold, meaning_holds, chosen_holds}
+use Rattle.laws.proofs.Kept.{Keeps, KeepsFrom, all_keep, stays_set}
 use Rattle.resuming.specs.Finished.{Finished, finish}
 use Rattle.resuming.specs.Poured.{poured}
 use Rattle.resuming.specs.Joint.{test_in, checks}
@@ -31,6 +32,13 @@ use Rattle.resuming.proofs.Runs.{at_end}
 
 abbrev Set : List ℕ → State → Type 0
 Set n st = IsSet n st.vars
+
+-- A name that is set stays so in each run of statements.
+abbrev Stays : List ℕ → State → Run → Type 0
+Stays n = KeepsFrom (Set n)
+
+steps : (n : List ℕ) → AllSteps (Stays n)
+steps n = all_keep (Set n) (stays_set n)
 
 still_set : (n : List ℕ) (run : Run) (rs : List Reply) → Keeps (Set n) run → Set n (finish run rs).state
 still_set n run rs h = at_end (λ how now. IsSet n now.vars) run rs h
@@ -54,10 +62,6 @@ not_if n name st (Some v) inner e s never h = h
 not_one : (n name : List ℕ) (st : State) → Set n st → Among n (tested_one name st) → ⊥
 not_one n name st s h = not_if n name st (value_of st.vars name) [] refl s (λ z. z) h
 
-job_none : (batch : Batch) (entry : List ℕ) (place : ℕ) (earlier : List (List ℕ)) (st : State) (v : List ℕ) → value_of st.vars (entry_name batch.listed entry) ≡ Some v → job_for batch place earlier entry st ≡ None
-job_none batch entry place earlier st v e =
-    ap (λ o. cond (is_some o || list_any (bytes_eq (entry_name batch.listed entry)) earlier) None (entry_job batch.listed entry batch.includes place st)) e
-
 one_entry : (n : List ℕ) (batch : Batch) (entry : List ℕ) (job : Option Job) (tail : List (List ℕ × Option Job)) → (entry_name batch.listed entry ≡ n → ⊥) → (Among n (tested_entries batch tail) → ⊥) → Among n (tested_entries batch ((entry, job) ∷ tail)) → ⊥
 one_entry n batch entry None tail apart rest h = rest h
 one_entry n batch entry (Some job) tail apart rest h = ⊎_elim apart rest h
@@ -68,29 +72,17 @@ not_entries n batch (entry ∷ more) place earlier st s h =
     let tail = asking batch (suc place) (entry_name batch.listed entry ∷ earlier) more st in
     let rest = not_entries n batch more (suc place) (entry_name batch.listed entry ∷ earlier) st s in
     ⊎_elim
-    (λ same. rest (subst (λ j. Among n (tested_entries batch ((entry, j) ∷ tail))) (job_none batch entry place earlier st s.0 (ap (value_of st.vars) same ∙ s.1)) h))
+    (λ same. rest (subst (λ j. Among n (tested_entries batch ((entry, j) ∷ tail))) (no_job_set batch entry place earlier st (ap is_some (ap (value_of st.vars) same ∙ s.1))) h))
     (λ other. one_entry n batch entry (job_for batch place earlier entry st) tail other rest h)
     (same_or_not (entry_name batch.listed entry) n)
 
 not_plain : (n : List ℕ) (s : plain.Plain) (st : State) → Set n st → Among n (tested_plain s st) → ⊥
-not_plain n (Init title version bug tarname url) st s h = h
-not_plain n Accepted st s h = h
-not_plain n (ConfigFiles outputs) st s h = h
-not_plain n (ConfigHeaders outputs) st s h = h
-not_plain n (Assign name value) st s h = h
-not_plain n (Subst name) st s h = h
-not_plain n (SubstValue name value) st s h = h
-not_plain n (Define name value) st s h = h
-not_plain n (DefineUnquoted name value) st s h = h
-not_plain n (Error message status) st s h = h
-not_plain n (Message kind message) st s h = h
-not_plain n (ArgVar name help) st s h = h
 not_plain n (CheckProg variable program found otherwise) st s h = not_one n (program_name variable) st s h
 not_plain n (CheckProgs variable programs otherwise) st s h = not_one n (program_name variable) st s h
 not_plain n (PathProg variable program otherwise) st s h = not_one n (path_name variable) st s h
 not_plain n (ProgCc programs) st s h = not_one n (program_name (codes "CC")) st s h
 not_plain n (statements.Batch listed entries includes) st s h = not_entries n (record { listed = listed; entries = entries; includes = includes }) entries 1 [] st s h
-not_plain n Output st s h = h
+not_plain n _ st s h = h
 
 not_kind : (n : List ℕ) (kind : Option Kind) (st : State) → Set n st → Among n (tested_kind kind st) → ⊥
 not_kind n None st s h = h
@@ -106,12 +98,7 @@ not_inside n Nothing st rs rest s never h = never no_choice st rs s h
 not_inside n (Word word) st rs rest s never h = never (about (word_value word st.vars)) st rs s h
 not_inside n (Asked q) st rs rest s never h =
     let run = asked as_is q st yes_or_no in
-    not_answered n (finish run rs).how (finish run rs) rest (still_set n run rs (asked_keeps (Set n) (stays_set n) q st yes_or_no (λ c now k. k) s)) never h
-
-turns_keep : (n : List ℕ) (rounds : List Subject) (go : Scope → State → Run) → ((c : Scope) (now : State) → Set n now → Keeps (Set n) (go c now)) → (st : State) → Set n st → Keeps (Set n) (in_turn rounds go st)
-turns_keep n [] go keep st s = s
-turns_keep n (r ∷ more) go keep st s =
-    then_keeps (Set n) (begun as_is r st go) (in_turn more go) (begun_keeps (Set n) (stays_set n) r st go keep s) (λ now k. turns_keep n more go keep now k)
+    not_answered n (finish run rs).how (finish run rs) rest (still_set n run rs (asked_holds (Stays n) (steps n).steps q st yes_or_no (λ c now k. k) s)) never h
 
 not_turns : (n : List ℕ) (rounds : List Subject) (go : Scope → State → Run) (inside : Scope → State → List Reply → List (List ℕ)) → ((c : Scope) (now : State) → Set n now → Keeps (Set n) (go c now)) → ((c : Scope) (now : State) (qs : List Reply) → Set n now → Among n (inside c now qs) → ⊥)
     → (st : State) (rs : List Reply) → Set n st → Among n (tested_turns rounds go inside st rs) → ⊥
@@ -120,7 +107,7 @@ not_turns n (r ∷ more) go inside keep never st rs s h =
     ⊎_elim
     (λ a. ⊎_elim (not_at n r st s) (not_inside n r st rs inside s never) (among_either n (tested_at r st) _ a))
     (not_after n (finish (begun as_is r st go) rs).how (finish (begun as_is r st go) rs) (tested_turns more go inside)
-    (still_set n (begun as_is r st go) rs (begun_keeps (Set n) (stays_set n) r st go keep s)) (λ now left k. not_turns n more go inside keep never now left k))
+    (still_set n (begun as_is r st go) rs (begun_holds (Stays n) (steps n).steps r st go keep s)) (λ now left k. not_turns n more go inside keep never now left k))
     (among_either n _ _ h)
 
 not_either : (n : List ℕ) (b : Bool) (x y : List (List ℕ)) → (Among n x → ⊥) → (Among n y → ⊥) → Among n (cond b x y) → ⊥
@@ -134,20 +121,20 @@ mutual
   not_tested Done n st rs s h = h
   not_tested (Then p rest) n st rs s h =
       ⊎_elim (not_plain n p st s)
-      (not_after n (finish (effect p st) rs).how (finish (effect p st) rs) (tests_made rest) (still_set n (effect p st) rs (effect_keeps (Set n) (stays_set n) p st s)) (λ now left k. not_tested rest n now left k))
+      (not_after n (finish (effect p st) rs).how (finish (effect p st) rs) (tests_made rest) (still_set n (effect p st) rs (effect_holds (Stays n) (steps n) p st s)) (λ now left k. not_tested rest n now left k))
       (among_either n (tested_plain p st) _ h)
   not_tested (Choice subject cases rest) n st rs s h =
-      let keep : (c : Scope) (now : State) → Set n now → Keeps (Set n) (chosen cases c now) = λ c now k. chosen_keeps (Set n) (stays_set n) cases c now k in
+      let keep : (c : Scope) (now : State) → Set n now → Keeps (Set n) (chosen cases c now) = λ c now k. chosen_holds (Stays n) (steps n) cases c now k in
       ⊎_elim
       (not_turns n (rounds_of subject) (chosen cases) (tests_made_in cases) keep (λ c now left k. not_tested_in cases n c now left k) st rs s)
       (not_after n (finish (in_turn (rounds_of subject) (chosen cases) st) rs).how (finish (in_turn (rounds_of subject) (chosen cases) st) rs) (tests_made rest)
-      (still_set n (in_turn (rounds_of subject) (chosen cases) st) rs (turns_keep n (rounds_of subject) (chosen cases) keep st s)) (λ now left k. not_tested rest n now left k))
+      (still_set n (in_turn (rounds_of subject) (chosen cases) st) rs (turns_hold (Stays n) (steps n).steps (rounds_of subject) st (chosen cases) keep s)) (λ now left k. not_tested rest n now left k))
       (among_either n (tested_turns (rounds_of subject) (chosen cases) (tests_made_in cases) st rs) _ h)
   not_tested (Check message name commands rest) n st rs s h =
       ⊎_elim
       (not_if n name st (value_of st.vars name) (tests_made commands (checking (word_value message st.vars) st) rs) refl s (λ k. not_tested commands n (checking (word_value message st.vars) st) rs s k))
       (not_after n (finish (checks message name (meaning commands) st) rs).how (finish (checks message name (meaning commands) st) rs) (tests_made rest)
-      (still_set n (checks message name (meaning commands) st) rs (cached_keeps (Set n) (stays_set n) (check message name (meaning commands) st) st (λ now k. meaning_keeps (Set n) (stays_set n) commands now k) s))
+      (still_set n (checks message name (meaning commands) st) rs (cached_holds (Stays n) (steps n).steps (check message name (meaning commands) st) st (λ now k. meaning_holds (Stays n) (steps n) commands now k) s))
       (λ now left k. not_tested rest n now left k))
       (among_either n _ _ h)
 
