@@ -13,7 +13,7 @@ use Rattle.jobs.specs.Probe.{words_of}
 use Rattle.textcut.specs.Cuts.{fields}
 use Rattle.syntax.specs.Resumable.{Among}
 use Rattle.syntax.specs.TestNames.{entry_name}
-use Rattle.meaning.specs.State.{State, How, Goes_on, Completed, Stopped, Cut, Run}
+use Rattle.meaning.specs.State.{State, How, Goes_on, Stopped, Cut, Run}
 use Rattle.meaning.specs.Asking.{success}
 use Rattle.meaning.specs.Batches.{Batch, asking, jobs_in, yes_or_no, batched}
 use Rattle.laws.specs.Batched.{lacks_compiler, answer_to, value_by, all_set, defs_all}
@@ -22,7 +22,7 @@ use Rattle.laws.proofs.BatchEntries.{how_if, flag_of, refused_in}
 use Rattle.laws.proofs.BatchLemmas.{batch_stops}
 use Rattle.resuming.specs.Finished.{Finished, finish, Enough}
 use Rattle.resuming.specs.Joint.{Pair, joint_by, answer_or, joint_entries, joint_batch}
-use Rattle.resuming.proofs.Near.{IsCached, Near, Sets, leads_by, EndsAlike, Ready, Comes, IsPart}
+use Rattle.resuming.proofs.Near.{IsCached, Near, Sets, leads_by, EndsAlike, Ready, passed, Comes, IsPart}
 use Rattle.resuming.proofs.Names.{among_either, cached_apart, cc_plain}
 use Rattle.resuming.proofs.Parts.{sets_none}
 use Rattle.resuming.proofs.Batched.{ReadsBatch, DoneWith, Cached, names_in, AllThere, with_replies, batch_enough, enough_asks, batch_like, cached_run, defs_same, names_cached, among_or_not, other_name, unset_asks, answered_well, answer_value, joint_length, joint_answer, joint_ok}
@@ -233,8 +233,6 @@ batch_by : (known later : List (List ℕ)) (batch : Batch) (p : Pair) (E : State
     → Comes (names_in batch ++ known) E (batched batch p.first) p.replies (batched batch p.second) p.again
     (joint_by how (finish (batched batch p.first) p.replies) (finish (batched batch p.second) p.again)
     (joint_entries batch (asking batch 1 [] batch.entries p.first) (finish (batched batch p.first) p.replies).taken (asking batch 1 [] batch.entries p.second) (finish (batched batch p.second) p.again).taken ++ (finish (batched batch p.second) p.again).left))
-batch_by known later batch p E Completed near ready is = absurd (subst (λ h. leads_by h later (finish (batched batch p.first) p.replies).state E) is ready.leads)
-batch_by known later batch p E (Stopped status) near ready is = absurd (subst (λ h. leads_by h later (finish (batched batch p.first) p.replies).state E) is ready.leads)
 batch_by known later batch p E Goes_on near ready is =
     let f = finish (batched batch p.first) p.replies in
     let ahead : Sets later f.state E = subst (λ h. leads_by h later f.state E) is ready.leads in
@@ -246,17 +244,9 @@ batch_by known later batch p E Goes_on near ready is =
     (λ k. absurd (filled.fresh n h k.1.0 (ap (saved_value n) ((filled.there n h).1 ∙ sym (at_end n h).1) ∙ k.1.1))) (near.saved n (names_cached batch n h)) in
     let all : AllThere batch p.second = λ n h. let v = at_end n h in (v.0, saved n h ∙ v.1) in
     let c = cached_run batch p.second all in
-    record {
-      first = is;
-      state = refl;
-      left = refl;
-      took = refl;
-      second = ap (λ r. (finish r p.again).how) c.is;
-      state2 = refl;
-      left2 = refl;
-      near = subst (λ x. Near (names_in batch ++ known) f.state x E) (sym (ap (λ r. (finish r p.again).state) c.is))
-          (batch_near known batch p.first p.second E f.state c.end near filled (λ n h. (filled.there n h).1 ∙ sym (at_end n h).1) saved c.vars c.defined);
-    }
+    passed (names_in batch ++ known) E f (finish (batched batch p.second) p.again) is (ap (λ r. (finish r p.again).how) c.is)
+    (subst (λ x. Near (names_in batch ++ known) f.state x E) (sym (ap (λ r. (finish r p.again).state) c.is))
+    (batch_near known batch p.first p.second E f.state c.end near filled (λ n h. (filled.there n h).1 ∙ sym (at_end n h).1) saved c.vars c.defined))
 batch_by known later batch p E Cut near ready is =
     let f = finish (batched batch p.first) p.replies in
     let s = finish (batched batch p.second) p.again in
@@ -282,6 +272,7 @@ batch_by known later batch p E Cut near ready is =
           (subst (λ x. Mended batch p.first (joint_entries batch (asking batch 1 [] batch.entries p.first) x (asking batch 1 [] batch.entries p.second) (take (length jobs2) p.again) ++ drop (length jobs2) p.again) s) (sym (ap (λ x. x.taken) d.is)) whole)),
     ))
     (cases_Bool (lacks_compiler p.first))
+batch_by known later batch p E how near ready is = absurd (subst (λ h. leads_by h later (finish (batched batch p.first) p.replies).state E) is ready.leads)
 
 pub batch_part : (tested known : List (List ℕ)) (batch : Batch) (fits : List (List ℕ) → Type 0) → ReadsBatch tested batch → IsPart known (names_in batch ++ known) (names_in batch) (batched batch) (joint_batch batch) (λ p. Unit {0}) fits
 batch_part tested known batch fits r = record {

@@ -5,7 +5,7 @@ use Rattle.shellword.specs.declared.part.Part.{Part}
 use Rattle.shellword.specs.Value.{word_value}
 use Rattle.syntax.specs.declared.statement.Plain as plain
 use Rattle.syntax.specs.declared.statement.Plain.TheVariants.{Assign}
-use Rattle.syntax.specs.declared.statement.Question.TheVariants.{Given, Tries, Checks, ChecksEach, Library, Libraries}
+use Rattle.syntax.specs.declared.statement.Question.TheVariants.{Tries}
 use Rattle.syntax.specs.declared.tree.Subject.{Subject}
 use Rattle.syntax.specs.declared.tree.Subject.TheVariants.{Nothing, Word, Asked}
 use Rattle.syntax.specs.Commands.{AssignsAlone, TriesAlone, AreCommands, AreCommandsIn}
@@ -28,11 +28,7 @@ none_at : (subject : Subject) → TriesAlone subject → tests_at subject ≡ []
 none_at Nothing a = refl
 none_at (Word word) a = refl
 none_at (Asked (Tries kind program)) a = refl
-none_at (Asked (Given kind variable help)) a = absurd a
-none_at (Asked (Checks sought entry includes)) a = absurd a
-none_at (Asked (ChecksEach sought entries includes)) a = absurd a
-none_at (Asked (Library library function others adds)) a = absurd a
-none_at (Asked (Libraries function libraries others)) a = absurd a
+none_at (Asked _) a = absurd a
 
 command_like : (at : List ℕ → Type 0) (own : Option (List ℕ)) (names : List (List ℕ)) (name : List ℕ) (s : plain.Plain) (x y : State) → Reads at names → AssignsAlone name s → ResumablePlain own names s → Alike at x y → Like at (effect s x) (effect s y)
 unfolding effect
@@ -50,11 +46,7 @@ ask_like at own names (Word word) s t go reads a r h k =
 ask_like at own names (Asked (Tries kind program)) s t go reads a r h k =
     like_then at (tried as_is kind (text_of program s.vars) s (λ passed. go (answered passed))) (tried as_is kind (text_of program t.vars) t (λ passed. go (answered passed))) _ _
     (tried_like at names kind program s t (λ passed. go (answered passed)) (λ passed. go (answered passed)) reads r.1 h (λ b x y l. k (answered b) x y l)) (λ x y l. (refl, l))
-ask_like at own names (Asked (Given kind variable help)) s t go reads a r h k = absurd a
-ask_like at own names (Asked (Checks sought entry includes)) s t go reads a r h k = absurd a
-ask_like at own names (Asked (ChecksEach sought entries includes)) s t go reads a r h k = absurd a
-ask_like at own names (Asked (Library library function others adds)) s t go reads a r h k = absurd a
-ask_like at own names (Asked (Libraries function libraries others)) s t go reads a r h k = absurd a
+ask_like at own names (Asked _) s t go reads a r h k = absurd a
 
 mutual
   unfolding meaning chosen

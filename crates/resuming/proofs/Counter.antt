@@ -1,6 +1,6 @@
 -- Why each premise of the law is there: without it, the second run ends otherwise than the joint one. In each example the first
 -- run is cut in a test of the function g.
-use Rattle.std.proofs.Common.{◌≡◌, ℕ, codes, List, [], ◌∷◌, map, false, Some, None, refl}
+use Rattle.std.proofs.Common.{◌≡◌, ℕ, codes, List, [], ◌∷◌, map, false, Option, Some, None, refl}
 use Rattle.crew_trait.specs.declared.reply.Reply.{Reply}
 use Rattle.crew_trait.specs.declared.reply.Reply.TheVariants.{Answer, StartRefused}
 use Rattle.deftable.specs.Table.{value_of, with_entry, without_entry}
@@ -28,14 +28,6 @@ use Rattle.resuming.specs.Joint.{joint, joint_cases, joint_plain, begins, scope_
 
 abbrev pub vars_with : List (List ℕ × List ℕ) → State
 vars_with more = opened ((codes "CC", codes "cc") ∷ (codes "PATH", codes "/b") ∷ more)
-
--- The ends of the joint run and of the second.
-abbrev joint_end : Script → List Reply → State → List Reply → State
-joint_end s replies second again =
-    (finish (meaning s (vars_with [])) (joint_replies (joint s (record { first = vars_with []; replies = replies; second = second; again = again })))).state
-
-abbrev second_end : Script → State → List Reply → State
-second_end s second again = (finish (meaning s second) again).state
 
 abbrev pub good : Reply
 good = Answer 0 []
@@ -86,158 +78,97 @@ maybe rest = Check (text (codes "x")) (codes "v_cv_x") (tries (Case Yes set_v No
 abbrev set_to : List ℕ → Script
 set_to t = sets (codes "v_cv_x") t
 
+-- What the examples compute with.
+unfoldable pub on_values : Unit {0}
+unfolding effect begun is_taken meaning chosen joint joint_cases joint_plain begins scope_at value_of with_entry without_entry words_of job_of truth word_value fields parts_by directories_of parts
+on_values = tt
+
+abbrev variable : List ℕ → State → Option (List ℕ)
+variable name st = value_of st.vars name
+
+abbrev definition : List ℕ → State → Option (List ℕ)
+definition name st = value_of st.defs name
+
+-- The joint run ends with the first of these values, and the second run, which begins with more variables, with the other.
+abbrev Differ : Script → List Reply → List (List ℕ × List ℕ) → List Reply → (State → Option (List ℕ)) → Option (List ℕ) → Option (List ℕ) → Type 0
+Differ s replies more again end joined second =
+    (end (finish (meaning s (vars_with [])) (joint_replies (joint s (record { first = vars_with []; replies = replies; second = vars_with more; again = again })))).state ≡ joined)
+    × (end (finish (meaning s (vars_with more)) again).state ≡ second)
+
 -- A name is read before its test.
-read_early : Script
-read_early = if_set (codes "ac_cv_func_f") (checks (codes "f") No_case cut_here)
-
-read_early_joint : value_of (joint_end read_early (good ∷ StartRefused ∷ []) (vars_with f_is) (good ∷ [])).vars (codes "x") ≡ None
-unfolding read_early effect begun is_taken meaning chosen joint joint_cases joint_plain begins scope_at value_of with_entry without_entry words_of job_of truth word_value fields parts_by directories_of parts
-read_early_joint = refl
-
-read_early_second : value_of (second_end read_early (vars_with f_is) (good ∷ [])).vars (codes "x") ≡ Some (codes "1")
-unfolding read_early effect begun is_taken meaning chosen value_of with_entry without_entry words_of job_of truth word_value fields parts_by directories_of parts
-read_early_second = refl
+read_early : Differ (if_set (codes "ac_cv_func_f") (checks (codes "f") No_case cut_here))
+    (good ∷ StartRefused ∷ []) f_is (good ∷ []) (variable (codes "x")) None (Some (codes "1"))
+unfolding on_values
+read_early = (refl, refl)
 
 -- A test inside a case does not count after it.
-read_after_case : Script
-read_after_case = Choice Nothing (Case (Holds (single (record { negated = false; condition = Nonempty (value (codes "v")) }))) (checks (codes "f") No_case Done) No_case) (if_set (codes "ac_cv_func_f") (checks (codes "f") No_case cut_here))
-
-read_after_case_joint : value_of (joint_end read_after_case (good ∷ StartRefused ∷ []) (vars_with f_is) (good ∷ [])).vars (codes "x") ≡ None
-unfolding read_after_case effect begun is_taken meaning chosen joint joint_cases joint_plain begins scope_at value_of with_entry without_entry words_of job_of truth word_value fields parts_by directories_of parts
-read_after_case_joint = refl
-
-read_after_case_second : value_of (second_end read_after_case (vars_with f_is) (good ∷ [])).vars (codes "x") ≡ Some (codes "1")
-unfolding read_after_case effect begun is_taken meaning chosen value_of with_entry without_entry words_of job_of truth word_value fields parts_by directories_of parts
-read_after_case_second = refl
+read_after_case : Differ (Choice Nothing (Case (Holds (single (record { negated = false; condition = Nonempty (value (codes "v")) }))) (checks (codes "f") No_case Done) No_case) (if_set (codes "ac_cv_func_f") (checks (codes "f") No_case cut_here)))
+    (good ∷ StartRefused ∷ []) f_is (good ∷ []) (variable (codes "x")) None (Some (codes "1"))
+unfolding on_values
+read_after_case = (refl, refl)
 
 -- In the actions of a list the name of a later entry is read.
-read_later_entry : Script
-read_later_entry = Choice (Asked (ChecksEach (Entry Function) (codes "f" ∷ codes "h" ∷ []) None)) (Case Yes (if_set (codes "ac_cv_func_h") Done) No_case) cut_here
-
-read_later_entry_joint : value_of (joint_end read_later_entry (good ∷ bad ∷ StartRefused ∷ []) (vars_with ((codes "ac_cv_func_f", codes "yes") ∷ (codes "ac_cv_func_h", codes "no") ∷ [])) (good ∷ [])).vars (codes "x") ≡ None
-unfolding read_later_entry effect begun is_taken meaning chosen joint joint_cases joint_plain begins scope_at value_of with_entry without_entry words_of job_of truth word_value fields parts_by directories_of parts
-read_later_entry_joint = refl
-
-read_later_entry_second : value_of (second_end read_later_entry (vars_with ((codes "ac_cv_func_f", codes "yes") ∷ (codes "ac_cv_func_h", codes "no") ∷ [])) (good ∷ [])).vars (codes "x") ≡ Some (codes "1")
-unfolding read_later_entry effect begun is_taken meaning chosen value_of with_entry without_entry words_of job_of truth word_value fields parts_by directories_of parts
-read_later_entry_second = refl
+read_later_entry : Differ (Choice (Asked (ChecksEach (Entry Function) (codes "f" ∷ codes "h" ∷ []) None)) (Case Yes (if_set (codes "ac_cv_func_h") Done) No_case) cut_here)
+    (good ∷ bad ∷ StartRefused ∷ []) ((codes "ac_cv_func_f", codes "yes") ∷ (codes "ac_cv_func_h", codes "no") ∷ []) (good ∷ []) (variable (codes "x")) None (Some (codes "1"))
+unfolding on_values
+read_later_entry = (refl, refl)
 
 -- A test's name is assigned.
-assigned_late : Script
-assigned_late = checks (codes "f") No_case (Then (Assign (codes "x") (value (codes "ac_cv_func_f"))) (Then (Assign (codes "ac_cv_func_f") (text (codes "q"))) cut_here))
-
-assigned_late_joint : value_of (joint_end assigned_late (good ∷ StartRefused ∷ []) (vars_with ((codes "ac_cv_func_f", codes "q") ∷ [])) (good ∷ [])).vars (codes "x") ≡ Some (codes "yes")
-unfolding assigned_late effect begun is_taken meaning chosen joint joint_cases joint_plain begins scope_at value_of with_entry without_entry words_of job_of truth word_value fields parts_by directories_of parts
-assigned_late_joint = refl
-
-assigned_late_second : value_of (second_end assigned_late (vars_with ((codes "ac_cv_func_f", codes "q") ∷ [])) (good ∷ [])).vars (codes "x") ≡ Some (codes "q")
-unfolding assigned_late effect begun is_taken meaning chosen value_of with_entry without_entry words_of job_of truth word_value fields parts_by directories_of parts
-assigned_late_second = refl
+assigned_late : Differ (checks (codes "f") No_case (Then (Assign (codes "x") (value (codes "ac_cv_func_f"))) (Then (Assign (codes "ac_cv_func_f") (text (codes "q"))) cut_here)))
+    (good ∷ StartRefused ∷ []) ((codes "ac_cv_func_f", codes "q") ∷ []) (good ∷ []) (variable (codes "x")) (Some (codes "yes")) (Some (codes "q"))
+unfolding on_values
+assigned_late = (refl, refl)
 
 -- Commands set another variable.
-sets_more : Script
-sets_more = Check (text (codes "x")) (codes "v_cv_x") (Then (Assign (codes "x") (text (codes "1"))) set_v) cut_here
-
-sets_more_joint : value_of (joint_end sets_more (StartRefused ∷ []) (vars_with v_is) (good ∷ [])).vars (codes "x") ≡ Some (codes "1")
-unfolding sets_more effect begun is_taken meaning chosen joint joint_cases joint_plain begins scope_at value_of with_entry without_entry words_of job_of truth word_value fields parts_by directories_of parts
-sets_more_joint = refl
-
-sets_more_second : value_of (second_end sets_more (vars_with v_is) (good ∷ [])).vars (codes "x") ≡ None
-unfolding sets_more effect begun is_taken meaning chosen value_of with_entry without_entry words_of job_of truth word_value fields parts_by directories_of parts
-sets_more_second = refl
+sets_more : Differ (Check (text (codes "x")) (codes "v_cv_x") (Then (Assign (codes "x") (text (codes "1"))) set_v) cut_here)
+    (StartRefused ∷ []) v_is (good ∷ []) (variable (codes "x")) (Some (codes "1")) None
+unfolding on_values
+sets_more = (refl, refl)
 
 -- Commands define a name.
-defines_inside : Script
-defines_inside = Check (text (codes "x")) (codes "v_cv_x") (Then (Define (codes "D") (codes "1")) set_v) cut_here
-
-defines_inside_joint : value_of (joint_end defines_inside (StartRefused ∷ []) (vars_with v_is) (good ∷ [])).defs (codes "D") ≡ Some (codes "1")
-unfolding defines_inside effect begun is_taken meaning chosen joint joint_cases joint_plain begins scope_at value_of with_entry without_entry words_of job_of truth word_value fields parts_by directories_of parts
-defines_inside_joint = refl
-
-defines_inside_second : value_of (second_end defines_inside (vars_with v_is) (good ∷ [])).defs (codes "D") ≡ None
-unfolding defines_inside effect begun is_taken meaning chosen value_of with_entry without_entry words_of job_of truth word_value fields parts_by directories_of parts
-defines_inside_second = refl
+defines_inside : Differ (Check (text (codes "x")) (codes "v_cv_x") (Then (Define (codes "D") (codes "1")) set_v) cut_here)
+    (StartRefused ∷ []) v_is (good ∷ []) (definition (codes "D")) (Some (codes "1")) None
+unfolding on_values
+defines_inside = (refl, refl)
 
 -- Commands make a test.
-tests_inside : Script
-tests_inside = Check (text (codes "x")) (codes "v_cv_x") (Choice (Asked (ChecksEach (Entry Function) (codes "f" ∷ []) None)) No_case set_v) cut_here
-
-tests_inside_joint : value_of (joint_end tests_inside (good ∷ StartRefused ∷ []) (vars_with ((codes "v_cv_x", codes "1") ∷ f_is)) (good ∷ [])).defs (codes "HAVE_F") ≡ Some (codes "1")
-unfolding tests_inside effect begun is_taken meaning chosen joint joint_cases joint_plain begins scope_at value_of with_entry without_entry words_of job_of truth word_value fields parts_by directories_of parts
-tests_inside_joint = refl
-
-tests_inside_second : value_of (second_end tests_inside (vars_with ((codes "v_cv_x", codes "1") ∷ f_is)) (good ∷ [])).defs (codes "HAVE_F") ≡ None
-unfolding tests_inside effect begun is_taken meaning chosen value_of with_entry without_entry words_of job_of truth word_value fields parts_by directories_of parts
-tests_inside_second = refl
+tests_inside : Differ (Check (text (codes "x")) (codes "v_cv_x") (Choice (Asked (ChecksEach (Entry Function) (codes "f" ∷ []) None)) No_case set_v) cut_here)
+    (good ∷ StartRefused ∷ []) ((codes "v_cv_x", codes "1") ∷ f_is) (good ∷ []) (definition (codes "HAVE_F")) (Some (codes "1")) None
+unfolding on_values
+tests_inside = (refl, refl)
 
 -- A program is tried outside AC_CACHE_CHECK.
-tries_outside : Script
-tries_outside = tries (Case Yes set_x No_case) cut_here
-
-tries_outside_joint : value_of (joint_end tries_outside (good ∷ StartRefused ∷ []) (vars_with []) (bad ∷ good ∷ [])).vars (codes "x") ≡ Some (codes "1")
-unfolding tries_outside effect begun is_taken meaning chosen joint joint_cases joint_plain begins scope_at value_of with_entry without_entry words_of job_of truth word_value fields parts_by directories_of parts
-tries_outside_joint = refl
-
-tries_outside_second : value_of (second_end tries_outside (vars_with []) (bad ∷ good ∷ [])).vars (codes "x") ≡ None
-unfolding tries_outside effect begun is_taken meaning chosen value_of with_entry without_entry words_of job_of truth word_value fields parts_by directories_of parts
-tries_outside_second = refl
+tries_outside : Differ (tries (Case Yes set_x No_case) cut_here)
+    (good ∷ StartRefused ∷ []) [] (bad ∷ good ∷ []) (variable (codes "x")) (Some (codes "1")) None
+unfolding on_values
+tries_outside = (refl, refl)
 
 -- A test that left its name unset, and a later one of that name.
-tests_twice : Script
-tests_twice = maybe (if_set (codes "v_cv_x") (Check (text (codes "x")) (codes "v_cv_x") set_v cut_here))
-
-tests_twice_joint : value_of (joint_end tests_twice (bad ∷ StartRefused ∷ []) (vars_with v_is) (good ∷ [])).vars (codes "x") ≡ None
-unfolding tests_twice effect begun is_taken meaning chosen joint joint_cases joint_plain begins scope_at value_of with_entry without_entry words_of job_of truth word_value fields parts_by directories_of parts
-tests_twice_joint = refl
-
-tests_twice_second : value_of (second_end tests_twice (vars_with v_is) (good ∷ [])).vars (codes "x") ≡ Some (codes "1")
-unfolding tests_twice effect begun is_taken meaning chosen value_of with_entry without_entry words_of job_of truth word_value fields parts_by directories_of parts
-tests_twice_second = refl
+tests_twice : Differ (maybe (if_set (codes "v_cv_x") (Check (text (codes "x")) (codes "v_cv_x") set_v cut_here)))
+    (bad ∷ StartRefused ∷ []) v_is (good ∷ []) (variable (codes "x")) None (Some (codes "1"))
+unfolding on_values
+tests_twice = (refl, refl)
 
 -- Such a test in the actions of a list with two entries.
-tests_in_rounds : Script
-tests_in_rounds = Choice (Asked (ChecksEach (Entry Function) (codes "f" ∷ codes "h" ∷ []) None)) (Case Always (maybe (Choice Nothing (Case (Holds (single (record { negated = false; condition = Nonempty (value (codes "v_cv_x")) }))) Done (Case Always set_x No_case)) Done)) No_case) cut_here
-
-tests_in_rounds_joint : value_of (joint_end tests_in_rounds (good ∷ bad ∷ good ∷ good ∷ StartRefused ∷ []) (vars_with ((codes "ac_cv_func_f", codes "yes") ∷ (codes "ac_cv_func_h", codes "yes") ∷ v_is)) (good ∷ [])).vars (codes "x") ≡ Some (codes "1")
-unfolding tests_in_rounds effect begun is_taken meaning chosen joint joint_cases joint_plain begins scope_at value_of with_entry without_entry words_of job_of truth word_value fields parts_by directories_of parts
-tests_in_rounds_joint = refl
-
-tests_in_rounds_second : value_of (second_end tests_in_rounds (vars_with ((codes "ac_cv_func_f", codes "yes") ∷ (codes "ac_cv_func_h", codes "yes") ∷ v_is)) (good ∷ [])).vars (codes "x") ≡ None
-unfolding tests_in_rounds effect begun is_taken meaning chosen value_of with_entry without_entry words_of job_of truth word_value fields parts_by directories_of parts
-tests_in_rounds_second = refl
+tests_in_rounds : Differ (Choice (Asked (ChecksEach (Entry Function) (codes "f" ∷ codes "h" ∷ []) None)) (Case Always (maybe (Choice Nothing (Case (Holds (single (record { negated = false; condition = Nonempty (value (codes "v_cv_x")) }))) Done (Case Always set_x No_case)) Done)) No_case) cut_here)
+    (good ∷ bad ∷ good ∷ good ∷ StartRefused ∷ []) ((codes "ac_cv_func_f", codes "yes") ∷ (codes "ac_cv_func_h", codes "yes") ∷ v_is) (good ∷ []) (variable (codes "x")) (Some (codes "1")) None
+unfolding on_values
+tests_in_rounds = (refl, refl)
 
 -- A test that left its name unset gets another reply.
-other_reply : Script
-other_reply = maybe cut_here
-
-other_reply_joint : value_of (joint_end other_reply (bad ∷ StartRefused ∷ []) (vars_with []) (good ∷ good ∷ [])).vars (codes "v_cv_x") ≡ None
-unfolding other_reply effect begun is_taken meaning chosen joint joint_cases joint_plain begins scope_at value_of with_entry without_entry words_of job_of truth word_value fields parts_by directories_of parts
-other_reply_joint = refl
-
-other_reply_second : value_of (second_end other_reply (vars_with []) (good ∷ good ∷ [])).vars (codes "v_cv_x") ≡ Some (codes "1")
-unfolding other_reply effect begun is_taken meaning chosen value_of with_entry without_entry words_of job_of truth word_value fields parts_by directories_of parts
-other_reply_second = refl
+other_reply : Differ (maybe cut_here)
+    (bad ∷ StartRefused ∷ []) [] (good ∷ good ∷ []) (variable (codes "v_cv_x")) None (Some (codes "1"))
+unfolding on_values
+other_reply = (refl, refl)
 
 -- A value with a newline is not saved, and another reply gives another value.
-other_value : Script
-other_value = Check (text (codes "x")) (codes "v_cv_x") (tries (Case Yes (set_to (codes "a\nb")) (Case Always (set_to (codes "c")) No_case)) Done) cut_here
-
-other_value_joint : value_of (joint_end other_value (good ∷ StartRefused ∷ []) (vars_with []) (bad ∷ good ∷ [])).vars (codes "v_cv_x") ≡ Some (codes "a\nb")
-unfolding other_value effect begun is_taken meaning chosen joint joint_cases joint_plain begins scope_at value_of with_entry without_entry words_of job_of truth word_value fields parts_by directories_of parts
-other_value_joint = refl
-
-other_value_second : value_of (second_end other_value (vars_with []) (bad ∷ good ∷ [])).vars (codes "v_cv_x") ≡ Some (codes "c")
-unfolding other_value effect begun is_taken meaning chosen value_of with_entry without_entry words_of job_of truth word_value fields parts_by directories_of parts
-other_value_second = refl
+other_value : Differ (Check (text (codes "x")) (codes "v_cv_x") (tries (Case Yes (set_to (codes "a\nb")) (Case Always (set_to (codes "c")) No_case)) Done) cut_here)
+    (good ∷ StartRefused ∷ []) [] (bad ∷ good ∷ []) (variable (codes "v_cv_x")) (Some (codes "a\nb")) (Some (codes "c"))
+unfolding on_values
+other_value = (refl, refl)
 
 -- The variable of a program is no shell name, so the name of its test is no cache name.
-no_name : Script
-no_name = Then (CheckProg (codes "a-b") (codes "p") (text (codes "1")) None) cut_here
-
-no_name_joint : value_of (joint_end no_name (good ∷ StartRefused ∷ []) (vars_with []) (bad ∷ good ∷ [])).vars (codes "a-b") ≡ Some (codes "1")
-unfolding no_name effect begun is_taken meaning chosen joint joint_cases joint_plain begins scope_at value_of with_entry without_entry words_of job_of truth word_value fields parts_by directories_of parts
-no_name_joint = refl
-
-no_name_second : value_of (second_end no_name (vars_with []) (bad ∷ good ∷ [])).vars (codes "a-b") ≡ Some []
-unfolding no_name effect begun is_taken meaning chosen value_of with_entry without_entry words_of job_of truth word_value fields parts_by directories_of parts
-no_name_second = refl
+no_name : Differ (Then (CheckProg (codes "a-b") (codes "p") (text (codes "1")) None) cut_here)
+    (good ∷ StartRefused ∷ []) [] (bad ∷ good ∷ []) (variable (codes "a-b")) (Some (codes "1")) (Some [])
+unfolding on_values
+no_name = (refl, refl)

@@ -6,11 +6,7 @@ use Rattle.cachefile.specs.Text.{saved_value}
 use Rattle.crew_trait.specs.declared.reply.Reply.{Reply}
 use Rattle.crew_trait.specs.declared.reply.Reply.TheVariants.{StartRefused}
 use Rattle.deftable.specs.CacheName.{is_cache_name, has_cv}
-use Rattle.deftable.specs.Table.{value_of, with_entry, without_entry}
-use Rattle.jobs.specs.Probe.{words_of, job_of}
-use Rattle.shellword.specs.Truth.{truth}
-use Rattle.shellword.specs.Value.{word_value}
-use Rattle.textcut.specs.Cuts.{fields, parts_by}
+use Rattle.deftable.specs.Table.{value_of}
 use Rattle.syntax.specs.declared.listed.Listed.TheVariants.{Header, Function}
 use Rattle.syntax.specs.declared.listed.Sought.TheVariants.{Entry}
 use Rattle.syntax.specs.declared.statement.Plain.TheVariants.{Batch, DefineUnquoted}
@@ -20,16 +16,16 @@ use Rattle.syntax.specs.declared.tree.When.TheVariants.{Yes}
 use Rattle.syntax.specs.Script.{Script, Done, Then, Choice, No_case, Case}
 use Rattle.meaning.specs.State.{Goes_on, Cut}
 use Rattle.meaning.specs.Play.{all_jobs}
-use Rattle.meaning.specs.Meaning.{effect, begun, is_taken, meaning, chosen}
+use Rattle.meaning.specs.Meaning.{meaning}
 use Rattle.laws.proofs.Values.{same_text}
 use Rattle.resuming.specs.Finished.{finish}
 use Rattle.resuming.specs.Poured.{poured}
-use Rattle.resuming.specs.Joint.{joint, joint_cases, joint_plain, begins, scope_at, joint_replies}
+use Rattle.resuming.specs.Joint.{joint, joint_replies}
 use Rattle.resuming.specs.Same.{SameAgain, SameCases}
 use Rattle.resuming.specs.Law.{Begun}
 use Rattle.resuming.specs.Plays.{played, StartedAgain}
 use Rattle.resuming.specs.Asked.{tests_made, tests_made_in}
-use Rattle.resuming.proofs.Counter.{vars_with, good, bad, value, sets, if_set, maybe, f_is}
+use Rattle.resuming.proofs.Counter.{on_values, vars_with, good, bad, value, sets, if_set, maybe, f_is}
 
 abbrev example : Script
 example = Then (Batch Function (codes "f" ∷ codes "g" ∷ codes "f" ∷ []) None)
@@ -68,7 +64,7 @@ unfolding is_cache_name has_cv
 f_cached n e = ap (λ x. is_cache_name x && true) (same_text n (codes "ac_cv_func_f") e)
 
 premises : Begun example (vars_with []) (vars_with f_is) replies again
-unfolding effect begun is_taken meaning chosen joint joint_cases joint_plain begins scope_at SameAgain SameCases value_of with_entry without_entry words_of job_of truth word_value fields parts_by is_cache_name has_cv
+unfolding on_values SameAgain SameCases is_cache_name has_cv
 premises = record {
   resumable = (
     tt,
@@ -96,12 +92,12 @@ premises = record {
 }
 
 joint_is : joint_replies (joint example (record { first = vars_with []; replies = replies; second = vars_with f_is; again = again })) ≡ good ∷ bad ∷ good ∷ bad ∷ good ∷ []
-unfolding effect begun is_taken meaning chosen joint joint_cases joint_plain begins scope_at value_of with_entry without_entry words_of job_of truth word_value fields parts_by
+unfolding on_values
 joint_is = refl
 
 -- So can those of the law for whole runs.
 whole_premises : StartedAgain example (vars_with []) (vars_with f_is) replies again
-unfolding effect begun is_taken meaning chosen joint joint_cases joint_plain begins scope_at SameAgain SameCases value_of with_entry without_entry words_of job_of truth word_value fields parts_by is_cache_name has_cv
+unfolding on_values SameAgain SameCases is_cache_name has_cv
 whole_premises = record {
   resumable = premises.resumable;
   commands = premises.commands;
@@ -125,22 +121,17 @@ abbrev header_is : List (List ℕ × List ℕ)
 header_is = (codes "ac_cv_header_a_h", codes "yes") ∷ []
 
 two_joint : joint_replies (joint two_tests (record { first = vars_with []; replies = good ∷ StartRefused ∷ []; second = vars_with header_is; again = good ∷ [] })) ≡ good ∷ good ∷ []
-unfolding effect begun is_taken meaning chosen joint joint_cases joint_plain begins scope_at value_of with_entry without_entry words_of job_of truth word_value fields parts_by
+unfolding on_values
 two_joint = refl
 
-two_jobs : length (all_jobs (played two_tests (vars_with header_is) (good ∷ [])).groups) ≡ 1
-unfolding effect begun is_taken meaning chosen value_of with_entry without_entry words_of job_of truth word_value fields parts_by
-two_jobs = refl
-
-two_x : value_of (played two_tests (vars_with header_is) (good ∷ [])).state.vars (codes "x") ≡ Some (codes "1")
-unfolding effect begun is_taken meaning chosen value_of with_entry without_entry words_of job_of truth word_value fields parts_by
-two_x = refl
-
-two_y : value_of (played two_tests (vars_with header_is) (good ∷ [])).state.vars (codes "y") ≡ Some (codes "1")
-unfolding effect begun is_taken meaning chosen value_of with_entry without_entry words_of job_of truth word_value fields parts_by
-two_y = refl
+-- The second run asks for one job, and sets both variables.
+two_again : (length (all_jobs (played two_tests (vars_with header_is) (good ∷ [])).groups) ≡ 1)
+    × ((value_of (played two_tests (vars_with header_is) (good ∷ [])).state.vars (codes "x") ≡ Some (codes "1"))
+    × (value_of (played two_tests (vars_with header_is) (good ∷ [])).state.vars (codes "y") ≡ Some (codes "1")))
+unfolding on_values
+two_again = (refl, (refl, refl))
 
 -- The second run makes the test of the function alone.
 two_made : tests_made two_tests (vars_with header_is) (good ∷ []) ≡ codes "ac_cv_func_f" ∷ []
-unfolding effect begun is_taken meaning chosen tests_made tests_made_in value_of with_entry without_entry words_of job_of truth word_value fields parts_by
+unfolding on_values tests_made tests_made_in
 two_made = refl

@@ -5,9 +5,9 @@ use Rattle.jobs.specs.declared.job.Job.{Job}
 use Rattle.deftable.specs.Table.{value_of}
 use Rattle.shellword.specs.declared.part.Part.{Part}
 use Rattle.syntax.specs.Commands.{AreCommands}
-use Rattle.syntax.specs.Resumable.{Among, IsOrdinary, MayRead, Resumable}
+use Rattle.syntax.specs.Resumable.{IsOrdinary, MayRead, Resumable}
 use Rattle.syntax.specs.Script.{Script}
-use Rattle.meaning.specs.State.{State, with_definition, How, Goes_on, Completed, Stopped, Cut, Run, Ends, as_is}
+use Rattle.meaning.specs.State.{State, with_definition, How, Goes_on, Run, Ends, as_is}
 use Rattle.meaning.specs.Asking.{success, only_reply, compiled, same, Attempt}
 use Rattle.meaning.specs.Tests.{Test, broken, checking, cached_test, Row, tested_by, may_begin, tested, with_value, by_attempts}
 use Rattle.meaning.specs.Rows.{Kind, Program, Single, Sized, Library, Libraries, is_yes, is_linked, symbol_part, with_library, with_library_if, with_linked, name_of, attempts_of, attempts_with, libraries_after, otherwise_of, after_of, row_of}
@@ -20,9 +20,9 @@ use Rattle.laws.proofs.CachedTests.{set_cached, set_row_asks_nothing, broken_end
 use Rattle.laws.proofs.BatchEntries.{if_alone, entry_alone}
 use Rattle.laws.proofs.CommandLemmas.{OwnOnly, own_unset, broken_defs, row_alone, commands_write_alone}
 use Rattle.resuming.specs.Joint.{checks}
-use Rattle.resuming.proofs.Near.{IsCached, Alike, Every, Like}
+use Rattle.resuming.proofs.Near.{Within, IsCached, Alike, Every, Like}
 use Rattle.resuming.proofs.Names.{value_else, cached_apart, libs_plain}
-use Rattle.resuming.proofs.Liking.{Reads, ReadsKind, row_like, after_alike}
+use Rattle.resuming.proofs.Liking.{Reads, wider_reads, ReadsKind, row_like, after_alike}
 use Rattle.resuming.proofs.CommandLiking.{check_like}
 
 -- No name but its own was written since, and nothing was defined.
@@ -60,15 +60,11 @@ Still before now = (n : List ℕ) → IsCached n → value_of now.vars n ≡ val
 
 abbrev pub Form : (Option (List ℕ) → State → State) → List ℕ → State → How → State → Type 0
 Form after name before Goes_on now = Went after name before now
-Form after name before Completed now = Still before now
-Form after name before (Stopped status) now = Still before now
-Form after name before Cut now = Still before now
+Form after name before how now = Still before now
 
 pub form_off : (after : Option (List ℕ) → State → State) (name : List ℕ) (before : State) (how : How) (now : State) → Breaks how → Still before now → Form after name before how now
 form_off after name before Goes_on now breaks h = absurd (breaks refl)
-form_off after name before Completed now breaks h = h
-form_off after name before (Stopped s) now breaks h = h
-form_off after name before Cut now breaks h = h
+form_off after name before _ now breaks h = h
 
 -- The run asks for nothing, and ends like this state.
 pub record Follows (run : Run) (state : State) : Type 0 where
@@ -108,9 +104,7 @@ still_vars before now e n c = ap (λ l. value_of l n) e
 
 form_of : (after : Option (List ℕ) → State → State) (name : List ℕ) (before : State) → ((o : Option (List ℕ)) (st : State) → after o st ≡ st) → (how : How) (now : State) → Middle name before how now → Form after name before how now
 form_of after name before id Goes_on now m = record { mid = now; own = own_from name before now m.0; is = subst (Alike Every now) (sym (id (value_of now.vars name) now)) (alike_refl Every now) }
-form_of after name before id Completed now m = still_vars before now (m.1 (λ e. cc))
-form_of after name before id (Stopped s) now m = still_vars before now (m.1 (λ e. cc))
-form_of after name before id Cut now m = still_vars before now (m.1 (λ e. cc))
+form_of after name before id _ now m = still_vars before now (m.1 (λ e. cc))
 
 pub tested_form : (r : Row) (st : State) → value_of st.vars r.test.name ≡ None → AtEnds (λ how now. OwnOnly r.test.name st now) (r.test.body (checking r.test.message st)) → AtEnds (Form r.after r.test.name st) (tested r st)
 tested_form r st none body = subst (λ o. AtEnds (Form r.after r.test.name st) (tested_by (may_begin o r.ready) r st)) (sym none) (by_ready r.ready)
@@ -168,10 +162,10 @@ row_set kind st v e =
     record { now = after_of kind (Some v) mid; run_is = o.run; is = after_alike Every kind (Some v) mid st tt (record { defs = refl; value = λ n k. refl }) }
 
 -- What may be read with less known may be read with more.
-pub reads_more : (tested known : List (List ℕ)) (name : List ℕ) → ((n : List ℕ) → Among n tested → Among n known) → Reads (MayRead (name ∷ known)) tested
-reads_more tested known name w n r = ⊎_elim (λ p. inl p) (λ a. inr (inr (w n a))) r
+pub reads_more : (tested known : List (List ℕ)) (name : List ℕ) → Within tested known → Reads (MayRead (name ∷ known)) tested
+reads_more tested known name w = wider_reads tested (name ∷ known) (λ n a. inr (w n a))
 
-pub row_test : (tested_before known : List (List ℕ)) (kind : Kind) → ((n : List ℕ) → Among n tested_before → Among n known) → IsCached (name_of kind) → PlainKind kind → ReadsKind tested_before kind → IsTest known (name_of kind) (after_of kind) (λ st. tested (row_of kind st) st)
+pub row_test : (tested_before known : List (List ℕ)) (kind : Kind) → Within tested_before known → IsCached (name_of kind) → PlainKind kind → ReadsKind tested_before kind → IsTest known (name_of kind) (after_of kind) (λ st. tested (row_of kind st) st)
 row_test tested_before known kind w c p r = record {
   cached = c;
   set = λ st v e. row_set kind st v e;
@@ -187,7 +181,7 @@ row_test tested_before known kind w c p r = record {
 abbrev pub nothing_after : Option (List ℕ) → State → State
 nothing_after o st = st
 
-pub check_test : (own : Option (List ℕ)) (tested_before known : List (List ℕ)) (message : List Part) (name : List ℕ) (commands : Script) → ((n : List ℕ) → Among n tested_before → Among n known) → IsCached name → AreCommands name commands → Resumable own tested_before commands
+pub check_test : (own : Option (List ℕ)) (tested_before known : List (List ℕ)) (message : List Part) (name : List ℕ) (commands : Script) → Within tested_before known → IsCached name → AreCommands name commands → Resumable own tested_before commands
     → IsTest known name nothing_after (checks message name (meaning commands))
 check_test own tested_before known message name commands w c a r = record {
   cached = c;

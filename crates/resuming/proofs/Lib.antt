@@ -1,6 +1,6 @@
 pub mod Near
-mod Names
-mod Runs
+pub mod Names
+pub mod Runs
 mod Liking
 mod CommandLiking
 mod Forms

@@ -1,10 +1,11 @@
 -- States that are alike have runs that are alike: attempts, tests, and the commands of AC_CACHE_CHECK.
-use Rattle.std.proofs.Common.{◌≡◌, ℕ, List, [], ◌∷◌, ◌++◌, codes, Bool, true, false, cond, length, take, drop, Option, Some, None, inl, refl, sym, ap, ◌∙◌, subst, ⊎_elim}
+use Rattle.std.proofs.Common.{◌≡◌, ℕ, List, [], ◌∷◌, ◌++◌, codes, Bool, true, false, cond, length, take, drop, Option, Some, None, inl, inr, refl, sym, ap, ◌∙◌, subst, ⊎_elim}
 use Rattle.std.specs.Prelude.{is_some, unwrap_or, not, ◌&&◌, bytes_eq, ◌==◌}
 use Rattle.jobs.specs.declared.job.Job.{Job}
 use Rattle.jobs.specs.Probe as probe
 use Rattle.jobs.specs.Probe.{words_of, compile_words, link_words, link_words_with, preprocessor, preprocess_words, job_if, run_of, job_of}
 use Rattle.crew_trait.specs.declared.reply.Reply.{Reply}
+use Rattle.deftable.specs.CacheName.{is_cache_name, has_cv}
 use Rattle.deftable.specs.Table.{value_of, with_entry, without_entry}
 use Rattle.shellword.specs.declared.element.Condition.{Condition}
 use Rattle.shellword.specs.declared.element.Condition.TheVariants as conditions
@@ -36,8 +37,8 @@ use Rattle.laws.proofs.Values.{cases_value, value_without, not_same, once_unset,
 use Rattle.laws.proofs.Endings.{ends_attempted}
 use Rattle.laws.proofs.CachedTests.{set_cached, unset_cached}
 use Rattle.resuming.specs.Finished.{Finished, finish, with_taken, Enough}
-use Rattle.resuming.proofs.Near.{Alike, Like}
-use Rattle.resuming.proofs.Names.{same_or_not, value_same, cc_plain, cflags_plain, cppflags_plain, ldflags_plain, libs_plain, cpp_plain, path_plain}
+use Rattle.resuming.proofs.Near.{Within, Alike, Like, Both}
+use Rattle.resuming.proofs.Names.{same_or_not, value_same, libs_plain}
 
 -- ---- runs
 
@@ -46,45 +47,26 @@ like_then at (Ends Goes_on s) (Ends Goes_on t) k l e rest = rest s t e.1
 like_then at (Ends Completed s) (Ends Completed t) k l e rest = e
 like_then at (Ends (Stopped x) s) (Ends (Stopped y) t) k l e rest = e
 like_then at (Ends Cut s) (Ends Cut t) k l e rest = e
-like_then at (Ends Goes_on s) (Ends Completed t) k l e rest = let h = e.0 in cc
-like_then at (Ends Goes_on s) (Ends Cut t) k l e rest = let h = e.0 in cc
-like_then at (Ends Goes_on s) (Ends (Stopped y) t) k l e rest = let h = e.0 in cc
-like_then at (Ends Completed s) (Ends Goes_on t) k l e rest = let h = e.0 in cc
-like_then at (Ends Completed s) (Ends Cut t) k l e rest = let h = e.0 in cc
-like_then at (Ends Completed s) (Ends (Stopped y) t) k l e rest = let h = e.0 in cc
-like_then at (Ends Cut s) (Ends Goes_on t) k l e rest = let h = e.0 in cc
-like_then at (Ends Cut s) (Ends Completed t) k l e rest = let h = e.0 in cc
-like_then at (Ends Cut s) (Ends (Stopped y) t) k l e rest = let h = e.0 in cc
-like_then at (Ends (Stopped x) s) (Ends Goes_on t) k l e rest = let h = e.0 in cc
-like_then at (Ends (Stopped x) s) (Ends Completed t) k l e rest = let h = e.0 in cc
-like_then at (Ends (Stopped x) s) (Ends Cut t) k l e rest = let h = e.0 in cc
+like_then at (Ends _ s) (Ends _ t) k l e rest = let h = e.0 in cc
 like_then at (Asks js n) (Asks ks m) k l e rest = (e.0, λ rs. like_then at (n rs) (m rs) k l (e.1 rs) rest)
-like_then at (Ends h a) (Asks ks m) k l e rest = absurd e
-like_then at (Asks js n) (Ends g b) k l e rest = absurd e
+like_then at _ _ k l e rest = absurd e
 
 pub like_cond : (at : List ℕ → Type 0) (b c : Bool) (w x y z : Run) → b ≡ c → Like at w x → Like at y z → Like at (cond b w y) (cond c x z)
 like_cond at true true w x y z e p q = p
 like_cond at false false w x y z e p q = q
-like_cond at true false w x y z e p q = cc
-like_cond at false true w x y z e p q = cc
+like_cond at _ _ w x y z e p q = cc
 
--- Under the same replies.
-pub record Both (at : List ℕ → Type 0) (a b : Finished) : Type 0 where
-  pub how : a.how ≡ b.how
-  pub state : Alike at a.state b.state
-  pub left : a.left ≡ b.left
-
-with_both : (at : List ℕ → Type 0) (x y : List Reply) (f g : Finished) → Both at f g → Both at (with_taken x f) (with_taken y g)
+pub with_both : (at : List ℕ → Type 0) (x y : List Reply) (f g : Finished) → Both at f g → Both at (with_taken x f) (with_taken y g)
 with_both at x y f g h = record { how = h.how; state = h.state; left = h.left }
 
+-- Under the same replies.
 pub like_finish : (at : List ℕ → Type 0) (a b : Run) (rs : List Reply) → Like at a b → Both at (finish a rs) (finish b rs)
 like_finish at (Ends h a) (Ends g b) rs e = record { how = e.0; state = e.1; left = refl }
 like_finish at (Asks js n) (Asks ks m) rs e =
     let same_jobs : Both at (with_taken (take (length js) rs) (finish (n (take (length js) rs)) (drop (length js) rs))) (with_taken (take (length js) rs) (finish (m (take (length js) rs)) (drop (length js) rs))) =
     with_both at _ _ _ _ (like_finish at (n (take (length js) rs)) (m (take (length js) rs)) (drop (length js) rs) (e.1 (take (length js) rs))) in
     subst (λ (k : List Job). Both at (with_taken (take (length js) rs) (finish (n (take (length js) rs)) (drop (length js) rs))) (with_taken (take (length k) rs) (finish (m (take (length k) rs)) (drop (length k) rs)))) e.0 same_jobs
-like_finish at (Ends h a) (Asks ks m) rs e = absurd e
-like_finish at (Asks js n) (Ends g b) rs e = absurd e
+like_finish at _ _ rs e = absurd e
 
 -- Enough replies for one are enough for the other.
 pub like_enough : (at : List ℕ → Type 0) (a b : Run) (rs : List Reply) → Like at a b → Enough b rs → Enough a rs
@@ -156,8 +138,7 @@ broken_alike at name how s t p q h = by_how how
 guarded_like : (at : List ℕ → Type 0) (name : List ℕ) (a b : Run) → AtEnds (λ how now. StandsOnce name now.vars) a → AtEnds (λ how now. StandsOnce name now.vars) b → Like at a b → Like at (guarded name a) (guarded name b)
 guarded_like at name (Ends h s) (Ends g t) p q e = (e.0, subst (λ x. Alike at (broken name h s) (broken name x t)) e.0 (broken_alike at name h s t p q e.1))
 guarded_like at name (Asks js n) (Asks ks m) p q e = (e.0, λ rs. guarded_like at name (n rs) (m rs) (p rs) (q rs) (e.1 rs))
-guarded_like at name (Ends h s) (Asks ks m) p q e = absurd e
-guarded_like at name (Asks js n) (Ends g t) p q e = absurd e
+guarded_like at name _ _ p q e = absurd e
 
 abbrev one_test : List ℕ → List ℕ → (State → Run) → (Option (List ℕ) → List ℕ) → Test
 one_test name message body shown = record { name = name; message = message; body = body; shown = shown }
@@ -186,6 +167,10 @@ cached_like at name m1 m2 body shown s t a once like h =
 -- States that are alike at all that may be read.
 abbrev pub Reads : (List ℕ → Type 0) → List (List ℕ) → Type 0
 Reads at names = (n : List ℕ) → MayRead names n → at n
+
+-- What may be read with these names may be read with more.
+pub wider_reads : (tested known : List (List ℕ)) → Within tested known → Reads (MayRead known) tested
+wider_reads tested known w n r = ⊎_elim (λ x. inl x) (λ x. inr (w n x)) r
 
 pub text_same : (at : List ℕ → Type 0) (names : List (List ℕ)) (text : List Part) (s t : State) → Reads at names → ReadsText names text → Alike at s t → word_value text s.vars ≡ word_value text t.vars
 unfolding word_value
@@ -250,13 +235,14 @@ record SameTools (s t : Variables) : Type 0 where
   cpp : value_of s (codes "CPP") ≡ value_of t (codes "CPP")
 
 tools_same : (at : List ℕ → Type 0) (s t : State) → ((n : List ℕ) → IsOrdinary n → at n) → Alike at s t → SameTools s.vars t.vars
+unfolding is_cache_name has_cv
 tools_same at s t ordinary h = record {
-  cc_is = h.value (codes "CC") (ordinary (codes "CC") cc_plain);
-  cflags = h.value (codes "CFLAGS") (ordinary (codes "CFLAGS") cflags_plain);
-  cppflags = h.value (codes "CPPFLAGS") (ordinary (codes "CPPFLAGS") cppflags_plain);
-  ldflags = h.value (codes "LDFLAGS") (ordinary (codes "LDFLAGS") ldflags_plain);
-  libs = h.value (codes "LIBS") (ordinary (codes "LIBS") libs_plain);
-  cpp = h.value (codes "CPP") (ordinary (codes "CPP") cpp_plain);
+  cc_is = h.value (codes "CC") (ordinary (codes "CC") refl);
+  cflags = h.value (codes "CFLAGS") (ordinary (codes "CFLAGS") refl);
+  cppflags = h.value (codes "CPPFLAGS") (ordinary (codes "CPPFLAGS") refl);
+  ldflags = h.value (codes "LDFLAGS") (ordinary (codes "LDFLAGS") refl);
+  libs = h.value (codes "LIBS") (ordinary (codes "LIBS") refl);
+  cpp = h.value (codes "CPP") (ordinary (codes "CPP") refl);
 }
 
 tools_with : (s t : Variables) (value : List ℕ) → SameTools s t → SameTools (with_entry s (codes "LIBS") value) (with_entry t (codes "LIBS") value)
@@ -351,7 +337,8 @@ with_same at function a b s t (library ∷ more) ordinary e h =
     ∙ ap (λ l. attempt_with function b t (codes "-l" ++ library) library ∷ l) (with_same at function a b s t more ordinary e h)
 
 attempts_same : (at : List ℕ → Type 0) (names : List (List ℕ)) (kind : Kind) (s t : State) → Reads at names → ReadsKind names kind → Alike at s t → attempts_of kind s ≡ attempts_of kind t
-attempts_same at names (Program search own) s t reads r h = ap (λ o. program_attempts own search (directories_of (unwrap_or o []))) (h.value (codes "PATH") (reads (codes "PATH") (inl path_plain)))
+unfolding is_cache_name has_cv
+attempts_same at names (Program search own) s t reads r h = ap (λ o. program_attempts own search (directories_of (unwrap_or o []))) (h.value (codes "PATH") (reads (codes "PATH") (inl refl)))
 attempts_same at names (Single listed entry includes defines) s t reads r h = ap (λ j. attempt_by true (codes "yes") j ∷ []) (entry_same at names listed entry includes 0 s t reads r h)
 attempts_same at names (Sized name includes defines) s t reads r h =
     ap (λ j. attempt_by false (codes "no") j ∷ attempt_by true (codes "no") (type_job second_type_source name includes s) ∷ []) (type_same at names type_source name includes s t reads r h)

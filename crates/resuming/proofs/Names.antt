@@ -4,7 +4,7 @@ use Rattle.std.specs.Prelude.{bytes_eq, ◌&&◌, ◌||◌, ◌==◌}
 use Rattle.std.specs.Int.{is_in_range}
 use Rattle.std.specs.List.{list_all}
 use Rattle.std.proofs.lemmas.Bool.{cases_Bool}
-use Rattle.cachefile.specs.Text.{is_one_line, saved_value}
+use Rattle.cachefile.specs.Text.{is_one_line, is_saved, saved_value}
 use Rattle.deftable.specs.CacheName.{is_cache_name, has_cv}
 use Rattle.deftable.specs.ShellName.{starts_name, continues_name, IsShellName}
 use Rattle.deftable.specs.Table.{value_of, with_entry}
@@ -121,45 +121,9 @@ pub cc_plain : IsOrdinary (codes "CC")
 unfolding is_cache_name has_cv
 cc_plain = refl
 
-pub cflags_plain : IsOrdinary (codes "CFLAGS")
-unfolding is_cache_name has_cv
-cflags_plain = refl
-
-pub cppflags_plain : IsOrdinary (codes "CPPFLAGS")
-unfolding is_cache_name has_cv
-cppflags_plain = refl
-
-pub ldflags_plain : IsOrdinary (codes "LDFLAGS")
-unfolding is_cache_name has_cv
-ldflags_plain = refl
-
 pub libs_plain : IsOrdinary (codes "LIBS")
 unfolding is_cache_name has_cv
 libs_plain = refl
-
-pub cpp_plain : IsOrdinary (codes "CPP")
-unfolding is_cache_name has_cv
-cpp_plain = refl
-
-pub path_plain : IsOrdinary (codes "PATH")
-unfolding is_cache_name has_cv
-path_plain = refl
-
-pub enableval_plain : IsOrdinary (codes "enableval")
-unfolding is_cache_name has_cv
-enableval_plain = refl
-
-pub withval_plain : IsOrdinary (codes "withval")
-unfolding is_cache_name has_cv
-withval_plain = refl
-
-pub prefix_plain : IsOrdinary (codes "prefix")
-unfolding is_cache_name has_cv
-prefix_plain = refl
-
-pub exec_prefix_plain : IsOrdinary (codes "exec_prefix")
-unfolding is_cache_name has_cv
-exec_prefix_plain = refl
 
 pub cached_apart : (a b : List ℕ) → IsCached a → IsOrdinary b → a ≡ b → ⊥
 cached_apart a b p q e = let z : true ≡ false = sym p ∙ ap is_cache_name e ∙ q in cc
@@ -173,6 +137,12 @@ saved_or_not n (Some v) = by_test (is_cache_name n && is_one_line v)
     by_test : (b : Bool) → (cond b (Some v) None ≡ Some v) ⊎ (cond b (Some v) None ≡ None)
     by_test true = inl refl
     by_test false = inr refl
+
+pub saved_so : (n v : List ℕ) → is_saved (n, v) ≡ true → saved_value n (Some v) ≡ Some v
+saved_so n v e = ap (λ b. cond b (Some v) None) e
+
+pub cached_so : (n v : List ℕ) → is_saved (n, v) ≡ true → IsCached n
+cached_so n v e = (and_both (is_cache_name n) (is_one_line v) e).0
 
 pub ordinary_unsaved : (n : List ℕ) (o : Option (List ℕ)) → IsOrdinary n → saved_value n o ≡ None
 ordinary_unsaved n None p = refl

@@ -1,16 +1,20 @@
 -- How the states of two runs are related to each other, and to the end of the first.
-use Rattle.std.proofs.Common.{◌≡◌, ◌⊎◌, ℕ, true, List, Some, None}
+use Rattle.std.proofs.Common.{◌≡◌, ◌⊎◌, ℕ, true, List, Some, None, refl}
 use Rattle.cachefile.specs.Text.{saved_value}
 use Rattle.crew_trait.specs.declared.reply.Reply.{Reply}
 use Rattle.deftable.specs.CacheName.{is_cache_name}
 use Rattle.deftable.specs.Table.{value_of}
 use Rattle.syntax.specs.Resumable.{Among, IsOrdinary}
-use Rattle.meaning.specs.State.{State, How, Goes_on, Completed, Stopped, Cut, Run, Ends, Asks}
+use Rattle.meaning.specs.State.{State, How, Goes_on, Cut, Run, Ends, Asks}
 use Rattle.resuming.specs.Finished.{Finished, finish, with_taken, Enough}
 use Rattle.resuming.specs.Joint.{Joint, Past, Whole, Pair}
 
 abbrev pub IsCached : List ℕ → Type 0
 IsCached name = is_cache_name name ≡ true
+
+-- Each name of the first list is in the second.
+abbrev pub Within : List (List ℕ) → List (List ℕ) → Type 0
+Within few more = (n : List ℕ) → Among n few → Among n more
 
 -- Equal definitions, and equal values of these names; messages, log and the order of the variables may differ.
 pub record Alike (at : List ℕ → Type 0) (a b : State) : Type 0 where
@@ -24,15 +28,12 @@ Every n = Unit {0}
 abbrev pub Like : (List ℕ → Type 0) → Run → Run → Type 0
 Like at (Ends h a) (Ends g b) = (h ≡ g) × Alike at a b
 Like at (Asks js n) (Asks ks m) = (js ≡ ks) × ((rs : List Reply) → Like at (n rs) (m rs))
-Like at (Ends h a) (Asks ks m) = ⊥
-Like at (Asks js n) (Ends g b) = ⊥
+Like at a b = ⊥
 
 -- What follows a run that continues.
 abbrev pub follow : How → Finished → (State → Run) → Finished
 follow Goes_on f rest = with_taken f.taken (finish (rest f.state) f.left)
-follow Completed f rest = f
-follow (Stopped status) f rest = f
-follow Cut f rest = f
+follow how f rest = f
 
 -- The first run is in one state, the second in another, and the first ends in `end`. Ordinary names have equal values. A
 -- cache name has the value of that end in the second run, or neither run has set it yet and it isn't saved. Those that were
@@ -54,19 +55,21 @@ pub record Sets (names : List (List ℕ)) (old new : State) : Type 0 where
 
 abbrev pub leads_by : How → List (List ℕ) → State → State → Type 0
 leads_by Goes_on later now end = Sets later now end
-leads_by Completed later now end = ⊥
-leads_by (Stopped status) later now end = ⊥
 leads_by Cut later now end = now ≡ end
+leads_by how later now end = ⊥
 
 -- A part of the run that ends in `end`, where it is cut; `later` are the names that are tested after the part.
 abbrev pub Leads : List (List ℕ) → Finished → State → Type 0
 Leads later f end = leads_by f.how later f.state end
 
--- Two parts end alike.
-pub record EndsAlike (a b : Finished) : Type 0 where
+-- Two parts end alike, with equal values of these names.
+pub record Both (at : List ℕ → Type 0) (a b : Finished) : Type 0 where
   pub how : a.how ≡ b.how
-  pub state : Alike Every a.state b.state
+  pub state : Alike at a.state b.state
   pub left : a.left ≡ b.left
+
+abbrev pub EndsAlike : Finished → Finished → Type 0
+EndsAlike a b = Both Every a b
 
 pub record Ready (later : List (List ℕ)) (end : State) (a : Run) (rs : List Reply) (b : Run) (qs : List Reply) : Type 0 where
   pub enough : Enough a rs
@@ -84,6 +87,11 @@ pub record Passes (tested : List (List ℕ)) (end : State) (f s : Finished) (tak
   pub state2 : s.state ≡ p.second
   pub left2 : s.left ≡ p.again
   pub near : Near tested p.first p.second end
+
+-- If each continues in it, they went through it.
+pub passed : (tested : List (List ℕ)) (end : State) (f s : Finished) → f.how ≡ Goes_on → s.how ≡ Goes_on → Near tested f.state s.state end
+    → Passes tested end f s f.taken (record { first = f.state; replies = f.left; second = s.state; again = s.left })
+passed tested end f s first second near = record { first = first; state = refl; left = refl; took = refl; second = second; state2 = refl; left2 = refl; near = near }
 
 -- What comes of a part of both runs: they went through it, or the first was cut in it and, under the joint replies, which are
 -- enough, ends as the second does.

@@ -4,15 +4,15 @@ use Rattle.std.proofs.lemmas.Bool.{cases_Bool}
 use Rattle.crew_trait.specs.declared.reply.Reply.{Reply}
 use Rattle.deftable.specs.CacheName.{is_cache_name}
 use Rattle.deftable.specs.Table.{value_of}
-use Rattle.syntax.specs.Resumable.{Among, MayRead}
+use Rattle.syntax.specs.Resumable.{MayRead}
 use Rattle.meaning.specs.State.{State, Scope, How, Goes_on, Completed, Stopped, Cut, Run, then_run}
 use Rattle.resuming.specs.Finished.{Finished, finish, with_taken, Enough}
 use Rattle.resuming.specs.Joint.{Joint, Past, Whole, Pair, in_front, joint_then}
 use Rattle.resuming.specs.Same.{Chosen, AndThen}
-use Rattle.resuming.proofs.Near.{IsCached, Alike, Every, Like, follow, Near, Sets, leads_by, Leads, EndsAlike, Ready, Passes, Comes, IsPart}
+use Rattle.resuming.proofs.Near.{Within, IsCached, Alike, Every, Like, follow, Near, Sets, leads_by, Leads, EndsAlike, Ready, Passes, Comes, IsPart}
 use Rattle.resuming.proofs.Names.{among_left, among_right}
 use Rattle.resuming.proofs.Runs.{finish_then, enough_first, enough_rest, finish_again, enough_again, enough_then}
-use Rattle.resuming.proofs.Liking.{like_then, like_cond, like_finish, like_enough}
+use Rattle.resuming.proofs.Liking.{like_then, like_cond, with_both, like_finish, like_enough}
 
 -- ---- names that may be set
 
@@ -22,7 +22,7 @@ sets_then a b x y z p q = record {
   others = λ n c none. q.others n c (λ h. none (among_right n a b h)) ∙ p.others n c (λ h. none (among_left n a b h));
 }
 
-pub sets_wider : (a b : List (List ℕ)) (x y : State) → ((n : List ℕ) → Among n a → Among n b) → Sets a x y → Sets b x y
+pub sets_wider : (a b : List (List ℕ)) (x y : State) → Within a b → Sets a x y → Sets b x y
 sets_wider a b x y w p = record { keeps = p.keeps; others = λ n c none. p.others n c (λ h. none (w n h)) }
 
 pub sets_none : (a : List (List ℕ)) (x y : State) → ((n : List ℕ) → IsCached n → value_of y.vars n ≡ value_of x.vars n) → Sets a x y
@@ -30,9 +30,7 @@ sets_none a x y e = record { keeps = λ n v c h. e n c ∙ h; others = λ n c no
 
 sets_follow : (a b : List (List ℕ)) (st : State) (how : How) (f : Finished) (k : State → Run) → f.how ≡ how → Sets a st f.state → (f.how ≡ Goes_on → Sets b f.state (finish (k f.state) f.left).state) → Sets (a ++ b) st (follow how f k).state
 sets_follow a b st Goes_on f k e p q = sets_then a b st f.state _ p (q e)
-sets_follow a b st Completed f k e p q = sets_wider a (a ++ b) st f.state (λ n h. among_left n a b h) p
-sets_follow a b st (Stopped s) f k e p q = sets_wider a (a ++ b) st f.state (λ n h. among_left n a b h) p
-sets_follow a b st Cut f k e p q = sets_wider a (a ++ b) st f.state (λ n h. among_left n a b h) p
+sets_follow a b st _ f k e p q = sets_wider a (a ++ b) st f.state (λ n h. among_left n a b h) p
 
 sets_run : (a b : List (List ℕ)) (st : State) (run : Run) (k : State → Run) (rs : List Reply) → Enough (then_run run k) rs → Sets a st (finish run rs).state → ((now : State) (qs : List Reply) → Enough (k now) qs → Sets b now (finish (k now) qs).state) → Sets (a ++ b) st (finish (then_run run k) rs).state
 sets_run a b st run k rs enough p q =
@@ -42,21 +40,16 @@ sets_run a b st run k rs enough p q =
 
 ahead_by : (names later : List (List ℕ)) (E : State) (how : How) (st now : State) → Sets names st now → leads_by how later now E → Sets (names ++ later) st E
 ahead_by names later E Goes_on st now s h = sets_then names later st now E s h
-ahead_by names later E Completed st now s h = absurd h
-ahead_by names later E (Stopped x) st now s h = absurd h
 ahead_by names later E Cut st now s h = subst (λ x. Sets (names ++ later) st x) h (sets_wider names (names ++ later) st now (λ n k. among_left n names later k) s)
+ahead_by names later E _ st now s h = absurd h
 
 leads_follow : (later names : List (List ℕ)) (E : State) (how : How) (f : Finished) (k : State → Run) → f.how ≡ how → Leads later (follow how f k) E → (f.how ≡ Goes_on → Sets names f.state (finish (k f.state) f.left).state) → leads_by how (names ++ later) f.state E
 leads_follow later names E Goes_on f k e h s = ahead_by names later E _ f.state _ (s e) h
-leads_follow later names E Completed f k e h s = subst (λ x. leads_by x later f.state E) e h
-leads_follow later names E (Stopped x) f k e h s = subst (λ y. leads_by y later f.state E) e h
-leads_follow later names E Cut f k e h s = subst (λ x. leads_by x later f.state E) e h
+leads_follow later names E _ f k e h s = subst (λ x. leads_by x later f.state E) e h
 
 follow_cut : (how : How) (f : Finished) (k : State → Run) → how ≡ Cut → f.how ≡ how → (follow how f k).how ≡ Cut
-follow_cut Goes_on f k e h = cc
-follow_cut Completed f k e h = cc
-follow_cut (Stopped status) f k e h = cc
 follow_cut Cut f k e h = h
+follow_cut _ f k e h = cc
 
 ready_first : (later names : List (List ℕ)) (E : State) (a b : Run) (k : State → Run) (rs qs : List Reply) → Ready later E (then_run a k) rs (then_run b k) qs → ((st : State) (ts : List Reply) → Enough (k st) ts → Sets names st (finish (k st) ts).state) → Ready (names ++ later) E a rs b qs
 ready_first later names E a b k rs qs h s = record {
@@ -80,12 +73,6 @@ ready_rest later seen E a b k rs qs taken p h passes =
       leads = subst (λ f. Leads later f E) eqa h.leads;
       uncut = λ cut. h.uncut (ap (λ f. f.how) eqb ∙ cut);
     }
-
-with_like : (a b : List Reply) (f g : Finished) → EndsAlike f g → EndsAlike (with_taken a f) (with_taken b g)
-with_like a b f g h = record { how = h.how; state = h.state; left = h.left }
-
-pub ends_like : (a b : Run) (rs : List Reply) → Like Every a b → EndsAlike (finish a rs) (finish b rs)
-ends_like a b rs h = let e = like_finish Every a b rs h in record { how = e.how; state = e.state; left = e.left }
 
 front : (seen mid : List (List ℕ)) (E : State) (a b : Run) (k : State → Run) (rs qs taken : List Reply) (p : Pair) (j : Joint) → Enough a rs → Passes mid E (finish a rs) (finish b qs) taken p → Comes seen E (k p.first) p.replies (k p.second) p.again j → Comes seen E (then_run a k) rs (then_run b k) qs (in_front taken j)
 front seen mid E a b k rs qs taken p (Past t q) enough passes h =
@@ -114,28 +101,17 @@ front seen mid E a b k rs qs taken p (Whole w) enough passes h =
         enough_then a k (taken ++ w) first_enough
             (λ on. subst (λ x. Enough (k x) (finish a (taken ++ w)).left) (sym state) (subst (λ l. Enough (k p.first) l) (sym (ap (λ f. f.left) same)) h.1.0)),
         subst (λ x. EndsAlike x (finish (then_run b k) qs)) (sym eqc)
-            (subst (λ y. EndsAlike (with_taken taken (finish (k p.first) w)) y) (sym eqb) (with_like taken (finish b qs).taken _ _ h.1.1)),
+            (subst (λ y. EndsAlike (with_taken taken (finish (k p.first) w)) y) (sym eqb) (with_both Every taken (finish b qs).taken _ _ h.1.1)),
       ),
     )
 
 follow_alike : (x y : How) (f g : Finished) (k : State → Run) → x ≡ y → EndsAlike f g → ((s t : State) → Alike Every s t → Like Every (k s) (k t)) → EndsAlike (follow x f k) (follow y g k)
 follow_alike Goes_on Goes_on f g k e h ext =
-    with_like f.taken g.taken _ _ (subst (λ l. EndsAlike (finish (k f.state) f.left) (finish (k g.state) l)) h.left (ends_like (k f.state) (k g.state) f.left (ext f.state g.state h.state)))
+    with_both Every f.taken g.taken _ _ (subst (λ l. EndsAlike (finish (k f.state) f.left) (finish (k g.state) l)) h.left (like_finish Every (k f.state) (k g.state) f.left (ext f.state g.state h.state)))
 follow_alike Completed Completed f g k e h ext = h
 follow_alike (Stopped n) (Stopped m) f g k e h ext = h
 follow_alike Cut Cut f g k e h ext = h
-follow_alike Goes_on Completed f g k e h ext = cc
-follow_alike Goes_on Cut f g k e h ext = cc
-follow_alike Goes_on (Stopped m) f g k e h ext = cc
-follow_alike Completed Goes_on f g k e h ext = cc
-follow_alike Completed Cut f g k e h ext = cc
-follow_alike Completed (Stopped m) f g k e h ext = cc
-follow_alike Cut Goes_on f g k e h ext = cc
-follow_alike Cut Completed f g k e h ext = cc
-follow_alike Cut (Stopped m) f g k e h ext = cc
-follow_alike (Stopped n) Goes_on f g k e h ext = cc
-follow_alike (Stopped n) Completed f g k e h ext = cc
-follow_alike (Stopped n) Cut f g k e h ext = cc
+follow_alike _ _ f g k e h ext = cc
 
 comes_then : (seen mid : List (List ℕ)) (E : State) (a b : Run) (k : State → Run) (rs qs : List Reply) (j : Joint) (rest : Pair → Joint) → Enough a rs → Enough (then_run b k) qs → ((s t : State) → Alike Every s t → Like Every (k s) (k t)) → Comes mid E a rs b qs j → ((taken : List Reply) (p : Pair) → j ≡ Past taken p → Passes mid E (finish a rs) (finish b qs) taken p → Comes seen E (k p.first) p.replies (k p.second) p.again (rest p)) → Comes seen E (then_run a k) rs (then_run b k) qs (joint_then j rest)
 comes_then seen mid E a b k rs qs (Past taken p) rest enough again ext h next =
@@ -170,15 +146,15 @@ part_then before mid after n1 n2 a b ja jb sa sb fa fb x y = record {
       (λ taken q is passes. y.comes later E q fits.1 passes.near (ready_rest later mid E (a p.first) (a p.second) b p.replies p.again taken q ready passes) (and_then (ja p) sb taken q is same.1));
 }
 
-near_less : (seen more : List (List ℕ)) (f s E : State) → ((n : List ℕ) → Among n seen → Among n more) → Near more f s E → Near seen f s E
+near_less : (seen more : List (List ℕ)) (f s E : State) → Within seen more → Near more f s E → Near seen f s E
 near_less seen more f s E w h = record { alike = h.alike; saved = h.saved; known = λ n c a. h.known n c (w n a) }
 
-comes_less : (seen more : List (List ℕ)) (E : State) (a b : Run) (rs qs : List Reply) (j : Joint) → ((n : List ℕ) → Among n seen → Among n more) → Comes more E a rs b qs j → Comes seen E a rs b qs j
+comes_less : (seen more : List (List ℕ)) (E : State) (a b : Run) (rs qs : List Reply) (j : Joint) → Within seen more → Comes more E a rs b qs j → Comes seen E a rs b qs j
 comes_less seen more E a b rs qs (Past taken p) w h = record { first = h.first; state = h.state; left = h.left; took = h.took; second = h.second; state2 = h.state2; left2 = h.left2; near = near_less seen more p.first p.second E w h.near }
 comes_less seen more E a b rs qs (Whole x) w h = h
 
 -- less is known after it, more is given, and more names may be set
-pub part_less : (before after less names more : List (List ℕ)) (a : State → Run) (j : Pair → Joint) (s s2 : Pair → Type 0) (f f2 : List (List ℕ) → Type 0) → ((n : List ℕ) → Among n less → Among n after) → ((n : List ℕ) → Among n names → Among n more) → ((p : Pair) → s2 p → s p) → ((later : List (List ℕ)) → f2 later → f later) → IsPart before after names a j s f
+pub part_less : (before after less names more : List (List ℕ)) (a : State → Run) (j : Pair → Joint) (s s2 : Pair → Type 0) (f f2 : List (List ℕ) → Type 0) → Within less after → Within names more → ((p : Pair) → s2 p → s p) → ((later : List (List ℕ)) → f2 later → f later) → IsPart before after names a j s f
     → IsPart before less more a j s2 f2
 part_less before after less names more a j s s2 f f2 w v sames fits x = record {
   like = x.like;
@@ -208,8 +184,7 @@ if_comes : (later seen : List (List ℕ)) (E : State) (b c : Bool) (a1 a2 b1 b2 
     → (Ready later E a1 rs b1 qs → S1 → Comes seen E a1 rs b1 qs j1) → (Ready later E a2 rs b2 qs → S2 → Comes seen E a2 rs b2 qs j2) → Comes seen E (cond b a1 a2) rs (cond c b1 b2) qs (cond b j1 j2)
 if_comes later seen E true true a1 a2 b1 b2 rs qs j1 j2 S1 S2 e ready s x y = x ready s
 if_comes later seen E false false a1 a2 b1 b2 rs qs j1 j2 S1 S2 e ready s x y = y ready s
-if_comes later seen E true false a1 a2 b1 b2 rs qs j1 j2 S1 S2 e ready s x y = cc
-if_comes later seen E false true a1 a2 b1 b2 rs qs j1 j2 S1 S2 e ready s x y = cc
+if_comes later seen E _ _ a1 a2 b1 b2 rs qs j1 j2 S1 S2 e ready s x y = cc
 
 pub part_if : (before after n m : List (List ℕ)) (b : State → Bool) (x y : State → Run) (jx jy : Pair → Joint) (sx sy : Pair → Type 0) (fx fy : List (List ℕ) → Type 0)
     → ((s t : State) → Alike Every s t → b s ≡ b t) → ((E : State) (p : Pair) → Near before p.first p.second E → b p.first ≡ b p.second) → IsPart before after n x jx sx fx → IsPart before after m y jy sy fy

@@ -3,7 +3,7 @@ use Rattle.std.proofs.Common.{◌≡◌, ◌⊎◌, inl, inr, ℕ, Bool, true, f
 use Rattle.std.specs.Prelude.{bytes_eq, is_some, ◌&&◌}
 use Rattle.cachefile.specs.Cache.{with_setting, vars_after, value_after}
 use Rattle.cachefile.specs.Line.{Setting, Sets, Defaults}
-use Rattle.cachefile.specs.Text.{is_one_line, is_saved, saved_value}
+use Rattle.cachefile.specs.Text.{is_one_line, saved_value}
 use Rattle.cachefile.proofs.Pours.{value_of-with_setting}
 use Rattle.deftable.specs.CacheName.{is_cache_name}
 use Rattle.deftable.specs.Table.{value_of}
@@ -12,7 +12,7 @@ use Rattle.meaning.specs.Meaning.{meaning}
 use Rattle.resuming.specs.Plays.{played}
 use Rattle.resuming.specs.Poured.{poured}
 use Rattle.resuming.specs.Opening.{HadCached, CachePours}
-use Rattle.resuming.proofs.Names.{saved_or_not}
+use Rattle.resuming.proofs.Names.{saved_or_not, saved_so, cached_so}
 use Rattle.laws.proofs.Plays.{same_end, whole_enough}
 use Rattle.resuming.proofs.Whole.{script_part}
 
@@ -66,17 +66,6 @@ over_poured (Some w) None b o h =
     ⊎_elim (λ k. ⊎_elim (λ s. let z : false ≡ true = s in cc) (λ n. cc) k.1) (λ k. k.0) o.is
 over_poured (Some w) (Some v) b o h =
     ⊎_elim (λ k. sym k.0) (λ k. k.0 ∙ ⊎_elim (λ e. sym e) (λ n. cc) (h w refl)) o.is
-
--- A value that is saved, by what is_saved says.
-saved_so : (n v : List ℕ) → is_saved (n, v) ≡ true → saved_value n (Some v) ≡ Some v
-saved_so n v e = ap (λ b. cond b (Some v) None) e
-
-cached_so : (n v : List ℕ) → is_saved (n, v) ≡ true → is_cache_name n ≡ true
-cached_so n v e = first (is_cache_name n) (is_one_line v) e
-  where
-    first : (a b : Bool) → a && b ≡ true → a ≡ true
-    first true b e = refl
-    first false b e = cc
 
 -- The value of an ordinary name isn't saved.
 unless_cached : (n : List ℕ) (o : Option (List ℕ)) → (is_cache_name n ≡ true) ⊎ (saved_value n o ≡ None)

@@ -5,7 +5,7 @@ use Rattle.deftable.specs.Table.{value_of}
 use Rattle.shellword.specs.declared.part.Part.{Part}
 use Rattle.shellword.specs.Value.{word_value}
 use Rattle.syntax.specs.Resumable.{IsOrdinary, MayRead, ReadsIfGiven}
-use Rattle.meaning.specs.State.{State, with_variable, How, Goes_on, Completed, Stopped, Cut, Run, Ends, then_run}
+use Rattle.meaning.specs.State.{State, with_variable, How, Goes_on, Run, Ends, then_run}
 use Rattle.meaning.specs.Tests.{tested, with_value}
 use Rattle.meaning.specs.Rows.{Kind, Program, value_or_empty, value_if, name_of, row_of}
 use Rattle.meaning.specs.Meaning.{has_value, defaulted}
@@ -14,7 +14,7 @@ use Rattle.laws.proofs.Values.{cases_value, value_here}
 use Rattle.laws.proofs.Endings.{ends_then, ends_map}
 use Rattle.resuming.proofs.Near.{IsCached, Alike, Every, Like}
 use Rattle.resuming.proofs.Names.{same_or_not, value_else, cached_apart}
-use Rattle.resuming.proofs.Liking.{Reads, like_then, like_cond, cond_alike, variable_alike, row_like, text_same}
+use Rattle.resuming.proofs.Liking.{Reads, wider_reads, like_then, like_cond, cond_alike, variable_alike, row_like, text_same}
 use Rattle.resuming.proofs.Forms.{alike_refl, alike_trans, Went, Still, Form, form_off, Follows, IsTest, cond_values, row_form, row_set}
 
 -- What is done with the value of a program's test.
@@ -37,9 +37,6 @@ kind_like at kind s t here reads program same h =
     (subst (λ k. Like at (tested (row_of k s) s) (tested (row_of k t) t)) (sym p.1.1)
     (row_like at [] (Program p.0 p.1.0) s t (subst (λ k. at (name_of k)) p.1.1 (here s)) reads tt h))
 
-nothing_read : (names : List (List ℕ)) → Reads (MayRead names) []
-nothing_read names n r = ⊎_elim (λ p. inl p) (λ a. absurd a) r
-
 -- AC_CHECK_PROG and AC_PATH_PROG: what is looked for depends on the state.
 pub prog_test : (known : List (List ℕ)) (name variable program : List ℕ) (found otherwise own : State → Option (List ℕ)) → IsCached name → IsOrdinary variable
     → SameKind Every (λ st. prog_kind name variable program (found st) (otherwise st) (own st)) → SameKind (MayRead (name ∷ known)) (λ st. prog_kind name variable program (found st) (otherwise st) (own st))
@@ -49,7 +46,7 @@ prog_test known name variable program found otherwise own c p every twin = recor
   set = λ st v e. row_set (prog_kind name variable program (found st) (otherwise st) (own st)) st v e;
   form = λ st none. row_form (prog_kind name variable program (found st) (otherwise st) (own st)) st none;
   every = λ s t h. kind_like Every (λ st. prog_kind name variable program (found st) (otherwise st) (own st)) s t (λ st. tt) (λ n r. tt) (λ st. (_, (_, refl))) every h;
-  twin = λ s t h. kind_like (MayRead (name ∷ known)) (λ st. prog_kind name variable program (found st) (otherwise st) (own st)) s t (λ st. inr (inl refl)) (nothing_read (name ∷ known)) (λ st. (_, (_, refl))) twin h;
+  twin = λ s t h. kind_like (MayRead (name ∷ known)) (λ st. prog_kind name variable program (found st) (otherwise st) (own st)) s t (λ st. inr (inl refl)) (wider_reads [] (name ∷ known) (λ n a. absurd a)) (λ st. (_, (_, refl))) twin h;
   values = λ o n st k. value_else st.vars variable (unwrap_or o []) n (λ e. cached_apart n variable k p (sym e));
   follow = λ o s t h. variable_alike (MayRead (name ∷ known)) variable (unwrap_or o []) s t h;
 }
@@ -164,9 +161,7 @@ looked_went name variable before st now c p same defs w =
 
 abbrev LooksEnd : (name variable : List ℕ) → State → How → State → Type 0
 LooksEnd name variable before Goes_on now = Looked name variable before now
-LooksEnd name variable before Completed now = Still before now
-LooksEnd name variable before (Stopped status) now = Still before now
-LooksEnd name variable before Cut now = Still before now
+LooksEnd name variable before how now = Still before now
 
 looks_off : (name variable : List ℕ) (before : State) (how : How) (now : State) → Breaks how → LooksEnd name variable before how now → LooksEnd name variable before how now
 looks_off name variable before how now breaks h = h
@@ -182,16 +177,12 @@ still_before name variable before st now p none here l h n c =
 form_looks : (name variable : List ℕ) (before st : State) → IsCached name → IsOrdinary variable → value_of before.vars name ≡ None → value_of st.vars name ≡ None → Looked name variable before st
     → (how : How) (now : State) → Form (after_var variable) name st how now → LooksEnd name variable before how now
 form_looks name variable before st c p none here l Goes_on now w = looked_went name variable before st now c p l.others l.defs w
-form_looks name variable before st c p none here l Completed now h = still_before name variable before st now p none here l h
-form_looks name variable before st c p none here l (Stopped s) now h = still_before name variable before st now p none here l h
-form_looks name variable before st c p none here l Cut now h = still_before name variable before st now p none here l h
+form_looks name variable before st c p none here l _ now h = still_before name variable before st now p none here l h
 
 -- The same of the first look.
 form_first : (name variable : List ℕ) (before : State) → IsCached name → IsOrdinary variable → (how : How) (now : State) → Form (after_var variable) name before how now → LooksEnd name variable before how now
 form_first name variable before c p Goes_on now w = looked_went name variable before before now c p (λ n x y. refl) refl w
-form_first name variable before c p Completed now h = h
-form_first name variable before c p (Stopped s) now h = h
-form_first name variable before c p Cut now h = h
+form_first name variable before c p _ now h = h
 
 look_ends : (name variable program : List ℕ) (before st : State) → IsCached name → IsOrdinary variable → value_of before.vars name ≡ None → Looked name variable before st → AtEnds (LooksEnd name variable before) (look name variable program false st)
 look_ends name variable program before st c p none l = by_test (false || not (has_value st variable))
@@ -254,9 +245,7 @@ went_looks name variable before now c p none l = by_value (value_of now.vars nam
 
 looks_form : (name variable : List ℕ) (before : State) → IsCached name → IsOrdinary variable → value_of before.vars name ≡ None → (how : How) (now : State) → LooksEnd name variable before how now → Form (after_var variable) name before how now
 looks_form name variable before c p none Goes_on now l = went_looks name variable before now c p none l
-looks_form name variable before c p none Completed now h = h
-looks_form name variable before c p none (Stopped s) now h = h
-looks_form name variable before c p none Cut now h = h
+looks_form name variable before c p none _ now h = h
 
 all_form : (name variable : List ℕ) (programs : List (List ℕ)) (st : State) → IsCached name → IsOrdinary variable → value_of st.vars name ≡ None → AtEnds (Form (after_looks variable programs) name st) (look_all name variable programs true st)
 all_form name variable [] st c p none = record { mid = st; own = record { others = λ n k. refl; defs = refl }; is = alike_refl Every st }
@@ -283,7 +272,7 @@ looks_test known name variable programs c p = record {
   set = λ st v e. all_set name variable programs v st c p e;
   form = λ st none. all_form name variable programs st c p none;
   every = λ s t h. all_like Every name variable programs true s t tt tt (λ n r. tt) h;
-  twin = λ s t h. all_like (MayRead (name ∷ known)) name variable programs true s t (inr (inl refl)) (inl p) (nothing_read (name ∷ known)) h;
+  twin = λ s t h. all_like (MayRead (name ∷ known)) name variable programs true s t (inr (inl refl)) (inl p) (wider_reads [] (name ∷ known) (λ n a. absurd a)) h;
   values = looks_values variable programs p;
   follow = λ o s t h. looks_alike (MayRead (name ∷ known)) variable programs o s t h;
 }
@@ -309,9 +298,7 @@ test_then known name after part g every twin values test = record {
   where
     still_of : (after : Option (List ℕ) → State → State) (name : List ℕ) (before : State) (how : How) (now : State) → Breaks how → Form after name before how now → Still before now
     still_of after name before Goes_on now breaks h = absurd (breaks refl)
-    still_of after name before Completed now breaks h = h
-    still_of after name before (Stopped s) now breaks h = h
-    still_of after name before Cut now breaks h = h
+    still_of after name before _ now breaks h = h
 
 -- ---- the default of AC_CHECK_PROGS
 

@@ -1,6 +1,7 @@
 -- Choices as parts: their beginnings, and their rounds.
 use Rattle.std.proofs.Common.{◌≡◌, ℕ, List, [], ◌∷◌, ◌++◌, Bool, true, false, Option, Some, None, ◌⊎◌, inl, inr, refl, sym, ap, ◌∙◌, subst, ⊎_elim, map}
 use Rattle.std.specs.Prelude.{is_some}
+use Rattle.deftable.specs.CacheName.{is_cache_name, has_cv}
 use Rattle.deftable.specs.Table.{value_of}
 use Rattle.shellword.specs.declared.part.Part.{Part}
 use Rattle.syntax.specs.declared.feature.OptionKind.{OptionKind}
@@ -22,13 +23,13 @@ use Rattle.laws.proofs.Statements.{ended_as_is}
 use Rattle.resuming.specs.Alone.{tested_rounds, AloneRounds}
 use Rattle.resuming.specs.Joint.{Joint, Pair, joint_then, joint_one, given_then, begins_test, begins, scope_at, joint_rounds}
 use Rattle.resuming.specs.Same.{AndThen, SameOne, SameAt, SameRounds}
-use Rattle.resuming.proofs.Near.{IsCached, Alike, Every, IsPart}
-use Rattle.resuming.proofs.Names.{same_or_not, among_left, among_right, among_wider, value_else, sought_cached, library_cached, libraries_cached, enableval_plain, withval_plain}
-use Rattle.resuming.proofs.Liking.{Reads, ReadsKind, variable_alike, text_same}
+use Rattle.resuming.proofs.Near.{Within, IsCached, Alike, Every, IsPart}
+use Rattle.resuming.proofs.Names.{same_or_not, among_left, among_right, among_wider, value_else, sought_cached, library_cached, libraries_cached}
+use Rattle.resuming.proofs.Liking.{Reads, wider_reads, ReadsKind, variable_alike, text_same}
 use Rattle.resuming.proofs.Forms.{PlainKind, IsAsked, asked_settles, row_test}
 use Rattle.resuming.proofs.Parts.{part_then, part_less, part_is, part_scope}
 use Rattle.resuming.proofs.Single.{all_readable, still_part, test_part}
-use Rattle.resuming.proofs.Statements.{wider_reads, id_part, ordinary, write_values, may_assign}
+use Rattle.resuming.proofs.Statements.{id_part, write_values, may_assign}
 
 -- ---- the beginning of a round
 
@@ -38,8 +39,9 @@ IsRound (Asked (ChecksEach sought (a ∷ b ∷ more) includes)) = ⊥
 IsRound subject = Unit {0}
 
 value_plain : (kind : OptionKind) → IsOrdinary (value_name kind)
-value_plain Feature = enableval_plain
-value_plain Package = withval_plain
+unfolding is_cache_name has_cv
+value_plain Feature = refl
+value_plain Package = refl
 
 given_alike : (at : List ℕ → Type 0) (kind : OptionKind) (o : Option (List ℕ)) (s t : State) → Alike at s t → Alike at (given_then kind o s) (given_then kind o t)
 given_alike at kind None s t h = h
@@ -53,7 +55,7 @@ given_values : (kind : OptionKind) (o : Option (List ℕ)) (n : List ℕ) (st : 
 given_values kind None n st c = refl
 given_values kind (Some v) n st c = write_values (value_name kind) v n st (value_plain kind) c
 
-kind_part : (tested_before known : List (List ℕ)) (kind : Kind) (fits : List (List ℕ) → Type 0) → ((n : List ℕ) → Among n tested_before → Among n known) → IsAsked kind → IsCached (name_of kind) → ReadsKind tested_before kind
+kind_part : (tested_before known : List (List ℕ)) (kind : Kind) (fits : List (List ℕ) → Type 0) → Within tested_before known → IsAsked kind → IsCached (name_of kind) → ReadsKind tested_before kind
     → IsPart known (name_of kind ∷ known) (name_of kind ∷ []) (begins_test (Some kind)) (joint_one (begins_test (Some kind))) (SameOne (name_of kind) (begins_test (Some kind))) fits
 kind_part tested_before known kind fits w a c r =
     test_part known (name_of kind) (after_of kind) (begins_test (Some kind)) fits (row_test tested_before known kind w c (plain_of kind a) r) (λ later f. inr (asked_settles kind a c))
@@ -65,22 +67,21 @@ kind_part tested_before known kind fits w a c r =
     plain_of (Library library function others adds) a = tt
     plain_of (Libraries function libraries others) a = tt
 
-sought_part : (tested_before known : List (List ℕ)) (sought : Sought) (entry : List ℕ) (includes : Option (List Part)) (defines : Bool) (fits : List (List ℕ) → Type 0) → ((n : List ℕ) → Among n tested_before → Among n known) → ReadsIfGiven tested_before includes
+sought_part : (tested_before known : List (List ℕ)) (sought : Sought) (entry : List ℕ) (includes : Option (List Part)) (defines : Bool) (fits : List (List ℕ) → Type 0) → Within tested_before known → ReadsIfGiven tested_before includes
     → IsPart known (sought_name sought entry ∷ known) (sought_name sought entry ∷ []) (begins_test (Some (kind_for sought entry includes defines))) (joint_one (begins_test (Some (kind_for sought entry includes defines))))
     (SameOne (name_of (kind_for sought entry includes defines)) (begins_test (Some (kind_for sought entry includes defines)))) fits
 sought_part tested_before known (seeks.Entry listed) entry includes defines fits w r = kind_part tested_before known (Single listed entry includes defines) fits w tt (sought_cached (seeks.Entry listed) entry) r
 sought_part tested_before known seeks.«Type» entry includes defines fits w r = kind_part tested_before known (Sized entry includes defines) fits w tt (sought_cached seeks.«Type» entry) r
 
-begin_part : (tested_before known : List (List ℕ)) (r : Subject) (fits : List (List ℕ) → Type 0) → ((n : List ℕ) → Among n tested_before → Among n known) → IsRound r → ResumableSubject None tested_before r
+begin_part : (tested_before known : List (List ℕ)) (r : Subject) (fits : List (List ℕ) → Type 0) → Within tested_before known → IsRound r → ResumableSubject None tested_before r
     → IsPart known (tests_at r ++ known) (tests_at r) (begins r) (joint_one (begins r)) (SameAt r) fits
 unfolding begins
 begin_part tested_before known Nothing fits w one h = id_part known fits
 begin_part tested_before known (Word word) fits w one h = id_part known fits
 begin_part tested_before known (Asked (Given kind variable help)) fits w one h =
-    still_part known (λ st. given_then kind (value_of st.vars variable) st) fits
-    (λ s t a. given_same Every kind variable s t tt a)
+    still_part tested_before known (λ st. given_then kind (value_of st.vars variable) st) fits w
+    (λ at reads s t a. given_same at kind variable s t (reads variable (inl (may_assign variable h))) a)
     (λ n st c. given_values kind (value_of st.vars variable) n st c)
-    (λ s t a. given_same IsOrdinary kind variable s t (may_assign variable h) (ordinary known s t a))
 begin_part tested_before known (Asked (Tries kind program)) fits w one h = absurd h.0
 begin_part tested_before known (Asked (Checks sought entry includes)) fits w one h = sought_part tested_before known sought entry includes false fits w h
 begin_part tested_before known (Asked (ChecksEach sought [] includes)) fits w one h = id_part known fits
@@ -136,7 +137,7 @@ begun_is names (Asked (questions.Libraries function libraries others)) st go h =
 
 -- ---- rounds
 
-round_part : (tested_before known inside : List (List ℕ)) (r : Subject) (go : Scope → State → Run) (jgo : Scope → Pair → Joint) (sgo : Scope → Pair → Type 0) (fgo : List (List ℕ) → Type 0) → ((n : List ℕ) → Among n tested_before → Among n known) → IsRound r → ResumableSubject None tested_before r
+round_part : (tested_before known inside : List (List ℕ)) (r : Subject) (go : Scope → State → Run) (jgo : Scope → Pair → Joint) (sgo : Scope → Pair → Type 0) (fgo : List (List ℕ) → Type 0) → Within tested_before known → IsRound r → ResumableSubject None tested_before r
     → ((c : Scope) → IsPart (tests_at r ++ known) (tests_at r ++ known) inside (go c) (jgo c) (sgo c) fgo)
     → IsPart known (tests_at r ++ known) (tests_at r ++ inside) (λ st. begun as_is r st go) (λ p. joint_then (joint_one (begins r) p) (λ q. jgo (scope_at r q.first) q)) (λ p. SameAt r p × AndThen (joint_one (begins r) p) (λ q. sgo (scope_at r q.first) q)) (λ later. Unit {0} × fgo later)
 round_part tested_before known inside r go jgo sgo fgo w one h inner =
@@ -163,7 +164,7 @@ abbrev pub AllRounds : List (List ℕ) → List Subject → Type 0
 AllRounds names [] = Unit {0}
 AllRounds names (r ∷ rs) = (IsRound r × ResumableSubject None names r) × AllRounds names rs
 
-one_turn : (tested_before known inside : List (List ℕ)) (r : Subject) (rs : List Subject) (go : Scope → State → Run) (jgo : Scope → Pair → Joint) (sgo : Scope → Pair → Type 0) (fgo : List (List ℕ) → Type 0) → ((n : List ℕ) → Among n tested_before → Among n known) → IsRound r → ResumableSubject None tested_before r
+one_turn : (tested_before known inside : List (List ℕ)) (r : Subject) (rs : List Subject) (go : Scope → State → Run) (jgo : Scope → Pair → Joint) (sgo : Scope → Pair → Type 0) (fgo : List (List ℕ) → Type 0) → Within tested_before known → IsRound r → ResumableSubject None tested_before r
     → ((c : Scope) → IsPart (tests_at r ++ known) (tests_at r ++ known) inside (go c) (jgo c) (sgo c) fgo)
     → IsPart (tests_at r ++ known) (after_rounds rs (tests_at r ++ known)) (tested_rounds rs inside) (in_turn rs go) (joint_rounds rs jgo) (SameRounds rs jgo sgo) (AloneRounds rs inside fgo)
     → IsPart known (after_rounds (r ∷ rs) known) (tested_rounds (r ∷ rs) inside) (in_turn (r ∷ rs) go) (joint_rounds (r ∷ rs) jgo) (SameRounds (r ∷ rs) jgo sgo) (AloneRounds (r ∷ rs) inside fgo)
@@ -176,20 +177,20 @@ one_turn tested_before known inside r rs go jgo sgo fgo w one h inner rest =
     (λ later. Unit {0} × fgo later) (AloneRounds rs inside fgo)
     (round_part tested_before known inside r go jgo sgo fgo w one h inner) rest)
 
-later_turns : (tested_before needs known inside : List (List ℕ)) (rs : List Subject) (go : Scope → State → Run) (jgo : Scope → Pair → Joint) (sgo : Scope → Pair → Type 0) (fgo : List (List ℕ) → Type 0) → ((n : List ℕ) → Among n tested_before → Among n known) → ((n : List ℕ) → Among n needs → Among n known) → AllRounds tested_before rs
-    → ((more : List (List ℕ)) → ((n : List ℕ) → Among n needs → Among n more) → (c : Scope) → IsPart more more inside (go c) (jgo c) (sgo c) fgo)
+later_turns : (tested_before needs known inside : List (List ℕ)) (rs : List Subject) (go : Scope → State → Run) (jgo : Scope → Pair → Joint) (sgo : Scope → Pair → Type 0) (fgo : List (List ℕ) → Type 0) → Within tested_before known → Within needs known → AllRounds tested_before rs
+    → ((more : List (List ℕ)) → Within needs more → (c : Scope) → IsPart more more inside (go c) (jgo c) (sgo c) fgo)
     → IsPart known (after_rounds rs known) (tested_rounds rs inside) (in_turn rs go) (joint_rounds rs jgo) (SameRounds rs jgo sgo) (AloneRounds rs inside fgo)
 later_turns tested_before needs known inside [] go jgo sgo fgo w v h inner = id_part known (AloneRounds [] inside fgo)
 later_turns tested_before needs known inside (r ∷ rs) go jgo sgo fgo w v h inner =
     one_turn tested_before known inside r rs go jgo sgo fgo w h.0.0 h.0.1 (inner (tests_at r ++ known) (λ n a. among_right n (tests_at r) known (v n a)))
     (later_turns tested_before needs (tests_at r ++ known) inside rs go jgo sgo fgo (λ n a. among_right n (tests_at r) known (w n a)) (λ n a. among_right n (tests_at r) known (v n a)) h.1 inner)
 
-pub turns_part : (tested_before known inside : List (List ℕ)) (rs : List Subject) (go : Scope → State → Run) (jgo : Scope → Pair → Joint) (sgo : Scope → Pair → Type 0) (fgo : List (List ℕ) → Type 0) → ((n : List ℕ) → Among n tested_before → Among n known) → AllRounds tested_before rs
-    → ((more : List (List ℕ)) → ((n : List ℕ) → Among n (first_at rs ++ tested_before) → Among n more) → (c : Scope) → IsPart more more inside (go c) (jgo c) (sgo c) fgo)
+pub turns_part : (tested_before known inside : List (List ℕ)) (rs : List Subject) (go : Scope → State → Run) (jgo : Scope → Pair → Joint) (sgo : Scope → Pair → Type 0) (fgo : List (List ℕ) → Type 0) → Within tested_before known → AllRounds tested_before rs
+    → ((more : List (List ℕ)) → Within (first_at rs ++ tested_before) more → (c : Scope) → IsPart more more inside (go c) (jgo c) (sgo c) fgo)
     → IsPart known (after_rounds rs known) (tested_rounds rs inside) (in_turn rs go) (joint_rounds rs jgo) (SameRounds rs jgo sgo) (AloneRounds rs inside fgo)
 turns_part tested_before known inside [] go jgo sgo fgo w h inner = id_part known (AloneRounds [] inside fgo)
 turns_part tested_before known inside (r ∷ rs) go jgo sgo fgo w h inner =
-    let needed : (n : List ℕ) → Among n (tests_at r ++ tested_before) → Among n (tests_at r ++ known) = λ n a. among_wider n (tests_at r) tested_before known (w n) a in
+    let needed : Within (tests_at r ++ tested_before) (tests_at r ++ known) = λ n a. among_wider n (tests_at r) tested_before known (w n) a in
     one_turn tested_before known inside r rs go jgo sgo fgo w h.0.0 h.0.1 (inner (tests_at r ++ known) needed)
     (later_turns tested_before (tests_at r ++ tested_before) (tests_at r ++ known) inside rs go jgo sgo fgo (λ n a. among_right n (tests_at r) known (w n a)) needed h.1 inner)
 
@@ -228,14 +229,14 @@ rounds_first (Asked (ChecksEach sought entries includes)) = each_first sought en
 rounds_first (Asked (questions.Library library function others adds)) = refl
 rounds_first (Asked (questions.Libraries function libraries others)) = refl
 
-each_after : (sought : Sought) (entries : List (List ℕ)) (includes : Option (List Part)) (a b : List (List ℕ)) → ((n : List ℕ) → Among n a → Among n b) → (n : List ℕ) → Among n (map (sought_name sought) entries ++ a) → Among n (after_rounds (map (λ entry. Asked (ChecksEach sought (entry ∷ []) includes)) entries) b)
+each_after : (sought : Sought) (entries : List (List ℕ)) (includes : Option (List Part)) (a b : List (List ℕ)) → Within a b → (n : List ℕ) → Among n (map (sought_name sought) entries ++ a) → Among n (after_rounds (map (λ entry. Asked (ChecksEach sought (entry ∷ []) includes)) entries) b)
 each_after sought [] includes a b w n h = w n h
 each_after sought (entry ∷ more) includes a b w n h =
     ⊎_elim (λ e. after_more (map (λ x. Asked (ChecksEach sought (x ∷ []) includes)) more) (sought_name sought entry ∷ b) n (inl e))
     (λ k. each_after sought more includes a (sought_name sought entry ∷ b) (λ m x. inr (w m x)) n k) h
 
 -- All names that the subject tests are known after its rounds.
-pub rounds_after : (subject : Subject) (a b : List (List ℕ)) → ((n : List ℕ) → Among n a → Among n b) → (n : List ℕ) → Among n (tests_at subject ++ a) → Among n (after_rounds (rounds_of subject) b)
+pub rounds_after : (subject : Subject) (a b : List (List ℕ)) → Within a b → (n : List ℕ) → Among n (tests_at subject ++ a) → Among n (after_rounds (rounds_of subject) b)
 rounds_after Nothing a b w n h = w n h
 rounds_after (Word word) a b w n h = w n h
 rounds_after (Asked (Given kind variable help)) a b w n h = w n h

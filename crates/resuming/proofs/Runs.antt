@@ -3,7 +3,7 @@ use Rattle.std.proofs.Common.{◌≡◌, ℕ, ◌≤◌, List, ◌++◌, length,
 use Rattle.std.proofs.lemmas.List.{length-take-le}
 use Rattle.std.proofs.Math.Seq.{take-append_seam, drop-append_seam}
 use Rattle.crew_trait.specs.declared.reply.Reply.{Reply}
-use Rattle.meaning.specs.State.{State, How, Goes_on, Completed, Stopped, Cut, Run, Ends, Asks, then_run}
+use Rattle.meaning.specs.State.{State, How, Goes_on, Run, Ends, Asks, then_run}
 use Rattle.laws.specs.Ends.{AtEnds}
 use Rattle.resuming.specs.Finished.{Finished, finish, with_taken, Enough}
 use Rattle.resuming.proofs.Near.{follow}
@@ -13,15 +13,11 @@ with_more a b f = ap (λ t. record f { taken = t }) (sym (append_assoc a b f.tak
 
 follow_more : (rs : List Reply) (how : How) (f : Finished) (rest : State → Run) → with_taken rs (follow how f rest) ≡ follow how (with_taken rs f) rest
 follow_more rs Goes_on f rest = with_more rs f.taken (finish (rest f.state) f.left)
-follow_more rs Completed f rest = refl
-follow_more rs (Stopped status) f rest = refl
-follow_more rs Cut f rest = refl
+follow_more rs _ f rest = refl
 
 pub finish_then : (run : Run) (rest : State → Run) (rs : List Reply) → finish (then_run run rest) rs ≡ follow (finish run rs).how (finish run rs) rest
 finish_then (Ends Goes_on st) rest rs = refl
-finish_then (Ends Completed st) rest rs = refl
-finish_then (Ends (Stopped s) st) rest rs = refl
-finish_then (Ends Cut st) rest rs = refl
+finish_then (Ends _ st) rest rs = refl
 finish_then (Asks jobs next) rest rs =
     ap (with_taken (take (length jobs) rs)) (finish_then (next (take (length jobs) rs)) rest (drop (length jobs) rs))
     ∙ follow_more (take (length jobs) rs) _ (finish (next (take (length jobs) rs)) (drop (length jobs) rs)) rest
@@ -32,9 +28,7 @@ enough_first (Asks jobs next) rest rs h = (h.0, enough_first (next (take (length
 
 pub enough_rest : (run : Run) (rest : State → Run) (rs : List Reply) → Enough (then_run run rest) rs → (finish run rs).how ≡ Goes_on → Enough (rest (finish run rs).state) (finish run rs).left
 enough_rest (Ends Goes_on st) rest rs h e = h
-enough_rest (Ends Completed st) rest rs h e = cc
-enough_rest (Ends (Stopped status) st) rest rs h e = cc
-enough_rest (Ends Cut st) rest rs h e = cc
+enough_rest (Ends _ st) rest rs h e = cc
 enough_rest (Asks jobs next) rest rs h e = enough_rest (next (take (length jobs) rs)) rest (drop (length jobs) rs) h.1 e
 
 take_front : (n : ℕ) (rs t more : List Reply) → n ≤ length rs → take n (take n rs ++ (t ++ more)) ≡ take n rs
@@ -73,9 +67,7 @@ enough_again (Asks jobs next) rs more h =
 -- One run after the other.
 pub enough_then : (run : Run) (rest : State → Run) (rs : List Reply) → Enough run rs → ((finish run rs).how ≡ Goes_on → Enough (rest (finish run rs).state) (finish run rs).left) → Enough (then_run run rest) rs
 enough_then (Ends Goes_on st) rest rs h k = k refl
-enough_then (Ends Completed st) rest rs h k = tt
-enough_then (Ends (Stopped status) st) rest rs h k = tt
-enough_then (Ends Cut st) rest rs h k = tt
+enough_then (Ends _ st) rest rs h k = tt
 enough_then (Asks jobs next) rest rs h k = (h.0, enough_then (next (take (length jobs) rs)) rest (drop (length jobs) rs) h.1 k)
 
 pub at_end : (P : How → State → Type 0) (run : Run) (rs : List Reply) → AtEnds P run → P (finish run rs).how (finish run rs).state

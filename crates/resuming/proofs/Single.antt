@@ -7,59 +7,48 @@ use Rattle.crew_trait.specs.declared.reply.Reply.{Reply}
 use Rattle.deftable.specs.CacheName.{is_cache_name}
 use Rattle.deftable.specs.Table.{value_of}
 use Rattle.syntax.specs.Resumable.{Among, IsOrdinary, MayRead}
-use Rattle.meaning.specs.State.{State, How, Goes_on, Completed, Stopped, Cut, Run, Ends, Asks}
+use Rattle.meaning.specs.State.{State, How, Goes_on, Cut, Run, Ends, Asks}
 use Rattle.laws.specs.Cached.{IsSet}
 use Rattle.laws.proofs.Values.{cases_value}
 use Rattle.resuming.specs.Finished.{Finished, finish, Enough}
 use Rattle.resuming.specs.Joint.{both_past, Pair, joint_by, joint_one}
 use Rattle.resuming.specs.Same.{SameOne}
-use Rattle.resuming.proofs.Near.{IsCached, Alike, Every, Like, Near, Sets, leads_by, Ready, Comes, IsPart}
+use Rattle.resuming.proofs.Near.{Within, IsCached, Alike, Every, Like, Near, Sets, leads_by, Ready, passed, Comes, IsPart}
 use Rattle.resuming.proofs.Names.{same_or_not}
 use Rattle.resuming.proofs.Runs.{at_end}
 use Rattle.resuming.proofs.Forms.{Own, own_else, Went, Still, Form, IsTest, Settles}
-use Rattle.resuming.proofs.Liking.{like_enough}
-use Rattle.resuming.proofs.Parts.{sets_none, ends_like, readable_same}
+use Rattle.resuming.proofs.Liking.{like_finish, like_enough, Reads, wider_reads}
+use Rattle.resuming.proofs.Parts.{sets_none, readable_same}
 
 -- ---- parts that ask nothing
 
 pub all_readable : (known : List (List ℕ)) (f s E : State) → Near known f s E → Alike (MayRead known) f s
 all_readable known f s E near = record { defs = near.alike.defs; value = λ n r. readable_same known f s E n near r }
 
-pub still_part : (known : List (List ℕ)) (f : State → State) (fits : List (List ℕ) → Type 0) → ((s t : State) → Alike Every s t → Alike Every (f s) (f t)) → ((n : List ℕ) (st : State) → IsCached n → value_of (f st).vars n ≡ value_of st.vars n) → ((s t : State) → Alike (MayRead known) s t → Alike IsOrdinary (f s) (f t))
+pub ordinary : (known : List (List ℕ)) (s t : State) → Alike (MayRead known) s t → Alike IsOrdinary s t
+ordinary known s t h = record { defs = h.defs; value = λ n p. h.value n (inl p) }
+
+-- A change that leaves cache names as they are, and reads these names alone.
+pub still_part : (tested known : List (List ℕ)) (f : State → State) (fits : List (List ℕ) → Type 0) → Within tested known → ((at : List ℕ → Type 0) → Reads at tested → (s t : State) → Alike at s t → Alike at (f s) (f t)) → ((n : List ℕ) (st : State) → IsCached n → value_of (f st).vars n ≡ value_of st.vars n)
     → IsPart known known [] (λ st. Ends Goes_on (f st)) (joint_one (λ st. Ends Goes_on (f st))) (λ p. Unit {0}) fits
-still_part known f fits every values plain = record {
-  like = λ s t h. (refl, every s t h);
+still_part tested known f fits w alike values = record {
+  like = λ s t h. (refl, alike Every (λ n r. tt) s t h);
   sets = λ st rs enough. sets_none [] st (f st) (λ n c. values n st c);
-  comes = λ later E p fit near ready same. record {
-    first = refl;
-    state = refl;
-    left = refl;
-    took = refl;
-    second = refl;
-    state2 = refl;
-    left2 = refl;
-    near = record {
-      alike = plain p.first p.second (all_readable known p.first p.second E near);
-      saved = λ n c. ⊎_elim (λ e. inl (values n p.second c ∙ e)) (λ h. inr (values n p.second c ∙ h.0, (values n p.first c ∙ h.1.0, h.1.1))) (near.saved n c);
-      known = λ n c a. values n p.first c ∙ near.known n c a;
-    };
-  };
+  comes = λ later E p fit near ready same. passed known E (finish (Ends Goes_on (f p.first)) p.replies) (finish (Ends Goes_on (f p.second)) p.again) refl refl
+      (record {
+        alike = ordinary known (f p.first) (f p.second) (alike (MayRead known) (wider_reads tested known w) p.first p.second (all_readable known p.first p.second E near));
+        saved = λ n c. ⊎_elim (λ e. inl (values n p.second c ∙ e)) (λ h. inr (values n p.second c ∙ h.0, (values n p.first c ∙ h.1.0, h.1.1))) (near.saved n c);
+        known = λ n c a. values n p.first c ∙ near.known n c a;
+      });
 }
 
-pub completes_part : (known : List (List ℕ)) (f : State → State) (fits : List (List ℕ) → Type 0) → ((s t : State) → Alike Every s t → Alike Every (f s) (f t)) → ((n : List ℕ) (st : State) → IsCached n → value_of (f st).vars n ≡ value_of st.vars n)
-    → IsPart known known [] (λ st. Ends Completed (f st)) (joint_one (λ st. Ends Completed (f st))) (λ p. Unit {0}) fits
-completes_part known f fits every values = record {
+-- A part that ends the run otherwise than by a cut.
+pub ends_part : (known : List (List ℕ)) (how : How) (f : State → State) (fits : List (List ℕ) → Type 0) → ((later : List (List ℕ)) (now E : State) → leads_by how later now E → ⊥) → ((s t : State) → Alike Every s t → Alike Every (f s) (f t)) → ((n : List ℕ) (st : State) → IsCached n → value_of (f st).vars n ≡ value_of st.vars n)
+    → IsPart known known [] (λ st. Ends how (f st)) (joint_one (λ st. Ends how (f st))) (λ p. Unit {0}) fits
+ends_part known how f fits never every values = record {
   like = λ s t h. (refl, every s t h);
   sets = λ st rs enough. sets_none [] st (f st) (λ n c. values n st c);
-  comes = λ later E p fit near ready same. absurd ready.leads;
-}
-
-pub stops_part : (known : List (List ℕ)) (status : ℕ) (f : State → State) (fits : List (List ℕ) → Type 0) → ((s t : State) → Alike Every s t → Alike Every (f s) (f t)) → ((n : List ℕ) (st : State) → IsCached n → value_of (f st).vars n ≡ value_of st.vars n)
-    → IsPart known known [] (λ st. Ends (Stopped status) (f st)) (joint_one (λ st. Ends (Stopped status) (f st))) (λ p. Unit {0}) fits
-stops_part known status f fits every values = record {
-  like = λ s t h. (refl, every s t h);
-  sets = λ st rs enough. sets_none [] st (f st) (λ n c. values n st c);
-  comes = λ later E p fit near ready same. absurd ready.leads;
+  comes = λ later E p fit near ready same. absurd (never later (f p.first) E ready.leads);
 }
 
 -- ---- the same replies again
@@ -87,8 +76,7 @@ like_twice at (Asks js n) (Asks ks m) rs qs t ea eb e =
     let on = like_twice at (n (take (length js) rs)) (m (take (length ks) qs)) (drop (length js) rs) (drop (length ks) qs)
     (subst (λ z. Like at (n (take (length js) rs)) (m z)) (sym parts.0) (t.1 (take (length js) rs))) ea.1 eb.1 parts.1 in
     record { how = on.how; state = on.state }
-like_twice at (Ends h a) (Asks ks m) rs qs t ea eb e = absurd t
-like_twice at (Asks js n) (Ends g b) rs qs t ea eb e = absurd t
+like_twice at _ _ rs qs t ea eb e = absurd t
 
 -- ---- a test of one name
 
@@ -100,9 +88,7 @@ form_sets known name after part st now Goes_on test none w =
       keeps = λ n v c e. other n c (λ same. let z : None ≡ Some v = sym none ∙ ap (value_of st.vars) same ∙ e in cc) ∙ e;
       others = λ n c no_name. other n c (λ same. no_name (inl same));
     }
-form_sets known name after part st now Completed test none w = sets_none (name ∷ []) st now w
-form_sets known name after part st now (Stopped s) test none w = sets_none (name ∷ []) st now w
-form_sets known name after part st now Cut test none w = sets_none (name ∷ []) st now w
+form_sets known name after part st now _ test none w = sets_none (name ∷ []) st now w
 
 test_sets : (known : List (List ℕ)) (name : List ℕ) (after : Option (List ℕ) → State → State) (part : State → Run) (st : State) (rs : List Reply) → IsTest known name after part → Sets (name ∷ []) st (finish (part st) rs).state
 test_sets known name after part st rs test =
@@ -176,21 +162,11 @@ test_twin known later name after part p E test near ready same is fn sn lost at_
     let two = like_twice (MayRead (name ∷ known)) (part p.first) (part p.second) p.replies p.again (test.twin p.first p.second readable) ready.enough ready.again (same is lost) in
     let w2 = test_went known name after part p.second p.again test (sym two.how ∙ is) in
     let mid_is : value_of w2.mid.vars name ≡ value_of w.mid.vars name = sym (test.values (value_of w2.mid.vars name) name w2.mid test.cached) ∙ sym (w2.is.value name tt) ∙ sym (two.state.value name (inr (inl refl))) ∙ at_f in
-    record {
-      first = is;
-      state = refl;
-      left = refl;
-      took = refl;
-      second = sym two.how ∙ is;
-      state2 = refl;
-      left2 = refl;
-      near = one_near known name after part p.first p.second E f.state s.state w2.mid test near w w2.own (subst (λ o. Alike Every s.state (after o w2.mid)) mid_is w2.is) mid_is (sym at_f ∙ at_end);
-    }
+    passed (name ∷ known) E f s is (sym two.how ∙ is)
+    (one_near known name after part p.first p.second E f.state s.state w2.mid test near w w2.own (subst (λ o. Alike Every s.state (after o w2.mid)) mid_is w2.is) mid_is (sym at_f ∙ at_end))
 
 test_by : (known later : List (List ℕ)) (name : List ℕ) (after : Option (List ℕ) → State → State) (part : State → Run) (p : Pair) (E : State) (how : How) → IsTest known name after part → (Among name later → ⊥) ⊎ Settles name part → Near known p.first p.second E → Ready later E (part p.first) p.replies (part p.second) p.again → SameOne name part p → (finish (part p.first) p.replies).how ≡ how
     → Comes (name ∷ known) E (part p.first) p.replies (part p.second) p.again (joint_by how (finish (part p.first) p.replies) (finish (part p.second) p.again) p.again)
-test_by known later name after part p E Completed test apart near ready same is = absurd (subst (λ h. leads_by h later (finish (part p.first) p.replies).state E) is ready.leads)
-test_by known later name after part p E (Stopped status) test apart near ready same is = absurd (subst (λ h. leads_by h later (finish (part p.first) p.replies).state E) is ready.leads)
 test_by known later name after part p E Cut test apart near ready same is =
     let f = finish (part p.first) p.replies in
     let ends : f.state ≡ E = subst (λ h. leads_by h later f.state E) is ready.leads in
@@ -201,7 +177,7 @@ test_by known later name after part p E Cut test apart near ready same is =
       defs = near.alike.defs;
       value = λ n a. ⊎_elim (λ c. ⊎_elim (λ e. sym (kept n c) ∙ ap (λ x. value_of x.vars n) ends ∙ sym e) (λ h. h.1.0 ∙ sym h.0) (near.saved n c)) (λ q. near.alike.value n q) (cases_Bool (is_cache_name n));
     } in
-    (is, (like_enough Every (part p.first) (part p.second) p.again (test.every p.first p.second alike) ready.again, ends_like (part p.first) (part p.second) p.again (test.every p.first p.second alike))))
+    (is, (like_enough Every (part p.first) (part p.second) p.again (test.every p.first p.second alike) ready.again, like_finish Every (part p.first) (part p.second) p.again (test.every p.first p.second alike))))
     (λ some. let z : Goes_on ≡ Cut = sym (ap (λ w. (finish w p.replies).how) (test.set p.first some.0 some.1).run_is) ∙ is in cc)
     (cases_value (value_of p.first.vars name))
 test_by known later name after part p E Goes_on test apart near ready same is =
@@ -225,20 +201,13 @@ test_by known later name after part p E Goes_on test apart near ready same is =
     (λ saved.
     let sv = saved ∙ en in
     let o = test.set p.second some.0 sv in
-    record {
-      first = is;
-      state = refl;
-      left = refl;
-      took = refl;
-      second = ap (λ x. (finish x p.again).how) o.run_is;
-      state2 = refl;
-      left2 = refl;
-      near = one_near known name after part p.first p.second E f.state s.state p.second test near w (own_refl name p.second)
-          (subst (λ x. Alike Every (finish x p.again).state (after (value_of w.mid.vars name) p.second)) (sym o.run_is) (subst (λ v. Alike Every o.now (after v p.second)) (sym some.1) o.is)) (sv ∙ sym some.1) (some.1 ∙ sym en);
-    })
+    passed (name ∷ known) E f s is (ap (λ x. (finish x p.again).how) o.run_is)
+    (one_near known name after part p.first p.second E f.state s.state p.second test near w (own_refl name p.second)
+    (subst (λ x. Alike Every (finish x p.again).state (after (value_of w.mid.vars name) p.second)) (sym o.run_is) (subst (λ v. Alike Every o.now (after v p.second)) (sym some.1) o.is)) (sv ∙ sym some.1) (some.1 ∙ sym en)))
     (λ h. test_twin known later name after part p E test near ready same is h.1.0 h.0 (ap (saved_value name) (at_f ∙ some.1 ∙ sym en) ∙ h.1.1) (at_f ∙ some.1 ∙ sym en))
     (near.saved name test.cached))
     (cases_value (value_of w.mid.vars name))
+test_by known later name after part p E how test apart near ready same is = absurd (subst (λ h. leads_by h later (finish (part p.first) p.replies).state E) is ready.leads)
 
 pub test_part : (known : List (List ℕ)) (name : List ℕ) (after : Option (List ℕ) → State → State) (part : State → Run) (fits : List (List ℕ) → Type 0) → IsTest known name after part → ((later : List (List ℕ)) → fits later → (Among name later → ⊥) ⊎ Settles name part) → IsPart known (name ∷ known) (name ∷ []) part (joint_one part) (SameOne name part) fits
 test_part known name after part fits test apart = record {

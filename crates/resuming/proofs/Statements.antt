@@ -1,5 +1,5 @@
 -- Statements without statements in them, as parts.
-use Rattle.std.proofs.Common.{◌≡◌, ℕ, List, [], ◌∷◌, ◌++◌, codes, Bool, cond, length, Option, Some, None, inl, inr, refl, sym, ap, ◌∙◌, subst, ⊎_elim}
+use Rattle.std.proofs.Common.{◌≡◌, ℕ, List, [], ◌∷◌, ◌++◌, codes, Bool, cond, length, Option, Some, None, inl, refl, sym, ap, ◌∙◌, subst, ⊎_elim}
 use Rattle.std.specs.Prelude.{◌==◌, not, option_map, unwrap_or}
 use Rattle.deftable.specs.CacheName.{is_cache_name, has_cv}
 use Rattle.deftable.specs.Table.{value_of}
@@ -9,33 +9,26 @@ use Rattle.shellword.specs.Value.{word_value}
 use Rattle.syntax.specs.declared.statement.MessageKind.{MessageKind}
 use Rattle.syntax.specs.declared.statement.MessageKind.TheVariants as messages
 use Rattle.syntax.specs.declared.statement.Plain as plain
-use Rattle.syntax.specs.declared.statement.Plain.TheVariants.{Init, Accepted, ConfigFiles, ConfigHeaders, Assign, Subst, SubstValue, Define, DefineUnquoted, Error, Message, ArgVar, CheckProg, CheckProgs, PathProg, ProgCc, Batch, Output}
-use Rattle.syntax.specs.Resumable.{Among, IsOrdinary, MayRead, ReadsText, ReadsIfGiven, tests_of, MayAssign, ResumablePlain}
+use Rattle.syntax.specs.declared.statement.Plain.TheVariants.{Init, Assign, SubstValue, Define, DefineUnquoted, Error, Message, CheckProg, CheckProgs, PathProg, ProgCc, Batch, Output}
+use Rattle.syntax.specs.Resumable.{IsOrdinary, MayRead, ReadsText, ReadsIfGiven, tests_of, MayAssign, ResumablePlain}
 use Rattle.syntax.specs.TestNames.{program_name, path_name, NamesVariable}
-use Rattle.meaning.specs.State.{State, told, with_variable, with_definition, Goes_on, Ends}
+use Rattle.meaning.specs.State.{State, told, with_variable, with_definition, Goes_on, Completed, Stopped, Ends}
 use Rattle.meaning.specs.Rows.{value_or_empty, value_if}
 use Rattle.meaning.specs.Package.{literal, package_string, with_package, initialised}
 use Rattle.meaning.specs.Meaning.{is_unsettled, settled, with_prefixes, has_value, is_full_name, error_line, said, effect}
 use Rattle.resuming.specs.Alone.{AlonePlain}
 use Rattle.resuming.specs.Joint.{joint_plain, joint_one}
 use Rattle.resuming.specs.Same.{SamePlain}
-use Rattle.resuming.proofs.Near.{IsCached, Alike, Every, IsPart}
-use Rattle.resuming.proofs.Names.{value_else, cached_apart, program_cached, path_cached, cc_plain, prefix_plain, exec_prefix_plain}
+use Rattle.resuming.proofs.Near.{Within, IsCached, Alike, Every, IsPart}
+use Rattle.resuming.proofs.Names.{value_else, cached_apart, program_cached, path_cached, cc_plain}
 use Rattle.resuming.proofs.Liking.{Reads, variable_alike, written_alike, definition_alike, cond_alike, text_same}
 use Rattle.resuming.proofs.Forms.{cond_values, reads_more}
 use Rattle.resuming.proofs.Programs.{SameKind, prog_kind, prog_test, looks_test, test_then, default_of, default_alike, default_values, given_same}
-use Rattle.resuming.proofs.Single.{still_part, completes_part, stops_part, test_part}
+use Rattle.resuming.proofs.Single.{still_part, ends_part, test_part}
 use Rattle.resuming.proofs.BatchPart.{batch_part}
 
--- What may be read with these names may be read with more.
-pub wider_reads : (tested known : List (List ℕ)) → ((n : List ℕ) → Among n tested → Among n known) → Reads (MayRead known) tested
-wider_reads tested known w n r = ⊎_elim (λ x. inl x) (λ x. inr (w n x)) r
-
 pub id_part : (known : List (List ℕ)) (fits : List (List ℕ) → Type 0) → IsPart known known [] (Ends Goes_on) (joint_one (Ends Goes_on)) (λ p. Unit {0}) fits
-id_part known fits = still_part known (λ st. st) fits (λ s t h. h) (λ n st c. refl) (λ s t h. record { defs = h.defs; value = λ n p. h.value n (inl p) })
-
-pub ordinary : (known : List (List ℕ)) (s t : State) → Alike (MayRead known) s t → Alike IsOrdinary s t
-ordinary known s t h = record { defs = h.defs; value = λ n p. h.value n (inl p) }
+id_part known fits = still_part [] known (λ st. st) fits (λ n a. absurd a) (λ at reads s t h. h) (λ n st c. refl)
 
 -- A cache name is not written with an ordinary one.
 pub write_values : (name value : List ℕ) (n : List ℕ) (st : State) → IsOrdinary name → IsCached n → value_of (with_variable name value st).vars n ≡ value_of st.vars n
@@ -52,54 +45,26 @@ init_alike at title version bug tarname url s t h =
     package_alike at (codes "PACKAGE_URL") url _ _ (package_alike at (codes "PACKAGE_BUGREPORT") bug _ _ (package_alike at (codes "PACKAGE_STRING") (package_string title version) _ _
     (package_alike at (codes "PACKAGE_VERSION") version _ _ (package_alike at (codes "PACKAGE_TARNAME") tarname _ _ (package_alike at (codes "PACKAGE_NAME") title s t h)))))
 
-url_plain : IsOrdinary (codes "PACKAGE_URL")
-unfolding is_cache_name has_cv
-url_plain = refl
-
-bug_plain : IsOrdinary (codes "PACKAGE_BUGREPORT")
-unfolding is_cache_name has_cv
-bug_plain = refl
-
-string_plain : IsOrdinary (codes "PACKAGE_STRING")
-unfolding is_cache_name has_cv
-string_plain = refl
-
-version_plain : IsOrdinary (codes "PACKAGE_VERSION")
-unfolding is_cache_name has_cv
-version_plain = refl
-
-tarname_plain : IsOrdinary (codes "PACKAGE_TARNAME")
-unfolding is_cache_name has_cv
-tarname_plain = refl
-
-name_plain : IsOrdinary (codes "PACKAGE_NAME")
-unfolding is_cache_name has_cv
-name_plain = refl
-
 init_values : (title version bug tarname url : List ℕ) (n : List ℕ) (st : State) → IsCached n → value_of (initialised title version bug tarname url st).vars n ≡ value_of st.vars n
-unfolding initialised
+unfolding initialised is_cache_name has_cv
 init_values title version bug tarname url n st c =
     let a = with_package st (codes "PACKAGE_NAME") title in
     let b = with_package a (codes "PACKAGE_TARNAME") tarname in
     let d = with_package b (codes "PACKAGE_VERSION") version in
     let e = with_package d (codes "PACKAGE_STRING") (package_string title version) in
     let f = with_package e (codes "PACKAGE_BUGREPORT") bug in
-    write_values (codes "PACKAGE_URL") url n f url_plain c ∙ write_values (codes "PACKAGE_BUGREPORT") bug n e bug_plain c ∙ write_values (codes "PACKAGE_STRING") (package_string title version) n d string_plain c
-    ∙ write_values (codes "PACKAGE_VERSION") version n b version_plain c ∙ write_values (codes "PACKAGE_TARNAME") tarname n a tarname_plain c ∙ write_values (codes "PACKAGE_NAME") title n st name_plain c
+    write_values (codes "PACKAGE_URL") url n f refl c ∙ write_values (codes "PACKAGE_BUGREPORT") bug n e refl c ∙ write_values (codes "PACKAGE_STRING") (package_string title version) n d refl c
+    ∙ write_values (codes "PACKAGE_VERSION") version n b refl c ∙ write_values (codes "PACKAGE_TARNAME") tarname n a refl c ∙ write_values (codes "PACKAGE_NAME") title n st refl c
 
 said_alike : (at : List ℕ → Type 0) (kind : MessageKind) (v w : List ℕ) (s t : State) → Alike at s t → Alike at (said kind v s) (said kind w t)
 unfolding said
 said_alike at messages.Checking v w s t h = record { defs = h.defs; value = h.value }
-said_alike at messages.Results v w s t h = record { defs = h.defs; value = h.value }
-said_alike at messages.Notice v w s t h = record { defs = h.defs; value = h.value }
-said_alike at messages.Warning v w s t h = record { defs = h.defs; value = h.value }
+said_alike at _ v w s t h = record { defs = h.defs; value = h.value }
 
 said_values : (kind : MessageKind) (v : List ℕ) (n : List ℕ) (st : State) → value_of (said kind v st).vars n ≡ value_of st.vars n
 unfolding said
 said_values messages.Checking v n st = refl
-said_values messages.Results v n st = refl
-said_values messages.Notice v n st = refl
-said_values messages.Warning v n st = refl
+said_values _ v n st = refl
 
 settled_alike : (name value : List ℕ) (s t : State) → Alike Every s t → Alike Every (settled name value s) (settled name value t)
 settled_alike name value s t h =
@@ -108,6 +73,11 @@ settled_alike name value s t h =
 
 settled_values : (name value : List ℕ) (n : List ℕ) (o : Option (List ℕ)) (st : State) → IsOrdinary name → IsCached n → value_of st.vars n ≡ o → value_of (settled name value st).vars n ≡ o
 settled_values name value n o st p c e = cond_values (is_unsettled (value_of st.vars name)) _ _ n o (write_values name value n st p c ∙ e) e
+
+prefixes_values : (n : List ℕ) (st : State) → IsCached n → value_of (with_prefixes st).vars n ≡ value_of st.vars n
+unfolding is_cache_name has_cv
+prefixes_values n st c =
+    settled_values (codes "exec_prefix") (codes "${prefix}") n _ (settled (codes "prefix") (codes "/usr/local") st) refl c (settled_values (codes "prefix") (codes "/usr/local") n _ st refl c refl)
 
 -- ---- tests of programs
 
@@ -134,43 +104,33 @@ path_same at names name variable program otherwise a reads q s t h =
 
 -- ---- statements
 
-set_part : (tested known : List (List ℕ)) (name : List ℕ) (value : List Part) (fits : List (List ℕ) → Type 0) → ((n : List ℕ) → Among n tested → Among n known) → MayAssign None name → ReadsText tested value
+set_part : (tested known : List (List ℕ)) (name : List ℕ) (value : List Part) (fits : List (List ℕ) → Type 0) → Within tested known → MayAssign None name → ReadsText tested value
     → IsPart known known [] (λ st. Ends Goes_on (with_variable name (word_value value st.vars) st)) (joint_one (λ st. Ends Goes_on (with_variable name (word_value value st.vars) st))) (λ p. Unit {0}) fits
 set_part tested known name value fits w m r =
-    still_part known (λ st. with_variable name (word_value value st.vars) st) fits
-    (λ s t a. written_alike Every name (word_value value s.vars) (word_value value t.vars) s t (text_same Every tested value s t (λ n k. tt) r a) a)
+    still_part tested known (λ st. with_variable name (word_value value st.vars) st) fits w
+    (λ at reads s t a. written_alike at name (word_value value s.vars) (word_value value t.vars) s t (text_same at tested value s t reads r a) a)
     (λ n st c. write_values name (word_value value st.vars) n st (may_assign name m) c)
-    (λ s t a. written_alike IsOrdinary name (word_value value s.vars) (word_value value t.vars) s t (text_same (MayRead known) tested value s t (wider_reads tested known w) r a) (ordinary known s t a))
 
 defined_alike : (at : List ℕ → Type 0) (name v w : List ℕ) (s t : State) → v ≡ w → Alike at s t → Alike at (with_definition name v s) (with_definition name w t)
 defined_alike at name v w s t e h = subst (λ x. Alike at (with_definition name v s) (with_definition name x t)) e (definition_alike at name v s t h)
 
-pub plain_part : (tested known : List (List ℕ)) (s : plain.Plain) → ((n : List ℕ) → Among n tested → Among n known) → NamesVariable s → ResumablePlain None tested s
+pub plain_part : (tested known : List (List ℕ)) (s : plain.Plain) → Within tested known → NamesVariable s → ResumablePlain None tested s
     → IsPart known (tests_of s ++ known) (tests_of s) (effect s) (joint_plain s) (SamePlain s) (AlonePlain s)
 unfolding effect joint_plain
 plain_part tested known (Init title version bug tarname url) w v r =
-    still_part known (initialised title version bug tarname url) (AlonePlain (Init title version bug tarname url)) (λ s t a. init_alike Every title version bug tarname url s t a)
-    (λ n st c. init_values title version bug tarname url n st c) (λ s t a. init_alike IsOrdinary title version bug tarname url s t (ordinary known s t a))
-plain_part tested known Accepted w v r = id_part known (AlonePlain Accepted)
-plain_part tested known (ConfigFiles outputs) w v r = id_part known (AlonePlain (ConfigFiles outputs))
-plain_part tested known (ConfigHeaders outputs) w v r = id_part known (AlonePlain (ConfigHeaders outputs))
+    still_part tested known (initialised title version bug tarname url) (AlonePlain (Init title version bug tarname url)) w (λ at reads s t a. init_alike at title version bug tarname url s t a)
+    (λ n st c. init_values title version bug tarname url n st c)
 plain_part tested known (Assign name value) w v r = set_part tested known name value (AlonePlain (Assign name value)) w r.0 r.1
-plain_part tested known (Subst name) w v r = id_part known (AlonePlain (Subst name))
 plain_part tested known (SubstValue name value) w v r = set_part tested known name value (AlonePlain (SubstValue name value)) w r.0 r.1
 plain_part tested known (Define name value) w v r =
-    still_part known (with_definition name value) (AlonePlain (Define name value)) (λ s t a. definition_alike Every name value s t a) (λ n st c. refl)
-    (λ s t a. definition_alike IsOrdinary name value s t (ordinary known s t a))
+    still_part tested known (with_definition name value) (AlonePlain (Define name value)) w (λ at reads s t a. definition_alike at name value s t a) (λ n st c. refl)
 plain_part tested known (DefineUnquoted name value) w v r =
-    still_part known (λ st. with_definition name (word_value value st.vars) st) (AlonePlain (DefineUnquoted name value))
-    (λ s t a. defined_alike Every name _ _ s t (text_same Every tested value s t (λ n k. tt) r a) a)
-    (λ n st c. refl)
-    (λ s t a. defined_alike IsOrdinary name _ _ s t (text_same (MayRead known) tested value s t (wider_reads tested known w) r a) (ordinary known s t a))
+    still_part tested known (λ st. with_definition name (word_value value st.vars) st) (AlonePlain (DefineUnquoted name value)) w
+    (λ at reads s t a. defined_alike at name _ _ s t (text_same at tested value s t reads r a) a) (λ n st c. refl)
 plain_part tested known (Error message status) w v r =
-    stops_part known status (λ st. told streams.Err (error_line (word_value message st.vars)) st) (AlonePlain (Error message status)) (λ s t a. record { defs = a.defs; value = a.value }) (λ n st c. refl)
+    ends_part known (Stopped status) (λ st. told streams.Err (error_line (word_value message st.vars)) st) (AlonePlain (Error message status)) (λ later now E h. h) (λ s t a. record { defs = a.defs; value = a.value }) (λ n st c. refl)
 plain_part tested known (Message kind message) w v r =
-    still_part known (λ st. said kind (word_value message st.vars) st) (AlonePlain (Message kind message)) (λ s t a. said_alike Every kind _ _ s t a) (λ n st c. said_values kind (word_value message st.vars) n st)
-    (λ s t a. said_alike IsOrdinary kind _ _ s t (ordinary known s t a))
-plain_part tested known (ArgVar name help) w v r = id_part known (AlonePlain (ArgVar name help))
+    still_part tested known (λ st. said kind (word_value message st.vars) st) (AlonePlain (Message kind message)) w (λ at reads s t a. said_alike at kind _ _ s t a) (λ n st c. said_values kind (word_value message st.vars) n st)
 plain_part tested known (CheckProg variable program found otherwise) w v r =
     let name = program_name variable in
     let p = may_assign variable r.0 in
@@ -203,7 +163,6 @@ plain_part tested known (ProgCc programs) w v r =
 plain_part tested known (Batch listed entries includes) w v r =
     batch_part tested known (record { listed = listed; entries = entries; includes = includes }) (AlonePlain (Batch listed entries includes)) r
 plain_part tested known Output w v r =
-    completes_part known with_prefixes (AlonePlain Output)
-    (λ s t a. settled_alike (codes "exec_prefix") (codes "${prefix}") _ _ (settled_alike (codes "prefix") (codes "/usr/local") s t a))
-    (λ n st c. settled_values (codes "exec_prefix") (codes "${prefix}") n _ (settled (codes "prefix") (codes "/usr/local") st) exec_prefix_plain c
-    (settled_values (codes "prefix") (codes "/usr/local") n _ st prefix_plain c refl))
+    ends_part known Completed with_prefixes (AlonePlain Output) (λ later now E h. h)
+    (λ s t a. settled_alike (codes "exec_prefix") (codes "${prefix}") _ _ (settled_alike (codes "prefix") (codes "/usr/local") s t a)) prefixes_values
+plain_part tested known s w v r = id_part known (AlonePlain s)

@@ -16,19 +16,19 @@ use Rattle.resuming.specs.Alone.{tested_rounds, tested_in, tested_cases, IsNone,
 use Rattle.resuming.specs.Joint.{Joint, Past, Whole, Pair, joint_one, joint_plain, joint_rounds, checks, joint, joint_cases, joint_replies}
 use Rattle.resuming.specs.Same.{SameOne, SamePlain, SameRounds, SameAgain, SameCases}
 use Rattle.resuming.specs.Law.{Begun, EndsAgain, Resumes}
-use Rattle.resuming.proofs.Near.{Every, Saved, Near, leads_by, Leads, EndsAlike, Ready, Comes, IsPart}
+use Rattle.resuming.proofs.Near.{Within, Every, Saved, Near, leads_by, Leads, EndsAlike, Ready, Comes, IsPart}
 use Rattle.resuming.proofs.Names.{among_right, among_wider, saved_or_not, ordinary_unsaved}
-use Rattle.resuming.proofs.Liking.{taken_same}
+use Rattle.resuming.proofs.Liking.{wider_reads, taken_same}
 use Rattle.resuming.proofs.Forms.{nothing_after, check_test}
 use Rattle.resuming.proofs.Parts.{part_then, part_less, part_if}
 use Rattle.resuming.proofs.Single.{all_readable, test_part}
-use Rattle.resuming.proofs.Statements.{wider_reads, id_part, plain_part}
+use Rattle.resuming.proofs.Statements.{id_part, plain_part}
 use Rattle.resuming.proofs.Rounds.{after_rounds, turns_part, after_more, rounds_keep, rounds_first, rounds_after}
 
 mutual
   unfolding meaning chosen joint joint_cases SameAgain SameCases
 
-  pub script_part : (script : Script) (tested known : List (List ℕ)) → ((n : List ℕ) → Among n tested → Among n known) → HasCommands script → HasTestNames script → Resumable None tested script
+  pub script_part : (script : Script) (tested known : List (List ℕ)) → Within tested known → HasCommands script → HasTestNames script → Resumable None tested script
       → IsPart known known (tested_in script) (meaning script) (joint script) (SameAgain script) (Alone script)
   script_part Done tested known w a v r = id_part known (Alone Done)
   script_part (Then s rest) tested known w a v r =
@@ -53,7 +53,7 @@ mutual
       (test_part known name nothing_after (checks message name (meaning commands)) (IsNone name) (check_test (Some name) tested known message name commands w a.0 a.1.0 r.1.0) (λ later f. inl f))
       (script_part rest (name ∷ tested) more (λ n k. ⊎_elim (λ e. inl e) (λ x. inr (w n x)) k) a.1.1 v.1 r.1.1))
 
-  cases_part : (cases : Cases) (tested known : List (List ℕ)) → ((n : List ℕ) → Among n tested → Among n known) → HasCommandsIn cases → HasTestNamesIn cases → ResumableIn None tested cases → (scope : Scope)
+  cases_part : (cases : Cases) (tested known : List (List ℕ)) → Within tested known → HasCommandsIn cases → HasTestNamesIn cases → ResumableIn None tested cases → (scope : Scope)
       → IsPart known known (tested_cases cases) (chosen cases scope) (joint_cases cases scope) (SameCases cases scope) (AloneIn cases)
   cases_part No_case tested known w a v r scope = id_part known (AloneIn No_case)
   cases_part (Case when body more) tested known w a v r scope =

@@ -1,7 +1,7 @@
 -- Names that are tested once. All of this is own.
 use Rattle.std.specs.Prelude.{ℕ, List, [], ◌∷◌, ◌++◌, codes}
 use Rattle.syntax.specs.declared.statement.Plain as plain
-use Rattle.syntax.specs.declared.statement.Plain.TheVariants.{Init, Accepted, ConfigFiles, ConfigHeaders, Assign, Subst, SubstValue, Define, DefineUnquoted, Error, Message, ArgVar, CheckProg, CheckProgs, PathProg, ProgCc, Batch, Output}
+use Rattle.syntax.specs.declared.statement.Plain.TheVariants.{CheckProg, CheckProgs, PathProg, ProgCc}
 use Rattle.syntax.specs.declared.tree.Subject.{Subject}
 use Rattle.syntax.specs.Resumable.{Among, tests_of, tests_at}
 use Rattle.syntax.specs.Script.{Script, Done, Then, Choice, Check, Cases, No_case, Case}
@@ -33,24 +33,11 @@ IsNone name names = Among name names → ⊥
 -- A test that may leave its name unset is of a name that is not tested later. Among statements without statements in
 -- them, these are the tests of programs.
 abbrev pub AlonePlain : plain.Plain → List (List ℕ) → Type 0
-AlonePlain (Init title version bug tarname url) later = Unit {0}
-AlonePlain Accepted later = Unit {0}
-AlonePlain (ConfigFiles outputs) later = Unit {0}
-AlonePlain (ConfigHeaders outputs) later = Unit {0}
-AlonePlain (Assign name value) later = Unit {0}
-AlonePlain (Subst name) later = Unit {0}
-AlonePlain (SubstValue name value) later = Unit {0}
-AlonePlain (Define name value) later = Unit {0}
-AlonePlain (DefineUnquoted name value) later = Unit {0}
-AlonePlain (Error message status) later = Unit {0}
-AlonePlain (Message kind message) later = Unit {0}
-AlonePlain (ArgVar name help) later = Unit {0}
 AlonePlain (CheckProg variable program found otherwise) later = IsNone (program_name variable) later
 AlonePlain (CheckProgs variable programs otherwise) later = IsNone (program_name variable) later
 AlonePlain (PathProg variable program otherwise) later = IsNone (path_name variable) later
 AlonePlain (ProgCc programs) later = IsNone (program_name (codes "CC")) later
-AlonePlain (Batch listed entries includes) later = Unit {0}
-AlonePlain Output later = Unit {0}
+AlonePlain s later = Unit {0}
 
 -- This holds of the cases in each round, with what is tested after it.
 abbrev pub AloneRounds : List Subject → List (List ℕ) → (List (List ℕ) → Type 0) → List (List ℕ) → Type 0

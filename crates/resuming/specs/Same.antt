@@ -3,7 +3,7 @@ use Rattle.std.specs.Prelude.{◌≡◌, ℕ, Bool, true, false, List, [], ◌�
 use Rattle.cachefile.specs.Text.{saved_value}
 use Rattle.deftable.specs.Table.{value_of}
 use Rattle.syntax.specs.declared.statement.Plain as plain
-use Rattle.syntax.specs.declared.statement.Plain.TheVariants.{Init, Accepted, ConfigFiles, ConfigHeaders, Assign, Subst, SubstValue, Define, DefineUnquoted, Error, Message, ArgVar, CheckProg, CheckProgs, PathProg, ProgCc, Batch, Output}
+use Rattle.syntax.specs.declared.statement.Plain.TheVariants.{CheckProg, CheckProgs, PathProg, ProgCc}
 use Rattle.syntax.specs.declared.tree.Subject.{Subject}
 use Rattle.syntax.specs.declared.tree.Subject.TheVariants.{Nothing, Word, Asked}
 use Rattle.syntax.specs.Script.{Script, Done, Then, Choice, Check, Cases, No_case, Case}
@@ -32,24 +32,11 @@ SameOne name part p =
 
 -- This holds of the test of a statement.
 abbrev pub SamePlain : plain.Plain → Pair → Type 0
-SamePlain (Init title version bug tarname url) p = Unit {0}
-SamePlain Accepted p = Unit {0}
-SamePlain (ConfigFiles outputs) p = Unit {0}
-SamePlain (ConfigHeaders outputs) p = Unit {0}
-SamePlain (Assign name value) p = Unit {0}
-SamePlain (Subst name) p = Unit {0}
-SamePlain (SubstValue name value) p = Unit {0}
-SamePlain (Define name value) p = Unit {0}
-SamePlain (DefineUnquoted name value) p = Unit {0}
-SamePlain (Error message status) p = Unit {0}
-SamePlain (Message kind message) p = Unit {0}
-SamePlain (ArgVar name help) p = Unit {0}
 SamePlain (CheckProg variable program found otherwise) p = SameOne (program_name variable) (effect (CheckProg variable program found otherwise)) p
 SamePlain (CheckProgs variable programs otherwise) p = SameOne (program_name variable) (effect (CheckProgs variable programs otherwise)) p
 SamePlain (PathProg variable program otherwise) p = SameOne (path_name variable) (effect (PathProg variable program otherwise)) p
 SamePlain (ProgCc programs) p = SameOne (program_name (codes "CC")) (effect (ProgCc programs)) p
-SamePlain (Batch listed entries includes) p = Unit {0}
-SamePlain Output p = Unit {0}
+SamePlain s p = Unit {0}
 
 -- This holds of a test, if there is one.
 abbrev pub SameTest : Option Kind → Pair → Type 0
