@@ -35,10 +35,6 @@ first = left (checked precious vars [])
 abbrev second : Entries
 second = left (checked precious vars (map setting_of (saved_entries first)))
 
-first_is : value_of first (codes "CC") ≡ Some (codes "cc -O")
-unfolding checked restored_from restored_variable restored old_value blanks_note finished set_by with_unslashed with_marks directories variable_of value_of with_entry fields parts_by
-first_is = refl
-
-second_is : value_of second (codes "CC") ≡ Some (codes "cc  -O")
+differ : (value_of first (codes "CC") ≡ Some (codes "cc -O")) × (value_of second (codes "CC") ≡ Some (codes "cc  -O"))
 unfolding checked restored_from restored_variable restored old_value blanks_note finished set_by with_unslashed with_marks directories variable_of value_of with_entry fields parts_by is_cache_name has_cv is_mark
-second_is = refl
+differ = (refl, refl)

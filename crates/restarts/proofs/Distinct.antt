@@ -1,5 +1,5 @@
 -- No name has two entries in the variables, from the opening of a run to its end.
-use Rattle.std.proofs.Common.{ℕ, Bool, true, false, List, [], ◌∷◌, Option, Some, None, length, take, drop, sym, subst}
+use Rattle.std.proofs.Common.{ℕ, Bool, true, false, List, [], ◌∷◌, Option, Some, None, sym, subst}
 use Rattle.std.specs.Prelude.{fold, is_some, if◌then◌else◌}
 use Rattle.cachefile.specs.Cache.{with_setting, vars_after}
 use Rattle.cachefile.specs.Line.{Setting, Sets, Defaults}
@@ -10,13 +10,12 @@ use Rattle.commandline.specs.declared.directory.Directory.{Directory}
 use Rattle.crew_trait.specs.declared.reply.Reply.{Reply}
 use Rattle.deftable.specs.Table.{value_of, with_entry, HasDistinctNames}
 use Rattle.deftable.proofs.Tables.{HasDistinctNames-with_entry, HasDistinctNames-without_entry, HasDistinctNames-[]}
-use Rattle.laws.specs.Ends.{AtEnds}
-use Rattle.laws.proofs.Kept.{Closed, meaning_keeps}
+use Rattle.laws.proofs.Kept.{Closed, of_variables, meaning_keeps}
 use Rattle.meaning.specs.Meaning.{meaning}
-use Rattle.meaning.specs.State.{Run, Ends, Asks, opened}
+use Rattle.meaning.specs.State.{opened}
 use Rattle.options.specs.Opening.{with_variable, set_by, with_unslashed, with_marks, finished}
-use Rattle.resuming.specs.Finished.{finish}
 use Rattle.resuming.specs.Plays.{played}
+use Rattle.resuming.proofs.Runs.{at_end}
 use Rattle.laws.proofs.Plays.{same_end}
 use Rattle.syntax.specs.Script.{Script}
 
@@ -62,19 +61,9 @@ settings_distinct [] base h = h
 settings_distinct (s ∷ more) base h = settings_distinct more (with_setting base s) (one_setting base s h)
 
 closed : Closed (λ st. HasDistinctNames st.vars)
-closed = record {
-  tells = λ stream text st h. h;
-  children = λ job reply st h. h;
-  variables = λ name value st h. HasDistinctNames-with_entry st.vars name value h;
-  definitions = λ name value st h. h;
-  unsets = λ name before st e b h. HasDistinctNames-without_entry st.vars name h;
-}
-
-at_finish : (run : Run) (rs : List Reply) → AtEnds (λ how now. HasDistinctNames now.vars) run → HasDistinctNames (finish run rs).state.vars
-at_finish (Ends how st) rs h = h
-at_finish (Asks jobs next) rs h = at_finish (next (take (length jobs) rs)) (drop (length jobs) rs) (h (take (length jobs) rs))
+closed = of_variables HasDistinctNames (λ es name value h. HasDistinctNames-with_entry es name value h) (λ before es name e b h. HasDistinctNames-without_entry es name h)
 
 pub played_distinct : (script : Script) (vars : Entries) (rs : List Reply) → HasDistinctNames vars → HasDistinctNames (played script (opened vars) rs).state.vars
 played_distinct script vars rs h =
     subst HasDistinctNames (sym (same_end (meaning script (opened vars)) 0 None rs).vars)
-    (at_finish (meaning script (opened vars)) rs (meaning_keeps (λ st. HasDistinctNames st.vars) closed script (opened vars) h))
+    (at_end (λ how now. HasDistinctNames now.vars) (meaning script (opened vars)) rs (meaning_keeps (λ st. HasDistinctNames st.vars) closed script (opened vars) h))

@@ -116,13 +116,7 @@ cut_ran r how st ((j ∷ []) ∷ (k ∷ []) ∷ []) e h two = record {
   least = ((λ s k. absurd (omega (arith, k))), tt);
   failures = refl;
 }
-cut_ran r how st [] e h two = cc
-cut_ran r how st ([] ∷ more) e h two = cc
-cut_ran r how st ((j ∷ i ∷ js) ∷ more) e h two = cc
-cut_ran r how st ((j ∷ []) ∷ []) e h two = cc
-cut_ran r how st ((j ∷ []) ∷ [] ∷ more) e h two = cc
-cut_ran r how st ((j ∷ []) ∷ (k ∷ i ∷ ks) ∷ more) e h two = cc
-cut_ran r how st ((j ∷ []) ∷ (k ∷ []) ∷ gs ∷ more) e h two = cc
+cut_ran r how st _ e h two = cc
 
 abbrev whole_ran : (r : Run) (how : How) (st : State) (groups : List (List Job)) → play r (good ∷ []) ≡ record { how = how; state = st; groups = groups } → how ≡ Completed → is_one groups ≡ true
     → Ran 1 r none_yet (after_second (first_job groups)) (end_at run.Completed (record { how = how; state = st; groups = groups }))
@@ -139,10 +133,7 @@ whole_ran r how st ((j ∷ []) ∷ []) e h one = record {
   least = ((λ s k. absurd (omega (arith, k))), tt);
   failures = refl;
 }
-whole_ran r how st [] e h one = cc
-whole_ran r how st ([] ∷ more) e h one = cc
-whole_ran r how st ((j ∷ i ∷ js) ∷ more) e h one = cc
-whole_ran r how st ((j ∷ []) ∷ gs ∷ more) e h one = cc
+whole_ran r how st _ e h one = cc
 
 -- ---- the source
 
@@ -190,6 +181,11 @@ first_accepted : (source : List ℕ) → source_of source ≡ Ok example → fol
 unfolding judged present started accept cache_named source_directory setters set_by with_unslashed with_marks finished is_declared run_settings opened_by opening old_value blanks_note restored restored_variable restored_from checked after_comma listed warning notes_of value_in rest_of switch_of install_directory_of target_of package_of choice_of said_with_value dashed_of read_argument given key_of directories variable_of default_of directory_named kept_from unslashed without_slashes after after_question value_of with_entry without_entry with_name has_name parts_by parts fields
 first_accepted source read = ap (λ r. named of_parse r >>= λ script. wants (nat_le (weight script) heaviest) (Plan TooLong) >>= λ _. accept (call source).arguments (call source).environment None [] script) read
 
+-- What runs compute with.
+on_values : Unit {0}
+unfolding cache_named source_directory setters set_by with_unslashed with_marks finished is_declared run_settings opened_by opening directories variable_of default_of directory_named value_of with_entry without_entry said effect begun is_taken meaning chosen directories_of out_name file_name words_of compile_words link_words_with conftest_text run_of job_of ended default_includes header_source function_source truth word_value parts_by parts fields escaped initialised is_mark has_cv is_cache_name line_for word_of
+on_values = tt
+
 -- ---- the first call
 
 abbrev replies : List Reply
@@ -199,7 +195,7 @@ abbrev first_run : Played
 first_run = played example (opened begin_vars) replies
 
 first_cut : (first_run.how ≡ Cut) × (is_two first_run.groups ≡ true)
-unfolding cache_named source_directory setters set_by with_unslashed with_marks finished is_declared run_settings opened_by opening directories variable_of default_of directory_named value_of with_entry without_entry said effect begun is_taken meaning chosen directories_of out_name file_name words_of compile_words link_words_with conftest_text run_of job_of ended default_includes header_source function_source truth word_value parts_by parts fields escaped initialised
+unfolding on_values
 first_cut = (refl, refl)
 
 abbrev first_end : RunEnd
@@ -209,7 +205,7 @@ abbrev first : Report
 first = report_of start first_end 1
 
 small : length (cache_text_of first_run.state.vars) < limit
-unfolding cache_named source_directory setters set_by with_unslashed with_marks finished is_declared run_settings opened_by opening directories variable_of default_of directory_named value_of with_entry without_entry said effect begun is_taken meaning chosen directories_of out_name file_name words_of compile_words link_words_with conftest_text run_of job_of ended default_includes header_source function_source truth word_value parts_by parts fields escaped initialised is_mark has_cv is_cache_name line_for word_of
+unfolding on_values
 small = (Decides-ltb (length (cache_text_of first_run.state.vars)) limit).0 refl
 
 abbrev first_ran : Ran 1 (whole (meaning example (opened begin_vars))) none_yet (after_first (first_job first_run.groups)) first_end
@@ -238,14 +234,14 @@ abbrev second : Start
 second = record start { vars = vars_after (map setting_of (saved_entries first_run.state.vars)) begin_vars }
 
 second_accepted : (source : List ℕ) → source_of source ≡ Ok example → follows (call source) (Some (cache_text_of first_run.state.vars)) ≡ Ok (Starts example second)
-unfolding judged present started accept cache_named source_directory setters set_by with_unslashed with_marks finished is_declared run_settings opened_by opening old_value blanks_note restored restored_variable restored_from checked after_comma listed warning notes_of value_in rest_of switch_of install_directory_of target_of package_of choice_of said_with_value dashed_of read_argument given key_of directories variable_of default_of directory_named kept_from unslashed without_slashes after after_question value_of with_entry without_entry with_name has_name parts_by parts fields entry_of lines_from cache_of rest_after before_brace sets_nothing front_word default_setting assigned_setting assignment guarded_setting setting_in line_of is_mark line_for step value_from word_of has_cv is_cache_name said effect begun is_taken meaning chosen directories_of out_name file_name words_of compile_words link_words_with conftest_text run_of job_of ended default_includes header_source function_source truth word_value escaped initialised
+unfolding on_values judged present started accept old_value blanks_note restored restored_variable restored_from checked after_comma listed warning notes_of value_in rest_of switch_of install_directory_of target_of package_of choice_of said_with_value dashed_of read_argument given key_of kept_from unslashed without_slashes after after_question with_name has_name entry_of lines_from cache_of rest_after before_brace sets_nothing front_word default_setting assigned_setting assignment guarded_setting setting_in line_of step value_from
 second_accepted source read = ap (λ r. named of_parse r >>= λ script. wants (nat_le (weight script) heaviest) (Plan TooLong) >>= λ _. accept (call source).arguments (call source).environment (Some (cache_text_of first_run.state.vars)) [] script) read
 
 abbrev second_run : Played
 second_run = played example (opened second.vars) (good ∷ [])
 
 second_whole : (second_run.how ≡ Completed) × (is_one second_run.groups ≡ true)
-unfolding cache_named source_directory setters set_by with_unslashed with_marks finished is_declared run_settings opened_by opening directories variable_of default_of directory_named value_of with_entry without_entry said effect begun is_taken meaning chosen directories_of out_name file_name words_of compile_words link_words_with conftest_text run_of job_of ended default_includes header_source function_source truth word_value parts_by parts fields escaped initialised is_mark has_cv is_cache_name line_for word_of
+unfolding on_values
 second_whole = (refl, refl)
 
 abbrev second_end : RunEnd
@@ -255,14 +251,14 @@ abbrev second_ran : Ran 1 (whole (meaning example (opened second.vars))) none_ye
 second_ran = whole_ran (whole (meaning example (opened second.vars))) second_run.how second_run.state second_run.groups refl second_whole.0 second_whole.1
 
 same_again : SameAgain example (record { first = opened begin_vars; replies = replies; second = opened second.vars; again = good ∷ [] })
-unfolding cache_named source_directory setters set_by with_unslashed with_marks finished is_declared run_settings opened_by opening directories variable_of default_of directory_named value_of with_entry without_entry said effect begun is_taken meaning chosen directories_of out_name file_name words_of compile_words link_words_with conftest_text run_of job_of ended default_includes header_source function_source truth word_value parts_by parts fields escaped initialised is_mark has_cv is_cache_name line_for word_of joint_plain begins scope_at joint joint_cases SameAgain SameCases
+unfolding on_values joint_plain begins scope_at joint joint_cases SameAgain SameCases
 same_again = (tt, (tt, (((λ h k. let z : Some (codes "yes") ≡ None = k in cc, (tt, tt)), tt), (((λ h k. let z : Cut ≡ Goes_on = h in cc, tt), tt), tt))))
 
 abbrev report : Report
 report = report_of second second_end 2
 
 again : (source : List ℕ) (read : source_of source ≡ Ok example) → Again (call source) 1 example start second none_yet (after_second (first_job second_run.groups)) first report (replies_to none_yet (was_cut source read).saved.meant)
-unfolding cache_named source_directory setters set_by with_unslashed with_marks finished is_declared run_settings opened_by opening directories variable_of default_of directory_named value_of with_entry without_entry said effect begun is_taken meaning chosen directories_of out_name file_name words_of compile_words link_words_with conftest_text run_of job_of ended default_includes header_source function_source truth word_value parts_by parts fields escaped initialised is_mark has_cv is_cache_name line_for word_of
+unfolding on_values
 again source read = record {
   accepted = second_accepted source read;
   meant = record { end = second_end; ran = second_ran; told = refl };
@@ -272,5 +268,5 @@ again source read = record {
 
 -- The joint replies are both answers.
 joined_is : joined example start replies second (good ∷ []) ≡ good ∷ good ∷ []
-unfolding cache_named source_directory setters set_by with_unslashed with_marks finished is_declared run_settings opened_by opening directories variable_of default_of directory_named value_of with_entry without_entry said effect begun is_taken meaning chosen directories_of out_name file_name words_of compile_words link_words_with conftest_text run_of job_of ended default_includes header_source function_source truth word_value parts_by parts fields escaped initialised is_mark has_cv is_cache_name line_for word_of joint_plain begins scope_at joint joint_cases
+unfolding on_values joint_plain begins scope_at joint joint_cases
 joined_is = refl

@@ -22,7 +22,7 @@ use Rattle.syntax.specs.Lists.{lists_of}
 use Rattle.syntax.specs.Script.{Script}
 use Rattle.restarts.specs.Calls.{Given, follows}
 
-bind_ok : {A B F : Type 0} (r : Result A F) (f : A → Result B F) (y : B) → (r >>= f) ≡ Ok y → (x : A) × ((r ≡ Ok x) × (f x ≡ Ok y))
+pub bind_ok : {A B F : Type 0} (r : Result A F) (f : A → Result B F) (y : B) → (r >>= f) ≡ Ok y → (x : A) × ((r ≡ Ok x) × (f x ≡ Ok y))
 bind_ok (Ok x) f y e = (x, (refl, e))
 bind_ok (Err g) f y e = absurd cc
 

@@ -1,16 +1,11 @@
 -- With what variables a run is opened: the precious ones are marked.
-use Rattle.std.proofs.Common.{◌≡◌, ℕ, List, None, Result, Ok, Err, sym, ap}
+use Rattle.std.proofs.Common.{◌≡◌, ℕ, List, None, Ok, sym, ap}
 use Rattle.cachefile.proofs.Orders.{Entries}
 use Rattle.commandline.specs.Arguments.{given}
 use Rattle.commandline.specs.CommandLine.{Setting}
-use Rattle.commandline.specs.Reading.{◌>>=◌}
-use Rattle.commandline.specs.declared.fault.OptionFault.{OptionFault}
 use Rattle.options.specs.Opening.{setters, set_by, finished, run_settings, opened_by, opening}
 use Rattle.options.specs.declared.settings.Settings.{Settings}
-
-bind_ok : {A B : Type 0} (r : Result A OptionFault) (f : A → Result B OptionFault) (y : B) → (r >>= f) ≡ Ok y → (x : A) × (f x ≡ Ok y)
-bind_ok (Ok x) f y e = (x, e)
-bind_ok (Err g) f y e = absurd cc
+use Rattle.restarts.proofs.Judging.{bind_ok}
 
 -- The variables are what these setters make, finished.
 abbrev pub AreFinished : List (List ℕ) → Entries → Type 0
@@ -20,11 +15,11 @@ opened : (features packages precious : List (List ℕ)) (environment : Entries) 
 unfolding opened_by run_settings
 opened features packages precious environment ss settings e =
     let notes = bind_ok _ (λ notes. Ok (run_settings precious (set_by (setters environment ss)) ss notes)) settings e in
-    let is : run_settings precious (set_by (setters environment ss)) ss notes.0 ≡ settings = let h = notes.1 in cc in
+    let is : run_settings precious (set_by (setters environment ss)) ss notes.0 ≡ settings = let h = notes.1.1 in cc in
     (setters environment ss, ap (λ s. s.vars) (sym is))
 
 pub opening_finished : (features packages precious arguments : List (List ℕ)) (environment : Entries) (settings : Settings) → opening features packages precious arguments environment ≡ Ok settings → AreFinished precious settings.vars
 unfolding opening
 opening_finished features packages precious arguments environment settings e =
     let ss = bind_ok (given None 0 arguments) (opened_by features packages precious environment) settings e in
-    opened features packages precious environment ss.0 settings ss.1
+    opened features packages precious environment ss.0 settings ss.1.1

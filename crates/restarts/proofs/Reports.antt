@@ -10,8 +10,9 @@ use Rattle.framing.specs.Handing.{run_record, artifacts_of}
 use Rattle.framing.specs.declared.inputs.Start.{Start}
 use Rattle.framing.specs.declared.fault.Fault.{Fault}
 use Rattle.framing.specs.declared.report.Outcome.{Outcome}
+use Rattle.framing.specs.declared.report.Report.{Report}
 use Rattle.meaning.specs.Play.{first_refused}
-use Rattle.meaning.specs.State.{How, Goes_on, Completed, Stopped, Cut, opened}
+use Rattle.meaning.specs.State.{How, Completed, Stopped, Cut, opened}
 use Rattle.outputs.specs.declared.artifact.Artifact.{Artifact}
 use Rattle.proberun.specs.Outcomes as run
 use Rattle.proberun.specs.Ran.{outcome_from}
@@ -19,9 +20,9 @@ use Rattle.resuming.specs.Asked.{AsksNoSaved}
 use Rattle.resuming.specs.Plays.{played, WholeRunsResume}
 use Rattle.resuming.specs.Poured.{Poured, poured}
 use Rattle.syntax.specs.Script.{Script}
-use Rattle.restarts.specs.Calls.{replies_to, IsCutShort}
+use Rattle.restarts.specs.Calls.{replies_to, IsCutShort, Tells}
 use Rattle.restarts.specs.Second.{end_of}
-use Rattle.restarts.specs.Law.{joined, ConfiguresResume}
+use Rattle.restarts.specs.Law.{joined, ReportsSo, ConfiguresResume}
 use Rattle.restarts.proofs.Distinct.{played_distinct}
 use Rattle.restarts.proofs.Sorting.{same_text, same_record, same_artifacts}
 use Rattle.restarts.proofs.Starting.{start_distinct, second_call_starts}
@@ -30,27 +31,19 @@ use Rattle.restarts.proofs.Tellings.{tells}
 -- ---- outcomes
 
 is_cut : (how : How) (refused : Option ℕ) (o : Outcome) → option_map outcome_of (outcome_from how refused) ≡ Some o → IsCutShort o → how ≡ Cut
-is_cut Goes_on None o e h = let same : outcome_of (run.Completed) ≡ o = cc in absurd (subst IsCutShort (sym same) h)
-is_cut Goes_on (Some k) o e h = cc
-is_cut Completed None o e h = let same : outcome_of (run.Completed) ≡ o = cc in absurd (subst IsCutShort (sym same) h)
-is_cut Completed (Some k) o e h = cc
-is_cut (Stopped status) None o e h = let same : outcome_of (run.Stopped status) ≡ o = cc in absurd (subst IsCutShort (sym same) h)
-is_cut (Stopped status) (Some k) o e h = cc
 is_cut Cut refused o e h = refl
+is_cut (Stopped status) None o e h = let same : outcome_of (run.Stopped status) ≡ o = cc in absurd (subst IsCutShort (sym same) h)
+is_cut _ None o e h = let same : outcome_of (run.Completed) ≡ o = cc in absurd (subst IsCutShort (sym same) h)
+is_cut _ (Some k) o e h = cc
 
 not_cut : (how : How) (refused : Option ℕ) (o : Outcome) → option_map outcome_of (outcome_from how refused) ≡ Some o → (IsCutShort o → ⊥) → how ≡ Cut → ⊥
-not_cut Goes_on refused o e h c = cc
-not_cut Completed refused o e h c = cc
-not_cut (Stopped status) refused o e h c = cc
-not_cut Cut None o e h c = cc
 not_cut Cut (Some k) o e h c = let same : outcome_of (run.CutShort k) ≡ o = cc in h (subst IsCutShort same tt)
+not_cut _ _ o e h c = cc
 
 none_refused : (how : How) (refused : Option ℕ) (o : Outcome) → option_map outcome_of (outcome_from how refused) ≡ Some o → (how ≡ Cut → ⊥) → refused ≡ None
 none_refused how None o e h = refl
-none_refused Goes_on (Some k) o e h = cc
-none_refused Completed (Some k) o e h = cc
-none_refused (Stopped status) (Some k) o e h = cc
 none_refused Cut (Some k) o e h = absurd (h refl)
+none_refused _ (Some k) o e h = cc
 
 same_outcome : (one other : Outcome) → Some one ≡ Some other → one ≡ other
 same_outcome one other e = cc
@@ -95,29 +88,28 @@ configures_resume resume asks given cache script start second window other_windo
     ∙ ap (λ r. option_map outcome_of (outcome_from q.how r)) (law.answered ∙ sym (none_refused q.how (first_refused more) report.outcome two.outcome uncut))
     ∙ two.outcome in
     let first_distinct = start_distinct given cache script start saves.accepted in
-    let second_distinct = start_distinct given _ script second again.accepted in (
+    let second_distinct = start_distinct given _ script second again.accepted in
+    let like : (other : Report) → Tells script start all other → ReportsSo other report =
+    λ other t. record {
+      outcome = same_outcome other.outcome report.outcome (sym t.outcome ∙ outcome);
+      defs = t.defs ∙ law.ends.defs ∙ sym two.defs;
+      value = λ n. ap (λ vs. value_of vs n) t.vars ∙ law.ends.value n ∙ sym (ap (λ vs. value_of vs n) two.vars);
+    } in (
       record {
         uncut = law.answered;
         one = record { outcome = report.outcome; vars = p.state.vars; defs = p.state.defs; messages = []; log = []; handed = 0 };
         tells = record { enough = law.enough; outcome = outcome; vars = refl; defs = refl };
-        like = λ other t. record {
-          outcome = same_outcome other.outcome report.outcome (sym t.outcome ∙ outcome);
-          defs = t.defs ∙ law.ends.defs ∙ sym two.defs;
-          value = λ n. ap (λ vs. value_of vs n) t.vars ∙ law.ends.value n ∙ sym (ap (λ vs. value_of vs n) two.vars);
-        };
+        like = like;
         hands = λ other t.
-            let outcomes = same_outcome other.outcome report.outcome (sym t.outcome ∙ outcome) in
-            let defs = t.defs ∙ law.ends.defs ∙ sym two.defs in
-            let values : (n : List ℕ) → value_of other.vars n ≡ value_of report.vars n =
-            λ n. ap (λ vs. value_of vs n) t.vars ∙ law.ends.value n ∙ sym (ap (λ vs. value_of vs n) two.vars) in
+            let so = like other t in
             let other_distinct = subst HasDistinctNames (sym t.vars) (played_distinct script start.vars all first_distinct) in
             let report_distinct = subst HasDistinctNames (sym two.vars) (played_distinct script second.vars more second_distinct) in
             let handed : Start → List Artifact = λ s. artifacts script s given.templates report in
-            ap (λ o. artifacts_of start.cache_name start.no_create given.templates o other.vars (run_record script start.srcdir start.args other.vars other.defs)) outcomes
+            ap (λ o. artifacts_of start.cache_name start.no_create given.templates o other.vars (run_record script start.srcdir start.args other.vars other.defs)) so.outcome
             ∙ same_artifacts start.cache_name start.no_create given.templates report.outcome other.vars report.vars
             (run_record script start.srcdir start.args other.vars other.defs) (run_record script start.srcdir start.args report.vars report.defs)
-            (same_text other.vars report.vars other_distinct report_distinct values)
-            (ap (λ d. run_record script start.srcdir start.args other.vars d) defs ∙ same_record script start.srcdir start.args other.vars report.vars report.defs values)
+            (same_text other.vars report.vars other_distinct report_distinct so.value)
+            (ap (λ d. run_record script start.srcdir start.args other.vars d) so.defs ∙ same_record script start.srcdir start.args other.vars report.vars report.defs so.value)
             ∙ ap handed (sym same);
       },
       λ name value s k. asks script (end_of first) (opened start.vars) (opened second.vars) more name value pours s k,

@@ -1,18 +1,19 @@
 -- What the settings of saved entries make of a variable: a mark is set, and another name gets a
 -- default.
-use Rattle.std.proofs.Common.{◌≡◌, ℕ, Bool, true, false, cond, ◌&&◌, List, [], ◌∷◌, Option, Some, None, inl, inr, map, refl, sym, ap, ◌∙◌, subst}
+use Rattle.std.proofs.Common.{◌≡◌, ℕ, Bool, true, false, cond, List, [], ◌∷◌, Option, Some, None, inl, inr, map, refl, sym, ap, ◌∙◌, subst}
 use Rattle.std.specs.Prelude.{bytes_eq, is_some, if◌then◌else◌}
 use Rattle.std.specs.List.{IsDistinct, AllByRecursion}
 use Rattle.std.proofs.lemmas.Slice.Eq.{bytes_eq-Decides}
 use Rattle.cachefile.specs.Cache.{with_setting, vars_after, value_after}
 use Rattle.cachefile.specs.Line.{Sets, Defaults}
 use Rattle.cachefile.specs.Name.{is_mark}
-use Rattle.cachefile.specs.Text.{is_one_line, is_saved, saved_value}
+use Rattle.cachefile.specs.Text.{is_saved, saved_value}
 use Rattle.cachefile.proofs.Orders.{Entries, AreSaved, decided}
 use Rattle.cachefile.proofs.Pours.{value_of-with_setting}
 use Rattle.deftable.specs.CacheName.{is_cache_name}
 use Rattle.deftable.specs.Table.{value_of, names_of, HasDistinctNames}
 use Rattle.resuming.specs.Poured.{poured}
+use Rattle.resuming.proofs.Names.{saved_so, cached_so, ordinary_unsaved}
 use Rattle.cachefile.proofs.Texts.{absent, setting_of}
 
 -- The value of a name after the settings of saved entries, by whether it is a mark, its saved
@@ -32,21 +33,18 @@ default_over : (o : Option (List ℕ)) (v : List ℕ) → cond (is_some o) o (So
 default_over None v = refl
 default_over (Some u) v = refl
 
+one_setting : (base : Entries) (e : List ℕ × List ℕ) (q : List ℕ) (m : Bool) → is_mark e.0 ≡ m → value_of (with_setting base (setting_of e)) q ≡ value_after q (value_of base q) (if m then Sets e.0 e.1 else Defaults e.0 e.1)
+one_setting base e q m h = value_of-with_setting base (setting_of e) q ∙ ap (λ b. value_after q (value_of base q) (if b then Sets e.0 e.1 else Defaults e.0 e.1)) h
+
 own_setting : (base : Entries) (e : List ℕ × List ℕ) (q : List ℕ) → bytes_eq q e.0 ≡ true → (m : Bool) → is_mark e.0 ≡ m → value_of (with_setting base (setting_of e)) q ≡ over m (Some e.1) (value_of base q)
-own_setting base e q own true h =
-    value_of-with_setting base (setting_of e) q ∙ ap (λ b. value_after q (value_of base q) (if b then Sets e.0 e.1 else Defaults e.0 e.1)) h
-    ∙ ap (λ b. cond b (Some e.1) (value_of base q)) own
+own_setting base e q own true h = one_setting base e q true h ∙ ap (λ b. cond b (Some e.1) (value_of base q)) own
 own_setting base e q own false h =
-    value_of-with_setting base (setting_of e) q ∙ ap (λ b. value_after q (value_of base q) (if b then Sets e.0 e.1 else Defaults e.0 e.1)) h
-    ∙ ap (λ b. cond b (cond (is_some (value_of base q)) (value_of base q) (Some e.1)) (value_of base q)) own ∙ default_over (value_of base q) e.1
+    one_setting base e q false h ∙ ap (λ b. cond b (cond (is_some (value_of base q)) (value_of base q) (Some e.1)) (value_of base q)) own ∙ default_over (value_of base q) e.1
 
 other_setting : (base : Entries) (e : List ℕ × List ℕ) (q : List ℕ) → bytes_eq q e.0 ≡ false → (m : Bool) → is_mark e.0 ≡ m → value_of (with_setting base (setting_of e)) q ≡ value_of base q
-other_setting base e q other true h =
-    value_of-with_setting base (setting_of e) q ∙ ap (λ b. value_after q (value_of base q) (if b then Sets e.0 e.1 else Defaults e.0 e.1)) h
-    ∙ ap (λ b. cond b (Some e.1) (value_of base q)) other
+other_setting base e q other true h = one_setting base e q true h ∙ ap (λ b. cond b (Some e.1) (value_of base q)) other
 other_setting base e q other false h =
-    value_of-with_setting base (setting_of e) q ∙ ap (λ b. value_after q (value_of base q) (if b then Sets e.0 e.1 else Defaults e.0 e.1)) h
-    ∙ ap (λ b. cond b (cond (is_some (value_of base q)) (value_of base q) (Some e.1)) (value_of base q)) other
+    one_setting base e q false h ∙ ap (λ b. cond b (cond (is_some (value_of base q)) (value_of base q) (Some e.1)) (value_of base q)) other
 
 pub value_over : (es base : Entries) (q : List ℕ) → HasDistinctNames es → value_of (vars_after (map setting_of es) base) q ≡ over (is_mark q) (value_of es q) (value_of base q)
 unfolding value_of IsDistinct
@@ -77,16 +75,6 @@ saved_there (x ∷ es) all q v e = by (bytes_eq q x.0) refl e (saved_there es al
         ap (λ n. is_saved (n, v)) ((bytes_eq-Decides q x.0).0 h) ∙ ap (λ w. is_saved (x.0, w)) (sym value) ∙ all.0
     by false h k later = later k
 
-pub first_true : (a b : Bool) → (a && b) ≡ true → a ≡ true
-first_true true b e = refl
-first_true false b e = cc
-
-saved_so : (q v : List ℕ) → is_saved (q, v) ≡ true → saved_value q (Some v) ≡ Some v
-saved_so q v e = ap (λ b. cond b (Some v) None) e
-
-cached_so : (q v : List ℕ) → is_saved (q, v) ≡ true → is_cache_name q ≡ true
-cached_so q v e = first_true (is_cache_name q) (is_one_line v) e
-
 saved_is : (q : List ℕ) (o : Option (List ℕ)) (w : List ℕ) → saved_value q o ≡ Some w → (is_cache_name q ≡ true) × (o ≡ Some w)
 saved_is q None w e = cc
 saved_is q (Some v) w e = by (is_saved (q, v)) refl e
@@ -97,10 +85,6 @@ saved_is q (Some v) w e = by (is_saved (q, v)) refl e
 
 not_saved : (q v : List ℕ) (o : Option (List ℕ)) → is_saved (q, v) ≡ true → o ≡ Some v → saved_value q o ≡ None → ⊥
 not_saved q v o s e h = let z : Some v ≡ None = sym (saved_so q v s) ∙ ap (saved_value q) (sym e) ∙ h in cc
-
-ordinary_unsaved : (q : List ℕ) (o : Option (List ℕ)) → is_cache_name q ≡ false → saved_value q o ≡ None
-ordinary_unsaved q None e = refl
-ordinary_unsaved q (Some v) e = ap (λ b. cond (b && is_one_line v) (Some v) None) e
 
 -- A second pouring over the same base gives the value that was saved, or else the one with which
 -- the first run began. `s` is the value of the first run's own cache, `r` the one below it, and `o`
