@@ -56,21 +56,6 @@ fn put_made<E: Write>(alloc: Global, made: Result<Vec<u8>, AllocError>, errors: 
     }
 }
 
-/// Writes why a child was refused. If a cache is named, and a child of the log found no room, writes that the cache may be wrong.
-fn put_cause<E: Write>(
-    alloc: Global,
-    number: u64,
-    cause: &[u8],
-    log: &[Entry],
-    cache: &[u8],
-    errors: &mut E,
-) {
-    put_made(alloc, child_words(alloc, number, cause), errors);
-    if !cache.is_empty() && log.iter().any(has_shortage) {
-        put_made(alloc, cache_words(alloc, cache), errors);
-    }
-}
-
 /// Says why the child of this number was refused, which cut the run with this log: `acrun: child N: CAUSE`. If the run has a cache, whose
 /// name isn't empty then, and a child of the log found no room for a process, a file or its memory, one more line says that the cache may
 /// hold a wrong "no", and that it is to be removed: such a child answered "no", and its answer was kept (own).
@@ -87,7 +72,10 @@ pub fn explain_cut<C: Causes, E: Write>(
 {
     if is_asked {
         if let Some(cause) = crew.cause(number) {
-            put_cause(alloc, number, cause, log, cache, errors);
+            put_made(alloc, child_words(alloc, number, cause), errors);
+            if !cache.is_empty() && log.iter().any(has_shortage) {
+                put_made(alloc, cache_words(alloc, cache), errors);
+            }
         }
     }
 }

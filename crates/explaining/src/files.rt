@@ -10,13 +10,6 @@ use diskfiles::{path_in, unread_cause};
 use std::alloc::Global;
 use std::io::{self, Write};
 
-/// Writes the line `acrun: NAME: CAUSE` with the words of an error.
-fn put_error<E: Write>(alloc: Global, name: &[u8], error: &io::Error, errors: &mut E) {
-    if let Ok(words) = words_of(alloc, name, error) {
-        put_words(alloc, words.as_slice(), errors);
-    }
-}
-
 /// Writes the line `acrun: NAME: CAUSE` with the words of an error, if it is asked.
 pub fn explain_error<E: Write>(
     alloc: Global,
@@ -28,20 +21,9 @@ pub fn explain_error<E: Write>(
     ensures silent { is_asked ≡ false → errors.new ≡ errors.old }
 {
     if is_asked {
-        put_error(alloc, name, error, errors);
-    }
-}
-
-/// Writes why the file at a path can't be read, as `acrun: NAME: CAUSE`, if it is asked.
-fn put_unread<D: Disk, E: Write>(
-    alloc: Global,
-    disk: &D,
-    path: &[u8],
-    name: &[u8],
-    errors: &mut E,
-) {
-    if let Some(error) = unread_cause(disk, path) {
-        put_error(alloc, name, &error, errors);
+        if let Ok(words) = words_of(alloc, name, error) {
+            put_words(alloc, words.as_slice(), errors);
+        }
     }
 }
 
@@ -58,7 +40,9 @@ pub fn explain_file<D: Disk, E: Write>(
     ensures silent { is_asked ≡ false → errors.new ≡ errors.old }
 {
     if is_asked {
-        put_unread(alloc, disk, path, name, errors);
+        if let Some(error) = unread_cause(disk, path) {
+            explain_error(alloc, true, name, &error, errors);
+        }
     }
 }
 
@@ -74,13 +58,7 @@ pub fn explain_template<D: Disk, E: Write>(
     ensures silent { why.now.is_asked ≡ false → errors.new ≡ errors.old }
 {
     if let Ok(path) = path_in(alloc, why.srcdir, name) {
-        explain_file(
-            alloc,
-            disk,
-            why.is_asked,
-            path.as_slice(),
-            path.as_slice(),
-            errors,
-        );
+        let path = path.as_slice();
+        explain_file(alloc, disk, why.is_asked, path, path, errors);
     }
 }
