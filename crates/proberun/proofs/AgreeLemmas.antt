@@ -4,13 +4,13 @@ use Rattle.std.proofs.lemmas.List.{length-drop}
 use Rattle.jobs.specs.declared.job.Job.{Job}
 use Rattle.crew_trait.specs.declared.reply.Reply.{Reply}
 use Rattle.crew_trait.specs.Events.{replies_in}
-use Rattle.meaning.specs.State.{State, Run, Ends, Asks}
+use Rattle.meaning.specs.State.{Run, Ends, Asks}
 use Rattle.meaning.specs.Play.{Played, play, after, all_jobs, first_refused}
-use Rattle.machine.specs.declared.machine.Outcome.{Outcome}
 use Rattle.machine.specs.declared.machine.RunEnd.{RunEnd}
 use Rattle.proberun.specs.Ran.{outcome_from, state_of}
 use Rattle.proberun.specs.Agreeing.{Agree, RunsAgree}
 use Rattle.proberun.proofs.RunLemmas.{length-replies}
+use Rattle.proberun.proofs.WholeLemmas.{end_of}
 
 agree_take : (n : ℕ) (xs ys : List Reply) → n ≤ length xs → n ≤ length ys → Agree xs ys → take n xs ≡ take n ys
 agree_take zero xs ys lx ly g = refl
@@ -57,14 +57,10 @@ same_play (Asks jobs next) xs ys a b g =
     ap (after (jobs ∷ [])) (same_play (next (take n xs)) (drop n xs) (drop n ys) x.1 back (agree_drop n xs ys g))
     ∙ ap (λ l. after (jobs ∷ []) (play (next l) (drop n ys))) front
 
--- What a run leaves, from its outcome and the state in which it ends.
-abbrev left : Outcome → State → RunEnd
-left o st = record { outcome = o; vars = st.vars; defs = st.defs; messages = st.messages; log = st.log }
-
 same_end : (end other : RunEnd) → end.outcome ≡ other.outcome → state_of end ≡ state_of other → end ≡ other
 same_end end other o s =
-    let a : left end.outcome (state_of end) ≡ left other.outcome (state_of end) = ap (λ x. left x (state_of end)) o in
-    let b : left other.outcome (state_of end) ≡ left other.outcome (state_of other) = ap (left other.outcome) s in
+    let a : end_of end.outcome (state_of end) ≡ end_of other.outcome (state_of end) = ap (λ x. end_of x (state_of end)) o in
+    let b : end_of other.outcome (state_of end) ≡ end_of other.outcome (state_of other) = ap (end_of other.outcome) s in
     a ∙ b
 
 pub runs_agree : RunsAgree

@@ -18,10 +18,10 @@ fate-push n es e = fold-append (fate_after n) Unstarted es (e ∷ [])
 pub busy-push : (s : ℕ) (es : List CrewEvent) (e : CrewEvent) → busy s (es ++ e ∷ []) ≡ busy_after s (busy s es) e
 busy-push s es e = fold-append (busy_after s) false es (e ∷ [])
 
-if_same : {A : Type 0} (a b : ℕ) (x y : A) → a ≡ b → cond (eqb a b) x y ≡ x
+pub if_same : {A : Type 0} (a b : ℕ) (x y : A) → a ≡ b → cond (eqb a b) x y ≡ x
 if_same a b x y h = grind (arith, nat_tests)
 
-if_other : {A : Type 0} (a b : ℕ) (x y : A) → (a ≡ b → ⊥) → cond (eqb a b) x y ≡ y
+pub if_other : {A : Type 0} (a b : ℕ) (x y : A) → (a ≡ b → ⊥) → cond (eqb a b) x y ≡ y
 if_other a b x y h = grind (arith, nat_tests)
 
 -- The start of this number.

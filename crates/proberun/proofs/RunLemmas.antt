@@ -5,7 +5,6 @@ use Rattle.std.proofs.lemmas.List.{append-nil}
 use Rattle.std.proofs.lemmas.List.Sums.{fold-append}
 use Rattle.std.proofs.lemmas.Option.{slice_get_within}
 use Rattle.std.proofs.lemmas.Bool.{cases_eq}
-use Rattle.std.proofs.lemmas.Bool.Decides.{nat_tests}
 use Rattle.jobs.specs.declared.job.Job.{Job}
 use Rattle.crew_trait.specs.declared.reply.Reply.{Reply}
 use Rattle.crew_trait.specs.declared.reply.Reply.TheVariants.{Answer, StartRefused, EndRefused}
@@ -16,15 +15,9 @@ use Rattle.crew_trait.specs.declared.event.CrewEvent.TheVariants.{Started, Ended
 use Rattle.crew_trait.specs.Events.{Account, Fate, Unstarted, Running, Replied, fate_after, fate_of, ended_by, busy_after, busy, IsIdle, reply_in, replies_in, flying_after}
 use Rattle.meaning.specs.Asking.{success}
 use Rattle.proberun.specs.Starts.{StartsAre, TakesLeast, Fills, EndsGroup, failures_in}
-use Rattle.proberun.proofs.EventLemmas.{least-both, fills-both, fills-weaken, ends_left, ends_last}
+use Rattle.proberun.proofs.EventLemmas.{if_same, if_other, ended-other, least-both, fills-both, fills-weaken, ends_left, ends_last}
 use Rattle.proberun.specs.Serving.{Served, failed_count}
 use Rattle.proberun.specs.Progress.{Progress}
-
-if_same : {A : Type 0} (a b : ℕ) (x y : A) → a ≡ b → cond (eqb a b) x y ≡ x
-if_same a b x y h = grind (arith, nat_tests)
-
-if_other : {A : Type 0} (a b : ℕ) (x y : A) → (a ≡ b → ⊥) → cond (eqb a b) x y ≡ y
-if_other a b x y h = grind (arith, nat_tests)
 
 -- A start that is running has a busy slot.
 abbrev Busies : Fate → ℕ → Bool → Type 0
@@ -70,12 +63,7 @@ keeps n base jobs (Started slot job number ∷ es) f le h still =
     let e : cond (eqb number n) (Running slot) f ≡ f = if_other number n (Running slot) f (λ x. let lt = h.0 in absurd (omega arith)) in
     ap (λ g. fold (fate_after n) g es) e ∙ keeps n base jobs es f le h.2 still
 keeps n base jobs (Ended slot reply number ∷ es) f le h still =
-    ap (λ g. fold (fate_after n) g es) (unmoved f still) ∙ keeps n base jobs es f le h still
-  where
-    unmoved : (f : Fate) → ((s : ℕ) → f ≡ Running s → ⊥) → ended_by slot reply f ≡ f
-    unmoved Unstarted still = refl
-    unmoved (Running s) still = absurd (still s refl)
-    unmoved (Replied r) still = refl
+    ap (λ g. fold (fate_after n) g es) (ended-other slot reply f (λ s is same. still s is)) ∙ keeps n base jobs es f le h still
 
 -- A start that has not been attempted doesn't exist.
 not_yet : (n base : ℕ) (jobs : List Job) (es : List CrewEvent) → base + length jobs < n → StartsAre jobs base es → fate_of n es ≡ Unstarted

@@ -1,5 +1,5 @@
 -- The machine and the crew, from group to group.
-use Rattle.std.proofs.Common.{◌≡◌, ℕ, ◌+◌, ◌≤◌, List, [], ◌∷◌, length, map, Option, Some, None, Result, Ok, Err, OnErr, refl, sym, ap, ◌∙◌, subst, arith}
+use Rattle.std.proofs.Common.{◌≡◌, ℕ, ◌+◌, List, [], ◌∷◌, length, map, Option, Some, None, Result, Ok, Err, OnErr, refl, sym, ap, ◌∙◌, subst, arith}
 use Rattle.std.specs.Prelude.{IsSome}
 use Rattle.std.proofs.lemmas.List.{append-nil}
 use Rattle.std.proofs.lemmas.List.Sums.{fold-append}
@@ -13,12 +13,13 @@ use Rattle.machine.specs.declared.machine.Phase.{Phase}
 use Rattle.machine.specs.declared.machine.Phase.TheVariants as phase
 use Rattle.machine.specs.declared.machine.Turn.{Turn}
 use Rattle.machine.specs.declared.machine.Turn.TheVariants as turn
+use Rattle.machine.specs.declared.machine.Outcome.{Outcome}
 use Rattle.machine.specs.declared.machine.Outcome.TheVariants as outcome
 use Rattle.machine.specs.declared.machine.RunEnd.{RunEnd}
 use Rattle.searching.specs.declared.wait.Wait.TheVariants as waits
 use Rattle.searching.specs.Waits.{given}
 use Rattle.machine.specs.Standing.{Standing, run_under, run_in, run_at, left_in, run_left, Shows, CutsAt, Refusals, Holds, Fits, fits_in, asks_in, asks_left, Turned, outcome_of}
-use Rattle.proberun.specs.Serving.{Served, failed_count}
+use Rattle.proberun.specs.Serving.{Served}
 use Rattle.proberun.specs.Ran.{Ran, outcome_from, state_of}
 use Rattle.proberun.specs.Progress.{Progress, Heeded, HasBegun, Moving, Leaves}
 use Rattle.proberun.proofs.RunLemmas.{progress_begins, progress_same, progress_heard, progress_group, length-replies, answered_both, refused_later, no_failures}
@@ -79,20 +80,20 @@ after_replies : (plan : List Instruction) (m : Standing) (rs : List Reply) → m
 after_replies plan m rs asking =
     ap (λ p. left_in p plan (record m { replies = map Some rs })) asking ∙ ap (next_of plan m) (given-map rs)
 
-served_ready : (w : ℕ) (plan : List Instruction) (run : Run) (before mid now : Account) (old m : Standing) (rs : List Reply) → Turned plan turn.Ask old m → Fits plan old → Progress w run (run_left plan old) old.before (given old.replies) before mid → (served : Served w mid m.jobs (map Some rs) now) → rs ≡ replies_in mid.attempts (length m.jobs) served.since → Ready w plan run before now (record m { replies = map Some rs }) (asks_left plan m)
-served_ready w plan run before mid now old m rs t fits p served rs_is =
+served_ready : (w : ℕ) (plan : List Instruction) (run : Run) (before mid now : Account) (old m : Standing) (replies : List (Option Reply)) → Turned plan turn.Ask old m → Fits plan old → Progress w run (run_left plan old) old.before (given old.replies) before mid → (served : Served w mid m.jobs replies now) → Ready w plan run before now (record m { replies = map Some (replies_in mid.attempts (length m.jobs) served.since) }) (asks_left plan m)
+served_ready w plan run before mid now old m replies t fits p served =
+    let rs = replies_in mid.attempts (length m.jobs) served.since in
     let asking = shows_ask (run_at plan m) m t.shows in
     let at : Holds plan m = fits_at m.phase plan m asking t.fits in
     let asks : Asks m.jobs (next_of plan m) ≡ run_left plan old = sym (ap (λ p. run_in p plan m) asking) ∙ t.same in
     let count : m.before ≡ old.before + length (given old.replies) = omega (arith, t.before, length-given old.replies, places old.phase plan old fits) in
     let heard = progress_heard w run (run_left plan old) old.before m.before (given old.replies) before mid t.refusals count p in
-    let q = progress_group w run m.jobs (next_of plan m) m.before before mid now (map Some rs) (progress_same w run (run_left plan old) (Asks m.jobs (next_of plan m)) m.before [] before mid asks heard) served in
-    let len : length (map Some rs) ≡ length m.jobs = length-somes rs ∙ ap length rs_is ∙ length-replies mid.attempts (length m.jobs) served.since in
+    let q = progress_group w run m.jobs (next_of plan m) m.before before mid now replies (progress_same w run (run_left plan old) (Asks m.jobs (next_of plan m)) m.before [] before mid asks heard) served in
+    let len : length (map Some rs) ≡ length m.jobs = length-somes rs ∙ length-replies mid.attempts (length m.jobs) served.since in
     let same : asks_left plan (record m { replies = map Some rs }) ≡ asks_left plan m =
     ap (λ p. asks_in p plan (record m { replies = map Some rs })) asking ∙ sym (ap (λ p. asks_in p plan m) asking) in
     record {
-      progress = progress_same w run _ _ _ _ before now (after_replies plan m rs asking ∙ ap (next_of plan m) rs_is)
-          (subst (λ l. Progress w run (next_of plan m (replies_in mid.attempts (length m.jobs) served.since)) m.before l before now) (sym rs_is ∙ sym (given-map rs)) q);
+      progress = progress_same w run _ _ _ _ before now (after_replies plan m rs asking) (subst (λ l. Progress w run (next_of plan m rs) m.before l before now) (sym (given-map rs)) q);
       fits = let w : Holds plan (record m { replies = map Some rs }) = record { awaits = at.awaits; replies = len; place = at.place; counted = omega (arith, at.counted, same) } in
           subst (λ x. fits_in x plan (record m { replies = map Some rs })) (sym asking) w;
       moving = subst Moving (sym asking) tt;
@@ -101,22 +102,8 @@ served_ready w plan run before mid now old m rs t fits p served rs_is =
 
 pub serves : (w : ℕ) (plan : List Instruction) (run : Run) (before mid now : Account) (old m new : Standing) → Turned plan turn.Ask old m → Fits plan old → Progress w run (run_left plan old) old.before (given old.replies) before mid → Served w mid m.jobs new.replies now → new ≡ record m { replies = new.replies } → Ready w plan run before now new (asks_left plan m)
 serves w plan run before mid now old m new t fits p served same =
-    let rs = replies_in mid.attempts (length m.jobs) served.since in
-    let is : new ≡ record m { replies = map Some rs } = same ∙ ap (λ l. record m { replies = l }) served.replied in
-    let served' : Served w mid m.jobs (map Some rs) now = record {
-      since = served.since;
-      events = served.events;
-      attempts = served.attempts;
-      replied = refl;
-      starts = served.starts;
-      least = served.least;
-      idle = served.idle;
-      landed = served.landed;
-      fills = served.fills;
-      failures = served.failures ∙ ap (λ l. mid.failures + failed_count l) served.replied;
-      few = subst (λ l. failed_count l ≤ length m.jobs) served.replied served.few;
-    } in
-    subst (λ x. Ready w plan run before now x (asks_left plan m)) (sym is) (served_ready w plan run before mid now old m rs t fits p served' refl)
+    let is : new ≡ record m { replies = map Some (replies_in mid.attempts (length m.jobs) served.since) } = same ∙ ap (λ l. record m { replies = l }) served.replied in
+    subst (λ x. Ready w plan run before now x (asks_left plan m)) (sym is) (served_ready w plan run before mid now old m new.replies t fits p served)
 
 -- The number of the first refused reply that a last turn reports.
 abbrev PlaceBy : Turn → Option ℕ → Type 0
@@ -143,32 +130,37 @@ place_by (turn.Cut number) m all h moving r =
     let n : length h.earlier + at.0 ≡ number = omega (arith, h.count, at.2) in
     ap first_refused h.whole ∙ refused_later h.earlier (given m.replies) at.0 h.answered at.1 ∙ ap Some n
 
+-- What a run leaves, from its outcome and the state in which it ends.
+abbrev pub end_of : Outcome → State → RunEnd
+end_of o st = record { outcome = o; vars = st.vars; defs = st.defs; messages = st.messages; log = st.log }
+
 record Ending (r : Run) (refused : Option ℕ) (end : RunEnd) : Type 0 where
   pub how : How
   pub is : r ≡ Ends how (state_of end)
   pub outcome : outcome_from how refused ≡ Some end.outcome
 
+ending_by : (how : How) (o : Outcome) (st : State) (m : Standing) (end : RunEnd) (refused place : Option ℕ) → end ≡ end_of o m.state → m.state ≡ st → refused ≡ place → outcome_from how place ≡ Some o → Ending (Ends how st) refused end
+ending_by how o st m end refused place is same placed gives = record {
+  how = how;
+  is = ap (Ends how) (sym same ∙ sym (ap state_of is));
+  outcome = ap (outcome_from how) placed ∙ gives ∙ ap (λ e. Some e.outcome) (sym is);
+}
+
 ending : (t : Turn) (r : Run) (m : Standing) (end : RunEnd) (refused : Option ℕ) → (t ≡ turn.Ask → ⊥) → Shows t r m → Leaves m.phase m end → PlaceBy t refused → Ending r refused end
 ending turn.Ask r m end refused ne h leaves place = absurd (ne refl)
-ending turn.Done (Ends Goes_on st) m end refused ne h leaves place =
-    let is : end ≡ record { outcome = outcome.Completed; vars = m.state.vars; defs = m.state.defs; messages = m.state.messages; log = m.state.log } = subst (λ p. Leaves p m end) h.0 leaves in
-    record { how = Goes_on; is = ap (Ends Goes_on) (sym h.2 ∙ sym (ap state_of is)); outcome = ap (outcome_from Goes_on) place ∙ ap (λ e. Some e.outcome) (sym is) }
-ending turn.Done (Ends Completed st) m end refused ne h leaves place =
-    let is : end ≡ record { outcome = outcome.Completed; vars = m.state.vars; defs = m.state.defs; messages = m.state.messages; log = m.state.log } = subst (λ p. Leaves p m end) h.0 leaves in
-    record { how = Completed; is = ap (Ends Completed) (sym h.2 ∙ sym (ap state_of is)); outcome = ap (outcome_from Completed) place ∙ ap (λ e. Some e.outcome) (sym is) }
+ending turn.Done (Ends Goes_on st) m end refused ne h leaves place = ending_by Goes_on outcome.Completed st m end refused None (subst (λ p. Leaves p m end) h.0 leaves) h.2 place refl
+ending turn.Done (Ends Completed st) m end refused ne h leaves place = ending_by Completed outcome.Completed st m end refused None (subst (λ p. Leaves p m end) h.0 leaves) h.2 place refl
 ending turn.Done (Ends (Stopped s) st) m end refused ne h leaves place = absurd h
 ending turn.Done (Ends Cut st) m end refused ne h leaves place = absurd h
 ending turn.Done (Asks jobs next) m end refused ne h leaves place = absurd h
 ending (turn.Stopped s) (Ends (Stopped status) st) m end refused ne h leaves place =
-    let is : end ≡ record { outcome = outcome.Stopped status; vars = m.state.vars; defs = m.state.defs; messages = m.state.messages; log = m.state.log } = subst (λ p. Leaves p m end) h.0 leaves in
-    record { how = Stopped status; is = ap (Ends (Stopped status)) (sym h.2 ∙ sym (ap state_of is)); outcome = ap (outcome_from (Stopped status)) place ∙ ap (λ e. Some e.outcome) (sym is) }
+    ending_by (Stopped status) (outcome.Stopped status) st m end refused None (subst (λ p. Leaves p m end) h.0 leaves) h.2 place refl
 ending (turn.Stopped s) (Ends Goes_on st) m end refused ne h leaves place = absurd h
 ending (turn.Stopped s) (Ends Completed st) m end refused ne h leaves place = absurd h
 ending (turn.Stopped s) (Ends Cut st) m end refused ne h leaves place = absurd h
 ending (turn.Stopped s) (Asks jobs next) m end refused ne h leaves place = absurd h
 ending (turn.Cut number) (Ends Cut st) m end refused ne h leaves place =
-    let is : end ≡ record { outcome = outcome.CutShort number; vars = m.state.vars; defs = m.state.defs; messages = m.state.messages; log = m.state.log } = subst (λ p. Leaves p m end) h.0 leaves in
-    record { how = Cut; is = ap (Ends Cut) (sym h.2 ∙ sym (ap state_of is)); outcome = ap (outcome_from Cut) place ∙ ap (λ e. Some e.outcome) (sym is) }
+    ending_by Cut (outcome.CutShort number) st m end refused (Some number) (subst (λ p. Leaves p m end) h.0 leaves) h.2 place refl
 ending (turn.Cut number) (Ends Goes_on st) m end refused ne h leaves place = absurd h
 ending (turn.Cut number) (Ends Completed st) m end refused ne h leaves place = absurd h
 ending (turn.Cut number) (Ends (Stopped s) st) m end refused ne h leaves place = absurd h
