@@ -1,7 +1,6 @@
 //! Calls of the program over a crew.
 
-ghost use Rattle.std.specs.Prelude.{◌≡◌, ◌+◌, ◌^◌, ◌≤◌};
-ghost use Rattle.crew_trait.specs.Events.{IsIdle};
+ghost use Rattle.proberun.specs.Ran.{MayRun};
 
 use crate::given::{entries_of, replies_in};
 use causes::Causes;
@@ -60,9 +59,7 @@ fn status_over<C: Crew + Causes, W: Write>(
     output: &mut W,
     errors: &mut Vec<u8>,
 ) -> u8
-    requires idle { IsIdle (C.account crew.old).events }
-    requires attempts { (C.account crew.old).attempts + 2 ^ 36 ≤ 2 ^ 62 }
-    requires failures { (C.account crew.old).failures + 256 ≤ 2 ^ 62 }
+    requires may_run { MayRun (C.account crew.old) }
 {
     let mut input = input;
     run(
@@ -87,9 +84,7 @@ fn command_over<C: Crew + Causes + Children>(
     env: &[(Bytes, Bytes)],
     crew: &mut C,
 ) -> u8
-    requires idle { IsIdle (C.account crew.old).events }
-    requires attempts { (C.account crew.old).attempts + 2 ^ 36 ≤ 2 ^ 62 }
-    requires failures { (C.account crew.old).failures + 256 ≤ 2 ^ 62 }
+    requires may_run { MayRun (C.account crew.old) }
 {
     match rt.clone() {
         Ok(own) => command(own, rt.alloc(), words, env, crew),

@@ -19,6 +19,7 @@ use Rattle.invocation.specs.Errors.{errors_of}
 use Rattle.invocation.specs.Quiet.{quiet_in}
 use Rattle.invocation.specs.Supplies.{ReadsLimited, ReadsWhole, AreGiven, path_of}
 use Rattle.options.specs.declared.settings.Settings.{Settings}
+pub use Rattle.proberun.specs.Ran.{MayRun}
 use Rattle.syntax.specs.Script.{Script}
 
 -- The source of a run with these arguments was read: it is the text of configure.ac in the

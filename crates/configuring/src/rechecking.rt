@@ -1,12 +1,13 @@
 //! The command that runs a configure.ac again with the arguments of its record.
 
-ghost use Rattle.std.specs.Prelude.{◌≡◌, false, ◌≢◌, ◌+◌, ◌^◌, ◌≤◌, ℕ, List, Some, IfOk, codes};
+ghost use Rattle.std.specs.Prelude.{◌≡◌, false, ◌≢◌, ℕ, List, Some, IfOk, codes};
 ghost use Rattle.std.specs.Io.KnownBytes.{Appends};
 ghost use Rattle.configuring.specs.Configures.{IsRechecked};
 ghost use Rattle.crew_trait.specs.Events.{IsIdle};
 ghost use Rattle.diskfiles.specs.Held.{fresh};
 ghost use Rattle.invocation.specs.Errors.{AreTold};
 ghost use Rattle.invocation.specs.Supplies.{ReadsWhole};
+ghost use Rattle.proberun.specs.Ran.{MayRun};
 
 use crate::running::run_configure;
 use causes::Causes;
@@ -44,9 +45,7 @@ fn run_again<D: Disk, C: Crew + Causes, W: Write, E: Write>(
     output: &mut W,
     errors: &mut E,
 ) -> u8
-    requires idle { IsIdle (C.account crew.old).events }
-    requires attempts { (C.account crew.old).attempts + 2 ^ 36 ≤ 2 ^ 62 }
-    requires failures { (C.account crew.old).failures + 256 ≤ 2 ^ 62 }
+    requires may_run { MayRun (C.account crew.old) }
     requires found { ReadsWhole (D.known outputs.old.disk) (codes "config.status") (Some text.now) }
     requires fresh { outputs.old ≡ fresh outputs.old.disk }
     ensures idle { IsIdle (C.account crew.new).events }
@@ -85,9 +84,7 @@ fn run_record<D: Disk, C: Crew + Causes, W: Write, E: Write>(
     output: &mut W,
     errors: &mut E,
 ) -> Result<u8, AllocError>
-    requires idle { IsIdle (C.account crew.old).events }
-    requires attempts { (C.account crew.old).attempts + 2 ^ 36 ≤ 2 ^ 62 }
-    requires failures { (C.account crew.old).failures + 256 ≤ 2 ^ 62 }
+    requires may_run { MayRun (C.account crew.old) }
     requires fresh { outputs.old ≡ fresh outputs.old.disk }
     ensures idle { IsIdle (C.account crew.new).events }
     ensures run { IfOk result (λ status. status ≢ 2 → (out : List ℕ) × (said : List (List ℕ))
@@ -121,9 +118,7 @@ pub fn run_recheck<D: Disk, C: Crew + Causes, W: Write, E: Write>(
     output: &mut W,
     errors: &mut E,
 ) -> u8
-    requires idle { IsIdle (C.account crew.old).events }
-    requires attempts { (C.account crew.old).attempts + 2 ^ 36 ≤ 2 ^ 62 }
-    requires failures { (C.account crew.old).failures + 256 ≤ 2 ^ 62 }
+    requires may_run { MayRun (C.account crew.old) }
     requires fresh { outputs.old ≡ fresh outputs.old.disk }
     ensures idle { IsIdle (C.account crew.new).events }
     ensures run { result ≢ 2 → (out : List ℕ) × (said : List (List ℕ))

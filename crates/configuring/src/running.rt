@@ -1,6 +1,6 @@
 //! The command that runs a configure.ac.
 
-ghost use Rattle.std.specs.Prelude.{◌≡◌, false, ◌≢◌, ◌+◌, ◌^◌, ◌≤◌, ℕ, List, IfOk, option_copied};
+ghost use Rattle.std.specs.Prelude.{◌≡◌, false, ◌≢◌, ℕ, List, IfOk, option_copied};
 ghost use Rattle.std.specs.Io.KnownBytes.{Appends};
 ghost use Rattle.configuring.specs.Configures.{IsConfigured, ReadsSource};
 ghost use Rattle.crew_trait.specs.Events.{IsIdle};
@@ -8,6 +8,7 @@ ghost use Rattle.diskfiles.specs.Held.{fresh};
 ghost use Rattle.invocation.specs.Errors.{AreTold};
 ghost use Rattle.invocation.specs.Quiet.{quiet_in};
 ghost use Rattle.invocation.specs.Supplies.{GivenIn};
+ghost use Rattle.proberun.specs.Ran.{IsWindow, MayRun};
 
 use causes::Causes;
 use commands::{tell_result, tell_unread};
@@ -44,11 +45,8 @@ fn run_supplied<D: Disk, C: Crew + Causes, W: Write, E: Write>(
     output: &mut W,
     errors: &mut E,
 ) -> u8
-    requires at_least_one { 1 ≤ window }
-    requires at_most_16 { window ≤ 16 }
-    requires idle { IsIdle (C.account crew.old).events }
-    requires attempts { (C.account crew.old).attempts + 2 ^ 36 ≤ 2 ^ 62 }
-    requires failures { (C.account crew.old).failures + 256 ≤ 2 ^ 62 }
+    requires window { IsWindow window }
+    requires may_run { MayRun (C.account crew.old) }
     requires quiet { supplies.now.quiet ≡ quiet_in why.now.text.now why.now.args.now env.now }
     requires source { ReadsSource (D.known outputs.old.disk) why.now.args.now why.now.text.now }
     requires given { GivenIn (D.known outputs.old.disk) why.now.text.now why.now.args.now env.now supplies.now.cache supplies.now.templates.items }
@@ -89,11 +87,8 @@ fn run_text<D: Disk, C: Crew + Causes, W: Write, E: Write>(
     output: &mut W,
     errors: &mut E,
 ) -> Result<u8, AllocError>
-    requires at_least_one { 1 ≤ window }
-    requires at_most_16 { window ≤ 16 }
-    requires idle { IsIdle (C.account crew.old).events }
-    requires attempts { (C.account crew.old).attempts + 2 ^ 36 ≤ 2 ^ 62 }
-    requires failures { (C.account crew.old).failures + 256 ≤ 2 ^ 62 }
+    requires window { IsWindow window }
+    requires may_run { MayRun (C.account crew.old) }
     requires source { ReadsSource (D.known outputs.old.disk) why.now.args.now why.now.text.now }
     requires fresh { outputs.old ≡ fresh outputs.old.disk }
     ensures idle { IsIdle (C.account crew.new).events }
@@ -143,11 +138,8 @@ fn run_source<D: Disk, C: Crew + Causes, W: Write, E: Write>(
     output: &mut W,
     errors: &mut E,
 ) -> Result<u8, AllocError>
-    requires at_least_one { 1 ≤ window }
-    requires at_most_16 { window ≤ 16 }
-    requires idle { IsIdle (C.account crew.old).events }
-    requires attempts { (C.account crew.old).attempts + 2 ^ 36 ≤ 2 ^ 62 }
-    requires failures { (C.account crew.old).failures + 256 ≤ 2 ^ 62 }
+    requires window { IsWindow window }
+    requires may_run { MayRun (C.account crew.old) }
     requires fresh { outputs.old ≡ fresh outputs.old.disk }
     ensures idle { IsIdle (C.account crew.new).events }
     ensures run { IfOk result (λ status. status ≢ 2 → (out : List ℕ) × (said : List (List ℕ))
@@ -182,11 +174,8 @@ pub fn run_configure<D: Disk, C: Crew + Causes, W: Write, E: Write>(
     output: &mut W,
     errors: &mut E,
 ) -> u8
-    requires at_least_one { 1 ≤ window }
-    requires at_most_16 { window ≤ 16 }
-    requires idle { IsIdle (C.account crew.old).events }
-    requires attempts { (C.account crew.old).attempts + 2 ^ 36 ≤ 2 ^ 62 }
-    requires failures { (C.account crew.old).failures + 256 ≤ 2 ^ 62 }
+    requires window { IsWindow window }
+    requires may_run { MayRun (C.account crew.old) }
     requires fresh { outputs.old ≡ fresh outputs.old.disk }
     ensures idle { IsIdle (C.account crew.new).events }
     ensures run { result ≢ 2 → (out : List ℕ) × (said : List (List ℕ))

@@ -8,7 +8,7 @@ use Rattle.options.specs.declared.settings.Settings.{Settings}
 use Rattle.outputs.specs.Receipt.{Receipt, with_artifacts, IsCutAt}
 use Rattle.outputs.specs.declared.artifact.Artifact.{Artifact}
 use Rattle.proberun.specs.Progress.{HasBegun}
-pub use Rattle.proberun.specs.Ran.{Ran, RunEnd, outcome_from, state_of}
+pub use Rattle.proberun.specs.Ran.{IsWindow, MayRun, Ran, RunEnd, outcome_from, state_of}
 use Rattle.status_record.specs.declared.record.Record.{Record}
 use Rattle.syntax.specs.Script.{Script}
 use Rattle.framing.specs.Given.{Accepted, Shows, Starts}

@@ -5,6 +5,7 @@ ghost use Rattle.crew_trait.specs.Events.{IsIdle, in_flight};
 ghost use Rattle.outputlist.specs.Output.{AreOutputs};
 ghost use Rattle.outputs.specs.Receipt.{with_artifacts};
 ghost use Rattle.plan.specs.Walk.{DoesWhat};
+ghost use Rattle.proberun.specs.Ran.{IsWindow, MayRun};
 ghost use Rattle.syntax.specs.Lists.{lists_of};
 ghost use Rattle.syntax.specs.Script.{script_of};
 ghost use Rattle.engine.specs.Judged.{judged};
@@ -45,11 +46,8 @@ fn run_ready<C: Crew>(
 ) -> Result<Ready, AllocError>
     requires outputs { AreOutputs (lists_of (script_of source.now)).files (lists_of (script_of source.now)).headers }
     requires plan { DoesWhat plan.now (script_of source.now) }
-    requires at_least_one { 1 ≤ window }
-    requires at_most_16 { window ≤ 16 }
-    requires idle { IsIdle (C.account crew.old).events }
-    requires attempts { (C.account crew.old).attempts + 2 ^ 36 ≤ 2 ^ 62 }
-    requires failures { (C.account crew.old).failures + 256 ≤ 2 ^ 62 }
+    requires window { IsWindow window }
+    requires may_run { MayRun (C.account crew.old) }
     ensures idle { IsIdle (C.account crew.new).events }
     ensures landed { in_flight (C.account crew.new).events ≡ in_flight (C.account crew.old).events }
     ensures begun { OnErr result (HasRunPart window (script_of source.now) start (C.account crew.old) (C.account crew.new)) }
@@ -128,11 +126,8 @@ fn configured<C: Crew, O: Outputs>(
 ) -> Result<Report, Fault>
     requires outputs { AreOutputs (lists_of (script_of source.now)).files (lists_of (script_of source.now)).headers }
     requires plan { DoesWhat plan.now (script_of source.now) }
-    requires at_least_one { 1 ≤ window }
-    requires at_most_16 { window ≤ 16 }
-    requires idle { IsIdle (C.account crew.old).events }
-    requires attempts { (C.account crew.old).attempts + 2 ^ 36 ≤ 2 ^ 62 }
-    requires failures { (C.account crew.old).failures + 256 ≤ 2 ^ 62 }
+    requires window { IsWindow window }
+    requires may_run { MayRun (C.account crew.old) }
     requires puts { (O.receipt outputs.old).failures + 256 ≤ 2 ^ 62 }
     ensures idle { IsIdle (C.account crew.new).events }
     ensures landed { in_flight (C.account crew.new).events ≡ in_flight (C.account crew.old).events }
@@ -155,11 +150,8 @@ fn whole<C: Crew, O: Outputs>(
     outputs: &mut O,
     window: usize,
 ) -> Result<Report, Fault>
-    requires at_least_one { 1 ≤ window }
-    requires at_most_16 { window ≤ 16 }
-    requires idle { IsIdle (C.account crew.old).events }
-    requires attempts { (C.account crew.old).attempts + 2 ^ 36 ≤ 2 ^ 62 }
-    requires failures { (C.account crew.old).failures + 256 ≤ 2 ^ 62 }
+    requires window { IsWindow window }
+    requires may_run { MayRun (C.account crew.old) }
     requires puts { (O.receipt outputs.old).failures + 256 ≤ 2 ^ 62 }
     ensures whole { IsWhole ((crew.new ≡ crew.old) × (outputs.new ≡ outputs.old)) window (judged source.now args.now env.now (option_map (λ c. c.now) cache.entry) templates.now)
         templates.now (C.account crew.old) (C.account crew.new) (O.receipt outputs.old) (O.receipt outputs.new) result }
@@ -204,11 +196,8 @@ pub fn configure<C: Crew, O: Outputs>(
     outputs: &mut O,
     window: usize,
 ) -> Result<Report, Fault>
-    requires at_least_one { 1 ≤ window }
-    requires at_most_16 { window ≤ 16 }
-    requires idle { IsIdle (C.account crew.old).events }
-    requires attempts { (C.account crew.old).attempts + 2 ^ 36 ≤ 2 ^ 62 }
-    requires failures { (C.account crew.old).failures + 256 ≤ 2 ^ 62 }
+    requires window { IsWindow window }
+    requires may_run { MayRun (C.account crew.old) }
     requires puts { (O.receipt outputs.old).failures + 256 ≤ 2 ^ 62 }
     // What is given is refused with its first fault, or a text is shown, or the source is run. Unless it is run, nothing is
     // started or handed over.

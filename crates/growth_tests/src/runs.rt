@@ -1,7 +1,7 @@
 //! Runs.
 
 ghost use Rattle.std.specs.Prelude.{◌≡◌, ◌+◌, ◌^◌, ◌≤◌, []};
-ghost use Rattle.crew_trait.specs.Events.{IsIdle};
+ghost use Rattle.engine.specs.Configured.{IsWindow, MayRun};
 
 use crate::answers::{Found, Right, Told, found_of, told_of, told_with};
 use crate::given::{Pair, pairs_of, replies_of, texts_of};
@@ -63,11 +63,8 @@ fn answer_of<C: Crew, O: Outputs>(
     crew: &mut C,
     outputs: &mut O,
 ) -> Result<Report, Fault>
-    requires at_least_one { 1 ≤ window }
-    requires at_most_16 { window ≤ 16 }
-    requires idle { IsIdle (C.account crew.old).events }
-    requires attempts { (C.account crew.old).attempts + 2 ^ 36 ≤ 2 ^ 62 }
-    requires failures { (C.account crew.old).failures + 256 ≤ 2 ^ 62 }
+    requires window { IsWindow window }
+    requires may_run { MayRun (C.account crew.old) }
     requires puts { (O.receipt outputs.old).failures + 256 ≤ 2 ^ 62 }
 {
     configure(

@@ -1,14 +1,23 @@
 -- A whole run over a crew.
-use Rattle.std.specs.Prelude.{◌≡◌, ℕ, ◌+◌, List, ◌++◌, length, Option, Some, None}
+use Rattle.std.specs.Prelude.{◌≡◌, ℕ, ◌+◌, ◌^◌, ◌≤◌, List, ◌++◌, length, Option, Some, None}
 use Rattle.jobs.specs.declared.job.Job.{Job}
 use Rattle.crew_trait.specs.declared.event.CrewEvent.{CrewEvent}
-use Rattle.crew_trait.specs.Events.{Account, replies_in}
+use Rattle.crew_trait.specs.Events.{Account, IsIdle, replies_in}
 use Rattle.meaning.specs.State.{State, How, Goes_on, Completed, Stopped, Cut, Run}
 use Rattle.meaning.specs.Play.{play, all_jobs, first_refused}
 use Rattle.machine.specs.declared.machine.Outcome.{Outcome}
 use Rattle.machine.specs.declared.machine.Outcome.TheVariants as outcome
 pub use Rattle.machine.specs.declared.machine.RunEnd.{RunEnd}
 use Rattle.proberun.specs.Starts.{StartsAre, TakesLeast, Fills, EndsGroup, failures_in}
+
+-- A run may have this many children at once. (own)
+abbrev pub IsWindow : ℕ → Type 0
+IsWindow window = (1 ≤ window) × (window ≤ 16)
+
+-- A run may be made over a crew with this account: no child is in flight, and the starts that a plan asks for and the
+-- refusals of a group can be counted up to 2^62. (own)
+abbrev pub MayRun : Account → Type 0
+MayRun before = IsIdle before.events × (before.attempts + 2 ^ 36 ≤ 2 ^ 62) × (before.failures + 256 ≤ 2 ^ 62)
 
 -- The outcome of a run, by how it ends and by the number, from 1, of the first refused reply among those to all its
 -- jobs; a run is cut short exactly if there is such a reply. (own)

@@ -1,6 +1,6 @@
 //! A whole run.
 
-ghost use Rattle.std.specs.Prelude.{◌≡◌, ◌+◌, ◌^◌, ◌≤◌, IfOk, IsSome, OnErr, OnOk, length};
+ghost use Rattle.std.specs.Prelude.{◌≡◌, ◌^◌, ◌≤◌, IfOk, IsSome, OnErr, OnOk, length};
 ghost use Rattle.crew_trait.specs.Events.{IsIdle, in_flight};
 ghost use Rattle.machine.specs.Standing.{outcome_of};
 ghost use Rattle.machine.specs.declared.machine.RunEnd.{RunEnd};
@@ -9,7 +9,7 @@ ghost use Rattle.meaning.specs.State.{opened};
 ghost use Rattle.plan.specs.Inside.{asks_after};
 ghost use Rattle.plan.specs.Walk.{empty_mind, walk};
 ghost use Rattle.proberun.specs.Progress.{HasBegun, Leaves, before_steps};
-ghost use Rattle.proberun.specs.Ran.{Ran};
+ghost use Rattle.proberun.specs.Ran.{IsWindow, MayRun, Ran};
 ghost use Rattle.proberun.specs.Serving.{AllFree};
 
 use crate::queue::Queue;
@@ -38,11 +38,8 @@ fn run_groups<C: Crew>(
 ) -> Result<(), AllocError>
     requires first { machine.old ≡ before_steps machine.old.state }
     requires free { AllFree slots.old }
-    requires at_least_one { 1 ≤ length slots.old }
-    requires at_most_16 { length slots.old ≤ 16 }
-    requires idle { IsIdle (C.account crew.old).events }
-    requires attempts { (C.account crew.old).attempts + 2 ^ 36 ≤ 2 ^ 62 }
-    requires failures { (C.account crew.old).failures + 256 ≤ 2 ^ 62 }
+    requires window { IsWindow (length slots.old) }
+    requires may_run { MayRun (C.account crew.old) }
     ensures idle { IsIdle (C.account crew.new).events }
     ensures landed { in_flight (C.account crew.new).events ≡ in_flight (C.account crew.old).events }
     ensures ended { OnOk result (IsSome (outcome_of machine.new.phase)) }
@@ -71,11 +68,8 @@ fn run_in<C: Crew>(
     slots: &mut [Option<usize>],
 ) -> Result<RunEnd, AllocError>
     requires free { AllFree slots.old }
-    requires at_least_one { 1 ≤ length slots.old }
-    requires at_most_16 { length slots.old ≤ 16 }
-    requires idle { IsIdle (C.account crew.old).events }
-    requires attempts { (C.account crew.old).attempts + 2 ^ 36 ≤ 2 ^ 62 }
-    requires failures { (C.account crew.old).failures + 256 ≤ 2 ^ 62 }
+    requires window { IsWindow (length slots.old) }
+    requires may_run { MayRun (C.account crew.old) }
     ensures idle { IsIdle (C.account crew.new).events }
     ensures landed { in_flight (C.account crew.new).events ≡ in_flight (C.account crew.old).events }
     ensures ran { IfOk result (λ end. Ran (length slots.old) (whole (walk plan.now 0 empty_mind (opened vars))) (C.account crew.old) (C.account crew.new) end) }
@@ -101,11 +95,8 @@ pub fn run<C: Crew>(
     crew: &mut C,
     window: usize,
 ) -> Result<RunEnd, AllocError>
-    requires at_least_one { 1 ≤ window }
-    requires at_most_16 { window ≤ 16 }
-    requires idle { IsIdle (C.account crew.old).events }
-    requires attempts { (C.account crew.old).attempts + 2 ^ 36 ≤ 2 ^ 62 }
-    requires failures { (C.account crew.old).failures + 256 ≤ 2 ^ 62 }
+    requires window { IsWindow window }
+    requires may_run { MayRun (C.account crew.old) }
     ensures idle { IsIdle (C.account crew.new).events }
     ensures landed { in_flight (C.account crew.new).events ≡ in_flight (C.account crew.old).events }
     ensures ran { IfOk result (λ end. Ran window (whole (walk plan.now 0 empty_mind (opened vars))) (C.account crew.old) (C.account crew.new) end) }

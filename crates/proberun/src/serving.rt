@@ -2,6 +2,7 @@
 
 ghost use Rattle.std.specs.Prelude.{◌≡◌, ℕ, ◌+◌, ◌^◌, ◌<◌, ◌≤◌, ◌⊎◌, [], ◌∷◌, length, Some, None, IfSome, IfNone, slice_get, replicate};
 ghost use Rattle.crew_trait.specs.Events.{Account, IsIdle};
+ghost use Rattle.proberun.specs.Ran.{IsWindow};
 ghost use Rattle.proberun.specs.Serving.{Serving, Served, HasHeld, HeldBelow, AllHeld, AllFree, MayWait, open_count};
 
 use crate::queue::Queue;
@@ -79,8 +80,7 @@ pub(crate) fn serve<C: Crew>(
     requires fresh { machine.old.replies ≡ replicate (length machine.old.jobs) None }
     requires idle { IsIdle (C.account crew.old).events }
     requires free { AllFree slots.old }
-    requires at_least_one { 0 < length slots.old }
-    requires at_most_16 { length slots.old ≤ 16 }
+    requires window { IsWindow (length slots.old) }
     requires attempts { (C.account crew.old).attempts + length machine.old.jobs ≤ 2 ^ 62 }
     requires failures { (C.account crew.old).failures + length machine.old.jobs ≤ 2 ^ 62 }
     ensures served { Served (length slots.old) (C.account crew.old) machine.old.jobs machine.new.replies (C.account crew.new) }

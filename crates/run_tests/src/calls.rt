@@ -1,9 +1,8 @@
 //! The filter and the program's commands: streams that fail, and the words of the program. The crate `case_tests` has what the
 //! filter writes and which faults it names.
 
-ghost use Rattle.std.specs.Prelude.{◌+◌, ◌^◌, ◌≤◌};
 ghost use Rattle.std.specs.Io.{WritesAtMost};
-ghost use Rattle.crew_trait.specs.Events.{IsIdle};
+ghost use Rattle.runner.specs.Puts.{MayRun};
 
 use crate::crews::{Work, job_of, put_real_children};
 use crate::streams::{Sheet, pipe_of};
@@ -150,9 +149,7 @@ pub fn status_over<C: Crew + Causes, R: Read, W: Write, E: Write>(
     output: &mut W,
     errors: &mut E,
 ) -> u8
-    requires idle { IsIdle (C.account crew.old).events }
-    requires attempts { (C.account crew.old).attempts + 2 ^ 36 ≤ 2 ^ 62 }
-    requires failures { (C.account crew.old).failures + 256 ≤ 2 ^ 62 }
+    requires may_run { MayRun (C.account crew.old) }
 {
     run(
         rt.alloc(),

@@ -1,4 +1,5 @@
--- Which commands write files.
+-- Which commands write files, and what a run requires of its crew.
+pub use Rattle.configuring.specs.Configures.{MayRun}
 use Rattle.invocation.specs.Calls.{Call, Configure, Status, Recheck}
 
 -- The program is asked for nothing that makes outputs or a log. (own)

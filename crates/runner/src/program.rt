@@ -1,9 +1,9 @@
 //! The program's commands, over its streams, its files and a crew.
 
-ghost use Rattle.std.specs.Prelude.{◌≡◌, false, ◌∷◌, ◌≢◌, ◌⊎◌, ◌+◌, ◌^◌, ◌≤◌, ℕ, List, [], None, IfSome};
+ghost use Rattle.std.specs.Prelude.{◌≡◌, false, ◌∷◌, ◌≢◌, ◌⊎◌, ◌≤◌, ℕ, List, [], None, IfSome};
 ghost use Rattle.std.specs.Io.KnownBytes.{Appends};
 ghost use Rattle.commands.specs.MadeAgain.{IsMadeAgain};
-ghost use Rattle.configuring.specs.Configures.{IsConfigured, IsRechecked};
+ghost use Rattle.configuring.specs.Configures.{IsConfigured, IsRechecked, MayRun};
 ghost use Rattle.crew_trait.specs.Events.{IsIdle};
 ghost use Rattle.diskfiles.specs.Held.{fresh};
 ghost use Rattle.filtering.specs.Filtered.{IsFiltered};
@@ -93,9 +93,7 @@ pub fn run<F: Files, D: Disk, C: Crew + Causes, R: Read, W: Write, E: Write>(
     output: &mut W,
     errors: &mut E,
 ) -> u8
-    requires idle { IsIdle (C.account crew.old).events }
-    requires attempts { (C.account crew.old).attempts + 2 ^ 36 ≤ 2 ^ 62 }
-    requires failures { (C.account crew.old).failures + 256 ≤ 2 ^ 62 }
+    requires may_run { MayRun (C.account crew.old) }
     requires fresh { outputs.old ≡ fresh outputs.old.disk }
     // Without words: unless the status is 2, what is written and the status are those of the source's meaning.
     ensures filter { IfFilter (call_of words.now) ((result ≡ 2) ⊎ IfSome (R.remaining input.old)
@@ -223,9 +221,7 @@ pub fn command<C: Crew + Causes + Children>(
     env: &[(Bytes, Bytes)],
     crew: &mut C,
 ) -> u8
-    requires idle { IsIdle (C.account crew.old).events }
-    requires attempts { (C.account crew.old).attempts + 2 ^ 36 ≤ 2 ^ 62 }
-    requires failures { (C.account crew.old).failures + 256 ≤ 2 ^ 62 }
+    requires may_run { MayRun (C.account crew.old) }
     // What [`run`] says, but for what only known streams and files can show.
     ensures standin { IfStandIn (call_of words.now) (λ others. (result ≡ 2) ⊎ IsAnswered None others result) }
     ensures configure { IfConfigure (call_of words.now) (λ window args. result ≢ 2 → (out : List ℕ) × (said : List (List ℕ))

@@ -13,4 +13,4 @@ returns-clause-ran g c =
 
 pub returns-in_err-slots-clause-begun : goal.returns-in_err-slots-clause-begun
 returns-in_err-slots-clause-begun g c =
-    any_err _ c.from_residual.result (not_started c.args.window (whole (walk c.args.plan.now 0 empty_mind (opened c.args.vars))) (g.C.Crew.account c.args.crew.now) c.requires.idle)
+    any_err _ c.from_residual.result (not_started c.args.window (whole (walk c.args.plan.now 0 empty_mind (opened c.args.vars))) (g.C.Crew.account c.args.crew.now) c.requires.may_run.0)

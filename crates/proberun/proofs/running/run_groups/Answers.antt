@@ -7,13 +7,13 @@ use Rattle.proberun.proofs.running.run_groups.Goals as goal
 
 pub groups-init : goal.groups-init
 groups-init g c =
-    let r = begins (length c.args.slots.now) _ _ _ _ c.requires.first c.requires.idle in
+    let r = begins (length c.args.slots.now) _ _ _ _ c.requires.first c.requires.may_run.0 in
     record {
       progress = r.progress;
       fits = r.fits;
       moving = r.moving;
       free = c.requires.free;
-      attempts = omega (arith, r.asks, c.requires.attempts, c.bound.ensures);
+      attempts = omega (arith, r.asks, c.requires.may_run.1, c.bound.ensures);
     }
 
 pub groups-preserved : goal.groups-preserved
@@ -33,7 +33,7 @@ pub serve-requires-clause-failures : goal.serve-requires-clause-failures
 serve-requires-clause-failures g c =
     let t : Turned c.args.plan.now turn.Ask c.groups.machine c.advance.new.self = subst (λ x. Turned c.args.plan.now x c.groups.machine c.advance.new.self) c.in-Ask.is c.in_ok-advance.ensures.turned in
     let failures = no_failure_yet (length c.args.slots.now) c.args.plan.now _ _ _ c.groups.machine c.advance.new.self t c.groups.invariant.progress in
-    omega (arith, failures, t.few, c.requires.failures)
+    omega (arith, failures, t.few, c.requires.may_run.2)
 
 pub returns-in_default : goal.returns-in_default
 returns-in_default g c = record {
