@@ -1,7 +1,6 @@
 -- The account of a crew around a crew, of which one call is refused, after each call.
-use Rattle.std.proofs.Common.{◌≡◌, ℕ, ◌+◌, ◌-◌, ◌^◌, ◌<◌, ◌≤◌, Bool, true, false, cond, eqb, List, [], ◌∷◌, ◌++◌, length, map, take, drop, refl, sym, ap, ◌∙◌, ⊎_elim, arith, length-append}
+use Rattle.std.proofs.Common.{◌≡◌, ℕ, ◌+◌, ◌-◌, ◌^◌, ◌<◌, ◌≤◌, Bool, true, false, cond, eqb, List, [], ◌∷◌, ◌++◌, length, map, take, drop, refl, sym, ap, ◌∙◌, arith, length-append}
 use Rattle.std.specs.Prelude.{Option, None, Some, fold}
-use Rattle.std.proofs.lemmas.Bool.{cases_eq}
 use Rattle.std.proofs.lemmas.Bool.Decides.{nat_tests}
 use Rattle.std.proofs.lemmas.List.{take-append-drop, append-nil, take_all, drop_all}
 use Rattle.std.proofs.lemmas.List.Sums.{fold-append}
@@ -12,13 +11,9 @@ use Rattle.crew_trait.specs.declared.event.CrewEvent.{CrewEvent}
 use Rattle.crew_trait.specs.declared.event.CrewEvent.TheVariants.{Started, Ended}
 use Rattle.crew.specs.declared.fused.FuseKind.{FuseKind}
 use Rattle.crew.specs.declared.fused.FuseKind.TheVariants.{Start, End}
-use Rattle.crew_trait.specs.Events.{Account, IsSomeBusy, busy, busy_after, failure_of, without_slot}
+use Rattle.crew_trait.specs.Events.{Account, IsSomeBusy, busy, busy_after, failure_of}
 use Rattle.crew.specs.Fused.{fused, added_failure, before, counted, IsCounted, is_due, IsSpent, last_added, last_refused, later_of, left_after, one_higher, refused_end, since}
-use Rattle.crew.specs.Sound.{times, ListsBusy}
-use Rattle.crew.proofs.SlotLemmas.{lists_start}
-
-abbrev one_if : Bool → ℕ
-one_if b = cond b 1 0
+use Rattle.crew.proofs.SlotLemmas.{lists_start, lists_left}
 
 -- busy slots don't depend on numbers
 busy_higher : (s : ℕ) (b : Bool) (es : List CrewEvent) → fold (busy_after s) b (map one_higher es) ≡ fold (busy_after s) b es
@@ -123,63 +118,6 @@ pub counted_more : (later : Option ℕ) → later_of (counted later) ≤ later_o
 counted_more None = omega arith
 counted_more (Some later) = omega arith
 
--- each slot once, without one of them
-times-without : (s x : ℕ) (xs : List ℕ) → 1 ≤ times x xs → times s (without_slot x xs) + cond (eqb x s) 1 0 ≡ times s xs
-times-without s x [] some = absurd (omega arith)
-times-without s x (y ∷ ys) some =
-    ⊎_elim
-    (λ same.
-    let t : eqb y x ≡ true = grind (arith, nat_tests) in
-    let w : without_slot x (y ∷ ys) ≡ ys = ap (λ b. cond b ys (y ∷ without_slot x ys)) t in
-    let n : one_if (eqb y s) ≡ one_if (eqb x s) = ap (λ k. one_if (eqb k s)) same in
-    omega (arith, ap (times s) w, n))
-    (λ other.
-    let t : eqb y x ≡ false = grind (arith, nat_tests) in
-    let w : without_slot x (y ∷ ys) ≡ y ∷ without_slot x ys = ap (λ b. cond b ys (y ∷ without_slot x ys)) t in
-    let n : one_if (eqb y x) ≡ 0 = ap one_if t in
-    let e = times-without s x ys (omega (arith, n)) in
-    omega (arith, ap (times s) w, e))
-    (cases_eq y x)
-
-length-without : (x : ℕ) (xs : List ℕ) → 1 ≤ times x xs → length (without_slot x xs) + 1 ≡ length xs
-length-without x [] some = absurd (omega arith)
-length-without x (y ∷ ys) some =
-    ⊎_elim
-    (λ same.
-    let t : eqb y x ≡ true = grind (arith, nat_tests) in
-    let w : without_slot x (y ∷ ys) ≡ ys = ap (λ b. cond b ys (y ∷ without_slot x ys)) t in
-    omega (arith, ap length w))
-    (λ other.
-    let t : eqb y x ≡ false = grind (arith, nat_tests) in
-    let w : without_slot x (y ∷ ys) ≡ y ∷ without_slot x ys = ap (λ b. cond b ys (y ∷ without_slot x ys)) t in
-    let n : one_if (eqb y x) ≡ 0 = ap one_if t in
-    let e = length-without x ys (omega (arith, n)) in
-    omega (arith, ap length w, e))
-    (cases_eq y x)
-
-listed : (slots : List ℕ) (es : List CrewEvent) (slot : ℕ) → ListsBusy slots es → busy slot es ≡ true → 1 ≤ times slot slots
-listed slots es slot h on = let e : one_if (busy slot es) ≡ 1 = ap one_if on in omega (arith, h.each slot, e)
-
-lists_without : (slots : List ℕ) (es es' : List CrewEvent) (slot : ℕ) (reply : Reply) (number : ℕ) → ListsBusy slots es → busy slot es ≡ true → es' ≡ es ++ Ended slot reply number ∷ [] → ListsBusy (without_slot slot slots) es'
-lists_without slots es es' slot reply number h on is =
-    record {
-      each = λ s.
-          let now : busy s es' ≡ cond (eqb slot s) false (busy s es) = ap (busy s) is ∙ fold-append (busy_after s) false es (Ended slot reply number ∷ []) in
-          let gone = times-without s slot slots (listed slots es slot h on) in
-          let old = h.each s in
-          ⊎_elim
-          (λ same.
-          let y : eqb slot s ≡ true = grind (arith, nat_tests) in
-          let z : busy s es' ≡ false = now ∙ ap (λ b. cond b false (busy s es)) y in
-          let was : busy s es ≡ true = ap (λ x. busy x es) (sym same) ∙ on in
-          omega (arith, ap one_if y, ap one_if z, ap one_if was, gone, old))
-          (λ other.
-          let y : eqb slot s ≡ false = grind (arith, nat_tests) in
-          let z : busy s es' ≡ busy s es = now ∙ ap (λ b. cond b false (busy s es)) y in
-          omega (arith, ap one_if y, ap one_if z, gone, old))
-          (cases_eq slot s);
-    }
-
 pub counted_started : (left left' : ℕ) (later : Option ℕ) (a a' : Account) (slot : ℕ) (job : Job) (number : ℕ) → IsCounted left later a → IsSpent (counted later) left' → a.attempts < 2 ^ 62 → busy slot a.events ≡ false → a'.events ≡ a.events ++ Started slot job number ∷ [] → a'.attempts ≡ a.attempts + 1 → IsCounted left' (counted later) a'
 counted_started left left' later a a' slot job number h spent few free es is =
     record {
@@ -192,10 +130,11 @@ counted_started left left' later a a' slot job number h spent few free es is =
 
 pub counted_ended : (left left' : ℕ) (later later' : Option ℕ) (a a' : Account) (slot : ℕ) (reply : Reply) (number : ℕ) → IsCounted left later a → IsSpent later' left' → later_of later' ≤ later_of later + 1 → busy slot a.events ≡ true → a'.events ≡ a.events ++ Ended slot reply number ∷ [] → a'.attempts ≡ a.attempts → IsCounted left' later' a'
 counted_ended left left' later later' a a' slot reply number h spent more on es is =
+    let kept = lists_left h.slots a.events a'.events slot reply number h.lists on es in
     record {
-      slots = without_slot slot h.slots;
-      lists = lists_without h.slots a.events a'.events slot reply number h.lists on es;
-      fit = let f = h.fit in let n = length-without slot h.slots (listed h.slots a.events slot h.lists on) in omega (arith, f, is, n, more);
+      slots = kept.rest;
+      lists = kept.lists;
+      fit = let f = h.fit in let n = kept.shorter in omega (arith, f, is, n, more);
       few = let f = h.few in omega (arith, f, is);
       spent = spent;
     }

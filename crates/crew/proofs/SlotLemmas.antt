@@ -12,7 +12,7 @@ use Rattle.crew_trait.specs.declared.event.CrewEvent.TheVariants.{Started, Ended
 use Rattle.crew_trait.specs.Events.{busy, busy_after, IsSomeBusy, slots_in_flight, slots_after, without_slot}
 use Rattle.crew.specs.Sound.{times, ListsBusy}
 
-abbrev one_if : Bool → ℕ
+abbrev pub one_if : Bool → ℕ
 one_if b = cond b 1 0
 
 times-push : (s : ℕ) (xs : List ℕ) (x : ℕ) → times s (xs ++ x ∷ []) ≡ times s xs + cond (eqb x s) 1 0
@@ -84,6 +84,51 @@ lists_end xs xs' es es' i slot reply number h lt is xs_is es_is =
           let z = now ∙ ap (λ b. cond b false (busy s es)) y in
           omega (arith, ap one_if y, ap one_if z))
           (cases_eq slot s);
+    }
+
+-- the place of a slot that occurs in a list, without which the list is one shorter
+record Place (slot : ℕ) (slots : List ℕ) : Type 0 where
+  pub place : ℕ
+  pub within : place < length slots
+  pub found : slot ≡ get_or slots place slot
+  pub shorter : length (remove slots place) + 1 ≡ length slots
+
+place_at_head : (slot x : ℕ) (xs : List ℕ) → x ≡ slot → Place slot (x ∷ xs)
+place_at_head slot x xs same = record { place = 0; within = omega arith; found = sym same; shorter = omega arith }
+
+place_in_rest : (slot x : ℕ) (xs : List ℕ) → Place slot xs → Place slot (x ∷ xs)
+place_in_rest slot x xs p = record {
+  place = suc p.place;
+  within = let w = p.within in omega arith;
+  found = p.found;
+  shorter = let s = p.shorter in omega arith;
+}
+
+place_of : (slot : ℕ) (slots : List ℕ) → 0 < times slot slots → Place slot slots
+place_of slot [] some = absurd (omega arith)
+place_of slot (x ∷ xs) some =
+    ⊎_elim
+    (λ same. place_at_head slot x xs same)
+    (λ other.
+    let test : eqb x slot ≡ false = grind (arith, nat_tests) in
+    let none : one_if (eqb x slot) ≡ 0 = ap one_if test in
+    place_in_rest slot x xs (place_of slot xs (omega (arith, none))))
+    (cases_eq x slot)
+
+-- the slots that are left after the end of a child that is in flight
+pub record Left (slots : List ℕ) (events : List CrewEvent) : Type 0 where
+  pub rest : List ℕ
+  pub lists : ListsBusy rest events
+  pub shorter : length rest + 1 ≡ length slots
+
+pub lists_left : (xs : List ℕ) (es es' : List CrewEvent) (slot : ℕ) (reply : Reply) (number : ℕ) → ListsBusy xs es → busy slot es ≡ true → es' ≡ es ++ Ended slot reply number ∷ [] → Left xs es'
+lists_left xs es es' slot reply number h was is =
+    let once : times slot xs ≡ 1 = h.each slot ∙ ap one_if was in
+    let at = place_of slot xs (omega (arith, once)) in
+    record {
+      rest = remove xs at.place;
+      lists = lists_end xs (remove xs at.place) es es' at.place slot reply number h at.within at.found refl is;
+      shorter = at.shorter;
     }
 
 -- the slots in flight after a start, and after an end

@@ -1,6 +1,5 @@
 -- How many children are in flight, for callers that start and end them in loops.
 use Rattle.std.proofs.Common.{◌≡◌, ◌≢◌, ℕ, ◌+◌, ◌<◌, ◌≤◌, true, false, cond, eqb, List, [], ◌∷◌, ◌++◌, length, refl, sym, ap, subst, ◌∙◌, arith, length-append}
-use Rattle.std.specs.Prelude.{remove}
 use Rattle.std.proofs.lemmas.Bool.Decides.{nat_tests}
 use Rattle.std.proofs.lemmas.List.Sums.{fold-append}
 use Rattle.jobs.specs.declared.job.Job.{Job}
@@ -9,9 +8,8 @@ use Rattle.crew_trait.specs.declared.reply.Reply.TheVariants.{Answer, StartRefus
 use Rattle.crew_trait.specs.declared.event.CrewEvent.{CrewEvent}
 use Rattle.crew_trait.specs.declared.event.CrewEvent.TheVariants.{Started, Ended}
 use Rattle.crew_trait.specs.Events.{busy, busy_after, IsSomeBusy, failure_of}
-use Rattle.crew.specs.Sound.{times, ListsBusy}
-use Rattle.crew.proofs.SlotLemmas.{lists_none, lists_start, lists_end, lists_busy}
-use Rattle.watching.proofs.Counts.{place_of}
+use Rattle.crew.specs.Sound.{ListsBusy}
+use Rattle.crew.proofs.SlotLemmas.{lists_none, lists_start, lists_left, lists_busy}
 
 -- so many slots are busy
 pub record Flies (n : ℕ) (es : List CrewEvent) : Type 0 where
@@ -39,13 +37,8 @@ free_same es es' slot free is s above = ap (busy s) is ∙ free s (omega arith)
 
 pub flies_end : (n m : ℕ) (es es' : List CrewEvent) (slot : ℕ) (reply : Reply) (number : ℕ) → Flies n es → n ≡ m + 1 → busy slot es ≡ true → es' ≡ es ++ Ended slot reply number ∷ [] → Flies m es'
 flies_end n m es es' slot reply number h more was is =
-    let one : times slot h.slots ≡ 1 = h.busy_slots.each slot ∙ ap (λ b. cond b 1 0) was in
-    let at = place_of slot h.slots (omega (arith, one)) in
-    record {
-      slots = remove h.slots at.place;
-      busy_slots = lists_end h.slots (remove h.slots at.place) es es' at.place slot reply number h.busy_slots at.within at.found refl is;
-      count = let shorter = at.shorter in omega (arith, h.count);
-    }
+    let left = lists_left h.slots es es' slot reply number h.busy_slots was is in
+    record { slots = left.rest; busy_slots = left.lists; count = let shorter = left.shorter in omega (arith, h.count) }
 
 some_first : (xs : List ℕ) (es : List CrewEvent) → ListsBusy xs es → 0 < length xs → IsSomeBusy es
 some_first [] es h some = absurd (omega arith)

@@ -1,7 +1,5 @@
 -- The counts of a watched crew after one more event.
-use Rattle.std.proofs.Common.{◌≡◌, ℕ, suc, ◌+◌, ◌<◌, Bool, true, false, cond, eqb, List, [], ◌∷◌, ◌++◌, length, get_or, refl, sym, ap, ◌∙◌, ⊎_elim, arith}
-use Rattle.std.specs.Prelude.{remove}
-use Rattle.std.proofs.lemmas.Bool.{cases_eq}
+use Rattle.std.proofs.Common.{◌≡◌, ℕ, ◌+◌, true, false, cond, eqb, List, [], ◌∷◌, ◌++◌, length, refl, sym, ap, ◌∙◌, arith}
 use Rattle.std.proofs.lemmas.Bool.Decides.{nat_tests}
 use Rattle.std.proofs.lemmas.List.{length_push}
 use Rattle.std.proofs.lemmas.List.Sums.{fold-append}
@@ -11,13 +9,10 @@ use Rattle.crew_trait.specs.declared.event.CrewEvent.{CrewEvent}
 use Rattle.crew_trait.specs.declared.event.CrewEvent.TheVariants.{Started, Ended}
 use Rattle.crew_trait.specs.Events.{Account, busy, IsIdle}
 use Rattle.crew.specs.Sound.{times}
-use Rattle.crew.proofs.SlotLemmas.{lists_none, lists_start, lists_end}
+use Rattle.crew.proofs.SlotLemmas.{one_if, lists_none, lists_start, lists_left}
 use Rattle.watching.specs.Progress.{started_after, ended_after, subject_after, started_in, ended_in, subject_in, line_of, text_of, text_after, erasure, wrapping_off, wrapping_on}
 use Rattle.watching.specs.Subject.{subject_of}
 use Rattle.watching.specs.Watch.{IsCounted}
-
-abbrev one_if : Bool → ℕ
-one_if b = cond b 1 0
 
 -- An account that has no event.
 pub counted_none : (account : Account) (command : List ℕ) → account.events ≡ [] → command ≡ [] → IsCounted account 0 0 command
@@ -47,51 +42,21 @@ counted_start before now started ended command next slot job h free attempts eve
       flying = let f = h.flying in omega (arith, length_push h.slots slot);
     }
 
--- The place of a slot that occurs in a list, without which the list is one shorter.
-pub record Place (slot : ℕ) (slots : List ℕ) : Type 0 where
-  pub place : ℕ
-  pub within : place < length slots
-  pub found : slot ≡ get_or slots place slot
-  pub shorter : length (remove slots place) + 1 ≡ length slots
-
-place_at_head : (slot x : ℕ) (xs : List ℕ) → x ≡ slot → Place slot (x ∷ xs)
-place_at_head slot x xs same = record { place = 0; within = omega arith; found = sym same; shorter = omega arith }
-
-place_in_rest : (slot x : ℕ) (xs : List ℕ) → Place slot xs → Place slot (x ∷ xs)
-place_in_rest slot x xs p = record {
-  place = suc p.place;
-  within = let w = p.within in omega arith;
-  found = p.found;
-  shorter = let s = p.shorter in omega arith;
-}
-
-pub place_of : (slot : ℕ) (slots : List ℕ) → 0 < times slot slots → Place slot slots
-place_of slot [] some = absurd (omega arith)
-place_of slot (x ∷ xs) some =
-    ⊎_elim
-    (λ same. place_at_head slot x xs same)
-    (λ other.
-    let test : eqb x slot ≡ false = grind (arith, nat_tests) in
-    let none : one_if (eqb x slot) ≡ 0 = ap one_if test in
-    place_in_rest slot x xs (place_of slot xs (omega (arith, none))))
-    (cases_eq x slot)
-
 -- After the end of a child that is in flight.
 pub counted_end : (before now : Account) (started ended : ℕ) (command : List ℕ) (slot : ℕ) (reply : Reply) → IsCounted before started ended command
     → busy slot before.events ≡ true → now.attempts ≡ before.attempts → now.events ≡ before.events ++ Ended slot reply before.attempts ∷ []
     → IsCounted now started (ended + 1) command
 counted_end before now started ended command slot reply h was attempts events =
     let event : CrewEvent = Ended slot reply before.attempts in
-    let once : times slot h.slots ≡ 1 = h.lists.each slot ∙ ap one_if was in
-    let place = place_of slot h.slots (omega (arith, once)) in
+    let left = lists_left h.slots before.events now.events slot reply _ h.lists was events in
     record {
       starts = ap started_in events ∙ fold-append started_after 0 before.events (event ∷ []) ∙ h.starts;
       ends = ap ended_in events ∙ fold-append ended_after 0 before.events (event ∷ []) ∙ ap (λ n. n + 1) h.ends;
       latest = ap subject_in events ∙ fold-append subject_after [] before.events (event ∷ []) ∙ h.latest;
       attempted = let a = h.attempted in omega (arith, attempts);
-      slots = remove h.slots place.place;
-      lists = lists_end h.slots _ before.events now.events place.place slot reply _ h.lists place.within place.found refl events;
-      flying = let f = h.flying in let s = place.shorter in omega arith;
+      slots = left.rest;
+      lists = left.lists;
+      flying = let f = h.flying in let s = left.shorter in omega arith;
     }
 
 no_slots : (slots : List ℕ) → ((slot : ℕ) → times slot slots ≡ 0) → length slots ≡ 0

@@ -1,23 +1,12 @@
 -- What a line shows of a text that grows.
 use Rattle.std.proofs.Common.{◌≡◌, ℕ, ◌+◌, ◌-◌, ◌<◌, ◌≤◌, List, [], ◌∷◌, ◌++◌, length, take, flat_map, get_or, sym, ap, ◌∙◌, refl, subst, cond, eqb, codes, Bool, true, false, arith, append_assoc, append-nil, length-append, take_all, ◌↔◌}
 use Rattle.std.specs.Prelude.{decimal, nat_le, IsOk, OnOk, Result, Ok, Err}
+use Rattle.std.proofs.lemmas.Bool.{true≢false, false≢true, le-leb, lt-leb}
 use Rattle.std.proofs.lemmas.Bool.Decides.{nat_tests}
 use Rattle.std.proofs.lemmas.List.{take_more}
 use Rattle.std.proofs.lemmas.Grind.{flat_map-append}
 use Rattle.watching.specs.Screen.{shown_byte, fitting, shown, IsShowing}
 use Rattle.watching.specs.Progress.{line_of, text_of, erasure, wrapping_off, wrapping_on}
-
-le_is : (a b : ℕ) → a ≤ b → nat_le a b ≡ true
-le_is a b le = grind (arith, nat_tests)
-
-gt_is : (a b : ℕ) → b < a → nat_le a b ≡ false
-gt_is a b lt = grind (arith, nat_tests)
-
-differ : true ≡ false → ⊥
-differ e = cc
-
-never : false ≡ true → ⊥
-never e = cc
 
 -- A text that fits is followed by what fits in the columns that are left.
 fitting_after : (n : ℕ) (xs ys : List ℕ) → length (flat_map shown_byte xs) ≤ n → fitting n (xs ++ ys) ≡ flat_map shown_byte xs ++ fitting (n - length (flat_map shown_byte xs)) ys
@@ -27,7 +16,7 @@ fitting_after n (x ∷ xs) ys le =
     let rest : List ℕ = flat_map shown_byte xs in
     let both : length (form ++ rest) ≡ length form + length rest = length-append form rest in
     let whole : length (form ++ rest) ≤ n = le in
-    let first : nat_le (length form) n ≡ true = le_is (length form) n (omega arith) in
+    let first : nat_le (length form) n ≡ true = le-leb (length form) n (omega arith) in
     let left : (n - length form) - length rest ≡ n - length (form ++ rest) = omega arith in
     ap (λ b. cond b (form ++ fitting (n - length form) (xs ++ ys)) []) first ∙ ap (λ v. form ++ v) (fitting_after (n - length form) xs ys (omega arith))
     ∙ sym (append_assoc form rest (fitting ((n - length form) - length rest) ys)) ∙ ap (λ m. (form ++ rest) ++ fitting m ys) left
@@ -36,7 +25,7 @@ fitting_after n (x ∷ xs) ys le =
 pub put_after_cut : (line : List ℕ) (is_cut : Bool) (text : List ℕ) (byte : ℕ) → is_cut ≡ true → IsShowing line is_cut text → IsShowing line is_cut (text ++ byte ∷ [])
 put_after_cut line is_cut text byte is h = record {
   fits = h.fits;
-  whole = λ no. absurd (differ (sym is ∙ no));
+  whole = λ no. absurd (true≢false (sym is ∙ no));
   cut = λ yes more. ap (fitting 79) (append_assoc text (byte ∷ []) more) ∙ h.cut yes (byte ∷ more);
 }
 
@@ -47,10 +36,10 @@ put_without_room line form was left text byte was_is room lacks form_is h =
     let all : line ≡ flat_map shown_byte text = h.whole was_is in
     let len : length line ≡ length (flat_map shown_byte text) = ap length all in
     let none : nat_le (length (shown_byte byte)) (79 - length (flat_map shown_byte text)) ≡ false =
-    gt_is (length (shown_byte byte)) (79 - length (flat_map shown_byte text)) (omega (arith, len, ap length form_is)) in
+    lt-leb (length (shown_byte byte)) (79 - length (flat_map shown_byte text)) (omega (arith, len, ap length form_is)) in
     record {
       fits = h.fits;
-      whole = λ no. absurd (differ no);
+      whole = λ no. absurd (true≢false no);
       cut = λ _ more.
           ap (fitting 79) (append_assoc text (byte ∷ []) more) ∙ fitting_after 79 text (byte ∷ more) (omega (arith, len))
           ∙ ap (λ b. flat_map shown_byte text ++ cond b (shown_byte byte ++ fitting ((79 - length (flat_map shown_byte text)) - length (shown_byte byte)) more) []) none
@@ -60,12 +49,12 @@ put_without_room line form was left text byte was_is room lacks form_is h =
 -- A form for which there is room.
 pub put_with_room : {E : Type 0} (line next form : List ℕ) (was : Bool) (left : ℕ) (r : Result (Unit {0}) E) (text : List ℕ) (byte : ℕ) → was ≡ false → left + length line ≡ 79
     → length form ≤ left → IsOk r ↔ (length line + length form ≤ 79) → OnOk r (next ≡ line ++ form) → form ≡ shown_byte byte → IsShowing line was text → IsShowing next was (text ++ byte ∷ [])
-put_with_room line next form was left (Err e) text byte was_is room fits variant next_is form_is h = absurd (never (variant.1 (omega arith)))
+put_with_room line next form was left (Err e) text byte was_is room fits variant next_is form_is h = absurd (false≢true (variant.1 (omega arith)))
 put_with_room line next form was left (Ok u) text byte was_is room fits variant next_is form_is h = record {
   fits = omega (arith, ap length next_is, length-append line form);
   whole = λ no. next_is ∙ ap (λ v. v ++ form) (h.whole was_is) ∙ ap (λ v. flat_map shown_byte text ++ v) (form_is ∙ sym (append-nil (shown_byte byte)))
       ∙ sym (flat_map-append shown_byte text (byte ∷ []));
-  cut = λ yes. absurd (differ (sym yes ∙ was_is));
+  cut = λ yes. absurd (true≢false (sym yes ∙ was_is));
 }
 
 -- One more turn of the loop over bytes.
@@ -80,7 +69,7 @@ pub put_all : (line : List ℕ) (is_cut : Bool) (text more : List ℕ) (i : ℕ)
 put_all line is_cut text more i le h = subst (λ v. IsShowing line is_cut (text ++ v)) (take_all i more le) h
 
 pub nothing_shown : (line : List ℕ) → line ≡ [] → IsShowing line false []
-nothing_shown line is = record { fits = omega (arith, ap length is); whole = λ _. is; cut = λ yes. absurd (differ (sym yes)) }
+nothing_shown line is = record { fits = omega (arith, ap length is); whole = λ _. is; cut = λ yes. absurd (true≢false (sym yes)) }
 
 -- What a line shows.
 pub shown_is : (line : List ℕ) (is_cut : Bool) (text : List ℕ) → IsShowing line is_cut text → line ≡ shown text

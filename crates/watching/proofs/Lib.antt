@@ -1,3 +1,3 @@
-pub mod Counts
+mod Counts
 mod Cutting
 mod Parts

@@ -3,6 +3,7 @@ use Rattle.std.proofs.Common.{◌≡◌, ℕ, ◌+◌, ◌-◌, ◌<◌, ◌≤�
 use Rattle.std.specs.Prelude.{option_map, bytes_eq, IsOk, OnOk, Result, Ok, Err}
 use Rattle.std.specs.List.{suffix_len}
 use Rattle.std.specs.Option.{MatchOption, option_or}
+use Rattle.std.proofs.lemmas.Bool.{false≢true}
 use Rattle.std.proofs.lemmas.Bool.Decides.{nat_tests}
 use Rattle.std.proofs.lemmas.Grind.{flat_map-append}
 use Rattle.std.proofs.lemmas.List.{take-append-le, take_more, take_min}
@@ -27,9 +28,6 @@ pub after_front_is : (front text : List ℕ) (r : Option (Bor (List ℕ)))
 unfolding after_front
 after_front_is front text r is = stripped front text r is
 
-never : false ≡ true → ⊥
-never e = cc
-
 cases_le : (a b : ℕ) → (a ≤ b) ⊎ (b ≤ a)
 cases_le a b = grind arith
 
@@ -48,7 +46,7 @@ front_above line next more text left left_is put is above =
 pub front_more : {E : Type 0} (line next more text : List ℕ) (left room : ℕ) (r : Result (Unit {0}) E) → left + length line ≡ 79 → room ≡ min left (length more)
     → IsOk r ↔ (length line + length (take room more) ≤ 79) → OnOk r (next ≡ line ++ take room more) → line ≡ line_front text → next ≡ line_front (text ++ more)
 front_more line next more text left room (Err e) left_is room_is variant next_is is =
-    absurd (never (variant.1 (omega (arith, length-take room more, room_is))))
+    absurd (false≢true (variant.1 (omega (arith, length-take room more, room_is))))
 front_more line next more text left room (Ok u) left_is room_is variant next_is is =
     let put : next ≡ line ++ take left more = next_is ∙ ap (λ n. line ++ take n more) room_is ∙ ap (λ v. line ++ v) (take_min left more) in
     ⊎_elim (λ below. front_below line next more text left left_is put is below) (λ above. front_above line next more text left left_is put is above) (cases_le (length text) 79)
