@@ -34,22 +34,13 @@ is_program_part Program = true
 is_program_part part = false
 
 status_open : (part : Part) → is_status_part part ≡ true → is_open part ≡ true
-status_open Message h = refl
-status_open Command h = absurd (let e : false ≡ true = h in cc)
-status_open Diagnostics h = absurd (let e : false ≡ true = h in cc)
 status_open Status h = refl
-status_open Refused h = refl
-status_open Heading h = refl
-status_open Program h = refl
+status_open _ h = absurd (let e : false ≡ true = h in cc)
 
 program_open : (part : Part) → is_program_part part ≡ true → is_open part ≡ true
-program_open Message h = refl
-program_open Command h = absurd (let e : false ≡ true = h in cc)
-program_open Diagnostics h = absurd (let e : false ≡ true = h in cc)
-program_open Status h = refl
-program_open Refused h = refl
 program_open Heading h = refl
 program_open Program h = refl
+program_open _ h = absurd (let e : false ≡ true = h in cc)
 
 -- ---- texts that are read from some part on, and end in another
 
@@ -127,55 +118,37 @@ each_read J P to own after text whole hs = record {
 message_after : (part : Part) (line : List ℕ) → is_open part ≡ true → IsPlainMessage line → part_after part line ≡ Message
 unfolding part_after
 message_after Message line h p = cond-false _ _ _ p.0
-message_after Command line h p = absurd (let e : false ≡ true = h in cc)
-message_after Diagnostics line h p = absurd (let e : false ≡ true = h in cc)
-message_after Status line h p = cond-false _ _ _ p.1 ∙ cond-false _ _ _ p.0
 message_after Refused line h p = cond-false _ _ _ p.0
+message_after Status line h p = cond-false _ _ _ p.1 ∙ cond-false _ _ _ p.0
 message_after Heading line h p = cond-false _ _ _ p.2 ∙ cond-false _ _ _ p.0
 message_after Program line h p = cond-false _ _ _ p.2 ∙ cond-false _ _ _ p.0
+message_after _ line h p = absurd (let e : false ≡ true = h in cc)
 
 command_after : (part : Part) (rest : List ℕ) → is_open part ≡ true → part_after part (36 ∷ rest) ≡ Command
 unfolding part_after
-command_after Message rest h = refl
 command_after Command rest h = absurd (let e : false ≡ true = h in cc)
 command_after Diagnostics rest h = absurd (let e : false ≡ true = h in cc)
-command_after Status rest h = refl
-command_after Refused rest h = refl
-command_after Heading rest h = refl
-command_after Program rest h = refl
+command_after _ rest h = refl
 
 inside_after : (part : Part) (line : List ℕ) → is_inside part ≡ true → part_after part line ≡ inside line
 unfolding part_after
-inside_after Message line h = absurd (let e : false ≡ true = h in cc)
 inside_after Command line h = refl
 inside_after Diagnostics line h = refl
-inside_after Status line h = absurd (let e : false ≡ true = h in cc)
-inside_after Refused line h = absurd (let e : false ≡ true = h in cc)
-inside_after Heading line h = absurd (let e : false ≡ true = h in cc)
-inside_after Program line h = absurd (let e : false ≡ true = h in cc)
+inside_after _ line h = absurd (let e : false ≡ true = h in cc)
 
 diagnostics_after : (part : Part) (line : List ℕ) → is_inside part ≡ true → IsPlainDiagnostics line → part_after part line ≡ Diagnostics
 diagnostics_after part line h p = inside_after part line h ∙ cond-false _ _ _ p.0 ∙ cond-false _ _ _ p.1
 
 program_after_part : (part : Part) (rest : List ℕ) → is_program_part part ≡ true → part_after part (codes "| " ++ rest) ≡ Program
 unfolding part_after
-program_after_part Message rest h = absurd (let e : false ≡ true = h in cc)
-program_after_part Command rest h = absurd (let e : false ≡ true = h in cc)
-program_after_part Diagnostics rest h = absurd (let e : false ≡ true = h in cc)
-program_after_part Status rest h = absurd (let e : false ≡ true = h in cc)
-program_after_part Refused rest h = absurd (let e : false ≡ true = h in cc)
 program_after_part Heading rest h = refl
 program_after_part Program rest h = refl
+program_after_part _ rest h = absurd (let e : false ≡ true = h in cc)
 
 heading_after : (part : Part) → is_status_part part ≡ true → part_after part (codes "failed program was:\n") ≡ Heading
 unfolding part_after
-heading_after Message h = absurd (let e : false ≡ true = h in cc)
-heading_after Command h = absurd (let e : false ≡ true = h in cc)
-heading_after Diagnostics h = absurd (let e : false ≡ true = h in cc)
 heading_after Status h = refl
-heading_after Refused h = absurd (let e : false ≡ true = h in cc)
-heading_after Heading h = absurd (let e : false ≡ true = h in cc)
-heading_after Program h = absurd (let e : false ≡ true = h in cc)
+heading_after _ h = absurd (let e : false ≡ true = h in cc)
 
 -- ---- the line of a status
 

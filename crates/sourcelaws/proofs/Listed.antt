@@ -47,6 +47,12 @@ record CanFollow (own other listed : List Output) (o : Output) : Type 0 where
 abbrev unit_ok : Result (Unit {0}) ParseFault
 unit_ok = Ok tt
 
+-- The tests of an output at an offset.
+abbrev tests : ℕ → (a b c d g r : Bool) → Result (Unit {0}) ParseFault
+tests at a b c d g r =
+    wants a (BadName at) >>= λ _. wants b (BadName at) >>= λ _. wants (not c) (BadName at)
+    >>= λ _. wants (not d) (BadName at) >>= λ _. wants (not g) (BadName at) >>= λ _. wants r (TooMany at)
+
 module _ (own other : List Output) (at : ℕ) where
   follows-wanted : (listed : List Output) (o : Output) → CanFollow own other listed o
       → wanted at own other listed o ≡ Ok tt
@@ -94,10 +100,7 @@ module _ (own other : List Output) (at : ℕ) where
       by : (a b c d g r : Bool) → is_path o.name ≡ a → is_path o.template ≡ b
           → has_output own o.name ≡ c → has_output other o.name ≡ d → has_output listed o.name ≡ g
           → nat_lt (length own + length listed) 1024 ≡ r
-          → (wants a (BadName at) >>= λ _. wants b (BadName at) >>= λ _. wants (not c) (BadName at)
-          >>= λ _. wants (not d) (BadName at) >>= λ _. wants (not g) (BadName at) >>= λ _. wants r
-          (TooMany at)) ≡ Err f
-          → IsFieldFault own other at listed o f
+          → tests at a b c d g r ≡ Err f → IsFieldFault own other at listed o f
       by false b c d g r ea eb ec ed eg er e =
           bad (form (λ p. not_both (is_path o.name) p.0 ea)) (err_is {A = Unit {0}} _ _ e)
       by true false c d g r ea eb ec ed eg er e =
@@ -123,33 +126,22 @@ module _ (own other : List Output) (at : ℕ) where
   unfolding wanted
   fault-wanted listed o f (form bad) = by (is_path o.name) (is_path o.template) refl refl where
     by : (a b : Bool) → is_path o.name ≡ a → is_path o.template ≡ b
-        → (wants a (BadName at) >>= λ _. wants b (BadName at) >>= λ _. wants
-        (not (has_output own o.name)) (BadName at) >>= λ _. wants (not (has_output other o.name))
-        (BadName at) >>= λ _. wants (not (has_output listed o.name)) (BadName at) >>= λ _. wants
-        (nat_lt (length own + length listed) 1024) (TooMany at)) ≡ Err
-        (BadName at)
+        → tests at a b (has_output own o.name) (has_output other o.name) (has_output listed o.name)
+        (nat_lt (length own + length listed) 1024) ≡ Err (BadName at)
     by true true ea eb = absurd (bad (ea, eb))
-    by true false ea eb = refl
-    by false b ea eb = refl
+    by _ _ ea eb = refl
   fault-wanted listed o f (named h) =
       by (is_path o.name) (is_path o.template) (has_output own o.name) (has_output other o.name)
       (has_output listed o.name) refl refl refl h where
         by : (a b c d g : Bool) → has_output own o.name ≡ c → has_output other o.name ≡ d
             → has_output listed o.name ≡ g → IsNamed own other listed o
-            → (wants a (BadName at) >>= λ _. wants b (BadName at) >>= λ _. wants (not c) (BadName at)
-            >>= λ _. wants (not d) (BadName at) >>= λ _. wants (not g) (BadName at) >>= λ _. wants
-            (nat_lt (length own + length listed) 1024) (TooMany at)) ≡ Err
-            (BadName at)
-        by false b c d g ec ed eg h = refl
-        by true false c d g ec ed eg h = refl
-        by true true true d g ec ed eg h = refl
-        by true true false true g ec ed eg h = refl
-        by true true false false true ec ed eg h = refl
+            → tests at a b c d g (nat_lt (length own + length listed) 1024) ≡ Err (BadName at)
         by true true false false false ec ed eg (inl h) = absurd (not_both (has_output own o.name) h ec)
         by true true false false false ec ed eg (inr (inl h)) =
             absurd (not_both (has_output other o.name) h ed)
         by true true false false false ec ed eg (inr (inr h)) =
             absurd (not_both (has_output listed o.name) h eg)
+        by _ _ _ _ _ ec ed eg h = refl
   fault-wanted listed o f (full is unnamed many) =
       rw (
         is.0,
