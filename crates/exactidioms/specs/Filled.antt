@@ -1,6 +1,7 @@
 -- An idiom with the arguments of a call. A place of an idiom is `$`, a digit from 1 to 9, perhaps `!`, and a word in
 -- braces. The digit counts arguments.
 use Rattle.std.specs.Prelude.{ℕ, ◌-◌, ◌&&◌, ◌||◌, nat_le, Bool, true, false, List, [], ◌∷◌, ◌++◌, slice_get, Option, Some, None, codes, if◌then◌else◌}
+use Rattle.std.specs.List.{flat_map}
 use Rattle.std.specs.Str.{bytes_eq}
 use Rattle.textcut.specs.Cuts.{parts, trimmed}
 use Rattle.macrotable.specs.Around.{around}
@@ -56,28 +57,22 @@ filled_or None args text = 36 ∷ text
 abbrev pub filled_sign : List (List ℕ) → List ℕ → List ℕ
 filled_sign args text = filled_or (place_of text) args text
 
--- The texts after each `$`, with what becomes of these. (own)
-abbrev pub filled_signs : List (List ℕ) → List (List ℕ) → List ℕ
-filled_signs args [] = []
-filled_signs args (text ∷ more) = filled_sign args text ++ filled_signs args more
-
 -- The texts around each `$`, joined, with each place filled. (own)
 abbrev pub joined : List (List ℕ) → List (List ℕ) → List ℕ
 joined args [] = []
-joined args (first ∷ more) = first ++ filled_signs args more
+joined args (first ∷ more) = first ++ flat_map (filled_sign args) more
 
 -- A line whose places are filled. (own)
 unfoldable pub filled_line : List (List ℕ) → List ℕ → List ℕ
 filled_line args text = joined args (parts 36 text)
 
--- Further lines, each after a newline and the indent. (own)
-abbrev pub filled_more : List (List ℕ) → List ℕ → List (List ℕ) → List ℕ
-filled_more args indent [] = []
-filled_more args indent (text ∷ more) = ((10 ∷ indent) ++ filled_line args text) ++ filled_more args indent more
+-- A further line, after a newline and the indent. (own)
+abbrev pub filled_next : List (List ℕ) → List ℕ → List ℕ → List ℕ
+filled_next args indent text = (10 ∷ indent) ++ filled_line args text
 
 abbrev pub filled_lines : List (List ℕ) → List ℕ → List (List ℕ) → List ℕ
 filled_lines args indent [] = []
-filled_lines args indent (first ∷ more) = filled_line args first ++ filled_more args indent more
+filled_lines args indent (first ∷ more) = filled_line args first ++ flat_map (filled_next args indent) more
 
 -- An idiom whose places are filled, with the indent at the front of each line but the first. (own)
 unfoldable pub filled : List (List ℕ) → List ℕ → List ℕ → List ℕ

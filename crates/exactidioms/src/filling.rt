@@ -1,6 +1,7 @@
 //! An idiom with the arguments of a call.
 
-ghost use Rattle.std.specs.Prelude.{◌≡◌, ◌==◌, ◌<◌, ◌++◌, ◌∷◌, map, length, position, option_map, slice_get, bytes_eq, IfOk, IfSome, IsTrue};
+ghost use Rattle.std.specs.Prelude.{◌≡◌, ◌==◌, ◌<◌, ◌++◌, map, length, position, option_map, slice_get, bytes_eq, IfOk, IfSome, IsTrue};
+ghost use Rattle.std.specs.List.{flat_map};
 ghost use Rattle.macrotable.specs.Around.{around};
 ghost use Rattle.macrotable.specs.Values.{unquoted};
 ghost use Rattle.textcut.specs.Cuts.{trimmed};
@@ -213,7 +214,7 @@ fn put_sign(out: &mut Vec<u8>, text: &[u8], args: &[&[u8]]) -> Result<bool, Allo
 
 /// Appends the texts after each `$`, with what becomes of these. Returns whether each argument could be put there.
 fn put_signs(out: &mut Vec<u8>, texts: &[&[u8]], args: &[&[u8]]) -> Result<bool, AllocError>
-    ensures { IfOk result (λ b. IsTrue b → out.new.items ≡ out.old.items ++ specs.filled_signs (map (λ a. a.now) args.now) (map (λ t. t.now) texts.now)) }
+    ensures { IfOk result (λ b. IsTrue b → out.new.items ≡ out.old.items ++ flat_map (specs.filled_sign (map (λ a. a.now) args.now)) (map (λ t. t.now) texts.now)) }
 {
     for text in texts {
         if !put_sign(out, text, args)? {
@@ -249,7 +250,7 @@ fn put_next(
     args: &[&[u8]],
     indent: &[u8],
 ) -> Result<bool, AllocError>
-    ensures { IfOk result (λ b. IsTrue b → out.new.items ≡ out.old.items ++ ((10 ∷ indent.now) ++ specs.filled_line (map (λ a. a.now) args.now) line.now)) }
+    ensures { IfOk result (λ b. IsTrue b → out.new.items ≡ out.old.items ++ specs.filled_next (map (λ a. a.now) args.now) indent.now line.now) }
 {
     out.push(b'\n')?;
     out.extend_from_slice(indent)?;
@@ -264,7 +265,7 @@ fn put_more(
     args: &[&[u8]],
     indent: &[u8],
 ) -> Result<bool, AllocError>
-    ensures { IfOk result (λ b. IsTrue b → out.new.items ≡ out.old.items ++ specs.filled_more (map (λ a. a.now) args.now) indent.now (map (λ t. t.now) texts.now)) }
+    ensures { IfOk result (λ b. IsTrue b → out.new.items ≡ out.old.items ++ flat_map (specs.filled_next (map (λ a. a.now) args.now) indent.now) (map (λ t. t.now) texts.now)) }
 {
     for text in texts {
         if !put_next(alloc, out, text, args, indent)? {

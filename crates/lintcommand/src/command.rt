@@ -5,7 +5,7 @@ ghost use Rattle.std.specs.List.{list_any};
 ghost use Rattle.invocation.specs.Calls as calls;
 
 use crate::errors::found_in;
-use crate::reading::{Linted, read_named};
+use crate::reading::{Linted, SOURCE, has_input, is_option, read_named};
 use crate::showing::{Form, page_of, status_of};
 use deftable::Bytes;
 use disk::Disk;
@@ -13,33 +13,11 @@ use invocation::{tell_file, tell_memory, tell_usage};
 use std::alloc::{AllocError, Global};
 use std::io::{Read, Write};
 
-/// The source that is linted if no word names one.
-const SOURCE: &[u8] = b"configure.ac";
-
 /// The option for JSON.
 const JSON: &[u8] = b"--json";
 
 /// The name of standard output in the line of a fault.
 const OUTPUT: &[u8] = b"standard output";
-
-/// Returns whether the word names standard input.
-fn is_input(word: &Bytes) -> bool
-    ensures { result ≡ calls.is_input word.now }
-{
-    word.as_slice() == b"-".as_slice()
-}
-
-/// Returns whether one of the words names standard input.
-fn has_input(words: &[Bytes]) -> bool
-    ensures { result ≡ list_any calls.is_input words.now }
-{
-    words.iter().any(is_input)
-}
-
-/// Returns whether the word is an option, and no name of a file.
-fn is_option(word: &[u8]) -> bool {
-    word.starts_with(b"-") && word != b"-".as_slice()
-}
 
 /// Returns whether each option is known.
 fn are_known(words: &[Bytes]) -> bool {
@@ -61,7 +39,7 @@ fn lint_text<D: Disk>(
 }
 
 /// Writes a page, and returns the exit status: that which is given, unless the page can't be written.
-fn put_page<W: Write, E: Write>(page: &[u8], status: u8, output: &mut W, errors: &mut E) -> u8
+pub fn put_page<W: Write, E: Write>(page: &[u8], status: u8, output: &mut W, errors: &mut E) -> u8
     requires { status ≤ 2 }
     ensures status { result ≤ 2 }
     ensures silent { result ≢ 2 → errors.new ≡ errors.old }

@@ -21,5 +21,5 @@ mod showing;
 mod templates;
 mod warnings;
 
-pub use command::{may_colour, run_lint};
-pub use reading::{Linted, read_named};
+pub use command::{may_colour, put_page, run_lint};
+pub use reading::{Linted, SOURCE, has_input, is_option, read_named};

@@ -1,6 +1,8 @@
 //! Reads the source that a word names.
 
 ghost use Rattle.std.specs.Prelude.{◌≡◌, false};
+ghost use Rattle.std.specs.List.{list_any};
+ghost use Rattle.invocation.specs.Calls as calls;
 
 use bstr::ByteSlice;
 use deftable::Bytes;
@@ -20,8 +22,27 @@ pub struct Linted {
     pub text: Bytes,
 }
 
-/// The name of a source in a directory.
-const SOURCE: &[u8] = b"configure.ac";
+/// The name of a source in a directory, and the source that is read if no word names one.
+pub const SOURCE: &[u8] = b"configure.ac";
+
+/// Returns whether the word names standard input.
+fn is_input(word: &Bytes) -> bool
+    ensures { result ≡ calls.is_input word.now }
+{
+    word.as_slice() == b"-".as_slice()
+}
+
+/// Returns whether one of the words names standard input.
+pub fn has_input(words: &[Bytes]) -> bool
+    ensures { result ≡ list_any calls.is_input words.now }
+{
+    words.iter().any(is_input)
+}
+
+/// Returns whether the word is an option, and no name of a file.
+pub fn is_option(word: &[u8]) -> bool {
+    word.starts_with(b"-") && word != b"-".as_slice()
+}
 
 /// Returns the directory of the file at a path.
 fn directory_of(path: &[u8]) -> &[u8] {

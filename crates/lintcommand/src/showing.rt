@@ -25,13 +25,19 @@ fn shown_in(
     alloc: Global,
     form: Form,
     finding: &Finding,
-    name: &[u8],
-    text: &[u8],
+    name: &Bytes,
+    text: &Bytes,
 ) -> Result<Bytes, AllocError> {
     if form.is_json {
-        json_of(alloc, finding, name, text)
+        json_of(alloc, finding, name.as_slice(), text.as_slice())
     } else {
-        excerpt_of(alloc, finding, name, text, form.is_coloured)
+        excerpt_of(
+            alloc,
+            finding,
+            name.as_slice(),
+            text.as_slice(),
+            form.is_coloured,
+        )
     }
 }
 
@@ -44,20 +50,8 @@ fn shown(
     finding: &Finding,
 ) -> Result<Bytes, AllocError> {
     match sheets.get(finding.file) {
-        Some(sheet) => shown_in(
-            alloc,
-            form,
-            finding,
-            sheet.name.as_slice(),
-            sheet.text.as_slice(),
-        ),
-        None => shown_in(
-            alloc,
-            form,
-            finding,
-            linted.name.as_slice(),
-            linted.text.as_slice(),
-        ),
+        Some(sheet) => shown_in(alloc, form, finding, &sheet.name, &sheet.text),
+        None => shown_in(alloc, form, finding, &linted.name, &linted.text),
     }
 }
 

@@ -9,31 +9,19 @@ use std::alloc::{AllocError, Global};
 use syntax::Source;
 use templatewarnings::{Given, add_listed, warn_of_file, warn_of_header, warn_of_unlisted};
 
-/// Appends the warnings about the templates of files, which are counted from 1.
-fn add_of_files(
+/// Appends the warnings about templates, which are counted from 1: those of files, and then those of headers.
+fn add_of_sheets(
     alloc: Global,
     given: &Given,
-    sheets: &[Sheet],
+    sheets: &Sheets,
     found: &mut Vec<Finding>,
 ) -> Result<(), AllocError> {
     let mut number: usize = 0;
-    for sheet in sheets {
+    for sheet in &sheets.files {
         number = number.saturating_add(1);
         warn_of_file(alloc, given, number, sheet.text.as_slice(), found)?;
     }
-    Ok(())
-}
-
-/// Appends the warnings about the templates of headers, which are counted after those of `before` files.
-fn add_of_headers(
-    alloc: Global,
-    given: &Given,
-    before: usize,
-    sheets: &[Sheet],
-    found: &mut Vec<Finding>,
-) -> Result<(), AllocError> {
-    let mut number = before;
-    for sheet in sheets {
+    for sheet in &sheets.headers {
         number = number.saturating_add(1);
         warn_of_header(alloc, given, number, sheet.text.as_slice(), found)?;
     }
@@ -68,11 +56,8 @@ pub(crate) fn add_warnings(
     found: &mut Vec<Finding>,
 ) -> Result<(), AllocError> {
     let given = Given::of(alloc, source)?;
-    let files = sheets.files.as_slice();
-    let headers = sheets.headers.as_slice();
     warn_of_source(alloc, text, calls, source, found)?;
     warn_of_compiler(alloc, text, calls, found)?;
-    add_of_files(alloc, &given, files, found)?;
-    add_of_headers(alloc, &given, files.len(), headers, found)?;
-    add_unlisted(alloc, &given, text, headers, found)
+    add_of_sheets(alloc, &given, sheets, found)?;
+    add_unlisted(alloc, &given, text, sheets.headers.as_slice(), found)
 }

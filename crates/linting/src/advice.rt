@@ -46,24 +46,7 @@ fn with_help(finding: Finding, help: Bytes) -> Finding
     ensures shown { specs.shown result ≡ specs.shown finding }
     ensures end { result.end ≡ finding.end }
 {
-    let Finding {
-        file,
-        start,
-        end,
-        severity,
-        code,
-        message,
-        help: _help,
-    } = finding;
-    Finding {
-        file,
-        start,
-        end,
-        severity,
-        code,
-        message,
-        help,
-    }
+    Finding { help, ..finding }
 }
 
 /// Returns what the table of other macros says of a call, if it has the macro.

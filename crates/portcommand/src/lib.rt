@@ -17,36 +17,11 @@ use deftable::Bytes;
 use disk::Disk;
 use excerpts::excerpt_of;
 use invocation::{FAULT, tell_file, tell_memory, tell_usage};
-use lintcommand::{Linted, read_named};
+use lintcommand::{Linted, SOURCE, has_input, is_option, put_page, read_named};
 use linting::errors_of;
 use porting::{Ported, port};
 use std::alloc::{AllocError, Global};
 use std::io::{Read, Write};
-
-/// The source that is read if no word names one.
-const SOURCE: &[u8] = b"configure.ac";
-
-/// The name of standard output in the line of a fault.
-const OUTPUT: &[u8] = b"standard output";
-
-/// Returns whether the word names standard input.
-fn is_input(word: &Bytes) -> bool
-    ensures { result ≡ calls.is_input word.now }
-{
-    word.as_slice() == b"-".as_slice()
-}
-
-/// Returns whether one of the words names standard input.
-fn has_input(words: &[Bytes]) -> bool
-    ensures { result ≡ list_any calls.is_input words.now }
-{
-    words.iter().any(is_input)
-}
-
-/// Returns whether the word is an option, and no name of a file.
-fn is_option(word: &[u8]) -> bool {
-    word.starts_with(b"-") && word != b"-".as_slice()
-}
 
 /// Returns what is said of the errors of a source.
 fn page_of(alloc: Global, linted: &Linted) -> Result<Vec<u8>, AllocError> {
@@ -70,12 +45,11 @@ fn tell_quotes<E: Write>(alloc: Global, linted: &Linted, errors: &mut E) -> u8 {
     }
 }
 
-/// Prints a source that was rewritten, and returns the exit status.
-fn put_ported<W: Write, E: Write>(ported: &Ported, output: &mut W, errors: &mut E) -> u8 {
-    match output.write_all(ported.text.as_slice()) {
-        Ok(()) => u8::from(ported.has_comments),
-        Err(_) => tell_file(errors, OUTPUT),
-    }
+/// Returns the exit status after a source that was rewritten.
+fn status_of(ported: &Ported) -> u8
+    ensures { result ≤ 2 }
+{
+    if ported.has_comments { 1 } else { 0 }
 }
 
 /// Prints a source with its calls rewritten, and returns the exit status.
@@ -86,7 +60,7 @@ fn port_source<W: Write, E: Write>(
     errors: &mut E,
 ) -> u8 {
     match port(alloc, linted.text.as_slice()) {
-        Ok(Some(ported)) => put_ported(&ported, output, errors),
+        Ok(Some(ported)) => put_page(ported.text.as_slice(), status_of(&ported), output, errors),
         Ok(None) => tell_quotes(alloc, linted, errors),
         Err(_) => tell_memory(errors),
     }

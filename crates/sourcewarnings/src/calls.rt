@@ -1,8 +1,8 @@
 //! Warnings about calls.
 
-use crate::extent::{bare, name_of, text_of, warn_of_part};
+use crate::extent::{argument_at, bare, name_of, text_at, warn_by_code};
 use crate::foreign::warn_of_texts;
-use crate::rows::{EMPTY, HELD, HELD_ONCE, NAMES, Place, Row, SILENT};
+use crate::rows::{EMPTY, FUNCTIONS, HELD, HELD_ONCE, LIBRARY_ACTION, NAMES, Row, SILENT};
 use bstr::ByteSlice;
 use findings::Finding;
 use macrotable::Index;
@@ -11,61 +11,31 @@ use std::alloc::{AllocError, Global};
 use textpieces::{after_blanks, from};
 
 /// Returns where a call is.
-fn whole(call: &CallAt) -> Extent {
-    Extent {
+fn whole(call: &CallAt) -> Option<Extent> {
+    Some(Extent {
         start: call.start,
         end: call.end,
+    })
+}
+
+/// Adds the warning of this code about a part of the source, if that is there and wrong.
+fn warn_if(
+    alloc: Global,
+    text: &[u8],
+    extent: Option<Extent>,
+    is_wrong: bool,
+    code: &[u8],
+    out: &mut Vec<Finding>,
+) -> Result<(), AllocError> {
+    match extent {
+        Some(extent) if is_wrong => warn_by_code(alloc, out, text, extent, code),
+        _ => Ok(()),
     }
 }
 
-/// Warns if a function of a library is `main`.
-fn warn_of_main(
-    alloc: Global,
-    text: &[u8],
-    call: &CallAt,
-    function: Option<&Extent>,
-    out: &mut Vec<Finding>,
-) -> Result<(), AllocError> {
-    let Some(extent) = function else {
-        return Ok(());
-    };
-    if bare(text_of(text, extent)) != b"main".as_slice() {
-        return Ok(());
-    }
-    warn_of_part(
-        alloc,
-        out,
-        text,
-        whole(call),
-        b"library-main",
-        b"a library is never found by the function main",
-        b"name a function that the library has, as in AC_CHECK_LIB([m], [cos])",
-    )
-}
-
-/// Warns if the action of AC_CHECK_LIB is a comment alone.
-fn warn_of_action(
-    alloc: Global,
-    text: &[u8],
-    action: Option<&Extent>,
-    out: &mut Vec<Finding>,
-) -> Result<(), AllocError> {
-    let Some(extent) = action else {
-        return Ok(());
-    };
-    let action = bare(text_of(text, extent));
-    if !action.starts_with(b"dnl") || action.contains_str(b"\n") {
-        return Ok(());
-    }
-    warn_of_part(
-        alloc,
-        out,
-        text,
-        *extent,
-        b"dnl-action",
-        b"a comment is no action, so the library is added to LIBS; in Autoconf nothing is done",
-        b"write an assignment, such as [have_it=yes], for an action that does nothing",
-    )
+/// Returns whether an action is a comment alone.
+fn is_comment(action: &[u8]) -> bool {
+    action.starts_with(b"dnl") && !action.contains_str(b"\n")
 }
 
 /// Warns of a library that is sought by `main`, and of an action that is a comment alone.
@@ -76,14 +46,14 @@ fn warn_of_library(
     call: &CallAt,
     out: &mut Vec<Finding>,
 ) -> Result<(), AllocError> {
-    if name == b"AC_SEARCH_LIBS".as_slice() {
-        return warn_of_main(alloc, text, call, call.args.first(), out);
+    for place in &FUNCTIONS {
+        let function = text_at(text, argument_at(name, call, place));
+        let is_main = bare(function) == b"main".as_slice();
+        warn_if(alloc, text, whole(call), is_main, b"library-main", out)?;
     }
-    if name != b"AC_CHECK_LIB".as_slice() {
-        return Ok(());
-    }
-    warn_of_main(alloc, text, call, call.args.get(1), out)?;
-    warn_of_action(alloc, text, call.args.get(2), out)
+    let action = argument_at(name, call, &LIBRARY_ACTION);
+    let is_idle = is_comment(bare(text_at(text, action)));
+    warn_if(alloc, text, action, is_idle, b"dnl-action", out)
 }
 
 /// Returns whether an argument holds a text that isn't empty.
@@ -91,30 +61,8 @@ fn holds(argument: &[u8], sought: &[u8]) -> bool {
     !sought.is_empty() && argument.contains_str(sought)
 }
 
-/// Warns if the argument of a row holds what the row says.
-fn warn_of_row(
-    alloc: Global,
-    text: &[u8],
-    row: &Row,
-    argument: Option<&Extent>,
-    is_once: bool,
-    out: &mut Vec<Finding>,
-) -> Result<(), AllocError> {
-    let Some(extent) = argument else {
-        return Ok(());
-    };
-    let argument = text_of(text, extent);
-    if is_once && argument.starts_with(b"[[") {
-        return Ok(());
-    }
-    if !holds(argument, row.2) && !holds(argument, row.3) {
-        return Ok(());
-    }
-    let (code, message, help) = row.4;
-    warn_of_part(alloc, out, text, *extent, code, message, help)
-}
-
-/// Warns if an argument of a call holds what one of the rows says.
+/// Warns if an argument of a call holds what one of the rows says. If `is_once` is true, one in two
+/// pairs of brackets may hold it.
 fn warn_of_rows(
     alloc: Global,
     text: &[u8],
@@ -125,35 +73,13 @@ fn warn_of_rows(
     out: &mut Vec<Finding>,
 ) -> Result<(), AllocError> {
     for row in rows {
-        if row.0 == name {
-            warn_of_row(alloc, text, row, call.args.get(row.1), is_once, out)?;
-        }
+        let argument = argument_at(name, call, &(row.0, row.1));
+        let written = text_at(text, argument);
+        let is_quoted = is_once && written.starts_with(b"[[");
+        let is_wrong = !is_quoted && (holds(written, row.2) || holds(written, row.3));
+        warn_if(alloc, text, argument, is_wrong, row.4, out)?;
     }
     Ok(())
-}
-
-/// Warns if an argument is an empty text in two pairs of brackets.
-fn warn_of_empty(
-    alloc: Global,
-    text: &[u8],
-    argument: Option<&Extent>,
-    out: &mut Vec<Finding>,
-) -> Result<(), AllocError> {
-    let Some(extent) = argument else {
-        return Ok(());
-    };
-    if text_of(text, extent) != b"[[]]".as_slice() {
-        return Ok(());
-    }
-    warn_of_part(
-        alloc,
-        out,
-        text,
-        *extent,
-        b"empty-quotes",
-        b"this is an empty argument; in Autoconf it is an argument that isn't empty",
-        b"write `[]` for an empty argument",
-    )
 }
 
 /// Returns whether an argument in brackets begins or ends with a blank.
@@ -161,39 +87,7 @@ fn has_end_blanks(argument: &[u8]) -> bool {
     argument.starts_with(b"[ ") || argument.ends_with(b" ]")
 }
 
-/// Warns if a name begins or ends with a blank.
-fn warn_of_name(
-    alloc: Global,
-    text: &[u8],
-    argument: Option<&Extent>,
-    out: &mut Vec<Finding>,
-) -> Result<(), AllocError> {
-    let Some(extent) = argument else {
-        return Ok(());
-    };
-    if !has_end_blanks(text_of(text, extent)) {
-        return Ok(());
-    }
-    warn_of_part(
-        alloc,
-        out,
-        text,
-        *extent,
-        b"blank-in-name",
-        b"the blanks at the ends of this name are dropped; in Autoconf they are a part of it",
-        b"write the name without blanks",
-    )
-}
-
-/// Returns the argument of a call that a place names, if it is of this macro.
-fn argument_at<'a>(name: &[u8], call: &'a CallAt, place: &Place) -> Option<&'a Extent> {
-    if place.0 == name {
-        return call.args.get(place.1);
-    }
-    None
-}
-
-/// Warns of empty texts and of names with blanks at their ends.
+/// Warns of empty texts in two pairs of brackets, and of names with blanks at their ends.
 fn warn_of_places(
     alloc: Global,
     text: &[u8],
@@ -202,20 +96,21 @@ fn warn_of_places(
     out: &mut Vec<Finding>,
 ) -> Result<(), AllocError> {
     for place in &EMPTY {
-        warn_of_empty(alloc, text, argument_at(name, call, place), out)?;
+        let argument = argument_at(name, call, place);
+        let is_empty = text_at(text, argument) == b"[[]]".as_slice();
+        warn_if(alloc, text, argument, is_empty, b"empty-quotes", out)?;
     }
     for place in &NAMES {
-        warn_of_name(alloc, text, argument_at(name, call, place), out)?;
+        let argument = argument_at(name, call, place);
+        let has_blanks = has_end_blanks(text_at(text, argument));
+        warn_if(alloc, text, argument, has_blanks, b"blank-in-name", out)?;
     }
     Ok(())
 }
 
 /// Returns whether an argument is there and isn't empty.
 fn is_given(text: &[u8], argument: Option<&Extent>) -> bool {
-    match argument {
-        Some(extent) => !bare(text_of(text, extent)).is_empty(),
-        None => false,
-    }
+    !bare(text_at(text, argument.copied())).is_empty()
 }
 
 /// Warns of arguments of AC_CHECK_PROG and AS_CASE that are empty.
@@ -227,32 +122,12 @@ fn warn_of_missing(
     out: &mut Vec<Finding>,
 ) -> Result<(), AllocError> {
     let args = &call.args;
-    if name == b"AC_CHECK_PROG".as_slice()
+    let has_no_value = name == b"AC_CHECK_PROG".as_slice()
         && !is_given(text, args.get(2))
-        && is_given(text, args.get(3))
-    {
-        return warn_of_part(
-            alloc,
-            out,
-            text,
-            whole(call),
-            b"empty-value",
-            b"if the program is found, the variable is empty; in Autoconf it gets the last argument",
-            b"give a value, as in AC_CHECK_PROG([HAVE_AWK], [awk], [yes], [no])",
-        );
-    }
-    if name == b"AS_CASE".as_slice() && !is_given(text, args.first()) {
-        return warn_of_part(
-            alloc,
-            out,
-            text,
-            whole(call),
-            b"empty-case",
-            b"Autoconf makes a script of a case without a word that doesn't run",
-            b"write the word, as in AS_CASE([$name], ..)",
-        );
-    }
-    Ok(())
+        && is_given(text, args.get(3));
+    warn_if(alloc, text, whole(call), has_no_value, b"empty-value", out)?;
+    let has_no_word = name == b"AS_CASE".as_slice() && !is_given(text, args.first());
+    warn_if(alloc, text, whole(call), has_no_word, b"empty-case", out)
 }
 
 /// Warns if a `;` is after a call of which Autoconf makes no shell text.
@@ -263,19 +138,15 @@ fn warn_of_semicolon(
     call: &CallAt,
     out: &mut Vec<Finding>,
 ) -> Result<(), AllocError> {
-    if !SILENT.iter().any(|other| *other == name)
-        || !after_blanks(from(text, call.end)).starts_with(b";")
-    {
-        return Ok(());
-    }
-    warn_of_part(
+    let is_followed = SILENT.iter().any(|other| *other == name)
+        && after_blanks(from(text, call.end)).starts_with(b";");
+    warn_if(
         alloc,
-        out,
         text,
         whole(call),
+        is_followed,
         b"semicolon-after-call",
-        b"Autoconf makes no shell text of this call, so a script with the `;` after it doesn't run",
-        b"put what is after the `;` on a line of its own",
+        out,
     )
 }
 

@@ -1,6 +1,6 @@
 //! Names of macros in arguments that are text.
 
-use crate::extent::{bare, part, text_of, warn_of_part};
+use crate::extent::{argument_at, bare, part, warn_of_part};
 use crate::rows::TEXTS;
 use findings::Finding;
 use macrotable::{Index, Kind};
@@ -102,10 +102,10 @@ fn warn_of_text(
     alloc: Global,
     index: &Index,
     text: &[u8],
-    extent: &Extent,
+    extent: Extent,
     out: &mut Vec<Finding>,
 ) -> Result<(), AllocError> {
-    let argument = text_of(text, extent);
+    let argument = part(text, extent.start, extent.end);
     let Some((at, length)) = macro_in(alloc, index, argument)? else {
         return Ok(());
     };
@@ -132,9 +132,7 @@ pub(crate) fn warn_of_texts(
     out: &mut Vec<Finding>,
 ) -> Result<(), AllocError> {
     for place in &TEXTS {
-        if place.0 == name
-            && let Some(extent) = call.args.get(place.1)
-        {
+        if let Some(extent) = argument_at(name, call, place) {
             warn_of_text(alloc, index, text, extent, out)?;
         }
     }

@@ -1,33 +1,20 @@
 //! Warnings about the text of a source, and about its statements.
 
-use crate::extent::warn_of_part;
+use crate::extent::warn_by_code;
 use crate::order::warn_of_order;
-use crate::rows::Words;
 use bstr::ByteSlice;
 use findings::Finding;
 use sourcecalls::{CallAt, Extent};
 use std::alloc::{AllocError, Global};
 use syntax::Source;
 
-const VARIABLE: Words = (
-    b"script-variable",
-    b"a variable of configure scripts is an ordinary one here, and empty until it is set",
-    b"leave it out, or use @srcdir@ in a template",
-);
-
-const INCLUDES: Words = (
-    b"quoted-includes",
-    b"AC_INCLUDES_DEFAULT in two pairs of brackets is read here; in Autoconf it is text",
-    b"put it in one pair of brackets",
-);
-
-/// Texts that may not mean what they seem to, each with what is said of it.
+/// Texts that may not mean what they seem to, each with the code of the warning.
 #[rattlefmt::skip]
-const TEXTS: [(&[u8], Words); 4] = [
-    (b"$srcdir", VARIABLE),
-    (b"${srcdir}", VARIABLE),
-    (b"$ac_top_srcdir", VARIABLE),
-    (b"[[AC_INCLUDES_DEFAULT", INCLUDES),
+const TEXTS: [(&[u8], &[u8]); 4] = [
+    (b"$srcdir", b"script-variable"),
+    (b"${srcdir}", b"script-variable"),
+    (b"$ac_top_srcdir", b"script-variable"),
+    (b"[[AC_INCLUDES_DEFAULT", b"quoted-includes"),
 ];
 
 /// Warns if a text is there, at its first place.
@@ -35,15 +22,14 @@ fn warn_of_text(
     alloc: Global,
     text: &[u8],
     sought: &[u8],
-    words: Words,
+    code: &[u8],
     out: &mut Vec<Finding>,
 ) -> Result<(), AllocError> {
     let Some(start) = text.find(sought) else {
         return Ok(());
     };
     let end = start.saturating_add(sought.len());
-    let (code, message, help) = words;
-    warn_of_part(alloc, out, text, Extent { start, end }, code, message, help)
+    warn_by_code(alloc, out, text, Extent { start, end }, code)
 }
 
 /// Adds the warnings about the text and the statements of a source: texts that may not mean what

@@ -61,42 +61,38 @@ fn put_construct(page: &mut Page, found: Construct) {
     page.advise(found.help);
 }
 
+/// What is wrong, and what to do.
+type Words = (&'static [u8], &'static [u8]);
+
+/// Writes what is wrong, and what to do.
+fn put_words(page: &mut Page, words: Words) {
+    page.say(words.0);
+    page.advise(words.1);
+}
+
+/// Returns the words of an error of quotes. They have no text of the source.
+#[rattlefmt::skip]
+fn quote_words(fault: QuoteFault) -> Words {
+    match fault {
+        QuoteFault::UnclosedQuote(_) =>
+            (b"a quote is open at the end of the file: this `[` has no `]`", b"close the argument before the parenthesis or the comma that ends it"),
+        QuoteFault::StrayClose(_) =>
+            (b"a `]` closes no quote", b"remove it, or open a quote before it; within an argument write [[ and ]] for brackets that stay"),
+        QuoteFault::Nul(_) => (b"there is a NUL byte", b"a source is text: save it as UTF-8"),
+        QuoteFault::TooLarge => (b"the file has more than 1,048,576 bytes", b"no larger source is read"),
+        _ => (b"more than 64 brackets and parentheses are open at once", b"one of them may be closed nowhere: no call nests so deep"),
+    }
+}
+
 fn put_quote(page: &mut Page, around: Around<'_>, fault: QuoteFault) {
     match fault {
-        QuoteFault::UnclosedQuote(_) => {
-            page.say(b"a quote is open at the end of the file: this `[` has no `]`");
-            page.advise(b"close the argument before the parenthesis or the comma that ends it");
-        }
         QuoteFault::UnclosedParen(_) => {
             page.say(b"a call is open at the end of the file: the parenthesis of ");
             page.say_text(last_name(before(around.text, around.at)));
             page.say(b" is not closed");
             page.advise(b"close it after the last argument");
         }
-        other => put_other_quote(page, other),
-    }
-}
-
-fn put_other_quote(page: &mut Page, fault: QuoteFault) {
-    match fault {
-        QuoteFault::StrayClose(_) => {
-            page.say(b"a `]` closes no quote");
-            page.advise(
-                b"remove it, or open a quote before it; within an argument write [[ and ]] for brackets that stay",
-            );
-        }
-        QuoteFault::Nul(_) => {
-            page.say(b"there is a NUL byte");
-            page.advise(b"a source is text: save it as UTF-8");
-        }
-        QuoteFault::TooLarge => {
-            page.say(b"the file has more than 1,048,576 bytes");
-            page.advise(b"no larger source is read");
-        }
-        _ => {
-            page.say(b"more than 64 brackets and parentheses are open at once");
-            page.advise(b"one of them may be closed nowhere: no call nests so deep");
-        }
+        other => put_words(page, quote_words(other)),
     }
 }
 
@@ -395,11 +391,19 @@ fn put_after_output(page: &mut Page, around: Around<'_>) {
     page.advise(b"only blanks and comments may be there: move it before AC_OUTPUT");
 }
 
-fn put_too_many(page: &mut Page) {
-    page.say(b"there are too many entries");
-    page.advise(
-        b"at most 1,024 files, headers, output variables, features and packages, and 256 entries of one list",
-    );
+/// Returns the words of a fault that have no text of the source.
+#[rattlefmt::skip]
+fn fixed_words(fault: ParseFault) -> Words {
+    match fault {
+        ParseFault::NoOutput => (b"there is no AC_OUTPUT", b"end the file with a line AC_OUTPUT"),
+        ParseFault::CacheBody(_) =>
+            (b"the commands of AC_CACHE_CHECK may set their own name alone", b"set the name of the second argument here, and do the rest after the check, by AS_IF"),
+        ParseFault::TooDeep(_) => (b"statements nest more than 32 deep", b"set a variable in the inner statements, and test it after them"),
+        ParseFault::TooMany(_) =>
+            (b"there are too many entries", b"at most 1,024 files, headers, output variables, features and packages, and 256 entries of one list"),
+        ParseFault::NewerVersion(_) => (b"a version of Autoconf after 2.71 is required", b"acrun follows 2.71: write AC_PREREQ([2.71])"),
+        _ => (b"memory ran out", b""),
+    }
 }
 
 /// Writes the words of the faults that concern a whole file, a call or a list.
@@ -407,27 +411,8 @@ fn put_rest(page: &mut Page, around: Around<'_>, fault: ParseFault) {
     match fault {
         ParseFault::NotAtTop(_) => put_not_at_top(page, around),
         ParseFault::NoInit => put_no_init(page, around.text),
-        ParseFault::NoOutput => {
-            page.say(b"there is no AC_OUTPUT");
-            page.advise(b"end the file with a line AC_OUTPUT");
-        }
         ParseFault::AfterOutput(_) => put_after_output(page, around),
-        ParseFault::CacheBody(_) => {
-            page.say(b"the commands of AC_CACHE_CHECK may set their own name alone");
-            page.advise(
-                b"set the name of the second argument here, and do the rest after the check, by AS_IF",
-            );
-        }
-        ParseFault::TooDeep(_) => {
-            page.say(b"statements nest more than 32 deep");
-            page.advise(b"set a variable in the inner statements, and test it after them");
-        }
-        ParseFault::TooMany(_) => put_too_many(page),
-        ParseFault::NewerVersion(_) => {
-            page.say(b"a version of Autoconf after 2.71 is required");
-            page.advise(b"acrun follows 2.71: write AC_PREREQ([2.71])");
-        }
-        _ => page.say(b"memory ran out"),
+        other => put_words(page, fixed_words(other)),
     }
 }
 

@@ -5,7 +5,7 @@ ghost use Rattle.findings.specs.Within.{KeepsWithin};
 
 use crate::advice::variable_advice;
 use crate::given::Given;
-use crate::messages::{Form, warn_at, warn_of_name};
+use crate::messages::{Form, Words, warn_at, warn_of_name};
 use bstr::ByteSlice;
 use deftable::{SubstList, is_shell_name};
 use findings::{Finding, Span};
@@ -82,73 +82,41 @@ fn first_of(text: &[u8], texts: &[&[u8]]) -> Option<(usize, usize)> {
     None
 }
 
-/// Warns if a directory below `datarootdir` is used, and nothing sets that.
-fn warn_of_directories(
-    alloc: Global,
-    file: usize,
-    text: &[u8],
-    out: &mut Vec<Finding>,
-) -> Result<(), AllocError>
-    ensures within { OnOk result (KeepsWithin file text.now out.old.items out.new.items) }
-{
+/// What is said of a directory below `datarootdir`.
+const DIRECTORY: Words = (
+    b"no-datarootdir",
+    b"its value begins with ${datarootdir}, which this template does not set: files would go to /man, /doc and the like",
+    b"add the line\n  datarootdir = @datarootdir@",
+);
+
+/// Returns the offset of a directory below `datarootdir` with its length, if nothing sets that.
+fn directory_in(text: &[u8]) -> Option<(usize, usize)> {
     if text.contains_str(b"datarootdir") {
-        return Ok(());
+        return None;
     }
-    warn_at(
-        alloc,
-        out,
-        text,
-        file,
-        first_of(text, &BELOW_DATAROOTDIR),
-        b"no-datarootdir",
-        b"its value begins with ${datarootdir}, which this template does not set: files would go to /man, /doc and the like",
-        b"add the line\n  datarootdir = @datarootdir@",
-    )
+    first_of(text, &BELOW_DATAROOTDIR)
 }
 
-/// Warns if the template runs `config.status`.
-fn warn_of_script(
-    alloc: Global,
-    file: usize,
-    text: &[u8],
-    out: &mut Vec<Finding>,
-) -> Result<(), AllocError>
-    ensures within { OnOk result (KeepsWithin file text.now out.old.items out.new.items) }
-{
-    warn_at(
-        alloc,
-        out,
-        text,
-        file,
-        first_of(text, &[b"./config.status"]),
-        b"config-status-script",
-        b"config.status is a record here, and no script that can be run",
-        b"write `acrun status NAME` in the rule, and `acrun status --recheck` for `./config.status --recheck`",
-    )
-}
+/// What is said of a rule that runs `config.status`.
+const SCRIPT: Words = (
+    b"config-status-script",
+    b"config.status is a record here, and no script that can be run",
+    b"write `acrun status NAME` in the rule, and `acrun status --recheck` for `./config.status --recheck`",
+);
 
-/// Warns if the last line of the template has no newline.
-fn warn_of_end(
-    alloc: Global,
-    file: usize,
-    text: &[u8],
-    out: &mut Vec<Finding>,
-) -> Result<(), AllocError>
-    ensures within { OnOk result (KeepsWithin file text.now out.old.items out.new.items) }
-{
+/// What is said of a last line that has no newline.
+const OPEN_LINE: Words = (
+    b"no-newline-at-end",
+    b"the last line has no newline, and so has that of the file that is made; Autoconf adds one",
+    b"add a newline at the end of the template",
+);
+
+/// Returns the end of a text whose last line has no newline.
+fn open_end(text: &[u8]) -> Option<(usize, usize)> {
     if text.is_empty() || text.ends_with(b"\n") {
-        return Ok(());
+        return None;
     }
-    warn_at(
-        alloc,
-        out,
-        text,
-        file,
-        Some((text.len(), 0)),
-        b"no-newline-at-end",
-        b"the last line has no newline, and so has that of the file that is made; Autoconf adds one",
-        b"add a newline at the end of the template",
-    )
+    Some((text.len(), 0))
 }
 
 /// Adds the warnings about the template of a file: names between two `@` that no statement sets, a directory below `datarootdir`
@@ -168,8 +136,9 @@ pub fn warn_of_file(
     ensures within { OnOk result (KeepsWithin file text.now out.old.items out.new.items) }
 {
     warn_of_names(alloc, given, file, text, out)?;
-    warn_of_directories(alloc, file, text, out)?;
-    warn_of_script(alloc, file, text, out)?;
-    warn_of_end(alloc, file, text, out)?;
+    warn_at(alloc, out, text, file, directory_in(text), DIRECTORY)?;
+    let script = first_of(text, &[b"./config.status"]);
+    warn_at(alloc, out, text, file, script, SCRIPT)?;
+    warn_at(alloc, out, text, file, open_end(text), OPEN_LINE)?;
     Ok(())
 }

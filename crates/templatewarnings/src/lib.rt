@@ -10,7 +10,7 @@
 //! "own" marks a rule that no manual gives.
 //!
 //! [`Given`], in `given`, is what a source gives its templates. `files` reads the templates of files, and `headers` those of
-//! headers. `advice` has what is said of names that Autoconf sets and acrun doesn't, and `saying` writes the messages.
+//! headers. `advice` has what is said of names that Autoconf sets and acrun doesn't, and `messages` writes the messages.
 #![tactic(auto)]
 
 mod advice;

@@ -95,6 +95,9 @@ pub(crate) fn warn_of_name(
     )
 }
 
+/// The code of a warning, what it says, and what to do.
+pub(crate) type Words = (&'static [u8], &'static [u8], &'static [u8]);
+
 /// Warns of a part of a file, if it is there: its offset and its length.
 pub(crate) fn warn_at(
     alloc: Global,
@@ -102,9 +105,7 @@ pub(crate) fn warn_at(
     text: &[u8],
     file: usize,
     part: Option<(usize, usize)>,
-    code: &[u8],
-    message: &[u8],
-    help: &[u8],
+    words: Words,
 ) -> Result<(), AllocError>
     ensures within { OnOk result (KeepsWithin file text.now out.old.items out.new.items) }
 {
@@ -116,5 +117,6 @@ pub(crate) fn warn_at(
         start,
         end: start.saturating_add(length),
     };
+    let (code, message, help) = words;
     warn(alloc, out, text, span, code, message, help)
 }
