@@ -1,21 +1,19 @@
 //! The command that makes the outputs of a record again.
 
-ghost use Rattle.std.specs.Prelude.{◌≡◌, ◌≢◌, ℕ, List, Some, Ok, IfOk, IsTrue, codes};
+ghost use Rattle.std.specs.Prelude.{◌≡◌, ◌≢◌, ℕ, List, Some, Ok, IsTrue, codes};
 ghost use Rattle.std.specs.Io.KnownBytes.{Appends};
 ghost use Rattle.commands.specs.MadeAgain.{IsMadeAgain};
 ghost use Rattle.diskfiles.specs.Held.{fresh};
 ghost use Rattle.invocation.specs.Supplies.{ReadsWhole, GivenAgain};
 ghost use Rattle.status_record.specs.Reading.{record_in};
 
-use crate::errors::{tell_remake, tell_unread};
+use crate::errors::{tell_remake, tell_unread, tell_written};
 use deftable::Bytes;
 use disk::Disk;
 use diskfiles::{FileOutputs, read_text};
-use explaining::{Why, explain_error};
+use explaining::Why;
 use framing::{RemakeFault, remake};
-use invocation::{
-    FAULT, RecordSupplies, keep_inputs, print_lines, record_supplies, tell_file, tell_memory,
-};
+use invocation::{FAULT, RecordSupplies, keep_inputs, print_lines, record_supplies, tell_memory};
 use std::alloc::{AllocError, Global};
 use std::io::Write;
 
@@ -35,14 +33,8 @@ fn print_made<W: Write, E: Write>(
 ) -> bool
     ensures { IsTrue result → Appends (W.contents output.old) (W.contents output.new) lines.now }
 {
-    match print_lines(lines, false, output) {
-        Ok(()) => true,
-        Err(e) => {
-            let _ = tell_file(errors, OUTPUT);
-            explain_error(alloc, why.is_asked, OUTPUT, &e, errors);
-            false
-        }
-    }
+    let done = print_lines(lines, false, output);
+    tell_written(alloc, why.is_asked, OUTPUT, done, errors)
 }
 
 /// Reports the fault of the answer, if there is one. Returns whether there is none.
@@ -135,44 +127,18 @@ fn make_text<D: Disk, W: Write, E: Write>(
     tags: &[Bytes],
     output: &mut W,
     errors: &mut E,
-) -> Result<u8, AllocError>
+) -> u8
     requires fresh { outputs.old ≡ fresh outputs.old.disk }
     requires found { ReadsWhole (D.known outputs.old.disk) (codes "config.status") (Some text.now) }
-    ensures { IfOk result (λ status. status ≢ 2 → (status ≡ 0) × (out : List ℕ)
+    ensures { result ≢ 2 → (result ≡ 0) × (out : List ℕ)
         × IsMadeAgain (D.known outputs.old.disk) (D.known outputs.new.disk) tags.now out
-        × Appends (W.contents output.old) (W.contents output.new) out) }
+        × Appends (W.contents output.old) (W.contents output.new) out }
 {
-    let supplies = record_supplies(alloc, outputs.disk(), text)?;
-    Ok(make_supplied(
-        alloc, outputs, is_asked, text, &supplies, tags, output, errors,
-    ))
-}
-
-/// Reads the record, makes its outputs, and returns the exit status.
-fn make_record<D: Disk, W: Write, E: Write>(
-    alloc: Global,
-    outputs: &mut FileOutputs<D>,
-    is_asked: bool,
-    tags: &[Bytes],
-    output: &mut W,
-    errors: &mut E,
-) -> Result<u8, AllocError>
-    requires fresh { outputs.old ≡ fresh outputs.old.disk }
-    ensures { IfOk result (λ status. status ≢ 2 → (status ≡ 0) × (out : List ℕ)
-        × IsMadeAgain (D.known outputs.old.disk) (D.known outputs.new.disk) tags.now out
-        × Appends (W.contents output.old) (W.contents output.new) out) }
-{
-    match read_text(alloc, outputs.disk(), RECORD)? {
-        Some(text) => make_text(
-            alloc,
-            outputs,
-            is_asked,
-            text.as_slice(),
-            tags,
-            output,
-            errors,
+    match record_supplies(alloc, outputs.disk(), text) {
+        Ok(supplies) => make_supplied(
+            alloc, outputs, is_asked, text, &supplies, tags, output, errors,
         ),
-        None => Ok(tell_unread(alloc, outputs.disk(), is_asked, RECORD, errors)),
+        Err(_) => tell_memory(errors),
     }
 }
 
@@ -194,8 +160,17 @@ pub fn run_status<D: Disk, W: Write, E: Write>(
         × IsMadeAgain (D.known outputs.old.disk) (D.known outputs.new.disk) tags.now out
         × Appends (W.contents output.old) (W.contents output.new) out }
 {
-    match make_record(alloc, outputs, is_asked, tags, output, errors) {
-        Ok(status) => status,
+    match read_text(alloc, outputs.disk(), RECORD) {
+        Ok(Some(text)) => make_text(
+            alloc,
+            outputs,
+            is_asked,
+            text.as_slice(),
+            tags,
+            output,
+            errors,
+        ),
+        Ok(None) => tell_unread(alloc, outputs.disk(), is_asked, RECORD, errors),
         Err(_) => tell_memory(errors),
     }
 }

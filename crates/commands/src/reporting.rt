@@ -11,17 +11,17 @@ ghost use Rattle.framing.specs.Told as words;
 ghost use Rattle.invocation.specs.Errors.{AreTold, errors_of};
 ghost use Rattle.invocation.specs.Logged.{HasLogged};
 
-use crate::errors::tell_run;
+use crate::errors::{tell_run, tell_written};
 use crate::remaking::OUTPUT;
 use causes::Causes;
 use disk::Disk;
 use diskfiles::FileOutputs;
-use explaining::{Why, explain_cut, explain_error, explain_words};
+use explaining::{Why, explain_cut, explain_words};
 use faultlines::explain_compilers;
 use framing::{Fault, Outcome, Report, status_of};
-use invocation::{FAULT, LOG, Supplies, print_all, tell_file, tell_put, write_log};
+use invocation::{FAULT, LOG, Supplies, print_all, tell_put, write_log};
 use std::alloc::Global;
-use std::io::{self, Write};
+use std::io::Write;
 
 /// Says why a run was cut, if it was, and if it is asked.
 fn explain_short<C: Causes, E: Write>(
@@ -47,41 +47,6 @@ fn explain_short<C: Causes, E: Write>(
     }
 }
 
-/// Says why a run was cut, if it was, and that no compiler succeeded, if none did, if it is asked.
-fn explain_end<C: Causes, E: Write>(
-    alloc: Global,
-    is_asked: bool,
-    report: &Report,
-    cache: &[u8],
-    crew: &C,
-    errors: &mut E,
-)
-    ensures silent { is_asked ≡ false → errors.new ≡ errors.old }
-{
-    explain_short(alloc, is_asked, report, cache, crew, errors);
-    explain_compilers(alloc, is_asked, report.log.as_slice(), errors);
-}
-
-/// Reports that standard output didn't take all, if it didn't. Returns whether it did.
-fn tell_output<E: Write>(
-    alloc: Global,
-    is_asked: bool,
-    done: io::Result<()>,
-    errors: &mut E,
-) -> bool
-    ensures done { IsTrue result → done ≡ Ok tt }
-    ensures silent { IsTrue result → errors.new ≡ errors.old }
-{
-    match done {
-        Ok(()) => true,
-        Err(e) => {
-            let _ = tell_file(errors, OUTPUT);
-            explain_error(alloc, is_asked, OUTPUT, &e, errors);
-            false
-        }
-    }
-}
-
 /// Prints the messages of a run and the lines of its outputs, and says why it was cut, if it is asked. Returns whether standard output
 /// took them.
 fn print_report<C: Causes, W: Write, E: Write>(
@@ -99,15 +64,10 @@ fn print_report<C: Causes, W: Write, E: Write>(
 {
     let messages = report.messages.as_slice();
     let done = print_all(alloc, messages, lines, supplies.quiet, output, errors);
-    explain_end(
-        alloc,
-        is_asked,
-        report,
-        supplies.cache_name.as_slice(),
-        crew,
-        errors,
-    );
-    tell_output(alloc, is_asked, done, errors)
+    let cache = supplies.cache_name.as_slice();
+    explain_short(alloc, is_asked, report, cache, crew, errors);
+    explain_compilers(alloc, is_asked, report.log.as_slice(), errors);
+    tell_written(alloc, is_asked, OUTPUT, done, errors)
 }
 
 /// Reports the put that was refused, if one was, and says why if it is asked. Returns whether none was.
@@ -131,21 +91,6 @@ fn tell_refused<E: Write>(
     }
 }
 
-/// Reports that the log can't be written, if it can't be. Returns whether it was.
-fn tell_log<E: Write>(alloc: Global, is_asked: bool, done: &io::Result<()>, errors: &mut E) -> bool
-    ensures done { IsTrue result → done.now ≡ Ok tt }
-    ensures silent { IsTrue result → errors.new ≡ errors.old }
-{
-    match done {
-        Ok(()) => true,
-        Err(e) => {
-            let _ = tell_file(errors, LOG.as_bytes());
-            explain_error(alloc, is_asked, LOG.as_bytes(), e, errors);
-            false
-        }
-    }
-}
-
 /// Writes the log of a run, unless a text was shown. Returns whether that succeeded.
 fn log_report<D: Disk, E: Write>(
     alloc: Global,
@@ -162,7 +107,7 @@ fn log_report<D: Disk, E: Write>(
         Outcome::Shown => true,
         _ => {
             let done = write_log(alloc, outputs, report.log.as_slice());
-            tell_log(alloc, is_asked, &done, errors)
+            tell_written(alloc, is_asked, LOG.as_bytes(), done, errors)
         }
     }
 }
@@ -194,14 +139,6 @@ fn tell_report<D: Disk, C: Causes, W: Write, E: Write>(
         status_of(report.outcome)
     } else {
         FAULT
-    }
-}
-
-/// Returns the text of the cache, or an empty text if there is none.
-fn cache_of(supplies: &Supplies) -> &[u8] {
-    match &supplies.cache {
-        Some(text) => text.as_slice(),
-        None => b"",
     }
 }
 
@@ -242,13 +179,6 @@ pub fn tell_result<D: Disk, C: Causes, W: Write, E: Write>(
             output,
             errors,
         ),
-        Err(fault) => tell_run(
-            alloc,
-            outputs.disk(),
-            why,
-            cache_of(supplies),
-            errors,
-            &fault,
-        ),
+        Err(fault) => tell_run(alloc, outputs.disk(), why, supplies, errors, &fault),
     }
 }

@@ -36,32 +36,6 @@ fn of_tag(alloc: Global, text: &[u8], name: &[u8]) -> Result<Words, AllocError> 
     }
 }
 
-/// Writes what is wrong, in words.
-fn put_remake<D: Disk, E: Write>(
-    alloc: Global,
-    disk: &D,
-    why: &Why<'_>,
-    cause: &[u8],
-    errors: &mut E,
-    fault: &RemakeFault,
-) {
-    match fault {
-        RemakeFault::Record(fault) => {
-            put_words(alloc, record_words(alloc, *fault, why.text), errors)
-        }
-        RemakeFault::UnknownTag(number) => put_words(
-            alloc,
-            of_tag(alloc, why.text, numbered(why.args, *number)),
-            errors,
-        ),
-        RemakeFault::NoTemplate(name) => {
-            explain_template(alloc, disk, why, name.as_slice(), errors)
-        }
-        RemakeFault::PutRefused(_number) => explain_words(alloc, true, cause, errors),
-        _ => {}
-    }
-}
-
 /// Says more of why outputs are not made again, after its line, if it is asked. If a put was refused, `cause` says why.
 pub fn explain_remake<D: Disk, E: Write>(
     alloc: Global,
@@ -74,6 +48,19 @@ pub fn explain_remake<D: Disk, E: Write>(
     ensures silent { why.now.is_asked ≡ false → errors.new ≡ errors.old }
 {
     if why.is_asked {
-        put_remake(alloc, disk, why, cause, errors, fault);
+        match fault {
+            RemakeFault::Record(fault) => {
+                put_words(alloc, record_words(alloc, *fault, why.text), errors)
+            }
+            RemakeFault::UnknownTag(number) => {
+                let name = numbered(why.args, *number);
+                put_words(alloc, of_tag(alloc, why.text, name), errors)
+            }
+            RemakeFault::NoTemplate(name) => {
+                explain_template(alloc, disk, why, name.as_slice(), errors)
+            }
+            RemakeFault::PutRefused(_number) => explain_words(alloc, true, cause, errors),
+            _ => {}
+        }
     }
 }

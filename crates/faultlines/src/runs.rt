@@ -4,7 +4,7 @@ ghost use Rattle.std.specs.Prelude.{◌≡◌, false};
 
 use crate::page::{put_words, slices};
 use crate::precious::of_precious;
-use crate::source::{put_parse, put_plan};
+use crate::source::explain_source;
 use commandline::OptionFault;
 use disk::Disk;
 use explaining::{Why, explain_template};
@@ -19,26 +19,6 @@ fn of_option(alloc: Global, why: &Why<'_>, fault: OptionFault) -> Result<Words, 
     option_words(alloc, fault, args.as_slice())
 }
 
-/// Writes what is wrong, in words.
-fn put_fault<D: Disk, E: Write>(
-    alloc: Global,
-    disk: &D,
-    why: &Why<'_>,
-    cache: &[u8],
-    errors: &mut E,
-    fault: &Fault,
-) {
-    match fault {
-        Fault::Parse(fault) => put_parse(alloc, why, *fault, errors),
-        Fault::Plan(_) => put_plan(alloc, why, errors),
-        Fault::Option(fault) => put_words(alloc, of_option(alloc, why, *fault), errors),
-        Fault::Cache(fault) => put_words(alloc, cache_words(alloc, *fault, cache), errors),
-        Fault::Precious(fault) => put_words(alloc, of_precious(alloc, why, cache, *fault), errors),
-        Fault::NoTemplate(name) => explain_template(alloc, disk, why, name.as_slice(), errors),
-        _ => {}
-    }
-}
-
 /// Says what is wrong with what a run is given, after the line of the fault, if it is asked. The cache is its text.
 pub fn explain_fault<D: Disk, E: Write>(
     alloc: Global,
@@ -51,6 +31,14 @@ pub fn explain_fault<D: Disk, E: Write>(
     ensures silent { why.now.is_asked ≡ false → errors.new ≡ errors.old }
 {
     if why.is_asked {
-        put_fault(alloc, disk, why, cache, errors, fault);
+        match fault {
+            Fault::Option(fault) => put_words(alloc, of_option(alloc, why, *fault), errors),
+            Fault::Cache(fault) => put_words(alloc, cache_words(alloc, *fault, cache), errors),
+            Fault::Precious(fault) => {
+                put_words(alloc, of_precious(alloc, why, cache, *fault), errors)
+            }
+            Fault::NoTemplate(name) => explain_template(alloc, disk, why, name.as_slice(), errors),
+            _ => explain_source(alloc, why, errors, fault),
+        }
     }
 }

@@ -54,31 +54,15 @@ fn put_shown<E: Write>(made: Result<Bytes, AllocError>, errors: &mut E) {
     }
 }
 
-/// Writes the fault of a source: its place, its words, and the line that it is in.
-pub(crate) fn put_parse<E: Write>(alloc: Global, why: &Why<'_>, fault: ParseFault, errors: &mut E) {
-    put_shown(parse_shown(alloc, why, fault), errors);
-}
-
-/// Writes that a source is too long.
-pub(crate) fn put_plan<E: Write>(alloc: Global, why: &Why<'_>, errors: &mut E) {
-    put_shown(plan_shown(alloc, why), errors);
-}
-
-/// Writes the fault of a source. Writes nothing for a fault of anything else.
-fn put_source<E: Write>(alloc: Global, why: &Why<'_>, errors: &mut E, fault: &Fault) {
-    match fault {
-        Fault::Parse(fault) => put_parse(alloc, why, *fault, errors),
-        Fault::Plan(_) => put_plan(alloc, why, errors),
-        _ => {}
-    }
-}
-
-/// Says what is wrong with a source that is in no file, after the line of the fault, if it is asked. Says nothing of a fault of
-/// anything else.
+/// Says what is wrong with a source, after the line of the fault, if it is asked. Says nothing of a fault of anything else.
 pub fn explain_source<E: Write>(alloc: Global, why: &Why<'_>, errors: &mut E, fault: &Fault)
     ensures silent { why.now.is_asked ≡ false → errors.new ≡ errors.old }
 {
     if why.is_asked {
-        put_source(alloc, why, errors, fault);
+        match fault {
+            Fault::Parse(fault) => put_shown(parse_shown(alloc, why, *fault), errors),
+            Fault::Plan(_) => put_shown(plan_shown(alloc, why), errors),
+            _ => {}
+        }
     }
 }

@@ -15,17 +15,12 @@ fn of_words(alloc: Global, words: &[Bytes]) -> Result<Words, AllocError> {
     usage_words(alloc, words.as_slice())
 }
 
-/// Writes that the words are no command, and what lists the commands.
-fn put_usage<E: Write>(alloc: Global, words: &[Bytes], errors: &mut E) {
-    put_words(alloc, of_words(alloc, words), errors);
-    explain_words(alloc, true, b"acrun help lists the commands", errors);
-}
-
 /// Says what is wrong with words that are no command, after its line, if it is asked.
 pub fn explain_usage<E: Write>(alloc: Global, is_asked: bool, words: &[Bytes], errors: &mut E)
     ensures silent { is_asked ≡ false → errors.new ≡ errors.old }
 {
     if is_asked {
-        put_usage(alloc, words, errors);
+        put_words(alloc, of_words(alloc, words), errors);
+        explain_words(alloc, true, b"acrun help lists the commands", errors);
     }
 }

@@ -35,25 +35,13 @@ fn show_matches<W: Write>(
     let mut is_found = false;
     for (index, check) in checks.iter().enumerate() {
         if is_about(alloc, word, check.message)? {
-            show_check(alloc, lines, checks, index, check, output)?;
+            let mut out = Vec::new(alloc);
+            put_check(alloc, &mut out, lines, checks, index, check)?;
+            output.write_all(out.as_slice())?;
             is_found = true;
         }
     }
     Ok(is_found)
-}
-
-/// Shows a check.
-fn show_check<W: Write>(
-    alloc: Global,
-    lines: &[Line<'_>],
-    checks: &[Check<'_>],
-    index: usize,
-    check: &Check<'_>,
-    output: &mut W,
-) -> io::Result<()> {
-    let mut out = Vec::new(alloc);
-    put_check(alloc, &mut out, lines, checks, index, check)?;
-    output.write_all(out.as_slice())
 }
 
 /// Shows the checks that are nearest to the word.
@@ -149,31 +137,11 @@ fn tell_failure<E: Write>(errors: &mut E, error: &io::Error, name: &[u8]) -> u8
     tell_file(errors, name)
 }
 
-/// Explains the word by a log with this text, and returns the exit status.
-fn explain<W: Write, E: Write>(
-    alloc: Global,
-    text: &[u8],
-    word: &[u8],
-    name: &[u8],
-    output: &mut W,
-    errors: &mut E,
-) -> u8
-    ensures status { result ≤ 2 }
-    ensures silent { result ≢ 2 → errors.new ≡ errors.old }
-    ensures log { result ≢ 2 → is_log text.now ≡ true }
-{
-    match show_text(alloc, text, word, output) {
-        Ok(Some(status)) => status,
-        Ok(None) => tell_named(errors, &"log", name),
-        Err(error) => tell_failure(errors, &error, b"standard output"),
-    }
-}
-
 /// Explains the word by a log, and returns the exit status.
 fn explain_file<F: Files, W: Write, E: Write>(
     alloc: Global,
     files: &F,
-    word: &[u8],
+    word: &Bytes,
     name: &[u8],
     output: &mut W,
     errors: &mut E,
@@ -182,9 +150,14 @@ fn explain_file<F: Files, W: Write, E: Write>(
     ensures silent { result ≢ 2 → errors.new ≡ errors.old }
     ensures log { result ≢ 2 → (text : List ℕ) × (is_log text ≡ true) }
 {
-    match read_file(alloc, files, name) {
-        Ok(text) => explain(alloc, text.as_slice(), word, name, output, errors),
-        Err(error) => tell_failure(errors, &error, name),
+    let text = match read_file(alloc, files, name) {
+        Ok(text) => text,
+        Err(error) => return tell_failure(errors, &error, name),
+    };
+    match show_text(alloc, text.as_slice(), word.as_slice(), output) {
+        Ok(Some(status)) => status,
+        Ok(None) => tell_named(errors, &"log", name),
+        Err(error) => tell_failure(errors, &error, b"standard output"),
     }
 }
 
@@ -212,22 +185,8 @@ pub fn run_why<F: Files, W: Write, E: Write>(
     ensures log { result ≢ 2 → (text : List ℕ) × (is_log text ≡ true) }
 {
     match words {
-        [word] => explain_file(
-            alloc,
-            files,
-            word.as_slice(),
-            LOG.as_bytes(),
-            output,
-            errors,
-        ),
-        [word, log] => explain_file(
-            alloc,
-            files,
-            word.as_slice(),
-            log.as_slice(),
-            output,
-            errors,
-        ),
+        [word] => explain_file(alloc, files, word, LOG.as_bytes(), output, errors),
+        [word, log] => explain_file(alloc, files, word, log.as_slice(), output, errors),
         _ => tell_usage(errors),
     }
 }

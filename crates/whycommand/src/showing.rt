@@ -50,8 +50,7 @@ fn put_line(
         ..place
     };
     match line.part {
-        Part::Message => Ok(place),
-        Part::Program => Ok(place),
+        Part::Message | Part::Program => Ok(place),
         Part::Heading => Ok(Place {
             heading: at,
             ..place
@@ -99,31 +98,6 @@ fn put_next(
     }
 }
 
-/// Appends the children of a check: the command, the diagnostics and the status of each. Returns the heading of the last program
-/// that failed, or how many lines there are if none did.
-fn put_children(
-    alloc: Global,
-    out: &mut Vec<u8>,
-    lines: &[Line<'_>],
-    checks: &[Check<'_>],
-    index: usize,
-    check: &Check<'_>,
-) -> Result<usize, AllocError> {
-    let mut place = Place {
-        line: check.start.saturating_add(1),
-        check: index.saturating_add(1),
-        children: check.children_before,
-        heading: lines.len(),
-    };
-    for _ in check.start..check.end {
-        if place.line >= check.end {
-            break;
-        }
-        place = put_next(alloc, out, lines, checks, place)?;
-    }
-    Ok(place.heading)
-}
-
 /// Appends a program that failed, with its heading.
 fn put_program(out: &mut Vec<u8>, lines: &[Line<'_>], heading: usize) -> Result<(), AllocError> {
     if heading >= lines.len() {
@@ -131,8 +105,7 @@ fn put_program(out: &mut Vec<u8>, lines: &[Line<'_>], heading: usize) -> Result<
     }
     for line in &lines[heading..] {
         match line.part {
-            Part::Heading => out.extend_from_slice(line.text)?,
-            Part::Program => out.extend_from_slice(line.text)?,
+            Part::Heading | Part::Program => out.extend_from_slice(line.text)?,
             _ => break,
         }
     }
@@ -176,7 +149,8 @@ fn put_message(
     }
 }
 
-/// Appends what is printed of the check with this index: its message and answer, its children, and the program that failed.
+/// Appends what is printed of the check with this index: its message and answer, the command, the diagnostics and the status of each
+/// of its children, and the program that failed last.
 pub(crate) fn put_check(
     alloc: Global,
     out: &mut Vec<u8>,
@@ -186,6 +160,17 @@ pub(crate) fn put_check(
     check: &Check<'_>,
 ) -> Result<(), AllocError> {
     put_message(alloc, out, lines, check)?;
-    let heading = put_children(alloc, out, lines, checks, index, check)?;
-    put_program(out, lines, heading)
+    let mut place = Place {
+        line: check.start.saturating_add(1),
+        check: index.saturating_add(1),
+        children: check.children_before,
+        heading: lines.len(),
+    };
+    for _ in check.start..check.end {
+        if place.line >= check.end {
+            break;
+        }
+        place = put_next(alloc, out, lines, checks, place)?;
+    }
+    put_program(out, lines, place.heading)
 }

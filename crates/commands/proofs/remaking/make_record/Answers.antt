@@ -1,7 +1,0 @@
-use Rattle.std.specs.Prelude.{codes}
-use Rattle.commands.proofs.Remakes.{found_by}
-use Rattle.commands.proofs.remaking.make_record.Goals as goal
-
-pub make_text-requires-clause-found : goal.make_text-requires-clause-found
-make_text-requires-clause-found g c =
-    found_by g.D.Disk.known c.args.outputs.now.disk c.disk.result.now (codes "config.status") _ _ c.as_slice.result.now c.disk.ensures c.in-Some.is c.as_slice.ensures c.in_ok-text.ensures.text
