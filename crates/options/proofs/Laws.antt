@@ -17,7 +17,7 @@ use Rattle.commandline.specs.Directories.{directories, directory_names, variable
 use Rattle.commandline.specs.Reading.{◌>>=◌}
 use Rattle.commandline.specs.Slashes.{without_slashes}
 use Rattle.commandline.specs.declared.directory.Directory.{Directory}
-use Rattle.commandline.specs.declared.directory.Directory.TheVariants.{Prefix, ExecPrefix, Bindir, Sbindir, Libexecdir, Libdir, Datarootdir, Datadir, Sysconfdir, Sharedstatedir, Localstatedir, Runstatedir, Includedir, Oldincludedir, Docdir, Infodir, Htmldir, Dvidir, Pdfdir, Psdir, Localedir, Mandir}
+use Rattle.commandline.specs.declared.directory.Directory.TheVariants.{Prefix}
 use Rattle.commandline.specs.declared.fault.OptionFault.{OptionFault}
 use Rattle.options.specs.declared.settings.Settings.{Settings}
 
@@ -177,52 +177,12 @@ directory_mark : (precious : List (List ℕ)) (d : Directory) → is_mark precio
 unfolding variable_of
 directory_mark [] d = refl
 directory_mark (x ∷ more) Prefix = directory_mark more Prefix
-directory_mark (x ∷ more) ExecPrefix = directory_mark more ExecPrefix
-directory_mark (x ∷ more) Bindir = directory_mark more Bindir
-directory_mark (x ∷ more) Sbindir = directory_mark more Sbindir
-directory_mark (x ∷ more) Libexecdir = directory_mark more Libexecdir
-directory_mark (x ∷ more) Libdir = directory_mark more Libdir
-directory_mark (x ∷ more) Datarootdir = directory_mark more Datarootdir
-directory_mark (x ∷ more) Datadir = directory_mark more Datadir
-directory_mark (x ∷ more) Sysconfdir = directory_mark more Sysconfdir
-directory_mark (x ∷ more) Sharedstatedir = directory_mark more Sharedstatedir
-directory_mark (x ∷ more) Localstatedir = directory_mark more Localstatedir
-directory_mark (x ∷ more) Runstatedir = directory_mark more Runstatedir
-directory_mark (x ∷ more) Includedir = directory_mark more Includedir
-directory_mark (x ∷ more) Oldincludedir = directory_mark more Oldincludedir
-directory_mark (x ∷ more) Docdir = directory_mark more Docdir
-directory_mark (x ∷ more) Infodir = directory_mark more Infodir
-directory_mark (x ∷ more) Htmldir = directory_mark more Htmldir
-directory_mark (x ∷ more) Dvidir = directory_mark more Dvidir
-directory_mark (x ∷ more) Pdfdir = directory_mark more Pdfdir
-directory_mark (x ∷ more) Psdir = directory_mark more Psdir
-directory_mark (x ∷ more) Localedir = directory_mark more Localedir
-directory_mark (x ∷ more) Mandir = directory_mark more Mandir
+directory_mark (x ∷ more) other = directory_mark more other
 
 directory_unslashed : (vars : List (List ℕ × List ℕ)) (d : Directory) → fold (unslashed_at (variable_of d)) (value_of vars (variable_of d)) directories ≡ option_map without_slashes (value_of vars (variable_of d))
 unfolding variable_of directories
 directory_unslashed vars Prefix = refl
-directory_unslashed vars ExecPrefix = refl
-directory_unslashed vars Bindir = refl
-directory_unslashed vars Sbindir = refl
-directory_unslashed vars Libexecdir = refl
-directory_unslashed vars Libdir = refl
-directory_unslashed vars Datarootdir = refl
-directory_unslashed vars Datadir = refl
-directory_unslashed vars Sysconfdir = refl
-directory_unslashed vars Sharedstatedir = refl
-directory_unslashed vars Localstatedir = refl
-directory_unslashed vars Runstatedir = refl
-directory_unslashed vars Includedir = refl
-directory_unslashed vars Oldincludedir = refl
-directory_unslashed vars Docdir = refl
-directory_unslashed vars Infodir = refl
-directory_unslashed vars Htmldir = refl
-directory_unslashed vars Dvidir = refl
-directory_unslashed vars Pdfdir = refl
-directory_unslashed vars Psdir = refl
-directory_unslashed vars Localedir = refl
-directory_unslashed vars Mandir = refl
+directory_unslashed vars other = refl
 
 -- A directory has the value of its last setter without its final slashes.
 pub directory_finished : (precious : List (List ℕ)) (vars : List (List ℕ × List ℕ)) (d : Directory)

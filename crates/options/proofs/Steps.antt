@@ -2,17 +2,18 @@
 use Rattle.std.proofs.Common.{◌≡◌, ℕ, ◌+◌, Bool, true, false, ◌||◌, if◌then◌else◌, List, [], ◌∷◌, ◌++◌, append_assoc, map, fold, Option, Some, None, Result, Ok, Err, codes, refl, sym, ap, subst, ◌∙◌}
 use Rattle.std.specs.List.{filter, flat_map, list_any}
 use Rattle.std.proofs.lemmas.List.{append-nil}
+use mathlib.Core.Bool.{or-true, or-false}
 use Rattle.std.proofs.lemmas.List.Sums.{fold-append}
 use Rattle.deftable.specs.ShellName.{is_shell_name_of}
 use Rattle.deftable.specs.Table.{with_entry}
 use Rattle.syntax.specs.Feature.{option_variable}
 use Rattle.commandline.proofs.Lines.{alone_awaits, given_reads, Reads}
 use Rattle.commandline.proofs.Words.{option_said, setting_said}
-use Rattle.commandline.specs.Arguments.{Argument, Flag, OptionValue, OptionName, FeatureValue, BadFeatureName, VariableValue, BadVariableName, Unrecognized, read_argument, alone, awaited_by, and_then, given}
+use Rattle.commandline.specs.Arguments.{Argument, Flag, OptionValue, OptionName, FeatureValue, VariableValue, read_argument, alone, awaited_by, and_then, given}
 use Rattle.commandline.specs.CommandLine as line
 use Rattle.commandline.specs.CommandLine.{Setting, Variable, Choice, Cache, Source, Switched, valued, GivesSettings}
 use Rattle.commandline.specs.Directories.{directories, variable_of, default_of}
-use Rattle.options.specs.Opening.{last_of, cache_named, caches_in, sources_in, source_directory, is_quiet, is_no_create, is_help, is_version, variables_in, default_entry, setters, with_variable, set_by, finished, is_declared, undeclared_in, checking_in, run_settings, opened_by, opening}
+use Rattle.options.specs.Opening.{last_of, cache_named, caches_in, sources_in, source_directory, is_quiet, is_no_create, is_help, is_version, variables_in, default_entry, setters, with_variable, set_by, is_declared, undeclared_in, checking_in, run_settings, opened_by, opening}
 use Rattle.commandline.specs.Reading.{◌>>=◌}
 use Rattle.commandline.specs.Slashes.{without_slashes}
 use Rattle.commandline.specs.Srcdir.{srcdir_said, srcdir_from, srcdir_of}
@@ -20,7 +21,7 @@ use Rattle.options.specs.Stepwise.{with_environment, with_default, vars_before, 
 use Rattle.options.specs.Unrecognized.{notes_of}
 use Rattle.commandline.specs.declared.argument.Target.{Target}
 use Rattle.commandline.specs.declared.argument.Target.TheVariants.{InstallDirectory, Srcdir, CacheFile}
-use Rattle.commandline.specs.declared.argument.Switch.TheVariants.{ConfigCache, Quiet, NoCreate, Help, Version, Ignored}
+use Rattle.commandline.specs.declared.argument.Switch.TheVariants.{Quiet, NoCreate, Help, Version, Ignored}
 use Rattle.commandline.specs.declared.directory.Directory.{Directory}
 use Rattle.commandline.specs.declared.fault.OptionFault.{OptionFault}
 use Rattle.commandline.specs.declared.fault.OptionFault.TheVariants.{MissingValue}
@@ -47,25 +48,14 @@ value_after features packages CacheFile value r = refl
 
 said_after : (features packages : List (List ℕ)) (i : ℕ) (said : Argument) (r : Reader) → awaited_by said ≡ None
     → with_said features packages i said r ≡ (alone i said >>= λ setting. Ok (after features packages setting r))
-said_after features packages i (Flag switch) r e = refl
 said_after features packages i (OptionValue target value) r e = ap (λ next. Ok next) (value_after features packages target value r)
 said_after features packages i (OptionName target) r e = absurd (cc)
-said_after features packages i (FeatureValue kind name value option) r e = refl
-said_after features packages i BadFeatureName r e = refl
-said_after features packages i (VariableValue name value) r e = refl
-said_after features packages i BadVariableName r e = refl
-said_after features packages i Unrecognized r e = refl
+said_after features packages i other r e = refl
 
 awaits_is : (features packages : List (List ℕ)) (i : ℕ) (said : Argument) (target : Target) (r : Reader) → awaited_by said ≡ Some target
     → with_said features packages i said r ≡ Ok (record r { awaited = Some target })
-awaits_is features packages i (Flag switch) t r e = absurd (cc)
-awaits_is features packages i (OptionValue target value) t r e = absurd (cc)
 awaits_is features packages i (OptionName target) t r e = ap (λ a. Ok (record r { awaited = a })) e
-awaits_is features packages i (FeatureValue kind name value option) t r e = absurd (cc)
-awaits_is features packages i BadFeatureName t r e = absurd (cc)
-awaits_is features packages i (VariableValue name value) t r e = absurd (cc)
-awaits_is features packages i BadVariableName t r e = absurd (cc)
-awaits_is features packages i Unrecognized t r e = absurd (cc)
+awaits_is features packages i other t r e = absurd (cc)
 
 -- No option needs a value.
 abbrev idle : Reader → Reader
@@ -76,16 +66,8 @@ idle_is r e = ap (λ a. record r { awaited = a }) (sym e)
 
 awaits_still : (setting : Setting) (features packages : List (List ℕ)) (r : Reader) → (after features packages setting r).awaited ≡ r.awaited
 unfolding with_choice
-awaits_still (Variable n v) features packages r = refl
-awaits_still (Choice i k n v o) features packages r = refl
-awaits_still (Cache n) features packages r = refl
-awaits_still (Source d) features packages r = refl
-awaits_still (Switched ConfigCache) features packages r = refl
-awaits_still (Switched Quiet) features packages r = refl
-awaits_still (Switched NoCreate) features packages r = refl
-awaits_still (Switched Help) features packages r = refl
-awaits_still (Switched Version) features packages r = refl
 awaits_still (Switched Ignored) features packages r = refl
+awaits_still other features packages r = refl
 
 -- ---- the steps, and what the arguments give
 
@@ -166,158 +148,39 @@ steps features packages (word ∷ more) =
 
 -- ---- how all settings change a reader
 
-or_true : (b : Bool) → (b || true) ≡ true
-or_true true = refl
-or_true false = refl
-
-or_false : (b : Bool) → (b || false) ≡ b
-or_false true = refl
-or_false false = refl
-
 choice_unrecognized : (t : Bool) (i : ℕ) (option : List ℕ) (r : Reader) (rest : List (ℕ × List ℕ))
     → (if t then r.unrecognized else r.unrecognized ++ (i, option) ∷ []) ++ rest ≡ r.unrecognized ++ ((if t then [] else (i, option) ∷ []) ++ rest)
 choice_unrecognized true i option r rest = refl
 choice_unrecognized false i option r rest = append_assoc r.unrecognized ((i, option) ∷ []) rest
 
-vars_step : (setting : Setting) (features packages : List (List ℕ)) (r : Reader) (rest : List (List ℕ × List ℕ))
-    → (fold with_variable (after features packages setting r).vars rest) ≡ (fold with_variable r.vars (variables_in setting ++ rest))
-unfolding with_choice
-vars_step (Variable n v) features packages r rest = refl
-vars_step (Choice i k n v o) features packages r rest = refl
-vars_step (Cache n) features packages r rest = refl
-vars_step (Source d) features packages r rest = refl
-vars_step (Switched ConfigCache) features packages r rest = refl
-vars_step (Switched Quiet) features packages r rest = refl
-vars_step (Switched NoCreate) features packages r rest = refl
-vars_step (Switched Help) features packages r rest = refl
-vars_step (Switched Version) features packages r rest = refl
-vars_step (Switched Ignored) features packages r rest = refl
+-- The reader with what all these settings say.
+unfoldable with_settings : List (List ℕ) → List (List ℕ) → List Setting → Reader → Reader
+with_settings features packages settings r = record r {
+  vars = fold with_variable r.vars (flat_map variables_in settings);
+  cache_name = last_of r.cache_name (flat_map caches_in settings);
+  quiet = r.quiet || list_any is_quiet settings;
+  no_create = r.no_create || list_any is_no_create settings;
+  help = r.help || list_any is_help settings;
+  version = r.version || list_any is_version settings;
+  unrecognized = r.unrecognized ++ flat_map (undeclared_in features packages) settings;
+}
 
-vars_after : (settings : List Setting) (features packages : List (List ℕ)) (r : Reader) → (after_all features packages settings r).vars ≡ (fold with_variable r.vars (flat_map variables_in settings))
-unfolding after_all
-vars_after [] features packages r = refl
-vars_after (setting ∷ more) features packages r =
-    vars_after more features packages (after features packages setting r) ∙ vars_step setting features packages r (flat_map variables_in more)
+one_more : (setting : Setting) (more : List Setting) (features packages : List (List ℕ)) (r : Reader)
+    → with_settings features packages more (after features packages setting r) ≡ with_settings features packages (setting ∷ more) r
+unfolding with_settings with_choice
+one_more (Choice i k n v o) more features packages r =
+    ap (λ options. record (with_settings features packages (Choice i k n v o ∷ more) r) { unrecognized = options })
+    (choice_unrecognized (is_declared features packages (option_variable k n)) i o r (flat_map (undeclared_in features packages) more))
+one_more (Switched Quiet) more features packages r = ap (λ b. record (with_settings features packages (Switched Quiet ∷ more) r) { quiet = b }) (sym (or-true r.quiet))
+one_more (Switched NoCreate) more features packages r = ap (λ b. record (with_settings features packages (Switched NoCreate ∷ more) r) { no_create = b }) (sym (or-true r.no_create))
+one_more (Switched Help) more features packages r = ap (λ b. record (with_settings features packages (Switched Help ∷ more) r) { help = b }) (sym (or-true r.help))
+one_more (Switched Version) more features packages r = ap (λ b. record (with_settings features packages (Switched Version ∷ more) r) { version = b }) (sym (or-true r.version))
+one_more other more features packages r = refl
 
-cache_name_step : (setting : Setting) (features packages : List (List ℕ)) (r : Reader) (rest : List (Option (List ℕ)))
-    → (last_of (after features packages setting r).cache_name rest) ≡ (last_of r.cache_name (caches_in setting ++ rest))
-unfolding with_choice
-cache_name_step (Variable n v) features packages r rest = refl
-cache_name_step (Choice i k n v o) features packages r rest = refl
-cache_name_step (Cache n) features packages r rest = refl
-cache_name_step (Source d) features packages r rest = refl
-cache_name_step (Switched ConfigCache) features packages r rest = refl
-cache_name_step (Switched Quiet) features packages r rest = refl
-cache_name_step (Switched NoCreate) features packages r rest = refl
-cache_name_step (Switched Help) features packages r rest = refl
-cache_name_step (Switched Version) features packages r rest = refl
-cache_name_step (Switched Ignored) features packages r rest = refl
-
-cache_name_after : (settings : List Setting) (features packages : List (List ℕ)) (r : Reader) → (after_all features packages settings r).cache_name ≡ (last_of r.cache_name (flat_map caches_in settings))
-unfolding after_all
-cache_name_after [] features packages r = refl
-cache_name_after (setting ∷ more) features packages r =
-    cache_name_after more features packages (after features packages setting r) ∙ cache_name_step setting features packages r (flat_map caches_in more)
-
-unrecognized_step : (setting : Setting) (features packages : List (List ℕ)) (r : Reader) (rest : List (ℕ × List ℕ))
-    → ((after features packages setting r).unrecognized ++ rest) ≡ (r.unrecognized ++ (undeclared_in features packages setting ++ rest))
-unfolding with_choice
-unrecognized_step (Variable n v) features packages r rest = refl
-unrecognized_step (Choice i k n v o) features packages r rest = choice_unrecognized (is_declared features packages (option_variable k n)) i o r rest
-unrecognized_step (Cache n) features packages r rest = refl
-unrecognized_step (Source d) features packages r rest = refl
-unrecognized_step (Switched ConfigCache) features packages r rest = refl
-unrecognized_step (Switched Quiet) features packages r rest = refl
-unrecognized_step (Switched NoCreate) features packages r rest = refl
-unrecognized_step (Switched Help) features packages r rest = refl
-unrecognized_step (Switched Version) features packages r rest = refl
-unrecognized_step (Switched Ignored) features packages r rest = refl
-
-unrecognized_after : (settings : List Setting) (features packages : List (List ℕ)) (r : Reader) → (after_all features packages settings r).unrecognized ≡ (r.unrecognized ++ flat_map (undeclared_in features packages) settings)
-unfolding after_all
-unrecognized_after [] features packages r = sym (append-nil r.unrecognized)
-unrecognized_after (setting ∷ more) features packages r =
-    unrecognized_after more features packages (after features packages setting r) ∙ unrecognized_step setting features packages r (flat_map (undeclared_in features packages) more)
-
-quiet_step : (setting : Setting) (features packages : List (List ℕ)) (r : Reader) (rest : Bool)
-    → ((after features packages setting r).quiet || rest) ≡ (r.quiet || (is_quiet setting || rest))
-unfolding with_choice
-quiet_step (Variable n v) features packages r rest = refl
-quiet_step (Choice i k n v o) features packages r rest = refl
-quiet_step (Cache n) features packages r rest = refl
-quiet_step (Source d) features packages r rest = refl
-quiet_step (Switched ConfigCache) features packages r rest = refl
-quiet_step (Switched Quiet) features packages r rest = sym (or_true r.quiet)
-quiet_step (Switched NoCreate) features packages r rest = refl
-quiet_step (Switched Help) features packages r rest = refl
-quiet_step (Switched Version) features packages r rest = refl
-quiet_step (Switched Ignored) features packages r rest = refl
-
-quiet_after : (settings : List Setting) (features packages : List (List ℕ)) (r : Reader) → (after_all features packages settings r).quiet ≡ (r.quiet || list_any is_quiet settings)
-unfolding after_all
-quiet_after [] features packages r = sym (or_false r.quiet)
-quiet_after (setting ∷ more) features packages r =
-    quiet_after more features packages (after features packages setting r) ∙ quiet_step setting features packages r (list_any is_quiet more)
-
-no_create_step : (setting : Setting) (features packages : List (List ℕ)) (r : Reader) (rest : Bool)
-    → ((after features packages setting r).no_create || rest) ≡ (r.no_create || (is_no_create setting || rest))
-unfolding with_choice
-no_create_step (Variable n v) features packages r rest = refl
-no_create_step (Choice i k n v o) features packages r rest = refl
-no_create_step (Cache n) features packages r rest = refl
-no_create_step (Source d) features packages r rest = refl
-no_create_step (Switched ConfigCache) features packages r rest = refl
-no_create_step (Switched Quiet) features packages r rest = refl
-no_create_step (Switched NoCreate) features packages r rest = sym (or_true r.no_create)
-no_create_step (Switched Help) features packages r rest = refl
-no_create_step (Switched Version) features packages r rest = refl
-no_create_step (Switched Ignored) features packages r rest = refl
-
-no_create_after : (settings : List Setting) (features packages : List (List ℕ)) (r : Reader) → (after_all features packages settings r).no_create ≡ (r.no_create || list_any is_no_create settings)
-unfolding after_all
-no_create_after [] features packages r = sym (or_false r.no_create)
-no_create_after (setting ∷ more) features packages r =
-    no_create_after more features packages (after features packages setting r) ∙ no_create_step setting features packages r (list_any is_no_create more)
-
-help_step : (setting : Setting) (features packages : List (List ℕ)) (r : Reader) (rest : Bool)
-    → ((after features packages setting r).help || rest) ≡ (r.help || (is_help setting || rest))
-unfolding with_choice
-help_step (Variable n v) features packages r rest = refl
-help_step (Choice i k n v o) features packages r rest = refl
-help_step (Cache n) features packages r rest = refl
-help_step (Source d) features packages r rest = refl
-help_step (Switched ConfigCache) features packages r rest = refl
-help_step (Switched Quiet) features packages r rest = refl
-help_step (Switched NoCreate) features packages r rest = refl
-help_step (Switched Help) features packages r rest = sym (or_true r.help)
-help_step (Switched Version) features packages r rest = refl
-help_step (Switched Ignored) features packages r rest = refl
-
-help_after : (settings : List Setting) (features packages : List (List ℕ)) (r : Reader) → (after_all features packages settings r).help ≡ (r.help || list_any is_help settings)
-unfolding after_all
-help_after [] features packages r = sym (or_false r.help)
-help_after (setting ∷ more) features packages r =
-    help_after more features packages (after features packages setting r) ∙ help_step setting features packages r (list_any is_help more)
-
-version_step : (setting : Setting) (features packages : List (List ℕ)) (r : Reader) (rest : Bool)
-    → ((after features packages setting r).version || rest) ≡ (r.version || (is_version setting || rest))
-unfolding with_choice
-version_step (Variable n v) features packages r rest = refl
-version_step (Choice i k n v o) features packages r rest = refl
-version_step (Cache n) features packages r rest = refl
-version_step (Source d) features packages r rest = refl
-version_step (Switched ConfigCache) features packages r rest = refl
-version_step (Switched Quiet) features packages r rest = refl
-version_step (Switched NoCreate) features packages r rest = refl
-version_step (Switched Help) features packages r rest = refl
-version_step (Switched Version) features packages r rest = sym (or_true r.version)
-version_step (Switched Ignored) features packages r rest = refl
-
-version_after : (settings : List Setting) (features packages : List (List ℕ)) (r : Reader) → (after_all features packages settings r).version ≡ (r.version || list_any is_version settings)
-unfolding after_all
-version_after [] features packages r = sym (or_false r.version)
-version_after (setting ∷ more) features packages r =
-    version_after more features packages (after features packages setting r) ∙ version_step setting features packages r (list_any is_version more)
+all_after : (settings : List Setting) (features packages : List (List ℕ)) (r : Reader) → after_all features packages settings r ≡ with_settings features packages settings r
+unfolding after_all with_settings
+all_after [] features packages r = rw (or-false r.quiet, or-false r.no_create, or-false r.help, or-false r.version, append-nil r.unrecognized)
+all_after (setting ∷ more) features packages r = all_after more features packages (after features packages setting r) ∙ one_more setting more features packages r
 
 -- ---- variables before the arguments
 
@@ -355,12 +218,9 @@ said_source i (Flag switch) setting srcdir e = ap (λ s. last_of srcdir (sources
 said_source i (OptionValue (InstallDirectory d) value) setting srcdir e = ap (λ s. last_of srcdir (sources_in s)) (let same : Variable (variable_of d) value ≡ setting = cc in same)
 said_source i (OptionValue Srcdir value) setting srcdir e = ap (λ s. last_of srcdir (sources_in s)) (let same : Source value ≡ setting = cc in same)
 said_source i (OptionValue CacheFile value) setting srcdir e = ap (λ s. last_of srcdir (sources_in s)) (let same : Cache value ≡ setting = cc in same)
-said_source i (OptionName target) setting srcdir e = absurd (cc)
 said_source i (FeatureValue kind name value option) setting srcdir e = ap (λ s. last_of srcdir (sources_in s)) (let same : Choice i kind name value option ≡ setting = cc in same)
-said_source i BadFeatureName setting srcdir e = absurd (cc)
 said_source i (VariableValue name value) setting srcdir e = ap (λ s. last_of srcdir (sources_in s)) (let same : Variable name value ≡ setting = cc in same)
-said_source i BadVariableName setting srcdir e = absurd (cc)
-said_source i Unrecognized setting srcdir e = absurd (cc)
+said_source i other setting srcdir e = absurd (cc)
 
 value_source : (target : Target) (value srcdir : List ℕ) → srcdir_said (OptionValue target value) srcdir ≡ last_of srcdir (sources_in (valued target value))
 value_source (InstallDirectory d) value srcdir = refl
@@ -368,11 +228,8 @@ value_source Srcdir value srcdir = refl
 value_source CacheFile value srcdir = refl
 
 last_more : (setting : Setting) (srcdir : List ℕ) (rest : List (List ℕ)) → last_of (last_of srcdir (sources_in setting)) rest ≡ last_of srcdir (sources_in setting ++ rest)
-last_more (Variable n v) srcdir rest = refl
-last_more (Choice i k n v o) srcdir rest = refl
-last_more (Cache n) srcdir rest = refl
 last_more (Source d) srcdir rest = refl
-last_more (Switched switch) srcdir rest = refl
+last_more other srcdir rest = refl
 
 named_source : {i : ℕ} {arguments : List (List ℕ)} {settings : List Setting} → GivesSettings i arguments settings → (srcdir : List ℕ)
     → srcdir_from None srcdir arguments ≡ last_of srcdir (flat_map sources_in settings)
@@ -397,56 +254,18 @@ srcdir_agrees arguments settings h = ap without_slashes (named_source h (codes "
 
 -- ---- the whole
 
--- The settings of these parts.
-unfoldable made_of : List (List ℕ) → List (List ℕ × List ℕ) → List (ℕ × List ℕ) → Option (List ℕ) → List ℕ → Bool → Bool → Bool → Bool → Result Settings OptionFault
-made_of precious vars unrecognized cache srcdir quiet no_create help version =
-    notes_of (checking_in vars) unrecognized >>= λ notes. Ok record {
-      vars = finished precious vars;
-      notes = notes;
-      cache_name = cache;
-      srcdir = srcdir;
-      quiet = quiet;
-      no_create = no_create;
-      help = help;
-      version = version;
-    }
-
-after_made : (precious arguments : List (List ℕ)) (r : Reader)
-    → settings_after precious arguments r ≡ made_of precious r.vars r.unrecognized r.cache_name (srcdir_of arguments) r.quiet r.no_create r.help r.version
-unfolding settings_after settings_with made_of
-after_made precious arguments r = refl
-
-opened_made : (features packages precious : List (List ℕ)) (environment : List (List ℕ × List ℕ)) (settings : List Setting)
-    → opened_by features packages precious environment settings
-    ≡ made_of precious (set_by (setters environment settings)) (flat_map (undeclared_in features packages) settings) (last_of None (flat_map caches_in settings))
-    (source_directory settings) (list_any is_quiet settings) (list_any is_no_create settings) (list_any is_help settings) (list_any is_version settings)
-unfolding opened_by run_settings made_of
-opened_made features packages precious environment settings = refl
+-- The result of these settings, with these variables and this directory of the source.
+unfoldable made_of : List (List ℕ) → List (List ℕ) → List (List ℕ) → List Setting → List (List ℕ × List ℕ) → List ℕ → Result Settings OptionFault
+made_of features packages precious settings vars srcdir =
+    notes_of (checking_in vars) (flat_map (undeclared_in features packages) settings) >>= λ notes. Ok (record (run_settings precious vars settings notes) { srcdir = srcdir })
 
 settings_opened : (features packages precious arguments : List (List ℕ)) (environment : List (List ℕ × List ℕ)) (settings : List Setting) → GivesSettings 0 arguments settings
     → settings_after precious arguments (after_all features packages settings (idle (reader_before environment))) ≡ opened_by features packages precious environment settings
-unfolding reader_before
+unfolding reader_before with_settings settings_after settings_with run_settings opened_by made_of
 settings_opened features packages precious arguments environment settings h =
-    let r : Reader = idle (reader_before environment) in
-    let end : Reader = after_all features packages settings r in
-    let vars : end.vars ≡ set_by (setters environment settings) = vars_after settings features packages r ∙ vars_are environment settings in
-    let unrecognized : end.unrecognized ≡ flat_map (undeclared_in features packages) settings = unrecognized_after settings features packages r in
-    let cache : end.cache_name ≡ last_of None (flat_map caches_in settings) = cache_name_after settings features packages r in
-    let srcdir : srcdir_of arguments ≡ source_directory settings = srcdir_agrees arguments settings h in
-    let quiet : end.quiet ≡ list_any is_quiet settings = quiet_after settings features packages r in
-    let no_create : end.no_create ≡ list_any is_no_create settings = no_create_after settings features packages r in
-    let help : end.help ≡ list_any is_help settings = help_after settings features packages r in
-    let version : end.version ≡ list_any is_version settings = version_after settings features packages r in
-    after_made precious arguments end
-    ∙ ap (λ x. made_of precious x end.unrecognized end.cache_name (srcdir_of arguments) end.quiet end.no_create end.help end.version) vars
-    ∙ ap (λ x. made_of precious (set_by (setters environment settings)) x end.cache_name (srcdir_of arguments) end.quiet end.no_create end.help end.version) unrecognized
-    ∙ ap (λ x. made_of precious (set_by (setters environment settings)) (flat_map (undeclared_in features packages) settings) x (srcdir_of arguments) end.quiet end.no_create end.help end.version) cache
-    ∙ ap (λ x. made_of precious (set_by (setters environment settings)) (flat_map (undeclared_in features packages) settings) (last_of None (flat_map caches_in settings)) x end.quiet end.no_create end.help end.version) srcdir
-    ∙ ap (λ x. made_of precious (set_by (setters environment settings)) (flat_map (undeclared_in features packages) settings) (last_of None (flat_map caches_in settings)) (source_directory settings) x end.no_create end.help end.version) quiet
-    ∙ ap (λ x. made_of precious (set_by (setters environment settings)) (flat_map (undeclared_in features packages) settings) (last_of None (flat_map caches_in settings)) (source_directory settings) (list_any is_quiet settings) x end.help end.version) no_create
-    ∙ ap (λ x. made_of precious (set_by (setters environment settings)) (flat_map (undeclared_in features packages) settings) (last_of None (flat_map caches_in settings)) (source_directory settings) (list_any is_quiet settings) (list_any is_no_create settings) x end.version) help
-    ∙ ap (λ x. made_of precious (set_by (setters environment settings)) (flat_map (undeclared_in features packages) settings) (last_of None (flat_map caches_in settings)) (source_directory settings) (list_any is_quiet settings) (list_any is_no_create settings) (list_any is_help settings) x) version
-    ∙ sym (opened_made features packages precious environment settings)
+    ap (settings_after precious arguments) (all_after settings features packages (idle (reader_before environment)))
+    ∙ ap (λ vars. made_of features packages precious settings vars (srcdir_of arguments)) (vars_are environment settings)
+    ∙ ap (made_of features packages precious settings (set_by (setters environment settings))) (srcdir_agrees arguments settings h)
 
 -- The steps of the code give the opening.
 pub stepwise_is_opening : (features packages precious arguments : List (List ℕ)) (environment : List (List ℕ × List ℕ))

@@ -1,9 +1,9 @@
 -- What is done with the value of a test defines no name but that of its kind.
 use Rattle.std.proofs.Common.{◌≡◌, ℕ, Bool, true, false, cond, List, ◌++◌, codes, refl}
-use Rattle.std.specs.Prelude.{◌≢◌, ◌&&◌, not, Some, None, bytes_eq}
+use Rattle.std.specs.Prelude.{◌≢◌, ◌&&◌, not, Some, bytes_eq}
 use Rattle.deftable.specs.Table.{value_of, with_entry}
 use Rattle.syntax.specs.declared.listed.Listed.TheVariants.{Header, Function, Declaration}
-use Rattle.meaning.specs.Rows.{Program, Single, Sized, Library, Libraries, defined_if, is_linked, is_yes, symbol_part, with_library, with_library_if}
+use Rattle.meaning.specs.Rows.{Single, Sized, Library, Libraries, defined_if, is_linked, is_yes, symbol_part, with_library, with_library_if}
 use Rattle.meaning.specs.State.{State}
 use Rattle.meaning.proofs.Values.{not_same, value_there}
 use Rattle.plan.specs.Defined.{DefinesItsName, DefinesOnly}
@@ -26,15 +26,11 @@ same_defs true value st = refl
 same_defs false value st = refl
 
 pub defines_its_name : DefinesItsName
-defines_its_name (Program search own) value st = refl
 defines_its_name (Single Header entry includes true) value st = defines_if (is_yes value) (codes "HAVE_" ++ symbol_part entry) st
 defines_its_name (Single Function entry includes true) value st = defines_if (is_yes value) (codes "HAVE_" ++ symbol_part entry) st
 defines_its_name (Single Declaration entry includes true) value st =
     λ other apart. other_name st.defs (codes "HAVE_DECL_" ++ symbol_part entry) (cond (is_yes value) (codes "1") (codes "0")) other apart
-defines_its_name (Single listed entry includes false) value st = refl
 defines_its_name (Sized name includes true) value st = defines_if (is_yes value) (codes "HAVE_" ++ symbol_part name) st
-defines_its_name (Sized name includes false) value st = refl
 defines_its_name (Library library function others true) value st = defines_library (is_yes value) library st
-defines_its_name (Library library function others false) value st = refl
-defines_its_name (Libraries function libraries others) None st = refl
 defines_its_name (Libraries function libraries others) (Some value) st = same_defs (is_linked (Some value) && not (bytes_eq value (codes "none required"))) value st
+defines_its_name other value st = refl

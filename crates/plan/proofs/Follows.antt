@@ -6,7 +6,7 @@ use Rattle.deftable.specs.Table.{value_of}
 use Rattle.shellword.specs.declared.part.Part.{Part}
 use Rattle.shellword.specs.Value.{word_value}
 use Rattle.syntax.specs.declared.statement.Plain as plain
-use Rattle.syntax.specs.declared.statement.Plain.TheVariants.{Init, Accepted, ConfigFiles, ConfigHeaders, Assign, Subst, SubstValue, Define, DefineUnquoted, Error, Message, ArgVar, CheckProg, PathProg, Output, CheckProgs, ProgCc, Batch}
+use Rattle.syntax.specs.declared.statement.Plain.TheVariants.{CheckProgs, ProgCc}
 use Rattle.syntax.specs.declared.tree.Subject as what
 use Rattle.syntax.specs.declared.tree.When.{When}
 use Rattle.syntax.specs.Script.{Script, Done, Then, Choice, Check, Cases, No_case, Case}
@@ -94,22 +94,7 @@ does_follow (CheckProgs variable programs otherwise) rest tests next h scope st 
     ∙ in_order tests (looks_all variable programs true st) (λ now. Ends Goes_on (last now)) next
 does_follow (ProgCc programs) rest tests next h scope st =
     programs_follow (codes "CC") programs true rest tests next h scope st
-does_follow (Init a b d e f) rest tests next h scope st = ordinary (Init a b d e f) rest tests next refl refl h scope st
-does_follow Accepted rest tests next h scope st = ordinary Accepted rest tests next refl refl h scope st
-does_follow (ConfigFiles outputs) rest tests next h scope st = ordinary (ConfigFiles outputs) rest tests next refl refl h scope st
-does_follow (ConfigHeaders outputs) rest tests next h scope st = ordinary (ConfigHeaders outputs) rest tests next refl refl h scope st
-does_follow (Assign name value) rest tests next h scope st = ordinary (Assign name value) rest tests next refl refl h scope st
-does_follow (Subst name) rest tests next h scope st = ordinary (Subst name) rest tests next refl refl h scope st
-does_follow (SubstValue name value) rest tests next h scope st = ordinary (SubstValue name value) rest tests next refl refl h scope st
-does_follow (Define name value) rest tests next h scope st = ordinary (Define name value) rest tests next refl refl h scope st
-does_follow (DefineUnquoted name value) rest tests next h scope st = ordinary (DefineUnquoted name value) rest tests next refl refl h scope st
-does_follow (Error message status) rest tests next h scope st = ordinary (Error message status) rest tests next refl refl h scope st
-does_follow (Message kind message) rest tests next h scope st = ordinary (Message kind message) rest tests next refl refl h scope st
-does_follow (ArgVar name help) rest tests next h scope st = ordinary (ArgVar name help) rest tests next refl refl h scope st
-does_follow (CheckProg variable program found otherwise) rest tests next h scope st = ordinary (CheckProg variable program found otherwise) rest tests next refl refl h scope st
-does_follow (PathProg variable program otherwise) rest tests next h scope st = ordinary (PathProg variable program otherwise) rest tests next refl refl h scope st
-does_follow (Batch listed entries includes) rest tests next h scope st = ordinary (Batch listed entries includes) rest tests next refl refl h scope st
-does_follow Output rest tests next h scope st = ordinary Output rest tests next refl refl h scope st
+does_follow other rest tests next h scope st = ordinary other rest tests next refl refl h scope st
 
 -- A check, given the effect of its commands.
 checks : (o : Option (List ℕ)) (message : List Part) (name : List ℕ) (body rest : List Instruction) (tests : List (List ℕ)) (m next : State → Run)

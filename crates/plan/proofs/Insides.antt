@@ -4,12 +4,12 @@ use Rattle.std.proofs.lemmas.List.{append-nil, length-map}
 use Rattle.shellword.specs.declared.part.Part.{Part}
 use Rattle.syntax.specs.declared.listed.Sought.{Sought}
 use Rattle.syntax.specs.declared.listed.Sought.TheVariants.{Entry, «Type»}
-use Rattle.syntax.specs.declared.statement.Question.TheVariants.{Given, Tries, Checks, ChecksEach, Library, Libraries}
+use Rattle.syntax.specs.declared.statement.Question.TheVariants.{Tries, Checks, ChecksEach}
 use Rattle.syntax.specs.declared.program.Try.TheVariants as kinds_are
 use Rattle.syntax.specs.declared.statement.Plain as plain
-use Rattle.syntax.specs.declared.statement.Plain.TheVariants.{Init, Accepted, ConfigFiles, ConfigHeaders, Assign, Subst, SubstValue, Define, DefineUnquoted, Error, Message, ArgVar, CheckProg, PathProg, Output, CheckProgs, ProgCc, Batch}
+use Rattle.syntax.specs.declared.statement.Plain.TheVariants.{CheckProgs, ProgCc}
 use Rattle.syntax.specs.declared.tree.Subject as what
-use Rattle.syntax.specs.declared.tree.Subject.TheVariants.{Nothing, Word, Asked}
+use Rattle.syntax.specs.declared.tree.Subject.TheVariants.{Asked}
 use Rattle.syntax.specs.Script.{Script, Done, Then, Choice, Check, Cases, No_case, Case}
 use Rattle.meaning.specs.Meaning.{rounds_of}
 use Rattle.plan.specs.Walk.{Instruction, Defaults, Begins, Skips, Closes}
@@ -27,22 +27,7 @@ after_inside (CheckProgs variable programs otherwise) rest h =
     subst StaysInside (sym (append_assoc (code_of_programs variable programs true) (Defaults variable otherwise ∷ []) rest))
     (programs_inside variable programs true (Defaults variable otherwise ∷ rest) (omega arith, h))
 after_inside (ProgCc programs) rest h = programs_inside (codes "CC") programs true rest h
-after_inside (Init a b d e f) rest h = h
-after_inside Accepted rest h = h
-after_inside (ConfigFiles outputs) rest h = h
-after_inside (ConfigHeaders outputs) rest h = h
-after_inside (Assign name value) rest h = h
-after_inside (Subst name) rest h = h
-after_inside (SubstValue name value) rest h = h
-after_inside (Define name value) rest h = h
-after_inside (DefineUnquoted name value) rest h = h
-after_inside (Error message status) rest h = h
-after_inside (Message kind message) rest h = h
-after_inside (ArgVar name help) rest h = h
-after_inside (CheckProg variable program found otherwise) rest h = h
-after_inside (PathProg variable program otherwise) rest h = h
-after_inside (Batch listed entries includes) rest h = h
-after_inside Output rest h = h
+after_inside other rest h = h
 
 each_inside : (rounds : List what.Subject) (cases rest : List Instruction) → ((more : List Instruction) → StaysInside more → StaysInside (cases ++ more)) → StaysInside rest → StaysInside (code_each rounds cases ++ rest)
 each_inside [] cases rest does h = h
@@ -83,17 +68,10 @@ find_asks «Type» = omega arith
 
 -- The beginning of a choice.
 about_asks : (subject : what.Subject) → asks_about subject ≤ 2 + entries_asked subject
-about_asks Nothing = omega arith
-about_asks (Word word) = omega arith
-about_asks (Asked (Given kind variable help)) = omega arith
-about_asks (Asked (Tries kinds_are.Compile program)) = omega arith
-about_asks (Asked (Tries kinds_are.Link program)) = omega arith
-about_asks (Asked (Tries kinds_are.Preproc program)) = omega arith
 about_asks (Asked (Tries kinds_are.Run program)) = omega arith
 about_asks (Asked (Checks sought entry includes)) = omega (arith, find_asks sought)
 about_asks (Asked (ChecksEach sought entries includes)) = omega (arith, find_asks sought)
-about_asks (Asked (Library library function others adds)) = omega arith
-about_asks (Asked (Libraries function libraries others)) = omega arith
+about_asks other = omega arith
 
 pub asks_bound : (steps : List Instruction) → AskFew steps → asks_after steps 0 ≤ 65536 * length steps
 asks_bound [] h = omega arith
@@ -112,22 +90,7 @@ statement_asks : (s : plain.Plain) → asks_by s + asks_after (code_after s) 0 �
 statement_asks (CheckProgs variable programs otherwise) =
     omega (arith, asks_both (code_of_programs variable programs true) (Defaults variable otherwise ∷ []), programs_ask variable programs true)
 statement_asks (ProgCc programs) = omega (arith, programs_ask (codes "CC") programs true)
-statement_asks (Init a b d e f) = omega arith
-statement_asks Accepted = omega arith
-statement_asks (ConfigFiles outputs) = omega arith
-statement_asks (ConfigHeaders outputs) = omega arith
-statement_asks (Assign name value) = omega arith
-statement_asks (Subst name) = omega arith
-statement_asks (SubstValue name value) = omega arith
-statement_asks (Define name value) = omega arith
-statement_asks (DefineUnquoted name value) = omega arith
-statement_asks (Error message status) = omega arith
-statement_asks (Message kind message) = omega arith
-statement_asks (ArgVar name help) = omega arith
-statement_asks (CheckProg variable program found otherwise) = omega arith
-statement_asks (PathProg variable program otherwise) = omega arith
-statement_asks (Batch listed entries includes) = omega arith
-statement_asks Output = omega arith
+statement_asks other = omega arith
 
 each_ask : (rounds : List what.Subject) (cases : List Instruction) (w : ℕ) → asks_after cases 0 ≤ 65536 * w
     → asks_after (code_each rounds cases) 0 ≤ asks_after (map Begins rounds) 0 + 65536 * times (length rounds) w
@@ -142,26 +105,16 @@ entries_ask sought (entry ∷ entries) includes = omega (arith, find_asks sought
 
 -- The beginnings of the rounds of a choice ask no more than its statement, and the entries of its list, weigh.
 rounds_ask : (subject : what.Subject) → asks_after (map Begins (rounds_of subject)) 0 ≤ 65536 * (1 + entries_asked subject)
-rounds_ask Nothing = omega arith
-rounds_ask (Word word) = omega arith
-rounds_ask (Asked (Given kind variable help)) = omega arith
 rounds_ask (Asked (Tries kind program)) = omega (arith, about_asks (Asked (Tries kind program)))
 rounds_ask (Asked (Checks sought entry includes)) = omega (arith, find_asks sought)
 rounds_ask (Asked (ChecksEach sought entries includes)) = omega (arith, entries_ask sought entries includes)
-rounds_ask (Asked (Library library function others adds)) = omega arith
-rounds_ask (Asked (Libraries function libraries others)) = omega arith
+rounds_ask other = omega arith
 
 -- A choice has no more rounds than its statement, and the entries of its list, weigh.
 pub rounds_bound : (subject : what.Subject) → length (rounds_of subject) ≤ 1 + entries_asked subject
-rounds_bound Nothing = omega arith
-rounds_bound (Word word) = omega arith
-rounds_bound (Asked (Given kind variable help)) = omega arith
-rounds_bound (Asked (Tries kind program)) = omega arith
-rounds_bound (Asked (Checks sought entry includes)) = omega arith
 rounds_bound (Asked (ChecksEach sought entries includes)) =
     omega (arith, length-map entries (λ (entry : List ℕ). Asked (ChecksEach sought (entry ∷ []) includes)))
-rounds_bound (Asked (Library library function others adds)) = omega arith
-rounds_bound (Asked (Libraries function libraries others)) = omega arith
+rounds_bound other = omega arith
 
 mutual
   -- Code asks for 65,536 jobs at most for each unit of weight.
@@ -193,43 +146,12 @@ after_few : (s : plain.Plain) → AskFew (code_after s)
 after_few (CheckProgs variable programs otherwise) =
     few_both (code_of_programs variable programs true) (Defaults variable otherwise ∷ []) (programs_few variable programs true) (omega arith, tt)
 after_few (ProgCc programs) = programs_few (codes "CC") programs true
-after_few (Init a b d e f) = tt
-after_few Accepted = tt
-after_few (ConfigFiles outputs) = tt
-after_few (ConfigHeaders outputs) = tt
-after_few (Assign name value) = tt
-after_few (Subst name) = tt
-after_few (SubstValue name value) = tt
-after_few (Define name value) = tt
-after_few (DefineUnquoted name value) = tt
-after_few (Error message status) = tt
-after_few (Message kind message) = tt
-after_few (ArgVar name help) = tt
-after_few (CheckProg variable program found otherwise) = tt
-after_few (PathProg variable program otherwise) = tt
-after_few (Batch listed entries includes) = tt
-after_few Output = tt
+after_few other = tt
 
 -- A statement asks for no more jobs than there are directories, or than it weighs.
 does_few : (s : plain.Plain) → 1 + entries_of s ≤ heaviest → asks_by s ≤ 65536
 does_few (CheckProgs variable programs otherwise) fits = omega arith
-does_few (ProgCc programs) fits = omega arith
-does_few (Init a b d e f) fits = omega arith
-does_few Accepted fits = omega arith
-does_few (ConfigFiles outputs) fits = omega arith
-does_few (ConfigHeaders outputs) fits = omega arith
-does_few (Assign name value) fits = omega arith
-does_few (Subst name) fits = omega arith
-does_few (SubstValue name value) fits = omega arith
-does_few (Define name value) fits = omega arith
-does_few (DefineUnquoted name value) fits = omega arith
-does_few (Error message status) fits = omega arith
-does_few (Message kind message) fits = omega arith
-does_few (ArgVar name help) fits = omega arith
-does_few (CheckProg variable program found otherwise) fits = omega arith
-does_few (PathProg variable program otherwise) fits = omega arith
-does_few (Batch listed entries includes) fits = omega arith
-does_few Output fits = omega arith
+does_few other fits = omega arith
 
 entries_few : (sought : Sought) (entries : List (List ℕ)) (includes : Option (List Part)) → AskFew (map Begins (rounds_of (Asked (ChecksEach sought entries includes))))
 entries_few sought [] includes = tt
@@ -237,14 +159,10 @@ entries_few sought (entry ∷ entries) includes = (omega (arith, find_asks sough
 
 -- The beginnings of the rounds of a choice that is not too heavy.
 rounds_few : (subject : what.Subject) → 1 + entries_asked subject ≤ heaviest → AskFew (map Begins (rounds_of subject))
-rounds_few Nothing fits = (omega arith, tt)
-rounds_few (Word word) fits = (omega arith, tt)
-rounds_few (Asked (Given kind variable help)) fits = (omega arith, tt)
 rounds_few (Asked (Tries kind program)) fits = (omega (arith, about_asks (Asked (Tries kind program))), tt)
 rounds_few (Asked (Checks sought entry includes)) fits = (omega (arith, find_asks sought), tt)
 rounds_few (Asked (ChecksEach sought entries includes)) fits = entries_few sought entries includes
-rounds_few (Asked (Library library function others adds)) fits = (omega arith, tt)
-rounds_few (Asked (Libraries function libraries others)) fits = (omega arith, tt)
+rounds_few other fits = (omega arith, tt)
 
 -- Rounds, with the cases of each; without a round the cases may be heavy.
 each_few : (rounds : List what.Subject) (cases : List Instruction) (w : ℕ) → AskFew (map Begins rounds) → (w ≤ heaviest → AskFew cases)

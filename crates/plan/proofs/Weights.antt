@@ -5,7 +5,7 @@ use Rattle.std.proofs.lemmas.List.{drop_more}
 use Rattle.std.proofs.lemmas.Bool.{true≢false}
 use Rattle.shellword.specs.declared.part.Part.{Part}
 use Rattle.syntax.specs.declared.statement.Plain as plain
-use Rattle.syntax.specs.declared.statement.Plain.TheVariants.{Init, Accepted, ConfigFiles, ConfigHeaders, Assign, Subst, SubstValue, Define, DefineUnquoted, Error, Message, ArgVar, CheckProg, PathProg, Output, CheckProgs, ProgCc, Batch}
+use Rattle.syntax.specs.declared.statement.Plain.TheVariants.{CheckProgs, ProgCc}
 use Rattle.syntax.specs.declared.tree.Case as case
 use Rattle.syntax.specs.declared.tree.Stmt.{Stmt, Choose, CacheCheck}
 use Rattle.syntax.specs.declared.tree.Subject as what
@@ -99,22 +99,7 @@ after_bound : (s : plain.Plain) → length (code_after s) ≤ entries_of s + 1
 after_bound (CheckProgs variable programs otherwise) =
     omega (arith, length-append (code_of_programs variable programs true) (Defaults variable otherwise ∷ []), programs_bound variable programs true)
 after_bound (ProgCc programs) = omega (arith, programs_bound (codes "CC") programs true)
-after_bound (Init a b d e f) = omega arith
-after_bound Accepted = omega arith
-after_bound (ConfigFiles outputs) = omega arith
-after_bound (ConfigHeaders outputs) = omega arith
-after_bound (Assign name value) = omega arith
-after_bound (Subst name) = omega arith
-after_bound (SubstValue name value) = omega arith
-after_bound (Define name value) = omega arith
-after_bound (DefineUnquoted name value) = omega arith
-after_bound (Error message status) = omega arith
-after_bound (Message kind message) = omega arith
-after_bound (ArgVar name help) = omega arith
-after_bound (CheckProg variable program found otherwise) = omega arith
-after_bound (PathProg variable program otherwise) = omega arith
-after_bound (Batch listed entries includes) = omega arith
-after_bound Output = omega arith
+after_bound other = omega arith
 
 each_bound : (rounds : List what.Subject) (cases : List Instruction) (w : ℕ) → length cases ≤ 2 * w
     → length (code_each rounds cases) ≤ length rounds + 2 * times (length rounds) w
