@@ -1,5 +1,5 @@
 -- Loops over the lines of a text, and over the items of a record.
-use Rattle.std.proofs.Common.{◌≡◌, ℕ, ◌+◌, ◌<◌, ◌≤◌, Bool, List, [], ◌∷◌, ◌++◌, Bor, length, drop, take, get_or, map, Option, Some, None, Result, Ok, refl, ap, ◌∙◌, sym, append_assoc, arith}
+use Rattle.std.proofs.Common.{◌≡◌, ℕ, ◌+◌, ◌<◌, ◌≤◌, Bool, List, [], ◌∷◌, ◌++◌, Bor, length, drop, take, get_or, map, Option, Some, None, Result, Ok, Err, refl, ap, ◌∙◌, sym, subst, append_assoc, arith}
 use Rattle.std.specs.List.{slice_get}
 use Rattle.std.proofs.lemmas.List.{drop_more, take_more, map-append, length-map}
 use Rattle.std.proofs.lemmas.Grind.{flat_map-append}
@@ -7,21 +7,17 @@ use Rattle.std.proofs.lemmas.Option.{slice_get_within, get_or_from_slice_get}
 use Rattle.std.proofs.Math.ListN.{drop_of_length-le, get_or-map}
 use Rattle.status_record.specs.declared.fault.RecordFault.{RecordFault}
 use Rattle.status_record.specs.declared.fault.RecordFault.TheVariants.{OutOfMemory}
-use Rattle.std.specs.Prelude.{codes}
+use Rattle.std.specs.Prelude.{codes, option_map, IsErrAnd}
 use Rattle.status_record.specs.declared.record.Record.{Record}
 use Rattle.status_record.specs.Escape.{escaped}
 use Rattle.status_record.specs.Line.{after_prefix, ended, entry_fields, output_fields}
 use Rattle.status_record.specs.RecordText.{lines_of, version_line, arg_lines, record_text}
-use Rattle.status_record.specs.Reading.{several, with_item, either, Fails, Read, last_of, front_of}
+use Rattle.status_record.specs.Reading.{several, with_item, either, Fails, Gives, Read, last_of, front_of}
 use Rattle.fallible.specs.Reading.{◌>>=◌}
 
-pub fails_bind : {A B : Type 0} (e : RecordFault) (r : Result A RecordFault) (f : A → Result B RecordFault) → Fails e r → Fails e (r >>= f)
-fails_bind OutOfMemory r f h = tt
-fails_bind e r f h = ap (λ x. x >>= f) h
-
-pub fails_along : {A : Type 0} (e : RecordFault) (r s : Result A RecordFault) → r ≡ s → Fails e r → Fails e s
-fails_along OutOfMemory r s eq h = tt
-fails_along e r s eq h = sym eq ∙ h
+fails_first : {A B : Type 0} (f : RecordFault) (r : Result A RecordFault) (k : A → Result B RecordFault) (total : Result B RecordFault) → (r >>= k) ≡ total → Fails f r → Fails f total
+fails_first OutOfMemory r k total e h = tt
+fails_first f r k total e h = sym e ∙ ap (λ x. x >>= k) h
 
 abbrev pub texts : List (Bor (List ℕ)) → List (List ℕ)
 texts lines = map (λ t. t.now) lines
@@ -32,42 +28,39 @@ at_line i lines d lt =
     let within : i < length (texts lines) = omega (arith, e) in
     drop_more (texts lines) i d.now within ∙ ap (λ t. t ∷ drop (i + 1) (texts lines)) (get_or-map (λ (t : Bor (List ℕ)). t.now) lines i d)
 
-module _ {A : Type 0} (keyword : List ℕ) (read : List ℕ → Option A) (given : List A → A → Bool) where
-  -- the lines from index i on are that line and those after it
-  from_line : (items : List A) (i : ℕ) (lines : List (Bor (List ℕ))) (d : Bor (List ℕ)) (o : Option (List ℕ)) → i < length lines → after_prefix keyword (get_or lines i d).now ≡ o
-      → several keyword read given items i (drop i (texts lines))
-      ≡ either o (λ fields. with_item read given items (i + 1) fields >>= λ now. several keyword read given now (i + 1) (drop (i + 1) (texts lines))) (Ok (items, (i, drop i (texts lines))))
+module _ {A : Type 0} (keyword : List ℕ) (read : List ℕ → Option A) (given : List A → A → Bool) (items : List A) (i : ℕ) (lines : List (Bor (List ℕ))) (total : Result (Read (List A)) RecordFault) (h : several keyword read given items i (drop i (texts lines)) ≡ total) where
+  abbrev pub later : List A → Result (Read (List A)) RecordFault
+  later now = several keyword read given now (i + 1) (drop (i + 1) (texts lines))
+
+  module _ (d : Bor (List ℕ)) (found : Option (Bor (List ℕ))) (lt : i < length lines) (e : option_map (λ t. t.now) found ≡ after_prefix keyword (get_or lines i d).now) where
+    -- the lines from index i on are that line, by what was found in it, and those after it
+    from_line : (o : Option (Bor (List ℕ))) → found ≡ o → total ≡ either (option_map (λ t. t.now) o) (λ fields. with_item read given items (i + 1) fields >>= later) (Ok (items, (i, drop i (texts lines))))
+    unfolding several
+    from_line o is =
+        sym h ∙ ap (several keyword read given items i) (at_line i lines d lt)
+        ∙ ap (λ o. either o (λ fields. with_item read given items (i + 1) fields >>= later) (Ok (items, (i, (get_or lines i d).now ∷ drop (i + 1) (texts lines))))) (sym e ∙ ap (option_map (λ t. t.now)) is)
+        ∙ ap (λ l. either (option_map (λ t. t.now) o) (λ fields. with_item read given items (i + 1) fields >>= later) (Ok (items, (i, l)))) (sym (at_line i lines d lt))
+
+    pub several_more : (now : List A) (fields : Bor (List ℕ)) → found ≡ Some fields → with_item read given items (i + 1) fields.now ≡ Ok now → later now ≡ total
+    several_more now fields is one = sym (from_line (Some fields) is ∙ ap (λ r. r >>= later) one)
+
+    pub several_fails : {X : Type 0} (view : X → Read (List A)) (result : Result X RecordFault) (f : RecordFault) (fields : Bor (List ℕ)) → found ≡ Some fields
+        → Fails f (with_item read given items (i + 1) fields.now) → IsErrAnd result (λ e. e ≡ f) → Gives view result total
+    several_fails view (Ok x) f fields is bad s = absurd s
+    several_fails view (Err g) f fields is bad s =
+        subst (λ g. Fails g total) (sym s) (fails_first f (with_item read given items (i + 1) fields.now) later total (sym (from_line (Some fields) is)) bad)
+
+    pub several_other : found ≡ None → total ≡ Ok (items, (i, drop i (texts lines)))
+    several_other is = from_line None is
+
+  pub several_end : length lines ≤ i → i ≤ length lines → total ≡ Ok (items, (length lines, drop (length lines) (texts lines)))
   unfolding several
-  from_line items i lines d o lt e =
-      ap (several keyword read given items i) (at_line i lines d lt)
-      ∙ ap (λ o. either o (λ fields. with_item read given items (i + 1) fields >>= λ now. several keyword read given now (i + 1) (drop (i + 1) (texts lines))) (Ok (items, (i, (get_or lines i d).now ∷ drop (i + 1) (texts lines))))) e
-      ∙ ap (λ l. either o (λ fields. with_item read given items (i + 1) fields >>= λ now. several keyword read given now (i + 1) (drop (i + 1) (texts lines))) (Ok (items, (i, l)))) (sym (at_line i lines d lt))
-
-  pub several_more : (items now : List A) (i : ℕ) (lines : List (Bor (List ℕ))) (d : Bor (List ℕ)) (fields : List ℕ) (total : Result (Read (List A)) RecordFault) → i < length lines
-      → after_prefix keyword (get_or lines i d).now ≡ Some fields → with_item read given items (i + 1) fields ≡ Ok now
-      → several keyword read given items i (drop i (texts lines)) ≡ total
-      → several keyword read given now (i + 1) (drop (i + 1) (texts lines)) ≡ total
-  several_more items now i lines d fields total lt e one h =
-      sym (from_line items i lines d (Some fields) lt e ∙ ap (λ r. r >>= λ now. several keyword read given now (i + 1) (drop (i + 1) (texts lines))) one) ∙ h
-
-  pub several_fails : (f : RecordFault) (items : List A) (i : ℕ) (lines : List (Bor (List ℕ))) (d : Bor (List ℕ)) (fields : List ℕ) (total : Result (Read (List A)) RecordFault) → i < length lines
-      → after_prefix keyword (get_or lines i d).now ≡ Some fields → Fails f (with_item read given items (i + 1) fields)
-      → several keyword read given items i (drop i (texts lines)) ≡ total → Fails f total
-  several_fails f items i lines d fields total lt e bad h =
-      fails_along f _ _ (sym (from_line items i lines d (Some fields) lt e) ∙ h) (fails_bind f _ _ bad)
-
-  pub several_other : (items : List A) (i : ℕ) (lines : List (Bor (List ℕ))) (d : Bor (List ℕ)) → i < length lines
-      → after_prefix keyword (get_or lines i d).now ≡ None → several keyword read given items i (drop i (texts lines)) ≡ Ok (items, (i, drop i (texts lines)))
-  several_other items i lines d lt e = from_line items i lines d None lt e
-
-  pub several_end : (items : List A) (i : ℕ) (lines : List (Bor (List ℕ))) → i ≡ length lines
-      → several keyword read given items i (drop i (texts lines)) ≡ Ok (items, (length lines, drop (length lines) (texts lines)))
-  unfolding several
-  several_end items i lines is =
+  several_end le ge =
+      let is : i ≡ length lines = omega arith in
       let e = length-map lines (λ (t : Bor (List ℕ)). t.now) in
       let past : length (texts lines) ≤ i = omega (arith, e) in
       let none : drop i (texts lines) ≡ [] = drop_of_length-le (texts lines) past in
-      ap (several keyword read given items i) none ∙ ap (λ l. Ok (items, (i, l))) (sym none) ∙ ap (λ n. Ok (items, (n, drop n (texts lines)))) is
+      sym h ∙ ap (several keyword read given items i) none ∙ ap (λ l. Ok (items, (i, l))) (sym none) ∙ ap (λ n. Ok (items, (n, drop n (texts lines)))) is
 
 -- ---- writing
 

@@ -28,10 +28,7 @@ fn put_entry(out: &mut Vec<u8>, keyword: &[u8], name: &[u8], value: &[u8]) -> Re
 {
     out.extend_from_slice(keyword)?;
     out.extend_from_slice(name)?;
-    out.push(b' ')?;
-    put_escaped(out, value)?;
-    out.push(b'\n')?;
-    Ok(())
+    put_value(out, b" ", value)
 }
 
 /// Appends a line: a keyword, a name and a template.
@@ -40,10 +37,7 @@ fn put_output(out: &mut Vec<u8>, keyword: &[u8], output: &Output) -> Result<(), 
 {
     out.extend_from_slice(keyword)?;
     put_escaped(out, output.name.as_slice())?;
-    out.push(b' ')?;
-    put_escaped(out, output.template.as_slice())?;
-    out.push(b'\n')?;
-    Ok(())
+    put_value(out, b" ", output.template.as_slice())
 }
 
 /// Appends a line for each argument.

@@ -15,9 +15,6 @@ unfolding has_name
 any_has [] k = refl
 any_has (x ∷ keys) k = ap (λ b. bytes_eq k x.items || b) (any_has keys k)
 
-same_eq : Vec ℕ → Vec ℕ → Bool
-same_eq a b = bytes_eq a.items b.items
-
 texts_append : (a b : List (Vec ℕ)) → texts_of (a ++ b) ≡ texts_of a ++ texts_of b
 texts_append [] b = refl
 texts_append (x ∷ a) b = ap (λ l. x.items ∷ l) (texts_append a b)
@@ -64,9 +61,6 @@ extends_one names name = by (has_name names name) refl
     by : (b : Bool) → has_name names name ≡ b → Extends names (with_name names name)
     by true e = ([], with_name-known names name e ∙ sym (append-nil names))
     by false e = (name ∷ [], with_name-new names name e)
-
-pub extends_none : (names : List (List ℕ)) → Extends names names
-extends_none names = ([], sym (append-nil names))
 
 pub extends_on : (a b c : List (List ℕ)) → Extends a b → Extends b c → Extends a c
 extends_on a b c x y = (x.0 ++ y.0, y.1 ∙ ap (λ l. l ++ y.0) x.1 ∙ append_assoc a x.0 y.0)

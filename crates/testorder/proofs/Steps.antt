@@ -1,15 +1,14 @@
--- The steps of the loops over statements and cases, and of a choice.
-use Rattle.std.proofs.Common.{◌≡◌, ℕ, ◌+◌, ◌<◌, List, [], ◌∷◌, ◌++◌, Bool, true, false, ◌||◌, Option, Some, Result, Ok, Err, Vec, Global, refl, sym, ap, ◌∙◌, length, take, drop, get_or}
+-- The steps of a statement, of a check, and of a choice.
+use Rattle.std.proofs.Common.{◌≡◌, ℕ, List, [], ◌∷◌, ◌++◌, Bool, true, false, ◌||◌, Option, Some, Result, Ok, Err, Vec, Global, refl, sym, ap, ◌∙◌}
 use Rattle.std.specs.Prelude.{◌&&◌, IfOk, bytes_eq}
 use Rattle.std.specs.declared.alloc.AllocError.{AllocError}
-use Rattle.std.proofs.lemmas.List.{drop_more}
 use Rattle.deftable.specs.NameList.{has_name}
 use Rattle.shellword.specs.declared.part.Part.{Part}
 use Rattle.syntax.specs.declared.tree.Case as case
 use Rattle.syntax.specs.declared.tree.Stmt.{Stmt, Choose, CacheCheck}
 use Rattle.syntax.specs.declared.tree.Subject.{Subject}
 use Rattle.syntax.specs.declared.statement.Plain as plain
-use Rattle.syntax.specs.Decide.{reads_text, reads_when, resumable, resumable_in, resumable_plain}
+use Rattle.syntax.specs.Decide.{reads_text, resumable, resumable_in, resumable_plain}
 use Rattle.syntax.specs.Resumable.{first_alone, tests_of}
 use Rattle.syntax.specs.Script.{Script, Choice, Check, Cases, stmt_then, script_of, cases_of}
 use Rattle.syntax.proofs.ScriptLemmas.{choice_is, check_is}
@@ -32,51 +31,6 @@ pub check_found : (own : Option (List ℕ)) (old new : List (List ℕ)) (r : Res
 check_found own old new (Ok b) s message name commands called seen is names same h =
     λ rest. ap (resumable own old) (ap (λ x. stmt_then x rest) is ∙ check_is message name commands rest ∙ ap (λ l. Check message name (script_of l) rest) (sym same) ∙ ap (λ n. Check message n (script_of seen) rest) (sym names)) ∙ h rest
 check_found own old new (Err e) s message name commands called seen is names same h = h
-
--- ---- lists
-
-at_rest : (list : List Stmt) (i : ℕ) (s : Stmt) → i < length list → s ≡ get_or list i s → script_of (drop i list) ≡ stmt_then s (script_of (drop (i + 1) list))
-at_rest list i s lt is = ap script_of (drop_more list i s lt) ∙ ap (λ x. stmt_then x (script_of (drop (i + 1) list))) (sym is)
-
-pub all_on : (own : Option (List ℕ)) (start : Bool) (old new : List (List ℕ)) (list : List Stmt) (i : ℕ) (s : Stmt) (b : Bool) → i < length list → s ≡ get_or list i s
-    → Found own old new (stmt_then s) b → b ≡ true → start ≡ resumable own old (script_of (drop i list)) → start ≡ resumable own new (script_of (drop (i + 1) list))
-all_on own start old new list i s b lt is found e h =
-    let rest = script_of (drop (i + 1) list) in
-    h ∙ ap (resumable own old) (at_rest list i s lt is) ∙ found rest ∙ ap (λ x. x && resumable own new rest) e
-
-pub all_no : (own : Option (List ℕ)) (start : Bool) (old new : List (List ℕ)) (list : List Stmt) (i : ℕ) (s : Stmt) (b : Bool) → i < length list → s ≡ get_or list i s
-    → Found own old new (stmt_then s) b → b ≡ false → start ≡ resumable own old (script_of (drop i list)) → false ≡ start
-all_no own start old new list i s b lt is found e h =
-    let rest = script_of (drop (i + 1) list) in
-    sym (h ∙ ap (resumable own old) (at_rest list i s lt is) ∙ found rest ∙ ap (λ x. x && resumable own new rest) e)
-
--- What is found of a case.
-abbrev pub case_kept : Option (List ℕ) → List (List ℕ) → case.Case → Bool
-case_kept own tested k = reads_when tested k.when && resumable own tested (script_of k.body.items)
-
-and_assoc : (a b c : Bool) → a && (b && c) ≡ (a && b) && c
-and_assoc true b c = refl
-and_assoc false b c = refl
-
-at_case : (own : Option (List ℕ)) (tested : List (List ℕ)) (list : List case.Case) (i : ℕ) (k : case.Case) → i < length list → k ≡ get_or list i k
-    → resumable_in own tested (cases_of (drop i list)) ≡ case_kept own tested k && resumable_in own tested (cases_of (drop (i + 1) list))
-at_case own tested list i k lt is =
-    let more = resumable_in own tested (cases_of (drop (i + 1) list)) in
-    ap (λ l. resumable_in own tested (cases_of l)) (drop_more list i k lt)
-    ∙ and_assoc (reads_when tested (get_or list i k).when) (resumable own tested (script_of (get_or list i k).body.items)) more
-    ∙ ap (λ x. case_kept own tested x && more) (sym is)
-
-pub cases_on : (own : Option (List ℕ)) (start b : Bool) (first old : List (List ℕ)) (list : List case.Case) (i : ℕ) (k : case.Case) → i < length list → k ≡ get_or list i k
-    → old ≡ first → b ≡ case_kept own old k → b ≡ true → start ≡ resumable_in own first (cases_of (drop i list)) → start ≡ resumable_in own first (cases_of (drop (i + 1) list))
-cases_on own start b first old list i k lt is same kept e h =
-    h ∙ at_case own first list i k lt is
-    ∙ ap (λ x. x && resumable_in own first (cases_of (drop (i + 1) list))) (ap (λ t. case_kept own t k) (sym same) ∙ sym kept ∙ e)
-
-pub cases_no : (own : Option (List ℕ)) (start b : Bool) (first old : List (List ℕ)) (list : List case.Case) (i : ℕ) (k : case.Case) → i < length list → k ≡ get_or list i k
-    → old ≡ first → b ≡ case_kept own old k → b ≡ false → start ≡ resumable_in own first (cases_of (drop i list)) → false ≡ start
-cases_no own start b first old list i k lt is same kept e h =
-    sym (h ∙ at_case own first list i k lt is
-    ∙ ap (λ x. x && resumable_in own first (cases_of (drop (i + 1) list))) (ap (λ t. case_kept own t k) (sym same) ∙ sym kept ∙ e))
 
 -- ---- a choice
 

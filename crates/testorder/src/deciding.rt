@@ -17,17 +17,12 @@ use syntax::{Case, Plain, Stmt, Subject};
 
 /// Returns whether the statements keep the rules, and adds what they test.
 #[cycle(list)]
-fn keeps_all(
-    alloc: Global,
-    own: Option<&[u8]>,
-    tested: &mut Tested,
-    statements: &[Stmt],
-) -> Result<bool, AllocError>
-    ensures value { IfOk result (λ b. b ≡ decide.resumable (option_map (λ x. x.now) own.entry) tested.old (script_of statements.now)) }
+fn keeps_all(own: Option<&[u8]>, tested: &mut Tested, list: &[Stmt]) -> Result<bool, AllocError>
+    ensures value { IfOk result (λ b. b ≡ decide.resumable (option_map (λ x. x.now) own.entry) tested.old (script_of list.now)) }
     ensures grown { OnOk result (Extends tested.old tested.new) }
 {
-    for statement in statements {
-        if !keeps(alloc, own, tested, statement)? {
+    for statement in list {
+        if !keeps(own, tested, statement)? {
             return Ok(false);
         }
     }
@@ -36,51 +31,36 @@ fn keeps_all(
 
 /// Returns whether the statements keep the rules. What they test is forgotten.
 #[cycle(list)]
-fn keeps_apart(
-    alloc: Global,
-    own: Option<&[u8]>,
-    tested: &mut Tested,
-    statements: &[Stmt],
-) -> Result<bool, AllocError>
-    ensures value { IfOk result (λ b. b ≡ decide.resumable (option_map (λ x. x.now) own.entry) tested.old (script_of statements.now)) }
+fn keeps_apart(own: Option<&[u8]>, tested: &mut Tested, list: &[Stmt]) -> Result<bool, AllocError>
+    ensures value { IfOk result (λ b. b ≡ decide.resumable (option_map (λ x. x.now) own.entry) tested.old (script_of list.now)) }
     ensures unchanged { OnOk result (tested.new ≡ tested.old) }
 {
     let length = tested.len();
-    let kept = keeps_all(alloc, own, tested, statements)?;
+    let kept = keeps_all(own, tested, list)?;
     tested.cut(length);
     Ok(kept)
 }
 
 /// Returns whether a case keeps the rules.
 #[cycle(list)]
-fn keeps_case(
-    alloc: Global,
-    own: Option<&[u8]>,
-    tested: &mut Tested,
-    case: &Case,
-) -> Result<bool, AllocError>
+fn keeps_case(own: Option<&[u8]>, tested: &mut Tested, case: &Case) -> Result<bool, AllocError>
     ensures value { IfOk result (λ b. b ≡ decide.reads_when tested.old case.now.when && decide.resumable (option_map (λ x. x.now) own.entry) tested.old (script_of case.now.body.items)) }
     ensures unchanged { OnOk result (tested.new ≡ tested.old) }
 {
     if !reads_when(tested, &case.when) {
         return Ok(false);
     }
-    keeps_apart(alloc, own, tested, case.body.as_slice())
+    keeps_apart(own, tested, case.body.as_slice())
 }
 
 /// Returns whether all cases keep the rules.
 #[cycle(list)]
-fn keeps_cases(
-    alloc: Global,
-    own: Option<&[u8]>,
-    tested: &mut Tested,
-    cases: &[Case],
-) -> Result<bool, AllocError>
+fn keeps_cases(own: Option<&[u8]>, tested: &mut Tested, cases: &[Case]) -> Result<bool, AllocError>
     ensures value { IfOk result (λ b. b ≡ decide.resumable_in (option_map (λ x. x.now) own.entry) tested.old (cases_of cases.now)) }
     ensures unchanged { OnOk result (tested.new ≡ tested.old) }
 {
     for case in cases {
-        if !keeps_case(alloc, own, tested, case)? {
+        if !keeps_case(own, tested, case)? {
             return Ok(false);
         }
     }
@@ -97,7 +77,6 @@ fn first_of(names: &[Bytes]) -> &[Bytes]
 /// Returns whether the cases of a choice keep the rules, whose subject tests these names, and adds the names.
 #[cycle(list)]
 fn keeps_asked(
-    alloc: Global,
     own: Option<&[u8]>,
     tested: &mut Tested,
     names: &[Bytes],
@@ -109,18 +88,17 @@ fn keeps_asked(
     ensures grown { OnOk result (Extends tested.old tested.new) }
 {
     // In the cases the first name alone is sure to have been tested.
-    tested.add_all(alloc, first_of(names))?;
-    if !keeps_cases(alloc, own, tested, cases)? {
+    tested.add_all(first_of(names))?;
+    if !keeps_cases(own, tested, cases)? {
         return Ok(false);
     }
-    tested.add_all(alloc, names)?;
+    tested.add_all(names)?;
     Ok(true)
 }
 
 /// Returns whether a choice keeps the rules, and adds what its subject tests.
 #[cycle(list)]
 fn keeps_choice(
-    alloc: Global,
     own: Option<&[u8]>,
     tested: &mut Tested,
     subject: &Subject,
@@ -134,14 +112,13 @@ fn keeps_choice(
     if !keeps_subject(own, tested, subject) {
         return Ok(false);
     }
-    let names = tests_at(alloc, subject)?;
-    keeps_asked(alloc, own, tested, names.as_slice(), cases)
+    let names = tests_at(tested.alloc(), subject)?;
+    keeps_asked(own, tested, names.as_slice(), cases)
 }
 
 /// Returns whether AC_CACHE_CHECK keeps the rules, and adds its name.
 #[cycle(list)]
 fn keeps_check(
-    alloc: Global,
     own: Option<&[u8]>,
     tested: &mut Tested,
     message: &HereText,
@@ -156,63 +133,44 @@ fn keeps_check(
     if !reads_text(tested, message.parts()) {
         return Ok(false);
     }
-    if !keeps_apart(alloc, Some(name), tested, commands)? {
+    if !keeps_apart(Some(name), tested, commands)? {
         return Ok(false);
     }
-    tested.add_one(alloc, name)?;
+    tested.add_one(name)?;
     Ok(true)
 }
 
 /// Returns whether a statement with no statements in it keeps the rules, and adds what it tests.
-fn keeps_simple(
-    alloc: Global,
-    own: Option<&[u8]>,
-    tested: &mut Tested,
-    statement: &Plain,
-) -> Result<bool, AllocError>
+fn keeps_simple(own: Option<&[u8]>, tested: &mut Tested, plain: &Plain) -> Result<bool, AllocError>
     ensures value { IfOk result (λ b. (rest : Script)
-        → decide.resumable (option_map (λ x. x.now) own.entry) tested.old (Then statement.now rest)
+        → decide.resumable (option_map (λ x. x.now) own.entry) tested.old (Then plain.now rest)
         ≡ b && decide.resumable (option_map (λ x. x.now) own.entry) tested.new rest) }
     ensures grown { OnOk result (Extends tested.old tested.new) }
 {
-    if !keeps_plain(own, tested, statement) {
+    if !keeps_plain(own, tested, plain) {
         return Ok(false);
     }
-    let names = tests_of(alloc, statement)?;
-    tested.add_all(alloc, names.as_slice())?;
+    let names = tests_of(tested.alloc(), plain)?;
+    tested.add_all(names.as_slice())?;
     Ok(true)
 }
 
 /// Returns whether a statement keeps the rules, and adds what it tests.
 #[cycle(list)]
-fn keeps(
-    alloc: Global,
-    own: Option<&[u8]>,
-    tested: &mut Tested,
-    statement: &Stmt,
-) -> Result<bool, AllocError>
+fn keeps(own: Option<&[u8]>, tested: &mut Tested, statement: &Stmt) -> Result<bool, AllocError>
     ensures value { IfOk result (λ b. (rest : Script)
         → decide.resumable (option_map (λ x. x.now) own.entry) tested.old (stmt_then statement.now rest)
         ≡ b && decide.resumable (option_map (λ x. x.now) own.entry) tested.new rest) }
     ensures grown { OnOk result (Extends tested.old tested.new) }
 {
     match statement {
-        Stmt::Plain(plain) => keeps_simple(alloc, own, tested, plain),
-        Stmt::Choose { subject, cases } => {
-            keeps_choice(alloc, own, tested, subject, cases.as_slice())
-        }
+        Stmt::Plain(plain) => keeps_simple(own, tested, plain),
+        Stmt::Choose { subject, cases } => keeps_choice(own, tested, subject, cases.as_slice()),
         Stmt::CacheCheck {
             message,
             name,
             commands,
-        } => keeps_check(
-            alloc,
-            own,
-            tested,
-            message,
-            name.as_slice(),
-            commands.as_slice(),
-        ),
+        } => keeps_check(own, tested, message, name.as_slice(), commands.as_slice()),
     }
 }
 
@@ -221,5 +179,5 @@ pub fn is_resumable(alloc: Global, statements: &[Stmt]) -> Result<bool, AllocErr
     ensures { IfOk result (λ b. b ≡ decide.is_resumable (script_of statements.now)) }
 {
     let mut tested = Tested::new(alloc);
-    keeps_all(alloc, None, &mut tested, statements)
+    keeps_all(None, &mut tested, statements)
 }

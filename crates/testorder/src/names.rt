@@ -30,51 +30,16 @@ fn each(alloc: Global, sought: Sought, entries: &[Bytes]) -> Result<Vec<Bytes>, 
     Ok(names)
 }
 
-fn program(alloc: Global, variable: &[u8]) -> Result<Vec<Bytes>, AllocError>
-    ensures { IfOk result (λ v. v.items ≡ names.program_name variable.now ∷ []) }
-{
-    let name = program_name(alloc, variable)?;
-    one(alloc, name)
-}
-
-fn path(alloc: Global, variable: &[u8]) -> Result<Vec<Bytes>, AllocError>
-    ensures { IfOk result (λ v. v.items ≡ names.path_name variable.now ∷ []) }
-{
-    let name = path_name(alloc, variable)?;
-    one(alloc, name)
-}
-
-fn library(alloc: Global, library: &[u8], function: &[u8]) -> Result<Vec<Bytes>, AllocError>
-    ensures { IfOk result (λ v. v.items ≡ names.library_name library.now function.now ∷ []) }
-{
-    let name = library_name(alloc, library, function)?;
-    one(alloc, name)
-}
-
-fn libraries(alloc: Global, function: &[u8]) -> Result<Vec<Bytes>, AllocError>
-    ensures { IfOk result (λ v. v.items ≡ names.libraries_name function.now ∷ []) }
-{
-    let name = libraries_name(alloc, function)?;
-    one(alloc, name)
-}
-
-fn sought_one(alloc: Global, sought: Sought, entry: &[u8]) -> Result<Vec<Bytes>, AllocError>
-    ensures { IfOk result (λ v. v.items ≡ names.sought_name sought entry.now ∷ []) }
-{
-    let name = sought_name(alloc, sought, entry)?;
-    one(alloc, name)
-}
-
 /// Returns the names that a statement tests.
 pub fn tests_of(alloc: Global, statement: &Plain) -> Result<Vec<Bytes>, AllocError>
     ensures { IfOk result (λ v. v.items ≡ rules.tests_of statement.now) }
 {
     match statement {
         Plain::CheckProg { variable, .. } | Plain::CheckProgs { variable, .. } => {
-            program(alloc, variable.as_slice())
+            one(alloc, program_name(alloc, variable.as_slice())?)
         }
-        Plain::PathProg { variable, .. } => path(alloc, variable.as_slice()),
-        Plain::ProgCc { .. } => program(alloc, b"CC"),
+        Plain::PathProg { variable, .. } => one(alloc, path_name(alloc, variable.as_slice())?),
+        Plain::ProgCc { .. } => one(alloc, program_name(alloc, b"CC")?),
         Plain::Batch {
             listed,
             entries,
@@ -90,18 +55,25 @@ fn tests_asked(alloc: Global, question: &Question) -> Result<Vec<Bytes>, AllocEr
 {
     match question {
         Question::Given { .. } | Question::Tries { .. } => Ok(Vec::new(alloc)),
-        Question::Checks { sought, entry, .. } => sought_one(alloc, *sought, entry.as_slice()),
+        Question::Checks { sought, entry, .. } => {
+            one(alloc, sought_name(alloc, *sought, entry.as_slice())?)
+        }
         Question::ChecksEach {
             sought,
             entries,
             ..
         } => each(alloc, *sought, entries.as_slice()),
         Question::Library {
-            library: name,
+            library,
             function,
             ..
-        } => library(alloc, name.as_slice(), function.as_slice()),
-        Question::Libraries { function, .. } => libraries(alloc, function.as_slice()),
+        } => {
+            let name = library_name(alloc, library.as_slice(), function.as_slice())?;
+            one(alloc, name)
+        }
+        Question::Libraries { function, .. } => {
+            one(alloc, libraries_name(alloc, function.as_slice())?)
+        }
     }
 }
 

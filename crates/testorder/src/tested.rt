@@ -11,12 +11,16 @@ use std::marker::Model;
 
 /// The names that were tested, each once, in the order in which they were first added.
 pub(crate) struct Tested {
+    alloc: Global,
     names: IndexSet<Vec<u8>>,
 }
 
 impl Drop for Tested {
     fn drop(self) {
-        let Tested { names: _names } = self;
+        let Tested {
+            alloc: _alloc,
+            names: _names,
+        } = self;
     }
 }
 
@@ -36,8 +40,14 @@ impl Tested {
         ensures { result ≡ [] }
     {
         Tested {
+            alloc,
             names: IndexSet::new(alloc),
         }
+    }
+
+    /// Returns what the names are allocated with.
+    pub(crate) fn alloc(&self) -> Global {
+        self.alloc
     }
 
     /// Returns whether the name was tested.
@@ -48,31 +58,31 @@ impl Tested {
     }
 
     /// Adds a name.
-    fn add(&mut self, alloc: Global, name: &[u8]) -> Result<(), AllocError>
+    fn add(&mut self, name: &[u8]) -> Result<(), AllocError>
         ensures { OnOk result (self.new ≡ with_name self.old name.now) }
     {
-        let name = Vec::from_slice(alloc, name)?;
+        let name = Vec::from_slice(self.alloc, name)?;
         self.names.insert(name)?;
         Ok(())
     }
 
     /// Adds names.
-    pub(crate) fn add_all(&mut self, alloc: Global, names: &[Bytes]) -> Result<(), AllocError>
+    pub(crate) fn add_all(&mut self, names: &[Bytes]) -> Result<(), AllocError>
         ensures added { OnOk result (HasSameNames (names.now ++ self.old) self.new) }
         ensures grown { OnOk result (Extends self.old self.new) }
     {
         for name in names {
-            self.add(alloc, name.as_slice())?;
+            self.add(name.as_slice())?;
         }
         Ok(())
     }
 
     /// Adds one name.
-    pub(crate) fn add_one(&mut self, alloc: Global, name: &[u8]) -> Result<(), AllocError>
+    pub(crate) fn add_one(&mut self, name: &[u8]) -> Result<(), AllocError>
         ensures added { OnOk result (HasSameNames (name.now ∷ self.old) self.new) }
         ensures grown { OnOk result (Extends self.old self.new) }
     {
-        self.add(alloc, name)
+        self.add(name)
     }
 
     /// Returns the number of names.

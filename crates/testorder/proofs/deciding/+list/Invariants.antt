@@ -6,8 +6,8 @@ use Rattle.testorder.proofs.deciding.+list.Given as goal
 
 abbrev pub invariant-keeps_all-loop-statement : goal.invariant-keeps_all-loop-statement
 invariant-keeps_all-loop-statement l = record {
-  value : resumable (option_map (λ x. x.now) l.own) l.fn.tested (script_of l.statements)
-      ≡ resumable (option_map (λ x. x.now) l.own) l.tested (script_of (drop l.statement-index l.statements));
+  value : resumable (option_map (λ x. x.now) l.own) l.fn.tested (script_of l.list)
+      ≡ resumable (option_map (λ x. x.now) l.own) l.tested (script_of (drop l.statement-index l.list));
   grown : Extends l.fn.tested l.tested;
 }
 
