@@ -259,6 +259,36 @@ missing_flag : (o : Option (List ℕ)) (refused : Bool) → (o ≡ None → refu
 missing_flag None refused h = sym (h refl)
 missing_flag (Some v) refused h = refl
 
+-- An entry of a batch, and whether it asks.
+abbrev waiting_if : Batch → List ℕ → Bool → waiting.Waiting
+waiting_if batch entry asks = record { trial = trial_for (Entry batch.listed) entry true; asks = asks }
+
+-- What holds of the entry without a job if it is known, and with its own otherwise, holds of it as the batch has it.
+by_known : (batch : Batch) (first : State) (place : ℕ) (earlier : List (List ℕ)) (entry : List ℕ) (tail : List (List ℕ × Option Job)) (more : List waiting.Waiting) (Holds : List (List ℕ × Option Job) → List waiting.Waiting → Type 0)
+    → (is_known (entry_name batch.listed entry) earlier first ≡ true → Holds ((entry, None) ∷ tail) (waiting_if batch entry false ∷ more))
+    → (is_known (entry_name batch.listed entry) earlier first ≡ false → Holds ((entry, entry_job batch.listed entry batch.includes place first) ∷ tail) (waiting_if batch entry true ∷ more))
+    → Holds ((entry, job_for batch place earlier entry first) ∷ tail) (waiting_if batch entry (not (is_known (entry_name batch.listed entry) earlier first)) ∷ more)
+by_known batch first place earlier entry tail more Holds quiet asked =
+    ⊎_elim (λ t. subst at (sym t) (quiet t)) (λ f. subst at (sym f) (asked f)) (cases_Bool (is_known (entry_name batch.listed entry) earlier first))
+  where
+    at : Bool → Type 0
+    at b = Holds ((entry, cond b None (entry_job batch.listed entry batch.includes place first)) ∷ tail) (waiting_if batch entry (not b) ∷ more)
+
+-- A known entry, and what follows it.
+quiet_commits : (batch : Batch) (entry : List ℕ) (tail : List (List ℕ × Option Job)) (replies : List Reply) (refused : Bool) (first now : State) (ends : State → Run)
+    → (value_of now.vars (entry_name batch.listed entry) ≡ None → (row_at batch entry None (only_reply replies) first).ready ≡ true)
+    → (value_of now.vars (entry_name batch.listed entry) ≡ None → refused ≡ true)
+    → ((s : State) → s.vars ≡ now.vars → committed batch first tail replies refused s ≡ ends s)
+    → committed batch first ((entry, None) ∷ tail) replies refused now
+    ≡ ends (known_end (value_of now.vars (entry_name batch.listed entry)) (trial_for (Entry batch.listed) entry true) (begun (trial_for (Entry batch.listed) entry true) now))
+quiet_commits batch entry tail replies refused first now ends ready known rest =
+    let o = value_of now.vars (entry_name batch.listed entry) in
+    let t = trial_for (Entry batch.listed) entry true in
+    let s = known_end o t (begun t now) in
+    commit_one (is_missing o) refused _ s (committed batch first tail replies) (quiet_by batch entry (only_reply replies) first now o refl ready)
+    ∙ ap (λ b. committed batch first tail replies b s) (missing_flag o refused known)
+    ∙ rest s (quiet_vars batch.listed entry now o refl)
+
 no_entries : (batch : Batch) (first : State) (replies : List Reply) (refused : Bool) (now : State) → committed batch first [] replies refused now ≡ Ends (how_if (refused || false)) now
 no_entries batch first replies true now = refl
 no_entries batch first replies false now = refl
@@ -268,22 +298,10 @@ abbrev Comes : Batch → State → List (List ℕ × Option Job) → List waitin
 Comes batch first asks entries replies refused now =
     committed batch first asks replies refused now ≡ Ends (how_if (refused || is_refused entries replies)) (after_entries entries (jobs_in asks) replies now)
 
-quiet_comes : (batch : Batch) (entry : List ℕ) (tail : List (List ℕ × Option Job)) (more : List waiting.Waiting) (replies : List Reply) (refused : Bool) (first now : State) → lacks first ≡ false
-    → (value_of now.vars (entry_name batch.listed entry) ≡ None → refused ≡ true)
-    → ((s : State) → s.vars ≡ now.vars → Comes batch first tail more replies refused s)
-    → Comes batch first ((entry, None) ∷ tail) (record { trial = trial_for (Entry batch.listed) entry true; asks = false } ∷ more) replies refused now
-quiet_comes batch entry tail more replies refused first now has known rest =
-    let o = value_of now.vars (entry_name batch.listed entry) in
-    let t = trial_for (Entry batch.listed) entry true in
-    let s = known_end o t (begun t now) in
-    commit_one (is_missing o) refused _ s (committed batch first tail replies) (quiet_by batch entry (only_reply replies) first now o refl (λ _. is_ready batch entry None (only_reply replies) first has))
-    ∙ ap (λ b. committed batch first tail replies b s) (missing_flag o refused known)
-    ∙ rest s (quiet_vars batch.listed entry now o refl)
-
 asked_comes : (batch : Batch) (entry : List ℕ) (job : Job) (tail : List (List ℕ × Option Job)) (more : List waiting.Waiting) (replies : List Reply) (refused : Bool) (first now : State) → lacks first ≡ false
     → value_of now.vars (entry_name batch.listed entry) ≡ None
     → ((s : State) → s.vars ≡ set_by (success (only_reply replies)) (entry_name batch.listed entry) now.vars → Comes batch first tail more (drop 1 replies) (refuses (success (only_reply replies)) || refused) s)
-    → Comes batch first ((entry, Some job) ∷ tail) (record { trial = trial_for (Entry batch.listed) entry true; asks = true } ∷ more) replies refused now
+    → Comes batch first ((entry, Some job) ∷ tail) (waiting_if batch entry true ∷ more) replies refused now
 asked_comes batch entry job tail more replies refused first now has unset rest =
     let reply = only_reply replies in
     let t = trial_for (Entry batch.listed) entry true in
@@ -296,29 +314,17 @@ comes : (batch : Batch) (first : State) → lacks first ≡ false → (entries :
     → Comes batch first (asking batch place earlier entries first) (waiting_for batch.listed earlier entries first) replies refused now
 comes batch first has [] place earlier replies refused now stands = no_entries batch first replies refused now
 comes batch first has (entry ∷ more) place earlier replies refused now stands =
-    ⊎_elim
-    (λ t. subst at (sym t)
-    (quiet_comes batch entry tail later replies refused first now has (missing name earlier refused first now stands t)
-    (λ s same. comes batch first has more (suc place) (name ∷ earlier) replies refused s (after_quiet name earlier refused first now s stands t same))))
-    (λ f. subst at (sym f) (subst with_job (sym (some_job batch.listed entry batch.includes place first has).1)
+    let name = entry_name batch.listed entry in
+    let tail = asking batch (suc place) (name ∷ earlier) more first in
+    let later = waiting_for batch.listed (name ∷ earlier) more first in
+    by_known batch first place earlier entry tail later (λ asks entries. Comes batch first asks entries replies refused now)
+    (λ t.
+    quiet_commits batch entry tail replies refused first now (λ s. Ends (how_if (refused || is_refused later replies)) (after_entries later (jobs_in tail) replies s))
+    (λ _. is_ready batch entry None (only_reply replies) first has) (missing name earlier refused first now stands t)
+    (λ s same. comes batch first has more (suc place) (name ∷ earlier) replies refused s (after_quiet name earlier refused first now s stands t same)))
+    (λ f. subst (λ job. Comes batch first ((entry, job) ∷ tail) (waiting_if batch entry true ∷ later) replies refused now) (sym (some_job batch.listed entry batch.includes place first has).1)
     (asked_comes batch entry _ tail later replies refused first now has (unknown name earlier refused first now stands f)
-    (λ s is. comes batch first has more (suc place) (name ∷ earlier) (drop 1 replies) _ s (after_heard name earlier refused first now s (success (only_reply replies)) stands f is)))))
-    (cases_Bool (is_known name earlier first))
-  where
-    name : List ℕ
-    name = entry_name batch.listed entry
-
-    tail : List (List ℕ × Option Job)
-    tail = asking batch (suc place) (name ∷ earlier) more first
-
-    later : List waiting.Waiting
-    later = waiting_for batch.listed (name ∷ earlier) more first
-
-    with_job : Option Job → Type 0
-    with_job job = Comes batch first ((entry, job) ∷ tail) (record { trial = trial_for (Entry batch.listed) entry true; asks = true } ∷ later) replies refused now
-
-    at : Bool → Type 0
-    at b = Comes batch first ((entry, cond b None (entry_job batch.listed entry batch.includes place first)) ∷ tail) (record { trial = trial_for (Entry batch.listed) entry true; asks = not b } ∷ later) replies refused now
+    (λ s is. comes batch first has more (suc place) (name ∷ earlier) (drop 1 replies) _ s (after_heard name earlier refused first now s (success (only_reply replies)) stands f is))))
 
 -- ---- the entries, if there is nothing to ask for
 
@@ -336,18 +342,6 @@ fronts false st = Ends Goes_on st
 abbrev Fronts : Batch → State → List (List ℕ × Option Job) → List waiting.Waiting → State → Type 0
 Fronts batch first asks entries now = committed batch first asks [] false now ≡ fronts (any_asks entries) (front_end entries now)
 
-quiet_fronts : (batch : Batch) (entry : List ℕ) (tail : List (List ℕ × Option Job)) (more : List waiting.Waiting) (first now : State)
-    → (value_of now.vars (entry_name batch.listed entry) ≡ None → ⊥)
-    → ((s : State) → s.vars ≡ now.vars → Fronts batch first tail more s)
-    → Fronts batch first ((entry, None) ∷ tail) (record { trial = trial_for (Entry batch.listed) entry true; asks = false } ∷ more) now
-quiet_fronts batch entry tail more first now known rest =
-    let o = value_of now.vars (entry_name batch.listed entry) in
-    let t = trial_for (Entry batch.listed) entry true in
-    let s = known_end o t (begun t now) in
-    commit_one (is_missing o) false _ s (committed batch first tail []) (quiet_by batch entry (only_reply []) first now o refl (λ e. absurd (known e)))
-    ∙ ap (λ b. committed batch first tail [] b s) (missing_flag o false (λ e. absurd (known e)))
-    ∙ rest s (quiet_vars batch.listed entry now o refl)
-
 stops : (batch : Batch) (entry : List ℕ) (first now : State) → lacks first ≡ true → value_of now.vars (entry_name batch.listed entry) ≡ None
     → tested (row_at batch entry None (only_reply []) first) now ≡ without_compiler as_is now
 stops batch entry first now has unset =
@@ -359,31 +353,19 @@ fronts_all : (batch : Batch) (first : State) (entries : List (List ℕ)) (place 
     → Fronts batch first (asking batch place earlier entries first) (waiting_for batch.listed earlier entries first) now
 fronts_all batch first [] place earlier now quiet stands = refl
 fronts_all batch first (entry ∷ more) place earlier now quiet stands =
-    ⊎_elim
-    (λ t. subst at (sym t)
-    (quiet_fronts batch entry tail later first now (λ e. let z : false ≡ true = missing name earlier false first now stands t e in cc)
-    (λ s same. fronts_all batch first more (suc place) (name ∷ earlier) s (no_more entry _ tail quiet).1 (after_quiet name earlier false first now s stands t same))))
+    let name = entry_name batch.listed entry in
+    let tail = asking batch (suc place) (name ∷ earlier) more first in
+    let later = waiting_for batch.listed (name ∷ earlier) more first in
+    by_known batch first place earlier entry tail later (λ asks entries. Fronts batch first asks entries now)
+    (λ t.
+    let known : value_of now.vars name ≡ None → ⊥ = (λ e. let z : false ≡ true = missing name earlier false first now stands t e in cc) in
+    quiet_commits batch entry tail [] false first now (λ s. fronts (any_asks later) (front_end later s)) (λ e. absurd (known e)) (λ e. absurd (known e))
+    (λ s same. fronts_all batch first more (suc place) (name ∷ earlier) s (no_more entry _ tail quiet).1 (after_quiet name earlier false first now s stands t same)))
     (λ f.
     let none : entry_job batch.listed entry batch.includes place first ≡ None = sym (ap (λ b. cond b None (entry_job batch.listed entry batch.includes place first)) f) ∙ (no_more entry _ tail quiet).0 in
-    subst at (sym f) (subst with_job (sym none)
-    (ap (λ r. commits r false (committed batch first tail [])) (stops batch entry first now (lacking none) (unknown name earlier false first now stands f)))))
-    (cases_Bool (is_known name earlier first))
+    subst (λ job. Fronts batch first ((entry, job) ∷ tail) (waiting_if batch entry true ∷ later) now) (sym none)
+    (ap (λ r. commits r false (committed batch first tail [])) (stops batch entry first now (lacking none) (unknown name earlier false first now stands f))))
   where
-    name : List ℕ
-    name = entry_name batch.listed entry
-
-    tail : List (List ℕ × Option Job)
-    tail = asking batch (suc place) (name ∷ earlier) more first
-
-    later : List waiting.Waiting
-    later = waiting_for batch.listed (name ∷ earlier) more first
-
-    with_job : Option Job → Type 0
-    with_job job = Fronts batch first ((entry, job) ∷ tail) (record { trial = trial_for (Entry batch.listed) entry true; asks = true } ∷ later) now
-
-    at : Bool → Type 0
-    at b = Fronts batch first ((entry, cond b None (entry_job batch.listed entry batch.includes place first)) ∷ tail) (record { trial = trial_for (Entry batch.listed) entry true; asks = not b } ∷ later) now
-
     lacking : entry_job batch.listed entry batch.includes place first ≡ None → lacks first ≡ true
     lacking none =
         ⊎_elim (λ t. t)
