@@ -1,6 +1,6 @@
 -- A text without its outermost quotes closes each quote that it opens.
-use Rattle.std.proofs.Common.{◌≡◌, ◌≢◌, ℕ, suc, ◌+◌, ◌-◌, ◌≤◌, Bool, true, false, cond, eqb, ◌⊎◌, inl, inr, List, [], ◌∷◌, ◌++◌, length, take, drop, Ok, refl, sym, ap, subst, ◌∙◌, append_assoc, arith}
-use Rattle.std.proofs.lemmas.Bool.{eqb-true}
+use Rattle.std.proofs.Common.{◌≡◌, ◌≢◌, ℕ, suc, ◌+◌, ◌-◌, ◌≤◌, Bool, true, false, cond, eqb, inl, inr, List, [], ◌∷◌, ◌++◌, length, take, drop, Ok, refl, sym, ap, subst, ◌∙◌, append_assoc, arith}
+use Rattle.std.proofs.lemmas.Bool.{eqb-true, cases_Bool}
 use Rattle.std.proofs.lemmas.List.{length-append, drop-drop, drop_min}
 use Rattle.std.proofs.Math.Seq.{drop-append-add, take-append-add, take-append_seam}
 use Rattle.m4quote.specs.declared.fault.QuoteFault.{QuoteFault}
@@ -15,10 +15,6 @@ use Rattle.fallible.proofs.Binds.{passed, ok_is}
 use Rattle.m4quote.proofs.Quotes.{closing-balanced}
 use Rattle.m4quote.proofs.QuoteFaults.{closing-breaks}
 use Rattle.m4quote.proofs.Rooms.{Balanced-more, open-more}
-
-either : (b : Bool) → (b ≡ true) ⊎ (b ≡ false)
-either true = inl refl
-either false = inr refl
 
 -- ---- lines
 
@@ -35,7 +31,7 @@ Ends (b ∷ bs) = b ≡ 10
 line_is : (text : List ℕ) → drop (line_len text) text ≡ after_line text
 line_is [] = refl
 line_is (b ∷ bs) =
-    elim (either (eqb b 10)) [
+    elim (cases_Bool (eqb b 10)) [
       | inl ends ↦ rw ends refl
       | inr on ↦ rw on (ap (λ n. drop n (b ∷ bs)) (let e : 1 + line_len bs ≡ suc (line_len bs) = omega arith in e) ∙ line_is bs)
     ]
@@ -43,7 +39,7 @@ line_is (b ∷ bs) =
 after_line-Ends : (text : List ℕ) → Ends (after_line text)
 after_line-Ends [] = tt
 after_line-Ends (b ∷ bs) =
-    elim (either (eqb b 10)) [
+    elim (cases_Bool (eqb b 10)) [
       | inl ends ↦ rw ends (eqb-true b 10 ends)
       | inr on ↦ rw on (after_line-Ends bs)
     ]
@@ -56,7 +52,7 @@ Ends-after_line (b ∷ bs) h = rw h refl
 line_front : (text out : List ℕ) → Ends out → after_line (take (line_len text) text ++ out) ≡ out
 line_front [] out h = Ends-after_line out h
 line_front (b ∷ bs) out h =
-    elim (either (eqb b 10)) [
+    elim (cases_Bool (eqb b 10)) [
       | inl ends ↦ rw ends (Ends-after_line out h)
       | inr on ↦ rw on (ap (λ n. after_line (take n (b ∷ bs) ++ out)) (let e : 1 + line_len bs ≡ suc (line_len bs) = omega arith in e) ∙ rw on (line_front bs out h))
     ]
@@ -83,7 +79,7 @@ woven (group {room} {inside} {text} within more) rest tame =
 line_in : {room : ℕ} {inside : List ℕ} → Balanced room inside → (rest : List ℕ) → Tame rest → Tame (after_line rest) → Tame (after_line (inside ++ rest))
 line_in empty rest tame later = later
 line_in (byte {room} {b} {text} opens closes more) rest tame later =
-    elim (either (eqb b 10)) [
+    elim (cases_Bool (eqb b 10)) [
       | inl here ↦ rw here (plain opens (woven more rest tame))
       | inr on ↦ rw on (line_in more rest tame later)
     ]
@@ -94,7 +90,7 @@ line_in (group {room} {inside} {text} within more) rest tame later =
 after_line-Tame : {text : List ℕ} → Tame text → Tame (after_line text)
 after_line-Tame ends = ends
 after_line-Tame (plain {b} {text} opens tame) =
-    elim (either (eqb b 10)) [
+    elim (cases_Bool (eqb b 10)) [
       | inl here ↦ rw here (plain opens tame)
       | inr on ↦ rw on (after_line-Tame tame)
     ]
@@ -135,7 +131,7 @@ word_byte b h =
 word_tail : (t : List ℕ) → Tame t → Tame (drop (word_len t) t)
 word_tail [] tame = tame
 word_tail (b ∷ bs) tame =
-    elim (either (is_word_byte b)) [
+    elim (cases_Bool (is_word_byte b)) [
       | inl in_word ↦
           let w = word_byte b in_word in
           rw in_word (subst (λ n. Tame (drop n (b ∷ bs))) (let e : suc (word_len bs) ≡ 1 + word_len bs = omega arith in e) (word_tail bs (tail tame b bs refl w.0 w.1)))
@@ -199,7 +195,7 @@ left_Ends (front (other_byte other) later) h = h
 word_Tame : (t out : List ℕ) → Tame out → Tame (take (word_len t) t ++ out)
 word_Tame [] out tame = tame
 word_Tame (b ∷ bs) out tame =
-    elim (either (is_word_byte b)) [
+    elim (cases_Bool (is_word_byte b)) [
       | inl in_word ↦
           rw in_word (subst (λ n. Tame (take n (b ∷ bs) ++ out)) (let e : suc (word_len bs) ≡ 1 + word_len bs = omega arith in e) (plain (word_byte b in_word).0 (word_Tame bs out tame)))
       | inr other ↦ rw other tame

@@ -1,7 +1,7 @@
 -- What begins a text is what the reader finds there.
 use Rattle.std.proofs.Common.{◌≡◌, ℕ, suc, ◌+◌, ◌<◌, ◌≤◌, Bool, true, false, ◌||◌, ◌&&◌, not, eqb, ◌==◌, ltb, cond, ◌⊎◌, inl, inr, List, [], ◌∷◌, length, drop, Some, None, Ok, refl, sym, ap, subst, arith}
 use Rattle.std.specs.List.{prefix_len}
-use Rattle.std.proofs.lemmas.Bool.{eqb-true, ltb-true, lt-ltb}
+use Rattle.std.proofs.lemmas.Bool.{eqb-true, ltb-true, lt-ltb, and_parts}
 use Rattle.std.proofs.lemmas.List.{length-drop}
 use Rattle.std.proofs.lemmas.List.Sums.{prefix_len-le-length}
 use Rattle.deftable.specs.ShellName.{starts_name, continues_name}
@@ -24,10 +24,8 @@ name_len-le-length (b ∷ bs) = by_start (starts_name b) where
 -- ---- what is at the front is found
 
 escapes_special : (c : Context) (b : ℕ) → escapes c b ≡ true → is_special c backslash ≡ true
-escapes_special Bare b h = refl
 escapes_special Single b h = absurd cc
-escapes_special Double b h = refl
-escapes_special Here b h = refl
+escapes_special other b h = refl
 
 kept_front : (c : Context) (rest : List ℕ) → escapes_front c rest ≡ false → backslash_front c rest ≡ front (Some (byte_in c backslash)) 1 c
 kept_front c [] h = refl
@@ -51,16 +49,13 @@ Begins at c (b ∷ bs) f = front_of at c b bs ≡ Ok f
 
 pub front-read : {c : Context} {text : List ℕ} {f : Front} → IsFront c text f → (at : ℕ) → Begins at c text f
 unfolding front_of
-front-read single_opens at = refl
-front-read double_opens at = refl
-front-read single_closes at = refl
-front-read double_closes at = refl
 front-read (escaped {c} {b} {rest} h) at = rw (escapes_special c b h, h) refl
 front-read (kept {c} {rest} special h) at = rw (special, kept_front c rest h) refl
 front-read (variable {c} {rest} special some) at = rw (special, lt-ltb 0 (name_len rest) some) refl
 front-read (in_braces {c} {inside} {rest} special some closes) at = rw (special, lt-ltb 0 (name_len inside) some, closed_by (name_len inside) inside rest closes) refl
 front-read (lone_dollar {c} {rest} special alone) at = rw (special, alone_len rest alone, alone) refl
 front-read (ordinary {c} {b} {rest} h) at = rw h refl
+front-read other at = refl
 
 -- ---- what is found is at the front
 
@@ -71,10 +66,6 @@ read-backslash c (b ∷ bs) special = by_escape (escapes c b) refl where
   by_escape true h = escaped h
   by_escape false h = kept special h
 
-pub both : (p q : Bool) → (p && q) ≡ true → (p ≡ true) × (q ≡ true)
-both true q h = (refl, h)
-both false q h = absurd cc
-
 pub brace_there : (text : List ℕ) → closes_brace text ≡ true → (rest : List ℕ) × (text ≡ close_brace ∷ rest)
 brace_there [] h = absurd cc
 brace_there (b ∷ bs) h = (bs, ap (λ (x : ℕ). x ∷ bs) (eqb-true b close_brace h))
@@ -84,8 +75,8 @@ read-braced at c [] f special e = absurd cc
 read-braced at c (b ∷ inside) f special e =
     elim (chosen (b == open_brace && ltb 0 (name_len inside) && closes_brace (drop (name_len inside) inside)) _ _ _ e) [
       | inl h ↦
-          let p = both (b == open_brace && ltb 0 (name_len inside)) (closes_brace (drop (name_len inside) inside)) h.0 in
-          let q = both (b == open_brace) (ltb 0 (name_len inside)) p.0 in
+          let p = and_parts (b == open_brace && ltb 0 (name_len inside)) (closes_brace (drop (name_len inside) inside)) h.0 in
+          let q = and_parts (b == open_brace) (ltb 0 (name_len inside)) p.0 in
           let rest = brace_there (drop (name_len inside) inside) p.1 in
           subst (λ (x : ℕ). IsFront c (dollar ∷ x ∷ inside) f) (sym (eqb-true b open_brace q.0))
           (subst (IsFront c (dollar ∷ open_brace ∷ inside)) (ok_is _ _ h.1) (in_braces special (ltb-true 0 (name_len inside) q.1) rest.1))
@@ -106,23 +97,14 @@ read-dollar at c bs f special e =
 one_of_five : (p q r s t : Bool) → (p || q || r || s || t) ≡ true → r ≡ false → s ≡ false → t ≡ false → (p ≡ true) ⊎ ((p ≡ false) × (q ≡ true))
 one_of_five true q r s t h x y z = inl refl
 one_of_five false true r s t h x y z = inr (refl, refl)
-one_of_five false false true s t h x y z = absurd cc
-one_of_five false false false true t h x y z = absurd cc
-one_of_five false false false false true h x y z = absurd cc
-one_of_five false false false false false h x y z = absurd cc
+one_of_five false false r s t h x y z = absurd cc
 
 one_of_four : (q r s t : Bool) → (q || r || s || t) ≡ true → r ≡ false → s ≡ false → t ≡ false → q ≡ true
 one_of_four true r s t h x y z = refl
-one_of_four false true s t h x y z = absurd cc
-one_of_four false false true t h x y z = absurd cc
-one_of_four false false false true h x y z = absurd cc
-one_of_four false false false false h x y z = absurd cc
+one_of_four false r s t h x y z = absurd cc
 
 none_of_three : (r s t : Bool) → (r || s || t) ≡ true → r ≡ false → s ≡ false → t ≡ false → ⊥
-none_of_three true s t h x y z = cc
-none_of_three false true t h x y z = cc
-none_of_three false false true h x y z = cc
-none_of_three false false false h x y z = cc
+none_of_three r s t h x y z = cc
 
 read-quote : (c : Context) (b : ℕ) (bs : List ℕ) → is_special c b ≡ true → eqb b backslash ≡ false → eqb b dollar ≡ false → eqb b backquote ≡ false
     → IsFront c (b ∷ bs) (front None 1 (quote_context c b))
@@ -166,13 +148,6 @@ inside_len : (n : ℕ) (inside rest : List ℕ) → drop n inside ≡ close_brac
 inside_len n inside rest e = let h = length-drop n inside in let k : length (drop n inside) ≡ suc (length rest) = ap length e in omega arith
 
 pub front-len : {c : Context} {text : List ℕ} {f : Front} → IsFront c text f → (0 < f.len) × (f.len ≤ length text)
-front-len single_opens = (omega arith, omega arith)
-front-len double_opens = (omega arith, omega arith)
-front-len single_closes = (omega arith, omega arith)
-front-len double_closes = (omega arith, omega arith)
-front-len (escaped h) = (omega arith, omega arith)
-front-len (kept special h) = (omega arith, omega arith)
 front-len (variable {c} {rest} special some) = (omega arith, omega (arith, name_len-le-length rest))
 front-len (in_braces {c} {inside} {rest} special some closes) = (omega arith, omega (arith, inside_len (name_len inside) inside rest closes))
-front-len (lone_dollar special alone) = (omega arith, omega arith)
-front-len (ordinary h) = (omega arith, omega arith)
+front-len other = (omega arith, omega arith)

@@ -1,6 +1,6 @@
 -- The parts of words and here texts are what the reader's steps find.
-use Rattle.std.proofs.Common.{◌≡◌, ℕ, suc, ◌+◌, ◌<◌, ◌≤◌, Bool, true, false, not, ◌||◌, ◌==◌, inl, inr, List, [], ◌∷◌, ◌++◌, length, map, take, drop, Option, Some, None, option_to_list, refl, sym, ap, subst, ◌∙◌, arith}
-use Rattle.std.proofs.lemmas.Bool.{eqb-true, and_parts, or_cases}
+use Rattle.std.proofs.Common.{◌≡◌, ℕ, suc, ◌+◌, ◌<◌, ◌≤◌, true, false, not, ◌||◌, ◌==◌, inl, inr, List, [], ◌∷◌, ◌++◌, length, map, take, drop, Option, Some, None, option_to_list, refl, sym, ap, subst, ◌∙◌, arith}
+use Rattle.std.proofs.lemmas.Bool.{eqb-true, not-true, and_parts, or_cases}
 use Rattle.std.proofs.lemmas.List.{drop-drop, length-drop, take-append-drop}
 use Rattle.std.proofs.Math.Seq.{take-append_seam, drop-append_seam, drop-append-add}
 use Rattle.shellword.specs.declared.part.Part.{Part}
@@ -77,10 +77,6 @@ more_variable (w.in_braces form) Single h = refl
 more_variable (w.in_braces form) Double h = refl
 more_variable (w.in_braces form) Here h = refl
 
-is_not : (t : Bool) → not t ≡ true → t ≡ false
-is_not true h = absurd cc
-is_not false h = refl
-
 -- a part in double quotes is one step
 double_leads : {text after : List ℕ} {part : Part} → IsDoublePart text part after → Leads Double text (Some part) Double after
 double_leads (w.escaped h) = record { len = 2; step = s.escaped h; ends = refl }
@@ -90,11 +86,8 @@ double_leads (w.lone_dollar h) = record { len = 1; step = s.lone_dollar refl h; 
 double_leads (w.byte h) = record { len = 1; step = s.ordinary h; ends = refl }
 
 double_goes_on : {text after : List ℕ} {part : Part} → IsDoublePart text part after → is_over Double text ≡ false
-double_goes_on (w.escaped h) = refl
-double_goes_on (w.kept_backslash h) = refl
 double_goes_on (w.variable v) = more_variable v Double refl
-double_goes_on (w.lone_dollar h) = refl
-double_goes_on (w.byte h) = refl
+double_goes_on other = refl
 
 -- one of the three bytes
 three_bytes : (P : ℕ → Type 0) → P backslash → P dollar → P backquote → (b : ℕ) → expands_here b ≡ true → P b
@@ -117,7 +110,7 @@ module _ (P : Context → List ℕ → List Part → Type 0) (on : (c d : Contex
   single_carry [] after parts none p = p
   single_carry (b ∷ bs) after parts none p =
       let both = and_parts (not (b == single_quote)) (has_no single_quote bs) none in
-      on Single Single _ _ _ _ refl (record { len = 1; step = s.ordinary (is_not (b == single_quote) both.0); ends = refl }) (single_carry bs after parts both.1 p)
+      on Single Single _ _ _ _ refl (record { len = 1; step = s.ordinary (not-true (b == single_quote) both.0); ends = refl }) (single_carry bs after parts both.1 p)
 
   pub double_carry : {text rest : List ℕ} {inner : List Part} (parts : List Part) → AreDoubleParts text inner rest → P Double rest parts → P Double text (inner ++ parts)
   double_carry parts w.no_more p = p

@@ -6,7 +6,7 @@ use Rattle.shellword.specs.declared.fault.ShellFault.TheVariants.{BadPattern}
 use Rattle.shellword.specs.declared.part.Part.{Part}
 use Rattle.shellword.specs.declared.pattern.Piece.{Piece}
 use Rattle.shellword.specs.declared.token.Token.{Token}
-use Rattle.shellword.specs.declared.token.Token.TheVariants.{Word, Join, Bar, Newline}
+use Rattle.shellword.specs.declared.token.Token.TheVariants.{Word, Bar, Newline}
 use Rattle.fallible.specs.Reading.{◌>>=◌}
 use Rattle.shellword.specs.Listing.{pieces_or, word_in, after_bar, alternatives}
 use Rattle.shellword.specs.Pieces.{piece_of, with_piece, pieces_of}
@@ -56,49 +56,31 @@ with_patterns-push front p (Err f) = refl
 no_word : (at : ℕ) (t : Token) (rest : List Token) → word_in t ≡ None → alternatives at (t ∷ rest) ≡ Err (BadPattern at)
 unfolding alternatives
 no_word at (Word parts) rest h = absurd cc
-no_word at (Join joint after) rest h = refl
-no_word at (Bar after) rest h = refl
-no_word at Newline rest h = refl
+no_word at other rest h = refl
 
 word_failed : (at : ℕ) (t : Token) (rest : List Token) (parts : List Part) (f : ShellFault) → word_in t ≡ Some parts → pieces_or at (pieces_of parts) ≡ Err f → alternatives at (t ∷ rest) ≡ Err f
 unfolding alternatives
-word_failed at (Word ps) [] parts f h e = let p : ps ≡ parts = cc in rw (p, e) refl
-word_failed at (Word ps) (Word q ∷ rest) parts f h e = let p : ps ≡ parts = cc in rw (p, e) refl
-word_failed at (Word ps) (Join joint after ∷ rest) parts f h e = let p : ps ≡ parts = cc in rw (p, e) refl
-word_failed at (Word ps) (Bar after ∷ rest) parts f h e = let p : ps ≡ parts = cc in rw (p, e) refl
 word_failed at (Word ps) (Newline ∷ rest) parts f h e = let p : ps ≡ parts = cc in rw (p, e) refl
-word_failed at (Join joint after) rest parts f h e = absurd cc
-word_failed at (Bar after) rest parts f h e = absurd cc
-word_failed at Newline rest parts f h e = absurd cc
+word_failed at (Word ps) other parts f h e = let p : ps ≡ parts = cc in rw (p, e) refl
+word_failed at other rest parts f h e = absurd cc
 
 last_word : (at : ℕ) (t : Token) (parts : List Part) (pieces : List Piece) → word_in t ≡ Some parts → pieces_or at (pieces_of parts) ≡ Ok pieces → alternatives at (t ∷ []) ≡ Ok (pieces ∷ [])
 unfolding alternatives
 last_word at (Word ps) parts pieces h e = let p : ps ≡ parts = cc in rw (p, e) refl
-last_word at (Join joint after) parts pieces h e = absurd cc
-last_word at (Bar after) parts pieces h e = absurd cc
-last_word at Newline parts pieces h e = absurd cc
+last_word at other parts pieces h e = absurd cc
 
 no_bar : (at : ℕ) (t u : Token) (rest : List Token) (parts : List Part) (pieces : List Piece) → word_in t ≡ Some parts → pieces_or at (pieces_of parts) ≡ Ok pieces → after_bar u ≡ None
     → alternatives at (t ∷ u ∷ rest) ≡ Err (BadPattern at)
 unfolding alternatives
-no_bar at (Word ps) (Word q) rest parts pieces h e k = let p : ps ≡ parts = cc in rw (p, e) refl
-no_bar at (Word ps) (Join joint after) rest parts pieces h e k = let p : ps ≡ parts = cc in rw (p, e) refl
 no_bar at (Word ps) (Bar after) rest parts pieces h e k = absurd cc
-no_bar at (Word ps) Newline rest parts pieces h e k = let p : ps ≡ parts = cc in rw (p, e) refl
-no_bar at (Join joint after) u rest parts pieces h e k = absurd cc
-no_bar at (Bar after) u rest parts pieces h e k = absurd cc
-no_bar at Newline u rest parts pieces h e k = absurd cc
+no_bar at (Word ps) other rest parts pieces h e k = let p : ps ≡ parts = cc in rw (p, e) refl
+no_bar at other u rest parts pieces h e k = absurd cc
 
 past_bar : (at : ℕ) (t u : Token) (rest : List Token) (parts : List Part) (pieces : List Piece) (after : ℕ) → word_in t ≡ Some parts → pieces_or at (pieces_of parts) ≡ Ok pieces → after_bar u ≡ Some after
     → alternatives at (t ∷ u ∷ rest) ≡ (alternatives after rest >>= λ more. Ok (pieces ∷ more))
 unfolding alternatives
-past_bar at (Word ps) (Word q) rest parts pieces after h e k = absurd cc
-past_bar at (Word ps) (Join joint b) rest parts pieces after h e k = absurd cc
 past_bar at (Word ps) (Bar b) rest parts pieces after h e k = let p : ps ≡ parts = cc in let q : b ≡ after = cc in rw (p, q, e) refl
-past_bar at (Word ps) Newline rest parts pieces after h e k = absurd cc
-past_bar at (Join joint b) u rest parts pieces after h e k = absurd cc
-past_bar at (Bar b) u rest parts pieces after h e k = absurd cc
-past_bar at Newline u rest parts pieces after h e k = absurd cc
+past_bar at t u rest parts pieces after h e k = absurd cc
 
 no_token : (at : ℕ) → alternatives at [] ≡ Err (BadPattern at)
 unfolding alternatives

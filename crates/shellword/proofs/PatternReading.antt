@@ -6,7 +6,7 @@ use Rattle.shellword.specs.declared.fault.ShellFault.TheVariants.{BadWord, BadTe
 use Rattle.shellword.specs.declared.part.Part.{Part}
 use Rattle.shellword.specs.declared.pattern.Piece.{Piece}
 use Rattle.shellword.specs.declared.token.Token.{Token}
-use Rattle.shellword.specs.declared.token.Token.TheVariants.{Word, Join, Bar, Newline}
+use Rattle.shellword.specs.declared.token.Token.TheVariants.{Word, Bar}
 use Rattle.shellword.specs.Faults.{IsWordFault, IsPatternFault}
 use Rattle.shellword.specs.Gives.{Gives}
 use Rattle.fallible.specs.Reading.{◌>>=◌}
@@ -37,10 +37,6 @@ pieces_found at parts pieces (Some x) is h = is ∙ ap (λ (y : List Piece). Som
 
 read-listed : (tokens : List Token) (at : ℕ) (patterns : List (List Piece)) → alternatives at tokens ≡ Ok patterns → AreAlternatives tokens patterns
 unfolding alternatives
-read-listed [] at patterns e = absurd cc
-read-listed (Join joint after ∷ ts) at patterns e = absurd cc
-read-listed (Bar after ∷ ts) at patterns e = absurd cc
-read-listed (Newline ∷ ts) at patterns e = absurd cc
 read-listed (Word parts ∷ []) at patterns e =
     let p = bind_ok (pieces_or at (pieces_of parts)) (λ pieces. Ok (pieces ∷ [])) patterns e in
     subst (AreAlternatives (Word parts ∷ [])) (ok_is _ _ p.2) (last (pieces_found at parts p.0 (pieces_of parts) refl p.1))
@@ -48,9 +44,8 @@ read-listed (Word parts ∷ Bar after ∷ ts) at patterns e =
     let p = bind_ok (pieces_or at (pieces_of parts)) (λ pieces. alternatives after ts >>= λ rest. Ok (pieces ∷ rest)) patterns e in
     let r = bind_ok (alternatives after ts) (λ rest. Ok (p.0 ∷ rest)) patterns p.2 in
     subst (AreAlternatives (Word parts ∷ Bar after ∷ ts)) (ok_is _ _ r.2) (more after (pieces_found at parts p.0 (pieces_of parts) refl p.1) (read-listed ts after r.0 r.1))
-read-listed (Word parts ∷ Word q ∷ ts) at patterns e = absurd (failed (bind_ok (pieces_or at (pieces_of parts)) (λ pieces. Err (BadPattern at)) patterns e).2)
-read-listed (Word parts ∷ Join joint after ∷ ts) at patterns e = absurd (failed (bind_ok (pieces_or at (pieces_of parts)) (λ pieces. Err (BadPattern at)) patterns e).2)
-read-listed (Word parts ∷ Newline ∷ ts) at patterns e = absurd (failed (bind_ok (pieces_or at (pieces_of parts)) (λ pieces. Err (BadPattern at)) patterns e).2)
+read-listed (Word parts ∷ other ∷ ts) at patterns e = absurd (failed (bind_ok (pieces_or at (pieces_of parts)) (λ pieces. Err (BadPattern at)) patterns e).2)
+read-listed other at patterns e = absurd cc
 
 pub cut_found : (r : Result (List Token) ShellFault) (tokens : List Token) → or_in_pattern r ≡ Ok tokens → r ≡ Ok tokens
 cut_found (Ok ts) tokens e = e
@@ -74,10 +69,6 @@ pieces-fault at n (Some x) f h e = absurd (passed e)
 
 listed-fault : (tokens : List Token) (at n : ℕ) (f : ShellFault) → at ≤ n → Within n tokens → alternatives at tokens ≡ Err f → Fault n f
 unfolding alternatives
-listed-fault [] at n f h w e = (at, sym (err_is {A = List (List Piece)} _ _ e), h)
-listed-fault (Join joint after ∷ ts) at n f h w e = (at, sym (err_is {A = List (List Piece)} _ _ e), h)
-listed-fault (Bar after ∷ ts) at n f h w e = (at, sym (err_is {A = List (List Piece)} _ _ e), h)
-listed-fault (Newline ∷ ts) at n f h w e = (at, sym (err_is {A = List (List Piece)} _ _ e), h)
 listed-fault (Word parts ∷ []) at n f h w e =
     elim (bind_err (pieces_or at (pieces_of parts)) (λ pieces. Ok (pieces ∷ [])) f e) [ inl x ↦ pieces-fault at n (pieces_of parts) f h x | inr x ↦ absurd (passed x.2) ]
 listed-fault (Word parts ∷ Bar after ∷ ts) at n f h w e =
@@ -85,12 +76,9 @@ listed-fault (Word parts ∷ Bar after ∷ ts) at n f h w e =
       | inl x ↦ pieces-fault at n (pieces_of parts) f h x
       | inr x ↦ (elim (bind_err (alternatives after ts) (λ rest. Ok (x.0 ∷ rest)) f x.2) [ inl y ↦ listed-fault ts after n f w.0 w.1 y | inr y ↦ absurd (passed y.2) ])
     ]
-listed-fault (Word parts ∷ Word q ∷ ts) at n f h w e =
+listed-fault (Word parts ∷ other ∷ ts) at n f h w e =
     elim (bind_err (pieces_or at (pieces_of parts)) (λ pieces. Err (BadPattern at)) f e) [ inl x ↦ pieces-fault at n (pieces_of parts) f h x | inr x ↦ (at, sym (err_is {A = List (List Piece)} _ _ x.2), h) ]
-listed-fault (Word parts ∷ Join joint after ∷ ts) at n f h w e =
-    elim (bind_err (pieces_or at (pieces_of parts)) (λ pieces. Err (BadPattern at)) f e) [ inl x ↦ pieces-fault at n (pieces_of parts) f h x | inr x ↦ (at, sym (err_is {A = List (List Piece)} _ _ x.2), h) ]
-listed-fault (Word parts ∷ Newline ∷ ts) at n f h w e =
-    elim (bind_err (pieces_or at (pieces_of parts)) (λ pieces. Err (BadPattern at)) f e) [ inl x ↦ pieces-fault at n (pieces_of parts) f h x | inr x ↦ (at, sym (err_is {A = List (List Piece)} _ _ x.2), h) ]
+listed-fault other at n f h w e = (at, sym (err_is {A = List (List Piece)} _ _ e), h)
 
 -- the error of a word is an error of a pattern, at the same offset
 pub in_pattern-fault : (n : ℕ) (f : ShellFault) → IsWordFault n f → IsPatternFault n (in_pattern f)

@@ -14,7 +14,7 @@ use Rattle.shellword.specs.Faults.{IsWordFault}
 use Rattle.shellword.specs.Gives.{Gives, Fails}
 use Rattle.shellword.specs.Element.{element_of}
 use Rattle.shellword.specs.Cut.{tokens_of}
-use Rattle.shellword.specs.Tokens.{IsToken, line_end, both, either, lone_bar, a_word, AreTokens, no_more, space, next}
+use Rattle.shellword.specs.Tokens.{IsToken, line_end, lone_bar, a_word, AreTokens, no_more, space, next}
 use Rattle.shellword.specs.Truth.{Joined}
 use Rattle.shellword.specs.Test.{IsCut, IsFaultOfTest}
 use Rattle.shellword.specs.Joining.{element_or, with_element, ended, joining}
@@ -33,10 +33,8 @@ Within n (Newline ∷ ts) = Within n ts
 
 token-within : {bars : Bool} {at : ℕ} {text : List ℕ} {t : Token} {k : ℕ} → IsToken bars at text t k → (n : ℕ) (ts : List Token) → at + length text ≤ n → Within n ts → Within n (t ∷ ts)
 token-within (line_end) n ts h w = w
-token-within (both) n ts h w = (omega arith, w)
-token-within (either) n ts h w = (omega arith, w)
-token-within (lone_bar x) n ts h w = (omega arith, w)
 token-within (a_word x word over place) n ts h w = w
+token-within other n ts h w = (omega arith, w)
 
 pub tokens-within : {bars : Bool} {at : ℕ} {text : List ℕ} {tokens : List Token} → AreTokens bars at text tokens → (n : ℕ) → at + length text ≤ n → Within n tokens
 tokens-within (no_more) n h = tt
@@ -47,11 +45,8 @@ tokens-within (next {at = at} {n = k} {text = text} {tokens = tokens} one more) 
 -- ---- no lone bar
 
 no_bar : {bars : Bool} {at : ℕ} {text : List ℕ} {t : Token} {k : ℕ} → IsToken bars at text t k → bars ≡ false → is_bar t ≡ false
-no_bar (line_end) e = refl
-no_bar (both) e = refl
-no_bar (either) e = refl
 no_bar (lone_bar x) e = absurd cc
-no_bar (a_word x word over place) e = refl
+no_bar other e = refl
 
 pub no_bars : {bars : Bool} {at : ℕ} {text : List ℕ} {tokens : List Token} → AreTokens bars at text tokens → bars ≡ false → list_any is_bar tokens ≡ false
 no_bars (no_more) e = refl

@@ -1,6 +1,7 @@
 -- The test that a text is, is what the reader gives.
-use Rattle.std.proofs.Common.{◌≡◌, ℕ, ◌<◌, Bool, true, false, ◌&&◌, inl, inr, List, [], ◌∷◌, ◌++◌, length, map, Option, Some, None, Ok, refl, sym, ap, subst, ◌∙◌, append_assoc, arith}
+use Rattle.std.proofs.Common.{◌≡◌, ℕ, ◌<◌, true, false, inl, inr, List, [], ◌∷◌, ◌++◌, length, map, Option, Some, None, Ok, refl, sym, ap, subst, ◌∙◌, append_assoc, arith}
 use Rattle.std.specs.List.{list_all}
+use Rattle.std.proofs.lemmas.Bool.{and_parts}
 use Rattle.std.proofs.lemmas.List.{append-nil, map-append}
 use Rattle.shellword.specs.declared.part.Part.{Part}
 use Rattle.shellword.specs.declared.element.Element.{Element}
@@ -65,14 +66,6 @@ test-after (first {tokens} {e} h) =
     record { before = None; words = w.0; at = 0; ended = rw w.1 refl; some = some_words w.0 e w.1; stands = λ rest. w.2 None 0 rest }
 test-after (more {left} {right} {test} {joint} {e} after l r) = joined_after left right test joint after e (test-after l) (element-words r)
 
-left_true : (p q : Bool) → (p && q) ≡ true → p ≡ true
-left_true true q h = refl
-left_true false q h = absurd cc
-
-right_true : (p q : Bool) → (p && q) ≡ true → q ≡ true
-right_true true q h = h
-right_true false q h = absurd cc
-
 lines_after : (before : Option (Joined × Joint)) (words : List (List Part)) (at : ℕ) (lines : List Token) → 0 < length words → list_all is_newline lines ≡ true → joining before words at lines ≡ ended before words at
 unfolding joining
 lines_after before words at [] some all = refl
@@ -96,7 +89,7 @@ record Pending (words : List (List Part)) (tokens : List Token) : Type 0 where
 
 all_append : (a b : List Token) → list_all is_newline a ≡ true → list_all is_newline b ≡ true → list_all is_newline (a ++ b) ≡ true
 all_append [] b h k = k
-all_append (t ∷ a) b h k = rw (left_true (is_newline t) (list_all is_newline a) h, all_append a b (right_true (is_newline t) (list_all is_newline a) h) k) refl
+all_append (t ∷ a) b h k = let p = and_parts (is_newline t) (list_all is_newline a) h in rw (p.0, all_append a b p.1 k) refl
 
 pending_word : (words : List (List Part)) (tokens : List Token) (w : List Part) → Pending words tokens → Pending (words ++ w ∷ []) (tokens ++ Word w ∷ [])
 pending_word words tokens w p = record {

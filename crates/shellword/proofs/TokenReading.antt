@@ -1,6 +1,6 @@
 -- The tokens of a text are those that the reader splits it into.
-use Rattle.std.proofs.Common.{◌≡◌, ℕ, zero, suc, ◌+◌, ◌-◌, ◌<◌, ◌≤◌, Bool, true, false, ◌||◌, ◌==◌, inl, inr, List, [], ◌∷◌, length, drop, Result, Ok, refl, sym, ap, subst, ◌∙◌, arith}
-use Rattle.std.proofs.lemmas.Bool.{eqb-true}
+use Rattle.std.proofs.Common.{◌≡◌, ℕ, zero, suc, ◌+◌, ◌-◌, ◌<◌, ◌≤◌, Bool, true, false, ◌==◌, inl, inr, List, [], ◌∷◌, length, drop, Result, Ok, refl, sym, ap, subst, ◌∙◌, arith}
+use Rattle.std.proofs.lemmas.Bool.{eqb-true, or_parts}
 use Rattle.shellword.specs.declared.fault.ShellFault.{ShellFault}
 use Rattle.shellword.specs.declared.front.Context.TheVariants.{Bare}
 use Rattle.shellword.specs.declared.token.Joint.TheVariants.{And, Or}
@@ -18,14 +18,6 @@ use Rattle.shellword.proofs.Tokens.{tokens_space, tokens_token}
 
 -- ---- bytes
 
-left_false : (p q : Bool) → (p || q) ≡ false → p ≡ false
-left_false true q h = absurd cc
-left_false false q h = refl
-
-right_false : (p q : Bool) → (p || q) ≡ false → q ≡ false
-right_false true q h = absurd cc
-right_false false q h = h
-
 pub record EndsNone (b : ℕ) : Type 0 where
   pub space : is_space b ≡ false
   pub line : (b == newline) ≡ false
@@ -34,21 +26,14 @@ pub record EndsNone (b : ℕ) : Type 0 where
 
 pub ends_none : (b : ℕ) → ends_word b ≡ false → EndsNone b
 ends_none b h =
-    let p1 = left_false _ _ h in
-    let p2 = left_false _ _ p1 in
-    let p3 = left_false _ _ p2 in
-    let p4 = left_false _ _ p3 in
-    let p5 = left_false _ _ p4 in
-    let p6 = left_false _ _ p5 in
-    let p7 = left_false _ _ p6 in
-    record { space = left_false (is_space b) (b == newline) p7; line = right_false (is_space b) (b == newline) p7; both = right_false _ (b == ampersand) p5; either = right_false _ (b == bar) p4 }
+    let p = or_parts _ (b == bar) (or_parts _ _ (or_parts _ _ (or_parts _ _ (or_parts _ _ h).0).0).0).0 in
+    let q = or_parts _ (b == ampersand) p.0 in
+    let r = or_parts (is_space b) (b == newline) (or_parts _ _ q.0).0 in
+    record { space = r.0; line = r.1; both = q.1; either = p.1 }
 
 pub token-len : {bars : Bool} {at : ℕ} {text : List ℕ} {t : Token} {k : ℕ} → IsToken bars at text t k → k ≤ length text
-token-len (line_end) = omega arith
-token-len (both) = omega arith
-token-len (either) = omega arith
-token-len (lone_bar x) = omega arith
 token-len (a_word x word over place) = omega (arith, place)
+token-len other = omega arith
 
 begins : (b : ℕ) (text : List ℕ) → begins_with b text ≡ true → (rest : List ℕ) × (text ≡ b ∷ rest)
 begins b [] h = absurd cc
@@ -63,14 +48,12 @@ Begins bars at (b ∷ bs) t n = (is_space b ≡ false) × (token_at bars at b bs
 
 token-read : {bars : Bool} {at : ℕ} {text : List ℕ} {t : Token} {n : ℕ} → IsToken bars at text t n → Begins bars at text t n
 unfolding token_at
-token-read (line_end) = (refl, refl, omega arith, omega arith)
-token-read (both) = (refl, refl, omega arith, omega arith)
-token-read (either) = (refl, refl, omega arith, omega arith)
 token-read (lone_bar {at} {rest} h) = (refl, rw h refl, omega arith, omega arith)
 token-read (a_word {lone_bars} {at} {b} {n} {text} {rest} {parts} h word over place) =
     let e = ends_none b h in
     let run = word_runs word over place in
     (e.space, rw (h, e.line, e.both, e.either, run-scan run at) refl, moved run h, omega (arith, place))
+token-read other = (refl, refl, omega arith, omega arith)
 
 -- what the reader found, from offset `at` on
 abbrev pub TokenFound : Bool → ℕ → List ℕ → Token × ℕ → Type 0

@@ -1,6 +1,6 @@
 -- Words and here texts are rejected exactly where the reader's functions fail.
 use Rattle.std.proofs.Common.{◌≡◌, ℕ, zero, suc, ◌+◌, ◌-◌, ◌≤◌, Bool, true, false, ◌&&◌, ◌==◌, ltb, ◌⊎◌, inl, inr, List, [], ◌∷◌, ◌++◌, length, take, drop, Option, option_to_list, Result, Ok, Err, refl, sym, ap, subst, ◌∙◌, arith}
-use Rattle.std.proofs.lemmas.Bool.{eqb-true, ltb-true}
+use Rattle.std.proofs.lemmas.Bool.{eqb-true, ltb-true, and_parts}
 use Rattle.std.proofs.lemmas.List.{length-drop, append-nil}
 use Rattle.shellword.specs.declared.fault.ShellFault.{ShellFault}
 use Rattle.shellword.specs.declared.fault.ShellFault.TheVariants.{BadWord}
@@ -19,7 +19,7 @@ use Rattle.shellword.specs.WordFaults.{BeginsRefused, command, expansion, WordBr
 use Rattle.shellword.proofs.Steps as s
 use Rattle.shellword.proofs.Steps.{IsFront, Breaks}
 use Rattle.fallible.proofs.Binds.{chosen, passed, err_is, bind_err}
-use Rattle.shellword.proofs.Fronts.{front-read, read-front, front-len, both, brace_there}
+use Rattle.shellword.proofs.Fronts.{front-read, read-front, front-len, brace_there}
 use Rattle.shellword.proofs.Parts.{Leads, PartOf, bare, single, double, here, Found, step_found, variable_leads, variable_is, braced_is, single_carry, double_carry, word_part_carry, here_part_carry}
 use Rattle.shellword.proofs.Parts as parts
 use Rattle.shellword.proofs.Runs.{with_parts, scan_failed, scan_front}
@@ -28,16 +28,12 @@ use Rattle.shellword.proofs.Runs.{with_parts, scan_failed, scan_front}
 
 -- if one of the two bytes has a special meaning, both have
 expands : (c : Context) (b : ℕ) → is_special c b ≡ true → (b == single_quote) ≡ false → is_special c dollar ≡ true
-expands Bare b special other = refl
-expands Single b special other = let e : true ≡ false = sym special ∙ other in absurd cc
-expands Double b special other = refl
-expands Here b special other = refl
+expands Single b special apart = let e : true ≡ false = sym special ∙ apart in absurd cc
+expands other b special apart = refl
 
 backquote_too : (c : Context) → is_special c dollar ≡ true → is_special c backquote ≡ true
-backquote_too Bare special = refl
 backquote_too Single special = absurd cc
-backquote_too Double special = refl
-backquote_too Here special = refl
+backquote_too other special = refl
 
 -- what the reader finds if the text is rejected
 abbrev Refuses : ℕ → Context → List ℕ → Type 0
@@ -46,15 +42,11 @@ Refuses at c (b ∷ bs) = (is_over c (b ∷ bs) ≡ false) × (front_of at c b b
 
 more_dollar : (c : Context) (bs : List ℕ) → is_over c (dollar ∷ bs) ≡ false
 more_dollar Bare bs = refl
-more_dollar Single bs = refl
-more_dollar Double bs = refl
-more_dollar Here bs = refl
+more_dollar other bs = refl
 
 more_backquote : (c : Context) (bs : List ℕ) → is_over c (backquote ∷ bs) ≡ false
 more_backquote Bare bs = refl
-more_backquote Single bs = refl
-more_backquote Double bs = refl
-more_backquote Here bs = refl
+more_backquote other bs = refl
 
 braced_refused : (at : ℕ) (c : Context) (bs : List ℕ) → stands_alone bs ≡ false → ((name after : List ℕ) → IsVariable (dollar ∷ bs) name after → ⊥) → braced_front at c bs ≡ Err (BadWord at)
 braced_refused at c [] alone none = absurd cc
@@ -62,8 +54,8 @@ braced_refused at c (b ∷ inside) alone none = by_brace (b == open_brace && ltb
   by_brace : (t : Bool) → (b == open_brace && ltb 0 (name_len inside) && closes_brace (drop (name_len inside) inside)) ≡ t → braced_front at c (b ∷ inside) ≡ Err (BadWord at)
   by_brace false e = rw e refl
   by_brace true e =
-      let p = both (b == open_brace && ltb 0 (name_len inside)) (closes_brace (drop (name_len inside) inside)) e in
-      let q = both (b == open_brace) (ltb 0 (name_len inside)) p.0 in
+      let p = and_parts (b == open_brace && ltb 0 (name_len inside)) (closes_brace (drop (name_len inside) inside)) e in
+      let q = and_parts (b == open_brace) (ltb 0 (name_len inside)) p.0 in
       let rest = brace_there (drop (name_len inside) inside) p.1 in
       absurd (none _ _ (subst (λ (x : ℕ). IsVariable (dollar ∷ x ∷ inside) (take (name_len inside) inside) rest.0) (sym (eqb-true b open_brace q.0)) (braced_is inside rest.0 (ltb-true 0 (name_len inside) q.1) rest.1)))
 
@@ -147,9 +139,7 @@ close_fails c at f e = elim (chosen (is_quoted c) _ _ _ e) [ inl h ↦ (sym (err
 no_text : (c : Context) (text : List ℕ) → is_over c text ≡ true → is_quoted c ≡ true → text ≡ []
 no_text c [] over quoted = refl
 no_text Bare (b ∷ bs) over quoted = absurd cc
-no_text Single (b ∷ bs) over quoted = absurd cc
-no_text Double (b ∷ bs) over quoted = absurd cc
-no_text Here (b ∷ bs) over quoted = absurd cc
+no_text other (b ∷ bs) over quoted = absurd cc
 
 after_refused : (at : ℕ) (c : Context) (text : List ℕ) → Refuses at c text → scan 0 c at text ≡ Err (BadWord at)
 after_refused at c [] h = absurd h
