@@ -1,27 +1,19 @@
 -- Templates that are read, one output after the other.
-use Rattle.std.proofs.Common.{◌≡◌, ℕ, ◌+◌, ◌<◌, Bool, true, Result, Ok, Err, OnOk, List, [], ◌∷◌, ◌++◌, Option, Some, None, ◌≤◌, length, take, get_or, refl, sym, ap, subst, ◌∙◌, append_assoc, arith}
+use Rattle.std.proofs.Common.{◌≡◌, ℕ, ◌+◌, ◌<◌, Bool, true, Result, Ok, Err, OnOk, List, [], ◌∷◌, ◌++◌, Option, Some, None, ◌≤◌, length, take, get_or, refl, sym, ap, subst, ◌∙◌, append_assoc}
 use Rattle.std.specs.Prelude.{All, bytes_eq}
 use Rattle.std.specs.List.{Contains, list_any}
-use Rattle.std.proofs.lemmas.List.{append-nil, take_all, take_more, get_or_append_left, length-append}
-use Rattle.std.proofs.lemmas.List.Elements.{All-nil, All-push, Contains-push}
+use Rattle.std.proofs.lemmas.List.{append-nil, take_all, take_more}
+use Rattle.std.proofs.lemmas.List.Elements.{All-nil, All-push, Contains-append_left, Contains-push}
 use Rattle.std.proofs.lemmas.List.Folds.{Any-from_list_any}
 use Rattle.std.proofs.lemmas.Slice.Eq.{bytes_eq-Decides}
 use Rattle.disk.specs.Known.{Known}
 use Rattle.outputlist.specs.declared.output.Output.{Output}
 use Rattle.invocation.specs.Supplies.{AreTemplates, HasTemplate, ReadsTemplate, entry_of}
 
-contains_more : (xs ys : List (List ℕ × List ℕ)) (x : List ℕ × List ℕ) → Contains xs x → Contains (xs ++ ys) x
-contains_more xs ys x c =
-    let long = length-append xs ys in
-    (c.0, omega (arith, c.1, long), get_or_append_left xs ys x c.0 c.1 ∙ c.2)
-
-contains_last : (xs : List (List ℕ × List ℕ)) (x : List ℕ × List ℕ) → Contains (xs ++ x ∷ []) x
-contains_last xs x = Contains-push xs x
-
 -- What was looked for before is there afterwards too.
 still_there : (files : Option Known) (srcdir name : List ℕ) (ts more : List (List ℕ × List ℕ)) → HasTemplate files srcdir ts name → HasTemplate files srcdir (ts ++ more) name
 still_there files srcdir name ts more (None, r, h) = (None, r, tt)
-still_there files srcdir name ts more (Some text, r, h) = (Some text, r, contains_more ts more (name, text) h)
+still_there files srcdir name ts more (Some text, r, h) = (Some text, r, Contains-append_left ts more (name, text) h)
 
 none_yet : (files : Option Known) (srcdir : List ℕ) → AreTemplates files srcdir [] []
 none_yet files srcdir = record {
@@ -58,7 +50,7 @@ read_now files srcdir before output ts (Some text) a r =
     record {
       sound = All-push (λ (t : List ℕ × List ℕ). ReadsTemplate files srcdir t.0 (Some t.1)) ts (output.template, text) a.sound r;
       complete = All-push (λ (o : Output). HasTemplate files srcdir (ts ++ more) o.template) before output
-          (λ k d lt. still_there files srcdir _ ts more (a.complete k d lt)) (Some text, r, contains_last ts (output.template, text));
+          (λ k d lt. still_there files srcdir _ ts more (a.complete k d lt)) (Some text, r, Contains-push ts (output.template, text));
     }
 
 pub read_next : (files : Option Known) (srcdir : List ℕ) (before : List Output) (output : Output) (ts new : List (List ℕ × List ℕ)) (read : Option (List ℕ)) → AreTemplates files srcdir before ts

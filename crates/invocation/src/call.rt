@@ -154,26 +154,6 @@ fn option_call<'a>(word: &[u8], words: &'a [Bytes]) -> Call<'a>
     windowed(window_of(word), words)
 }
 
-/// Returns the call with this first word, which runs no source.
-fn asking_call<'a>(word: &[u8], words: &'a [Bytes]) -> Call<'a>
-    ensures call { call_seen result ≡ meant.asking_call word.now words.now }
-    ensures window { meant.HasWindow (call_seen result) }
-{
-    if is(word, b"lint") {
-        return Call::Lint(words);
-    }
-    if is(word, b"port") {
-        return Call::Port(words);
-    }
-    if is(word, b"why") {
-        return Call::Why(words);
-    }
-    if is(word, b"help") {
-        return Call::Help(words);
-    }
-    option_call(word, words)
-}
-
 /// Returns the call with this first word.
 fn named_call<'a>(word: &[u8], words: &'a [Bytes]) -> Call<'a>
     ensures call { call_seen result ≡ meant.named_call word.now words.now }
@@ -188,7 +168,19 @@ fn named_call<'a>(word: &[u8], words: &'a [Bytes]) -> Call<'a>
     if is(word, b"status") {
         return status_call(words);
     }
-    asking_call(word, words)
+    if is(word, b"lint") {
+        return Call::Lint(words);
+    }
+    if is(word, b"port") {
+        return Call::Port(words);
+    }
+    if is(word, b"why") {
+        return Call::Why(words);
+    }
+    if is(word, b"help") {
+        return Call::Help(words);
+    }
+    option_call(word, words)
 }
 
 /// Returns what the program is asked to do with these words after its name (own).

@@ -110,24 +110,8 @@ fn print_parts<W: Write>(
     print_lines(lines, quiet, output)
 }
 
-/// Prints the pieces for standard output, and then the lines of the outputs, in one write. Quiet drops both. If there is no memory for the
-/// whole text, each part is a write of its own.
-fn print_run<W: Write>(
-    alloc: Global,
-    notes: &[Note],
-    lines: &[u8],
-    quiet: bool,
-    output: &mut W,
-) -> io::Result<()>
-    ensures { OnOk result (Appends (W.contents output.old) (W.contents output.new) (messages_of streams.Out quiet notes.now ++ (if quiet then [] else lines.now))) }
-{
-    match printed_text(alloc, notes, lines, quiet) {
-        Ok(text) => write_some(text.as_slice(), output),
-        Err(_) => print_parts(notes, lines, quiet, output),
-    }
-}
-
-/// Prints what [`print_run`] does, unless what is before it could not be written.
+/// Prints the pieces for standard output, and then the lines of the outputs, in one write, unless what is before them could not be
+/// written. Quiet drops both. If there is no memory for the whole text, each part is a write of its own.
 fn print_next<W: Write>(
     alloc: Global,
     done: io::Result<()>,
@@ -140,7 +124,10 @@ fn print_next<W: Write>(
     ensures run { OnOk result (Appends (W.contents output.old) (W.contents output.new) (messages_of streams.Out quiet notes.now ++ (if quiet then [] else lines.now))) }
 {
     match done {
-        Ok(()) => print_run(alloc, notes, lines, quiet, output),
+        Ok(()) => match printed_text(alloc, notes, lines, quiet) {
+            Ok(text) => write_some(text.as_slice(), output),
+            Err(_) => print_parts(notes, lines, quiet, output),
+        },
         Err(e) => Err(e),
     }
 }
