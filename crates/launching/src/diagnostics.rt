@@ -1,11 +1,10 @@
 //! The diagnostics of a real child: what it writes to standard error.
 
-ghost use Rattle.std.specs.Prelude.{◌≡◌, ◌≤◌, ◌++◌, false, length, take, IfOk, IsErr, OnOk};
+ghost use Rattle.std.specs.Prelude.{◌≡◌, ◌≤◌, ◌++◌, length, take, IfOk, OnOk};
 ghost use Rattle.launching.specs.Ending.{IsKept};
 ghost use Rattle.launching.specs.Piped.{IsReadThrough, IsUnread};
 
 use crate::pipe::Pipe;
-use causes::Cause;
 use std::alloc::{AllocError, Global};
 use std::io::{self, Read};
 
@@ -15,24 +14,8 @@ const MOST_KEPT: usize = 65_536;
 
 const READ_SIZE: usize = 4096;
 
-/// Reads the diagnostics from a pipe. Returns the text to keep.
-pub(crate) fn kept_of<R: Read + Drop>(alloc: Global, pipe: &mut Pipe<R>) -> Result<Vec<u8>, Cause>
-    requires { IsUnread pipe.old }
-    ensures kept { IfOk result (λ text. IsKept pipe.old.left text.items) }
-    ensures through { IfOk result (λ _. IsReadThrough pipe.new) }
-    ensures piped { pipe.old.is_open ≡ false → IsErr result }
-{
-    if !pipe.is_open() {
-        return Err(Cause::unknown());
-    }
-    match diagnostics(alloc, pipe) {
-        Ok(text) => Ok(text),
-        Err(error) => Err(Cause::of_error(alloc, b"read", &error)),
-    }
-}
-
 /// Reads what a child wrote, and returns at most the first 65,536 bytes. Fails if a read fails or memory runs out.
-fn diagnostics<R: Read + Drop>(alloc: Global, pipe: &mut Pipe<R>) -> io::Result<Vec<u8>>
+pub(crate) fn diagnostics<R: Read + Drop>(alloc: Global, pipe: &mut Pipe<R>) -> io::Result<Vec<u8>>
     requires { IsUnread pipe.old }
     ensures kept { IfOk result (λ text. IsKept pipe.old.left text.items) }
     ensures through { IfOk result (λ _. IsReadThrough pipe.new) }

@@ -4,7 +4,7 @@ ghost use Rattle.std.specs.Prelude.{◌≡◌, Some, true, false, IfOk, IsErr};
 ghost use Rattle.launching.specs.Ending.{IsKept};
 ghost use Rattle.launching.specs.Piped.{IsReadThrough, IsUnread};
 
-use crate::diagnostics::kept_of;
+use crate::diagnostics::diagnostics;
 use crate::pipe::Pipe;
 use causes::Cause;
 use std::alloc::Global;
@@ -56,9 +56,15 @@ impl<P: OpenProcess + Drop> Started<P> {
         ensures through { IfOk result (λ _. IsReadThrough self.new.pipe) }
         ensures piped { self.old.pipe.is_open ≡ false → IsErr result }
     {
-        let text = kept_of(alloc, &mut self.pipe);
+        if !self.pipe.is_open() {
+            return Err(Cause::unknown());
+        }
+        let text = diagnostics(alloc, &mut self.pipe);
         self.pipe.close();
-        text
+        match text {
+            Ok(text) => Ok(text),
+            Err(error) => Err(Cause::of_error(alloc, b"read", &error)),
+        }
     }
 
     /// Waits for the child.
