@@ -70,23 +70,7 @@ fn add_record(alloc: Global, artifacts: &mut Artifacts, recorded: &Record) -> Re
     artifacts.push(artifact)
 }
 
-/// Appends the files and headers, if they are wanted.
-fn add_wanted(
-    alloc: Global,
-    artifacts: &mut Artifacts,
-    recorded: &Record,
-    no_create: bool,
-    templates: &[(Bytes, Bytes)],
-) -> Result<(), AllocError>
-    ensures { OnOk result (artifacts.new ≡ artifacts.old ++ hands.wanted_outputs no_create templates.now recorded.now) }
-{
-    if no_create {
-        return Ok(());
-    }
-    add_outputs(alloc, artifacts, recorded, templates, &[])
-}
-
-/// Appends what a completed run hands over after its cache.
+/// Appends what a completed run hands over after its cache: the record, and the files and headers if they are wanted.
 fn add_completed(
     alloc: Global,
     artifacts: &mut Artifacts,
@@ -99,7 +83,10 @@ fn add_completed(
     ensures reads_back { OnOk result (hands.ReadsBack recorded.now) }
 {
     add_record(alloc, artifacts, recorded)?;
-    add_wanted(alloc, artifacts, recorded, no_create, templates)
+    if no_create {
+        return Ok(());
+    }
+    add_outputs(alloc, artifacts, recorded, templates, &[])
 }
 
 /// Returns the record of a run.
