@@ -11,6 +11,7 @@ ghost use Rattle.m4quote.specs.Used.{IsUsed, UseBreaks, Unquotes, IsBareValue, U
 ghost use Rattle.m4quote.specs.Scan.{outcome, used, bare_value_of};
 
 /// States that a text spells at most one list of items, has at most one first fault, and never both.
+#[tactic(auto, using(crate::proofs::Laws::one_list, crate::proofs::Laws::one_fault, crate::proofs::Laws::never_both))]
 pub fn one_reading()
     ensures one_list { (at : ℕ) (text : List ℕ) (a b : List Entry) → IsSpelling at text a → IsSpelling at text b → a ≡ b }
     ensures one_fault { (at : ℕ) (text : List ℕ) (f g : QuoteFault) → IsFirstFault at text f → IsFirstFault at text g → f ≡ g }
@@ -23,6 +24,7 @@ pub fn some_reading()
 {}
 
 /// States that the function `outcome` agrees with the relations for the items and the first fault of a text.
+#[tactic(auto, using(crate::proofs::Laws::spelling_parts, crate::proofs::Laws::fault_is_not_memory))]
 pub fn reading_laws()
     ensures items { (at : ℕ) (text : List ℕ) (items : List Entry) → (outcome at text ≡ Ok items) ↔ IsSpelling at text items }
     ensures fault { (at : ℕ) (text : List ℕ) (f : QuoteFault) → (outcome at text ≡ Err f) ↔ IsFirstFault at text f }
@@ -31,6 +33,7 @@ pub fn reading_laws()
 {}
 
 /// States that the function `used` agrees with the relations for the used text of an argument.
+#[tactic(auto, using(crate::proofs::Laws::use_fault_kind, crate::proofs::Laws::second_closes, crate::proofs::Laws::use_fault_is_not_memory))]
 pub fn used_laws()
     ensures text { (arg out : List ℕ) → (used arg ≡ Ok out) ↔ IsUsed arg out }
     ensures fault { (arg : List ℕ) (f : QuoteFault) → (used arg ≡ Err f) ↔ UseBreaks arg f }
@@ -41,6 +44,7 @@ pub fn used_laws()
 {}
 
 /// States that the function `bare_value_of` agrees with the relations for the value of bare text.
+#[tactic(auto, using(crate::proofs::Laws::bare_fault_kind, crate::proofs::Laws::bare_fault_is_not_memory))]
 pub fn bare_value_laws()
     ensures value { (text out : List ℕ) → (bare_value_of text ≡ Ok out) ↔ IsBareValue text out }
     ensures fault { (text : List ℕ) (f : QuoteFault) → (bare_value_of text ≡ Err f) ↔ UnquoteBreaks 0 text f }
