@@ -1,2 +1,3 @@
 pub mod Binds
 pub mod Clauses
+pub mod Pieces
