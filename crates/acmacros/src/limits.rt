@@ -13,6 +13,7 @@ ghost use Rattle.syntax.specs.Lists.{start, after, after_question};
 
 /// Every statement that is read leaves the lists of the source within their limits. The list of precious variables
 /// needs no check of its own, since each precious variable is an output variable.
+#[tactic(auto, using(crate::proofs::LimitLemmas::start_fits, crate::proofs::LimitLemmas::precious_count))]
 pub fn lists_are_within_limits()
     ensures start { IsWithinLimits start }
     ensures statement { (c : Declarations) (m : PlainMacro) (at : ℕ) (args : List Span) (s : Plain) → plain_of c m at args ≡ Ok s → IsWithinLimits c → IsWithinLimits (after c s) }

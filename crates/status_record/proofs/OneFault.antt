@@ -248,6 +248,8 @@ fault_in-complete text f h =
       | Err g ↦ λ e. ap failed (one_fault text g f (fault_in-sound text g e) h)
     ] refl
 
+pub ruleset faults_found = (fault_in-sound, fault_in-complete)
+
 -- ---- what the calls answer
 
 fault_sound : (text : List ℕ) (f : RecordFault) → Fails f (record_in text) → f ≢ OutOfMemory → IsRecordFault text f

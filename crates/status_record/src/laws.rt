@@ -31,6 +31,7 @@ pub fn fronts()
 {}
 
 /// A text has at most one first fault, the text of a record has none, and exactly these faults are found.
+#[tactic(auto, using(crate::proofs::OneFault::one_fault, crate::proofs::OneFault::faults_found))]
 pub fn faults()
     ensures has_one_fault { (text : List ℕ) (f g : FaultValue) → IsRecordFault text f → IsRecordFault text g → f ≡ g }
     ensures has_none { (text : List ℕ) (r : RecordValue) (f : FaultValue) → IsRecordText text r → ¬ (IsRecordFault text f) }
