@@ -1,8 +1,8 @@
 -- The names that a statement adds to a source's lists leave them within their limits.
-use Rattle.std.proofs.Common.{◌≡◌, ℕ, ◌+◌, ◌≤◌, ◌<◌, Bool, true, false, ◌||◌, List, [], ◌∷◌, ◌++◌, length, Ok, refl, sym, ap, subst, cond, ◌∙◌, arith}
+use Rattle.std.proofs.Common.{◌≡◌, ℕ, ◌+◌, ◌≤◌, ◌<◌, Bool, true, false, ◌||◌, List, [], ◌∷◌, ◌++◌, length, Option, Result, Ok, refl, sym, ap, subst, cond, ◌∙◌, arith}
 use Rattle.std.specs.Prelude.{codes, bytes_eq, nat_lt, not}
 use Rattle.std.specs.List.{list_any, IsDistinct}
-use Rattle.std.proofs.lemmas.Bool.{ltb-true, leb-true}
+use Rattle.std.proofs.lemmas.Bool.{ltb-true, leb-true, or_right}
 use Rattle.std.proofs.lemmas.List.{length-append}
 use Rattle.std.proofs.lemmas.Map.Made.{length-le_from_is_member}
 use Rattle.std.specs.Cmp.Lexicographic.{nat_list_eq_equiv}
@@ -10,6 +10,7 @@ use Rattle.deftable.specs.NameList.{with_name, has_name, AreDistinct}
 use Rattle.deftable.proofs.Names.{has_name-with_name, with_name-known, with_name-new, AreDistinct-with_name}
 use Rattle.textcut.specs.Cuts.{fields}
 use Rattle.m4quote.specs.Entry.{Span}
+use Rattle.acstatement.specs.declared.fault.ParseFault.{ParseFault}
 use Rattle.acstatement.specs.declared.fault.ParseFault.TheVariants.{BadName}
 use Rattle.outputlist.specs.declared.output.Output.{Output}
 use Rattle.syntax.specs.declared.feature.OptionKind.{OptionKind}
@@ -30,6 +31,7 @@ use Rattle.acargs.specs.Shell.{word, here_text}
 use Rattle.syntax.specs.Texts.{is_empty}
 use Rattle.acargs.specs.Outputs.{outputs, with_fields, one_more, wanted}
 use Rattle.acstatement.proofs.Binds.{bind_ok, ok_is, wants_ok}
+use Rattle.shellword.specs.declared.part.Part.{Part}
 use Rattle.acmacros.specs.declared.macros.PlainMacro.{PlainMacro}
 use Rattle.acmacros.specs.declared.macros.PlainMacro.TheVariants as macro
 use Rattle.acmacros.specs.declared.macros.QuestionMacro.{QuestionMacro}
@@ -39,14 +41,14 @@ use Rattle.syntax.specs.declared.program.Try.{Try}
 use Rattle.syntax.specs.declared.declarations.Declarations as declarations
 use Rattle.syntax.specs.declared.statement.MessageKind.{MessageKind}
 use Rattle.syntax.specs.declared.statement.Plain.{Plain}
-use Rattle.syntax.specs.declared.statement.Plain.TheVariants.{Subst, SubstValue, Define, DefineUnquoted}
+use Rattle.syntax.specs.declared.statement.Plain.TheVariants.{Subst, SubstValue, Define, DefineUnquoted, CheckProgs, PathProg}
 use Rattle.syntax.specs.declared.statement.Question.{Question}
 use Rattle.syntax.specs.declared.statement.Question.TheVariants.{Given}
 use Rattle.syntax.specs.Limits.{IsWithinLimits}
 use Rattle.acmacros.specs.Room.{has_room}
 use Rattle.acmacros.specs.Rows.{plain_of, init, tarname, prereq, lang, config_files, config_headers, subst as subst_row, subst_of, defined, define, unquoted_of, unquoted, define_unquoted, msg_error, message_of, arg_var, question_of, given, options_of}
 use Rattle.syntax.specs.Lists.{start, after, after_question, with_tool}
-use Rattle.acmacros.specs.Searches.{growth, output_variable, optional_text, compilers, check_prog, check_progs, path_prog, prog_cc}
+use Rattle.acmacros.specs.Searches.{growth, output_variable, optional_text, searched, compilers, check_prog, check_progs, path_prog, prog_cc}
 use Rattle.acmacros.specs.Tries.{tried_program, tries}
 use Rattle.acmacros.specs.Checks.{checks, checks_each}
 use Rattle.acmacros.specs.Libraries.{check_lib, search_libs}
@@ -70,10 +72,6 @@ AreDistinct-[] = tt
 -- Every name of one list is in the other.
 abbrev IsPart : List (List ℕ) → List (List ℕ) → Type 0
 IsPart p s = (n : List ℕ) → has_name p n ≡ true → has_name s n ≡ true
-
-or_right : (a b : Bool) → b ≡ true → (a || b) ≡ true
-or_right true b e = refl
-or_right false b e = e
 
 part_wider : (p s : List (List ℕ)) (n : List ℕ) → IsPart p s → IsPart p (with_name s n)
 part_wider p s n h = λ q e. has_name-with_name s n q ∙ or_right (bytes_eq q n) (has_name s q) (h q e)
@@ -236,6 +234,14 @@ headers_keep c args s e h =
     subst (Keeps c) (ok_is _ s a.2)
     (record { substituted = h.substituted; distinct = h.distinct; precious = h.precious; features = h.features; packages = h.packages; files = h.files; headers = rw (length-append c.headers a.0) fit; outputs = are })
 
+-- The output variable that a call names.
+variable_room : (c : declarations.Declarations) (arg : Span) (v : List ℕ) → output_variable c arg ≡ Ok v → has_room c.substituted v ≡ true
+unfolding output_variable
+variable_room c arg v e =
+    let n = bind_ok (name arg) _ _ e in
+    let w = bind_ok _ _ _ n.2 in
+    subst (λ (v : List ℕ). has_room c.substituted v ≡ true) (ok_is _ v w.2) (wants_ok _ _ _ w.1)
+
 subst_of_keeps : (c : declarations.Declarations) (n : List ℕ) (arg : Span) (s : Plain) → has_room c.substituted n ≡ true → subst_of n arg ≡ Ok s → IsWithinLimits c → Keeps c s
 unfolding subst_of after
 subst_of_keeps c n arg s room e h =
@@ -247,9 +253,8 @@ subst_of_keeps c n arg s room e h =
 subst_keeps : (c : declarations.Declarations) (args : List Span) (s : Plain) → subst_row c args ≡ Ok s → IsWithinLimits c → Keeps c s
 unfolding subst_row
 subst_keeps c args s e h =
-    let n = bind_ok (name (arg_at args 0)) _ _ e in
-    let w = bind_ok _ _ _ n.2 in
-    subst_of_keeps c n.0 (arg_at args 1) s (wants_ok _ _ _ w.1) w.2 h
+    let n = bind_ok (output_variable c (arg_at args 0)) _ _ e in
+    subst_of_keeps c n.0 (arg_at args 1) s (variable_room c (arg_at args 0) n.0 n.1) n.2 h
 
 define_keeps : (c : declarations.Declarations) (args : List Span) (s : Plain) → define args ≡ Ok s → IsWithinLimits c → Keeps c s
 unfolding define after
@@ -292,12 +297,11 @@ message_keeps c kind args s e h = let n = bind_ok (here_text (arg_at args 0)) _ 
 arg_var_keeps : (c : declarations.Declarations) (args : List Span) (s : Plain) → arg_var c args ≡ Ok s → IsWithinLimits c → Keeps c s
 unfolding arg_var after
 arg_var_keeps c args s e h =
-    let n = bind_ok (name (arg_at args 0)) _ _ e in
-    let w = bind_ok _ _ _ n.2 in
-    let v = bind_ok (text (arg_at args 1)) _ _ w.2 in
+    let n = bind_ok (output_variable c (arg_at args 0)) _ _ e in
+    let v = bind_ok (text (arg_at args 1)) _ _ n.2 in
     subst (Keeps c) (ok_is _ s v.2)
     (record {
-      substituted = room_for c.substituted n.0 (wants_ok _ _ _ w.1) h.substituted;
+      substituted = room_for c.substituted n.0 (variable_room c (arg_at args 0) n.0 n.1) h.substituted;
       distinct = AreDistinct-with_name c.precious n.0 h.distinct;
       precious = part_both c.precious c.substituted n.0 h.precious;
       features = h.features;
@@ -306,14 +310,6 @@ arg_var_keeps c args s e h =
       headers = h.headers;
       outputs = h.outputs;
     })
-
--- The output variable that a search names.
-variable_room : (c : declarations.Declarations) (arg : Span) (v : List ℕ) → output_variable c arg ≡ Ok v → has_room c.substituted v ≡ true
-unfolding output_variable
-variable_room c arg v e =
-    let n = bind_ok (name arg) _ _ e in
-    let w = bind_ok _ _ _ n.2 in
-    subst (λ (v : List ℕ). has_room c.substituted v ≡ true) (ok_is _ v w.2) (wants_ok _ _ _ w.1)
 
 check_prog_keeps : (c : declarations.Declarations) (args : List Span) (s : Plain) → check_prog c args ≡ Ok s → IsWithinLimits c → Keeps c s
 unfolding check_prog after
@@ -324,21 +320,25 @@ check_prog_keeps c args s e h =
     let o = bind_ok (optional_text (arg_at args 3)) _ _ f.2 in
     subst (Keeps c) (ok_is _ s o.2) (variable_fits c v.0 (variable_room c (arg_at args 0) v.0 v.1) h)
 
+searched_keeps : {A : Type 0} (reader : Span → Result A ParseFault) (statement : List ℕ → A → Option (List Part) → Plain)
+    (c : declarations.Declarations) (args : List Span) (s : Plain)
+    → ((v : List ℕ) (sought : A) (other : Option (List Part)) → has_room c.substituted v ≡ true → Keeps c (statement v sought other))
+    → searched reader statement c args ≡ Ok s → Keeps c s
+searched_keeps reader statement c args s keeps e =
+    let v = bind_ok (output_variable c (arg_at args 0)) _ _ e in
+    let p = bind_ok (reader (arg_at args 1)) _ _ v.2 in
+    let o = bind_ok (optional_text (arg_at args 2)) _ _ p.2 in
+    subst (Keeps c) (ok_is _ s o.2) (keeps v.0 p.0 o.0 (variable_room c (arg_at args 0) v.0 v.1))
+
 check_progs_keeps : (c : declarations.Declarations) (args : List Span) (s : Plain) → check_progs c args ≡ Ok s → IsWithinLimits c → Keeps c s
 unfolding check_progs after
 check_progs_keeps c args s e h =
-    let v = bind_ok (output_variable c (arg_at args 0)) _ _ e in
-    let p = bind_ok (programs (arg_at args 1)) _ _ v.2 in
-    let o = bind_ok (optional_text (arg_at args 2)) _ _ p.2 in
-    subst (Keeps c) (ok_is _ s o.2) (variable_fits c v.0 (variable_room c (arg_at args 0) v.0 v.1) h)
+    searched_keeps programs (λ v list other. CheckProgs v list other) c args s (λ v sought other room. variable_fits c v room h) e
 
 path_prog_keeps : (c : declarations.Declarations) (args : List Span) (s : Plain) → path_prog c args ≡ Ok s → IsWithinLimits c → Keeps c s
 unfolding path_prog after
 path_prog_keeps c args s e h =
-    let v = bind_ok (output_variable c (arg_at args 0)) _ _ e in
-    let p = bind_ok (program (arg_at args 1)) _ _ v.2 in
-    let o = bind_ok (optional_text (arg_at args 2)) _ _ p.2 in
-    subst (Keeps c) (ok_is _ s o.2) (variable_fits c v.0 (variable_room c (arg_at args 0) v.0 v.1) h)
+    searched_keeps program (λ v p other. PathProg v p other) c args s (λ v sought other room. variable_fits c v room h) e
 
 prog_cc_keeps : (c : declarations.Declarations) (at : ℕ) (args : List Span) (s : Plain) → prog_cc c at args ≡ Ok s → IsWithinLimits c → Keeps c s
 unfolding prog_cc after

@@ -30,7 +30,7 @@ use Rattle.acmacros.specs.Checks.{checks, checks_each}
 use Rattle.acmacros.specs.Libraries.{check_lib, search_libs}
 use Rattle.acmacros.specs.PackageName.{tar_name}
 use Rattle.acmacros.specs.Room.{has_room}
-use Rattle.acmacros.specs.Searches.{check_prog, check_progs, path_prog, prog_cc}
+use Rattle.acmacros.specs.Searches.{output_variable, check_prog, check_progs, path_prog, prog_cc}
 use Rattle.acmacros.specs.Tries.{tries}
 
 -- The archive's name, or the one that is derived from the package's name. (Autoconf's manual, "Initializing configure")
@@ -80,10 +80,7 @@ subst_of n arg = if is_given arg then (word arg >>= λ w. Ok (SubstValue n w)) e
 -- AC_SUBST(variable, [value]), given the earlier variables of the source. (Autoconf's manual, "Setting Output
 -- Variables")
 unfoldable pub subst : declarations.Declarations → List Span → Result Plain ParseFault
-subst c args = do
-  n ← name (arg_at args 0)
-  _ ← wants (has_room c.substituted n) (TooMany (arg_at args 0).at)
-  subst_of n (arg_at args 1)
+subst c args = output_variable c (arg_at args 0) >>= λ n. subst_of n (arg_at args 1)
 
 -- The value that AC_DEFINE defines: `1` if the argument is absent, an empty comment if it is empty. (Autoconf's manual,
 -- "Defining Symbols")
@@ -135,8 +132,7 @@ message_of kind args = do
 -- Variables")
 unfoldable pub arg_var : declarations.Declarations → List Span → Result Plain ParseFault
 arg_var c args = do
-  n ← name (arg_at args 0)
-  _ ← wants (has_room c.substituted n) (TooMany (arg_at args 0).at)
+  n ← output_variable c (arg_at args 0)
   help ← text (arg_at args 1)
   Ok (ArgVar n help)
 

@@ -35,21 +35,22 @@ check_prog c args = do
   other ← optional_text (arg_at args 3)
   Ok (CheckProg v p found other)
 
+-- The statement of three arguments: a variable, what is looked for, and optionally the value if it is not found. (own)
+abbrev pub searched : {A : Type 0} → (Span → Result A ParseFault) → (List ℕ → A → Option (List Part) → Plain)
+    → declarations.Declarations → List Span → Result Plain ParseFault
+searched reader statement c args = do
+  v ← output_variable c (arg_at args 0)
+  sought ← reader (arg_at args 1)
+  other ← optional_text (arg_at args 2)
+  Ok (statement v sought other)
+
 -- AC_CHECK_PROGS(variable, programs, [value if none is found]). (Autoconf's manual, "Generic Programs")
 unfoldable pub check_progs : declarations.Declarations → List Span → Result Plain ParseFault
-check_progs c args = do
-  v ← output_variable c (arg_at args 0)
-  list ← programs (arg_at args 1)
-  other ← optional_text (arg_at args 2)
-  Ok (CheckProgs v list other)
+check_progs = searched programs (λ v list other. CheckProgs v list other)
 
 -- AC_PATH_PROG(variable, program, [value if not found]). (Autoconf's manual, "Generic Programs")
 unfoldable pub path_prog : declarations.Declarations → List Span → Result Plain ParseFault
-path_prog c args = do
-  v ← output_variable c (arg_at args 0)
-  p ← program (arg_at args 1)
-  other ← optional_text (arg_at args 2)
-  Ok (PathProg v p other)
+path_prog = searched program (λ v p other. PathProg v p other)
 
 -- ---- compilers
 

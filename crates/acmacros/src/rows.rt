@@ -9,7 +9,7 @@ ghost use Rattle.acmacros.specs.Rows as rows;
 use crate::checks::{checks, checks_each};
 use crate::libraries::{check_lib, search_libs};
 use crate::macros::{PlainMacro, QuestionMacro};
-use crate::searches::{check_prog, check_progs, has_room, path_prog, prog_cc};
+use crate::searches::{check_prog, check_progs, has_room, output_variable, path_prog, prog_cc};
 use crate::tries::tries;
 use acargs::ParseFault;
 use acargs::arguments::{is_given, line, name, text, title};
@@ -146,11 +146,7 @@ fn subst_of(alloc: Global, name: Name, arg: Arg<'_>) -> Result<Plain, ParseFault
 fn subst(alloc: Global, known: &Declarations, args: &[Arg<'_>]) -> Result<Plain, ParseFault>
     ensures { Gives (λ s. s) result (rows.subst known.now (map span args.now)) }
 {
-    let arg = arg_at(args, 0);
-    let name = name(alloc, arg)?;
-    if !has_room(&known.substituted, &name) {
-        return Err(ParseFault::TooMany(arg.at));
-    }
+    let name = output_variable(alloc, known, arg_at(args, 0))?;
     subst_of(alloc, name, arg_at(args, 1))
 }
 
@@ -238,11 +234,7 @@ fn message_of(alloc: Global, kind: MessageKind, args: &[Arg<'_>]) -> Result<Plai
 fn arg_var(alloc: Global, known: &Declarations, args: &[Arg<'_>]) -> Result<Plain, ParseFault>
     ensures { Gives (λ s. s) result (rows.arg_var known.now (map span args.now)) }
 {
-    let arg = arg_at(args, 0);
-    let name = name(alloc, arg)?;
-    if !has_room(&known.substituted, &name) {
-        return Err(ParseFault::TooMany(arg.at));
-    }
+    let name = output_variable(alloc, known, arg_at(args, 0))?;
     let help = text(alloc, arg_at(args, 1))?;
     Ok(Plain::ArgVar { name, help })
 }

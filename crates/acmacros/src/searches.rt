@@ -29,7 +29,11 @@ pub(crate) fn has_room(names: &SubstList, name: &Name) -> bool
 
 /// Reads the name of an output variable.
 #[tactic(auto, unfolding(crate::specs::Searches::output_variable))]
-fn output_variable(alloc: Global, known: &Declarations, arg: Arg<'_>) -> Result<Name, ParseFault>
+pub(crate) fn output_variable(
+    alloc: Global,
+    known: &Declarations,
+    arg: Arg<'_>,
+) -> Result<Name, ParseFault>
     ensures { Gives (λ n. n) result (rows.output_variable known.now (span arg.entry)) }
 {
     let name = name(alloc, arg)?;

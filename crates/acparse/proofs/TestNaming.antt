@@ -1,10 +1,11 @@
 -- The variable of each program that is looked for is a shell name.
 use Rattle.std.proofs.Common.{◌≡◌, ℕ, zero, suc, Bool, true, false, cond, List, [], ◌∷◌, length, Result, Ok, Err, refl, subst}
-use Rattle.std.specs.Prelude.{IfOk, nat_lt, codes}
+use Rattle.std.specs.Prelude.{Option, IfOk, nat_lt, codes}
 use Rattle.baretext.specs.declared.assignments.Assignment.{Assignment}
 use Rattle.m4quote.specs.Entry.{Span}
 use Rattle.m4quote.specs.Entry as items
 use Rattle.deftable.specs.ShellName.{is_shell_name_of, IsShellName}
+use Rattle.shellword.specs.declared.part.Part.{Part}
 use Rattle.acstatement.specs.declared.fault.ParseFault.{ParseFault}
 use Rattle.acstatement.specs.declared.fault.ParseFault.TheVariants.{TooMany}
 use Rattle.acstatement.specs.declared.placement.LineStart.{LineStart}
@@ -23,13 +24,13 @@ use Rattle.acmacros.specs.declared.macros.PlainMacro.TheVariants as macro
 use Rattle.acmacros.specs.Room.{has_room}
 use Rattle.acmacros.specs.Rows.{plain_of, init, tarname, prereq, lang, config_files, config_headers, subst as subst_row, subst_of, defined, define, unquoted_of, unquoted, define_unquoted, msg_error, message_of, arg_var}
 use Rattle.acmacros.specs.ListKind.{ListKind, Top, of_case}
-use Rattle.acmacros.specs.Searches.{has_tool_room, output_variable, optional_text, compilers, check_prog, check_progs, path_prog, prog_cc}
+use Rattle.acmacros.specs.Searches.{has_tool_room, output_variable, optional_text, searched, compilers, check_prog, check_progs, path_prog, prog_cc}
 use Rattle.syntax.specs.declared.declarations.Declarations as declarations
 use Rattle.syntax.specs.declared.declarations.Stage.{Stage}
 use Rattle.syntax.specs.declared.listed.Sought.TheVariants.{Entry, «Type»}
 use Rattle.syntax.specs.declared.statement.MessageKind.{MessageKind}
 use Rattle.syntax.specs.declared.statement.Plain.{Plain}
-use Rattle.syntax.specs.declared.statement.Plain.TheVariants.{Subst, SubstValue, Define, DefineUnquoted}
+use Rattle.syntax.specs.declared.statement.Plain.TheVariants.{Subst, SubstValue, Define, DefineUnquoted, CheckProgs, PathProg}
 use Rattle.syntax.specs.declared.statement.Question as question_of_tree
 use Rattle.syntax.specs.declared.statement.Question.TheVariants as asks
 use Rattle.syntax.specs.declared.tree.Stmt.{Stmt}
@@ -104,21 +105,25 @@ check_prog_named c args s e =
     let o = bind_ok (optional_text (arg_at args 3)) _ _ f.2 in
     subst NamesVariable (ok_is _ s o.2) (variable_form c (arg_at args 0) v.0 v.1)
 
+searched_named : {A : Type 0} (reader : Span → Result A ParseFault) (statement : List ℕ → A → Option (List Part) → Plain)
+    (c : declarations.Declarations) (args : List Span) (s : Plain)
+    → ((v : List ℕ) (sought : A) (other : Option (List Part)) → IsShellName v → NamesVariable (statement v sought other))
+    → searched reader statement c args ≡ Ok s → NamesVariable s
+searched_named reader statement c args s names e =
+    let v = bind_ok (output_variable c (arg_at args 0)) _ _ e in
+    let p = bind_ok (reader (arg_at args 1)) _ _ v.2 in
+    let o = bind_ok (optional_text (arg_at args 2)) _ _ p.2 in
+    subst NamesVariable (ok_is _ s o.2) (names v.0 p.0 o.0 (variable_form c (arg_at args 0) v.0 v.1))
+
 check_progs_named : (c : declarations.Declarations) (args : List Span) (s : Plain) → check_progs c args ≡ Ok s → NamesVariable s
 unfolding check_progs
 check_progs_named c args s e =
-    let v = bind_ok (output_variable c (arg_at args 0)) _ _ e in
-    let p = bind_ok (programs (arg_at args 1)) _ _ v.2 in
-    let o = bind_ok (optional_text (arg_at args 2)) _ _ p.2 in
-    subst NamesVariable (ok_is _ s o.2) (variable_form c (arg_at args 0) v.0 v.1)
+    searched_named programs (λ v list other. CheckProgs v list other) c args s (λ v sought other form. form) e
 
 path_prog_named : (c : declarations.Declarations) (args : List Span) (s : Plain) → path_prog c args ≡ Ok s → NamesVariable s
 unfolding path_prog
 path_prog_named c args s e =
-    let v = bind_ok (output_variable c (arg_at args 0)) _ _ e in
-    let p = bind_ok (program (arg_at args 1)) _ _ v.2 in
-    let o = bind_ok (optional_text (arg_at args 2)) _ _ p.2 in
-    subst NamesVariable (ok_is _ s o.2) (variable_form c (arg_at args 0) v.0 v.1)
+    searched_named program (λ v p other. PathProg v p other) c args s (λ v sought other form. form) e
 
 plain_named : (c : declarations.Declarations) (m : PlainMacro) (at : ℕ) (args : List Span) (s : Plain) → plain_of c m at args ≡ Ok s → NamesVariable s
 unfolding plain_of prereq lang config_files config_headers subst_row define define_unquoted msg_error message_of arg_var prog_cc
@@ -129,9 +134,8 @@ plain_named c macro.Lang at args s e = let a = bind_ok (language (arg_at args 0)
 plain_named c macro.ConfigFiles at args s e = let a = bind_ok (outputs c.files c.headers (arg_at args 0)) _ _ e in subst NamesVariable (ok_is _ s a.2) tt
 plain_named c macro.ConfigHeaders at args s e = let a = bind_ok (outputs c.headers c.files (arg_at args 0)) _ _ e in subst NamesVariable (ok_is _ s a.2) tt
 plain_named c macro.Subst at args s e =
-    let n = bind_ok (name (arg_at args 0)) _ _ e in
-    let w = bind_ok (wants (has_room c.substituted n.0) (TooMany (arg_at args 0).at)) _ _ n.2 in
-    subst_of_named n.0 (arg_at args 1) s w.2
+    let n = bind_ok (output_variable c (arg_at args 0)) _ _ e in
+    subst_of_named n.0 (arg_at args 1) s n.2
 plain_named c macro.Define at args s e =
     let n = bind_ok (name (arg_at args 0)) _ _ e in
     let v = bind_ok (defined args) _ _ n.2 in
@@ -143,9 +147,8 @@ plain_named c macro.MsgError at args s e =
     subst NamesVariable (ok_is _ s v.2) tt
 plain_named c (macro.Message kind) at args s e = let n = bind_ok (here_text (arg_at args 0)) _ _ e in subst NamesVariable (ok_is _ s n.2) tt
 plain_named c macro.ArgVar at args s e =
-    let n = bind_ok (name (arg_at args 0)) _ _ e in
-    let w = bind_ok (wants (has_room c.substituted n.0) (TooMany (arg_at args 0).at)) _ _ n.2 in
-    let v = bind_ok (text (arg_at args 1)) _ _ w.2 in
+    let n = bind_ok (output_variable c (arg_at args 0)) _ _ e in
+    let v = bind_ok (text (arg_at args 1)) _ _ n.2 in
     subst NamesVariable (ok_is _ s v.2) tt
 plain_named c macro.ProgCc at args s e =
     let w = bind_ok (wants (has_tool_room c.substituted) (TooMany at)) _ _ e in
