@@ -12,7 +12,7 @@ use Rattle.shellword.specs.Scan.{scan, word_of, word_front_of, here_of}
 use Rattle.fallible.specs.Reading.{◌>>=◌}
 use Rattle.shellword.specs.Cut.{ampersand_at, bar_at, token_at, tokens_of}
 use Rattle.shellword.specs.Word.{AreWordParts, BeginsAt}
-use Rattle.shellword.specs.WordFaults.{WordBreaks, IsBadWord, word_breaks, goes_on, IsBadFront, front_breaks, operator, IsBadHere}
+use Rattle.shellword.specs.WordFaults.{WordBreaks, IsRejected, breaks, goes_on, IsBadWord, IsBadFront, IsBadHere}
 use Rattle.fallible.proofs.Binds.{chosen, passed, err_is, bind_err}
 use Rattle.shellword.proofs.Words.{run-front, front-run}
 use Rattle.shellword.proofs.Parts.{word-run, run-word}
@@ -48,39 +48,41 @@ word_found {text} {rest} {parts} word over at place =
     let len : r.len ≡ at = omega (arith, place, r.place) in
     (run-front r.run ∙ ap (λ (n : ℕ). Ok (parts, n)) len, ap (λ (n : ℕ). drop n text) (sym len) ∙ r.ends)
 
+-- a word with what may follow it
+module _ {A : Type 0} (may_follow : List ℕ → Bool) (made : List Part × ℕ → A) where
+  abbrev reading : List ℕ → Result A ShellFault
+  reading text = scan 0 Bare 0 text >>= λ r. cond (may_follow (drop r.1 text)) (Ok (made r)) (Err (BadWord r.1))
+
+  reading-rejected : (text : List ℕ) (f : ShellFault) → reading text ≡ Err f → (at : ℕ) × (f ≡ BadWord at) × IsRejected may_follow text at
+  reading-rejected text f e =
+      elim (bind_err (scan 0 Bare 0 text) (λ r. cond (may_follow (drop r.1 text)) (Ok (made r)) (Err (BadWord r.1))) f e) [
+        | inl x ↦ let b = run_refused Bare text f x in (b.at, b.fault, breaks (breaks-word b.breaks) b.place)
+        | inr x ↦
+            (elim (chosen (may_follow (drop x.0.1 text)) _ _ _ x.2) [
+              | inl h ↦ absurd (passed h.1)
+              | inr h ↦ let w = run-word (front-run Bare text x.0 x.1) in (x.0.1, sym (err_is {A = A} _ _ h.1), goes_on w.0 w.1 h.0 w.2)
+            ])
+      ]
+
+  rejected-reading : {text : List ℕ} {at : ℕ} → IsRejected may_follow text at → reading text ≡ Err (BadWord at)
+  rejected-reading (breaks {at = at} h place) = rw (word_refused h at place) refl
+  rejected-reading (goes_on {at = at} word over more place) = let p = word_found word over at place in rw (p.0, p.1, more) refl
+
 pub word-bad : (text : List ℕ) (f : ShellFault) → word_of text ≡ Err f → (at : ℕ) × (f ≡ BadWord at) × IsBadWord text at
 unfolding word_of
-word-bad text f e =
-    elim (bind_err (scan 0 Bare 0 text) (λ r. cond (list_all is_blank (drop r.1 text)) (Ok r.0) (Err (BadWord r.1))) f e) [
-      | inl x ↦ let b = run_refused Bare text f x in (b.at, b.fault, word_breaks (breaks-word b.breaks) b.place)
-      | inr x ↦
-          (elim (chosen (list_all is_blank (drop x.0.1 text)) _ _ _ x.2) [
-            | inl h ↦ absurd (passed h.1)
-            | inr h ↦ let w = run-word (front-run Bare text x.0 x.1) in (x.0.1, sym (err_is {A = List Part} _ _ h.1), goes_on w.0 w.1 h.0 w.2)
-          ])
-    ]
+word-bad = reading-rejected (list_all is_blank) (λ r. r.0)
 
 pub bad-word : {text : List ℕ} {at : ℕ} → IsBadWord text at → word_of text ≡ Err (BadWord at)
 unfolding word_of
-bad-word (word_breaks {at = at} h place) = rw (word_refused h at place) refl
-bad-word (goes_on {at = at} word over more place) = let p = word_found word over at place in rw (p.0, p.1, more) refl
+bad-word = rejected-reading (list_all is_blank) (λ r. r.0)
 
 pub front-bad : (text : List ℕ) (f : ShellFault) → word_front_of text ≡ Err f → (at : ℕ) × (f ≡ BadWord at) × IsBadFront text at
 unfolding word_front_of
-front-bad text f e =
-    elim (bind_err (scan 0 Bare 0 text) (λ r. cond (is_parted (drop r.1 text)) (Ok r) (Err (BadWord r.1))) f e) [
-      | inl x ↦ let b = run_refused Bare text f x in (b.at, b.fault, front_breaks (breaks-word b.breaks) b.place)
-      | inr x ↦
-          (elim (chosen (is_parted (drop x.0.1 text)) _ _ _ x.2) [
-            | inl h ↦ absurd (passed h.1)
-            | inr h ↦ let w = run-word (front-run Bare text x.0 x.1) in (x.0.1, sym (err_is {A = List Part × ℕ} _ _ h.1), operator w.0 w.1 h.0 w.2)
-          ])
-    ]
+front-bad = reading-rejected is_parted (λ r. r)
 
 pub bad-front : {text : List ℕ} {at : ℕ} → IsBadFront text at → word_front_of text ≡ Err (BadWord at)
 unfolding word_front_of
-bad-front (front_breaks {at = at} h place) = rw (word_refused h at place) refl
-bad-front (operator {at = at} word over more place) = let p = word_found word over at place in rw (p.0, p.1, more) refl
+bad-front = rejected-reading is_parted (λ r. r)
 
 pub here-bad : (text : List ℕ) (f : ShellFault) → here_of text ≡ Err f → (at : ℕ) × (f ≡ BadWord at) × IsBadHere text at
 unfolding here_of
@@ -96,19 +98,15 @@ bad-here {text} {at} h = rw (breaks-scan (here-breaks h.breaks) 0 at (h.place �
 
 -- ---- the offset is in the text or at its end
 
-bad-place : {text : List ℕ} {at : ℕ} → IsBadWord text at → at ≤ length text
-bad-place (word_breaks h place) = omega (arith, place)
-bad-place (goes_on word over more place) = omega (arith, place)
-
-front-place : {text : List ℕ} {at : ℕ} → IsBadFront text at → at ≤ length text
-front-place (front_breaks h place) = omega (arith, place)
-front-place (operator word over more place) = omega (arith, place)
+rejected-place : {may_follow : List ℕ → Bool} {text : List ℕ} {at : ℕ} → IsRejected may_follow text at → at ≤ length text
+rejected-place (breaks h place) = omega (arith, place)
+rejected-place (goes_on word over more place) = omega (arith, place)
 
 pub word-fault : (text : List ℕ) (f : ShellFault) → word_of text ≡ Err f → Fault (length text) f
-word-fault text f e = let p = word-bad text f e in (p.0, p.1, bad-place p.2)
+word-fault text f e = let p = word-bad text f e in (p.0, p.1, rejected-place p.2)
 
 pub word_front-fault : (text : List ℕ) (f : ShellFault) → word_front_of text ≡ Err f → Fault (length text) f
-word_front-fault text f e = let p = front-bad text f e in (p.0, p.1, front-place p.2)
+word_front-fault text f e = let p = front-bad text f e in (p.0, p.1, rejected-place p.2)
 
 pub here-fault : (text : List ℕ) (f : ShellFault) → here_of text ≡ Err f → Fault (length text) f
 here-fault text f e = let p = here-bad text f e in (p.0, p.1, omega (arith, p.2.place))

@@ -1,6 +1,6 @@
 -- The offset at which a word or a here text is rejected: correct parts come first, and then a byte that begins no part.
 -- (own)
-use Rattle.std.specs.Prelude.{◌≡◌, ℕ, true, false, List, [], ◌∷◌}
+use Rattle.std.specs.Prelude.{◌≡◌, ℕ, Bool, true, false, List, [], ◌∷◌}
 use Rattle.std.specs.List.{list_all}
 use Rattle.shellword.specs.declared.fault.ShellFault.{ShellFault}
 use Rattle.shellword.specs.declared.fault.ShellFault.TheVariants.{BadWord, OutOfMemory}
@@ -22,19 +22,21 @@ pub data WordBreaks : List ℕ → List ℕ → Type 0 where
   in_double : {text rest : List ℕ} {parts : List Part} → AreDoubleParts text parts rest → BeginsRefused rest → WordBreaks (double_quote ∷ text) rest
   later : {text after rest : List ℕ} {first : List Part} → IsWordPart text first after → WordBreaks after rest → WordBreaks text rest
 
+-- The text is rejected at this offset, or a word ends there and the text after it isn't one that may follow. (own)
+pub data IsRejected (may_follow : List ℕ → Bool) : List ℕ → ℕ → Type 0 where
+  breaks : {text rest : List ℕ} {at : ℕ} → WordBreaks text rest → BeginsAt at rest text → IsRejected may_follow text at
+  goes_on : {text rest : List ℕ} {parts : List Part} {at : ℕ} → AreWordParts text parts rest → word_ends rest ≡ true → may_follow rest ≡ false → BeginsAt at rest text
+      → IsRejected may_follow text at
+
 -- The text isn't a word: it is rejected at this offset, or the word ends there and something other than blanks follows.
 -- (own)
-pub data IsBadWord : List ℕ → ℕ → Type 0 where
-  word_breaks : {text rest : List ℕ} {at : ℕ} → WordBreaks text rest → BeginsAt at rest text → IsBadWord text at
-  goes_on : {text rest : List ℕ} {parts : List Part} {at : ℕ} → AreWordParts text parts rest → word_ends rest ≡ true → list_all is_blank rest ≡ false → BeginsAt at rest text
-      → IsBadWord text at
+abbrev pub IsBadWord : List ℕ → ℕ → Type 0
+IsBadWord = IsRejected (list_all is_blank)
 
 -- Bare text has no word at its front: it is rejected at this offset, or the word ends there before one of & | < > ( ).
 -- (own)
-pub data IsBadFront : List ℕ → ℕ → Type 0 where
-  front_breaks : {text rest : List ℕ} {at : ℕ} → WordBreaks text rest → BeginsAt at rest text → IsBadFront text at
-  operator : {text rest : List ℕ} {parts : List Part} {at : ℕ} → AreWordParts text parts rest → word_ends rest ≡ true → is_parted rest ≡ false → BeginsAt at rest text
-      → IsBadFront text at
+abbrev pub IsBadFront : List ℕ → ℕ → Type 0
+IsBadFront = IsRejected is_parted
 
 -- A here text is rejected before this rest of the text. (own)
 pub data HereBreaks : List ℕ → List ℕ → Type 0 where
