@@ -1,5 +1,6 @@
 -- The state of the matcher, and its steps.
 use Rattle.std.proofs.Common.{◌≡◌, ℕ, ◌+◌, ◌-◌, ◌<◌, ◌≤◌, Bool, true, false, List, [], ◌∷◌, ◌++◌, length, take, drop, map, Option, Some, None, IfSome, sym, ap, subst, ◌∙◌, arith, length-append}
+use Rattle.std.specs.Prelude.{◌≢◌}
 use Rattle.std.specs.Str.{bytes_eq}
 use Rattle.std.proofs.lemmas.List.{drop-drop, drop-map, length-drop, length-map, length-take-le, take_all, take_rest}
 use Rattle.memchr.specs.Find.{FindsNeedle}
@@ -91,8 +92,34 @@ module _ (pieces : List Piece) (bytes text : List ℕ) (piece at n : ℕ) (same 
       ap (take n) (take_rest bytes piece) ∙ ap (λ (k : ℕ). take k (drop piece bytes)) count_here
       ∙ ap (λ (w : List ℕ). take (byte_count (drop piece pieces)) w) (ap (drop piece) same ∙ drop-map byte_of piece pieces)
 
-pub found_as : (t u v w : List ℕ) (r : Option ℕ) {q : Option ℕ} → t ≡ u → v ≡ w → r ≡ q → FindsNeedle t v 0 r → FindsNeedle u w 0 q
+found_as : (t u v w : List ℕ) (r : Option ℕ) {q : Option ℕ} → t ≡ u → v ≡ w → r ≡ q → FindsNeedle t v 0 r → FindsNeedle u w 0 q
 found_as t u v w r e f g h = subst (FindsNeedle u w 0) g (subst (λ (x : List ℕ). FindsNeedle u x 0 r) f (subst (λ (x : List ℕ). FindsNeedle x v 0 r) e h))
+
+-- ---- a part that is not the last
+
+module _ (pieces : List Piece) (bytes text : List ℕ) (piece at n : ℕ) (same : bytes ≡ map byte_of pieces)
+    (is : n ≡ byte_count (take (length pieces - piece) (drop piece pieces)))
+    (s : Going pieces text piece at) (plain : IsPlain pieces) (more : piece + n ≢ length pieces) where
+  here : n ≡ byte_count (drop piece pieces)
+  here = count_here pieces bytes text piece at n same is
+
+  star_is_after : piece + byte_count (drop piece pieces) < length pieces
+  star_is_after = omega (arith, here, more, count_within (drop piece pieces), length-drop piece pieces, s.in_pieces)
+
+  -- what was found of the slices is found of the part
+  abbrev Finds : Option ℕ → Type 0
+  Finds r = FindsNeedle (take (length text - at) (drop at text)) (take n (take (length bytes - piece) (drop piece bytes))) 0 r
+
+  of_part : (r q : Option ℕ) → r ≡ q → Finds r → FindsNeedle (drop at text) (part pieces text piece) 0 q
+  of_part r q e found = found_as _ _ _ _ r (take_rest text at) (slice_part pieces bytes text piece at n same is) e found
+
+  pub part_missing : (r : Option ℕ) → r ≡ None → Finds r → false ≡ matching pieces text
+  part_missing r e found = at_none pieces text piece at s plain star_is_after (of_part r None e found)
+
+  pub part_passed : (r : Option ℕ) (k : ℕ) → r ≡ Some k → Finds r → Going pieces text (piece + n + 1) (at + (k + n))
+  part_passed r k e found =
+      subst (λ (m : ℕ). Going pieces text (piece + m + 1) (at + (k + m))) (sym here)
+      (at_some pieces text piece at s plain star_is_after k (of_part r (Some k) e found))
 
 pub found_within : (text part : List ℕ) (r : Option ℕ) → FindsNeedle text part 0 r → IfSome r (λ k. k + length part ≤ length text)
 found_within text part None h = tt

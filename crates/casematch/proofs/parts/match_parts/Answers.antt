@@ -1,9 +1,9 @@
-use Rattle.std.proofs.Common.{◌≡◌, ℕ, ◌+◌, ◌-◌, ◌<◌, List, true, false, length, take, drop, sym, ap, subst, ◌∙◌, arith}
+use Rattle.std.proofs.Common.{◌≡◌, ℕ, ◌+◌, ◌-◌, List, true, false, length, take, drop, sym, ap, subst, ◌∙◌, arith}
 use Rattle.std.specs.Str.{bytes_eq}
-use Rattle.std.proofs.lemmas.List.{length-drop, take_rest}
+use Rattle.std.proofs.lemmas.List.{take_rest}
 use Rattle.casematch.specs.Parts.{byte_count, begins_with, ends_with}
 use Rattle.casematch.proofs.Counting.{count_within}
-use Rattle.casematch.proofs.Steps.{Going, whole_part, not_at_front, at_front, at_end, at_none, at_some, front_part, count_here, slice_part, found_as}
+use Rattle.casematch.proofs.Steps.{Going, whole_part, not_at_front, at_front, at_end, front_part, count_here, slice_part, part_missing, part_passed}
 use Rattle.casematch.proofs.parts.match_parts.Goals as goal
 
 pub returns-then-first-pieces : goal.returns-then-first-pieces
@@ -35,24 +35,10 @@ returns-then-end-pieces c =
 
 pub returns-in_default : goal.returns-in_default
 returns-in_default c =
-    let pieces = c.args.pieces.now in
-    let text = c.args.text.now in
-    let bytes = c.args.bytes.now in
-    let n = count_here pieces bytes text c.parts.piece c.parts.at _ c.requires.bytes c.byte_count-len.ensures.value in
-    let w = slice_part pieces bytes text c.parts.piece c.parts.at _ c.requires.bytes c.byte_count-len.ensures.value in
-    let within = count_within (drop c.parts.piece pieces) in
-    let lt : c.parts.piece + byte_count (drop c.parts.piece pieces) < length pieces = omega (arith, n, c.if-end-pieces.false, within, length-drop c.parts.piece pieces, c.parts.invariant.in_pieces) in
-    at_none pieces text c.parts.piece c.parts.at c.parts.invariant c.requires.plain lt
-    (found_as _ _ _ _ _ (take_rest text c.parts.at) w c.in_default.is c.find.ensures.first)
+    part_missing c.args.pieces.now c.args.bytes.now c.args.text.now c.parts.piece c.parts.at _ c.requires.bytes c.byte_count-len.ensures.value c.parts.invariant c.requires.plain
+    c.if-end-pieces.false _ c.in_default.is c.find.ensures.first
 
 pub parts-preserved : goal.parts-preserved
 parts-preserved c =
-    let pieces = c.args.pieces.now in
-    let text = c.args.text.now in
-    let bytes = c.args.bytes.now in
-    let n = count_here pieces bytes text c.parts.piece c.parts.at _ c.requires.bytes c.byte_count-len.ensures.value in
-    let w = slice_part pieces bytes text c.parts.piece c.parts.at _ c.requires.bytes c.byte_count-len.ensures.value in
-    let within = count_within (drop c.parts.piece pieces) in
-    let lt : c.parts.piece + byte_count (drop c.parts.piece pieces) < length pieces = omega (arith, n, c.if-end-pieces.false, within, length-drop c.parts.piece pieces, c.parts.invariant.in_pieces) in
-    subst (λ (m : ℕ). Going pieces text (c.parts.piece + m + 1) (c.parts.at + (c.in-Some.found + m))) (sym n)
-    (at_some pieces text c.parts.piece c.parts.at c.parts.invariant c.requires.plain lt c.in-Some.found (found_as _ _ _ _ _ (take_rest text c.parts.at) w c.in-Some.is c.find.ensures.first))
+    part_passed c.args.pieces.now c.args.bytes.now c.args.text.now c.parts.piece c.parts.at _ c.requires.bytes c.byte_count-len.ensures.value c.parts.invariant c.requires.plain
+    c.if-end-pieces.false _ _ c.in-Some.is c.find.ensures.first
