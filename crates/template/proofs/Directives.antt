@@ -5,6 +5,7 @@ use Rattle.std.specs.List.{list_all, prefix_len}
 use Rattle.std.proofs.lemmas.Bool.Decides.{eqb_tells}
 use Rattle.std.proofs.lemmas.List.Folds.{length-prefix_len}
 use Rattle.std.proofs.lemmas.Slice.Eq.{bytes_eq-Decides}
+use Rattle.std.proofs.lemmas.Bool.{and_parts}
 use Rattle.deftable.specs.ShellName.{is_shell_name_of, starts_name, continues_name}
 use Rattle.deftable.specs.Table.{value_of}
 use Rattle.template.specs.Header.IsMadeOf.{defined, undefined, kept, other}
@@ -21,10 +22,6 @@ seen None = inr refl
 pub is_or_not : (b : Bool) → (b ≡ true) ⊎ (b ≡ false)
 is_or_not true = inl refl
 is_or_not false = inr refl
-
-both : (a b : Bool) → a && b ≡ true → (a ≡ true) × (b ≡ true)
-both true b is = (refl, is)
-both false b is = absurd cc
 
 -- a text that the test refuses at its front, if it has one
 abbrev Stops : (ℕ → Bool) → List ℕ → Type 0
@@ -50,7 +47,7 @@ parted : (p : ℕ → Bool) (xs ys : List ℕ) → list_all p xs ≡ true → St
 parted p [] [] all stops = record { count = refl; front = refl; rest = refl }
 parted p [] (y ∷ ys) all stops = record { count = rw stops refl; front = rw stops refl; rest = rw stops refl }
 parted p (x ∷ xs) ys all stops =
-    let h = both (p x) (list_all p xs) all in
+    let h = and_parts (p x) (list_all p xs) all in
     let r = parted p xs ys h.1 stops in
     let n : ℕ = prefix_len p (xs ++ ys) in
     record {
@@ -84,7 +81,7 @@ starts_apart b is = elim (eqb_tells b 32) [
 
 name_stops : (name rest : List ℕ) → is_shell_name_of name ≡ true → Stops is_space (name ++ rest)
 name_stops [] rest is = absurd cc
-name_stops (b ∷ bs) rest is = starts_apart b (both (starts_name b) (list_all continues_name bs) is).0
+name_stops (b ∷ bs) rest is = starts_apart b (and_parts (starts_name b) (list_all continues_name bs) is).0
 
 continues_apart : (b : ℕ) → is_space b || b == 40 || b == 10 ≡ true → continues_name b ≡ false
 continues_apart b is = elim (eqb_tells b 32) [
@@ -108,7 +105,7 @@ rest_stops (b ∷ bs) is = continues_apart b is
 name_continues : (name : List ℕ) → is_shell_name_of name ≡ true → list_all continues_name name ≡ true
 name_continues [] is = absurd (false_true is)
 name_continues (b ∷ bs) is =
-    let h = both (starts_name b) (list_all continues_name bs) is in
+    let h = and_parts (starts_name b) (list_all continues_name bs) is in
     ap (λ c. c && list_all continues_name bs) (start_continues b h.0) ∙ h.1
 
 -- ---- a line that has a directive
@@ -196,7 +193,7 @@ name_at_gives : (text name : List ℕ) → name_at text ≡ Some name → HasNam
 unfolding name_at
 name_at_gives text name is =
     let h = if_some (is_shell_name_of (word_of text) && ends_name (after_word text)) (word_of text) name is in
-    let b = both (is_shell_name_of (word_of text)) (ends_name (after_word text)) h.0 in
+    let b = and_parts (is_shell_name_of (word_of text)) (ends_name (after_word text)) h.0 in
     record {
       rest = after_word text;
       is = subst (λ t. is_shell_name_of t ≡ true) h.1 b.0;

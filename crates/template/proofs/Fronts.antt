@@ -8,6 +8,7 @@ use Rattle.std.proofs.lemmas.List.{take_all, take-append-drop}
 use Rattle.std.proofs.lemmas.Slice.Eq.{bytes_eq-Decides, starts_is}
 use Rattle.std.proofs.lemmas.Option.{slice_get_within, get_or_from_slice_get}
 use Rattle.std.proofs.Math.Seq.{take-append-add, drop-length}
+use Rattle.std.proofs.lemmas.Bool.{and_parts}
 use Rattle.deftable.specs.Table.{value_of, HasShellNames}
 use Rattle.template.specs.Fill.{at_sign, filled}
 use Rattle.template.specs.Hops.{HasNoAt, HasComeTo, read_to}
@@ -101,14 +102,10 @@ IfOk-weaker P Q f (Err e) h = tt
 
 -- ---- what is held
 
-and_both : (a b : Bool) → a && b ≡ true → (a ≡ true) × (b ≡ true)
-and_both true b h = (refl, h)
-and_both false b h = absurd cc
-
 pub MayBeHeld-is : (es : List (List ℕ × List ℕ)) (held : List ℕ) → may_be_held es held ≡ true → MayBeHeld es held
 MayBeHeld-is es [] h = inl refl
 MayBeHeld-is es (b ∷ bs) h =
-    let both = and_both (b == at_sign) (begins_key es bs) h in
+    let both = and_parts (b == at_sign) (begins_key es bs) h in
     let begins = begins_key-true es bs both.1 in
     inr record { front = bs; rest = begins.rest; value = begins.value; opens = ap (λ x. x ∷ bs) (eqb-true b at_sign both.0); is_key = begins.is_key }
 
@@ -123,7 +120,7 @@ key-length es k v is =
 pub held-length : (es : List (List ℕ × List ℕ)) (held : List ℕ) → may_be_held es held ≡ true → length held ≤ longest_of es + 1
 held-length es [] h = omega arith
 held-length es (b ∷ bs) h =
-    let begins = begins_key-true es bs (and_both (b == at_sign) (begins_key es bs) h).1 in
+    let begins = begins_key-true es bs (and_parts (b == at_sign) (begins_key es bs) h).1 in
     omega (arith, key-length es (bs ++ begins.rest) begins.value begins.is_key, length-append bs begins.rest)
 
 module _ (es : List (List ℕ × List ℕ)) (names : HasShellNames es) where
@@ -140,7 +137,7 @@ module _ (es : List (List ℕ × List ℕ)) (names : HasShellNames es) where
   pub held-filled : (held : List ℕ) → may_be_held es held ≡ true → held ≡ filled es held
   held-filled [] h = sym (filled-[] es)
   held-filled (b ∷ bs) h =
-      let both = and_both (b == at_sign) (begins_key es bs) h in
+      let both = and_parts (b == at_sign) (begins_key es bs) h in
       let is : b ≡ at_sign = eqb-true b at_sign both.0 in
       let clean = begins-HasNoAt bs both.1 in
       ap (λ x. x ∷ bs) is ∙ ap (λ t. at_sign ∷ t) (sym (filled-end es bs clean)) ∙ sym (filled-open es bs clean) ∙ ap (λ x. filled es (x ∷ bs)) (sym is)
@@ -155,7 +152,7 @@ module _ (es : List (List ℕ × List ℕ)) (names : HasShellNames es) where
 
   held_at : (x : List ℕ) → may_be_held es x ≡ true → (x ≡ []) ⊎ ((t : List ℕ) × (x ≡ at_sign ∷ t))
   held_at [] h = inl refl
-  held_at (b ∷ bs) h = inr (bs, ap (λ c. c ∷ bs) (eqb-true b at_sign (and_both (b == at_sign) (begins_key es bs) h).0))
+  held_at (b ∷ bs) h = inr (bs, ap (λ c. c ∷ bs) (eqb-true b at_sign (and_parts (b == at_sign) (begins_key es bs) h).0))
 
   not_before : (bs piece : List ℕ) (n : ℕ) → HasNoAt bs → n < length bs → (drop n (bs ++ piece) ≡ []) ⊎ ((t : List ℕ) × (drop n (bs ++ piece) ≡ at_sign ∷ t)) → ⊥
   not_before bs piece n clean lt (inl e) = let none : length (drop n (bs ++ piece)) ≡ 0 = ap length e in absurd (omega (arith, length-drop n (bs ++ piece), length-append bs piece))
@@ -167,7 +164,7 @@ module _ (es : List (List ℕ × List ℕ)) (names : HasShellNames es) where
   later_is (b ∷ bs) piece zero h may = inl refl
   later_is (b ∷ bs) piece (suc n) h may =
       elim (ltb n (length bs)) as (λ t. ltb n (length bs) ≡ t → (b ∷ take n (bs ++ piece) ≡ []) ⊎ ((more : List ℕ) × (b ∷ take n (bs ++ piece) ≡ b ∷ (bs ++ more)))) [
-        | true ↦ λ e. absurd (not_before bs piece n (begins-HasNoAt bs (and_both (b == at_sign) (begins_key es bs) h).1) (ltb-true n (length bs) e) (held_at (drop n (bs ++ piece)) may))
+        | true ↦ λ e. absurd (not_before bs piece n (begins-HasNoAt bs (and_parts (b == at_sign) (begins_key es bs) h).1) (ltb-true n (length bs) e) (held_at (drop n (bs ++ piece)) may))
         | false ↦ λ e.
             let low : length bs ≤ n = ltb-false n (length bs) e in
             let m = n - length bs in

@@ -1,5 +1,5 @@
 -- Which text a filled template is: stretch by stretch, and by the relation.
-use Rattle.std.proofs.Common.{◌≡◌, ℕ, zero, suc, List, [], ◌∷◌, ◌++◌, Bool, true, false, cond, ◌&&◌, length, drop, take, get_or, ◌<◌, ◌≤◌, arith, length-take, refl, sym, ◌∙◌, ap, subst, Option, Some, None, eqb-true, append-nil}
+use Rattle.std.proofs.Common.{◌≡◌, ℕ, zero, suc, List, [], ◌∷◌, ◌++◌, Bool, true, false, cond, length, drop, take, get_or, ◌<◌, ◌≤◌, arith, length-take, refl, sym, ◌∙◌, ap, subst, Option, Some, None, eqb-true, append-nil}
 use Rattle.std.specs.Prelude.{◌==◌, bytes_eq, option_map, option_and_then}
 use Rattle.std.specs.Option.{option_map_or}
 use Rattle.std.specs.List.{list_all}
@@ -8,6 +8,7 @@ use Rattle.std.proofs.lemmas.List.{get_or-take}
 use Rattle.memchr.specs.Find.{Nowhere, Passes, is_byte}
 use Rattle.deftable.specs.ShellName.{IsShellName, starts_name, continues_name}
 use Rattle.deftable.specs.Table.{value_of, HasShellNames}
+use Rattle.std.proofs.lemmas.Bool.{and_parts}
 use Rattle.template.specs.Fill.{at_sign, BeginsWithKey, Fills, before_at, key_at_front, filled_after, filled, entry_of}
 use Rattle.template.specs.Hops.{HasNoAt}
 use Rattle.template.specs.Fill.Fills.{nothing, key, byte}
@@ -168,36 +169,21 @@ module _ (es : List (List ℕ × List ℕ)) where
             })
       ] refl
 
-and_first : (a b : Bool) → a && b ≡ true → a ≡ true
-and_first true b h = refl
-and_first false b h = h
-
-and_second : (a b : Bool) → a && b ≡ true → b ≡ true
-and_second true b h = h
-and_second false b h = absurd cc
-
--- a byte of a name isn't `@`
-no_at_byte : (b : ℕ) → continues_name b ≡ true → (b == at_sign) ≡ false
-no_at_byte b h =
+-- a byte that passes a test that `@` fails isn't `@`
+no_at_byte : (passes : ℕ → Bool) → passes at_sign ≡ false → (b : ℕ) → passes b ≡ true → (b == at_sign) ≡ false
+no_at_byte passes fails b h =
     elim (b == at_sign) as (λ x. (b == at_sign) ≡ x → x ≡ false) [
-      | true ↦ λ is. let e : continues_name at_sign ≡ true = subst (λ y. continues_name y ≡ true) (eqb-true b at_sign is) h in absurd cc
-      | false ↦ λ _. refl
-    ] refl
-
-no_at_start : (b : ℕ) → starts_name b ≡ true → (b == at_sign) ≡ false
-no_at_start b h =
-    elim (b == at_sign) as (λ x. (b == at_sign) ≡ x → x ≡ false) [
-      | true ↦ λ is. let e : starts_name at_sign ≡ true = subst (λ y. starts_name y ≡ true) (eqb-true b at_sign is) h in absurd cc
+      | true ↦ λ is. let e : false ≡ true = sym fails ∙ subst (λ y. passes y ≡ true) (eqb-true b at_sign is) h in absurd cc
       | false ↦ λ _. refl
     ] refl
 
 no_at_bytes : (bs : List ℕ) → list_all continues_name bs ≡ true → HasNoAt bs
 no_at_bytes [] h = tt
-no_at_bytes (b ∷ bs) h = (no_at_byte b (and_first _ _ h), no_at_bytes bs (and_second _ _ h))
+no_at_bytes (b ∷ bs) h = let p = and_parts _ _ h in (no_at_byte continues_name refl b p.0, no_at_bytes bs p.1)
 
 pub IsShellName-HasNoAt : (k : List ℕ) → IsShellName k → HasNoAt k
 IsShellName-HasNoAt [] h = absurd cc
-IsShellName-HasNoAt (b ∷ bs) h = (no_at_start b (and_first _ _ h), no_at_bytes bs (and_second _ _ h))
+IsShellName-HasNoAt (b ∷ bs) h = let p = and_parts _ _ h in (no_at_byte starts_name refl b p.0, no_at_bytes bs p.1)
 
 -- a key is a shell name
 pub value_of-IsShellName : (es : List (List ℕ × List ℕ)) (k v : List ℕ) → HasShellNames es → value_of es k ≡ Some v → IsShellName k
