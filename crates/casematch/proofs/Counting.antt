@@ -1,6 +1,7 @@
 -- The bytes before the first star of a pattern without `?`.
-use Rattle.std.proofs.Common.{◌≡◌, ℕ, zero, suc, ◌+◌, ◌<◌, ◌≤◌, Bool, true, false, ◌||◌, List, [], ◌∷◌, ◌++◌, length, take, drop, map, refl, ap, ◌∙◌, arith}
+use Rattle.std.proofs.Common.{◌≡◌, ℕ, zero, suc, ◌+◌, ◌<◌, ◌≤◌, false, List, [], ◌∷◌, ◌++◌, length, take, drop, map, refl, ap, ◌∙◌, arith}
 use Rattle.std.specs.List.{list_any}
+use Rattle.std.proofs.lemmas.Bool.{or_parts}
 use Rattle.shellword.specs.declared.pattern.Piece.{Piece}
 use Rattle.shellword.specs.declared.pattern.Piece.TheVariants.{AnyBytes, OneByte, Byte}
 use Rattle.casematch.specs.Parts.{is_one_byte, byte_of, byte_count}
@@ -9,14 +10,10 @@ use Rattle.casematch.specs.Parts.{is_one_byte, byte_of, byte_count}
 abbrev pub IsPlain : List Piece → Type 0
 IsPlain pieces = list_any is_one_byte pieces ≡ false
 
-or_both : (p q : Bool) → (p || q) ≡ false → (p ≡ false) × (q ≡ false)
-or_both true q h = absurd cc
-or_both false q h = (refl, h)
-
 pub plain_drop : (n : ℕ) (pieces : List Piece) → IsPlain pieces → IsPlain (drop n pieces)
 plain_drop zero pieces h = h
 plain_drop (suc n) [] h = h
-plain_drop (suc n) (p ∷ ps) h = plain_drop n ps (or_both (is_one_byte p) (list_any is_one_byte ps) h).1
+plain_drop (suc n) (p ∷ ps) h = plain_drop n ps (or_parts (is_one_byte p) (list_any is_one_byte ps) h).1
 
 pub count_within : (pieces : List Piece) → byte_count pieces ≤ length pieces
 count_within [] = omega arith

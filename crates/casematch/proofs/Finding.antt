@@ -7,7 +7,8 @@ use Rattle.std.proofs.lemmas.List.{append-nil, drop-drop, length-drop, take-appe
 use Rattle.memchr.specs.Find.{FindsNeedle, OccursAt}
 use Rattle.shellword.specs.declared.pattern.Piece.{Piece}
 use Rattle.shellword.specs.declared.pattern.Piece.TheVariants.{AnyBytes, Byte}
-use Rattle.shellword.proofs.Matcher.{Split, and_both, or_right, some_here, some_split}
+use Rattle.std.proofs.lemmas.Bool.{and_parts, or_right}
+use Rattle.shellword.proofs.Matcher.{Split, some_here, some_split}
 use Rattle.shellword.specs.Matcher.{some_rest, matching}
 use Rattle.casematch.specs.Parts.{begins_with, ends_with}
 
@@ -41,7 +42,7 @@ unfolding matching
 part_taken [] rest text h = (text, refl, h)
 part_taken (c ∷ part) rest [] h = absurd cc
 part_taken (c ∷ part) rest (b ∷ bs) h =
-    let p = and_both (b == c) (matching (map Byte part ++ rest) bs) h in
+    let p = and_parts (b == c) (matching (map Byte part ++ rest) bs) h in
     subst (λ (x : ℕ). Taken (c ∷ part) rest (x ∷ bs)) (sym (eqb-true b c p.0)) (taken_cons c part rest bs (part_taken part rest bs p.1))
 
 takes_part : (part : List ℕ) (rest : List Piece) (more : List ℕ) → matching (map Byte part ++ rest) (part ++ more) ≡ matching rest more
@@ -104,7 +105,7 @@ found_there text part k h =
 
 pub begins : (text part : List ℕ) → begins_with text part ≡ true → text ≡ part ++ drop (length part) text
 begins text part h =
-    let p = and_both (nat_le (length part) (length text)) (bytes_eq (take (length part) text) part) h in
+    let p = and_parts (nat_le (length part) (length text)) (bytes_eq (take (length part) text) part) h in
     let e : take (length part) text ≡ part = (bytes_eq-Decides (take (length part) text) part).0 p.1 in
     sym (take-append-drop (length part) text) ∙ ap (λ (t : List ℕ). t ++ drop (length part) text) e
 
@@ -134,7 +135,7 @@ last_back : (text part : List ℕ) → ends_with text part ≡ true → some_res
 unfolding matching
 last_back text part h =
     let k = length text - length part in
-    let p = and_both (nat_le (length part) (length text)) (bytes_eq (drop k text) part) h in
+    let p = and_parts (nat_le (length part) (length text)) (bytes_eq (drop k text) part) h in
     let e : drop k text ≡ part = (bytes_eq-Decides (drop k text) part).0 p.1 in
     let m : matching (map Byte part ++ []) (drop k text) ≡ true = ap (matching (map Byte part ++ [])) (e ∙ sym (append-nil part)) ∙ takes_part part [] [] in
     ap (some_rest (matching (map Byte part ++ []))) (sym (take-append-drop k text))

@@ -1,15 +1,11 @@
 -- One of some patterns matches a text: the relation and the search for it.
-use Rattle.std.proofs.Common.{◌≡◌, ◌||◌, ℕ, Bool, true, false, List, [], ◌∷◌, ◌↔◌, ◌∙◌, IsTrue, sym, inl, inr, refl}
+use Rattle.std.proofs.Common.{◌≡◌, ℕ, Bool, true, List, [], ◌∷◌, ◌↔◌, ◌∙◌, IsTrue, sym, inl, inr, refl}
 use Rattle.std.specs.List.{list_any}
-use Rattle.std.proofs.lemmas.Bool.{or_cases}
+use Rattle.std.proofs.lemmas.Bool.{or_cases, or_right}
 use Rattle.shellword.specs.declared.pattern.Piece.{Piece}
 use Rattle.shellword.specs.Matching.{MatchesAny, this, another}
 use Rattle.shellword.specs.Matcher.{matching, matches_any}
 use Rattle.shellword.proofs.Matcher.{matches-matching, matching-matches}
-
-or_right : (p q : Bool) → q ≡ true → (p || q) ≡ true
-or_right true q h = refl
-or_right false q h = h
 
 any-found : {patterns : List (List Piece)} {text : List ℕ} → MatchesAny patterns text → list_any (λ pattern. matching pattern text) patterns ≡ true
 any-found (this h) = rw (matches-matching h) refl

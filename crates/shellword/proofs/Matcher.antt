@@ -1,7 +1,7 @@
 -- The matcher that goes back only to the last `*` finds what the definition says.
 use Rattle.std.proofs.Common.{◌≡◌, ℕ, zero, suc, ◌+◌, ◌-◌, ◌*◌, ◌<◌, ◌≤◌, Bool, true, false, ◌&&◌, ◌||◌, ltb, ◌==◌, cond, ◌⊎◌, inl, inr, List, [], ◌∷◌, ◌++◌, length, get_or, take, drop, Option, Some, None, refl, sym, ap, subst, ◌∙◌, append_assoc, arith, length-append}
 use Rattle.std.proofs.Math.Nat.{mul-le-mul_left}
-use Rattle.std.proofs.lemmas.Bool.{eqb-true, ltb-true, ltb-false, lt-ltb, le-ltb, eq-eqb}
+use Rattle.std.proofs.lemmas.Bool.{eqb-true, ltb-true, ltb-false, lt-ltb, le-ltb, eq-eqb, or_right, and_parts}
 use Rattle.std.proofs.lemmas.List.{drop_more, take_rest, drop_all, drop-drop, length-drop}
 use Rattle.shellword.specs.declared.pattern.Piece.{Piece}
 use Rattle.shellword.specs.declared.pattern.Piece.TheVariants.{AnyBytes, OneByte, Byte}
@@ -11,14 +11,6 @@ use Rattle.shellword.specs.Matching.{Matches, nothing, any_bytes, one_byte, byte
 use Rattle.shellword.specs.Matcher.{some_rest, matching, step_of}
 
 -- ---- the definition as a function
-
-pub or_right : (p q : Bool) → q ≡ true → (p || q) ≡ true
-or_right true q h = refl
-or_right false q h = h
-
-pub and_both : (p q : Bool) → (p && q) ≡ true → (p ≡ true) × (q ≡ true)
-and_both true q h = (refl, h)
-and_both false q h = absurd cc
 
 pub some_here : (test : List ℕ → Bool) (rest : List ℕ) → test rest ≡ true → some_rest test rest ≡ true
 some_here test [] h = h
@@ -57,7 +49,7 @@ matching-matches (OneByte ∷ pieces) [] h = absurd cc
 matching-matches (OneByte ∷ pieces) (b ∷ bs) h = one_byte b (matching-matches pieces bs h)
 matching-matches (Byte c ∷ pieces) [] h = absurd cc
 matching-matches (Byte c ∷ pieces) (b ∷ bs) h =
-    let p = and_both (b == c) (matching pieces bs) h in
+    let p = and_parts (b == c) (matching pieces bs) h in
     subst (λ (x : ℕ). Matches (Byte c ∷ pieces) (x ∷ bs)) (sym (eqb-true b c p.0)) (byte c (matching-matches pieces bs p.1))
 
 -- ---- one step
@@ -163,7 +155,7 @@ no_piece pieces piece = record { passed = []; plain = refl; stands = refl; len =
 
 plain_push : (ps : List Piece) (p : Piece) → all_plain ps ≡ true → is_plain p ≡ true → all_plain (ps ++ p ∷ []) ≡ true
 plain_push [] p h k = rw k refl
-plain_push (q ∷ ps) p h k = let b = and_both (is_plain q) (all_plain ps) h in rw (b.0, plain_push ps p b.1 k) refl
+plain_push (q ∷ ps) p h k = let b = and_parts (is_plain q) (all_plain ps) h in rw (b.0, plain_push ps p b.1 k) refl
 
 one_more : (pieces : List Piece) (first piece : ℕ) (x : Piece) → Passed pieces first piece → drop piece pieces ≡ x ∷ drop (piece + 1) pieces → is_plain x ≡ true → Passed pieces first (piece + 1)
 one_more pieces first piece x p e plain = record {
@@ -192,7 +184,7 @@ plain_bytes (OneByte ∷ passed) rest [] plain h = absurd cc
 plain_bytes (OneByte ∷ passed) rest (b ∷ bs) plain h = bytes_cons (length passed) rest b bs (plain_bytes passed rest bs plain h)
 plain_bytes (Byte c ∷ passed) rest [] plain h = absurd cc
 plain_bytes (Byte c ∷ passed) rest (b ∷ bs) plain h =
-    bytes_cons (length passed) rest b bs (plain_bytes passed rest bs plain (and_both (b == c) (matching (passed ++ rest) bs) h).1)
+    bytes_cons (length passed) rest b bs (plain_bytes passed rest bs plain (and_parts (b == c) (matching (passed ++ rest) bs) h).1)
 
 some_more : (test : List ℕ → Bool) (front rest : List ℕ) → some_rest test rest ≡ true → some_rest test (front ++ rest) ≡ true
 some_more test [] rest h = h
@@ -218,7 +210,7 @@ absorbed : (pieces rest : List Piece) (text : List ℕ) (first start piece at : 
     → retry pieces text (Some (first, start)) ≡ true → matching (drop piece pieces) (drop at text) ≡ true
 unfolding matching
 absorbed pieces rest text first start piece at p places star h =
-    let b = and_both (ltb start (length text)) (some_rest (matching (drop first pieces)) (drop (start + 1) text)) h in
+    let b = and_parts (ltb start (length text)) (some_rest (matching (drop first pieces)) (drop (start + 1) text)) h in
     let s = some_split (matching (drop first pieces)) (drop (start + 1) text) b.1 in
     let m : matching (p.passed ++ AnyBytes ∷ rest) s.1 ≡ true = ap (λ (ps : List Piece). matching ps s.1) (sym (p.stands ∙ ap (λ (ps : List Piece). p.passed ++ ps) star)) ∙ s.3 in
     let y = plain_bytes p.passed (AnyBytes ∷ rest) s.1 p.plain m in

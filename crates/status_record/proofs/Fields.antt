@@ -1,7 +1,7 @@
 -- Fields of lines: what is written is read, and what is read was written.
 use Rattle.std.proofs.Common.{◌≡◌, ℕ, Bool, true, false, cond, ◌&&◌, List, ◌∷◌, ◌++◌, refl, ap, ◌∙◌, subst}
 use Rattle.std.specs.Prelude.{Option, Some, None, option_map, option_and_then}
-use Rattle.std.proofs.lemmas.Bool.{cond-true}
+use Rattle.std.proofs.lemmas.Bool.{cond-true, and_from}
 use Rattle.deftable.specs.ShellName.{is_shell_name_of, IsShellName}
 use Rattle.outputlist.specs.declared.output.Output.{Output}
 use Rattle.status_record.specs.Escape.{escaped, unescaped}
@@ -9,7 +9,7 @@ use Rattle.status_record.specs.Line.{cut, entry_of, entry_in, entry_fields, outp
 use Rattle.outputlist.specs.Output.{IsOutput}
 use Rattle.outputlist.specs.Path.{is_path}
 use Rattle.status_record.proofs.Escapes.{unescaped-escaped, escaped-unescaped}
-use Rattle.status_record.proofs.Texts.{both, first_of, second_of, cut_back, cut_only, shell_lacks_blank, path_lacks_blank, escaped_lacks_blank}
+use Rattle.status_record.proofs.Texts.{first_of, second_of, cut_back, cut_only, shell_lacks_blank, path_lacks_blank, escaped_lacks_blank}
 
 abbrev some : {A : Type 0} → A → Option A
 some x = Some x
@@ -52,7 +52,7 @@ output_back o is =
     ap (option_and_then (λ f. option_and_then (λ name. option_and_then (output_of name) (unescaped f.1)) (unescaped f.0)))
     (cut_back (escaped o.name) (escaped o.template) (escaped_lacks_blank o.name (path_lacks_blank o.name is.0)))
     ∙ ap (option_and_then (λ name. option_and_then (output_of name) (unescaped (escaped o.template)))) (unescaped-escaped o.name)
-    ∙ ap (option_and_then (output_of o.name)) (unescaped-escaped o.template) ∙ cond-true _ _ _ (both _ _ is.0 is.1)
+    ∙ ap (option_and_then (output_of o.name)) (unescaped-escaped o.template) ∙ cond-true _ _ _ (and_from _ _ is.0 is.1)
 
 pub output_only : (fields : List ℕ) (o : Output) → output_in fields ≡ Some o → IsOutput o × (fields ≡ output_fields o)
 unfolding output_in

@@ -9,6 +9,7 @@ use Rattle.std.proofs.lemmas.Slice.Eq.{bytes_eq-Decides}
 use Rattle.deftable.specs.ShellName.{IsShellName}
 use Rattle.outputlist.specs.declared.output.Output.{Output}
 use Rattle.outputlist.specs.Output.{output_names, IsOutput}
+use Rattle.std.proofs.lemmas.Bool.{and_from}
 use Rattle.status_record.specs.declared.fault.RecordFault.{RecordFault}
 use Rattle.status_record.specs.declared.fault.RecordFault.TheVariants.{BadMagic, BadLine, Truncated, UnknownVersion, DuplicateName, OutOfMemory}
 use Rattle.status_record.specs.declared.record.Record.{Record}
@@ -29,7 +30,7 @@ use Rattle.status_record.proofs.Only.{line_of, version_only, srcdir_only, lines_
 use Rattle.status_record.proofs.Sections.{Apart}
 use Rattle.fallible.proofs.Binds.{then_ok}
 use Rattle.status_record.proofs.Stops.{Reader, IsAt, IsDouble, Stops, Beyond, Faults, PartOf, HasNoBadLine, section_faults, section_loose, at_number}
-use Rattle.status_record.proofs.Texts.{both, first_of, second_of}
+use Rattle.status_record.proofs.Texts.{first_of, second_of}
 use Rattle.status_record.proofs.Whole.{all_named, version_of, IsAny, any_all, named_all, apart_lines, srcdir_back, version_back, lines_back}
 
 abbrev Entries : Type 0
@@ -406,7 +407,7 @@ after_two_fault text first second more P T f are e same loose (inr (inr b)) =
 
 pub number_is : (text : List ℕ) → is_number text ≡ true → IsNumber text
 number_is [] e = absurd cc
-number_is (b ∷ []) e = record { has_digits = λ h. absurd cc; digits = both (is_ascii_digit b) true e refl; no_zeros = λ more h. sym (tail_is b 48 [] more h) }
+number_is (b ∷ []) e = record { has_digits = λ h. absurd cc; digits = and_from (is_ascii_digit b) true e refl; no_zeros = λ more h. sym (tail_is b 48 [] more h) }
   where
     tail_is : (x y : ℕ) (xs ys : List ℕ) → x ∷ xs ≡ y ∷ ys → xs ≡ ys
     tail_is x y xs ys h = cc
@@ -426,7 +427,7 @@ number_is (b ∷ c ∷ more) e =
 number_as : (text : List ℕ) → IsNumber text → is_number text ≡ true
 number_as [] is = absurd (is.has_digits refl)
 number_as (b ∷ []) is = first_of (is_ascii_digit b) true is.digits
-number_as (b ∷ c ∷ more) is = both (not (b == 48)) (list_all is_ascii_digit (b ∷ c ∷ more)) (at (b == 48) refl) is.digits
+number_as (b ∷ c ∷ more) is = and_from (not (b == 48)) (list_all is_ascii_digit (b ∷ c ∷ more)) (at (b == 48) refl) is.digits
   where
     at : (t : Bool) → b == 48 ≡ t → not t ≡ true
     at true e =

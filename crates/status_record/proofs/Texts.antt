@@ -5,7 +5,7 @@ use Rattle.std.specs.List.{list_all, AllByRecursion, position_or_len, onto_first
 use Rattle.std.proofs.lemmas.List.{drop_more}
 use Rattle.std.proofs.lemmas.List.Folds.{list_all-append}
 use Rattle.std.proofs.lemmas.List.Quantifiers.{position-Some}
-use Rattle.std.proofs.lemmas.Bool.{cond-true, cond-false}
+use Rattle.std.proofs.lemmas.Bool.{cond-true, cond-false, and_from}
 use Rattle.std.proofs.lemmas.Bool.Decides.{Decides-eqb, nat_tests}
 use Rattle.deftable.specs.ShellName.{is_shell_name_of, starts_name, continues_name}
 use Rattle.textcut.specs.Cuts.{parts, parts_by}
@@ -18,10 +18,6 @@ use Rattle.status_record.specs.Reading.{last_of, front_of}
 -- the byte doesn't occur in the text
 abbrev pub lacks : ℕ → List ℕ → Bool
 lacks n text = list_all (λ b. not (b == n)) text
-
-pub both : (a b : Bool) → a ≡ true → b ≡ true → a && b ≡ true
-both true b e f = f
-both false b e f = cc
 
 pub first_of : (a b : Bool) → a && b ≡ true → a ≡ true
 first_of true b e = refl
@@ -42,15 +38,15 @@ differs test n b fails passes =
 lacks_by : (test : ℕ → Bool) (n : ℕ) → test n ≡ false → (text : List ℕ) → list_all test text ≡ true → lacks n text ≡ true
 lacks_by test n fails [] h = refl
 lacks_by test n fails (b ∷ bs) h =
-    both _ _ (differs test n b fails (first_of (test b) (list_all test bs) h)) (lacks_by test n fails bs (second_of (test b) (list_all test bs) h))
+    and_from _ _ (differs test n b fails (first_of (test b) (list_all test bs) h)) (lacks_by test n fails bs (second_of (test b) (list_all test bs) h))
 
 pub lacks-append : (n : ℕ) (a b : List ℕ) → lacks n a ≡ true → lacks n b ≡ true → lacks n (a ++ b) ≡ true
-lacks-append n a b e f = list_all-append (λ c. not (c == n)) a b ∙ both _ _ e f
+lacks-append n a b e f = list_all-append (λ c. not (c == n)) a b ∙ and_from _ _ e f
 
 shell_lacks : (n : ℕ) → starts_name n ≡ false → continues_name n ≡ false → (name : List ℕ) → is_shell_name_of name ≡ true → lacks n name ≡ true
 shell_lacks n s c [] h = refl
 shell_lacks n s c (b ∷ bs) h =
-    both _ _ (differs starts_name n b s (first_of (starts_name b) _ h)) (lacks_by continues_name n c bs (second_of (starts_name b) _ h))
+    and_from _ _ (differs starts_name n b s (first_of (starts_name b) _ h)) (lacks_by continues_name n c bs (second_of (starts_name b) _ h))
 
 pub shell_lacks_blank : (name : List ℕ) → is_shell_name_of name ≡ true → lacks 32 name ≡ true
 shell_lacks_blank name h = shell_lacks 32 refl refl name h
@@ -86,7 +82,7 @@ escaped_byte_lacks_blank b h =
       | true ↦ refl
       | false ↦ elim (b == 10) as (λ t. lacks 32 (cond t (92 ∷ 110 ∷ []) (b ∷ [])) ≡ true) [
         | true ↦ refl
-        | false ↦ both _ _ h refl
+        | false ↦ and_from _ _ h refl
       ]
     ]
 

@@ -2,6 +2,7 @@
 use Rattle.std.proofs.Common.{◌≡◌, ◌↔◌, ℕ, List, [], ◌∷◌, ◌++◌, Bool, true, false, ◌⊎◌, inl, inr, Option, Some, None, refl, sym, ap, ⊎_elim}
 use Rattle.std.specs.Prelude.{◌&&◌, ◌||◌, not, is_some, bytes_eq}
 use Rattle.std.proofs.lemmas.Slice.Eq.{bytes_eq-Decides}
+use Rattle.std.proofs.lemmas.Bool.{and_parts, and_from, or_left, or_right}
 use Rattle.deftable.specs.CacheName.{is_cache_name}
 use Rattle.deftable.specs.NameList.{has_name}
 use Rattle.shellword.specs.declared.element.Condition.{Condition}
@@ -27,36 +28,21 @@ use Rattle.syntax.specs.Decide.{may_read, reads_text, reads_if_given, reads_cond
 abbrev Decides : Bool → Type 0 → Type 0
 Decides b P = (b ≡ true) ↔ P
 
-and_true : (a b : Bool) → a && b ≡ true → (a ≡ true) × (b ≡ true)
-and_true true b e = (refl, e)
-and_true false b e = cc
-
-true_and : (a b : Bool) → a ≡ true → b ≡ true → a && b ≡ true
-true_and true b e f = f
-true_and false b e f = cc
-
 or_true : (a b : Bool) → a || b ≡ true → (a ≡ true) ⊎ (b ≡ true)
 or_true true b e = inl refl
 or_true false b e = inr e
-
-true_or : (a b : Bool) → a ≡ true → a || b ≡ true
-true_or a b e = ap (λ x. x || b) e
-
-or_later : (a b : Bool) → b ≡ true → a || b ≡ true
-or_later true b e = refl
-or_later false b e = e
 
 not_true : (a : Bool) → not a ≡ true → a ≡ false
 not_true true e = cc
 not_true false e = refl
 
 both : (a b : Bool) (P Q : Type 0) → Decides a P → Decides b Q → Decides (a && b) (P × Q)
-both a b P Q x y = (λ e. let h = and_true a b e in (x.0 h.0, y.0 h.1), λ p. true_and a b (x.1 p.0) (y.1 p.1))
+both a b P Q x y = (λ e. let h = and_parts a b e in (x.0 h.0, y.0 h.1), λ p. and_from a b (x.1 p.0) (y.1 p.1))
 
 either : (a b : Bool) (P Q : Type 0) → Decides a P → Decides b Q → Decides (a || b) (P ⊎ Q)
 either a b P Q x y = (
   λ e. ⊎_elim (λ h. inl (x.0 h)) (λ h. inr (y.0 h)) (or_true a b e),
-  λ p. ⊎_elim (λ h. true_or a b (x.1 h)) (λ h. or_later a b (y.1 h)) p,
+  λ p. ⊎_elim (λ h. or_left a b (x.1 h)) (λ h. or_right a b (y.1 h)) p,
 )
 
 always : Decides true (Unit {0})
