@@ -1,4 +1,3 @@
 pub mod Lists
 pub mod OutputLemmas
-pub mod FaultLemmas
 pub mod FeatureLemmas

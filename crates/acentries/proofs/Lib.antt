@@ -1,4 +1,3 @@
-pub mod FaultLemmas
 pub mod Lists
 pub mod PartsLaws
 pub mod PartsLoop

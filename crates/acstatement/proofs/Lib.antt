@@ -1,4 +1,5 @@
 pub mod Binds
+pub mod FaultLemmas
 pub mod IdleLemmas
 pub mod InsideLemmas
 pub mod Outside

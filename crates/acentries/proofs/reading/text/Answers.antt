@@ -1,4 +1,4 @@
-use Rattle.acentries.proofs.FaultLemmas.{within_from_kind}
+use Rattle.acstatement.proofs.FaultLemmas.{within_from_kind}
 use Rattle.acentries.proofs.reading.text.Goals as goal
 
 pub moved_by-requires : goal.moved_by-requires
