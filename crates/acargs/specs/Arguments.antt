@@ -21,33 +21,28 @@ text arg = quoted_at arg.at (used arg.text)
 unfoldable pub trimmed_text : Span → Result (List ℕ) ParseFault
 trimmed_text arg = text arg >>= λ t. Ok (trimmed t)
 
+-- What was read, if it has this form. If not, the argument is in error. (own)
+abbrev pub formed : Span → (List ℕ → Bool) → Result (List ℕ) ParseFault → Result (List ℕ) ParseFault
+formed arg has_form read = do
+  t ← read
+  _ ← wants (has_form t) (BadName arg.at)
+  Ok t
+
 -- A shell name or a C identifier, which have the same form. (POSIX, "Name")
 unfoldable pub name : Span → Result (List ℕ) ParseFault
-name arg = do
-  t ← trimmed_text arg
-  _ ← wants (is_shell_name_of t) (BadName arg.at)
-  Ok t
+name arg = formed arg is_shell_name_of (trimmed_text arg)
 
 -- A shell name that contains `_cv_`. (Autoconf's manual, "Cache Variable Names")
 unfoldable pub cache_name : Span → Result (List ℕ) ParseFault
-cache_name arg = do
-  n ← name arg
-  _ ← wants (is_cache_name n) (BadName arg.at)
-  Ok n
+cache_name arg = formed arg is_cache_name (name arg)
 
 -- A text on one line, without the blanks at its ends. (own)
 unfoldable pub title : Span → Result (List ℕ) ParseFault
-title arg = do
-  t ← trimmed_text arg
-  _ ← wants (is_line t) (BadName arg.at)
-  Ok t
+title arg = formed arg is_line (trimmed_text arg)
 
 -- A text on one line, with the blanks at its ends. (own)
 unfoldable pub line : Span → Result (List ℕ) ParseFault
-line arg = do
-  t ← text arg
-  _ ← wants (is_line t) (BadName arg.at)
-  Ok t
+line arg = formed arg is_line (text arg)
 
 -- The reading gives a text that is not empty, or fails. (own)
 abbrev pub says_something : Result (List ℕ) QuoteFault → Bool

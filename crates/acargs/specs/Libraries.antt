@@ -5,7 +5,7 @@ use Rattle.m4quote.specs.Entry.{Span}
 use Rattle.textcut.specs.Cuts.{fields}
 use Rattle.acstatement.specs.declared.fault.ParseFault.{ParseFault}
 use Rattle.acstatement.specs.declared.fault.ParseFault.TheVariants.{BadName}
-use Rattle.acargs.specs.Arguments.{text, trimmed_text}
+use Rattle.acargs.specs.Arguments.{text, trimmed_text, formed}
 use Rattle.acstatement.specs.Reading.{◌>>=◌, wants}
 use Rattle.syntax.specs.Feature.{is_feature}
 
@@ -15,10 +15,7 @@ is_library name = is_feature name
 
 -- The name of a library. (Autoconf's manual, "Library Files")
 unfoldable pub library : Span → Result (List ℕ) ParseFault
-library arg = do
-  t ← trimmed_text arg
-  _ ← wants (is_library t) (BadName arg.at)
-  Ok t
+library arg = formed arg is_library (trimmed_text arg)
 
 -- The libraries that a text at offset `at` lists between blanks, at least one. (Autoconf's manual, "Library Files")
 abbrev pub libraries_in : ℕ → List ℕ → Result (List (List ℕ)) ParseFault

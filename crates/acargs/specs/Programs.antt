@@ -10,7 +10,7 @@ use Rattle.shellword.specs.declared.part.Part.{Part}
 use Rattle.textcut.specs.Cuts.{is_blank, trimmed, fields, parts}
 use Rattle.acstatement.specs.declared.fault.ParseFault.{ParseFault}
 use Rattle.acstatement.specs.declared.fault.ParseFault.TheVariants.{BadName}
-use Rattle.acargs.specs.Arguments.{text, trimmed_text}
+use Rattle.acargs.specs.Arguments.{text, trimmed_text, formed}
 use Rattle.acstatement.specs.Reading.{◌>>=◌, shell_at, wants}
 use Rattle.syntax.specs.Texts.{is_empty}
 
@@ -26,10 +26,7 @@ is_program name = not (is_empty name) && list_all is_program_byte name
 
 -- The name of a program. (own)
 unfoldable pub program : Span → Result (List ℕ) ParseFault
-program arg = do
-  t ← trimmed_text arg
-  _ ← wants (is_program t) (BadName arg.at)
-  Ok t
+program arg = formed arg is_program (trimmed_text arg)
 
 -- The programs that a text at offset `at` lists between blanks, at least one. (own)
 abbrev pub programs_in : ℕ → List ℕ → Result (List (List ℕ)) ParseFault
