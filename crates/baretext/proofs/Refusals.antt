@@ -28,7 +28,8 @@ use Rattle.fallible.proofs.Binds.{chosen, failed, passed, err_is, bind_err}
 use Rattle.baretext.proofs.Fronts.{begins, item-read, read-item, item-len, named-read, assignment-named}
 use Rattle.baretext.proofs.FaultPlaces.{item-failed, placed_err}
 use Rattle.baretext.proofs.Joining.{joined_reading}
-use Rattle.baretext.proofs.Scans.{with_list, item_first, item_failed}
+use Rattle.fallible.proofs.Pieces.{with_list}
+use Rattle.baretext.proofs.Scans.{item_first, item_failed}
 
 -- `NAME=` with a word that is rejected
 record RefusedWord (stage : Stage) (at : ℕ) (text : List ℕ) (f : BareFault) : Type 0 where

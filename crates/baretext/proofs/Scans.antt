@@ -1,5 +1,5 @@
 -- The statements of a text without line continuations, item after item: the relation, the function, and the loop.
-use Rattle.std.proofs.Common.{◌≡◌, ℕ, zero, suc, ◌+◌, ◌-◌, ◌<◌, ◌≤◌, List, [], ◌∷◌, ◌++◌, length, take, drop, option_to_list, Result, Ok, Err, refl, sym, ap, subst, ◌∙◌, append_assoc, arith}
+use Rattle.std.proofs.Common.{◌≡◌, ℕ, zero, suc, ◌+◌, ◌-◌, ◌<◌, ◌≤◌, List, [], ◌∷◌, ◌++◌, length, take, drop, option_to_list, Result, Ok, Err, refl, sym, ap, subst, ◌∙◌, arith}
 use Rattle.std.proofs.lemmas.List.{take_rest, drop-drop, drop_all, append-nil, length-drop}
 use Rattle.baretext.specs.declared.assignments.Assignment.{Assignment}
 use Rattle.baretext.specs.declared.fault.BareFault.{BareFault}
@@ -9,22 +9,8 @@ use Rattle.baretext.specs.Statements.{AreStatements, no_more, more}
 use Rattle.baretext.specs.Reading.{item_of, statements_from}
 use Rattle.fallible.specs.Reading.{◌>>=◌}
 use Rattle.fallible.proofs.Binds.{ok_is, bind_ok}
+use Rattle.fallible.proofs.Pieces.{with_list, with_list-append, after_piece}
 use Rattle.baretext.proofs.Fronts.{item-read, read-item, item-len}
-
--- what was read before, and what is still read
-abbrev pub with_list : List Assignment → Result (List Assignment) BareFault → Result (List Assignment) BareFault
-with_list list read = read >>= λ rest. Ok (list ++ rest)
-
-with_list-append : (a b : List Assignment) (read : Result (List Assignment) BareFault) → with_list (a ++ b) read ≡ with_list a (with_list b read)
-with_list-append a b (Ok rest) = ap (λ (t : List Assignment). Ok t) (append_assoc a b rest)
-with_list-append a b (Err f) = refl
-
-skip_items : (k : ℕ) (stage : Stage) (at : ℕ) (text : List ℕ) → k ≤ length text → statements_from k stage at text ≡ statements_from 0 stage (at + k) (drop k text)
-unfolding statements_from
-skip_items zero stage at text h = ap (λ n. statements_from 0 stage n text) (omega arith)
-skip_items (suc k) stage at [] h = absurd (omega arith)
-skip_items (suc k) stage at (b ∷ bs) h =
-    skip_items k stage (at + 1) bs (omega arith) ∙ ap (λ n. statements_from 0 stage n (drop k bs)) (omega arith)
 
 -- from one item to the next
 pub item_first : (stage : Stage) (at : ℕ) (text : List ℕ) (i : Item) → 0 < length text → item_of stage at text ≡ Ok i → 0 < i.len → i.len ≤ length text
@@ -32,10 +18,7 @@ pub item_first : (stage : Stage) (at : ℕ) (text : List ℕ) (i : Item) → 0 <
 unfolding statements_from
 item_first stage at [] i lt found some within = absurd (omega arith)
 item_first stage at (b ∷ bs) i lt found some within =
-    let there : statements_from (i.len - 1) i.stage (at + 1) bs ≡ statements_from 0 i.stage (at + i.len) (drop i.len (b ∷ bs)) =
-    skip_items (i.len - 1) i.stage (at + 1) bs (omega arith) ∙ ap (λ m. statements_from 0 i.stage m (drop (i.len - 1) bs)) (omega arith)
-    ∙ ap (λ m. statements_from 0 i.stage (at + i.len) (drop m (b ∷ bs))) (let e : suc (i.len - 1) ≡ i.len = omega arith in e) in
-    rw (found, there) refl
+    rw (found, after_piece (λ k at text. statements_from k i.stage at text) (λ k at b bs. refl) i.len at b bs some within) refl
 
 pub item_failed : (stage : Stage) (at : ℕ) (text : List ℕ) (f : BareFault) → 0 < length text → item_of stage at text ≡ Err f → statements_from 0 stage at text ≡ Err f
 unfolding statements_from

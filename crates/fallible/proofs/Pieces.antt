@@ -6,12 +6,14 @@ use Rattle.fallible.specs.Reading.{◌>>=◌}
 abbrev pub with_list : {A F : Type 0} → List A → Result (List A) F → Result (List A) F
 with_list list read = read >>= λ more. Ok (list ++ more)
 
-pub with_list-append : {A F : Type 0} (a b : List A) (read : Result (List A) F) → with_list (a ++ b) read ≡ with_list a (with_list b read)
+pub with_list-append : {A F : Type 0} (a b : List A) (read : Result (List A) F)
+    → with_list (a ++ b) read ≡ with_list a (with_list b read)
 with_list-append {A} a b (Ok more) = ap (λ (t : List A). Ok t) (append_assoc a b more)
 with_list-append a b (Err f) = refl
 
 -- reading with `k` bytes to skip, at an offset
-module _ {R : Type 0} (read : ℕ → ℕ → List ℕ → R) (skip : (k at b : ℕ) (bs : List ℕ) → read (suc k) at (b ∷ bs) ≡ read k (at + 1) bs) where
+module _ {R : Type 0} (read : ℕ → ℕ → List ℕ → R)
+    (skip : (k at b : ℕ) (bs : List ℕ) → read (suc k) at (b ∷ bs) ≡ read k (at + 1) bs) where
   pub skipped : (k at : ℕ) (text : List ℕ) → k ≤ length text → read k at text ≡ read 0 (at + k) (drop k text)
   skipped zero at text within = ap (λ n. read 0 n text) (omega arith)
   skipped (suc k) at [] within = absurd (omega arith)
@@ -19,10 +21,12 @@ module _ {R : Type 0} (read : ℕ → ℕ → List ℕ → R) (skip : (k at b : 
       skip k at b bs ∙ skipped k (at + 1) bs (omega arith) ∙ ap (λ n. read 0 n (drop k bs)) (omega arith)
 
   -- what is read after a piece of `n` bytes
-  pub after_piece : (n at b : ℕ) (bs : List ℕ) → 0 < n → n ≤ length (b ∷ bs) → read (n - 1) (at + 1) bs ≡ read 0 (at + n) (drop n (b ∷ bs))
+  pub after_piece : (n at b : ℕ) (bs : List ℕ) → 0 < n → n ≤ length (b ∷ bs)
+      → read (n - 1) (at + 1) bs ≡ read 0 (at + n) (drop n (b ∷ bs))
   after_piece zero at b bs some within = absurd (omega arith)
   after_piece (suc k) at b bs some within =
-      ap (λ n. read n (at + 1) bs) (let e : suc k - 1 ≡ k = omega arith in e) ∙ sym (skip k at b bs) ∙ skipped (suc k) at (b ∷ bs) within
+      ap (λ n. read n (at + 1) bs) (let e : suc k - 1 ≡ k = omega arith in e)
+      ∙ sym (skip k at b bs) ∙ skipped (suc k) at (b ∷ bs) within
 
   -- what holds of the empty text, and of each text if it holds of what follows its first piece, holds of all texts
   module _ (Holds : ℕ → List ℕ → R → Type 0) (none : (at : ℕ) → Holds at [] (read 0 at []))

@@ -1,7 +1,7 @@
 use Rattle.std.proofs.Common.{◌≡◌, ◌-◌, ◌≤◌, length, drop}
 use Rattle.baretext.specs.declared.item.Stage.TheVariants.{Opening}
 use Rattle.baretext.specs.Reading.{statements_from}
-use Rattle.baretext.proofs.Scans.{with_list}
+use Rattle.fallible.proofs.Pieces.{with_list}
 use Rattle.baretext.proofs.statements.read_joined.Given as goal
 
 abbrev pub invariant-loop-at : goal.invariant-loop-at
