@@ -12,7 +12,7 @@ use Rattle.syntax.specs.declared.statement.Question.{Question}
 use Rattle.syntax.specs.declared.statement.Question.TheVariants.{Library, Libraries}
 
 -- AC_CHECK_LIB(library, function, ..), before its other libraries are read. Whether it adds the library is known after its
--- actions, so `false` stands in that place. (Autoconf's manual, "Library Files")
+-- actions, so `false` takes that place. (Autoconf's manual, "Library Files")
 unfoldable pub check_lib : List Span → Result Question ParseFault
 check_lib args = do
   l ← library (arg_at args 0)

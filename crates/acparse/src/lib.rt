@@ -8,7 +8,7 @@
 //! `specs/Statements.antt`. A list of statements is read with its list_kind (`acmacros::list_kind`): the file's own list and the
 //! commands of AC_CACHE_CHECK differ from other lists in what they may hold.
 //!
-//! `parse` also decides whether the source can be resumed (`testorder`), and `is_resumable` tells it. `forms` has a law on
+//! `parse` also decides whether the source can be resumed (`testorder`), and `is_resumable` returns it. `forms` has a law on
 //! sources that were read, for the crates above.
 //!
 //! `parse(alloc, b"AC_INIT([demo],[1.0])\nAC_OUTPUT\n")` gives a source of two statements.

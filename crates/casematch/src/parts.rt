@@ -80,7 +80,7 @@ fn ends_with(text: &[u8], bytes: &[u8]) -> bool
     text.len() >= bytes.len() && &text[text.len() - bytes.len()..] == bytes
 }
 
-/// Returns the first offset at which the part stands in the text.
+/// Returns the first offset at which the part occurs in the text.
 fn find(text: &[u8], part: &[u8]) -> Option<usize>
     ensures first { FindsNeedle text.now part.now 0 result }
     ensures within { IfSome result (λ k. k + length part.now ≤ length text.now) }

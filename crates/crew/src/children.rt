@@ -83,7 +83,7 @@ impl<L: Launcher + Drop> Children<L> {
     pub(crate) fn place_of_ended(&mut self) -> usize
         requires { IsSomeBusy self.old.events }
         ensures within { result < length (slots_in_flight self.new.events) }
-        ensures same { self.new ≡ self.old }
+        ensures unchanged { self.new ≡ self.old }
     {
         place_of_ended(self.children.as_mut_slice(), &self.slots)
     }
@@ -172,7 +172,7 @@ fn take_child<P: OpenProcess + Drop>(
     slot: usize,
 ) -> Numbered<P>
     requires slot { slot < length children.old }
-    requires some { IsSome (get_or children.old slot None) }
+    requires taken { IsSome (get_or children.old slot None) }
     ensures taken { Some result ≡ get_or children.old slot None }
     ensures left { children.new ≡ slice_set children.old slot None }
 {
@@ -182,7 +182,7 @@ fn take_child<P: OpenProcess + Drop>(
 /// Returns a reply twice, and its cause. If memory runs out, both are [`Reply::EndRefused`].
 fn doubled(alloc: Global, end: (Reply, Cause)) -> (Reply, Reply, Cause)
     requires { end.0 ≢ StartRefused }
-    ensures same { result.1 ≡ result.0 }
+    ensures copy { result.1 ≡ result.0 }
     ensures answer { result.0 ≢ StartRefused }
 {
     let (reply, cause) = end;
@@ -200,7 +200,7 @@ fn place_of_ended<P: OpenProcess + Drop>(
     children: &mut [Option<Numbered<P>>],
     slots: &VecDeque<usize>,
 ) -> usize
-    requires some { 0 < length slots.now.items }
+    requires not_empty { 0 < length slots.now.items }
     requires within { All (λ s. s < 16) slots.now.items }
     requires children { length children.old ≡ 16 }
     ensures within { result < length slots.now.items }

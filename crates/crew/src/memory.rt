@@ -85,7 +85,7 @@ impl MemoryCrew {
     pub fn events(&self) -> &[Event]
         ensures listed { result.now ≡ self.now.listed }
         // If no call is listed, no start was taken.
-        ensures none { result.now ≡ [] → self.now.account.events ≡ [] }
+        ensures not_started { result.now ≡ [] → self.now.account.events ≡ [] }
     {
         self.listed.as_slice()
     }
@@ -140,7 +140,7 @@ fn next_pair(replies: &mut Vec<Reply>, copies: &mut Vec<Reply>) -> Option<(Reply
         (λ p. reverse replies.old.items ≡ p.0 ∷ reverse replies.new.items) }
     ensures copy { IfSome result (λ p. p.1 ≡ p.0) }
     ensures len { IfSome result (λ p. length replies.old.items ≡ length replies.new.items + 1) }
-    ensures none { IfNone result (replies.new.items ≡ replies.old.items) }
+    ensures unchanged { IfNone result (replies.new.items ≡ replies.old.items) }
     ensures copies { copies.new.items ≡ replies.new.items }
 {
     let reply = replies.pop()?;

@@ -34,8 +34,8 @@ fn has_nul(name: &[u8]) -> bool
 /// Returns the name as a text, or `None` if no file can have it.
 pub(crate) fn file_name(name: &[u8]) -> Option<&str>
     ensures name { IfSome result (λ _. IsFileName name.now) }
-    ensures same { IfSome result (λ text. text.now ≡ name.now) }
-    ensures none { IfNone result (IsFileName name.now → ⊥) }
+    ensures text { IfSome result (λ text. text.now ≡ name.now) }
+    ensures no_name { IfNone result (IsFileName name.now → ⊥) }
 {
     if has_nul(name) {
         return None;

@@ -35,9 +35,9 @@ pub fn read_limited<D: Disk>(
 
 /// Returns the text, unless it has more than 64 MiB.
 fn if_whole(text: Bytes) -> Option<Bytes>
-    ensures same { IfSome result (λ whole. whole ≡ text) }
+    ensures text { IfSome result (λ whole. whole ≡ text) }
     ensures limit { IfSome result (λ whole. length whole ≤ 2 ^ 26) }
-    ensures none { IfNone result (2 ^ 26 < length text) }
+    ensures larger { IfNone result (2 ^ 26 < length text) }
 {
     if text.len() <= LARGEST_TEXT {
         Some(text)

@@ -310,7 +310,7 @@ fn take<D: Disk>(
         (Takes (D.known disk.old) (D.known disk.new) artifacts.old.items lines.old.items artifacts.new.items lines.new.items
         (record { kind = kind; name = name.now; text = text.now })) }
     ensures name { IfOk result (λ _. IsFileName name.now) }
-    ensures same { OnErr result
+    ensures unchanged { OnErr result
         (AreSame artifacts.old.items lines.old.items artifacts.new.items lines.new.items) }
     ensures undone { OnErr result
         (Does (D.known disk.old) (D.known disk.new) (λ k deeds. IsRefused k name.now kind deeds)) }

@@ -51,9 +51,9 @@ fn run_ready<C: Crew>(
     ensures idle { IsIdle (C.account crew.new).events }
     ensures landed { in_flight (C.account crew.new).events ≡ in_flight (C.account crew.old).events }
     ensures begun { OnErr result (HasRunPart window (script_of source.now) start (C.account crew.old) (C.account crew.new)) }
-    ensures meant { IfOk result (λ r. IsMeant window (script_of source.now) start (C.account crew.old) (C.account crew.new) r.report) }
+    ensures meaning { IfOk result (λ r. IsMeant window (script_of source.now) start (C.account crew.old) (C.account crew.new) r.report) }
     ensures artifacts { IfOk result (λ r. r.artifacts ≡ artifacts (script_of source.now) start templates.now r.report) }
-    ensures handed { IfOk result (λ r. r.report.handed ≡ length r.artifacts) }
+    ensures reported { IfOk result (λ r. r.report.handed ≡ length r.artifacts) }
     ensures reads_back { IfOk result (λ r. IfCompleted r.report.outcome (ReadsBack (record_after (script_of source.now) start r.report))) }
     ensures saved { IfOk result (λ r. IfNamed start.cache_name (IsCacheOf r.report.vars)) }
 {
@@ -96,8 +96,8 @@ fn run_ready<C: Crew>(
 /// Hands over what a run left.
 fn hand_over<O: Outputs>(ready: Ready, outputs: &mut O) -> Result<Report, Fault>
     requires puts { (O.receipt outputs.old).failures < 2 ^ 62 }
-    requires handed { ready.report.handed ≡ length ready.artifacts }
-    ensures all { IfOk result (λ report. (report ≡ ready.report) × (O.receipt outputs.new ≡ with_artifacts (O.receipt outputs.old) ready.artifacts)) }
+    requires reported { ready.report.handed ≡ length ready.artifacts }
+    ensures handed_over { IfOk result (λ report. (report ≡ ready.report) × (O.receipt outputs.new ≡ with_artifacts (O.receipt outputs.old) ready.artifacts)) }
     ensures cut { IfErr result (λ f. IsRefusedPut ready.report ready.artifacts (O.receipt outputs.old) (O.receipt outputs.new) f) }
 {
     let Ready {
@@ -204,10 +204,10 @@ pub fn configure<C: Crew, O: Outputs>(
     ensures accepted { IsAnswer (judged source.now args.now env.now (option_map (λ c. c.now) cache.entry) templates.now) result }
     ensures untouched { IsNotRun (judged source.now args.now env.now (option_map (λ c. c.now) cache.entry) templates.now) → (crew.new ≡ crew.old) × (outputs.new ≡ outputs.old) }
     // A run is the meaning of its source, from its opening, under the replies of the crew.
-    ensures meant { IfStarts (judged source.now args.now env.now (option_map (λ c. c.now) cache.entry) templates.now) (λ script start.
+    ensures meaning { IfStarts (judged source.now args.now env.now (option_map (λ c. c.now) cache.entry) templates.now) (λ script start.
         IfReport result (IsMeant window script start (C.account crew.old) (C.account crew.new))) }
     // The cache is handed over, if one is named, and after it, if the run is completed, the record and the outputs.
-    ensures handed { IfStarts (judged source.now args.now env.now (option_map (λ c. c.now) cache.entry) templates.now) (λ script start.
+    ensures artifacts { IfStarts (judged source.now args.now env.now (option_map (λ c. c.now) cache.entry) templates.now) (λ script start.
         IfOk result (λ report. O.receipt outputs.new ≡ with_artifacts (O.receipt outputs.old) (artifacts script start templates.now report))) }
     // The text of the record of a completed run is read as the record that its outputs are made of.
     ensures remade { IfStarts (judged source.now args.now env.now (option_map (λ c. c.now) cache.entry) templates.now) (λ script start.

@@ -129,7 +129,7 @@ pub fn artifacts_of(
     defs: &Defs,
 ) -> Result<Artifacts, AllocError>
     requires { AreOutputs (lists_of (script_of source.now)).files (lists_of (script_of source.now)).headers }
-    ensures all { IfOk result (λ t. t ≡ hands.artifacts_of (option_map (λ n. n.now) cache_name.entry) no_create templates.now outcome vars.now
+    ensures artifacts { IfOk result (λ t. t ≡ hands.artifacts_of (option_map (λ n. n.now) cache_name.entry) no_create templates.now outcome vars.now
         (hands.run_record (script_of source.now) srcdir.now args.now vars.now defs.now)) }
     ensures saved { IfOk result (λ t. hands.IfNamed (option_map (λ n. n.now) cache_name.entry) (hands.IsCacheOf vars.now)) }
     ensures reads_back { OnOk result (hands.IfCompleted outcome (hands.ReadsBack (hands.run_record (script_of source.now) srcdir.now args.now vars.now defs.now))) }

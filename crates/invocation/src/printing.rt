@@ -25,8 +25,8 @@ const MOST_WRITES: usize = 1 << 32;
 #[tactic(auto, using(crate::proofs::Fronts::nothing_more))]
 fn write_once<E: Write>(text: &[u8], errors: &mut E) -> Option<usize>
     ensures within { IfSome result (λ n. n ≤ length text.now) }
-    ensures some { IfSome result (λ n. Appends (E.contents errors.old) (E.contents errors.new) (take n text.now)) }
-    ensures none { IfNone result (Appends (E.contents errors.old) (E.contents errors.new) []) }
+    ensures taken { IfSome result (λ n. Appends (E.contents errors.old) (E.contents errors.new) (take n text.now)) }
+    ensures nothing { IfNone result (Appends (E.contents errors.old) (E.contents errors.new) []) }
 {
     match errors.write(text) {
         Ok(0) => None,

@@ -23,7 +23,7 @@ abbrev is_cut : How → Bool
 is_cut Cut = true
 is_cut how = false
 
--- Each end tells whether a reply was refused, here or before.
+-- Each end shows whether a reply was refused, here or before.
 abbrev Tells : Bool → Run → Type 0
 Tells b (Ends how st) = b ≡ is_cut how
 Tells b (Asks jobs next) = (replies : List Reply) → length replies ≡ length jobs → Tells (b || refused_in replies) (next replies)

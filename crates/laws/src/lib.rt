@@ -58,12 +58,12 @@ pub fn set_row_asks_nothing()
 
 /// A test that doesn't continue leaves the variables as they were, if its body sets its name alone.
 pub fn broken_leaves_variables()
-    ensures same { BrokenLeavesVariables }
+    ensures unchanged { BrokenLeavesVariables }
 {}
 
 /// The test of each kind leaves variables and definitions as they were if it doesn't continue.
 pub fn broken_row_leaves_variables()
-    ensures same { BrokenRowLeavesVariables }
+    ensures unchanged { BrokenRowLeavesVariables }
 {}
 
 /// The commands that AC_CACHE_CHECK may have set its name alone, and define nothing.
@@ -73,7 +73,7 @@ pub fn commands_write_alone()
 
 /// AC_CACHE_CHECK with such commands leaves variables and definitions as they were if it doesn't continue.
 pub fn broken_check_leaves_variables()
-    ensures same { BrokenCheckLeavesVariables }
+    ensures unchanged { BrokenCheckLeavesVariables }
 {}
 
 /// The names that are set at the end of a run are exactly those that were set at its beginning, those that a statement
@@ -137,7 +137,7 @@ pub fn batch_keeps_set()
 
 /// A batch asks for no more children than it has entries.
 pub fn batch_asks_few()
-    ensures few { BatchAsksFew }
+    ensures within { BatchAsksFew }
 {}
 
 /// A batch asks for at most one child for a name, also if the name is listed twice.

@@ -395,7 +395,7 @@ impl Machine {
         requires asking { self.old.phase ≡ Phase.Asking }
         requires holds { Holds (map shown steps.now) self.old }
         requires inside { StaysInside (map shown steps.now) }
-        requires few { asks_after (map shown steps.now) 0 ≤ 2 ^ 36 }
+        requires within { asks_after (map shown steps.now) 0 ≤ 2 ^ 36 }
         ensures turned { IfOk result (λ turn. Turned (map shown steps.now) turn self.old self.new) }
         ensures err { OnErr result (self.new.phase ≡ Phase.Failed) }
         ensures fits_after_error { OnErr result (Fits (map shown steps.now) self.new) }

@@ -54,7 +54,7 @@ abbrev pub with_cut_line : Option ℕ → State → State
 with_cut_line None st = st
 with_cut_line (Some number) st = told streams.Err (cut_line number) st
 
--- A run that tells at its end at which child it was cut short: so many jobs were asked for before, and `refused` is the
+-- A run that records at its end at which child it was cut short: so many jobs were asked for before, and `refused` is the
 -- number of the first refused child among them. (own)
 abbrev pub last_words : ℕ → Option ℕ → Run → Run
 last_words before refused (Ends Cut st) = Ends Cut (with_cut_line refused st)

@@ -27,7 +27,7 @@ fn put_one<O: Outputs>(outputs: &mut O, artifact: &Artifact) -> Result<(), PutRe
 /// after it.
 pub fn put_all<O: Outputs>(outputs: &mut O, artifacts: &[Artifact]) -> Result<(), u64>
     requires { (O.receipt outputs.old).failures < 2 ^ 62 }
-    ensures all { OnOk result (O.receipt outputs.new ≡ with_artifacts (O.receipt outputs.old) artifacts.now) }
+    ensures handed_over { OnOk result (O.receipt outputs.new ≡ with_artifacts (O.receipt outputs.old) artifacts.now) }
     ensures cut { IfErr result (IsCutAt artifacts.now (O.receipt outputs.old) (O.receipt outputs.new)) }
 {
     let mut number = 0u64;

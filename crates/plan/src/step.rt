@@ -93,7 +93,7 @@ impl<'a> Plan<'a> {
     /// Makes a plan from the steps.
     pub(crate) fn new(code: Code<'a>) -> Plan<'a>
         requires inside { StaysInside code }
-        requires few { length code ≤ 2 ^ 20 }
+        requires within { length code ≤ 2 ^ 20 }
         requires each { AskFew code }
         ensures { result ≡ code.entry }
     {

@@ -38,9 +38,9 @@ impl Queue {
 
     /// Takes the next job, if there is one.
     pub(crate) fn take_first(&mut self) -> Option<Job>
-        ensures some { IfSome result (λ job. self.old ≡ job ∷ self.new) }
-        ensures none { IfNone result (self.old ≡ []) }
-        ensures same { IfNone result (self.new ≡ []) }
+        ensures taken { IfSome result (λ job. self.old ≡ job ∷ self.new) }
+        ensures empty { IfNone result (self.old ≡ []) }
+        ensures unchanged { IfNone result (self.new ≡ []) }
     {
         self.jobs.pop()
     }

@@ -16,7 +16,7 @@ fn next_start(slots: &[Option<usize>], jobs: &mut Queue) -> Option<(usize, Job)>
     ensures free { IfSome result (λ r. slice_get slots.now r.0 ≡ Some None) }
     ensures least { IfSome result (λ r. HeldBelow r.0 slots.now) }
     ensures job { IfSome result (λ r. jobs.old ≡ r.1 ∷ jobs.new) }
-    ensures none { IfNone result (AllHeld slots.now ⊎ (jobs.old ≡ [])) }
+    ensures no_start { IfNone result (AllHeld slots.now ⊎ (jobs.old ≡ [])) }
     ensures unchanged { IfNone result (jobs.new ≡ jobs.old) }
 {
     let slot = free_slot(slots)?;

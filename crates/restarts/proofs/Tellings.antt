@@ -1,4 +1,4 @@
--- The report of a run tells of it.
+-- The report of a run describes it.
 use Rattle.std.proofs.Common.{length, Some, sym, ap, ◌∙◌}
 use Rattle.std.specs.Prelude.{option_map}
 use Rattle.engine.specs.Told.{outcome_of}

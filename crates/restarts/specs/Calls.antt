@@ -85,7 +85,7 @@ pub record Saved (given : Given) (cache : Option (List ℕ)) (window : ℕ) (scr
   -- The length of the text that was handed over.
   pub small : length (cache_text_of report.vars) ≤ limit
 
--- The report tells of the run that begins so, under these replies, which are as many as its jobs.
+-- The report describes the run that begins so, under these replies, which are as many as its jobs.
 -- (own)
 pub record Tells (script : Script) (start : Start) (replies : List Reply) (report : Report) : Type 0 where
   pub enough : HasReplies (played script (opened start.vars) replies) replies
@@ -93,7 +93,7 @@ pub record Tells (script : Script) (start : Start) (replies : List Reply) (repor
   pub vars : report.vars ≡ (played script (opened start.vars) replies).state.vars
   pub defs : report.defs ≡ (played script (opened start.vars) replies).state.defs
 
--- The report of each run tells of it, under the replies of its crew, at any window and in any order
+-- The report of each run describes it, under the replies of its crew, at any window and in any order
 -- of ends. (own)
 abbrev pub ReportsTell : Type 0
 ReportsTell = (window : ℕ) (script : Script) (start : Start) (before now : Account) (report : Report)

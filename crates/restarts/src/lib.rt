@@ -2,7 +2,7 @@
 //!
 //! There is no code here. Each function does nothing, and its contract is a theorem on the
 //! definitions of `engine` and `resuming`. Read `specs/Calls.antt` (what a call is given, and what
-//! its report tells), `specs/Second.antt` (a second call is accepted), and then `specs/Law.antt`
+//! its report describes), `specs/Second.antt` (a second call is accepted), and then `specs/Law.antt`
 //! (it ends as one call would).
 //!
 //! For example, say that a source checks the header `a.h` and then the function `f`, and that the

@@ -335,7 +335,7 @@ environment =>
 |AC_INIT([x],[1])^JAC_MSG_ERROR([no],[7])^JAC_OUTPUT^J%%^J => 7 err configure: error: no^J
 |AC_INIT([x],[1])^JAC_MSG_ERROR([no],[7])^JAC_OUTPUT^J%%^J|errors => 7
 |AC_INIT([x],[1])^JPATH=/x^JAC_PROG_CC^JAC_OUTPUT^J%%^J => 3 err configure: cut short at child 1^J
-// Where a fault can't be told, the status tells it.
+// If a fault can't be printed, the status shows it.
 |0 1 1|errors => 2
 // arguments that are not known
 ,standin => 2 err acrun: usage^J

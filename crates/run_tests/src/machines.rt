@@ -31,7 +31,7 @@ fn reply(alloc: Global, machine: &mut Machine, status: &[u8])
     }
 }
 
-/// Replies to what is asked next, puts how many jobs are asked, and tells whether any is.
+/// Replies to what is asked next, puts how many jobs are asked, and whether any is.
 fn is_answered(page: &mut Page, machine: &mut Machine, plan: &Plan, status: &[u8]) -> bool
     requires { Fits plan.now machine.old }
     ensures { OnTrue result (Fits plan.now machine.new) }

@@ -51,8 +51,8 @@ impl OpenTests {
 
     /// Takes the innermost test.
     pub fn close(&mut self) -> Option<Bytes>
-        ensures some { IfSome result (λ name. self.old ≡ name ∷ self.new) }
-        ensures none { IfNone result ((self.old ≡ []) × (self.new ≡ [])) }
+        ensures taken { IfSome result (λ name. self.old ≡ name ∷ self.new) }
+        ensures empty { IfNone result ((self.old ≡ []) × (self.new ≡ [])) }
     {
         self.names.pop()
     }

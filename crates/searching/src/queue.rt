@@ -36,8 +36,8 @@ impl Queue {
 
     /// Takes the text that is tried next.
     pub fn take_first(&mut self) -> Option<Bytes>
-        ensures some { IfSome result (λ text. self.old ≡ text ∷ self.new) }
-        ensures none { IfNone result (self.old ≡ []) }
+        ensures taken { IfSome result (λ text. self.old ≡ text ∷ self.new) }
+        ensures empty { IfNone result (self.old ≡ []) }
     {
         self.texts.pop()
     }

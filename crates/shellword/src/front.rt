@@ -95,7 +95,7 @@ fn escaped_part(context: Context, byte: u8) -> Option<Part>
 /// Reads the front of a text that is a backslash and then `rest`.
 fn read_backslash(context: Context, rest: &[u8]) -> Front
     ensures value { result ≡ backslash_front context rest.now }
-    ensures some { 0 < result.len }
+    ensures not_empty { 0 < result.len }
     ensures within { result.len ≤ length rest.now + 1 }
 {
     match rest.split_first() {

@@ -104,7 +104,7 @@ pub(crate) fn is_escaped(awaited: Awaited, byte: u8) -> bool
 /// Returns the number of bytes at the front of a text that are shown as they are.
 pub(crate) fn plain_len(awaited: Awaited, text: &[u8]) -> usize
     ensures within { result ≤ length text.now }
-    ensures some { 0 < length text.now → form.is_escaped awaited (slice_index text.now 0) ≡ false → 0 < result }
+    ensures not_empty { 0 < length text.now → form.is_escaped awaited (slice_index text.now 0) ≡ false → 0 < result }
     ensures plain { (n : ℕ) → n ≤ result → form.shown awaited (take n text.now) ≡ take n text.now }
 {
     let mut lacking = awaited;

@@ -120,7 +120,7 @@ fn write_front<W: Write>(stream: &mut W, awaited: Awaited, text: &[u8]) -> io::R
 /// Writes all of what [`write_front`] writes a part of. The text has a byte.
 fn put_front<W: Write>(stream: &mut W, awaited: Awaited, text: &[u8]) -> io::Result<usize>
     requires { 0 < length text.now }
-    ensures some { IfOk result (λ n. 0 < n) }
+    ensures not_empty { IfOk result (λ n. 0 < n) }
     ensures within { IfOk result (λ n. n ≤ length text.now) }
     ensures shown { IfOk result (λ n. Appends (W.contents stream.old) (W.contents stream.new) (shown awaited (take n text.now))) }
 {

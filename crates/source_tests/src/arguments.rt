@@ -257,7 +257,7 @@ fn put_calls(page: &mut Page, items: &[Item<'_>]) {
     }
 }
 
-/// Returns whether the first call among items stands as a statement does.
+/// Returns whether the first call among items is in the place of a statement.
 fn stands(items: &[Item<'_>]) -> bool {
     let mut line_start = LIST_START;
     for (i, item) in items.iter().enumerate() {
@@ -409,7 +409,7 @@ idle  # x^J => yes
 idle [# x] => yes
 idle # x^Ja => no
 idle : => no
-// calls that stand as statements do
+// calls in the place of statements
 stands AC_X => yes
 stands  AC_X([a])^Ja => yes
 stands a=1; AC_X # b => yes

@@ -12,7 +12,7 @@ enum Told {
     Assigned,
     /// How many there are, whether there is none, and each as it is taken from the list.
     Taken,
-    /// How many there are if the text stands 100,000 times.
+    /// How many there are if the text is repeated 100,000 times.
     Long,
 }
 

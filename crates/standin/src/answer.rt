@@ -109,7 +109,7 @@ fn first_barred<'a>(
     conftest: &[u8],
 ) -> Result<Option<&'a [u8]>, AllocError>
     ensures found { IfOk result (λ o. IfSome o (λ line. IsFirstBarred list.now conftest.now line.now)) }
-    ensures none { IfOk result (λ o. IfNone o (HasNoBarred list.now conftest.now)) }
+    ensures accepted { IfOk result (λ o. IfNone o (HasNoBarred list.now conftest.now)) }
 {
     let lines = parts(alloc, list, b'\n')?;
     for line in lines.as_slice() {

@@ -67,7 +67,7 @@ pub(crate) fn fill_closed(
 
 /// States that a template has exactly one filled text: the one that the function `filled` gives.
 pub fn has_one_filled_text(text: &[u8], table: &Table)
-    ensures some { Fills table.now text.now (filled table.now text.now) }
+    ensures filled { Fills table.now text.now (filled table.now text.now) }
     ensures unique { (made : List ℕ) → Fills table.now text.now made → made ≡ filled table.now text.now }
 {
     // for the proof only
@@ -115,7 +115,7 @@ fn value_between<'a>(text: &[u8], table: &'a Table, held: Held, at: usize) -> Op
     requires { HasNextAt text.now (read_to held.last held.opened) at }
     ensures value { IfSome result (λ x. value_of table.now (slice_range text.now (held.last + 1) at) ≡ Some x.now) }
     ensures opened { IfSome result (λ _. held.opened ≡ true) }
-    ensures none { IfNone result (held.opened ≡ true → value_of table.now (slice_range text.now (held.last + 1) at) ≡ None) }
+    ensures no_value { IfNone result (held.opened ≡ true → value_of table.now (slice_range text.now (held.last + 1) at) ≡ None) }
 {
     if held.opened {
         table.get(&text[held.last + 1..at])

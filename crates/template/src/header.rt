@@ -239,7 +239,7 @@ pub fn fill_header(alloc: Global, text: &[u8], definitions: &Defs) -> Result<Vec
 
 /// States that a header template makes exactly one header: the one that the function `headed` gives.
 pub fn has_one_header(text: &[u8], definitions: &Defs)
-    ensures some { header.AreMadeOf definitions.now (lines_of text.now) (header.headed definitions.now text.now) }
+    ensures made { header.AreMadeOf definitions.now (lines_of text.now) (header.headed definitions.now text.now) }
     ensures unique { (made : List ℕ) → header.AreMadeOf definitions.now (lines_of text.now) made → made ≡ header.headed definitions.now text.now }
 {
     // for the proof only

@@ -38,7 +38,7 @@ pub(crate) fn next_sign(text: &[u8], window: Window, from: usize) -> Option<(usi
     requires { IsWindow text.now window.base window.end window.marks from }
     ensures found { IfSome result (λ p. HasNextAt text.now from p.0) }
     ensures later { IfSome result (λ p. IsWindow text.now p.1.base p.1.end p.1.marks (p.0 + 1)) }
-    ensures none { IfNone result (HasNoAt (drop from text.now)) }
+    ensures no_sign { IfNone result (HasNoAt (drop from text.now)) }
 {
     let mut window = window;
     while window.marks == 0 {
@@ -61,7 +61,7 @@ fn last_sign(text: &[u8], from: usize) -> Option<(usize, Window)>
     requires { from ≤ length text.now }
     ensures found { IfSome result (λ p. HasNextAt text.now from p.0) }
     ensures later { IfSome result (λ p. IsWindow text.now p.1.base p.1.end p.1.marks (p.0 + 1)) }
-    ensures none { IfNone result (HasNoAt (drop from text.now)) }
+    ensures no_sign { IfNone result (HasNoAt (drop from text.now)) }
 {
     let ahead = memchr(b'@', &text[from..])?;
     let at = from + ahead;

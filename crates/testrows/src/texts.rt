@@ -1,4 +1,4 @@
-//! Texts in other forms than as they stand: with escapes, and with repetitions.
+//! Texts with escapes, and with repetitions.
 
 use crate::page::Page;
 use crate::table::cut;

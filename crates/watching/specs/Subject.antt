@@ -59,6 +59,6 @@ told_by (Some file) = told file.1
 unfoldable pub command_of : List (List ℕ) → List ℕ
 command_of words = line_front (flat_map (λ word. 32 ∷ word) words)
 
--- What a line says of a job: what its conftest tests if the text tells that, and otherwise the words of the command. (own)
+-- What a line says of a job: what its conftest tests if the text shows that, and otherwise the words of the command. (own)
 unfoldable pub subject_of : Job → List ℕ
 subject_of job = unwrap_or (told_by job.file) (command_of job.words)

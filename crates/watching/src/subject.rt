@@ -143,7 +143,7 @@ fn told_by(file: &Option<(Bytes, Bytes)>) -> Option<Line>
     }
 }
 
-/// Returns what a line says of a job: what its conftest tests if the text tells that, and otherwise the words of the command.
+/// Returns what a line says of a job: what its conftest tests if the text shows that, and otherwise the words of the command.
 #[tactic(auto, unfolding(crate::specs::Subject::subject_of))]
 pub(crate) fn subject_of(job: &Job) -> Line
     ensures { result.items ≡ subject.subject_of job.now }

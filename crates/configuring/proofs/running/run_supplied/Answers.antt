@@ -19,7 +19,7 @@ returns-clause-run g c = λ other.
       run_done g.D.Disk.known c.args.outputs.now.disk c.keep_inputs.new.outputs answer.new.outputs c.tell_result.new.outputs c.args.window c.args.why.now.text.now c.args.why.now.args.now c.args.env.now _ _
           (g.C.Crew.account c.args.crew.now) (g.C.Crew.account answer.new.crew) answer.result told.0 c.args.supplies.now.quiet c.tell_result.result
           (c.keep_inputs.ensures ∙ c.requires.fresh) c.requires.source given
-          answer.ensures.accepted (λ not_run. let same = answer.ensures.untouched not_run in (ap g.C.Crew.account same.0, same.1)) answer.ensures.meant answer.ensures.handed c.requires.quiet told.1 told.2 told.4,
+          answer.ensures.accepted (λ not_run. let same = answer.ensures.untouched not_run in (ap g.C.Crew.account same.0, same.1)) answer.ensures.meaning answer.ensures.artifacts c.requires.quiet told.1 told.2 told.4,
       told.3,
       told.5,
     )

@@ -8,4 +8,4 @@ returns-in-Some-clause-text g c =
     let known = g.D.Disk.known c.args.disk.now in
     whole_read known c.args.name.now c.in-Some.text c.if_whole.result
     (subst (λ o. IfSome known (λ k. IsReadLimited k c.args.name.now o)) c.in-Some.is c.in_ok-text.ensures.text)
-    c.if_whole.ensures.same c.if_whole.ensures.limit c.if_whole.ensures.none
+    c.if_whole.ensures.text c.if_whole.ensures.limit c.if_whole.ensures.larger

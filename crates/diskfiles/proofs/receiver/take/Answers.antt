@@ -29,9 +29,9 @@ returns-clause-taken g c =
     let path = c.in-Some.path.now in
     let file = c.file_of-file.result.now in
     let named : List ℕ → Artifact = λ n. record { kind = c.args.kind; name = n; text = c.args.text.now } in
-    subst (λ n. OnOk c.keep_written.result (Takes known after c.args.artifacts.now.items c.args.lines.now.items c.keep_written.new.artifacts.items c.keep_written.new.lines.items (named n))) c.in-Some.ensures.same
+    subst (λ n. OnOk c.keep_written.result (Takes known after c.args.artifacts.now.items c.args.lines.now.items c.keep_written.new.artifacts.items c.keep_written.new.lines.items (named n))) c.in-Some.ensures.text
     (takes_is c.keep_written.result known _ _ _ _ _ c.args.kind c.in-Ok.unchanged path file c.args.text.now c.in-Ok-from_slices.artifact c.saying_of-saying.result
-    (c.in-Ok-from_slices.ensures ∙ ap named (sym c.in-Some.ensures.same)) c.saying_of-saying.ensures c.in-Ok.ensures
+    (c.in-Ok-from_slices.ensures ∙ ap named (sym c.in-Some.ensures.text)) c.saying_of-saying.ensures c.in-Ok.ensures
     (subst (λ f. IfSome known (λ k. IsEnd k path c.args.kind f)) (sym c.file_of-file.ensures) c.in_ok-end.ensures)
     c.keep_written.ensures.ok c.keep_written.ensures.stepped)
 
@@ -41,7 +41,7 @@ returns-clause-undone g c =
     let after = g.D.Disk.known c.keep_written.new.disk in
     let path = c.in-Some.path.now in
     let file = c.file_of-file.result.now in
-    subst (λ n. OnErr c.keep_written.result (Does known after (λ k deeds. IsRefused k n c.args.kind deeds))) c.in-Some.ensures.same
+    subst (λ n. OnErr c.keep_written.result (Does known after (λ k deeds. IsRefused k n c.args.kind deeds))) c.in-Some.ensures.text
     (refuses_is c.keep_written.result known _ c.args.kind c.in-Ok.unchanged path file c.saying_of-saying.result c.saying_of-saying.ensures
     (subst (λ f. IfSome known (λ k. IsEnd k path c.args.kind f)) (sym c.file_of-file.ensures) c.in_ok-end.ensures)
     c.keep_written.ensures.undone)

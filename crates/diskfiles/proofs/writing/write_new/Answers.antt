@@ -9,7 +9,7 @@ returns-in-Some-clause-replaced g c =
     let before = g.D.Disk.known c.args.disk.now in
     let after = g.D.Disk.known c.create_filled.new.disk in
     ok_then c.create_filled.result c.create_filled.ensures.done
-    (λ made. subst (λ n. Does before after (λ k d. IsReplaced k n c.args.text.now d)) c.in-Some.ensures.same
+    (λ made. subst (λ n. Does before after (λ k d. IsReplaced k n c.args.text.now d)) c.in-Some.ensures.text
     (made_anew before _ after c.in-Some.path.now c.args.text.now c.clear.ensures made))
 
 pub returns-in-Some-clause-begun : goal.returns-in-Some-clause-begun
@@ -17,7 +17,7 @@ returns-in-Some-clause-begun g c =
     let before = g.D.Disk.known c.args.disk.now in
     let after = g.D.Disk.known c.create_filled.new.disk in
     err_then c.create_filled.result c.create_filled.ensures.failed
-    (λ made. subst (λ n. Does before after (λ k d. IsBegun k n d)) c.in-Some.ensures.same
+    (λ made. subst (λ n. Does before after (λ k d. IsBegun k n d)) c.in-Some.ensures.text
     (begun_anew before _ after c.in-Some.path.now c.clear.ensures made))
 
 pub returns-in-None-clause-begun : goal.returns-in-None-clause-begun

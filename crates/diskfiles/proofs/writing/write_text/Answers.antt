@@ -18,5 +18,5 @@ returns-clause-written g c =
     let before = g.D.Disk.known c.args.disk.now in
     let after = g.D.Disk.known c.replace.new.disk in
     ok_then c.replace.result c.replace.ensures.written
-    (λ w. subst (λ n. Does before after (λ k d. IsWritten k c.args.keeps n c.args.text.now d)) c.in-Some.ensures.same
+    (λ w. subst (λ n. Does before after (λ k d. IsWritten k c.args.keeps n c.args.text.now d)) c.in-Some.ensures.text
     (is_written before after c.args.keeps c.in-Some.path.now c.args.text.now c.in_ok-mode.mode c.in_ok-found.found c.in_ok-found.ensures c.in_ok-mode.ensures w))

@@ -8,11 +8,11 @@ returns-clause-accepted g c = is_answer _ _ _ _ _ _ _ _ _ c.whole.ensures.whole
 pub returns-clause-untouched : goal.returns-clause-untouched
 returns-clause-untouched g c = is_untouched _ _ _ _ _ _ _ _ _ c.whole.ensures.whole
 
-pub returns-clause-meant : goal.returns-clause-meant
-returns-clause-meant g c = is_meant _ _ _ _ _ _ _ _ _ c.whole.ensures.whole
+pub returns-clause-meaning : goal.returns-clause-meaning
+returns-clause-meaning g c = is_meant _ _ _ _ _ _ _ _ _ c.whole.ensures.whole
 
-pub returns-clause-handed : goal.returns-clause-handed
-returns-clause-handed g c = is_handed _ _ _ _ _ _ _ _ _ c.whole.ensures.whole
+pub returns-clause-artifacts : goal.returns-clause-artifacts
+returns-clause-artifacts g c = is_handed _ _ _ _ _ _ _ _ _ c.whole.ensures.whole
 
 pub returns-clause-reported : goal.returns-clause-reported
 returns-clause-reported g c = is_reported _ _ _ _ _ _ _ _ _ c.whole.ensures.whole

@@ -8,5 +8,5 @@ pub writes-preserved : goal.writes-preserved
 writes-preserved g c = record {
   within = omega (arith, c.writes.invariant.within, c.in-Some.ensures.within, length-drop c.writes.taken c.args.text.now);
   written = front_more _ _ _ _ _ _ c.writes.invariant.written
-      (subst (λ rest. Appends (g.E.Write.contents c.writes.errors) (g.E.Write.contents c.write_once.new.errors) (take c.in-Some.n rest)) (take_rest c.args.text.now c.writes.taken) c.in-Some.ensures.some);
+      (subst (λ rest. Appends (g.E.Write.contents c.writes.errors) (g.E.Write.contents c.write_once.new.errors) (take c.in-Some.n rest)) (take_rest c.args.text.now c.writes.taken) c.in-Some.ensures.taken);
 }

@@ -34,7 +34,7 @@ returns-then-is_idle-clause-served g c =
     let jobs = c.args.machine.now.jobs in
     subst (λ n. Served n (g.C.Crew.account c.args.crew.now) jobs c.turns.machine.replies (g.C.Crew.account c.turns.crew)) c.turns.auto.slots
     (serving_ends _ _ _ _ _ _ c.turns.invariant.serving (c.if-is_idle.ensures.idle refl) (omega (arith, c.turns.auto.slots, c.requires.window.0))
-    (λ lt. ⊎_elim (λ held. held) (λ none. let all = all_attempted jobs started (sym c.turns.invariant.queue ∙ none) in absurd (omega arith)) c.in_default.ensures.none))
+    (λ lt. ⊎_elim (λ held. held) (λ none. let all = all_attempted jobs started (sym c.turns.invariant.queue ∙ none) in absurd (omega arith)) c.in_default.ensures.no_start))
 
 pub end_one-requires-clause-failures : goal.end_one-requires-clause-failures
 end_one-requires-clause-failures g c = room_to_end _ _ _ _ _ _ c.turns.invariant.serving (c.if-is_idle.ensures.held refl) c.requires.failures

@@ -5,8 +5,8 @@ use Rattle.shown.proofs.awaited.plain_len.Goals as goal
 pub loop-i-init : goal.loop-i-init
 loop-i-init c = (refl, plain_none _ _)
 
-pub returns-then-is_escaped-clause-some : goal.returns-then-is_escaped-clause-some
-returns-then-is_escaped-clause-some c = λ has plain. not_at_front _ _ _ _ c.loop-i.invariant.0 (sym c.is_escaped.ensures ∙ c.if-is_escaped.true) plain
+pub returns-then-is_escaped-clause-not_empty : goal.returns-then-is_escaped-clause-not_empty
+returns-then-is_escaped-clause-not_empty c = λ has plain. not_at_front _ _ _ _ c.loop-i.invariant.0 (sym c.is_escaped.ensures ∙ c.if-is_escaped.true) plain
 
 pub returns-then-is_escaped-clause-plain : goal.returns-then-is_escaped-clause-plain
 returns-then-is_escaped-clause-plain c = c.loop-i.invariant.1.fronts

@@ -13,4 +13,4 @@ returns-clause-exact c =
     ∙ comes_to_end c.args.table.now c.args.text.now made held.start held.last held.opened c.in_ok-made.ensures.come c.in_ok-made.ensures.end
 
 pub returns-clause-sound : goal.returns-clause-sound
-returns-clause-sound c = subst (Fills c.args.table.now c.args.text.now) (sym (returns-clause-exact c)) c.has_one_filled_text.ensures.some
+returns-clause-sound c = subst (Fills c.args.table.now c.args.text.now) (sym (returns-clause-exact c)) c.has_one_filled_text.ensures.filled

@@ -14,4 +14,4 @@ loop-at-init c = record {
 }
 
 pub returns-clause-end : goal.returns-clause-end
-returns-clause-end c = subst (λ n. HasNoAt (drop n c.args.text.now)) (sym c.loop-at.invariant.read) c.in_default.ensures.none
+returns-clause-end c = subst (λ n. HasNoAt (drop n c.args.text.now)) (sym c.loop-at.invariant.read) c.in_default.ensures.no_sign

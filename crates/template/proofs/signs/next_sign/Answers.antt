@@ -10,10 +10,10 @@ returns-then-text-window-lt-WIDTH-clause-found c =
     let w = c.loop-window.window in
     IfSome-weaker (λ p. HasNextAt text w.end p.0) (λ p. HasNextAt text c.args.from p.0) (λ p next. next_after text w.base w.end w.marks c.args.from c.loop-window.invariant p.0 c.loop-window-test.true next) c.last_sign.result c.last_sign.ensures.found
 
-pub returns-then-text-window-lt-WIDTH-clause-none : goal.returns-then-text-window-lt-WIDTH-clause-none
-returns-then-text-window-lt-WIDTH-clause-none c =
+pub returns-then-text-window-lt-WIDTH-clause-no_sign : goal.returns-then-text-window-lt-WIDTH-clause-no_sign
+returns-then-text-window-lt-WIDTH-clause-no_sign c =
     let w = c.loop-window.window in
-    IfNone-weaker (none_after c.args.text.now w.base w.end w.marks c.args.from c.loop-window.invariant c.loop-window-test.true) c.last_sign.result c.last_sign.ensures.none
+    IfNone-weaker (none_after c.args.text.now w.base w.end w.marks c.args.from c.loop-window.invariant c.loop-window-test.true) c.last_sign.result c.last_sign.ensures.no_sign
 
 pub loop-window-preserved : goal.loop-window-preserved
 loop-window-preserved c =

@@ -13,8 +13,8 @@ pub take_slot-slot-requires-clause-place : goal.take_slot-slot-requires-clause-p
 take_slot-slot-requires-clause-place g c =
     place_within c.self.inside.slots.items c.self.inside.events.items _ _ c.self.invariant.1 c.self.invariant.2 (ap (λ m. m.events) c.self.view_is) c.requires.flying c.requires.place
 
-pub take_child-child-requires-clause-some : goal.take_child-child-requires-clause-some
-take_child-child-requires-clause-some g c =
+pub take_child-child-requires-clause-taken : goal.take_child-child-requires-clause-taken
+take_child-child-requires-clause-taken g c =
     ap (λ l. is_some (get_or l c.take_slot-slot.result None)) c.as_mut_slice.ensures.value
     ∙ has_child c.self.inside.children.items c.self.inside.slots.items c.self.inside.events.items c.args.place c.take_slot-slot.result c.take_slot-slot.ensures.inside c.take_slot-slot.ensures.slot c.self.invariant.6
 

@@ -9,6 +9,6 @@ invariant_of-self g c = (
 
 pub invariant_of-self-in-Err : goal.invariant_of-self-in-Err
 invariant_of-self-in-Err g c = (
-  same_lines_after _ _ _ _ c.self.invariant.0 c.in-Err.ensures.same,
-  λ unclosed. done_refused _ _ _ _ _ _ _ c.args.kind c.args.name.now (c.self.invariant.1 unclosed) c.in-Err.ensures.same c.in-Err.ensures.undone,
+  same_lines_after _ _ _ _ c.self.invariant.0 c.in-Err.ensures.unchanged,
+  λ unclosed. done_refused _ _ _ _ _ _ _ c.args.kind c.args.name.now (c.self.invariant.1 unclosed) c.in-Err.ensures.unchanged c.in-Err.ensures.undone,
 )
