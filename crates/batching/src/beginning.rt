@@ -1,11 +1,11 @@
 //! The beginning of a batch.
 
-ghost use Rattle.std.specs.Prelude.{◌≡◌, ◌≤◌, IfOk, OnOk, None, length};
+ghost use Rattle.std.specs.Prelude.{◌≡◌, IfOk, OnOk, None, length};
 ghost use Rattle.deftable.specs.Table as tables;
 ghost use Rattle.meaning.specs.Batches.{batched};
 ghost use Rattle.meaning.specs.State.{Run, Scope, State, then_run};
 ghost use Rattle.plan.specs.Broken.{guarded_all};
-ghost use Rattle.searching.specs.Flows.{Heeds, IsGroup, Leads, asks_now, passed};
+ghost use Rattle.searching.specs.Flows.{IsStep, Leads};
 ghost use Rattle.searching.specs.Trials.{begun, known_end};
 ghost use Rattle.batching.specs.Waiting.{any_asks, front_end, fronted};
 
@@ -47,10 +47,7 @@ fn end_front(alloc: Global, store: &mut Store, entries: &[Waiting]) -> Result<bo
 
 /// Ends the entries at once, since there is nothing to ask for.
 fn end_now(alloc: Global, store: &mut Store, entries: &[Waiting]) -> Result<Flow, AllocError>
-    ensures within { IfOk result (λ flow. passed flow ≤ 0) }
-    ensures asks { IfOk result (λ flow. asks_now flow ≤ 0) }
-    ensures group { IfOk result IsGroup }
-    ensures heeds { IfOk result (λ flow. Heeds flow None) }
+    ensures step { IfOk result (IsStep 0 None) }
     ensures leads { IfOk result (λ flow. (about : Scope) → Leads flow (λ tests next. fronted tests entries.now (next 0 about) store.old) about store.new) }
 {
     if end_front(alloc, store, entries)? {
@@ -67,10 +64,7 @@ pub fn begin_batch(
     entries: &Entries,
     includes: &Option<HereText>,
 ) -> Result<Flow, AllocError>
-    ensures within { IfOk result (λ flow. passed flow ≤ 0) }
-    ensures asks { IfOk result (λ flow. asks_now flow ≤ length entries.now) }
-    ensures group { IfOk result IsGroup }
-    ensures heeds { IfOk result (λ flow. Heeds flow None) }
+    ensures step { IfOk result (IsStep (length entries.now) None) }
     ensures leads { IfOk result (λ flow. (about : Scope) → Leads flow (λ tests next. then_run (guarded_all tests (batched (record { listed = listed; entries = entries.now; includes = includes.now }) store.old)) (next 0 about)) about store.new) }
 {
     let waiting = waiting_for(alloc, store, listed, entries.as_slice())?;

@@ -1,12 +1,12 @@
 //! The end of a batch, with the replies to its jobs.
 
-ghost use Rattle.std.specs.Prelude.{◌≡◌, ◌≤◌, ◌<◌, ◌+◌, ◌^◌, ◌∷◌, [], IfOk, OnOk, None, Some, length, option_to_list, reverse, true, unwrap_or};
+ghost use Rattle.std.specs.Prelude.{◌≡◌, ◌<◌, ◌+◌, ◌^◌, ◌∷◌, [], IfOk, OnOk, None, Some, length, option_to_list, reverse, true, unwrap_or};
 ghost use Rattle.meaning.specs.Asking.{success};
 ghost use Rattle.meaning.specs.Play.{first_refused, refused_after};
 ghost use Rattle.meaning.specs.State.{Run, Scope, State};
 ghost use Rattle.crew_trait.specs.declared.reply.Reply.TheVariants.{StartRefused};
 ghost use Rattle.batching.specs.Taking.{Takes, TakesReply};
-ghost use Rattle.searching.specs.Flows.{Heeds, IsGroup, Leads, asks_now, passed};
+ghost use Rattle.searching.specs.Flows.{IsStep, Leads};
 ghost use Rattle.searching.specs.Waits.{after_entries, at_once, entry_end, given, resumed};
 ghost use Rattle.searching.specs.declared.wait.Wait.TheVariants as wait;
 
@@ -128,10 +128,7 @@ pub fn hear_batch(
     requires asked { length jobs.items ≡ at_once entries.now.items }
     requires replies { length replies.items ≡ length jobs.items }
     requires room { before + length jobs.items < 2 ^ 64 }
-    ensures within { IfOk result (λ flow. passed flow ≤ 0) }
-    ensures asks { IfOk result (λ flow. asks_now flow ≤ 0) }
-    ensures group { IfOk result IsGroup }
-    ensures heeds { IfOk result (λ flow. Heeds flow (refused_after before (given replies.items))) }
+    ensures step { IfOk result (IsStep 0 (refused_after before (given replies.items))) }
     ensures leads { IfOk result (λ flow. (about : Scope) → Leads flow (λ tests next. resumed tests (wait.Batch entries.now) jobs.items (given replies.items) (next 0) about store.old) about store.new) }
 {
     let refused = first_refused(replies.as_slice());

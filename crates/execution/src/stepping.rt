@@ -15,7 +15,7 @@ ghost use Rattle.shellword.specs.Value.{word_value};
 ghost use Rattle.syntax.specs.declared.statement.Question.TheVariants.{ChecksEach};
 ghost use Rattle.plan.specs.Inside.{asks_about, asks_by, asks_of, asks_to_find, asks_to_try, reach};
 ghost use Rattle.plan.specs.Walk.{act, minded, own_effect, shown};
-ghost use Rattle.searching.specs.Flows.{Continues, Heeds, IsGroup, Leads, asks_now, passed};
+ghost use Rattle.searching.specs.Flows.{Continues, Heeds, IsGroup, IsStep, Leads, asks_now, passed};
 ghost use Rattle.searching.specs.declared.flow.Flow.TheVariants.{Complete, Pass, Stop};
 
 use crate::checks::{close_check, open_check};
@@ -123,10 +123,7 @@ fn check_program(
     found: Bytes,
     otherwise: Option<Bytes>,
 ) -> Result<Flow, AllocError>
-    ensures within { IfOk result (λ flow. passed flow ≤ 0) }
-    ensures asks { IfOk result (λ flow. asks_now flow ≤ 65536) }
-    ensures group { IfOk result IsGroup }
-    ensures heeds { IfOk result (λ flow. Heeds flow None) }
+    ensures step { IfOk result (IsStep 65536 None) }
     ensures leads { IfOk result (λ flow. (about : Scope) → Leads flow (λ tests next. then_run (guarded_all tests (program_test (check_prog variable.now program.now found otherwise) (has_value store.old variable.now) store.old)) (next 0 about)) about store.new) }
 {
     let own = store.has_value(variable);
@@ -144,10 +141,7 @@ fn find_program(
     program: &Bytes,
     otherwise: Option<Bytes>,
 ) -> Result<Flow, AllocError>
-    ensures within { IfOk result (λ flow. passed flow ≤ 0) }
-    ensures asks { IfOk result (λ flow. asks_now flow ≤ 65536) }
-    ensures group { IfOk result IsGroup }
-    ensures heeds { IfOk result (λ flow. Heeds flow None) }
+    ensures step { IfOk result (IsStep 65536 None) }
     ensures leads { IfOk result (λ flow. (about : Scope) → Leads flow (λ tests next. then_run (guarded_all tests (program_test (path_prog variable.now program.now otherwise) (is_full_name (value_or_empty store.old variable.now)) store.old)) (next 0 about)) about store.new) }
 {
     let own = store.has_full_name(variable);
@@ -166,10 +160,7 @@ fn check_for(
     found: &HereText,
     otherwise: &Option<HereText>,
 ) -> Result<Flow, AllocError>
-    ensures within { IfOk result (λ flow. passed flow ≤ 0) }
-    ensures asks { IfOk result (λ flow. asks_now flow ≤ 65536) }
-    ensures group { IfOk result IsGroup }
-    ensures heeds { IfOk result (λ flow. Heeds flow None) }
+    ensures step { IfOk result (IsStep 65536 None) }
     ensures leads { IfOk result (λ flow. (about : Scope) → Leads flow (λ tests next. then_run (guarded_all tests (program_test (check_prog variable.now program.now (word_value found.now store.old.vars) (option_map (λ t. word_value t store.old.vars) otherwise.now)) (has_value store.old variable.now) store.old)) (next 0 about)) about store.new) }
 {
     let found = store.here_text(alloc, found)?;
@@ -185,10 +176,7 @@ fn find_for(
     program: &Bytes,
     otherwise: &Option<HereText>,
 ) -> Result<Flow, AllocError>
-    ensures within { IfOk result (λ flow. passed flow ≤ 0) }
-    ensures asks { IfOk result (λ flow. asks_now flow ≤ 65536) }
-    ensures group { IfOk result IsGroup }
-    ensures heeds { IfOk result (λ flow. Heeds flow None) }
+    ensures step { IfOk result (IsStep 65536 None) }
     ensures leads { IfOk result (λ flow. (about : Scope) → Leads flow (λ tests next. then_run (guarded_all tests (program_test (path_prog variable.now program.now (option_map (λ t. word_value t store.old.vars) otherwise.now)) (is_full_name (value_or_empty store.old variable.now)) store.old)) (next 0 about)) about store.new) }
 {
     let otherwise = value_of(alloc, store, otherwise)?;
@@ -266,10 +254,7 @@ fn pass(done: Result<(), AllocError>) -> Result<Flow, AllocError>
 /// Runs a statement in its own step.
 #[tactic(auto, unfolding(meaning::specs::Meaning::effect))]
 fn execute(alloc: Global, store: &mut Store, statement: &Plain) -> Result<Flow, AllocError>
-    ensures within { IfOk result (λ flow. passed flow ≤ 0) }
-    ensures asks { IfOk result (λ flow. asks_now flow ≤ asks_by statement.now) }
-    ensures group { IfOk result IsGroup }
-    ensures heeds { IfOk result (λ flow. Heeds flow None) }
+    ensures step { IfOk result (IsStep (asks_by statement.now) None) }
     ensures leads { IfOk result (λ flow. (about : Scope) → Leads flow (λ tests next. then_run (guarded_all tests (own_effect statement.now store.old)) (next 0 about)) about store.new) }
 {
     match statement {
@@ -343,10 +328,7 @@ fn look(
     program: &Bytes,
     always: bool,
 ) -> Result<Flow, AllocError>
-    ensures within { IfOk result (λ flow. passed flow ≤ 0) }
-    ensures asks { IfOk result (λ flow. asks_now flow ≤ 65536) }
-    ensures group { IfOk result IsGroup }
-    ensures heeds { IfOk result (λ flow. Heeds flow None) }
+    ensures step { IfOk result (IsStep 65536 None) }
     ensures leads { IfOk result (λ flow. (about : Scope) → Leads flow (λ tests next. then_run (guarded_all tests (looks variable.now program.now always store.old)) (next 0 about)) about store.new) }
 {
     let own = store.has_value(variable);
@@ -407,10 +389,7 @@ fn try_program(
     kind: Try,
     program: &Program,
 ) -> Result<Flow, AllocError>
-    ensures within { IfOk result (λ flow. passed flow ≤ 0) }
-    ensures asks { IfOk result (λ flow. asks_now flow ≤ asks_to_try kind) }
-    ensures group { IfOk result IsGroup }
-    ensures heeds { IfOk result (λ flow. Heeds flow None) }
+    ensures step { IfOk result (IsStep (asks_to_try kind) None) }
     ensures leads { IfOk result (λ flow. (about : Scope) → Leads flow (λ tests next. tried (broken_all tests) kind (text_of program.now store.old.vars) store.old (λ passed. next 0 (answered passed))) about store.new) }
 {
     let Some(job) = first_job(alloc, store, kind, program)? else {
@@ -450,10 +429,7 @@ fn check_first(
     entries: &Entries,
     includes: &Option<HereText>,
 ) -> Result<Flow, AllocError>
-    ensures within { IfOk result (λ flow. passed flow ≤ 0) }
-    ensures asks { IfOk result (λ flow. asks_now flow ≤ asks_to_find sought) }
-    ensures group { IfOk result IsGroup }
-    ensures heeds { IfOk result (λ flow. Heeds flow None) }
+    ensures step { IfOk result (IsStep (asks_to_find sought) None) }
     ensures leads { IfOk result (λ flow. Leads flow (λ tests next. first_found (broken_all tests) sought entries.now includes.now store.old (next 0)) about.new store.new) }
 {
     let list = entries.as_slice();
@@ -469,10 +445,7 @@ fn ask(
     about: &mut About,
     question: &Question,
 ) -> Result<Flow, AllocError>
-    ensures within { IfOk result (λ flow. passed flow ≤ 0) }
-    ensures asks { IfOk result (λ flow. asks_now flow ≤ asks_about (Subject.Asked question.now)) }
-    ensures group { IfOk result IsGroup }
-    ensures heeds { IfOk result (λ flow. Heeds flow None) }
+    ensures step { IfOk result (IsStep (asks_about (Subject.Asked question.now)) None) }
     ensures leads { IfOk result (λ flow. Leads flow (λ tests next. asked (broken_all tests) question.now store.old (next 0)) about.new store.new) }
 {
     match question {
@@ -534,10 +507,7 @@ fn begin_round(
     entry: &Bytes,
     includes: &Option<HereText>,
 ) -> Result<Flow, AllocError>
-    ensures within { IfOk result (λ flow. passed flow ≤ 0) }
-    ensures asks { IfOk result (λ flow. asks_now flow ≤ asks_to_find sought) }
-    ensures group { IfOk result IsGroup }
-    ensures heeds { IfOk result (λ flow. Heeds flow None) }
+    ensures step { IfOk result (IsStep (asks_to_find sought) None) }
     ensures leads { IfOk result (λ flow. Leads flow (λ tests next. begun (broken_all tests) (Subject.Asked (ChecksEach sought (entry.now ∷ []) includes.now)) store.old (next 0)) about.new store.new) }
 {
     let flow = check_entry(alloc, store, about, sought, entry, includes, true)?;
@@ -552,10 +522,7 @@ fn begin(
     about: &mut About,
     subject: &Subject,
 ) -> Result<Flow, AllocError>
-    ensures within { IfOk result (λ flow. passed flow ≤ 0) }
-    ensures asks { IfOk result (λ flow. asks_now flow ≤ asks_about subject.now) }
-    ensures group { IfOk result IsGroup }
-    ensures heeds { IfOk result (λ flow. Heeds flow None) }
+    ensures step { IfOk result (IsStep (asks_about subject.now) None) }
     ensures leads { IfOk result (λ flow. Leads flow (λ tests next. begun (broken_all tests) subject.now store.old (next 0)) about.new store.new) }
 {
     match subject {

@@ -1,13 +1,13 @@
 //! What follows the replies to the jobs of a step.
 
-ghost use Rattle.std.specs.Prelude.{◌≡◌, unwrap_or, ◌≤◌, ◌<◌, ◌+◌, ◌^◌, ◌∷◌, [], IfOk, OnOk, None, Some, if◌then◌else◌, length, option_map, option_to_list, true};
+ghost use Rattle.std.specs.Prelude.{◌≡◌, unwrap_or, ◌<◌, ◌+◌, ◌^◌, ◌∷◌, [], IfOk, OnOk, None, Some, if◌then◌else◌, length, option_map, option_to_list, true};
 ghost use Rattle.meaning.specs.Asking.{child, same};
 ghost use Rattle.meaning.specs.Asking as meant;
 ghost use Rattle.meaning.specs.Play.{refused_after, refused_here};
 ghost use Rattle.meaning.specs.State.{Scope, State, answered};
 ghost use Rattle.jobs.specs.Probe.{run_of};
 ghost use Rattle.plan.specs.Broken.{broken_all};
-ghost use Rattle.searching.specs.Flows.{Heeds, IsGroup, Leads, asks_now, passed};
+ghost use Rattle.searching.specs.Flows.{IsStep, Leads};
 ghost use Rattle.searching.specs.declared.flow.Flow.TheVariants.{Cut};
 ghost use Rattle.searching.specs.declared.wait.Wait.TheVariants as waits;
 ghost use Rattle.searching.specs.Waits.{Awaits, broken_off, finished, given, is_single, resumed, resumed_one, searched, told_to, tests_in, waits_for};
@@ -42,10 +42,7 @@ fn tell_search(
     left: Queue,
     found: bool,
 ) -> Result<Flow, AllocError>
-    ensures within { IfOk result (λ flow. passed flow ≤ 0) }
-    ensures asks { IfOk result (λ flow. asks_now flow ≤ length left) }
-    ensures group { IfOk result IsGroup }
-    ensures heeds { IfOk result (λ flow. Heeds flow None) }
+    ensures step { IfOk result (IsStep (length left) None) }
     ensures leads { IfOk result (λ flow. (about : Scope) → Leads flow (λ tests next. if found then next 0 about (finished search (Some (unwrap_or search.found file)) store.old) else searched tests search left store.old (next 0 about)) about store.new) }
 {
     if !found {
@@ -65,10 +62,7 @@ fn tell_linked(
     left: Queue,
     linked: bool,
 ) -> Result<Flow, AllocError>
-    ensures within { IfOk result (λ flow. passed flow ≤ 0) }
-    ensures asks { IfOk result (λ flow. asks_now flow ≤ length left) }
-    ensures group { IfOk result IsGroup }
-    ensures heeds { IfOk result (λ flow. Heeds flow None) }
+    ensures step { IfOk result (IsStep (length left) None) }
     ensures leads { IfOk result (λ flow. Leads flow (λ tests next. told_to tests (waits.Library test value left) linked (next 0) about.old store.old) about.new store.new) }
 {
     if !linked {
@@ -82,10 +76,7 @@ fn tell_linked(
 
 /// Asks to run the program that was linked.
 fn ask_to_run(alloc: Global) -> Result<Flow, AllocError>
-    ensures within { IfOk result (λ flow. passed flow ≤ 0) }
-    ensures asks { IfOk result (λ flow. asks_now flow ≤ 1) }
-    ensures group { IfOk result IsGroup }
-    ensures heeds { IfOk result (λ flow. Heeds flow None) }
+    ensures step { IfOk result (IsStep 1 None) }
     ensures leads { IfOk result (λ flow. (about : Scope) (st : State) → Leads flow (λ tests next. child (broken_all tests) (run_of 0) st (λ passed. next 0 (answered passed))) about st) }
 {
     let job = run_job(alloc, 0)?;
@@ -101,10 +92,7 @@ fn tell(
     wait: Wait,
     succeeded: bool,
 ) -> Result<Flow, AllocError>
-    ensures within { IfOk result (λ flow. passed flow ≤ 0) }
-    ensures asks { IfOk result (λ flow. asks_now flow ≤ waits_for wait) }
-    ensures group { IfOk result IsGroup }
-    ensures heeds { IfOk result (λ flow. Heeds flow None) }
+    ensures step { IfOk result (IsStep (waits_for wait) None) }
     ensures leads { IfOk result (λ flow. Leads flow (λ tests next. told_to tests wait succeeded (next 0) about.old store.old) about.new store.new) }
 {
     match wait {
@@ -177,10 +165,7 @@ fn hear_reply(
     before: u64,
 ) -> Result<Flow, AllocError>
     requires { before + 1 < 2 ^ 64 }
-    ensures within { IfOk result (λ flow. passed flow ≤ 0) }
-    ensures asks { IfOk result (λ flow. asks_now flow ≤ waits_for wait) }
-    ensures group { IfOk result IsGroup }
-    ensures heeds { IfOk result (λ flow. Heeds flow (option_map (λ k. before + k) (refused_here heard None))) }
+    ensures step { IfOk result (IsStep (waits_for wait) (option_map (λ k. before + k) (refused_here heard None))) }
     ensures leads { IfOk result (λ flow. Leads flow (λ tests next. meant.heard (broken_all (tests_in wait tests)) heard store.old (λ b now. told_to tests wait b (next 0) about.old now)) about.new store.new) }
 {
     match heard {
@@ -200,10 +185,7 @@ fn hear_one(
     before: u64,
 ) -> Result<Flow, AllocError>
     requires { before + 1 < 2 ^ 64 }
-    ensures within { IfOk result (λ flow. passed flow ≤ 0) }
-    ensures asks { IfOk result (λ flow. asks_now flow ≤ waits_for wait) }
-    ensures group { IfOk result IsGroup }
-    ensures heeds { IfOk result (λ flow. Heeds flow (refused_after before (reply ∷ []))) }
+    ensures step { IfOk result (IsStep (waits_for wait) (refused_after before (reply ∷ []))) }
     ensures leads { IfOk result (λ flow. Leads flow (λ tests next. resumed_one tests wait (option_to_list job) (reply ∷ []) (next 0) about.old store.old) about.new store.new) }
 {
     let heard = success(&reply);
@@ -244,10 +226,7 @@ fn hear_single(
     requires one { length jobs.items ≡ 1 }
     requires replies { length replies.items ≡ 1 }
     requires room { before + 1 < 2 ^ 64 }
-    ensures within { IfOk result (λ flow. passed flow ≤ 0) }
-    ensures asks { IfOk result (λ flow. asks_now flow ≤ waits_for wait) }
-    ensures group { IfOk result IsGroup }
-    ensures heeds { IfOk result (λ flow. Heeds flow (refused_after before (given replies.items))) }
+    ensures step { IfOk result (IsStep (waits_for wait) (refused_after before (given replies.items))) }
     ensures leads { IfOk result (λ flow. Leads flow (λ tests next. resumed_one tests wait jobs.items (given replies.items) (next 0) about.old store.old) about.new store.new) }
 {
     let job = only_job(jobs);
@@ -273,10 +252,7 @@ pub fn hear(
     requires awaits { Awaits wait jobs.items }
     requires replies { length replies.items ≡ length jobs.items }
     requires room { before + length jobs.items < 2 ^ 64 }
-    ensures within { IfOk result (λ flow. passed flow ≤ 0) }
-    ensures asks { IfOk result (λ flow. asks_now flow ≤ waits_for wait) }
-    ensures group { IfOk result IsGroup }
-    ensures heeds { IfOk result (λ flow. Heeds flow (refused_after before (given replies.items))) }
+    ensures step { IfOk result (IsStep (waits_for wait) (refused_after before (given replies.items))) }
     ensures leads { IfOk result (λ flow. Leads flow (λ tests next. resumed tests wait jobs.items (given replies.items) (next 0) about.old store.old) about.new store.new) }
 {
     if let Wait::Batch { entries } = &wait {

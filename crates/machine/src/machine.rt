@@ -7,7 +7,7 @@ ghost use Rattle.meaning.specs.State.{opened};
 ghost use Rattle.plan.specs.Broken.{refused_all, unset_all};
 ghost use Rattle.plan.specs.Inside.{StaysInside, asks_after, asks_of, reach};
 ghost use Rattle.plan.specs.Walk.{act, empty_mind, minded, shown};
-ghost use Rattle.searching.specs.Flows.{Continues, Heeds, IsGroup, Leads, asks_now, passed};
+ghost use Rattle.searching.specs.Flows.{Continues, Heeds, IsGroup, IsStep, Leads, asks_now, passed};
 ghost use Rattle.machine.specs.Moves.{arrived, turn_by};
 ghost use Rattle.machine.specs.Standing.{Fits, Holds, Rests, Turned, outcome_of, with_phase};
 ghost use Rattle.searching.specs.Waits.{Awaits, given, refused_rest, resumed, waits_for};
@@ -260,10 +260,7 @@ impl Machine {
         requires room { self.old.before + length self.old.jobs < 2 ^ 64 }
         ensures unchanged { OnOk result (self.new ≡ record self.old { phase = Phase.Failed; mind = minded self.new.mind.scope self.old.mind.open_tests; state = self.new.state; wait = waits.Nothing; before = self.old.before + length self.old.jobs; jobs = []; replies = [] }) }
         ensures err { OnErr result (self.new ≡ record self.old { phase = Phase.Failed; mind = minded self.new.mind.scope self.old.mind.open_tests; state = self.new.state; wait = waits.Nothing; before = self.old.before + length self.old.jobs; jobs = []; replies = [] }) }
-        ensures within { IfOk result (λ flow. passed flow ≤ 0) }
-        ensures asks { IfOk result (λ flow. asks_now flow ≤ waits_for self.old.wait) }
-        ensures group { IfOk result IsGroup }
-        ensures heeds { IfOk result (λ flow. Heeds flow (refused_after self.old.before (given self.old.replies))) }
+        ensures step { IfOk result (IsStep (waits_for self.old.wait) (refused_after self.old.before (given self.old.replies))) }
         ensures leads { IfOk result (λ flow. Leads flow (λ tests next. resumed tests self.old.wait self.old.jobs (given self.old.replies) (next 0) self.old.mind.scope self.old.state) self.new.mind.scope self.new.state) }
     {
         self.phase = Phase::Failed;

@@ -1,6 +1,6 @@
 //! The beginning of an entry's test.
 
-ghost use Rattle.std.specs.Prelude.{◌≡◌, ◌≤◌, ◌∷◌, IfOk, OnOk, None, Some, true};
+ghost use Rattle.std.specs.Prelude.{◌≡◌, ◌∷◌, IfOk, OnOk, None, Some, true};
 ghost use Rattle.csource.specs.Sources.{type_source, second_type_source};
 ghost use Rattle.deftable.specs.Table as tables;
 ghost use Rattle.meaning.specs.Asking.{child, same};
@@ -9,7 +9,7 @@ ghost use Rattle.meaning.specs.Rows.{entry_job, is_yes, kind_for, type_job};
 ghost use Rattle.meaning.specs.State.{Run, Scope, State, answered};
 ghost use Rattle.plan.specs.Broken.{broken_all};
 ghost use Rattle.plan.specs.Inside.{asks_to_find};
-ghost use Rattle.searching.specs.Flows.{Heeds, IsGroup, Leads, asks_now, passed};
+ghost use Rattle.searching.specs.Flows.{IsStep, Leads};
 ghost use Rattle.searching.specs.Trials.{begun, known, trial_for};
 ghost use Rattle.searching.specs.Waits.{found_end, told_to};
 ghost use Rattle.searching.specs.declared.wait.Wait.TheVariants.{Size};
@@ -47,10 +47,7 @@ fn answer_known(
 
 /// Asks for the child that decides about an entry.
 fn ask_about(alloc: Global, store: &mut Store, trial: Trial, job: Job) -> Result<Flow, AllocError>
-    ensures within { IfOk result (λ flow. passed flow ≤ 0) }
-    ensures asks { IfOk result (λ flow. asks_now flow ≤ 1) }
-    ensures group { IfOk result IsGroup }
-    ensures heeds { IfOk result (λ flow. Heeds flow None) }
+    ensures step { IfOk result (IsStep 1 None) }
     ensures leads { IfOk result (λ flow. (about : Scope) → Leads flow (λ tests next. child (broken_all (trial.name ∷ tests)) job (begun trial store.old) (λ b. found_end trial (same true b) (next 0))) about store.new) }
 {
     begin_trial(alloc, store, &trial)?;
@@ -72,10 +69,7 @@ fn ask_size(
     first: Job,
     second: Job,
 ) -> Result<Flow, AllocError>
-    ensures within { IfOk result (λ flow. passed flow ≤ 0) }
-    ensures asks { IfOk result (λ flow. asks_now flow ≤ 2) }
-    ensures group { IfOk result IsGroup }
-    ensures heeds { IfOk result (λ flow. Heeds flow None) }
+    ensures step { IfOk result (IsStep 2 None) }
     ensures leads { IfOk result (λ flow. (about : Scope) → Leads flow (λ tests next. child (broken_all (trial.name ∷ tests)) first (begun trial store.old) (λ b now. told_to tests (Size trial second) b (λ c. next 0 c) about now)) about store.new) }
 {
     begin_trial(alloc, store, &trial)?;
@@ -98,10 +92,7 @@ fn check_listed(
 ) -> Result<Flow, AllocError>
     requires trial { trial ≡ trial_for (Entry listed) entry.now defines }
     requires unset { tables.value_of store.now.vars trial.name ≡ None }
-    ensures within { IfOk result (λ flow. passed flow ≤ 0) }
-    ensures asks { IfOk result (λ flow. asks_now flow ≤ 1) }
-    ensures group { IfOk result IsGroup }
-    ensures heeds { IfOk result (λ flow. Heeds flow None) }
+    ensures step { IfOk result (IsStep 1 None) }
     ensures leads { IfOk result (λ flow. (about : Scope) → Leads flow (λ tests next. found_by (broken_all tests) (kind_for (Entry listed) entry.now includes.now defines) store.old (next 0)) about store.new) }
 {
     let Some(job) = entry_job(alloc, store, listed, entry.as_slice(), includes, 0)? else {
@@ -122,10 +113,7 @@ fn check_type(
 ) -> Result<Flow, AllocError>
     requires trial { trial ≡ trial_for «Type» entry.now defines }
     requires unset { tables.value_of store.now.vars trial.name ≡ None }
-    ensures within { IfOk result (λ flow. passed flow ≤ 0) }
-    ensures asks { IfOk result (λ flow. asks_now flow ≤ 2) }
-    ensures group { IfOk result IsGroup }
-    ensures heeds { IfOk result (λ flow. Heeds flow None) }
+    ensures step { IfOk result (IsStep 2 None) }
     ensures leads { IfOk result (λ flow. (about : Scope) → Leads flow (λ tests next. found_by (broken_all tests) (kind_for «Type» entry.now includes.now defines) store.old (next 0)) about store.new) }
 {
     let Some((first, second)) = type_jobs(alloc, store, entry.as_slice(), includes)? else {
@@ -145,10 +133,7 @@ pub fn check_entry(
     includes: &Option<HereText>,
     defines: bool,
 ) -> Result<Flow, AllocError>
-    ensures within { IfOk result (λ flow. passed flow ≤ 0) }
-    ensures asks { IfOk result (λ flow. asks_now flow ≤ asks_to_find sought) }
-    ensures group { IfOk result IsGroup }
-    ensures heeds { IfOk result (λ flow. Heeds flow None) }
+    ensures step { IfOk result (IsStep (asks_to_find sought) None) }
     ensures leads { IfOk result (λ flow. Leads flow (λ tests next. found_by (broken_all tests) (kind_for sought entry.now includes.now defines) store.old (next 0)) about.new store.new) }
 {
     let trial = trial_of(alloc, sought, entry, defines)?;

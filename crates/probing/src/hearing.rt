@@ -1,10 +1,10 @@
 //! What follows the answer to a child of an entry's test.
 
-ghost use Rattle.std.specs.Prelude.{◌≡◌, ◌≤◌, ◌∷◌, IfOk, OnOk, None, false};
+ghost use Rattle.std.specs.Prelude.{◌≡◌, ◌∷◌, IfOk, OnOk, None, false};
 ghost use Rattle.meaning.specs.Asking.{child, same};
 ghost use Rattle.meaning.specs.State.{Run, Scope, State, answered};
 ghost use Rattle.plan.specs.Broken.{broken_all};
-ghost use Rattle.searching.specs.Flows.{Heeds, IsGroup, Leads, asks_now, passed};
+ghost use Rattle.searching.specs.Flows.{IsStep, Leads};
 ghost use Rattle.searching.specs.Trials.{decided};
 ghost use Rattle.searching.specs.Waits.{found_end};
 ghost use Rattle.searching.specs.declared.flow.Flow.TheVariants.{Pass};
@@ -35,10 +35,7 @@ pub fn conclude(
 
 /// Asks for the second child that decides about a type.
 pub fn ask_again(alloc: Global, trial: Trial, second: Job) -> Result<Flow, AllocError>
-    ensures within { IfOk result (λ flow. passed flow ≤ 0) }
-    ensures asks { IfOk result (λ flow. asks_now flow ≤ 1) }
-    ensures group { IfOk result IsGroup }
-    ensures heeds { IfOk result (λ flow. Heeds flow None) }
+    ensures step { IfOk result (IsStep 1 None) }
     ensures leads { IfOk result (λ flow. (about : Scope) (st : State) → Leads flow (λ tests next. child (broken_all (trial.name ∷ tests)) second st (λ c. found_end trial (same false c) (next 0))) about st) }
 {
     let jobs = alone(alloc, second)?;

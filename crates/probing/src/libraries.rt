@@ -1,6 +1,6 @@
 //! Tests of libraries as questions (Autoconf's manual, "Library Files").
 
-ghost use Rattle.std.specs.Prelude.{◌≡◌, ◌≤◌, ◌+◌, ◌∷◌, IfOk, OnOk, None, Some, length};
+ghost use Rattle.std.specs.Prelude.{◌≡◌, ◌+◌, ◌∷◌, IfOk, OnOk, None, Some, length};
 ghost use Rattle.deftable.specs.Table as tables;
 ghost use Rattle.deftable.specs.declared.note.Stream.TheVariants as streams;
 ghost use Rattle.meaning.specs.Asking.{child, no_compiler};
@@ -9,7 +9,7 @@ ghost use Rattle.meaning.specs.Rows as rows;
 ghost use Rattle.meaning.specs.State.{Run, Scope, State, answered, told, without_variable};
 ghost use Rattle.meaning.specs.Tests.{checking};
 ghost use Rattle.plan.specs.Broken.{broken_all};
-ghost use Rattle.searching.specs.Flows.{Heeds, IsGroup, Leads, asks_now, passed};
+ghost use Rattle.searching.specs.Flows.{IsStep, Leads};
 ghost use Rattle.searching.specs.Linking as linking;
 ghost use Rattle.searching.specs.Waits.{told_to};
 ghost use Rattle.searching.specs.declared.flow.Flow.TheVariants.{Pass, Stop};
@@ -55,10 +55,7 @@ fn ask_linked(
     job: Job,
     left: Queue,
 ) -> Result<Flow, AllocError>
-    ensures within { IfOk result (λ flow. passed flow ≤ 0) }
-    ensures asks { IfOk result (λ flow. asks_now flow ≤ 1 + length left) }
-    ensures group { IfOk result IsGroup }
-    ensures heeds { IfOk result (λ flow. Heeds flow None) }
+    ensures step { IfOk result (IsStep (1 + length left) None) }
     ensures leads { IfOk result (λ flow. (about : Scope) (st : State) → Leads flow (λ tests next. child (broken_all (test.name ∷ tests)) job st (λ b now. told_to tests (waits.Library test value left) b (λ c. next 0 c) about now)) about st) }
 {
     let jobs = alone(alloc, job)?;
@@ -86,10 +83,7 @@ fn link_with(
     library: &Bytes,
     left: Queue,
 ) -> Result<Flow, AllocError>
-    ensures within { IfOk result (λ flow. passed flow ≤ 0) }
-    ensures asks { IfOk result (λ flow. asks_now flow ≤ 1 + length left) }
-    ensures group { IfOk result IsGroup }
-    ensures heeds { IfOk result (λ flow. Heeds flow None) }
+    ensures step { IfOk result (IsStep (1 + length left) None) }
     ensures leads { IfOk result (λ flow. (about : Scope) → Leads flow (λ tests next. linking.linking tests test (library.now ∷ left) store.old (λ c. next 0 c)) about store.new) }
 {
     let Some(job) = library_job(alloc, store, &test, library.as_slice())? else {
@@ -108,10 +102,7 @@ pub fn link_on(
     test: LibraryTest,
     mut left: Queue,
 ) -> Result<Flow, AllocError>
-    ensures within { IfOk result (λ flow. passed flow ≤ 0) }
-    ensures asks { IfOk result (λ flow. asks_now flow ≤ length left) }
-    ensures group { IfOk result IsGroup }
-    ensures heeds { IfOk result (λ flow. Heeds flow None) }
+    ensures step { IfOk result (IsStep (length left) None) }
     ensures leads { IfOk result (λ flow. Leads flow (λ tests next. linking.linking tests test left store.old (λ c. next 0 c)) about.new store.new) }
 {
     let Some(library) = left.take_first() else {
@@ -152,10 +143,7 @@ fn begin_linked(
     job: Job,
     left: Queue,
 ) -> Result<Flow, AllocError>
-    ensures within { IfOk result (λ flow. passed flow ≤ 0) }
-    ensures asks { IfOk result (λ flow. asks_now flow ≤ 1 + length left) }
-    ensures group { IfOk result IsGroup }
-    ensures heeds { IfOk result (λ flow. Heeds flow None) }
+    ensures step { IfOk result (IsStep (1 + length left) None) }
     ensures leads { IfOk result (λ flow. (about : Scope) → Leads flow (λ tests next. child (broken_all (test.name ∷ tests)) job (checking message.now store.old) (λ b now. told_to tests (waits.Library test value.now left) b (λ c. next 0 c) about now)) about store.new) }
 {
     begin_check(alloc, store, message)?;
@@ -176,10 +164,7 @@ fn begin_library(
 ) -> Result<Flow, AllocError>
     requires test { test ≡ linking.library_test library.now function.now others.now adds store.now }
     requires unset { tables.value_of store.now.vars test.name ≡ None }
-    ensures within { IfOk result (λ flow. passed flow ≤ 0) }
-    ensures asks { IfOk result (λ flow. asks_now flow ≤ 1) }
-    ensures group { IfOk result IsGroup }
-    ensures heeds { IfOk result (λ flow. Heeds flow None) }
+    ensures step { IfOk result (IsStep 1 None) }
     ensures leads { IfOk result (λ flow. (about : Scope) → Leads flow (λ tests next. found_by (broken_all tests) (rows.Library library.now function.now others.now adds) store.old (next 0)) about store.new) }
 {
     let Some(job) = library_job(alloc, store, &test, library.as_slice())? else {
@@ -201,10 +186,7 @@ pub fn check_library(
     others: &Option<HereText>,
     adds: bool,
 ) -> Result<Flow, AllocError>
-    ensures within { IfOk result (λ flow. passed flow ≤ 0) }
-    ensures asks { IfOk result (λ flow. asks_now flow ≤ 1) }
-    ensures group { IfOk result IsGroup }
-    ensures heeds { IfOk result (λ flow. Heeds flow None) }
+    ensures step { IfOk result (IsStep 1 None) }
     ensures leads { IfOk result (λ flow. Leads flow (λ tests next. found_by (broken_all tests) (rows.Library library.now function.now others.now adds) store.old (next 0)) about.new store.new) }
 {
     let test = library_test(alloc, store, library, function, others, adds)?;
@@ -236,10 +218,7 @@ fn begin_libraries(
 ) -> Result<Flow, AllocError>
     requires test { test ≡ linking.libraries_test function.now others.now store.now }
     requires unset { tables.value_of store.now.vars test.name ≡ None }
-    ensures within { IfOk result (λ flow. passed flow ≤ 0) }
-    ensures asks { IfOk result (λ flow. asks_now flow ≤ 1 + length libraries.now) }
-    ensures group { IfOk result IsGroup }
-    ensures heeds { IfOk result (λ flow. Heeds flow None) }
+    ensures step { IfOk result (IsStep (1 + length libraries.now) None) }
     ensures leads { IfOk result (λ flow. (about : Scope) → Leads flow (λ tests next. found_by (broken_all tests) (rows.Libraries function.now libraries.now others.now) store.old (next 0)) about store.new) }
 {
     let Some(job) = function_job(alloc, store, function.as_slice())? else {
@@ -268,10 +247,7 @@ pub fn search_libraries(
     libraries: &Texts,
     others: &Option<HereText>,
 ) -> Result<Flow, AllocError>
-    ensures within { IfOk result (λ flow. passed flow ≤ 0) }
-    ensures asks { IfOk result (λ flow. asks_now flow ≤ 1 + length libraries.now) }
-    ensures group { IfOk result IsGroup }
-    ensures heeds { IfOk result (λ flow. Heeds flow None) }
+    ensures step { IfOk result (IsStep (1 + length libraries.now) None) }
     ensures leads { IfOk result (λ flow. Leads flow (λ tests next. found_by (broken_all tests) (rows.Libraries function.now libraries.now others.now) store.old (next 0)) about.new store.new) }
 {
     let test = libraries_test(alloc, store, function, others)?;

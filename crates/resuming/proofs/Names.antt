@@ -3,7 +3,7 @@ use Rattle.std.proofs.Common.{◌≡◌, ℕ, Bool, List, [], ◌∷◌, ◌++�
 use Rattle.std.specs.Prelude.{bytes_eq, ◌&&◌, ◌||◌, ◌==◌}
 use Rattle.std.specs.Int.{is_in_range}
 use Rattle.std.specs.List.{list_all}
-use Rattle.std.proofs.lemmas.Bool.{cases_Bool}
+use Rattle.std.proofs.lemmas.Bool.{and_from, and_parts, cases_Bool}
 use Rattle.cachefile.specs.Text.{is_one_line, is_saved, saved_value}
 use Rattle.deftable.specs.CacheName.{is_cache_name, has_cv}
 use Rattle.deftable.specs.ShellName.{starts_name, continues_name, IsShellName}
@@ -52,14 +52,6 @@ among_wider n a b c w h = ⊎_elim (λ x. among_left n a c x) (λ x. among_right
 
 -- ---- names of tests are cache names
 
-and_both : (a b : Bool) → a && b ≡ true → (a ≡ true) × (b ≡ true)
-and_both true b e = (refl, e)
-and_both false b e = cc
-
-both_and : (a b : Bool) → a ≡ true → b ≡ true → a && b ≡ true
-both_and true b e f = f
-both_and false b e f = cc
-
 word_if : (b : ℕ) (c : Bool) → is_word_byte b ≡ c → continues_name (cond c b 95) ≡ true
 word_if b true e = e
 word_if b false e = refl
@@ -70,7 +62,7 @@ sh_if b false = word_if b (is_word_byte b) refl
 
 pub all_sh : (text : List ℕ) → list_all continues_name (shell_part text) ≡ true
 all_sh [] = refl
-all_sh (b ∷ bs) = both_and (continues_name (sh_byte b)) (list_all continues_name (shell_part bs)) (sh_if b (b == 42 || b == 43)) (all_sh bs)
+all_sh (b ∷ bs) = and_from (continues_name (sh_byte b)) (list_all continues_name (shell_part bs)) (sh_if b (b == 42 || b == 43)) (all_sh bs)
 
 widened : (d a b c : Bool) → (a || b) || c ≡ true → ((d || a) || b) || c ≡ true
 widened true a b c e = refl
@@ -82,8 +74,8 @@ continues_so b e = widened (is_in_range 48 57 b) (is_in_range 65 90 b) (is_in_ra
 pub all_name : (name : List ℕ) → IsShellName name → list_all continues_name name ≡ true
 all_name [] e = refl
 all_name (b ∷ bs) e =
-    let h = and_both (starts_name b) (list_all continues_name bs) e in
-    both_and (continues_name b) (list_all continues_name bs) (continues_so b h.0) h.1
+    let h = and_parts (starts_name b) (list_all continues_name bs) e in
+    and_from (continues_name b) (list_all continues_name bs) (continues_so b h.0) h.1
 
 pub entry_cached : (listed : Listed) (entry : List ℕ) → IsCached (entry_name listed entry)
 unfolding is_cache_name has_cv
@@ -142,7 +134,7 @@ pub saved_so : (n v : List ℕ) → is_saved (n, v) ≡ true → saved_value n (
 saved_so n v e = ap (λ b. cond b (Some v) None) e
 
 pub cached_so : (n v : List ℕ) → is_saved (n, v) ≡ true → IsCached n
-cached_so n v e = (and_both (is_cache_name n) (is_one_line v) e).0
+cached_so n v e = (and_parts (is_cache_name n) (is_one_line v) e).0
 
 pub ordinary_unsaved : (n : List ℕ) (o : Option (List ℕ)) → IsOrdinary n → saved_value n o ≡ None
 ordinary_unsaved n None p = refl

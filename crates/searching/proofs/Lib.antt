@@ -3,3 +3,4 @@ pub mod Searches
 pub mod Tested
 pub mod Found
 pub mod Linked
+pub mod Named

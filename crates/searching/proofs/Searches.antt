@@ -1,5 +1,5 @@
 -- The directories of a path, and flows.
-use Rattle.std.proofs.Common.{◌≡◌, ℕ, zero, suc, ◌+◌, ◌-◌, ◌≤◌, ◌==◌, true, cond, List, [], ◌∷◌, length, map, take, get_or, Bor, Result, Ok, Err, IfOk, refl, sym, ap, ◌∙◌, subst, arith}
+use Rattle.std.proofs.Common.{◌≡◌, ◌↔◌, ℕ, Option, None, Vec, Global, zero, suc, ◌+◌, ◌-◌, ◌≤◌, ◌==◌, true, cond, List, [], ◌∷◌, length, map, take, get_or, Bor, Result, Ok, Err, IfOk, refl, sym, ap, ◌∙◌, subst, arith}
 use Rattle.std.proofs.lemmas.List.{length-map, take-map}
 use Rattle.std.specs.declared.alloc.AllocError.{AllocError}
 use Rattle.jobs.specs.declared.job.Job.{Job}
@@ -9,12 +9,12 @@ use Rattle.meaning.specs.State.{State, Scope, Run}
 use Rattle.plan.specs.Walk.{Mind, minded}
 use Rattle.searching.specs.declared.flow.Flow.{Flow}
 use Rattle.searching.specs.declared.flow.Flow.TheVariants as flow
-use Rattle.searching.specs.Flows.{Leads, Continues, asks_now}
+use Rattle.searching.specs.Flows.{Leads, Continues, IsStep}
 use Rattle.meaning.specs.Directories.{ends_empty, without_last_empty, directory_of, directories_of}
 use Rattle.meaning.specs.Rows.{Search}
 use Rattle.searching.specs.declared.wait.Wait.{Wait}
 use Rattle.searching.specs.declared.wait.Wait.TheVariants as wait
-use Rattle.searching.specs.Waits.{Awaits, Suits, is_single, resumed, resumed_one, searched}
+use Rattle.searching.specs.Waits.{Awaits, Suits, is_single, resumed, resumed_one, searched, waits_for}
 
 -- The last part.
 pub last_at : (xs : List (Bor (List ℕ))) (d : Bor (List ℕ)) (i : ℕ) → i + 1 ≡ length xs → (length (get_or xs i d).now == 0) ≡ ends_empty (map (λ part. part.now) xs)
@@ -49,42 +49,19 @@ few_directories path =
     let l = without_last_empty (parts 58 path) in
     subst (λ k. k ≤ 65536) (sym (length-map (take 65536 l) directory_of)) (take_few 65536 l)
 
--- One job suits whatever is waited for, but a batch.
-one_fits : (w : Wait) (jobs : List Job) → is_single w ≡ true → length jobs ≡ 1 → Suits w jobs
+-- What is waited for, but a batch, is suited by one job alone.
+pub single_suits : (w : Wait) (jobs : List Job) → is_single w ≡ true → Suits w jobs ↔ (length jobs ≡ 1)
 unfolding Suits
-one_fits wait.Nothing jobs single one = one
-one_fits wait.Answer jobs single one = one
-one_fits wait.Link jobs single one = one
-one_fits (wait.Directory search file left) jobs single one = one
-one_fits (wait.Found trial found_on) jobs single one = one
-one_fits (wait.Size trial second) jobs single one = one
-one_fits (wait.Library test value left) jobs single one = one
-one_fits (wait.Batch entries) jobs single one = absurd cc
+single_suits (wait.Batch entries) jobs single = absurd cc
+single_suits w jobs single = (λ one. one, λ one. one)
 
 pub one_awaits : (w : Wait) (jobs : List Job) (job : Job) → is_single w ≡ true → jobs ≡ job ∷ [] → Awaits w jobs
-one_awaits w jobs job single is = record { some = omega (arith, ap length is); few = omega (arith, ap length is); fit = one_fits w jobs single (ap length is) }
-
-pub single_fits : (w : Wait) (jobs : List Job) → is_single w ≡ true → Suits w jobs → length jobs ≡ 1
-unfolding Suits
-single_fits wait.Nothing jobs single one = one
-single_fits wait.Answer jobs single one = one
-single_fits wait.Link jobs single one = one
-single_fits (wait.Directory search file left) jobs single one = one
-single_fits (wait.Found trial found_on) jobs single one = one
-single_fits (wait.Size trial second) jobs single one = one
-single_fits (wait.Library test value left) jobs single one = one
-single_fits (wait.Batch entries) jobs single one = absurd cc
+one_awaits w jobs job single is = record { some = omega (arith, ap length is); few = omega (arith, ap length is); fit = (single_suits w jobs single).1 (ap length is) }
 
 pub resumed_single : (tests : List (List ℕ)) (w : Wait) (jobs : List Job) (replies : List Reply) (next : Scope → State → Run) (c : Scope) (st : State) → is_single w ≡ true
     → resumed tests w jobs replies next c st ≡ resumed_one tests w jobs replies next c st
-resumed_single tests wait.Nothing jobs replies next c st single = refl
-resumed_single tests wait.Answer jobs replies next c st single = refl
-resumed_single tests wait.Link jobs replies next c st single = refl
-resumed_single tests (wait.Directory search file left) jobs replies next c st single = refl
-resumed_single tests (wait.Found trial found_on) jobs replies next c st single = refl
-resumed_single tests (wait.Size trial second) jobs replies next c st single = refl
-resumed_single tests (wait.Library test value left) jobs replies next c st single = refl
 resumed_single tests (wait.Batch entries) jobs replies next c st single = absurd cc
+resumed_single tests w jobs replies next c st single = refl
 
 -- A flow that continues a run continues an equal one.
 pub led : (f : Flow) (c : Scope) (st : State) (run run' : List (List ℕ) → (ℕ → Scope → State → Run) → Run) → ((tests : List (List ℕ)) (next : ℕ → Scope → State → Run) → run tests next ≡ run' tests next) → Leads f run c st → Leads f run' c st
@@ -105,9 +82,18 @@ pub led_ok : (r : Result Flow AllocError) (st : State) (run run' : Scope → Lis
 led_ok (Ok f) st run run' e h = λ c. led f c st (run c) (run' c) (e c) (h c)
 led_ok (Err x) st run run' e h = h
 
-pub few_ok : (r : Result Flow AllocError) (n m : ℕ) → n ≤ m → IfOk r (λ f. asks_now f ≤ n) → IfOk r (λ f. asks_now f ≤ m)
-few_ok (Ok f) n m le h = omega (arith, le, h)
-few_ok (Err e) n m le h = h
+-- A step that asks for one job.
+pub asks_one : (w : Wait) (jobs : Vec Job Global) (job : Job) (few : ℕ) → is_single w ≡ true → jobs.items ≡ job ∷ [] → 1 + waits_for w ≤ few → IsStep few None (flow.Ask jobs w)
+asks_one w jobs job few single is le =
+    record { within = omega arith; asks = omega (arith, ap length is, le); group = one_awaits w jobs.items job single is; heeds = refl }
+
+-- A step that may ask for fewer jobs.
+pub fewer : (f : Flow) (n m : ℕ) (refused : Option ℕ) → n ≤ m → IsStep n refused f → IsStep m refused f
+fewer f n m refused le h = record { within = h.within; asks = omega (arith, le, h.asks); group = h.group; heeds = h.heeds }
+
+pub fewer_ok : (r : Result Flow AllocError) (n m : ℕ) (refused : Option ℕ) → n ≤ m → IfOk r (IsStep n refused) → IfOk r (IsStep m refused)
+fewer_ok (Ok f) n m refused le h = fewer f n m refused le h
+fewer_ok (Err e) n m refused le h = h
 
 -- A directory is tried, and the others are left.
 pub asked_in : (r : Result Flow AllocError) (s : Search) (directory : List ℕ) (rest left : List (List ℕ)) (st : State) → left ≡ directory ∷ rest

@@ -1,5 +1,5 @@
 -- What follows a step, or the replies that it waited for.
-use Rattle.std.specs.Prelude.{◌≡◌, ℕ, ◌+◌, List, Option, Some, None, length}
+use Rattle.std.specs.Prelude.{◌≡◌, ◌≤◌, ℕ, ◌+◌, List, Option, Some, None, length}
 use Rattle.meaning.specs.State.{State, Scope, Completed, Stopped, Cut, Run, Ends, Asks}
 use Rattle.plan.specs.Broken.{broken_all}
 use Rattle.plan.specs.Walk.{Mind}
@@ -57,3 +57,11 @@ Heeds (flow.Pass more) refused = refused ≡ None
 Heeds (flow.Ask jobs wait) refused = refused ≡ None
 Heeds flow.Complete refused = refused ≡ None
 Heeds (flow.Stop status) refused = refused ≡ None
+
+-- A flow of one step that passes no further one. It may ask for at most so many jobs until the step is left, which are
+-- those of what it waits for, and it cuts the run exactly if a child was refused, at its number. (own)
+pub record IsStep (few : ℕ) (refused : Option ℕ) (flow : Flow) : Type 0 where
+  pub within : passed flow ≤ 0
+  pub asks : asks_now flow ≤ few
+  pub group : IsGroup flow
+  pub heeds : Heeds flow refused

@@ -1,18 +1,19 @@
 //! The pieces, the value and the definition of an entry's test (Autoconf's manual, "Generic Headers", "Generic Functions",
 //! "Generic Declarations" and "Generic Types").
 
-ghost use Rattle.std.specs.Prelude.{◌≡◌, ◌++◌, IfOk, OnOk, Some, None, codes, false};
+ghost use Rattle.std.specs.Prelude.{◌≡◌, ◌++◌, IfOk, OnOk, Some, None, codes};
 ghost use Rattle.meaning.specs.Batches.{yes_or_no};
-ghost use Rattle.meaning.specs.Rows.{defined_if, is_yes, kind_for, name_of, symbol_part, with_entry_defined};
+ghost use Rattle.meaning.specs.Rows.{defined_if, is_yes, symbol_part, with_entry_defined};
 ghost use Rattle.meaning.specs.State.{with_definition};
 ghost use Rattle.searching.specs.Trials.{begun, decided, defined_as, digit_of, heard_end, known, trial_for};
 
 use crate::trial::Trial;
 use deftable::Bytes;
-use m4quote::{cpp_name, sh_name};
+use m4quote::cpp_name;
 use runstate::Store;
 use runstate::pieces::{begin_declaration, begin_search, break_test, end_check, end_known_check};
 use std::alloc::{AllocError, Global};
+use syntax::test_names::sought_name;
 use syntax::{Listed, Sought};
 
 /// Returns a text after a prefix.
@@ -24,19 +25,6 @@ pub(crate) fn prefixed(alloc: Global, prefix: &[u8], text: &[u8]) -> Result<Byte
     Ok(Bytes::from_vec(all))
 }
 
-/// Returns the cached name of an entry (Autoconf's manual, "Cache Variable Names").
-fn cached_name(alloc: Global, sought: Sought, entry: &[u8]) -> Result<Bytes, AllocError>
-    ensures { IfOk result (λ n. n ≡ name_of (kind_for sought entry.now None false)) }
-{
-    let part = sh_name(alloc, entry)?;
-    match sought {
-        Sought::Entry(Listed::Header) => prefixed(alloc, b"ac_cv_header_", part.as_slice()),
-        Sought::Entry(Listed::Function) => prefixed(alloc, b"ac_cv_func_", part.as_slice()),
-        Sought::Entry(Listed::Declaration) => prefixed(alloc, b"ac_cv_have_decl_", part.as_slice()),
-        Sought::Type => prefixed(alloc, b"ac_cv_type_", part.as_slice()),
-    }
-}
-
 /// Returns the test of an entry. `defines` is whether its result is defined.
 pub fn trial_of(
     alloc: Global,
@@ -46,7 +34,7 @@ pub fn trial_of(
 ) -> Result<Trial, AllocError>
     ensures { IfOk result (λ t. t ≡ trial_for sought entry.now defines) }
 {
-    let name = cached_name(alloc, sought, entry.as_slice())?;
+    let name = sought_name(alloc, sought, entry.as_slice())?;
     let entry = entry.copy(alloc)?;
     Ok(Trial {
         sought,

@@ -12,13 +12,14 @@ use conftest::{JobFault, link_job_with};
 use csource::function_source;
 use deftable::Bytes;
 use jobs::Job;
-use m4quote::{cpp_name, sh_name};
+use m4quote::cpp_name;
 use runstate::Store;
 use runstate::pieces::{end_check, end_known_check};
 use runstate::store::joined;
 use shellword::HereText;
 use std::alloc::{AllocError, Global};
 use syntax::Try;
+use syntax::test_names::{libraries_name, library_name};
 
 /// What a test of libraries is for.
 #[derive(Drop)]
@@ -75,23 +76,6 @@ fn libraries_after(
     joined(alloc, others.as_slice(), b" ", libs.as_slice())
 }
 
-/// Returns the cached name of the test of a library.
-fn library_name(alloc: Global, library: &[u8], function: &[u8]) -> Result<Bytes, AllocError>
-    ensures { IfOk result (λ n. n ≡ codes "ac_cv_lib_" ++ rows.shell_part (library.now ++ codes "_" ++ function.now)) }
-{
-    let both = joined(alloc, library, b"_", function)?;
-    let part = sh_name(alloc, both.as_slice())?;
-    prefixed(alloc, b"ac_cv_lib_", part.as_slice())
-}
-
-/// Returns the cached name of a search for libraries.
-fn search_name(alloc: Global, function: &[u8]) -> Result<Bytes, AllocError>
-    ensures { IfOk result (λ n. n ≡ codes "ac_cv_search_" ++ rows.shell_part function.now) }
-{
-    let part = sh_name(alloc, function)?;
-    prefixed(alloc, b"ac_cv_search_", part.as_slice())
-}
-
 /// Returns what AC_CHECK_LIB does with a library that has the function.
 fn purpose_of(alloc: Global, adds: bool, library: &Bytes) -> Result<Purpose, AllocError>
     ensures { IfOk result (λ p. p ≡ linking.purpose_of adds library.now) }
@@ -135,7 +119,7 @@ pub fn libraries_test(
 ) -> Result<LibraryTest, AllocError>
     ensures { IfOk result (λ t. t ≡ linking.libraries_test function.now others.now store.now) }
 {
-    let name = search_name(alloc, function.as_slice())?;
+    let name = libraries_name(alloc, function.as_slice())?;
     let function = function.copy(alloc)?;
     let after = libraries_after(alloc, store, others)?;
     Ok(LibraryTest {

@@ -1,10 +1,10 @@
 //! Questions that one child answers: what is asked for.
 
-ghost use Rattle.std.specs.Prelude.{◌≤◌, IfOk, None};
+ghost use Rattle.std.specs.Prelude.{IfOk, None};
 ghost use Rattle.meaning.specs.Asking.{child};
 ghost use Rattle.meaning.specs.State.{Scope, State, answered};
 ghost use Rattle.plan.specs.Broken.{broken_all};
-ghost use Rattle.searching.specs.Flows.{Heeds, IsGroup, Leads, asks_now, passed};
+ghost use Rattle.searching.specs.Flows.{IsStep, Leads};
 ghost use Rattle.searching.specs.declared.wait.Wait.TheVariants as waits;
 ghost use Rattle.searching.specs.Waits.{told_to};
 
@@ -16,10 +16,7 @@ use std::alloc::{AllocError, Global};
 
 /// Asks for a child whose success is the answer to the question of a choice.
 pub fn ask_answer(alloc: Global, job: Job) -> Result<Flow, AllocError>
-    ensures within { IfOk result (λ flow. passed flow ≤ 0) }
-    ensures asks { IfOk result (λ flow. asks_now flow ≤ 1) }
-    ensures group { IfOk result IsGroup }
-    ensures heeds { IfOk result (λ flow. Heeds flow None) }
+    ensures step { IfOk result (IsStep 1 None) }
     ensures leads { IfOk result (λ flow. (about : Scope) (st : State) → Leads flow (λ tests next. child (broken_all tests) job st (λ passed. next 0 (answered passed))) about st) }
 {
     let jobs = alone(alloc, job)?;
@@ -31,10 +28,7 @@ pub fn ask_answer(alloc: Global, job: Job) -> Result<Flow, AllocError>
 
 /// Asks for a child that links a program, which is then run.
 pub fn ask_link(alloc: Global, job: Job) -> Result<Flow, AllocError>
-    ensures within { IfOk result (λ flow. passed flow ≤ 0) }
-    ensures asks { IfOk result (λ flow. asks_now flow ≤ 2) }
-    ensures group { IfOk result IsGroup }
-    ensures heeds { IfOk result (λ flow. Heeds flow None) }
+    ensures step { IfOk result (IsStep 2 None) }
     ensures leads { IfOk result (λ flow. (about : Scope) (st : State) → Leads flow (λ tests next. child (broken_all tests) job st (λ linked now. told_to tests waits.Link linked (next 0) about now)) about st) }
 {
     let jobs = alone(alloc, job)?;

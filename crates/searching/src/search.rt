@@ -1,6 +1,6 @@
 //! Searches for programs along PATH (Autoconf's manual, "Generic Programs").
 
-ghost use Rattle.std.specs.Prelude.{◌≡◌, ◌≤◌, ◌+◌, ◌++◌, ◌∷◌, [], None, Some, IfOk, OnOk, IfSome, IfNone, if◌then◌else◌, length, option_map, codes, map, take};
+ghost use Rattle.std.specs.Prelude.{◌≡◌, ◌+◌, ◌++◌, ◌∷◌, [], None, Some, IfOk, OnOk, IfSome, IfNone, if◌then◌else◌, length, option_map, codes, map, take};
 ghost use Rattle.jobs.specs.Probe.{path_of};
 ghost use Rattle.deftable.specs.Table as tables;
 ghost use Rattle.meaning.specs.Directories.{ends_empty, directory_of, directories_of, without_last_empty};
@@ -9,7 +9,7 @@ ghost use Rattle.meaning.specs.Rows.{message_of, text_or_no, value_or_empty};
 ghost use Rattle.meaning.specs.State.{Run, Scope, State, then_run, with_variable};
 ghost use Rattle.meaning.specs.Tests.{checking, with_result, with_value};
 ghost use Rattle.plan.specs.Broken.{guarded_all};
-ghost use Rattle.searching.specs.Flows.{Heeds, IsGroup, Leads, asks_now, passed};
+ghost use Rattle.searching.specs.Flows.{IsStep, Leads};
 ghost use Rattle.searching.specs.Known.{IsCached, IsKnown};
 ghost use Rattle.searching.specs.Waits.{finished, searched};
 ghost use Rattle.searching.specs.declared.flow.Flow.TheVariants.{Pass};
@@ -195,10 +195,7 @@ fn try_in(
 
 /// Asks whether this directory has the program. `left` are the directories after it.
 fn ask_in(alloc: Global, directory: &Bytes, search: Search, left: Queue) -> Result<Flow, AllocError>
-    ensures within { IfOk result (λ flow. passed flow ≤ 0) }
-    ensures asks { IfOk result (λ flow. asks_now flow ≤ 1 + length left) }
-    ensures group { IfOk result IsGroup }
-    ensures heeds { IfOk result (λ flow. Heeds flow None) }
+    ensures step { IfOk result (IsStep (1 + length left) None) }
     ensures leads { IfOk result (λ flow. (about : Scope) (st : State) → Leads flow (λ tests next. searched tests search (directory.now ∷ left) st (next 0 about)) about st) }
 {
     let (file, jobs) = try_in(alloc, directory, &search.program)?;
@@ -215,10 +212,7 @@ pub fn look_on(
     search: Search,
     mut left: Queue,
 ) -> Result<Flow, AllocError>
-    ensures within { IfOk result (λ flow. passed flow ≤ 0) }
-    ensures asks { IfOk result (λ flow. asks_now flow ≤ length left) }
-    ensures group { IfOk result IsGroup }
-    ensures heeds { IfOk result (λ flow. Heeds flow None) }
+    ensures step { IfOk result (IsStep (length left) None) }
     ensures leads { IfOk result (λ flow. (about : Scope) → Leads flow (λ tests next. searched tests search left store.old (next 0 about)) about store.new) }
 {
     match left.take_first() {
@@ -246,10 +240,7 @@ fn path_directories(alloc: Global, store: &Store) -> Result<Queue, AllocError>
 
 /// Looks for the program in the directories of PATH.
 fn search_path(alloc: Global, store: &mut Store, search: Search) -> Result<Flow, AllocError>
-    ensures within { IfOk result (λ flow. passed flow ≤ 0) }
-    ensures asks { IfOk result (λ flow. asks_now flow ≤ 65536) }
-    ensures group { IfOk result IsGroup }
-    ensures heeds { IfOk result (λ flow. Heeds flow None) }
+    ensures step { IfOk result (IsStep 65536 None) }
     ensures leads { IfOk result (λ flow. (about : Scope) → Leads flow (λ tests next. searched tests search (directories_of (value_or_empty store.old (codes "PATH"))) store.old (next 0 about)) about store.new) }
 {
     let directories = path_directories(alloc, store)?;
@@ -327,10 +318,7 @@ pub fn look_for(
     search: Search,
     counts: bool,
 ) -> Result<Flow, AllocError>
-    ensures within { IfOk result (λ flow. passed flow ≤ 0) }
-    ensures asks { IfOk result (λ flow. asks_now flow ≤ 65536) }
-    ensures group { IfOk result IsGroup }
-    ensures heeds { IfOk result (λ flow. Heeds flow None) }
+    ensures step { IfOk result (IsStep 65536 None) }
     ensures leads { IfOk result (λ flow. (about : Scope) → Leads flow (λ tests next. then_run (guarded_all tests (program_test search counts store.old)) (next 0 about)) about store.new) }
 {
     begin(alloc, store, &search)?;

@@ -1,4 +1,4 @@
-use Rattle.std.proofs.Common.{ap, ◌∙◌, length, arith}
+use Rattle.std.proofs.Common.{refl, ap, ◌∙◌, length, arith}
 use Rattle.meaning.specs.Batches.{Batch}
 use Rattle.searching.proofs.Searches.{led}
 use Rattle.batching.proofs.Beginnings.{batch_awaits, begins_asking, begins_now, few_asked, made}
@@ -20,19 +20,18 @@ returns-then-is_empty-clause-leads c = λ about.
     (is_nothing c.in_ok-jobs.jobs.items _ c.in_ok-jobs.jobs.ok.0 c.if-is_empty.ensures))
     (c.in_ok-flow.ensures.leads about)
 
-pub returns-clause-asks : goal.returns-clause-asks
-returns-clause-asks c =
+pub returns-clause-step : goal.returns-clause-step
+returns-clause-step c =
     let batch : Batch = record { listed = c.args.listed; entries = c.args.entries.now; includes = c.args.includes.now } in
     let st = c.args.store.now in
     let m = made batch c.as_slice.result.now c.in_ok-waiting.waiting.items c.as_slice-2.result.now c.in_ok-jobs.jobs.items st c.as_slice.ensures.value c.in_ok-waiting.ensures c.as_slice-2.ensures.value c.in_ok-jobs.ensures in
-    omega (arith, few_asked batch c.in_ok-waiting.waiting.items c.in_ok-jobs.jobs.items st m (is_something c.in_ok-jobs.jobs.items _ c.in_ok-jobs.jobs.ok.0 c.if-is_empty.ensures))
-
-pub returns-clause-group : goal.returns-clause-group
-returns-clause-group c =
-    let batch : Batch = record { listed = c.args.listed; entries = c.args.entries.now; includes = c.args.includes.now } in
-    let st = c.args.store.now in
-    let m = made batch c.as_slice.result.now c.in_ok-waiting.waiting.items c.as_slice-2.result.now c.in_ok-jobs.jobs.items st c.as_slice.ensures.value c.in_ok-waiting.ensures c.as_slice-2.ensures.value c.in_ok-jobs.ensures in
-    batch_awaits batch c.in_ok-waiting.waiting c.in_ok-jobs.jobs.items st m (is_something c.in_ok-jobs.jobs.items _ c.in_ok-jobs.jobs.ok.0 c.if-is_empty.ensures) c.as_slice.ensures.bounded
+    let some = is_something c.in_ok-jobs.jobs.items _ c.in_ok-jobs.jobs.ok.0 c.if-is_empty.ensures in
+    record {
+      within = omega arith;
+      asks = omega (arith, few_asked batch c.in_ok-waiting.waiting.items c.in_ok-jobs.jobs.items st m some);
+      group = batch_awaits batch c.in_ok-waiting.waiting c.in_ok-jobs.jobs.items st m some c.as_slice.ensures.bounded;
+      heeds = refl;
+    }
 
 pub returns-clause-leads : goal.returns-clause-leads
 returns-clause-leads c = λ about tests next.

@@ -1,7 +1,7 @@
 use Rattle.std.proofs.Common.{sym, ◌∙◌, subst, arith}
 use Rattle.searching.specs.Flows.{Leads}
 use Rattle.searching.specs.Waits.{given, resumed}
-use Rattle.searching.proofs.Searches.{led, resumed_single, single_fits}
+use Rattle.searching.proofs.Searches.{led, resumed_single, single_suits}
 use Rattle.hearing.proofs.Waiting.{batch_fits, single_of}
 use Rattle.hearing.proofs.replying.hear.Goals as goal
 
@@ -15,7 +15,7 @@ returns-in-Batch-clause-leads c =
 
 pub hear_single-requires : goal.hear_single-requires
 hear_single-requires c =
-    let one = single_fits c.args.wait c.args.jobs.items (single_of c.args.wait c.in_default.not-Batch) c.requires.awaits.fit in
+    let one = (single_suits c.args.wait c.args.jobs.items (single_of c.args.wait c.in_default.not-Batch)).0 c.requires.awaits.fit in
     record { one = one; replies = c.requires.replies ∙ one; room = omega (arith, c.requires.room, one) }
 
 pub returns-clause-leads : goal.returns-clause-leads
