@@ -11,7 +11,7 @@ ghost use Rattle.crew_trait.specs.declared.event.CrewEvent.TheVariants.{Started,
 
 use crate::failures::{failures_after, refusal};
 use crate::numbered::Numbered;
-use crate::room::put;
+use crate::room::{put, put_end};
 use causes::{Cause, CauseList, Causes};
 use crew_trait::{Crew, CrewEvent, Refused, Reply};
 use jobs::Job;
@@ -109,12 +109,7 @@ impl<L: Launcher + Drop> Children<L> {
         let (reply, kept, cause) = doubled(self.alloc, child.end(self.alloc));
         self.failures = failures_after(&reply, self.failures);
         self.causes.put(number, cause);
-        let end = CrewEvent::Ended {
-            slot,
-            reply: kept,
-            number: self.attempts,
-        };
-        put(&mut self.events, end);
+        put_end(&mut self.events, slot, kept, self.attempts);
         (slot, reply)
     }
 }

@@ -9,7 +9,7 @@ use crate::event::Event;
 use crate::failures::{failures_after, refusal};
 use crate::flight::Flight;
 use crate::order::{Order, next_place};
-use crate::room::put;
+use crate::room::{put, put_end};
 use causes::Causes;
 use crew_trait::{Crew, CrewEvent, Refused, Reply};
 use jobs::Job;
@@ -203,12 +203,7 @@ impl Crew for MemoryCrew {
         let (slot, reply, kept) = child.into_parts();
         self.failures = failures_after(&reply, self.failures);
         put(&mut self.listed, Event::Ended(slot));
-        let end = CrewEvent::Ended {
-            slot,
-            reply: kept,
-            number: self.attempts,
-        };
-        put(&mut self.events, end);
+        put_end(&mut self.events, slot, kept, self.attempts);
         (slot, reply)
     }
 }

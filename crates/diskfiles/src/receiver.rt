@@ -149,33 +149,41 @@ fn kept_by(kind: Kind) -> Keeps
     }
 }
 
-/// Writes an artifact, if it isn't unchanged, and adds its places. If that fails, some place may have
-/// been added.
+/// An artifact that is put, before it is written.
+#[derive(Clone, Copy)]
+struct Put<'a> {
+    kind: Kind,
+    /// What is said of it.
+    saying: Saying,
+    /// Whether its file has this text already.
+    unchanged: bool,
+    name: &'a str,
+    text: &'a [u8],
+}
+
+/// Writes an artifact to a file, if it isn't unchanged, and adds its places. If that fails, some
+/// place may have been added.
 fn write_placed<D: Disk>(
     alloc: Global,
     disk: &mut D,
     places: &mut Vec<Place>,
-    kind: Kind,
-    saying: Saying,
-    unchanged: bool,
-    name: &str,
+    put: &Put<'_>,
     file: &str,
     is_linked: bool,
-    text: &[u8],
 ) -> io::Result<()>
     ensures stepped { OnOk result (Does (D.known disk.old) (D.known disk.new)
-        (λ k deeds. IsStepped k saying unchanged
-        (keeps_of kind) name.now file.now text.now deeds)) }
+        (λ k deeds. IsStepped k put.now.saying put.now.unchanged
+        (keeps_of put.now.kind) put.now.name.now file.now put.now.text.now deeds)) }
     ensures undone { OnErr result
         (Does (D.known disk.old) (D.known disk.new)
-        (λ _ deeds. IsUnstepped saying name.now file.now deeds)) }
+        (λ _ deeds. IsUnstepped put.now.saying put.now.name.now file.now deeds)) }
 {
-    make_for(disk, saying, name)?;
-    add_places(alloc, disk, places, name, file, is_linked)?;
-    if unchanged {
+    make_for(disk, put.saying, put.name)?;
+    add_places(alloc, disk, places, put.name, file, is_linked)?;
+    if put.unchanged {
         return Ok(());
     }
-    write_text(alloc, disk, file.as_bytes(), kept_by(kind), text)
+    write_text(alloc, disk, file.as_bytes(), kept_by(put.kind), put.text)
 }
 
 /// Returns whether an artifact of this kind is compared with the text that its file has. What is not
@@ -253,24 +261,20 @@ fn keep_written<D: Disk>(
     artifacts: &mut Vec<Artifact>,
     lines: &mut Vec<u8>,
     artifact: Artifact,
-    kind: Kind,
-    saying: Saying,
-    unchanged: bool,
-    name: &str,
+    put: &Put<'_>,
     file: &str,
     is_linked: bool,
-    text: &[u8],
 ) -> io::Result<()>
     ensures ok { OnOk result
-        (IsKept artifacts.old.items lines.old.items artifacts.new.items lines.new.items artifact (said saying name.now)) }
+        (IsKept artifacts.old.items lines.old.items artifacts.new.items lines.new.items artifact (said put.now.saying put.now.name.now)) }
     ensures err { OnErr result
         (AreSame artifacts.old.items lines.old.items artifacts.new.items lines.new.items) }
     ensures stepped { OnOk result (Does (D.known disk.old) (D.known disk.new)
-        (λ k deeds. IsStepped k saying unchanged
-        (keeps_of kind) name.now file.now text.now deeds)) }
+        (λ k deeds. IsStepped k put.now.saying put.now.unchanged
+        (keeps_of put.now.kind) put.now.name.now file.now put.now.text.now deeds)) }
     ensures undone { OnErr result
         (Does (D.known disk.old) (D.known disk.new)
-        (λ _ deeds. IsUnstepped saying name.now file.now deeds)) }
+        (λ _ deeds. IsUnstepped put.now.saying put.now.name.now file.now deeds)) }
 {
     let count = artifacts.len();
     let len = lines.len();
@@ -278,13 +282,11 @@ fn keep_written<D: Disk>(
     if artifacts.push(artifact).is_err() {
         return Err(no_memory());
     }
-    if say(alloc, lines, saying, name.as_bytes()).is_err() {
+    if say(alloc, lines, put.saying, put.name.as_bytes()).is_err() {
         artifacts.truncate(count);
         return Err(no_memory());
     }
-    let done = write_placed(
-        alloc, disk, places, kind, saying, unchanged, name, file, is_linked, text,
-    );
+    let done = write_placed(alloc, disk, places, put, file, is_linked);
     if done.is_err() {
         artifacts.truncate(count);
         lines.truncate(len);
@@ -294,7 +296,7 @@ fn keep_written<D: Disk>(
 }
 
 /// Takes an artifact. If the put is refused, only its deeds are left of it.
-fn take<D: Disk>(
+fn take<'a, D: Disk>(
     alloc: Global,
     disk: &mut D,
     places: &mut Vec<Place>,
@@ -302,8 +304,8 @@ fn take<D: Disk>(
     lines: &mut Vec<u8>,
     is_closed: bool,
     kind: Kind,
-    name: &[u8],
-    text: &[u8],
+    name: &'a [u8],
+    text: &'a [u8],
 ) -> io::Result<()>
     ensures unclosed { OnOk result (is_closed ≡ false) }
     ensures taken { OnOk result
@@ -329,21 +331,17 @@ fn take<D: Disk>(
         return Err(no_memory());
     };
     let saying = saying_of(kind, unchanged);
-    let file = file_of(&end, path);
-    keep_written(
-        alloc,
-        disk,
-        places,
-        artifacts,
-        lines,
-        artifact,
+    let put = Put {
         kind,
         saying,
         unchanged,
-        path,
-        file,
-        end.is_some(),
+        name: path,
         text,
+    };
+    let file = file_of(&end, path);
+    let is_linked = end.is_some();
+    keep_written(
+        alloc, disk, places, artifacts, lines, artifact, &put, file, is_linked,
     )
 }
 

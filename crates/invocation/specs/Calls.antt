@@ -1,6 +1,6 @@
 -- What the program is asked to do. (own)
-use Rattle.std.specs.Prelude.{ℕ, ◌≤◌, ◌==◌, ◌||◌, ◌≡◌, Bool, false, List, [], ◌∷◌, length, Option, Some, None, bytes_eq, codes, if◌then◌else◌}
-use Rattle.std.specs.List.{list_any}
+use Rattle.std.specs.Prelude.{ℕ, ◌≤◌, ◌==◌, nat_eq, ◌||◌, ◌&&◌, not, ◌≡◌, Bool, false, List, [], ◌∷◌, length, Option, Some, None, bytes_eq, codes, if◌then◌else◌}
+use Rattle.std.specs.List.{list_any, starts_with}
 
 -- What the program is asked to do: to filter its input; to answer in a compiler's place; to run a configure.ac with at most
 -- `window` children at once; to make the outputs of a record again; to run the configure.ac again with the arguments of a record;
@@ -138,6 +138,10 @@ IfHelp call goes_on = Unit {0}
 -- A word that names standard input in place of a file. (own)
 abbrev pub is_input : List ℕ → Bool
 is_input word = bytes_eq word (codes "-")
+
+-- A word that is an option, and no name of a file: it begins with a dash, and doesn't name standard input. (own)
+abbrev pub is_option : List ℕ → Bool
+is_option word = starts_with nat_eq word (codes "-") && not (is_input word)
 
 -- The program is asked for nothing that reads standard input: only the filter does, and `lint` and `port` if `-` is one of their
 -- words. (own)

@@ -1,6 +1,6 @@
 //! The command.
 
-ghost use Rattle.std.specs.Prelude.{◌≡◌, ◌≢◌, ◌≤◌, false, IfOk};
+ghost use Rattle.std.specs.Prelude.{◌≡◌, ◌≢◌, ◌≤◌, false, IfOk, IfSome};
 ghost use Rattle.std.specs.List.{list_any};
 ghost use Rattle.invocation.specs.Calls as calls;
 
@@ -50,41 +50,38 @@ pub fn put_page<W: Write, E: Write>(page: &[u8], status: u8, output: &mut W, err
     }
 }
 
-/// Prints what is found in a source, and returns the exit status.
-fn lint_source<D: Disk, W: Write, E: Write>(
-    alloc: Global,
-    disk: &D,
-    form: Form,
-    linted: &Linted,
-    output: &mut W,
-    errors: &mut E,
-) -> u8
-    ensures status { result ≤ 2 }
-    ensures silent { result ≢ 2 → errors.new ≡ errors.old }
-{
-    match lint_text(alloc, disk, form, linted) {
-        Ok((page, status)) => put_page(page.as_slice(), status, output, errors),
-        Err(_) => tell_memory(errors),
-    }
-}
-
-/// Reads the source that a word names, prints what is found in it, and returns the exit status.
-fn lint_named<D: Disk, R: Read, W: Write, E: Write>(
+/// Reads the source that a word names, and returns the page of what is found in it with the exit
+/// status, or `None` if it can't be read.
+fn page_for<D: Disk, R: Read>(
     alloc: Global,
     disk: &D,
     form: Form,
     word: &[u8],
     reads: bool,
     input: &mut R,
+) -> Result<Option<(Vec<u8>, u8)>, AllocError>
+    ensures input { reads ≡ false → input.new ≡ input.old }
+    ensures status { IfOk result (λ o. IfSome o (λ r. r.1 ≤ 2)) }
+{
+    match read_named(alloc, disk, reads, input, word)? {
+        Some(linted) => Ok(Some(lint_text(alloc, disk, form, &linted)?)),
+        None => Ok(None),
+    }
+}
+
+/// Writes the page for a word, or says why there is none, and returns the exit status.
+fn put_found<W: Write, E: Write>(
+    word: &[u8],
+    found: Result<Option<(Vec<u8>, u8)>, AllocError>,
     output: &mut W,
     errors: &mut E,
 ) -> u8
-    ensures input { reads ≡ false → input.new ≡ input.old }
+    requires status { IfOk found (λ o. IfSome o (λ r. r.1 ≤ 2)) }
     ensures status { result ≤ 2 }
     ensures silent { result ≢ 2 → errors.new ≡ errors.old }
 {
-    match read_named(alloc, disk, reads, input, word) {
-        Ok(Some(linted)) => lint_source(alloc, disk, form, &linted, output, errors),
+    match found {
+        Ok(Some((page, status))) => put_page(page.as_slice(), status, output, errors),
         Ok(None) => tell_file(errors, word),
         Err(_) => tell_memory(errors),
     }
@@ -117,14 +114,15 @@ fn lint_all<D: Disk, R: Read, W: Write, E: Write>(
     ensures silent { result ≢ 2 → errors.new ≡ errors.old }
 {
     if words.iter().all(|word| is_option(word.as_slice())) {
-        return lint_named(alloc, disk, form, SOURCE, false, input, output, errors);
+        let found = page_for(alloc, disk, form, SOURCE, false, input);
+        return put_found(SOURCE, found, output, errors);
     }
     let mut status: u8 = 0;
     for word in words {
         if !is_option(word.as_slice()) {
             let name = word.as_slice();
-            let next = lint_named(alloc, disk, form, name, reads, input, output, errors);
-            status = worse(status, next);
+            let found = page_for(alloc, disk, form, name, reads, input);
+            status = worse(status, put_found(name, found, output, errors));
         }
     }
     status

@@ -40,7 +40,9 @@ pub fn has_input(words: &[Bytes]) -> bool
 }
 
 /// Returns whether the word is an option, and no name of a file.
-pub fn is_option(word: &[u8]) -> bool {
+pub fn is_option(word: &[u8]) -> bool
+    ensures { result ≡ calls.is_option word.now }
+{
     word.starts_with(b"-") && word != b"-".as_slice()
 }
 

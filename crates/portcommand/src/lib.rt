@@ -66,25 +66,6 @@ fn port_source<W: Write, E: Write>(
     }
 }
 
-/// Reads the source that a word names, prints it with its calls rewritten, and returns the exit status.
-fn port_named<D: Disk, R: Read, W: Write, E: Write>(
-    alloc: Global,
-    disk: &D,
-    word: &[u8],
-    reads: bool,
-    input: &mut R,
-    output: &mut W,
-    errors: &mut E,
-) -> u8
-    ensures { reads ≡ false → input.new ≡ input.old }
-{
-    match read_named(alloc, disk, reads, input, word) {
-        Ok(Some(linted)) => port_source(alloc, &linted, output, errors),
-        Ok(None) => tell_file(errors, word),
-        Err(_) => tell_memory(errors),
-    }
-}
-
 /// Returns the word that names a source, or `None` if the words are wrong.
 fn source_of(words: &[Bytes]) -> Option<&[u8]> {
     match words {
@@ -113,8 +94,12 @@ pub fn run_port<D: Disk, R: Read, W: Write, E: Write>(
     ensures input { list_any calls.is_input words.now ≡ false → input.new ≡ input.old }
 {
     let reads = has_input(words);
-    match source_of(words) {
-        Some(word) => port_named(alloc, disk, word, reads, input, output, errors),
-        None => tell_usage(errors),
+    let Some(word) = source_of(words) else {
+        return tell_usage(errors);
+    };
+    match read_named(alloc, disk, reads, input, word) {
+        Ok(Some(linted)) => port_source(alloc, &linted, output, errors),
+        Ok(None) => tell_file(errors, word),
+        Err(_) => tell_memory(errors),
     }
 }

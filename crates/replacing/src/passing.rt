@@ -179,21 +179,20 @@ fn pass_option(text: &[u8], call: &CallAt, pass: &mut Pass) -> Result<(), AllocE
     }
 }
 
-/// Replaces a call that has to go, if it has an exact idiom.
-fn pass_other(
-    alloc: Global,
-    known: &Known,
+/// Writes the change of a call that has to go, if it has one.
+fn put_found(
     text: &[u8],
-    spot: Spot,
     call: &CallAt,
+    change: Option<Change>,
     pass: &mut Pass,
 ) -> Result<(), AllocError>
     requires call { Contains (calls_in text.now) (seen call.now) }
     requires goes { specs.HasToGo text.now (seen call.now) }
+    requires put { IfSome change (λ c. IsPut text.now (seen call.now) c.put.items) }
     requires begun { specs.IsPass text.now pass.old.at pass.old.out.items }
     ensures { OnOk result (specs.IsPass text.now pass.new.at pass.new.out.items) }
 {
-    match change_of(alloc, known, text, spot, call)? {
+    match change {
         Some(change) => put_change(text, call, &change, pass),
         None => Ok(()),
     }
@@ -216,7 +215,8 @@ fn pass_call(
         return Ok(());
     }
     if has_to_go(text, call) {
-        return pass_other(alloc, known, text, spot, call, pass);
+        let change = change_of(alloc, known, text, spot, call)?;
+        return put_found(text, call, change, pass);
     }
     if declares_option(text, call) {
         return pass_option(text, call, pass);

@@ -1,22 +1,14 @@
 //! Warnings about calls.
 
-use crate::extent::{argument_at, bare, name_of, text_at, warn_by_code};
+use crate::extent::{Named, bare, text_at, warn_by_code};
 use crate::foreign::warn_of_texts;
-use crate::rows::{EMPTY, FUNCTIONS, HELD, HELD_ONCE, LIBRARY_ACTION, NAMES, Row, SILENT};
+use crate::rows::{EMPTY, FUNCTIONS, HELD, LIBRARY_ACTION, NAMES, SILENT};
 use bstr::ByteSlice;
 use findings::Finding;
 use macrotable::Index;
 use sourcecalls::{CallAt, Extent};
 use std::alloc::{AllocError, Global};
 use textpieces::{after_blanks, from};
-
-/// Returns where a call is.
-fn whole(call: &CallAt) -> Option<Extent> {
-    Some(Extent {
-        start: call.start,
-        end: call.end,
-    })
-}
 
 /// Adds the warning of this code about a part of the source, if that is there and wrong.
 fn warn_if(
@@ -41,17 +33,16 @@ fn is_comment(action: &[u8]) -> bool {
 /// Warns of a library that is sought by `main`, and of an action that is a comment alone.
 fn warn_of_library(
     alloc: Global,
-    text: &[u8],
-    name: &[u8],
-    call: &CallAt,
+    call: Named<'_>,
     out: &mut Vec<Finding>,
 ) -> Result<(), AllocError> {
+    let text = call.text;
     for place in &FUNCTIONS {
-        let function = text_at(text, argument_at(name, call, place));
+        let function = text_at(text, call.argument_at(place));
         let is_main = bare(function) == b"main".as_slice();
-        warn_if(alloc, text, whole(call), is_main, b"library-main", out)?;
+        warn_if(alloc, text, call.whole(), is_main, b"library-main", out)?;
     }
-    let action = argument_at(name, call, &LIBRARY_ACTION);
+    let action = call.argument_at(&LIBRARY_ACTION);
     let is_idle = is_comment(bare(text_at(text, action)));
     warn_if(alloc, text, action, is_idle, b"dnl-action", out)
 }
@@ -61,23 +52,14 @@ fn holds(argument: &[u8], sought: &[u8]) -> bool {
     !sought.is_empty() && argument.contains_str(sought)
 }
 
-/// Warns if an argument of a call holds what one of the rows says. If `is_once` is true, one in two
-/// pairs of brackets may hold it.
-fn warn_of_rows(
-    alloc: Global,
-    text: &[u8],
-    rows: &[Row],
-    name: &[u8],
-    call: &CallAt,
-    is_once: bool,
-    out: &mut Vec<Finding>,
-) -> Result<(), AllocError> {
-    for row in rows {
-        let argument = argument_at(name, call, &(row.0, row.1));
-        let written = text_at(text, argument);
-        let is_quoted = is_once && written.starts_with(b"[[");
+/// Warns if an argument of a call holds what one of the rows says.
+fn warn_of_rows(alloc: Global, call: Named<'_>, out: &mut Vec<Finding>) -> Result<(), AllocError> {
+    for row in &HELD {
+        let argument = call.argument_at(&(row.0, row.1));
+        let written = text_at(call.text, argument);
+        let is_quoted = row.4 && written.starts_with(b"[[");
         let is_wrong = !is_quoted && (holds(written, row.2) || holds(written, row.3));
-        warn_if(alloc, text, argument, is_wrong, row.4, out)?;
+        warn_if(alloc, call.text, argument, is_wrong, row.5, out)?;
     }
     Ok(())
 }
@@ -90,18 +72,17 @@ fn has_end_blanks(argument: &[u8]) -> bool {
 /// Warns of empty texts in two pairs of brackets, and of names with blanks at their ends.
 fn warn_of_places(
     alloc: Global,
-    text: &[u8],
-    name: &[u8],
-    call: &CallAt,
+    call: Named<'_>,
     out: &mut Vec<Finding>,
 ) -> Result<(), AllocError> {
+    let text = call.text;
     for place in &EMPTY {
-        let argument = argument_at(name, call, place);
+        let argument = call.argument_at(place);
         let is_empty = text_at(text, argument) == b"[[]]".as_slice();
         warn_if(alloc, text, argument, is_empty, b"empty-quotes", out)?;
     }
     for place in &NAMES {
-        let argument = argument_at(name, call, place);
+        let argument = call.argument_at(place);
         let has_blanks = has_end_blanks(text_at(text, argument));
         warn_if(alloc, text, argument, has_blanks, b"blank-in-name", out)?;
     }
@@ -116,59 +97,48 @@ fn is_given(text: &[u8], argument: Option<&Extent>) -> bool {
 /// Warns of arguments of AC_CHECK_PROG and AS_CASE that are empty.
 fn warn_of_missing(
     alloc: Global,
-    text: &[u8],
-    name: &[u8],
-    call: &CallAt,
+    call: Named<'_>,
     out: &mut Vec<Finding>,
 ) -> Result<(), AllocError> {
-    let args = &call.args;
+    let Named { text, name, .. } = call;
+    let args = &call.at.args;
     let has_no_value = name == b"AC_CHECK_PROG".as_slice()
         && !is_given(text, args.get(2))
         && is_given(text, args.get(3));
-    warn_if(alloc, text, whole(call), has_no_value, b"empty-value", out)?;
+    warn_if(alloc, text, call.whole(), has_no_value, b"empty-value", out)?;
     let has_no_word = name == b"AS_CASE".as_slice() && !is_given(text, args.first());
-    warn_if(alloc, text, whole(call), has_no_word, b"empty-case", out)
+    warn_if(alloc, text, call.whole(), has_no_word, b"empty-case", out)
 }
 
 /// Warns if a `;` is after a call of which Autoconf makes no shell text.
 fn warn_of_semicolon(
     alloc: Global,
-    text: &[u8],
-    name: &[u8],
-    call: &CallAt,
+    call: Named<'_>,
     out: &mut Vec<Finding>,
 ) -> Result<(), AllocError> {
-    let is_followed = SILENT.iter().any(|other| *other == name)
-        && after_blanks(from(text, call.end)).starts_with(b";");
-    warn_if(
-        alloc,
-        text,
-        whole(call),
-        is_followed,
-        b"semicolon-after-call",
-        out,
-    )
+    let text = call.text;
+    let is_followed = SILENT.iter().any(|other| *other == call.name)
+        && after_blanks(from(text, call.at.end)).starts_with(b";");
+    let code = b"semicolon-after-call";
+    warn_if(alloc, text, call.whole(), is_followed, code, out)
 }
 
 /// Warns of a call.
 fn warn_of_call(
     alloc: Global,
     index: &Index,
-    text: &[u8],
-    call: &CallAt,
+    call: Named<'_>,
     out: &mut Vec<Finding>,
 ) -> Result<(), AllocError> {
-    if !call.is_of_profile {
+    if !call.at.is_of_profile {
         return Ok(());
     }
-    let name = name_of(text, call);
-    warn_of_library(alloc, text, name, call, out)?;
-    warn_of_rows(alloc, text, &HELD, name, call, false, out)?;
-    warn_of_rows(alloc, text, &HELD_ONCE, name, call, true, out)?;
-    warn_of_places(alloc, text, name, call, out)?;
-    warn_of_missing(alloc, text, name, call, out)?;
-    warn_of_semicolon(alloc, text, name, call, out)?;
-    warn_of_texts(alloc, index, text, name, call, out)
+    warn_of_library(alloc, call, out)?;
+    warn_of_rows(alloc, call, out)?;
+    warn_of_places(alloc, call, out)?;
+    warn_of_missing(alloc, call, out)?;
+    warn_of_semicolon(alloc, call, out)?;
+    warn_of_texts(alloc, index, call, out)
 }
 
 /// Warns of the calls.
@@ -180,7 +150,7 @@ fn warn_of_each(
     out: &mut Vec<Finding>,
 ) -> Result<(), AllocError> {
     for call in calls {
-        warn_of_call(alloc, index, text, call, out)?;
+        warn_of_call(alloc, index, Named::new(text, call), out)?;
     }
     Ok(())
 }

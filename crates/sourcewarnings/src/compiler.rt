@@ -50,8 +50,16 @@ pub fn warn_of_compiler(
                     end: call.name_end,
                 },
                 b"compiler-not-tried",
-                b"nothing before this check tries whether the compiler works; with a misspelt flag in CFLAGS each check says no",
-                b"write after AC_PROG_CC\n  AC_CACHE_CHECK([whether the C compiler makes programs], [PACKAGE_cv_prog_cc_works],\n    [AC_COMPILE_IFELSE([AC_LANG_PROGRAM([], [])],\n      [AC_LINK_IFELSE([AC_LANG_PROGRAM([], [])], [PACKAGE_cv_prog_cc_works=yes])])])\n  AS_IF([test \"$PACKAGE_cv_prog_cc_works\" != yes],\n    [AC_MSG_ERROR([the C compiler makes no programs; config.log says why], [77])])",
+                b"nothing before this check tries whether the compiler works; with a misspelt flag \
+                  in CFLAGS each check says no",
+                b"write after AC_PROG_CC\n  \
+                  AC_CACHE_CHECK([whether the C compiler makes programs], \
+                  [PACKAGE_cv_prog_cc_works],\n    \
+                  [AC_COMPILE_IFELSE([AC_LANG_PROGRAM([], [])],\n      \
+                  [AC_LINK_IFELSE([AC_LANG_PROGRAM([], [])], \
+                  [PACKAGE_cv_prog_cc_works=yes])])])\n  \
+                  AS_IF([test \"$PACKAGE_cv_prog_cc_works\" != yes],\n    \
+                  [AC_MSG_ERROR([the C compiler makes no programs; config.log says why], [77])])",
             );
         }
     }

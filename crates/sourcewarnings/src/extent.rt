@@ -20,14 +20,6 @@ pub(crate) fn text_at(text: &[u8], argument: Option<Extent>) -> &[u8] {
     }
 }
 
-/// Returns the argument of a call that a place names, if the call has this name and the argument.
-pub(crate) fn argument_at(name: &[u8], call: &CallAt, place: &Place) -> Option<Extent> {
-    if place.0 == name {
-        return call.args.get(place.1).copied();
-    }
-    None
-}
-
 /// Returns an argument without blanks and brackets around it.
 pub(crate) fn bare(argument: &[u8]) -> &[u8] {
     argument.trim_with(|c| c == '[' || c == ']' || c == ' ' || c == '\t' || c == '\n')
@@ -36,6 +28,43 @@ pub(crate) fn bare(argument: &[u8]) -> &[u8] {
 /// Returns the name of a call.
 pub(crate) fn name_of<'a>(text: &'a [u8], call: &CallAt) -> &'a [u8] {
     part(text, call.start, call.name_end)
+}
+
+/// A call of a source, with its name.
+#[derive(Clone, Copy)]
+pub(crate) struct Named<'a> {
+    /// The text of the source.
+    pub(crate) text: &'a [u8],
+    pub(crate) name: &'a [u8],
+    /// Where it and its arguments are.
+    pub(crate) at: &'a CallAt,
+}
+
+impl<'a> Named<'a> {
+    /// Returns a call with its name.
+    pub(crate) fn new(text: &'a [u8], call: &'a CallAt) -> Named<'a> {
+        Named {
+            text,
+            name: name_of(text, call),
+            at: call,
+        }
+    }
+
+    /// Returns where the whole call is.
+    pub(crate) fn whole(self) -> Option<Extent> {
+        Some(Extent {
+            start: self.at.start,
+            end: self.at.end,
+        })
+    }
+
+    /// Returns where the argument is that a place names, if it is one of this call.
+    pub(crate) fn argument_at(self, place: &Place) -> Option<Extent> {
+        if place.0 == self.name {
+            return self.at.args.get(place.1).copied();
+        }
+        None
+    }
 }
 
 /// Adds a warning about a part of the source.

@@ -1,10 +1,10 @@
 //! Names of macros in arguments that are text.
 
-use crate::extent::{argument_at, bare, part, warn_of_part};
+use crate::extent::{Named, bare, part, warn_of_part};
 use crate::rows::TEXTS;
 use findings::Finding;
 use macrotable::{Index, Kind};
-use sourcecalls::{CallAt, Extent};
+use sourcecalls::Extent;
 use std::alloc::{AllocError, Global};
 use textpieces::{before, is_word_byte};
 
@@ -126,14 +126,12 @@ fn warn_of_text(
 pub(crate) fn warn_of_texts(
     alloc: Global,
     index: &Index,
-    text: &[u8],
-    name: &[u8],
-    call: &CallAt,
+    call: Named<'_>,
     out: &mut Vec<Finding>,
 ) -> Result<(), AllocError> {
     for place in &TEXTS {
-        if let Some(extent) = argument_at(name, call, place) {
-            warn_of_text(alloc, index, text, extent, out)?;
+        if let Some(extent) = call.argument_at(place) {
+            warn_of_text(alloc, index, call.text, extent, out)?;
         }
     }
     Ok(())

@@ -171,7 +171,8 @@ fn message_of(alloc: Global, statement: &[u8]) -> Result<Vec<u8>, AllocError> {
         message.extend_from_slice(b"`, ")?;
     }
     message.extend_from_slice(
-        b"a run of this source that is cut and started again may end otherwise than one that is not cut",
+        b"a run of this source that is cut and started again may end otherwise than one that is \
+          not cut",
     )?;
     Ok(message)
 }
@@ -192,6 +193,7 @@ pub(crate) fn warn_of_order(
         extent,
         b"not-resumable",
         message.as_slice(),
-        b"read a cached value, such as $ac_cv_func_f, only after its check, assign to none, and try programs within AC_CACHE_CHECK",
+        b"read a cached value, such as $ac_cv_func_f, only after its check, assign to none, and \
+          try programs within AC_CACHE_CHECK",
     )
 }

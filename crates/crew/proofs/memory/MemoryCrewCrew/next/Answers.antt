@@ -10,8 +10,8 @@ use Rattle.crew.proofs.memory.MemoryCrewCrew.next.Goals as goal
 pub invariant_of-self : goal.invariant_of-self
 invariant_of-self c =
     let child = c.remove-child.result in
-    let events = ended_events _ _ _ child.slot _ child.reply _ c.put-2.ensures.items c.into_parts-slot.ensures.slot c.into_parts-slot.ensures.copy in
-    (c.self.invariant.0, ready_next c.self.invariant.1 _ _ _ _ _ _ _ child _ _ (in_lent c.as_slice.ensures.value c.next_place-at.ensures.within) c.remove-child.ensures.value c.remove-child.ensures.items events c.put.ensures.items (omega (arith, c.remove-child.ensures.capacity)) c.put-2.ensures.room c.put.ensures.room)
+    let events = ended_events _ _ _ child.slot _ child.reply _ c.put_end.ensures.items c.into_parts-slot.ensures.slot c.into_parts-slot.ensures.copy in
+    (c.self.invariant.0, ready_next c.self.invariant.1 _ _ _ _ _ _ _ child _ _ (in_lent c.as_slice.ensures.value c.next_place-at.ensures.within) c.remove-child.ensures.value c.remove-child.ensures.items events c.put.ensures.items (omega (arith, c.remove-child.ensures.capacity)) c.put_end.ensures.room c.put.ensures.room)
 
 pub returns-clause-was_busy : goal.returns-clause-was_busy
 returns-clause-was_busy c =
@@ -28,7 +28,7 @@ returns-clause-after c =
     let m = the_view c.self.inside in
     let child = c.remove-child.result in
     let here : c.next_place-at.result ≡ place m.order m.children = c.next_place-at.ensures.place ∙ ap (place m.order) c.as_slice.ensures.value in
-    let events = ended_events _ _ _ child.slot _ child.reply _ c.put-2.ensures.items c.into_parts-slot.ensures.slot c.into_parts-slot.ensures.copy in
+    let events = ended_events _ _ _ child.slot _ child.reply _ c.put_end.ensures.items c.into_parts-slot.ensures.slot c.into_parts-slot.ensures.copy in
     let failures = c.failures_after-self-inside.ensures ∙ ap (λ r. c.self.inside.failures + failure_of r) c.into_parts-slot.ensures.reply in
     let listed = c.put.ensures.items ∙ ap (λ s. c.self.inside.listed.items ++ Ended s ∷ []) c.into_parts-slot.ensures.slot in
     next_is m _ c.next_place-at.result child here (in_lent c.as_slice.ensures.value c.next_place-at.ensures.within) c.remove-child.ensures.value events refl failures listed refl c.remove-child.ensures.items c.next_place-at.ensures.order
