@@ -9,7 +9,7 @@ use std::alloc::{AllocError, Global};
 
 /// The context of a byte of bare text.
 #[derive(Clone, Copy)]
-pub(crate) enum Place {
+pub enum Place {
     /// At the start of a shell word, outside quotes.
     Start,
     /// Within a shell word, outside quotes.
@@ -29,15 +29,15 @@ pub(crate) struct State {
     pub(crate) escaped: bool,
 }
 
-/// Returns whether the byte, outside quotes, ends a shell word: a blank or `;`.
-fn is_part_end(byte: u8) -> bool
+/// Returns whether the byte, outside quotes, ends a shell word: a blank, a newline or `;` (POSIX shell, 2.3).
+pub fn is_part_end(byte: u8) -> bool
     ensures { result ≡ bytes.is_part_end byte }
 {
     byte == b' ' || byte == b'\t' || byte == b'\n' || byte == b';'
 }
 
-/// Returns whether a backslash in this context quotes the byte after it.
-fn escapes(place: Place) -> bool
+/// Returns whether a backslash in this context quotes the byte after it (POSIX shell, 2.2.1).
+pub fn escapes(place: Place) -> bool
     ensures { result ≡ places.escapes place }
 {
     match place {
@@ -62,7 +62,7 @@ fn after_bare(byte: u8) -> Place
 }
 
 /// Returns the context after a byte that no backslash quotes.
-fn following(place: Place, byte: u8) -> Place
+pub fn following(place: Place, byte: u8) -> Place
     ensures { result ≡ places.following place byte }
 {
     match place {
@@ -76,7 +76,7 @@ fn following(place: Place, byte: u8) -> Place
 }
 
 /// Returns the context after a byte that a backslash quotes.
-fn after_quoted(place: Place) -> Place
+pub fn after_quoted(place: Place) -> Place
     ensures { result ≡ places.after_quoted place }
 {
     match place {

@@ -29,6 +29,7 @@ mod readings;
 mod statements;
 
 pub use assignments::{Assignment, Assignments};
+pub use continuation::{Place, after_quoted, escapes, following, is_part_end};
 pub use fault::BareFault;
 pub use readings::{
     faults_are_exact, faults_are_placed, one_reading, quotes_are_of_words, readings_are_exact,

@@ -3,30 +3,16 @@
 ghost use Rattle.std.specs.Prelude.{◌≡◌, ◌+◌, ◌≤◌, length, IfOk};
 ghost use Rattle.linting.specs.Errors as specs;
 
-use baretext::{BareFault, read_statements};
+use baretext::{BareFault, Place, after_quoted, escapes, following, is_part_end, read_statements};
 use m4quote::{Item, QuoteFault, bare_value, read_items_at};
 use shellword::ShellFault;
 use std::alloc::{AllocError, Global};
 
-/// What a byte of shell text is in.
-#[derive(Clone, Copy)]
-enum Mode {
-    /// Nothing, before a word.
-    Start,
-    /// A word.
-    Word,
-    /// Single quotes.
-    Single,
-    /// Double quotes.
-    Double,
-    /// A comment.
-    Comment,
-}
-
 /// A walk over text between calls.
 #[derive(Clone, Copy)]
 struct Walk {
-    mode: Mode,
+    /// The context of the next byte.
+    place: Place,
     /// The number of brackets that are open.
     depth: usize,
     /// Whether the last byte is a backslash that quotes the next one.
@@ -37,61 +23,31 @@ struct Walk {
     start: usize,
 }
 
-fn is_blank(byte: u8) -> bool {
-    matches!(byte, b' ' | b'\t' | b'\n' | b';')
-}
-
-/// Returns what follows a byte that isn't quoted.
-fn mode_after(mode: Mode, byte: u8) -> Mode {
-    match (mode, byte) {
-        (Mode::Comment, b'\n') => Mode::Start,
-        (Mode::Comment, _) => Mode::Comment,
-        (Mode::Single, b'\'') => Mode::Word,
-        (Mode::Single, _) => Mode::Single,
-        (Mode::Double, b'"') => Mode::Word,
-        (Mode::Double, _) => Mode::Double,
-        (Mode::Start, b'#') => Mode::Comment,
-        (_, b'\'') => Mode::Single,
-        (_, b'"') => Mode::Double,
-        (_, byte) => {
-            if is_blank(byte) {
-                Mode::Start
-            } else {
-                Mode::Word
-            }
-        }
-    }
-}
-
 /// Returns whether the byte ends a statement.
-fn ends_statement(mode: Mode, byte: u8) -> bool {
-    match mode {
-        Mode::Start | Mode::Word => byte == b'\n' || byte == b';',
-        Mode::Comment => byte == b'\n',
-        Mode::Single | Mode::Double => false,
+fn ends_statement(place: Place, byte: u8) -> bool {
+    match place {
+        Place::Start | Place::Word => byte == b'\n' || byte == b';',
+        Place::Comment => byte == b'\n',
+        Place::Single | Place::Double => false,
     }
-}
-
-fn quotes_next(mode: Mode, byte: u8) -> bool {
-    byte == b'\\' && !matches!(mode, Mode::Single | Mode::Comment)
 }
 
 /// Returns the walk after the byte at index `i`, which is no bracket that is dropped.
 fn kept_step(walk: Walk, i: usize, byte: u8) -> Walk {
-    let mode = walk.mode;
-    if quotes_next(mode, byte) {
+    let place = walk.place;
+    if byte == b'\\' && escapes(place) {
         return Walk {
             escaped: true,
             ..walk
         };
     }
-    let start = if ends_statement(mode, byte) {
+    let start = if ends_statement(place, byte) {
         i.saturating_add(1)
     } else {
         walk.start
     };
     Walk {
-        mode: mode_after(mode, byte),
+        place: following(place, byte),
         kept: walk.kept.saturating_add(1),
         start,
         ..walk
@@ -108,11 +64,7 @@ fn escaped_step(walk: Walk, byte: u8) -> Walk {
     }
     Walk {
         escaped: false,
-        mode: if matches!(walk.mode, Mode::Start) {
-            Mode::Word
-        } else {
-            walk.mode
-        },
+        place: after_quoted(walk.place),
         kept: walk.kept.saturating_add(2),
         ..walk
     }
@@ -139,7 +91,7 @@ fn step(walk: Walk, i: usize, byte: u8) -> Walk {
     if walk.escaped {
         return escaped_step(walk, byte);
     }
-    if matches!(byte, b'[' | b']') && !matches!(walk.mode, Mode::Comment) {
+    if matches!(byte, b'[' | b']') && !matches!(walk.place, Place::Comment) {
         return bracket_step(walk, i, byte);
     }
     kept_step(walk, i, byte)
@@ -149,7 +101,7 @@ fn step(walk: Walk, i: usize, byte: u8) -> Walk {
 fn blank_len(text: &[u8]) -> usize
     ensures { result ≤ length text.now }
 {
-    text.iter().take_while(|byte| is_blank(**byte)).count()
+    text.iter().take_while(|byte| is_part_end(**byte)).count()
 }
 
 /// Returns the start of the statement that has the byte `offset` of the piece's value, without its line continuations.
@@ -157,7 +109,7 @@ fn statement_start(piece: &[u8], offset: usize) -> usize
     ensures { result ≤ length piece.now }
 {
     let mut walk = Walk {
-        mode: Mode::Start,
+        place: Place::Start,
         depth: 0,
         escaped: false,
         kept: 0,
@@ -183,7 +135,7 @@ fn idle_len(piece: &[u8], counts: bool) -> usize
             in_comment = *byte != b'\n';
         } else if *byte == b'#' {
             in_comment = true;
-        } else if !is_blank(*byte) || counts && *byte == b';' {
+        } else if !is_part_end(*byte) || counts && *byte == b';' {
             return i;
         }
     }
