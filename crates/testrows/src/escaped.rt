@@ -1,7 +1,7 @@
 //! Texts as answers have them: lines of printable ASCII, in which any other byte is written by an escape.
 
+use crate::page::Page;
 use std::fmt::Display;
-use testrows::Page;
 
 const DIGITS: &[u8; 16] = b"0123456789abcdef";
 
@@ -20,6 +20,7 @@ pub fn put_byte(page: &mut Page, byte: u8) {
     }
 }
 
+/// Puts each byte of a text so.
 pub fn put_text(page: &mut Page, text: &[u8]) {
     for byte in text {
         put_byte(page, *byte);
