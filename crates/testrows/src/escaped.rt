@@ -79,6 +79,20 @@ pub fn put_fault<T: Display>(page: &mut Page, word: &[u8], fault: &T) {
     put_error(page, error.text());
 }
 
+/// Returns the value, or puts the fault.
+pub fn value_or_fault<T: Drop, E: Display + Drop>(
+    page: &mut Page,
+    made: Result<T, E>,
+) -> Option<T> {
+    match made {
+        Ok(value) => Some(value),
+        Err(fault) => {
+            put_fault(page, b"", &fault);
+            None
+        }
+    }
+}
+
 /// Returns whether one of the texts is this one.
 pub fn has(texts: &[&[u8]], text: &[u8]) -> bool {
     for each in texts {
