@@ -1,18 +1,17 @@
 //! What the engine makes of what a case gives, as text.
 
-use crate::calls::{can_resume, help_of, put_fault_line, read_source, run_filter, srcdir_in};
-use crate::cuts::{put_each, put_one};
-use crate::given::{Given, arguments_of, lines_of, put_source_of};
+use crate::calls::{can_resume, help_of, put_fault_line, run_filter, srcdir_in};
 use crate::kinds::Kind;
-use crate::left::View;
-use crate::pages::{note_cut, put_error, put_fault, put_text};
-use crate::remakes::{put_rechecked, put_remade};
-use crate::runs::{put_new_lines, put_opening, put_run, put_variables};
-use crate::tree_words::{put_counts, put_lists, put_statements};
-use crate::whole::{put_second, put_viewed, put_ways};
 use acparse::{Source, Stmt};
 use runner::{FilterFault, Filtered};
+use testrows::escaped::{note_cut, put_error, put_fault, put_text};
 use testrows::{Page, cut, number_of};
+use testruns::given::{arguments_of, lines_of, put_source_of};
+use testruns::{Given, RunView, put_new_lines, put_opening, put_run, put_variables, read_source};
+use testtrees::{put_counts, put_lists, put_statements};
+use testwholes::{
+    View, put_each, put_one, put_rechecked, put_remade, put_second, put_viewed, put_ways,
+};
 
 /// Returns the statements of a source, without AC_INIT and AC_OUTPUT if the case gives the lines between them.
 fn own_statements(source: &Source, is_lines: bool) -> &[Stmt] {
@@ -48,8 +47,8 @@ fn put_read(page: &mut Page, kind: Kind, given: &Given, source: &Source) {
             page.put(b" statements");
         }
         Kind::Resumable => page.put(yes_or_no(can_resume(source))),
-        Kind::Filtered | Kind::Srcdir => {}
-        _ => put_run(page, kind, given, source),
+        Kind::Run(view) => put_run(page, view, given, source),
+        _ => {}
     }
 }
 
@@ -125,7 +124,7 @@ fn put_usual(page: &mut Page, given: &Given) {
     let mut source = Page::new(page.alloc());
     put_source_of(&mut source, &given.case, b"", false);
     note_cut(page, &source);
-    put_source(page, Kind::RanWhole, given, source.text());
+    put_source(page, Kind::Run(RunView::Whole), given, source.text());
 }
 
 /// Puts the fault line, without the name of the program and the newline.
@@ -187,7 +186,7 @@ pub fn put_answer(page: &mut Page, kind: Kind, given: &Given) {
         Kind::Sources => put_sources(page, given),
         Kind::Filtered => put_filtered(page, given),
         Kind::Srcdir => put_srcdir(page, given),
-        Kind::Ran | Kind::Measured => put_ran(page, kind, given),
+        Kind::Run(RunView::Changes | RunView::Figures) => put_ran(page, kind, given),
         Kind::Configured => put_configured(page, given),
         Kind::ConfiguredAgain => put_second(page, given),
         Kind::LogText => put_seen(page, given, View::Log),

@@ -2,7 +2,6 @@
 
 ghost use Rattle.proberun.specs.Ran.{MayRun};
 
-use crate::given::{entries_of, replies_in};
 use causes::Causes;
 use crew::{Crew, MemoryCrew, Order, ProcessCrew};
 use deftable::Bytes;
@@ -13,6 +12,7 @@ use std::fs::File;
 use std::io::Write;
 use summary::Children;
 use testrows::Page;
+use testruns::given::{entries_of, replies_in};
 use watching::Watched;
 
 /// What a command is given besides its words.

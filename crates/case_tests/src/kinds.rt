@@ -1,5 +1,7 @@
 //! The answers that a case may want.
 
+use testruns::RunView;
+
 /// What a case may want to see.
 #[derive(Clone, Copy)]
 pub enum Kind {
@@ -23,16 +25,8 @@ pub enum Kind {
     Help,
     /// The directory of the source.
     Srcdir,
-    /// What a run does and leaves.
-    Ran,
-    /// The same, with all variables.
-    RanWhole,
-    /// The log of a run.
-    Logged,
-    /// The conftests of a run.
-    Conftests,
-    /// The figures of a run, and what it leaves.
-    Measured,
+    /// What is to be seen of a run.
+    Run(RunView),
     /// What a whole run leaves and hands over.
     Configured,
     /// The same of a second run with the cache of the first.
@@ -63,10 +57,10 @@ const ANSWERS: [(&[u8], Kind); 22] = [
     (b"opened", Kind::Opened),
     (b"help", Kind::Help),
     (b"srcdir", Kind::Srcdir),
-    (b"ran", Kind::Ran),
-    (b"logged", Kind::Logged),
-    (b"conftests", Kind::Conftests),
-    (b"measured", Kind::Measured),
+    (b"ran", Kind::Run(RunView::Changes)),
+    (b"logged", Kind::Run(RunView::Log)),
+    (b"conftests", Kind::Run(RunView::Conftests)),
+    (b"measured", Kind::Run(RunView::Figures)),
     (b"configured", Kind::Configured),
     (b"configured again", Kind::ConfiguredAgain),
     (b"config.log", Kind::LogText),

@@ -1,8 +1,8 @@
 //! Cases in files: what is to be read of a source, and what a run of it is to give.
 //!
-//! The arguments are names of files. `casefile` has their form, `given` what a case gives, and `answers` what the engine
-//! makes of it (`calls`), in the words of `tree_words`, `plain_words` and `shell_words` for a tree, and of `runs` for what
-//! was run. A case differs if that is not what the file says. `data/README` says how to add a case.
+//! The arguments are names of files. `report` goes through the cases of a file. `answers` has what the engine makes of
+//! what a case gives, in the words of the crates `testtrees`, `testruns` and `testwholes`, and `steps` has the cases
+//! over files. A case differs if that is not what the file says. `data/README` says how to add a case.
 //!
 //! It prints a line for each file, before it what was wanted and found of each case that differs, and exits with status 1
 //! if one does.
@@ -11,21 +11,10 @@
 mod answers;
 mod calling;
 mod calls;
-mod cuts;
-mod given;
 mod kinds;
-mod left;
-mod pages;
 mod pieces;
-mod plain_words;
-mod recorder;
-mod remakes;
 mod report;
-mod runs;
-mod shell_words;
 mod steps;
-mod tree_words;
-mod whole;
 
 use report::{Report, check_file};
 use std::io::{self, Write};

@@ -2,12 +2,12 @@
 
 use crate::answers::put_answer;
 use crate::calling::NOTHING;
-use crate::given::{Given, MARK, read_given};
 use crate::kinds::{Kind, kind_of};
-use crate::pages::{has, note_cut, put_difference};
 use crate::steps::put_file_case;
 use std::alloc::AllocError;
+use testrows::escaped::{has, note_cut, put_difference};
 use testrows::{Case, Page, Section, next_case, next_section, read_file};
+use testruns::{Given, MARK, read_given};
 
 #[derive(Drop)]
 pub struct Report {

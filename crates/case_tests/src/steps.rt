@@ -5,13 +5,13 @@
 //! `list` are what is there.
 
 use crate::calling::{Around, put_command, put_status};
-use crate::given::{add, put_source_in, text_of, texts_of};
-use crate::pages::{note_cut, put_difference};
 use deftable::Bytes;
 use std::fs::{DirEntry, File};
 use std::os::unix::fs::symlink;
 use std::{env, fs, io, str};
+use testrows::escaped::{note_cut, put_difference};
 use testrows::{Case, Page, Section, cut, next_section};
+use testruns::given::{add, put_source_in, text_of, texts_of};
 
 // ---- steps that change the directory
 

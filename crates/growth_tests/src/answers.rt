@@ -21,14 +21,14 @@ pub enum Found {
     Wrong,
 }
 
-/// An artifact that is right: its kind, its name and its text.
-pub type RightThing<'a> = (Kind, &'a [u8], &'a [u8]);
+/// An artifact that is right: its kind, its name and the parts of its text.
+pub type RightThing<'a> = (Kind, &'a [u8], &'a [&'a [u8]]);
 
 /// What is right.
 #[derive(Clone, Copy)]
 pub struct Right<'a> {
-    /// The text of the report, of the number of outputs or of the fault.
-    pub answer: &'a [u8],
+    /// The parts of the text of the report, of the number of outputs or of the fault.
+    pub answer: &'a [&'a [u8]],
     /// The number of the put that is refused, or 0.
     pub refused: u64,
     /// What is handed over.
@@ -148,7 +148,7 @@ fn put_report(wanted: &mut Wanted, report: &Report) {
     }
 }
 
-fn is_report(report: &Report, answer: &[u8]) -> bool {
+fn is_report(report: &Report, answer: &[&[u8]]) -> bool {
     let mut wanted = Wanted::new(answer);
     put_report(&mut wanted, report);
     wanted.is_whole()
@@ -158,11 +158,11 @@ fn is_report(report: &Report, answer: &[u8]) -> bool {
 
 /// What a call answers.
 pub trait Answer {
-    fn told(&self, answer: &[u8]) -> Told;
+    fn told(&self, answer: &[&[u8]]) -> Told;
 }
 
 impl Answer for Report {
-    fn told(&self, answer: &[u8]) -> Told {
+    fn told(&self, answer: &[&[u8]]) -> Told {
         if is_report(self, answer) {
             Told::Right(self.handed)
         } else {
@@ -171,7 +171,7 @@ impl Answer for Report {
     }
 }
 
-fn told_of_put(number: u64, report: &Report, answer: &[u8]) -> Told {
+fn told_of_put(number: u64, report: &Report, answer: &[&[u8]]) -> Told {
     if is_report(report, answer) && report.handed == number.saturating_sub(1) {
         Told::PutRefused(number)
     } else {
@@ -180,7 +180,7 @@ fn told_of_put(number: u64, report: &Report, answer: &[u8]) -> Told {
 }
 
 impl Answer for Fault {
-    fn told(&self, answer: &[u8]) -> Told {
+    fn told(&self, answer: &[&[u8]]) -> Told {
         match self {
             Fault::OutOfMemory => Told::OutOfMemory,
             Fault::PutRefused(number, report) => told_of_put(*number, report, answer),
@@ -190,7 +190,7 @@ impl Answer for Fault {
 }
 
 /// Returns whether a word and a number of one digit are the whole answer.
-fn told_of_number(word: &[u8], number: u64, answer: &[u8], puts: u64) -> Told {
+fn told_of_number(word: &[u8], number: u64, answer: &[&[u8]], puts: u64) -> Told {
     let mut wanted = Wanted::new(answer);
     wanted.put(word);
     wanted.put_digit(number);
@@ -202,14 +202,14 @@ fn told_of_number(word: &[u8], number: u64, answer: &[u8], puts: u64) -> Told {
 }
 
 impl Answer for usize {
-    fn told(&self, answer: &[u8]) -> Told {
+    fn told(&self, answer: &[&[u8]]) -> Told {
         let count = *self as u64;
         told_of_number(b"", count, answer, count)
     }
 }
 
 impl Answer for RemakeFault {
-    fn told(&self, answer: &[u8]) -> Told {
+    fn told(&self, answer: &[&[u8]]) -> Told {
         match self {
             RemakeFault::OutOfMemory => Told::OutOfMemory,
             RemakeFault::PutRefused(number) => Told::PutRefused(*number),
@@ -220,7 +220,7 @@ impl Answer for RemakeFault {
 }
 
 /// Returns what a call answers. It sees no field of the answer, which makes its proof short.
-pub fn told_of<T: Answer + Drop, E: Answer + Drop>(made: Result<T, E>, answer: &[u8]) -> Told {
+pub fn told_of<T: Answer + Drop, E: Answer + Drop>(made: Result<T, E>, answer: &[&[u8]]) -> Told {
     match &made {
         Ok(value) => value.told(answer),
         Err(fault) => fault.told(answer),
@@ -229,10 +229,16 @@ pub fn told_of<T: Answer + Drop, E: Answer + Drop>(made: Result<T, E>, answer: &
 
 // ---- what is handed over
 
+fn is_text(text: &[u8], parts: &[&[u8]]) -> bool {
+    let mut wanted = Wanted::new(parts);
+    wanted.put(text);
+    wanted.is_whole()
+}
+
 fn is_artifact(artifact: &Artifact, right: &RightThing) -> bool {
     artifact.kind == right.0
         && artifact.name.as_slice() == right.1
-        && artifact.text.as_slice() == right.2
+        && is_text(artifact.text.as_slice(), right.2)
 }
 
 /// Returns whether these are the first of the artifacts that are right.
@@ -289,7 +295,8 @@ fn put_event(wanted: &mut Wanted, event: Event) {
 }
 
 fn are_events(events: &[Event], right: &[u8]) -> bool {
-    let mut wanted = Wanted::new(right);
+    let parts = [right];
+    let mut wanted = Wanted::new(&parts);
     for event in events {
         put_event(&mut wanted, *event);
     }

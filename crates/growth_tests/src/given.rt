@@ -7,6 +7,15 @@ use std::alloc::{AllocError, Global};
 /// A name and a text.
 pub type Pair<'a> = (&'a [u8], &'a [u8]);
 
+/// Returns the text of these parts.
+pub fn joined(alloc: Global, parts: &[&[u8]]) -> Result<Vec<u8>, AllocError> {
+    let mut text = Vec::new(alloc);
+    for part in parts {
+        text.extend_from_slice(part)?;
+    }
+    Ok(text)
+}
+
 /// Returns a list of one text, or of none if it is empty.
 pub fn texts_of(alloc: Global, text: &[u8]) -> Result<Vec<Bytes>, AllocError> {
     let mut texts = Vec::new(alloc);

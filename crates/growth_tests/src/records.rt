@@ -3,7 +3,7 @@
 ghost use Rattle.std.specs.Prelude.{◌≡◌};
 
 use crate::answers::{Found, Right, Told, found_of, told_of};
-use crate::given::{Pair, pairs_of, texts_of};
+use crate::given::{Pair, joined, pairs_of, texts_of};
 use deftable::Bytes;
 use engine::{MemoryOutputs, Outputs, remake};
 use status_record::{RecordFault, read_record, write_record};
@@ -12,7 +12,8 @@ use std::alloc::Global;
 /// A record whose outputs are made again, and what is right for it.
 #[derive(Clone, Copy)]
 pub struct Remake<'a> {
-    pub text: &'a [u8],
+    /// The parts of its text.
+    pub text: &'a [&'a [u8]],
     pub templates: &'a [Pair<'a>],
     /// The tag, or nothing if there is none.
     pub tag: &'a [u8],
@@ -23,35 +24,42 @@ pub struct Remake<'a> {
 fn told_over<O: Outputs>(
     alloc: Global,
     call: &Remake,
+    text: &[u8],
     templates: &[(Bytes, Bytes)],
     tags: &[Bytes],
     outputs: &mut O,
 ) -> Told
     requires puts { (O.receipt outputs.old).failures ≡ 0 }
 {
-    let answer = remake(alloc, call.text, templates, tags, outputs);
+    let answer = remake(alloc, text, templates, tags, outputs);
     told_of(answer, call.right.answer)
 }
 
 fn found_given(
     alloc: Global,
     call: &Remake,
+    text: &[u8],
     templates: &[(Bytes, Bytes)],
     tags: &[Bytes],
 ) -> Found {
     let mut outputs = MemoryOutputs::new(alloc, call.right.refused);
-    let told = told_over(alloc, call, templates, tags, &mut outputs);
+    let told = told_over(alloc, call, text, templates, tags, &mut outputs);
     found_of(told, outputs.handed(), &call.right)
 }
 
 /// Returns what is found of outputs that are made again.
 pub fn found_of_remake(alloc: Global, call: &Remake) -> Found {
+    let text = joined(alloc, call.text);
     let templates = pairs_of(alloc, call.templates);
     let tags = texts_of(alloc, call.tag);
-    match (&templates, &tags) {
-        (Ok(templates), Ok(tags)) => {
-            found_given(alloc, call, templates.as_slice(), tags.as_slice())
-        }
+    match (&text, &templates, &tags) {
+        (Ok(text), Ok(templates), Ok(tags)) => found_given(
+            alloc,
+            call,
+            text.as_slice(),
+            templates.as_slice(),
+            tags.as_slice(),
+        ),
         _ => Found::NotCalled,
     }
 }

@@ -1,5 +1,6 @@
-//! What the test crates share: a page that answers are written on, tables of rows that are tried, the form of a file of
-//! cases (`casefile`, and `texts` for its escapes), and what a reply and an order of ends are (`replies`).
+//! What the test crates share: a page that answers are written on, tables of rows that are tried, the form of a file
+//! of cases (`casefile`, and `texts` for its escapes), texts as answers have them (`escaped`), and what a reply and an
+//! order of ends are (`replies`).
 //!
 //! A row is a line: a text, ` =>`, a blank, and what a call answers to the text. Nothing is after ` =>` if the answer
 //! is empty. An empty line is no row, nor is a line that begins with `// `. `^` and a letter are a control byte, as in
@@ -11,6 +12,7 @@
 
 pub mod casefile;
 pub mod directory;
+pub mod escaped;
 pub mod page;
 pub mod replies;
 pub mod table;
@@ -20,5 +22,5 @@ pub use casefile::{Case, Section, next_case, next_section, read_file};
 pub use directory::try_rows_in;
 pub use page::Page;
 pub use replies::{EndOrder, ReplyWord, end_order, reply_word};
-pub use table::{Call, Named, cut, try_rows};
+pub use table::{Call, Named, cut, put_fronts, try_rows, try_tables};
 pub use texts::number_of;

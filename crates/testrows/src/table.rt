@@ -66,18 +66,49 @@ fn put_difference<C: Call>(page: &mut Page, call: &C, row: &[u8]) {
     }
 }
 
-/// Tries each row of a table. The error has the rows whose answer is another one.
-pub fn try_rows<C: Call>(alloc: Global, call: &C, table: &[u8]) -> Result<(), Fail> {
-    let mut page = Page::new(alloc);
+/// Puts the rows of a table whose answer is another one.
+fn put_differences<C: Call>(page: &mut Page, call: &C, table: &[u8]) {
     let mut has_row = false;
     for row in table.split(|byte| *byte == b'\n') {
         if !row.is_empty() && !row.starts_with(b"// ") {
-            put_difference(&mut page, call, row);
+            put_difference(page, call, row);
             has_row = true;
         }
     }
-    if has_row && page.text().is_empty() && !page.is_cut() {
+    if !has_row {
+        page.put(b"a table without a row");
+    }
+}
+
+/// Tries each row of these tables. The error has the rows whose answer is another one.
+pub fn try_tables<C: Call>(alloc: Global, call: &C, tables: &[&[u8]]) -> Result<(), Fail> {
+    let mut page = Page::new(alloc);
+    for table in tables {
+        put_differences(&mut page, call, table);
+    }
+    if page.text().is_empty() && !page.is_cut() {
         return Ok(());
     }
     Err(Fail::new(str::from_utf8(page.text()).unwrap_or("bytes that are no UTF-8")))
+}
+
+/// Tries each row of a table.
+pub fn try_rows<C: Call>(alloc: Global, call: &C, table: &[u8]) -> Result<(), Fail> {
+    try_tables(alloc, call, &[table])
+}
+
+/// Puts from which length on a front of a text has another answer than the shorter ones: each length with the answer.
+pub fn put_fronts<C: Call>(page: &mut Page, call: &C, text: &[u8]) {
+    let mut last = Page::new(page.alloc());
+    for len in 0..=text.len() {
+        let mut answer = Page::new(page.alloc());
+        call.put(&mut answer, &text[..len]);
+        if answer.text() != last.text() {
+            page.put_number(len);
+            page.put(b" ");
+            page.put(answer.text());
+            page.put(b";");
+        }
+        last = answer;
+    }
 }

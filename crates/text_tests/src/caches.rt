@@ -1,11 +1,12 @@
 //! cachefile: what cache texts set, their errors, and how they are written.
 
 use crate::tables::Tables;
-use cachefile::{CacheFault, OldCache, cache_text, is_cache_name, read_cache, word_text};
+use cachefile::{OldCache, cache_text, is_cache_name, read_cache, word_text};
 use deftable::Vars;
 use std::alloc::AllocError;
 use std::test::Fail;
-use testrows::{Call, Page, cut, try_rows};
+use testrows::escaped::value_or_fault;
+use testrows::{Call, Page, cut, put_fronts, try_tables};
 
 /// `read` and a text: the variables after it is poured where none is set, or its error. `over`, steps as in `tables` and a text
 /// with a comma between them: the same where the steps are taken first.
@@ -149,17 +150,8 @@ const LARGEST: usize = 4_194_304;
 
 /// Returns the cache, or puts its error.
 fn read(page: &mut Page, text: &[u8]) -> Option<OldCache> {
-    match read_cache(page.alloc(), text) {
-        Ok(cache) => Some(cache),
-        Err(CacheFault::OutOfMemory) => {
-            page.cut();
-            None
-        }
-        Err(fault) => {
-            page.put_shown(&fault);
-            None
-        }
-    }
+    let made = read_cache(page.alloc(), text);
+    value_or_fault(page, made)
 }
 
 /// Returns the variables after steps.
@@ -224,25 +216,14 @@ fn put_word(page: &mut Page, value: &[u8]) {
     }
 }
 
-/// Puts whether the text is read, or its error.
-fn put_outcome(page: &mut Page, text: &[u8]) {
-    if read(page, text).is_some() {
-        page.put(b"read");
-    }
-}
+/// Whether a text is read, or its error.
+struct Outcome;
 
-fn put_fronts(page: &mut Page) {
-    let mut last = Page::new(page.alloc());
-    for len in 0..=FOUND.len() {
-        let mut outcome = Page::new(page.alloc());
-        put_outcome(&mut outcome, &FOUND[..len]);
-        if outcome.text() != last.text() {
-            page.put_number(len);
-            page.put(b" ");
-            page.put(outcome.text());
-            page.put(b";");
+impl Call for Outcome {
+    fn put(&self, page: &mut Page, text: &[u8]) {
+        if read(page, text).is_some() {
+            page.put(b"read");
         }
-        last = outcome;
     }
 }
 
@@ -276,7 +257,7 @@ impl Call for Caches {
             [b'r', ..] => put_read(page, b"", text),
             [b'o', ..] => put_read(page, steps, after),
             [b'b', ..] => put_back(page, text),
-            [b'f', ..] => put_fronts(page),
+            [b'f', ..] => put_fronts(page, &Outcome, FOUND),
             [b'n', b'e', ..] => put_largest(page),
             [b'n', ..] => page.put_yes(is_cache_name(text)),
             [b'w', b'o', ..] => put_word(page, text),
@@ -286,21 +267,6 @@ impl Call for Caches {
 }
 
 #[test]
-fn caches_are_read(rt: HostRuntime) -> Result<(), Fail> {
-    try_rows(rt.alloc(), &Caches, READ)
-}
-
-#[test]
-fn caches_of_autoconf_are_read(rt: HostRuntime) -> Result<(), Fail> {
-    try_rows(rt.alloc(), &Caches, AUTOCONF)
-}
-
-#[test]
-fn caches_are_written(rt: HostRuntime) -> Result<(), Fail> {
-    try_rows(rt.alloc(), &Caches, WRITTEN)
-}
-
-#[test]
-fn caches_of_each_size(rt: HostRuntime) -> Result<(), Fail> {
-    try_rows(rt.alloc(), &Caches, SIZES)
+fn caches_are_read_and_written(rt: HostRuntime) -> Result<(), Fail> {
+    try_tables(rt.alloc(), &Caches, &[READ, AUTOCONF, WRITTEN, SIZES])
 }

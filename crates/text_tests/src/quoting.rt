@@ -5,7 +5,7 @@ use m4quote::{
 };
 use std::alloc::AllocError;
 use std::test::Fail;
-use testrows::{Call, Page, cut, try_rows};
+use testrows::{Call, Page, cut, try_rows, try_tables};
 
 /// `items` and a text: a call by its name with each argument in parentheses after it, and bare text in brackets; or the fault.
 /// `at` and a text: the same of the text at offset 100 of a file.
@@ -141,12 +141,7 @@ impl Call for Items {
 
 #[test]
 fn items_and_faults(rt: HostRuntime) -> Result<(), Fail> {
-    try_rows(rt.alloc(), &Items, ITEMS)
-}
-
-#[test]
-fn each_front_of_a_source(rt: HostRuntime) -> Result<(), Fail> {
-    try_rows(rt.alloc(), &Items, FRONTS)
+    try_tables(rt.alloc(), &Items, &[ITEMS, FRONTS])
 }
 
 /// `used` and an argument, `value` and bare text: what it means. `names` and a text: it as a part of a shell variable's name,

@@ -1,10 +1,11 @@
 //! status_record: records that are read and written again, and the faults of other texts.
 
 use deftable::{Bytes, Defs, Texts};
-use status_record::{OutputList, Record, RecordFault, read_record, write_record};
+use status_record::{OutputList, Record, read_record, write_record};
 use std::alloc::Global;
 use std::test::Fail;
-use testrows::{Call, Page, cut, try_rows};
+use testrows::escaped::value_or_fault;
+use testrows::{Call, Page, cut, put_fronts, try_tables};
 
 /// `read` and a text: what the record holds, or its fault; `args` begins the arguments of version 2. `v1` or `v2` and lines: the
 /// same of a record of that version whose source directory is `.`, with these lines before `end`. What isn't written again with
@@ -159,17 +160,8 @@ fn put_record(page: &mut Page, status: &Record) {
 
 /// Returns the record, or puts its fault.
 fn read(page: &mut Page, text: &[u8]) -> Option<Record> {
-    match read_record(page.alloc(), text) {
-        Ok(status) => Some(status),
-        Err(RecordFault::OutOfMemory) => {
-            page.cut();
-            None
-        }
-        Err(fault) => {
-            page.put_shown(&fault);
-            None
-        }
-    }
+    let made = read_record(page.alloc(), text);
+    value_or_fault(page, made)
 }
 
 /// Returns the text that is read as a record, written again.
@@ -200,11 +192,15 @@ fn put_read(page: &mut Page, text: &[u8]) {
     }
 }
 
-/// Puts whether the text is read and written again, or its fault.
-fn put_outcome(page: &mut Page, text: &[u8]) {
-    if read(page, text).is_some() {
-        page.put(b"read");
-        put_written(page, text);
+/// Whether a text is read and written again, or its fault.
+struct Outcome;
+
+impl Call for Outcome {
+    fn put(&self, page: &mut Page, text: &[u8]) {
+        if read(page, text).is_some() {
+            page.put(b"read");
+            put_written(page, text);
+        }
     }
 }
 
@@ -219,21 +215,6 @@ fn put_lines(page: &mut Page, version: &[u8], lines: &[u8]) {
     put_read(page, text.text());
 }
 
-fn put_fronts(page: &mut Page, text: &[u8]) {
-    let mut last = Page::new(page.alloc());
-    for len in 0..=text.len() {
-        let mut outcome = Page::new(page.alloc());
-        put_outcome(&mut outcome, &text[..len]);
-        if outcome.text() != last.text() {
-            page.put_number(len);
-            page.put(b" ");
-            page.put(outcome.text());
-            page.put(b";");
-        }
-        last = outcome;
-    }
-}
-
 /// Puts how a record with so many variables is read.
 fn put_many(page: &mut Page, count: usize) {
     let mut text = Page::new(page.alloc());
@@ -244,7 +225,7 @@ fn put_many(page: &mut Page, count: usize) {
         text.put(b" x\n");
     }
     text.put(b"end\n");
-    put_outcome(page, text.text());
+    Outcome.put(page, text.text());
 }
 
 /// Puts the byte if the text that has it between these two isn't read and written again.
@@ -254,7 +235,7 @@ fn put_byte(page: &mut Page, before: &[u8], byte: u8, after: &[u8]) {
     text.put_byte(byte);
     text.put(after);
     let mut outcome = Page::new(page.alloc());
-    put_outcome(&mut outcome, text.text());
+    Outcome.put(&mut outcome, text.text());
     if outcome.text() != b"read".as_slice() {
         if !page.text().is_empty() {
             page.put(b" ");
@@ -276,7 +257,7 @@ impl Call for Records {
         let (call, text) = cut(given, b" ");
         match call {
             [b'r', ..] => put_read(page, text),
-            [b'f', ..] => put_fronts(page, text),
+            [b'f', ..] => put_fronts(page, &Outcome, text),
             [b'm', ..] => put_many(page, 1024),
             [b'p', ..] => put_bytes(page, b"acrun-record 1\nsrcdir .\nfile a/b", b" b\nend\n"),
             [b'v', b'a', ..] => put_bytes(page, b"acrun-record 1\nsrcdir .\nvar A ", b"\nend\n"),
@@ -288,16 +269,6 @@ impl Call for Records {
 }
 
 #[test]
-fn records_are_read(rt: HostRuntime) -> Result<(), Fail> {
-    try_rows(rt.alloc(), &Records, READ)
-}
-
-#[test]
-fn fronts_of_records(rt: HostRuntime) -> Result<(), Fail> {
-    try_rows(rt.alloc(), &Records, FRONTS)
-}
-
-#[test]
-fn records_of_each_byte(rt: HostRuntime) -> Result<(), Fail> {
-    try_rows(rt.alloc(), &Records, BYTES)
+fn records_are_read_and_written(rt: HostRuntime) -> Result<(), Fail> {
+    try_tables(rt.alloc(), &Records, &[READ, FRONTS, BYTES])
 }

@@ -1,12 +1,12 @@
 //! A statement without statements in it, in words.
 
-use crate::pages::{put_bracketed, put_text};
 use crate::shell_words::{put_here, put_word};
 use acparse::{Help, OutputList};
 use deftable::Texts;
 use shellword::HereText;
 use syntax::{Entries, Listed, MessageKind, Plain};
 use testrows::Page;
+use testrows::escaped::{put_bracketed, put_text};
 
 /// Puts each file or header with its template.
 pub fn put_files(page: &mut Page, files: &OutputList) {

@@ -1,16 +1,17 @@
 //! What a case gives: a source, and what it is read or run with.
 
-use crate::pages::note_cut;
 use crew::{Order, Reply, SlotList};
 use deftable::Bytes;
+use testrows::escaped::note_cut;
 use testrows::{Case, EndOrder, Page, ReplyWord, Section, cut, end_order, number_of, reply_word};
 use textcut::{fields, parts};
 
 /// The mark in a source, for whose offset an answer has it too.
 pub const MARK: u8 = b'^';
 
-#[derive(Drop)]
+/// What a case gives.
 pub struct Given<'a> {
+    /// The case.
     pub case: Case<'a>,
     /// The source, or instead of it the filter's input, without the mark.
     text: Page,
@@ -22,7 +23,20 @@ pub struct Given<'a> {
     pub mark: Option<usize>,
 }
 
+impl Drop for Given<'_> {
+    fn drop(self) {
+        let Given {
+            case: _case,
+            text: _text,
+            is_input: _is_input,
+            is_lines: _is_lines,
+            mark: _mark,
+        } = self;
+    }
+}
+
 impl Given<'_> {
+    /// Returns the source: nothing if the case gives the filter's input instead.
     pub fn source(&self) -> &[u8] {
         if self.is_input { b"" } else { self.text.text() }
     }

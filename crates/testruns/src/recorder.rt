@@ -2,15 +2,17 @@
 
 ghost use Rattle.std.specs.Prelude.{◌≡◌};
 
-use crate::pages::{note_cut, put_text};
 use conftest::Job;
 use crew::{Crew, MemoryCrew, Refused, Reply};
 use testrows::Page;
+use testrows::escaped::{note_cut, put_text};
 
 /// A crew in memory, with a line for each start, each that is refused and each end.
 #[derive(Drop)]
 pub struct Recorder {
+    /// The crew.
     pub crew: MemoryCrew,
+    /// The lines.
     pub lines: Page,
 }
 

@@ -2,12 +2,12 @@
 
 ghost use Rattle.std.specs.Prelude.{◌≡◌};
 
-use crate::given::{Given, text_of, texts_in};
 use crate::left::{View, put_found, put_whole_artifacts, text_handed};
 use crate::whole::{put_viewed, templates_of};
 use deftable::Bytes;
 use engine::{Kind, MemoryOutputs, Outputs, recheck_args, remake};
 use testrows::{Page, number_of};
+use testruns::given::{Given, text_of, texts_in};
 
 /// Returns the text of the record that a case gives, or else of the one that its run hands over: nothing if it hands
 /// over none.

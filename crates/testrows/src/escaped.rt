@@ -1,7 +1,7 @@
 //! Texts as answers have them: lines of printable ASCII, in which any other byte is written by an escape.
 
+use crate::page::Page;
 use std::fmt::Display;
-use testrows::Page;
 
 const DIGITS: &[u8; 16] = b"0123456789abcdef";
 
@@ -20,6 +20,7 @@ pub fn put_byte(page: &mut Page, byte: u8) {
     }
 }
 
+/// Puts each byte of a text so.
 pub fn put_text(page: &mut Page, text: &[u8]) {
     for byte in text {
         put_byte(page, *byte);
@@ -76,6 +77,20 @@ pub fn put_fault<T: Display>(page: &mut Page, word: &[u8], fault: &T) {
     note_cut(page, &error);
     page.put(word);
     put_error(page, error.text());
+}
+
+/// Returns the value, or puts the fault.
+pub fn value_or_fault<T: Drop, E: Display + Drop>(
+    page: &mut Page,
+    made: Result<T, E>,
+) -> Option<T> {
+    match made {
+        Ok(value) => Some(value),
+        Err(fault) => {
+            put_fault(page, b"", &fault);
+            None
+        }
+    }
 }
 
 /// Returns whether one of the texts is this one.

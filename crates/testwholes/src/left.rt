@@ -1,12 +1,12 @@
 //! What a whole run leaves and hands over, and what is made again, as text.
 
-use crate::pages::{put_bracketed, put_count, put_fault, put_text, put_value};
-use crate::runs::{put_definition, put_definitions, put_note, put_vars};
 use cfglog::log_text;
 use crew::Event;
 use deftable::{Bytes, Defs, Texts, Vars};
 use engine::{Artifact, Fault, Kind, Outcome, RemakeFault, Report};
 use testrows::Page;
+use testrows::escaped::{put_bracketed, put_count, put_fault, put_text, put_value};
+use testruns::runs::{put_definition, put_definitions, put_note, put_vars};
 
 /// What is put of what a whole run leaves.
 #[derive(Clone, Copy, PartialEq, Eq)]

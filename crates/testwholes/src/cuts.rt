@@ -2,12 +2,12 @@
 
 ghost use Rattle.std.specs.Prelude.{◌≡◌, []};
 
-use crate::given::{Given, add, order_in, replies_in};
 use crate::left::{View, put_artifacts, put_events};
 use crate::whole::{How, Inputs, how_at, how_of, inputs_of, put_made, put_over};
 use crew::{Crew, Event, FuseKind, Fused, MemoryCrew};
 use engine::{Artifact, Kind, MemoryOutputs, Outputs};
 use testrows::{Page, cut, number_of};
+use testruns::given::{Given, add, order_in, replies_in};
 
 /// Returns replies, of which the one with this number, counted from 1, is another word. Without a word it is left out.
 fn with_reply(page: &Page, replies: &[u8], number: usize, word: &[u8]) -> Page {

@@ -3,9 +3,9 @@
 //! What is quoted is in single quotes, a variable is `${name}`, and a byte that could be taken for one of these has a
 //! backslash before it.
 
-use crate::pages::put_byte;
 use shellword::{Condition, Element, HereText, Joint, Part, Patterns, Piece, Test, Word};
 use testrows::Page;
+use testrows::escaped::put_byte;
 
 /// Puts a byte of a word.
 fn put_word_byte(page: &mut Page, byte: u8) {

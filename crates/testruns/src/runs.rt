@@ -2,8 +2,6 @@
 
 use crate::calls::{Ran, read_settings, run_source};
 use crate::given::{Given, arguments_of, environment_of, lines_of, order_in, replies_in, text_of};
-use crate::kinds::Kind;
-use crate::pages::{has, note_cut, put_bracketed, put_count, put_fault, put_text, put_value};
 use crate::recorder::put_command;
 use acparse::Source;
 use conftest::Job;
@@ -12,7 +10,23 @@ use deftable::{Defs, Note, Stream, Vars};
 use options::{OptionFault, Settings};
 use plan::PlanFault;
 use proberun::Outcome;
+use testrows::escaped::{has, note_cut, put_bracketed, put_count, put_fault, put_text, put_value};
 use testrows::{Page, number_of};
+
+/// What is put of a run.
+#[derive(Clone, Copy)]
+pub enum RunView {
+    /// What it does, and what it changes.
+    Changes,
+    /// The same, with all variables.
+    Whole,
+    /// Its figures, and what it changes.
+    Figures,
+    /// Its log.
+    Log,
+    /// Its conftests.
+    Conftests,
+}
 
 /// Puts each variable, a line each.
 pub fn put_vars(page: &mut Page, vars: &Vars) {
@@ -253,34 +267,34 @@ fn put_log_conftests(page: &mut Page, log: &Log) {
     }
 }
 
-/// Puts what a run gives of this kind. Of the variables, it leaves out those in the lines before.
-fn put_kind(page: &mut Page, kind: Kind, ran: &Ran, before: &[u8]) {
-    match kind {
-        Kind::Logged => put_log(page, &ran.end.log),
-        Kind::Conftests => put_log_conftests(page, &ran.end.log),
-        Kind::Measured => put_measured(page, ran, before),
-        _ => put_ran(page, ran, before),
+/// Puts what is to be seen of a run. Of the variables, it leaves out those in the lines before.
+fn put_view(page: &mut Page, view: RunView, ran: &Ran, before: &[u8]) {
+    match view {
+        RunView::Log => put_log(page, &ran.end.log),
+        RunView::Conftests => put_log_conftests(page, &ran.end.log),
+        RunView::Figures => put_measured(page, ran, before),
+        RunView::Changes | RunView::Whole => put_ran(page, ran, before),
     }
 }
 
-/// Puts what a run from these variables gives of this kind, or the fault of its plan.
-fn put_run_from(page: &mut Page, kind: Kind, given: &Given, source: &Source, vars: Vars) {
+/// Puts what is to be seen of a run from these variables, or the fault of its plan.
+fn put_run_from(page: &mut Page, view: RunView, given: &Given, source: &Source, vars: Vars) {
     let mut before = Page::new(page.alloc());
-    if !matches!(kind, Kind::RanWhole) {
+    if !matches!(view, RunView::Whole) {
         put_vars(&mut before, &vars);
     }
     note_cut(page, &before);
     match ran(page, given, source, vars) {
-        Ok(ran) => put_kind(page, kind, &ran, before.text()),
+        Ok(ran) => put_view(page, view, &ran, before.text()),
         Err(fault) => put_fault(page, b"plan ", &fault),
     }
 }
 
-/// Puts what a run gives of this kind, or the fault of the arguments or of the plan. Of the
-/// variables, it puts those that the run changed, or all if the kind is `RanWhole`.
-pub fn put_run(page: &mut Page, kind: Kind, given: &Given, source: &Source) {
+/// Puts what is to be seen of a run, or the fault of the arguments or of the plan. Of the variables, it puts those that
+/// the run changed, or all if the whole is to be seen.
+pub fn put_run(page: &mut Page, view: RunView, given: &Given, source: &Source) {
     match settings_of(page, given, source) {
-        Ok(settings) => put_run_from(page, kind, given, source, settings.vars),
+        Ok(settings) => put_run_from(page, view, given, source, settings.vars),
         Err(fault) => put_fault(page, b"option ", &fault),
     }
 }

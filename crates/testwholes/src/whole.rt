@@ -3,21 +3,21 @@
 ghost use Rattle.std.specs.Prelude.{◌≡◌, ◌+◌, ◌^◌, ◌≤◌, []};
 ghost use Rattle.proberun.specs.Ran.{IsWindow, MayRun};
 
-use crate::given::{
-    Given, add, arguments_of, bytes_of, environment_of, order_in, replies_in, text_of,
-};
 use crate::left::{View, put_artifacts, put_events, put_found, text_handed};
 use crew::{Crew, MemoryCrew};
 use deftable::Bytes;
 use engine::{Fault, Kind, MemoryOutputs, Outputs, Report, configure};
 use testrows::{Case, Page, cut, next_section, number_of};
+use testruns::given::{
+    Given, add, arguments_of, bytes_of, environment_of, order_in, replies_in, text_of,
+};
 
 /// What a case gives a whole run besides its source.
 #[derive(Drop)]
 pub struct Inputs {
-    pub args: Vec<Bytes>,
-    pub env: Vec<(Bytes, Bytes)>,
-    pub templates: Vec<(Bytes, Bytes)>,
+    args: Vec<Bytes>,
+    env: Vec<(Bytes, Bytes)>,
+    templates: Vec<(Bytes, Bytes)>,
     cache: Option<Bytes>,
 }
 
@@ -74,11 +74,15 @@ pub fn inputs_of(page: &mut Page, case: &Case<'_>) -> Inputs {
 /// How a run is made, and what is put of it.
 #[derive(Clone, Copy)]
 pub struct How<'a> {
+    /// The replies of the children, in turn.
     pub replies: &'a [u8],
+    /// How many children may run at once.
     pub window: usize,
+    /// How children end.
     pub order: &'a [u8],
     /// The number of the put that is refused, or 0.
     pub refuse: u64,
+    /// What is put.
     pub view: View,
     /// The names of variables.
     pub shown: &'a [u8],

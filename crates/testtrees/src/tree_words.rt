@@ -1,6 +1,5 @@
 //! A source in words: a line for each statement, with those in it indented, and then its lists that are not empty.
 
-use crate::pages::{put_bracketed, put_count, put_indent};
 use crate::plain_words::{put_each, put_entries, put_files, put_help, put_includes, put_plain};
 use crate::shell_words::{put_here, put_patterns, put_test, put_word};
 use acparse::{Case, Help, Source, Stmt, Subject, When};
@@ -8,6 +7,7 @@ use deftable::SubstList;
 use shellword::HereText;
 use syntax::{Listed, OptionKind, Program, Question, Sought, Try};
 use testrows::Page;
+use testrows::escaped::{put_bracketed, put_count, put_indent};
 
 fn put_program(page: &mut Page, program: &Program) {
     match program {
