@@ -2,4 +2,4 @@ use Rattle.laws.proofs.BatchLemmas.{batch_asks_few}
 use Rattle.laws.proofs.batch_asks_few.Goals as goal
 
 pub returns : goal.returns
-returns c = record { few = batch_asks_few }
+returns c = record { within = batch_asks_few }

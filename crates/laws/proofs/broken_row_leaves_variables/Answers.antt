@@ -2,4 +2,4 @@ use Rattle.laws.proofs.CommandLemmas.{broken_row_leaves_variables}
 use Rattle.laws.proofs.broken_row_leaves_variables.Goals as goal
 
 pub returns : goal.returns
-returns c = record { same = broken_row_leaves_variables }
+returns c = record { unchanged = broken_row_leaves_variables }

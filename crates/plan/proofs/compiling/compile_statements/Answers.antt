@@ -14,7 +14,7 @@ new-requires c =
     let fits = within _ _ _ (sym c.if-is_none.ensures) c.weigh.ensures.fits in
     record {
       inside = subst StaysInside (sym c.in_ok-code.ensures) (code_stays (script_of c.args.statements.now));
-      few = omega (arith, ap length c.in_ok-code.ensures, code_bound (script_of c.args.statements.now), fits);
+      within = omega (arith, ap length c.in_ok-code.ensures, code_bound (script_of c.args.statements.now), fits);
       each = subst AskFew (sym c.in_ok-code.ensures) (code_few (script_of c.args.statements.now) fits);
     }
 

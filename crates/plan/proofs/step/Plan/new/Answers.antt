@@ -10,5 +10,5 @@ invariant_of-result c = (
   subst DefinesNames (sym c.into_steps.ensures.steps) c.into_steps.ensures.names,
   subst AreShort (sym c.into_steps.ensures.steps) c.into_steps.ensures.short,
   subst AskFew (sym c.into_steps.ensures.steps) c.requires.each,
-  omega (arith, asks_bound c.args.code c.requires.each, ap (λ l. asks_after l 0) c.into_steps.ensures.steps, c.requires.few),
+  omega (arith, asks_bound c.args.code c.requires.each, ap (λ l. asks_after l 0) c.into_steps.ensures.steps, c.requires.within),
 )
