@@ -29,6 +29,7 @@ try:
 	@sh tools/try.sh
 
 demo: all
+	@sh examples/run.sh out/acrun examples/filter
 	@sh examples/run.sh out/acrun examples/first
 	@sh examples/run.sh out/acrun examples/branches
 	@sh examples/standin/run.sh out/acrun

@@ -26,7 +26,7 @@ checksum() {
         cat HANDLES
         for crate in $crates; do
             grep "^$crate:" crates.txt
-            for part in src specs proofs args status stdin stdout; do
+            for part in src specs proofs args data status stdin stdout; do
                 [ ! -e "crates/$crate/$part" ] || find "crates/$crate/$part" -type f | LC_ALL=C sort
             done | xargs sha256sum
         done
@@ -44,7 +44,7 @@ rm -rf "$room"
 mkdir -p "$room/crates"
 for crate in $crates; do
     mkdir "$room/crates/$crate"
-    for part in src specs proofs args status stdin stdout; do
+    for part in src specs proofs args data status stdin stdout; do
         [ ! -e "crates/$crate/$part" ] || cp -R "crates/$crate/$part" "$room/crates/$crate/"
     done
     grep "^$crate:" crates.txt >> "$room/crates.txt"

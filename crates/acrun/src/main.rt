@@ -1,9 +1,35 @@
-//! The program. [`start`] does all that it does.
+//! The program: `runner`, called with the arguments, the environment and a crew of real children.
+//!
+//! If standard error is a terminal, the crew shows there how far it is. The log of an earlier run is removed before the
+//! first child is started, so that a run that is interrupted leaves none that looks like its own.
+//!
+//! The gate runs it with the words in `args` on the files in `data`: a whole run of a configure.ac over real children,
+//! with an environment, a cache, a file and a header that has its text already.
 #![tactic(auto)]
 
+use crew::ReadyCrew;
+use runner::{FilterFault, LOG, command, environment, may_show_progress, tell, words};
+use std::alloc::AllocError;
+use std::io::IsTerminal;
 use std::process::ExitCode;
-use wholeprogram::start;
+use watching::Watched;
 
+/// Runs the command that the program's arguments name, and returns its exit status.
+fn run(rt: HostRuntime) -> Result<u8, AllocError> {
+    let words = words(rt.alloc(), &rt)?;
+    let env = environment(rt.alloc(), &rt)?;
+    let errors = rt.stderr();
+    let is_shown = may_show_progress(words.as_slice()) && errors.is_terminal();
+    let children = ReadyCrew::removing(rt, rt.alloc(), LOG)?;
+    let mut crew = Watched::new(children, errors, is_shown);
+    Ok(command(rt, rt.alloc(), words.as_slice(), env.as_slice(), &mut crew))
+}
+
+/// Ends the process with the exit status of the command. If memory runs out before the command is known, the status is 2.
 fn main(rt: HostRuntime) -> ExitCode {
-    start(rt)
+    let status = match run(rt) {
+        Ok(status) => status,
+        Err(_) => tell(&mut rt.stderr(), &FilterFault::OutOfMemory),
+    };
+    ExitCode::from(status)
 }

@@ -1,7 +1,5 @@
 //! Children whose pipe or end fails where a test says so.
 
-use crate::crews::{Work, job_of, put_children};
-use crate::streams::{Pipe, pipe_of};
 use std::alloc::Allocator;
 use std::cell::Cell;
 use std::fs::{Metadata, OpenOptions};
@@ -10,6 +8,8 @@ use std::os::unix::process::ExitStatusExt;
 use std::process::{Child, Command, ExitStatus, OpenProcess, Processes, Stdio};
 use std::rt::Files;
 use std::test::Fail;
+use testchildren::children::{Work, job_of, put_children};
+use testchildren::streams::{Pipe, pipe_of};
 use testrows::{Call, Page, cut, number_of, try_rows};
 
 /// Ends with a status as `waitpid` gives it, or fails if the text of the status is empty; its waits are counted.

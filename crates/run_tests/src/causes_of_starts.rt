@@ -2,10 +2,10 @@
 
 ghost use Rattle.std.specs.Prelude.{◌≡◌, []};
 
-use crate::crews::job_of;
 use conftest::Job;
 use crew::{Causes, Crew, ProcessCrew};
 use std::test::Fail;
+use testchildren::children::job_of;
 use testrows::{Call, Page, cut, number_of, try_rows_in};
 
 /// Puts the cause of a child, or `not known`.

@@ -1,136 +1,12 @@
 //! Crews in memory, whose ends come in an order that is given, and real children.
 
-ghost use Rattle.std.specs.Prelude.{◌≡◌, ◌≤◌, []};
-
-use crate::texts::{add, bytes_of, parts_of, put_cut, words_of};
-use conftest::Job;
-use crew::{Crew, Event, MemoryCrew, Order, ProcessCrew, Reply, SlotList};
-use std::alloc::{AllocError, Global};
-use std::process::Processes;
-use std::rt::Files;
+use crew::{Event, MemoryCrew};
 use std::test::Fail;
-use testrows::{
-    Call, EndOrder, Page, ReplyWord, cut, end_order, number_of, reply_word, try_rows, try_rows_in,
-};
-
-/// Puts `STATUS:TEXT`, or `S` for a start that is refused and `E` for an end that is.
-pub fn put_reply(page: &mut Page, reply: &Reply) {
-    match reply {
-        Reply::Answer { status, text } => {
-            page.put_shown(status);
-            page.put(b":");
-            put_cut(page, text.as_slice());
-        }
-        Reply::StartRefused => page.put(b"S"),
-        Reply::EndRefused => page.put(b"E"),
-    }
-}
-
-/// Puts ` SLOT:` and the reply.
-fn put_end(page: &mut Page, slot: usize, reply: &Reply) {
-    page.put(b" ");
-    page.put_number(slot);
-    page.put(b":");
-    put_reply(page, reply);
-}
-
-/// Returns a copy of a job for a slot. If its last word is `slot`, it has the number of the slot as one word more.
-fn job_for(alloc: Global, job: &Job, slot: usize) -> Result<Job, AllocError> {
-    let mut one = job.copy(alloc)?;
-    match job.words.as_slice().last() {
-        Some(word) if word.as_slice() == b"slot".as_slice() => {
-            let number = format!(in alloc; "{slot}")?;
-            one.words.push(number.as_bytes())?;
-        }
-        _ => {}
-    }
-    Ok(one)
-}
-
-/// Starts a job so many times, in the slots from 0 on, and puts the starts that are refused and then the ends.
-fn put_ends<C: Crew>(page: &mut Page, crew: &mut C, count: usize, job: &Job)
-    requires count { count ≤ 16 }
-    requires events { (C.account crew.old).events ≡ [] }
-    requires attempts { (C.account crew.old).attempts ≡ 0 }
-    requires failures { (C.account crew.old).failures ≡ 0 }
-{
-    let mut flying: usize = 0;
-    'starts: for slot in 0..count {
-        let Ok(one) = job_for(page.alloc(), job, slot) else {
-            page.cut();
-            return;
-        };
-        match crew.start(slot, one) {
-            Ok(()) => flying += 1,
-            Err(_) => put_end(page, slot, &Reply::StartRefused),
-        }
-    }
-    'ends: for _ in 0..flying {
-        let (slot, reply) = crew.next();
-        put_end(page, slot, &reply);
-    }
-}
-
-/// What a crew is asked to do: so many children with one job.
-#[derive(Clone, Copy)]
-pub struct Work<'a> {
-    pub count: usize,
-    pub job: &'a Job,
-}
-
-/// Puts what a crew that has done nothing does.
-pub fn put_work<C: Crew>(page: &mut Page, crew: &mut C, work: &Work)
-    requires fresh { C.account crew.old ≡ record { events = []; attempts = 0; failures = 0 } }
-{
-    put_ends(page, crew, work.count.min(16), work.job);
-}
+use testchildren::children::{Work, job_of, put_real_children, put_work};
+use testchildren::replies::{order_in, replies_in};
+use testrows::{Call, Page, cut, number_of, try_rows, try_rows_in};
 
 // ---- crews in memory
-
-/// Returns the reply of a word. If it is none, that is put.
-fn reply_of(page: &mut Page, word: &[u8]) -> Reply {
-    match reply_word(word) {
-        Some(ReplyWord::Answer { status, text }) => Reply::Answer {
-            status,
-            text: bytes_of(page, text),
-        },
-        Some(ReplyWord::StartRefused) => Reply::StartRefused,
-        Some(ReplyWord::EndRefused) => Reply::EndRefused,
-        None => {
-            page.put(b"no reply: ");
-            page.put(word);
-            Reply::EndRefused
-        }
-    }
-}
-
-/// Returns replies with blanks between them.
-pub fn replies_of(page: &mut Page, text: &[u8]) -> Vec<Reply> {
-    let mut replies = Vec::new(page.alloc());
-    for word in &parts_of(page, text, b' ') {
-        let reply = reply_of(page, word);
-        add(page, &mut replies, reply);
-    }
-    replies
-}
-
-/// Returns slots with blanks between them.
-fn slots_of(page: &mut Page, text: &[u8]) -> SlotList {
-    let mut slots = Vec::new(page.alloc());
-    for slot in &parts_of(page, text, b' ') {
-        add(page, &mut slots, number_of(slot));
-    }
-    SlotList::from_vec(slots)
-}
-
-/// Returns the order of ends that a text is.
-pub fn order_of(page: &mut Page, text: &[u8]) -> Order {
-    match end_order(text) {
-        EndOrder::Oldest => Order::Oldest,
-        EndOrder::Youngest => Order::Youngest,
-        EndOrder::Slots(slots) => Order::Slots(slots_of(page, slots)),
-    }
-}
 
 /// Puts what a crew in memory did: `, start SLOT`, `, refused SLOT` and `, end SLOT`.
 fn put_events(page: &mut Page, events: &[Event]) {
@@ -147,8 +23,8 @@ fn put_events(page: &mut Page, events: &[Event]) {
 
 /// Puts the work of a crew in memory with these replies in this order, and the calls that it lists.
 fn put_in_memory(page: &mut Page, replies: &[u8], order: &[u8], work: &Work) {
-    let replies = replies_of(page, replies);
-    let order = order_of(page, order);
+    let replies = replies_in(page, replies);
+    let order = order_in(page, order);
     match &mut MemoryCrew::new(page.alloc(), replies, order) {
         Ok(crew) => {
             put_work(page, crew, work);
@@ -190,33 +66,6 @@ fn crews_in_memory(rt: HostRuntime) -> Result<(), Fail> {
 }
 
 // ---- real children
-
-/// Returns the job of these words, with commas between them, and of its conftest, if it has one: a name, a blank and a text.
-pub fn job_of(page: &mut Page, words: &[u8], file: &[u8]) -> Job {
-    let (name, text) = cut(file, b" ");
-    let words = words_of(page, words);
-    if name.is_empty() {
-        return Job { words, file: None };
-    }
-    let file = Some((bytes_of(page, name), bytes_of(page, text)));
-    Job { words, file }
-}
-
-/// Puts the work of the children of a system.
-pub fn put_children<R: Files + Processes + Drop>(page: &mut Page, rt: R, work: &Work) {
-    match &mut ProcessCrew::new(rt, page.alloc()) {
-        Ok(crew) => put_work(page, crew, work),
-        Err(_) => page.cut(),
-    }
-}
-
-/// Puts the work of real children.
-pub fn put_real_children(page: &mut Page, rt: &HostRuntime, work: &Work) {
-    match rt.clone() {
-        Ok(rt) => put_children(page, rt, work),
-        Err(_) => page.cut(),
-    }
-}
 
 /// Real children: how many, and the conftest and the words of each.
 #[derive(Drop)]

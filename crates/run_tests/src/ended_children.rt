@@ -1,8 +1,8 @@
 //! Real children of which one that has ended is taken before older ones.
 
-use crate::crews::{Work, job_of, put_work};
 use crew::ReadyCrew;
 use std::test::Fail;
+use testchildren::children::{Work, job_of, put_work};
 use testrows::{Call, Page, cut, number_of, try_rows_in};
 
 /// Puts the work of real children of which one that has ended is taken first.

@@ -4,7 +4,6 @@ ghost use Rattle.std.specs.Prelude.{◌≡◌, None, Some, length, slice_get, Is
 ghost use Rattle.std.specs.Bool.{OnTrue};
 ghost use Rattle.machine.specs.Standing.{Fits, outcome_of};
 
-use crate::texts::vars_of;
 use acparse::{Source, parse};
 use crew::Reply;
 use deftable::Bytes;
@@ -12,6 +11,7 @@ use machine::{Machine, Outcome, RunEnd, Turn};
 use plan::{Plan, compile};
 use std::alloc::Global;
 use std::test::Fail;
+use testchildren::texts::vars_of;
 use testrows::{Call, Page, number_of, try_rows};
 
 /// Replies to the first job that is asked by this exit status, or cuts all if the text is empty.

@@ -1,12 +1,12 @@
 //! What a source weighs, and the steps of a small one.
 
-use crate::texts::{add, bytes_of};
 use acparse::Stmt;
 use deftable::Texts;
 use plan::{PlanFault, Step, compile_statements};
 use shellword::Patterns;
 use std::test::Fail;
 use syntax::{Case, Plain, Subject, When, choose};
+use testchildren::replies::{add, bytes_of};
 use testrows::{Call, Page, cut, number_of, try_rows};
 
 /// Adds so many statements.

@@ -2,8 +2,6 @@
 
 ghost use Rattle.std.specs.Prelude.{◌≡◌, []};
 
-use crate::crews::{Work, job_of, order_of, put_work, replies_of};
-use crate::streams::Sheet;
 use conftest::Job;
 use crew::{Crew, MemoryCrew};
 use csource::{
@@ -13,6 +11,9 @@ use csource::{
 use deftable::Bytes;
 use std::alloc::AllocError;
 use std::test::Fail;
+use testchildren::children::{Work, job_of, put_work};
+use testchildren::replies::{order_in, replies_in};
+use testchildren::streams::Sheet;
 use testrows::{Call, Page, cut, number_of, try_rows};
 use watching::Watched;
 
@@ -33,8 +34,8 @@ fn put_in_sight(page: &mut Page, shown: &[u8], replies: &[u8], order: &[u8], wor
         kept: Page::new(page.alloc()),
         fails: shown == b"fails".as_slice(),
     };
-    let replies = replies_of(page, replies);
-    let order = order_of(page, order);
+    let replies = replies_in(page, replies);
+    let order = order_in(page, order);
     match MemoryCrew::new(page.alloc(), replies, order) {
         Ok(crew) => put_watched(page, crew, sheet, shown != b"off".as_slice(), work),
         Err(_) => page.cut(),

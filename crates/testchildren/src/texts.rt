@@ -1,16 +1,10 @@
 //! What the parts of a row give.
 
-use conftest::Words;
+use crate::replies::add;
 use deftable::{Bytes, Vars};
+use jobs::Words;
 use testrows::Page;
 use textcut::parts;
-
-/// Adds an item to a list.
-pub fn add<T: Drop>(page: &mut Page, list: &mut Vec<T>, item: T) {
-    if list.push(item).is_err() {
-        page.cut();
-    }
-}
 
 /// Returns the parts of a text between these bytes. They may be empty, but an empty text has none.
 pub fn parts_of<'a>(page: &mut Page, text: &'a [u8], separator: u8) -> Vec<&'a [u8]> {
@@ -22,18 +16,18 @@ pub fn parts_of<'a>(page: &mut Page, text: &'a [u8], separator: u8) -> Vec<&'a [
     Vec::new(page.alloc())
 }
 
-/// Returns the words of a text with commas between them. Each `~` is as in [`bytes_of`].
+/// Returns the words of a text with commas between them. Each `~` is as in [`long_bytes_of`].
 pub fn words_of(page: &mut Page, text: &[u8]) -> Words {
     let mut words = Vec::new(page.alloc());
     for word in &parts_of(page, text, b',') {
-        let word = bytes_of(page, word);
+        let word = long_bytes_of(page, word);
         add(page, &mut words, word);
     }
     Words::from_vec(words)
 }
 
 /// Returns the text, with 1,048,574 times `a` in place of each `~`.
-pub fn bytes_of(page: &mut Page, text: &[u8]) -> Bytes {
+pub fn long_bytes_of(page: &mut Page, text: &[u8]) -> Bytes {
     let mut bytes = Vec::new(page.alloc());
     for byte in text {
         let (piece, count) = if *byte == b'~' {

@@ -1,7 +1,7 @@
 use Rattle.std.proofs.Common.{◌≡◌, ◌+◌, ◌-◌, ◌<◌, arith}
-use Rattle.run_tests.proofs.FlightLemmas.{flies_start, flies_same, flies_some, flies_end, free_after, free_same, failure_most}
-use Rattle.run_tests.proofs.crews.put_ends.Goals.{in-Ok-start, in-Err}
-use Rattle.run_tests.proofs.crews.put_ends.Goals as goal
+use Rattle.testchildren.proofs.FlightLemmas.{flies_start, flies_same, flies_some, flies_end, free_after, free_same, failure_most}
+use Rattle.testchildren.proofs.children.put_ends.Goals.{in-Ok-start, in-Err}
+use Rattle.testchildren.proofs.children.put_ends.Goals as goal
 
 pub starts-preserved : goal.starts-preserved
 starts-preserved g c =

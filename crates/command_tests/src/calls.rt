@@ -4,9 +4,6 @@
 ghost use Rattle.std.specs.Io.{WritesAtMost};
 ghost use Rattle.runner.specs.Puts.{MayRun};
 
-use crate::crews::{Work, job_of, put_real_children};
-use crate::streams::{Sheet, pipe_of};
-use crate::texts::{bytes_of, parts_of, put_cut};
 use causes::Causes;
 use conftest::Job;
 use crew::{Crew, ProcessCrew};
@@ -19,6 +16,9 @@ use std::env::{Env, FillError};
 use std::io::{Read, Write};
 use std::test::Fail;
 use std::{fs, str};
+use testchildren::children::{Work, job_of, put_real_children};
+use testchildren::streams::{Sheet, pipe_of};
+use testchildren::texts::{long_bytes_of, parts_of, put_cut};
 use testrows::{Call, Page, cut, try_rows};
 
 // ---- the filter and the stand-in, by themselves
@@ -272,7 +272,7 @@ fn put_command(
 
 /// Writes a file.
 pub fn write_file(page: &mut Page, rt: &HostRuntime, name: &[u8], text: &[u8]) {
-    let text = bytes_of(page, text);
+    let text = long_bytes_of(page, text);
     if fs::write(rt, str::from_utf8(name).unwrap_or(""), text.as_slice()).is_err() {
         page.put(b"not written, ");
     }

@@ -1,9 +1,7 @@
 //! The stand-in for a compiler on real files, each test in a directory of its own.
 
 use crate::calls::{Program, status_of, write_file};
-use crate::crews::{Work, put_real_children};
 use crate::refused_children::put_refused;
-use crate::texts::vars_of;
 use conftest::compile_job;
 use csource::{default_includes, header_source};
 use deftable::{Bytes, Defs, Vars};
@@ -11,6 +9,8 @@ use runner::words;
 use std::env::Env;
 use std::io;
 use std::test::Fail;
+use testchildren::children::{Work, put_real_children};
+use testchildren::texts::vars_of;
 use testrows::{Call, Page, try_rows_in};
 
 const STANDIN: &[u8] = b"\

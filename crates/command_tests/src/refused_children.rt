@@ -3,10 +3,10 @@
 ghost use Rattle.std.specs.Prelude.{◌≡◌, []};
 
 use crate::calls::{status_over, write_file};
-use crate::streams::Sheet;
-use crate::texts::words_of;
 use crew::{Causes, Crew, FuseKind, Fused, ProcessCrew};
 use deftable::Bytes;
+use testchildren::streams::Sheet;
+use testchildren::texts::words_of;
 use testrows::{Page, cut, number_of};
 
 /// The call that is refused.

@@ -1,7 +1,7 @@
 use Rattle.std.proofs.Common.{◌≡◌, ℕ, ◌+◌, ◌≤◌, false}
 use Rattle.crew_trait.specs.Events.{busy}
-use Rattle.run_tests.proofs.FlightLemmas.{Flies}
-use Rattle.run_tests.proofs.crews.put_ends.Given as goal
+use Rattle.testchildren.proofs.FlightLemmas.{Flies}
+use Rattle.testchildren.proofs.children.put_ends.Given as goal
 
 abbrev pub invariant-starts : goal.invariant-starts
 invariant-starts g l =
