@@ -9,7 +9,7 @@ use disk::Host;
 use diskfiles::FileOutputs;
 use runner::{asks_why, command, run};
 use std::fs::File;
-use std::io::Write;
+use std::io::{Read, Write};
 use summary::Children;
 use testrows::Page;
 use testruns::given::{entries_of, replies_in};
@@ -50,18 +50,17 @@ pub const NOTHING: Around<'static> = Around {
 
 /// Returns the exit status of the program over a crew. It promises nothing, so that its callers don't see the long
 /// contract of the command.
-fn status_over<C: Crew + Causes, W: Write>(
+pub fn status_over<C: Crew + Causes, R: Read, W: Write, E: Write>(
     rt: &HostRuntime,
     words: &[Bytes],
     env: &[(Bytes, Bytes)],
-    input: &[u8],
     crew: &mut C,
+    input: &mut R,
     output: &mut W,
-    errors: &mut Vec<u8>,
+    errors: &mut E,
 ) -> u8
     requires may_run { MayRun (C.account crew.old) }
 {
-    let mut input = input;
     run(
         rt.alloc(),
         rt,
@@ -71,7 +70,7 @@ fn status_over<C: Crew + Causes, W: Write>(
         crew,
         asks_why(env),
         false,
-        &mut input,
+        input,
         output,
         errors,
     )
@@ -112,7 +111,10 @@ fn status_in_memory<W: Write>(
 ) -> u8 {
     let replies = replies_in(page, around.replies);
     match &mut MemoryCrew::new(page.alloc(), replies, order_of(around)) {
-        Ok(crew) => status_over(rt, words, env, around.input, crew, output, errors),
+        Ok(crew) => {
+            let mut input = around.input;
+            status_over(rt, words, env, crew, &mut input, output, errors)
+        }
         Err(_) => {
             page.cut();
             2
@@ -141,20 +143,20 @@ pub fn put_command(
     }
 }
 
-/// Returns the exit status of the program over real children.
-fn status_of_children<W: Write>(
+/// Returns the exit status of the program over real children, or 2 if there can be none.
+pub fn status_of_children<R: Read, W: Write, E: Write>(
     rt: &HostRuntime,
     words: &[Bytes],
     env: &[(Bytes, Bytes)],
-    input: &[u8],
+    input: &mut R,
     output: &mut W,
-    errors: &mut Vec<u8>,
+    errors: &mut E,
 ) -> u8 {
     let Ok(own) = rt.clone() else {
         return 2;
     };
     match &mut ProcessCrew::new(own, rt.alloc()) {
-        Ok(crew) => status_over(rt, words, env, input, crew, output, errors),
+        Ok(crew) => status_over(rt, words, env, crew, input, output, errors),
         Err(_) => 2,
     }
 }
@@ -170,7 +172,8 @@ fn status_of<W: Write>(
 ) -> u8 {
     let env = entries_of(page, around.env);
     if around.has_children {
-        return status_of_children(rt, words, env.as_slice(), around.input, output, errors);
+        let mut input = around.input;
+        return status_of_children(rt, words, env.as_slice(), &mut input, output, errors);
     }
     status_in_memory(page, rt, words, env.as_slice(), around, output, errors)
 }

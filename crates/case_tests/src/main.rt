@@ -2,10 +2,11 @@
 //!
 //! The arguments are names of files. `report` goes through the cases of a file. `answers` has what the engine makes of
 //! what a case gives, in the words of the crates `testtrees`, `testruns` and `testwholes`, and `steps` has the cases
-//! over files. A case differs if that is not what the file says. `data/README` says how to add a case.
+//! over files, rows of calls among them (`rows`). A case differs if that is not what the file says. `data/README` says
+//! how to add a case.
 //!
 //! It prints a line for each file, before it what was wanted and found of each case that differs, and exits with status 1
-//! if one does.
+//! if one does. If the first argument is `standin`, it is the stand-in for a compiler instead, as a child of a case is.
 #![tactic(auto)]
 
 mod answers;
@@ -14,9 +15,12 @@ mod calls;
 mod kinds;
 mod pieces;
 mod report;
+mod rows;
+mod stand_ins;
 mod steps;
 
 use report::{Report, check_file};
+use stand_ins::played;
 use std::io::{self, Write};
 use std::process::ExitCode;
 use std::{env, fs};
@@ -28,6 +32,9 @@ fn check(rt: &HostRuntime, name: &str) -> io::Result<Report> {
 }
 
 fn main(rt: HostRuntime) -> io::Result<ExitCode> {
+    if let Some(status) = played(&rt) {
+        return Ok(ExitCode::from(status));
+    }
     let mut output = io::writer(&rt);
     let mut all_right = true;
     for name in env::args(&rt)?.skip(1) {

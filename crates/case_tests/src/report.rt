@@ -126,10 +126,15 @@ fn put_answers(page: &mut Page, case: &Case<'_>) {
     }
 }
 
+/// Returns whether the sections of a case are steps.
+fn has_steps(case: &Case<'_>) -> bool {
+    case.own(b"run").is_some() || case.own(b"program").is_some() || case.own(b"calls").is_some()
+}
+
 /// Puts what differs in a case, and the name of its file and its own before that. Returns whether nothing does.
 fn check_case<'a>(page: &mut Page, rt: &'a HostRuntime, file: &[u8], case: &Case<'a>) -> bool {
     let mut found = Page::new(page.alloc());
-    if case.own(b"run").is_some() || case.own(b"program").is_some() {
+    if has_steps(case) {
         put_file_case(&mut found, rt, case, NOTHING);
     } else {
         put_answers(&mut found, case);

@@ -1,16 +1,17 @@
 //! Cases of the program over files: each section is a step, in a new directory.
 //!
 //! `lines`, `write`, `link`, `directory`, `remove`, `sized` and `in` change the directory, `environment`, `input`, `replies`,
-//! `children`, `full` and `watched` say what the commands after them are given, `run` and `program` are commands, and `file` and
-//! `list` are what is there.
+//! `children`, `full` and `watched` say what the commands after them are given, `run` and `program` are commands, `calls` has
+//! rows of calls, and `file` and `list` are what is there.
 
 use crate::calling::{Around, put_command, put_status};
+use crate::rows::Calls;
 use deftable::Bytes;
 use std::fs::{DirEntry, File};
 use std::os::unix::fs::symlink;
 use std::{env, fs, io, str};
 use testrows::escaped::{note_cut, put_difference};
-use testrows::{Case, Page, Section, cut, next_section};
+use testrows::{Case, Page, Section, cut, next_section, put_differences};
 use testruns::given::{add, put_source_in, text_of, texts_of};
 
 // ---- steps that change the directory
@@ -137,6 +138,12 @@ fn put_program<'a>(
     put_checked(page, rest, b"progress", progress.text())
 }
 
+/// Puts the rows of calls that have another answer.
+fn put_calls(page: &mut Page, scene: &Scene<'_>, section: &Section<'_>) {
+    let rows = text_of(page, Some(*section));
+    put_differences(page, &Calls { rt: scene.rt }, rows.text());
+}
+
 // ---- what is there
 
 /// Puts what differs in a file.
@@ -215,17 +222,18 @@ enum Verb {
     Children,
     Full,
     Watched,
+    Calls,
     /// Nothing: the case says it of all its steps.
     Nothing,
 }
 
 /// The verbs.
 #[rattlefmt::skip]
-const VERBS: [(&[u8], Verb); 19] = [
+const VERBS: [(&[u8], Verb); 20] = [
     (b"lines", Verb::Change(Change::Source)), (b"write", Verb::Change(Change::Write)), (b"link", Verb::Change(Change::Link)),
     (b"directory", Verb::Change(Change::Directory)), (b"remove", Verb::Change(Change::Remove)), (b"in", Verb::Change(Change::In)),
     (b"sized", Verb::Change(Change::Sized)), (b"run", Verb::Run), (b"program", Verb::Program), (b"file", Verb::File), (b"list", Verb::List),
-    (b"environment", Verb::Env), (b"input", Verb::Input), (b"watched", Verb::Watched), (b"replies", Verb::Replies), (b"children", Verb::Children), (b"full", Verb::Full),
+    (b"environment", Verb::Env), (b"input", Verb::Input), (b"watched", Verb::Watched), (b"replies", Verb::Replies), (b"children", Verb::Children), (b"full", Verb::Full), (b"calls", Verb::Calls),
     (b"at", Verb::Nothing), (b"init", Verb::Nothing),
 ];
 
@@ -244,6 +252,7 @@ fn put_small<'a>(page: &mut Page, scene: &mut Scene<'a>, verb: Verb, section: &S
         Verb::Change(change) => put_change(page, scene, change, section),
         Verb::File => put_file(page, scene, section),
         Verb::List => put_names(page, scene, section),
+        Verb::Calls => put_calls(page, scene, section),
         Verb::Env => scene.around.env = section.words(),
         Verb::Input => scene.around.input = section.words(),
         Verb::Replies => scene.around.replies = section.words(),

@@ -22,5 +22,5 @@ pub use casefile::{Case, Section, next_case, next_section, read_file};
 pub use directory::try_rows_in;
 pub use page::Page;
 pub use replies::{EndOrder, ReplyWord, end_order, reply_word};
-pub use table::{Call, Named, cut, put_fronts, try_rows, try_tables};
+pub use table::{Call, Named, cut, put_differences, put_fronts, try_rows, try_tables};
 pub use texts::number_of;

@@ -67,7 +67,7 @@ fn put_difference<C: Call>(page: &mut Page, call: &C, row: &[u8]) {
 }
 
 /// Puts the rows of a table whose answer is another one.
-fn put_differences<C: Call>(page: &mut Page, call: &C, table: &[u8]) {
+pub fn put_differences<C: Call>(page: &mut Page, call: &C, table: &[u8]) {
     let mut has_row = false;
     for row in table.split(|byte| *byte == b'\n') {
         if !row.is_empty() && !row.starts_with(b"// ") {

@@ -1,25 +1,22 @@
-//! The filter and the program's commands: streams that fail, and the words of the program. The crate `case_tests` has what the
-//! filter writes and which faults it names.
+//! Rows of calls: the filter and the commands over streams that fail, the stand-in for a compiler, and the words and the
+//! environment that the program is given.
 
 ghost use Rattle.std.specs.Io.{WritesAtMost};
-ghost use Rattle.runner.specs.Puts.{MayRun};
 
-use causes::Causes;
-use conftest::Job;
-use crew::{Crew, ProcessCrew};
+use crate::calling::status_of_children;
+use crate::stand_ins::{put_header, put_refused};
 use deftable::Bytes;
 use disk::Host;
-use diskfiles::FileOutputs;
-use runner::{environment, filter, run, words};
+use jobs::Job;
+use runner::{environment, filter, words};
 use standin::standin;
 use std::env::{Env, FillError};
-use std::io::{Read, Write};
-use std::test::Fail;
+use std::io::Read;
 use std::{fs, str};
 use testchildren::children::{Work, job_of, put_real_children};
 use testchildren::streams::{Sheet, pipe_of};
 use testchildren::texts::{long_bytes_of, parts_of, put_cut};
-use testrows::{Call, Page, cut, try_rows};
+use testrows::{Call, Page, cut};
 
 // ---- the filter and the stand-in, by themselves
 
@@ -133,55 +130,9 @@ fn put_environment(page: &mut Page, arguments: &[Bytes]) {
     }
 }
 
-// ---- the program
-
 /// The input if a row has none.
 const DEMO: &[u8] =
     b"AC_INIT([demo],[1.0])\nAC_CONFIG_FILES([out])\nAC_OUTPUT\n%%\n@PACKAGE_STRING@ @nope@\n";
-
-/// Returns the exit status of the program over a crew, without an environment. It promises nothing, so that its callers don't
-/// see the long contract of the command.
-pub fn status_over<C: Crew + Causes, R: Read, W: Write, E: Write>(
-    rt: &HostRuntime,
-    words: &[Bytes],
-    crew: &mut C,
-    input: &mut R,
-    output: &mut W,
-    errors: &mut E,
-) -> u8
-    requires may_run { MayRun (C.account crew.old) }
-{
-    run(
-        rt.alloc(),
-        rt,
-        &mut FileOutputs::new(rt.alloc(), Host::new(rt)),
-        words,
-        &[],
-        crew,
-        false,
-        false,
-        input,
-        output,
-        errors,
-    )
-}
-
-/// Returns the exit status of the program, or 2 if it can't be called.
-pub fn status_of<R: Read, W: Write, E: Write>(
-    rt: &HostRuntime,
-    words: &[Bytes],
-    input: &mut R,
-    output: &mut W,
-    errors: &mut E,
-) -> u8 {
-    let Ok(own) = rt.clone() else {
-        return 2;
-    };
-    match &mut ProcessCrew::new(own, rt.alloc()) {
-        Ok(crew) => status_over(rt, words, crew, input, output, errors),
-        Err(_) => 2,
-    }
-}
 
 fn put_stream(page: &mut Page, word: &[u8], text: &[u8]) {
     if !text.is_empty() {
@@ -206,7 +157,7 @@ fn put_program<R: Read>(
         kept: Page::new(page.alloc()),
         fails: fails == b"errors".as_slice(),
     };
-    let status = status_of(rt, words, input, &mut output, &mut errors);
+    let status = status_of_children(rt, words, &[], input, &mut output, &mut errors);
     page.put_shown(&status);
     put_stream(page, b" out ", output.kept.text());
     put_stream(page, b" err ", errors.kept.text());
@@ -259,6 +210,8 @@ fn put_command(
         b"words" => put_words(page, words),
         b"environment" => put_environment(page, words),
         b"compiler" => put_standin(page, rt, words),
+        b"header" => put_header(page, rt, words),
+        b"refused" => put_refused(page, rt, words),
         _ => put_answer_to(
             page,
             rt,
@@ -271,7 +224,7 @@ fn put_command(
 }
 
 /// Writes a file.
-pub fn write_file(page: &mut Page, rt: &HostRuntime, name: &[u8], text: &[u8]) {
+fn write_file(page: &mut Page, rt: &HostRuntime, name: &[u8], text: &[u8]) {
     let text = long_bytes_of(page, text);
     if fs::write(rt, str::from_utf8(name).unwrap_or(""), text.as_slice()).is_err() {
         page.put(b"not written, ");
@@ -286,18 +239,19 @@ fn write_files(page: &mut Page, rt: &HostRuntime, files: &[u8]) {
     }
 }
 
-/// The program.
+/// The calls of a section.
 ///
 /// A row has the words, with commas between them, the input, which stream fails, and the files that are written first: a
-/// name, a blank and a text. What is left out at the end is empty. As the first word, `filter` calls the filter by itself,
-/// `compiler` the stand-in, and `words` and `environment` the readers of what the program is given. The words of `sh` are a child
-/// of a crew.
+/// name, a blank and a text. What is left out at the end is empty. The words are those of the program, or the first names
+/// another call: `filter` the filter by itself, `compiler` the stand-in, `words` and `environment` the readers of what
+/// the program is given, `sh` a child of a crew, `header` the child that tests the header, with this program as the
+/// compiler, and `refused` a run with that child of which a start or an end is refused.
 #[derive(Drop)]
-pub struct Program<'a> {
+pub struct Calls<'a> {
     pub rt: &'a HostRuntime,
 }
 
-impl Call for Program<'_> {
+impl Call for Calls<'_> {
     fn put(&self, page: &mut Page, given: &[u8]) {
         let (words, rest) = cut(given, b"|");
         let (input, rest) = cut(rest, b"|");
@@ -306,53 +260,4 @@ impl Call for Program<'_> {
         let job = job_of(page, words, b"");
         put_command(page, self.rt, cut(words, b",").0, &job, input, fails);
     }
-}
-
-const COMMANDS: &[u8] = b"\
-// the filter, and a pipe or a text in place of the demo
-filter => 0>demo 1.0 @nope@^J
-// The last of 65,536 reads may be the end. A read that is interrupted is one of them.
-filter|65535 1 => usage>
-filter|65536 1 => file standard input>
-filter|65532 1 0 3 => usage>
-filter|65533 1 0 3 => file standard input>
-filter|5 1 6 2 => file standard input>
-filter|0 1 1 => file standard input>
-filter||output => file standard output>
-// What isn't right is told before that nothing can be written.
-filter|%%|output => parse 8>
-// the words of the program, the last one of more than a mebibyte
-words,a,,\xff\0 b,~ => 4 yes yes yes yes
-// the environment, without the entry that has no `=`
-environment,A=1,b,C==d=,=,\xff=\0 b, => [A][1][C][=d=][][][\xff][\0 b]
-environment,A=~ => [A][1048574 bytes aaaaaaaaaaaaaaaa .. aaaaaaaaaaaaaaaa]
-environment =>
-// the program
- => 0 out demo 1.0 @nope@^J
-|0 1 1 => 2 err acrun: file standard input^J
-||output => 2 err acrun: file standard output^J
-// What a run has for standard error is printed. If that can't be, the status stays.
-|AC_INIT([x],[1])^JAC_MSG_ERROR([no],[7])^JAC_OUTPUT^J%%^J => 7 err configure: error: no^J
-|AC_INIT([x],[1])^JAC_MSG_ERROR([no],[7])^JAC_OUTPUT^J%%^J|errors => 7
-|AC_INIT([x],[1])^JPATH=/x^JAC_PROG_CC^JAC_OUTPUT^J%%^J => 3 err configure: cut short at child 1^J
-// If a fault can't be printed, the status shows it.
-|0 1 1|errors => 2
-// arguments that are not known
-,standin => 2 err acrun: usage^J
-x,standin => 2 err acrun: usage^J
-standin2,standin => 2 err acrun: usage^J
--j2,standin => 2 err acrun: usage^J
-// At most 16 children at once. There is no configure.ac here.
--j16,configure => 2 err acrun: file ./configure.ac^J
--j17,configure => 2 err acrun: usage^J
--j1,configure => 2 err acrun: file ./configure.ac^J
--j0,configure => 2 err acrun: usage^J
--j01,configure => 2 err acrun: usage^J
--j,configure => 2 err acrun: usage^J
--j4294967297,configure => 2 err acrun: usage^J
-";
-
-#[test]
-fn commands(rt: HostRuntime) -> Result<(), Fail> {
-    try_rows(rt.alloc(), &Program { rt: &rt }, COMMANDS)
 }
