@@ -78,14 +78,10 @@ IsSource word (Source directory) = word ≡ codes "--srcdir=" ++ directory
 IsSource word other = Unit {0}
 
 source_is : {i : ℕ} {word : List ℕ} {setting : Setting} → GivesAlone i word setting → IsSource word setting
-source_is (line.switch is) = tt
 source_is (line.option line.srcdir value) = refl
 source_is (line.option line.cache_file value) = tt
 source_is (line.option (line.directory d) value) = tt
-source_is (line.enabled kind name h) = tt
-source_is (line.enabled_as kind name value h) = tt
-source_is (line.disabled kind name h) = tt
-source_is (line.assignment name value h) = tt
+source_is other = tt
 
 given_source : (word directory : List ℕ) → read_argument word ≡ OptionValue Srcdir directory → word ≡ codes "--srcdir=" ++ directory
 given_source word directory e = source_is {i = 0} (subst (Means 0 word) e (said_means 0 word))
@@ -236,18 +232,11 @@ no_create_is : {i : ℕ} {word : List ℕ} {setting : Setting} → GivesAlone i 
 no_create_is (line.switch {word = word} {switch = switch} is) = at switch is where
   at : (s : Switch) → IsSwitch word s → IsNoCreate word (Switched s)
   at NoCreate h = h
-  at ConfigCache h = tt
-  at Quiet h = tt
-  at Help h = tt
-  at Version h = tt
-  at Ignored h = tt
+  at other h = tt
 no_create_is (line.option line.srcdir value) = tt
 no_create_is (line.option line.cache_file value) = tt
 no_create_is (line.option (line.directory d) value) = tt
-no_create_is (line.enabled kind name h) = tt
-no_create_is (line.enabled_as kind name value h) = tt
-no_create_is (line.disabled kind name h) = tt
-no_create_is (line.assignment name value h) = tt
+no_create_is other = tt
 
 is_switch : (word : List ℕ) → is_no_create (read_argument word) ≡ true → IsSwitch word NoCreate
 is_switch word = at (read_argument word) refl where

@@ -88,7 +88,7 @@ impl<C: Crew + Drop> Crew for Fused<C> {
             ((account_of C.account self.new).events ≡ (account_of C.account self.old).events) }
         ensures refused_count { OnErr result
             ((account_of C.account self.new).failures ≡ (account_of C.account self.old).failures + 1) }
-        ensures due { OnTrue (is_due Start self.old.kind self.old.left) (is_ok result ≡ false) }
+        ensures is_refused { OnTrue (is_due Start self.old.kind self.old.left) (is_ok result ≡ false) }
         ensures unseen { OnTrue (is_due Start self.old.kind self.old.left) (self.new.inner ≡ self.old.inner) }
         ensures kind { self.new.kind ≡ self.old.kind }
         ensures left { self.new.left ≡ left_after Start self.old.kind self.old.left }
@@ -116,7 +116,7 @@ impl<C: Crew + Drop> Crew for Fused<C> {
         ensures reply { result.1 ≢ StartRefused }
         ensures count { (account_of C.account self.new).failures
             ≡ (account_of C.account self.old).failures + failure_of result.1 }
-        ensures due { OnTrue (is_due End self.old.kind self.old.left) (result.1 ≡ EndRefused) }
+        ensures is_refused { OnTrue (is_due End self.old.kind self.old.left) (result.1 ≡ EndRefused) }
         ensures kind { self.new.kind ≡ self.old.kind }
         ensures left { self.new.left ≡ left_after End self.old.kind self.old.left }
         ensures later { self.new.later ≡ later_after (is_due End self.old.kind self.old.left) true self.old.later }
@@ -152,7 +152,7 @@ fn is_same(call: FuseKind, kind: FuseKind) -> bool
 
 /// Counts a call. Returns whether it is the one to refuse.
 fn is_due(call: FuseKind, kind: FuseKind, left: &mut u64) -> bool
-    ensures due { result ≡ is_due call kind left.old }
+    ensures value { result ≡ is_due call kind left.old }
     ensures left { left.new ≡ left_after call kind left.old }
 {
     if !is_same(call, kind) {

@@ -13,13 +13,15 @@
 //! proved for each disk of which it is known. Of the [`Host`], the real files, nothing is known:
 //! its functions are short, and only tests check them. "own" marks a rule that no manual gives.
 //!
-//! Read `specs/Known`, then `disk`, which has the trait, `found`, and `host`.
+//! Read `specs/Known`, then `disk_trait`, `found`, `clearing`, with `specs/Clearing`, and `host`.
 #![tactic(auto)]
 
+mod clearing;
 mod disk_trait;
 mod found;
 mod host;
 
+pub use clearing::{clear, create_filled};
 pub use disk_trait::Disk;
 pub use found::{Found, not_regular};
 pub use host::{Host, LARGEST_TEXT};

@@ -1,10 +1,12 @@
 -- By which steps a text is written.
 use Rattle.std.proofs.Common.{◌≡◌, ◌⊎◌, ℕ, List, [], ◌∷◌, ◌++◌, Option, Some, None, IfSome, Result, Ok, Err, OnOk, OnErr, inl, inr, refl, sym, subst, append-nil}
-use Rattle.disk.specs.Known.{Known, Deed, Made, Filled, Failed, Renamed, Removed, Adds, Does, kind_under}
+use Rattle.disk.specs.Known.{Known, Made, Filled, Failed, Renamed, Removed, Adds, Does, kind_under}
+use Rattle.disk.specs.Clearing.{DoesAll, clearing, clearing_now, filling}
 use Rattle.disk.specs.declared.found.Found.{Found}
+use Rattle.disk.specs.declared.found.Found.TheVariants as found
 use Rattle.disk.proofs.Deeds.{adds_then, does, does_none, does_then}
 use Rattle.diskfiles.specs.Names.{temporary}
-use Rattle.diskfiles.specs.Steps.{writing, IsMode, IsWritten, written, IsUndone, nothing, unfilled, unnamed, IsReplaced, replaced, IsBegun, cleared_only, torn, IsCleared, kept}
+use Rattle.diskfiles.specs.Steps.{writing, IsMode, IsWritten, written, IsUndone, nothing, unfilled, unnamed, IsReplaced, replaced, IsBegun, cleared_only, torn, IsCleared, kept, file, link}
 use Rattle.diskfiles.specs.declared.writing.Keeps.{Keeps}
 
 -- What holds of an answer that is right.
@@ -68,10 +70,9 @@ is_written (Some a) (Some b) keeps name text mode found is is_mode w =
 -- A new file that is not in the place of another.
 pub made_anew : (a b c : Option Known) (name text : List ℕ)
     → Does a b (λ k d. IsCleared name (kind_under k name) d)
-    → Adds b c (Made name ∷ Filled name None text ∷ []) → Does a c (λ k d. IsReplaced k name text d)
+    → DoesAll b c (filling name text) → Does a c (λ k d. IsReplaced k name text d)
 made_anew a b c name text cleared made =
-    let new = Made name ∷ Filled name None text ∷ [] in
-    does_then a b c (λ k d. IsCleared name (kind_under k name) d) (λ _ e. e ≡ new) (λ k d. IsReplaced k name text d) cleared (does b c new (λ _ e. e ≡ new) made (λ _. refl))
+    does_then a b c (λ k d. IsCleared name (kind_under k name) d) (λ k e. e ≡ filling name text k) (λ k d. IsReplaced k name text d) cleared made
     (λ k d e is e_is. subst (λ l. IsReplaced k name text (d ++ l)) (sym e_is) (replaced d is))
 
 pub begun_anew : (a b c : Option Known) (name : List ℕ)
@@ -89,15 +90,20 @@ pub not_begun : (a : Option Known) (name : List ℕ) → Does a a (λ k d. IsBeg
 not_begun a name = does_none a (λ k d. IsBegun k name d) (λ k. cleared_only [] kept)
 
 -- What was found was cleared.
-pub clears : (a b : Option Known) (name : List ℕ) (found : Found)
-    → IfSome a (λ k. found ≡ kind_under k name)
-    → (cleared : List Deed) × IsCleared name found cleared × Adds a b cleared
-    → Does a b (λ k d. IsCleared name (kind_under k name) d)
-clears None None name found is c = tt
-clears None (Some b) name found is c = absurd c.2
-clears (Some a) None name found is c = absurd c.2
-clears (Some a) (Some b) name found is c = (c.0, c.2, subst (λ f. IsCleared name f c.0) is c.1)
+is_cleared : (name : List ℕ) (found : Found) → IsCleared name found (clearing name found)
+is_cleared name (found.File mode) = file mode
+is_cleared name found.Link = link
+is_cleared name found.Nothing = kept
+is_cleared name found.Directory = kept
+is_cleared name found.Special = kept
 
-pub not_cleared : (a : Option Known) (name : List ℕ)
-    → Does a a (λ k d. IsCleared name (kind_under k name) d)
-not_cleared a name = does_none a (λ k d. IsCleared name (kind_under k name) d) (λ k. kept)
+-- What is under the name was cleared, or it could not be looked at.
+pub clears : {X E : Type 0} (r : Result X E) (a b : Option Known) (name : List ℕ)
+    → OnOk r (DoesAll a b (clearing_now name)) → OnErr r (Adds a b [])
+    → Does a b (λ k d. IsCleared name (kind_under k name) d)
+clears (Ok x) None None name all none = tt
+clears (Ok x) None (Some b) name all none = absurd all
+clears (Ok x) (Some a) None name all none = absurd all
+clears (Ok x) (Some a) (Some b) name all none =
+    (all.0, all.1, subst (λ d. IsCleared name (kind_under a name) d) (sym all.2) (is_cleared name (kind_under a name)))
+clears (Err e) a b name all none = does a b [] (λ k d. IsCleared name (kind_under k name) d) none (λ k. kept)

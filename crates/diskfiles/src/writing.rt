@@ -1,13 +1,13 @@
 //! Writing whole texts.
 
-ghost use Rattle.std.specs.Prelude.{◌≡◌, ◌⊎◌, ℕ, List, [], ◌∷◌, IfOk, OnOk, OnErr, None, string_bytes};
-ghost use Rattle.disk.specs.Known.{Deed, Adds, Does, Made, Filled, Failed, Renamed, Removed, kind_under};
+ghost use Rattle.std.specs.Prelude.{◌≡◌, ◌⊎◌, ℕ, [], ◌∷◌, IfOk, OnOk, OnErr, None, string_bytes};
+ghost use Rattle.disk.specs.Known.{Adds, Does, Made, Filled, Failed, Renamed, Removed};
 ghost use Rattle.diskfiles.specs.Names.{IsFileName, temporary};
 ghost use Rattle.diskfiles.specs.Steps as meant;
-ghost use Rattle.diskfiles.specs.Steps.{writing, IsMode, IsWritten, IsUndone, IsReplaced, IsBegun, IsCleared};
+ghost use Rattle.diskfiles.specs.Steps.{writing, IsMode, IsWritten, IsUndone, IsReplaced, IsBegun};
 
 use crate::names::{file_name, no_name, temporary};
-use disk::{Disk, Found, not_regular};
+use disk::{Disk, Found, clear, create_filled, not_regular};
 use std::alloc::Global;
 use std::io::{self, ErrorKind};
 
@@ -163,32 +163,6 @@ pub fn write_text<D: Disk>(
     replace(alloc, disk, path, mode, text)
 }
 
-/// Removes a regular file or a link of this name, and nothing else. That it can't be removed is not
-/// reported.
-fn clear<D: Disk>(disk: &mut D, name: &str)
-    ensures { Does (D.known disk.old) (D.known disk.new)
-        (λ k deeds. IsCleared name.now (kind_under k name.now) deeds) }
-{
-    match disk.look(name) {
-        Ok(found) => clear_found(disk, name, found),
-        Err(_) => {}
-    }
-}
-
-/// Removes what is found under this name, if it is a regular file or a link.
-fn clear_found<D: Disk>(disk: &mut D, name: &str, found: Found)
-    ensures { (cleared : List Deed) × IsCleared name.now found cleared × Adds (D.known disk.old)
-        (D.known disk.new) cleared }
-{
-    match found {
-        Found::File(_) => disk.remove(name),
-        Found::Link => disk.remove(name),
-        Found::Nothing => {}
-        Found::Directory => {}
-        Found::Special => {}
-    }
-}
-
 /// Writes a text to a new file of this name. A regular file or a link of this name is removed
 /// first. So nothing is written through a link, and a pipe or a device is not opened. A new file is
 /// also faster: ext4 writes one that was truncated to the disk when it is closed.
@@ -207,23 +181,9 @@ pub(crate) fn write_new<D: Disk>(disk: &mut D, name: &[u8], text: &[u8]) -> io::
 {
     match file_name(name) {
         Some(path) => {
-            clear(disk, path);
+            let _ = clear(disk, path);
             create_filled(disk, path, text)
         }
         None => Err(no_name()),
-    }
-}
-
-/// Makes a new file and writes a text to it.
-fn create_filled<D: Disk>(disk: &mut D, name: &str, text: &[u8]) -> io::Result<()>
-    ensures done { OnOk result
-        (Adds (D.known disk.old) (D.known disk.new)
-        (Made name.now ∷ Filled name.now None text.now ∷ [])) }
-    ensures failed { OnErr result (Adds (D.known disk.old) (D.known disk.new) []
-        ⊎ Adds (D.known disk.old) (D.known disk.new) (Made name.now ∷ Failed name.now ∷ [])) }
-{
-    match disk.create(name) {
-        Ok(file) => disk.fill(name, file, None, text),
-        Err(e) => Err(e),
     }
 }

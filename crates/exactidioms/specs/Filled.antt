@@ -1,11 +1,14 @@
 -- An idiom with the arguments of a call. A place of an idiom is `$`, a digit from 1 to 9, perhaps `!`, and a word in
 -- braces. The digit counts arguments.
-use Rattle.std.specs.Prelude.{ℕ, ◌-◌, ◌&&◌, ◌||◌, nat_le, Bool, true, false, List, [], ◌∷◌, ◌++◌, slice_get, Option, Some, None, codes, if◌then◌else◌}
+use Rattle.std.specs.Prelude.{ℕ, List, [], ◌∷◌, ◌++◌, slice_get, Option, Some, None, option_map}
 use Rattle.std.specs.List.{flat_map}
-use Rattle.std.specs.Str.{bytes_eq}
 use Rattle.textcut.specs.Cuts.{parts, trimmed}
-use Rattle.macrotable.specs.Around.{around}
+use Rattle.macrotable.specs.Places as places
 use Rattle.macrotable.specs.Values.{unquoted}
+use Rattle.macrotable.specs.declared.place.Form.{Form}
+use Rattle.macrotable.specs.declared.place.Form.TheVariants.{AsItIs, OneWord, ShellName, Symbol, Front, Rest}
+use Rattle.macrotable.specs.declared.place.Source.{Source}
+use Rattle.macrotable.specs.declared.place.Source.TheVariants.{Argument, All}
 use Rattle.exactidioms.specs.declared.filling.Place.{Place as Cut}
 
 -- A place by the index of its argument, counted from 0, and the text after it. (own)
@@ -17,30 +20,28 @@ pub record Place : Type 0 where
 abbrev pub seen : Cut → Place
 seen p = record { index = p.index; rest = p.rest.now }
 
--- The index that a digit stands for. (own)
-abbrev pub index_of : ℕ → Option ℕ
-index_of b = if nat_le 49 b && nat_le b 57 then Some (b - 49) else None
+-- The index of the argument that is put there as it is, or if it is one word. Nothing else is put in a place. (own)
+abbrev pub index_of : Source → Form → Option ℕ
+index_of (Argument index) AsItIs = Some index
+index_of (Argument index) OneWord = Some index
+index_of (Argument index) ShellName = None
+index_of (Argument index) Symbol = None
+index_of (Argument index) Front = None
+index_of (Argument index) Rest = None
+index_of All form = None
 
--- What is between the digit and the brace is nothing, or `!`, which asks for one word. (own)
-abbrev pub is_sign : List ℕ → Bool
-is_sign s = bytes_eq s (codes "") || bytes_eq s (codes "!")
+-- The place of this index before a text. (own)
+abbrev pub before : List ℕ → Option ℕ → Option Place
+before rest index = option_map (λ i. record { index = i; rest = rest }) index
 
--- A place with the index, and around a closing brace its word and the rest. (own)
-abbrev pub place_with : ℕ → Bool → Option (List ℕ × List ℕ) → Option Place
-place_with index true (Some (word, rest)) = Some (record { index = index; rest = rest })
-place_with index true None = None
-place_with index false more = None
-
--- A place with the index, and around an opening brace its sign and the text after it. (own)
-abbrev pub place_from : Option ℕ → Option (List ℕ × List ℕ) → Option Place
-place_from (Some index) (Some (sign, more)) = place_with index (is_sign sign) (around 125 more)
-place_from (Some index) None = None
-place_from None more = None
+-- The place, if an argument is put there. (own)
+abbrev pub taken : Option places.Place → Option Place
+taken (Some p) = before p.rest (index_of p.source p.form)
+taken None = None
 
 -- The place that a text after a `$` begins with. (own)
 abbrev pub place_of : List ℕ → Option Place
-place_of [] = None
-place_of (b ∷ more) = place_from (index_of b) (around 123 more)
+place_of text = taken (places.place_of text)
 
 -- An argument without the blanks around it and the pair of brackets around that; nothing for one that isn't given.
 -- (own)

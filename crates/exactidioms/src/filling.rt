@@ -1,12 +1,12 @@
 //! An idiom with the arguments of a call.
 
-ghost use Rattle.std.specs.Prelude.{◌≡◌, ◌==◌, ◌<◌, ◌++◌, map, length, position, option_map, slice_get, bytes_eq, IfOk, IfSome, IsTrue};
+ghost use Rattle.std.specs.Prelude.{◌≡◌, ◌++◌, map, option_map, slice_get, IfOk, IfSome, IsTrue};
 ghost use Rattle.std.specs.List.{flat_map};
-ghost use Rattle.macrotable.specs.Around.{around};
 ghost use Rattle.macrotable.specs.Values.{unquoted};
 ghost use Rattle.textcut.specs.Cuts.{trimmed};
 ghost use Rattle.exactidioms.specs.Filled as specs;
 
+use macrotable::{Form, Source};
 use std::alloc::{AllocError, Global};
 use textcut::{parts, trim};
 use textpieces::is_word_byte;
@@ -105,72 +105,34 @@ struct Place<'a> {
     rest: &'a [u8],
 }
 
-/// Returns the offset of the first such byte.
-fn offset_of(text: &[u8], byte: u8) -> Option<usize>
-    ensures value { result ≡ position (λ b. b == byte) text.now }
-    ensures within { IfSome result (λ i. i < length text.now) }
+/// Returns the index of the argument that is put in a place as it is, or if it is one word.
+fn index_of(source: Source, form: Form) -> Option<usize>
+    ensures { result ≡ specs.index_of source form }
 {
-    text.iter().position(|it| *it == byte)
-}
-
-/// Returns the text before the first such byte, and the text after it.
-fn cut(text: &[u8], byte: u8) -> Option<(&[u8], &[u8])>
-    ensures { option_map (λ p. (p.0.now, p.1.now)) result ≡ around byte text.now }
-{
-    match offset_of(text, byte) {
-        Some(i) => Some((&text[..i], &text[i + 1..])),
-        None => None,
-    }
-}
-
-/// Returns the index that a digit stands for.
-fn index_of(byte: u8) -> Option<usize>
-    ensures { result ≡ specs.index_of byte }
-{
-    if b'1' <= byte && byte <= b'9' {
-        Some((byte - b'1') as usize)
-    } else {
-        None
-    }
-}
-
-/// Returns whether the text is the one that is wanted.
-fn is(text: &[u8], wanted: &[u8]) -> bool
-    ensures { result ≡ bytes_eq text.now wanted.now }
-{
-    text == wanted
-}
-
-/// Returns whether nothing or `!` is between the digit of a place and its brace.
-fn is_sign(sign: &[u8]) -> bool
-    ensures { result ≡ specs.is_sign sign.now }
-{
-    is(sign, b"") || is(sign, b"!")
-}
-
-/// Returns the place that begins after the digit for this index.
-fn place_from(index: usize, text: &[u8]) -> Option<Place<'_>>
-    ensures { option_map specs.seen result ≡ specs.place_from (Some index) (around 123 text.now) }
-{
-    let (sign, more) = cut(text, b'{')?;
-    if !is_sign(sign) {
+    let Source::Argument(index) = source else {
         return None;
+    };
+    match form {
+        Form::AsItIs => Some(index),
+        Form::OneWord => Some(index),
+        Form::ShellName => None,
+        Form::Symbol => None,
+        Form::Front => None,
+        Form::Rest => None,
     }
-    let (_word, rest) = cut(more, b'}')?;
-    Some(Place {
-        index,
-        is_word: !sign.is_empty(),
-        rest,
-    })
 }
 
 /// Returns the place that a text after a `$` begins with.
 fn place_of(text: &[u8]) -> Option<Place<'_>>
     ensures { option_map specs.seen result ≡ specs.place_of text.now }
 {
-    let (byte, more) = text.split_first()?;
-    let index = index_of(*byte)?;
-    place_from(index, more)
+    let place = macrotable::place_of(text)?;
+    let index = index_of(place.source, place.form)?;
+    Some(Place {
+        index,
+        is_word: matches!(place.form, Form::OneWord),
+        rest: place.rest,
+    })
 }
 
 /// Returns the text for a place, if the argument can be put there.
@@ -257,24 +219,6 @@ fn put_next(
     put_line(alloc, out, line, args)
 }
 
-/// Appends further lines of an idiom. Returns whether each argument could be put there.
-fn put_more(
-    alloc: Global,
-    out: &mut Vec<u8>,
-    texts: &[&[u8]],
-    args: &[&[u8]],
-    indent: &[u8],
-) -> Result<bool, AllocError>
-    ensures { IfOk result (λ b. IsTrue b → out.new.items ≡ out.old.items ++ flat_map (specs.filled_next (map (λ a. a.now) args.now) indent.now) (map (λ t. t.now) texts.now)) }
-{
-    for text in texts {
-        if !put_next(alloc, out, text, args, indent)? {
-            return Ok(false);
-        }
-    }
-    Ok(true)
-}
-
 /// Appends the lines of an idiom. Returns whether each argument could be put there.
 fn put_lines(
     alloc: Global,
@@ -291,7 +235,12 @@ fn put_lines(
     if !put_line(alloc, out, first, args)? {
         return Ok(false);
     }
-    put_more(alloc, out, more, args, indent)
+    for text in more {
+        if !put_next(alloc, out, text, args, indent)? {
+            return Ok(false);
+        }
+    }
+    Ok(true)
 }
 
 /// Returns an idiom with the arguments in their places and the indent at the front of each line but the first, or `None` if one can't

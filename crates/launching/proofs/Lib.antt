@@ -1,1 +1,2 @@
 pub mod ChildLemmas
+mod Spoilt

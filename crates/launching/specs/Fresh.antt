@@ -1,20 +1,7 @@
 -- What is done to files when a conftest is written.
 use Rattle.std.specs.Prelude.{◌≡◌, ℕ, List, [], ◌∷◌, ◌++◌, Option, Some, None}
-use Rattle.disk.specs.Known.{Known, Deed, Made, Filled, Failed, Removed, Does, kind_under, with_deeds}
-use Rattle.disk.specs.declared.found.Found.{Found}
-use Rattle.disk.specs.declared.found.Found.TheVariants as found
-
--- What is removed under a name: a regular file or a link, and nothing else. (own)
-abbrev pub clearing : List ℕ → Found → List Deed
-clearing name (found.File mode) = Removed name ∷ []
-clearing name found.Link = Removed name ∷ []
-clearing name found.Nothing = []
-clearing name found.Directory = []
-clearing name found.Special = []
-
--- What is removed of what is under a name now. (own)
-abbrev pub clearing_now : List ℕ → Known → List Deed
-clearing_now name k = clearing name (kind_under k name)
+use Rattle.disk.specs.Known.{Known, Deed, Made, Failed, Does, with_deeds}
+use Rattle.disk.specs.Clearing.{clearing_now, filling}
 
 -- What is removed of the file that is stale, if there is one. (own)
 abbrev pub clearing_stale : Option (List ℕ) → Known → List Deed
@@ -24,10 +11,6 @@ clearing_stale (Some name) k = clearing_now name k
 -- The deeds of one step, and then those of another, which depend on what is known by then. (own)
 abbrev pub after : (Known → List Deed) → (Known → List Deed) → Known → List Deed
 after first second k = first k ++ second (with_deeds k (first k))
-
--- A new file is made, and gets this whole text. (own)
-abbrev pub filling : List ℕ → List ℕ → Known → List Deed
-filling name text k = Made name ∷ Filled name None text ∷ []
 
 -- A new file is made, and does not get all of its text. (own)
 abbrev pub tearing : List ℕ → Known → List Deed
@@ -40,10 +23,6 @@ replacing name text = after (clearing_now name) (filling name text)
 -- The same, if the new file does not get all of its text. (own)
 abbrev pub spoiling : List ℕ → Known → List Deed
 spoiling name = after (clearing_now name) (tearing name)
-
--- If something is known, exactly these deeds are done. (own)
-abbrev pub DoesAll : Option Known → Option Known → (Known → List Deed) → Type 0
-DoesAll old new deeds = Does old new (λ k done. done ≡ deeds k)
 
 -- If something is known, some of these deeds are done, from the first on. (own)
 abbrev pub DoesFront : Option Known → Option Known → (Known → List Deed) → Type 0

@@ -2,11 +2,12 @@
 
 ghost use Rattle.std.specs.Prelude.{◌≡◌, [], ◌∷◌, None, Option, List, OnOk, OnErr, option_map};
 ghost use Rattle.std.specs.Process.{command_args, command_program};
-ghost use Rattle.launching.specs.Fresh.{DoesAll, DoesFront, after, clearing_stale, replacing, spoiling};
+ghost use Rattle.disk.specs.Clearing.{DoesAll};
+ghost use Rattle.launching.specs.Fresh.{DoesFront, after, clearing_stale, replacing, spoiling};
 ghost use Rattle.launching.specs.Launch.{Adds, Call, Failed, Spawned, Wrote};
 
-use crate::fresh::{clear, write_fresh};
-use disk::Disk;
+use crate::fresh::write_fresh;
+use disk::{Disk, clear};
 use std::io;
 use std::marker::Model;
 use std::process::{Child, Command, OpenProcess, Processes, Stdio};

@@ -27,5 +27,5 @@ mod text;
 pub use entry::{Entry, Kind};
 pub use filling::fill;
 pub use index::Index;
-pub use place::{Form, Source};
+pub use place::{Form, Place, Source, place_of};
 pub use text::TABLE;

@@ -34,7 +34,7 @@ pub enum Form {
 
 /// A place, and the text after it.
 #[derive(Clone, Copy)]
-pub(crate) struct Place<'a> {
+pub struct Place<'a> {
     pub source: Source,
     pub form: Form,
     /// What is written if the argument isn't plain, or can't have the form.
@@ -92,7 +92,7 @@ fn place_from(source: Source, text: &[u8]) -> Option<Place<'_>>
 }
 
 /// Returns the place that a text after a `$` begins with.
-pub(crate) fn place_of(text: &[u8]) -> Option<Place<'_>>
+pub fn place_of(text: &[u8]) -> Option<Place<'_>>
     ensures { option_map words.seen result ≡ words.place_of text.now }
 {
     let (byte, more) = text.split_first()?;

@@ -14,19 +14,19 @@ next-slot-requires-clause-flying g c =
 
 pub invariant_of-self : goal.invariant_of-self
 invariant_of-self g c =
-    let due : is_due End c.self.inside.kind c.self.inside.left ≡ true = sym c.is_due.ensures.due ∙ c.if-is_due.true in
+    let due : is_due End c.self.inside.kind c.self.inside.left ≡ true = sym c.is_due.ensures.value ∙ c.if-is_due.true in
     let spent : IsSpent (Some 0) c.is_due.new.left = subst (IsSpent (Some 0)) (sym c.is_due.ensures.left) (spent_due End c.self.inside.kind c.self.inside.left due) in
     counted_ended c.self.inside.left c.is_due.new.left c.self.inside.later (Some 0) (g.C.Crew.account c.self.inside.inner) (g.C.Crew.account c.next-slot.new.self) c.next-slot.result.0 c.next-slot.result.1 _ c.self.invariant spent (omega arith) c.next-slot.ensures.was_busy c.next-slot.ensures.ended c.next-slot.ensures.number
 
 pub returns-then-is_due-clause-ended : goal.returns-then-is_due-clause-ended
 returns-then-is_due-clause-ended g c =
-    let due : is_due End c.self.inside.kind c.self.inside.left ≡ true = sym c.is_due.ensures.due ∙ c.if-is_due.true in
+    let due : is_due End c.self.inside.kind c.self.inside.left ≡ true = sym c.is_due.ensures.value ∙ c.if-is_due.true in
     end_events c.self.inside.kind c.self.inside.left c.self.inside.later (g.C.Crew.account c.self.inside.inner) (g.C.Crew.account c.next-slot.new.self) c.next-slot.result.0 c.next-slot.result.1 due c.self.invariant.spent c.next-slot.ensures.ended
     ∙ ap (λ f. (account_of g.C.Crew.account f).events ++ Ended c.next-slot.result.0 EndRefused (account_of g.C.Crew.account f).attempts ∷ []) c.self.view_is
 
 pub returns-then-is_due-clause-count : goal.returns-then-is_due-clause-count
 returns-then-is_due-clause-count g c =
-    let due : is_due End c.self.inside.kind c.self.inside.left ≡ true = sym c.is_due.ensures.due ∙ c.if-is_due.true in
+    let due : is_due End c.self.inside.kind c.self.inside.left ≡ true = sym c.is_due.ensures.value ∙ c.if-is_due.true in
     end_failures c.self.inside.kind c.self.inside.left c.self.inside.later (g.C.Crew.account c.self.inside.inner) (g.C.Crew.account c.next-slot.new.self) c.next-slot.result.0 c.next-slot.result.1 due c.self.invariant.spent c.next-slot.ensures.ended c.next-slot.ensures.count
     ∙ ap (λ f. (account_of g.C.Crew.account f).failures + 1) c.self.view_is
 
