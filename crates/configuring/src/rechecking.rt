@@ -1,6 +1,6 @@
 //! The command that runs a configure.ac again with the arguments of its record.
 
-ghost use Rattle.std.specs.Prelude.{◌≡◌, false, ◌≢◌, ℕ, List, Some, IfOk, codes};
+ghost use Rattle.std.specs.Prelude.{◌≡◌, false, ◌≢◌, ℕ, List, Some, codes};
 ghost use Rattle.std.specs.Io.KnownBytes.{Appends};
 ghost use Rattle.configuring.specs.Configures.{IsRechecked};
 ghost use Rattle.crew_trait.specs.Events.{IsIdle};
@@ -19,7 +19,7 @@ use diskfiles::{FileOutputs, read_text};
 use explaining::Why;
 use framing::recheck_args;
 use invocation::tell_memory;
-use std::alloc::{AllocError, Global};
+use std::alloc::Global;
 use std::io::Write;
 
 /// Returns what the faults of a record with this text are explained by.
@@ -74,35 +74,6 @@ fn run_again<D: Disk, C: Crew + Causes, W: Write, E: Write>(
     }
 }
 
-/// Reads the record, runs its configure.ac again, and returns the exit status.
-fn run_record<D: Disk, C: Crew + Causes, W: Write, E: Write>(
-    alloc: Global,
-    outputs: &mut FileOutputs<D>,
-    is_asked: bool,
-    env: &[(Bytes, Bytes)],
-    crew: &mut C,
-    output: &mut W,
-    errors: &mut E,
-) -> Result<u8, AllocError>
-    requires may_run { MayRun (C.account crew.old) }
-    requires fresh { outputs.old ≡ fresh outputs.old.disk }
-    ensures idle { IsIdle (C.account crew.new).events }
-    ensures run { IfOk result (λ status. status ≢ 2 → (out : List ℕ) × (said : List (List ℕ))
-        × IsRechecked env.now (C.account crew.old) (C.account crew.new)
-        (D.known outputs.old.disk) (D.known outputs.new.disk) out said status
-        × Appends (W.contents output.old) (W.contents output.new) out
-        × (is_asked ≡ false → AreTold (E.contents errors.old) (E.contents errors.new) said)) }
-{
-    match read_text(alloc, outputs.disk(), RECORD)? {
-        Some(text) => {
-            let text = text.as_slice();
-            let status = run_again(alloc, outputs, is_asked, text, env, crew, output, errors);
-            Ok(status)
-        }
-        None => Ok(tell_unread(alloc, outputs.disk(), is_asked, RECORD, errors)),
-    }
-}
-
 /// Runs the configure.ac again with the arguments of the record in the current directory, and then `--no-create`, and returns the
 /// exit status.
 ///
@@ -127,8 +98,13 @@ pub fn run_recheck<D: Disk, C: Crew + Causes, W: Write, E: Write>(
         × Appends (W.contents output.old) (W.contents output.new) out
         × (is_asked ≡ false → AreTold (E.contents errors.old) (E.contents errors.new) said) }
 {
-    match run_record(alloc, outputs, is_asked, env, crew, output, errors) {
-        Ok(status) => status,
+    match read_text(alloc, outputs.disk(), RECORD) {
+        Ok(Some(text)) => {
+            let text = text.as_slice();
+            let status = run_again(alloc, outputs, is_asked, text, env, crew, output, errors);
+            status
+        }
+        Ok(None) => tell_unread(alloc, outputs.disk(), is_asked, RECORD, errors),
         Err(_) => tell_memory(errors),
     }
 }

@@ -1,6 +1,6 @@
 //! The command that runs a configure.ac.
 
-ghost use Rattle.std.specs.Prelude.{◌≡◌, false, ◌≢◌, ℕ, List, IfOk, option_copied};
+ghost use Rattle.std.specs.Prelude.{◌≡◌, false, ◌≢◌, ℕ, List, option_copied};
 ghost use Rattle.std.specs.Io.KnownBytes.{Appends};
 ghost use Rattle.configuring.specs.Configures.{IsConfigured, ReadsSource};
 ghost use Rattle.crew_trait.specs.Events.{IsIdle};
@@ -20,7 +20,7 @@ use engine::configure;
 use explaining::Why;
 use invocation::{Supplies, keep_inputs, read_supplies, tell_memory};
 use options::srcdir_of;
-use std::alloc::{AllocError, Global};
+use std::alloc::Global;
 use std::io::Write;
 
 /// Returns the text of the cache, if there is one.
@@ -86,22 +86,24 @@ fn run_text<D: Disk, C: Crew + Causes, W: Write, E: Write>(
     crew: &mut C,
     output: &mut W,
     errors: &mut E,
-) -> Result<u8, AllocError>
+) -> u8
     requires window { IsWindow window }
     requires may_run { MayRun (C.account crew.old) }
     requires source { ReadsSource (D.known outputs.old.disk) why.now.args.now why.now.text.now }
     requires fresh { outputs.old ≡ fresh outputs.old.disk }
     ensures idle { IsIdle (C.account crew.new).events }
-    ensures run { IfOk result (λ status. status ≢ 2 → (out : List ℕ) × (said : List (List ℕ))
+    ensures run { result ≢ 2 → (out : List ℕ) × (said : List (List ℕ))
         × IsConfigured window why.now.args.now env.now (C.account crew.old) (C.account crew.new)
-        (D.known outputs.old.disk) (D.known outputs.new.disk) out said status
+        (D.known outputs.old.disk) (D.known outputs.new.disk) out said result
         × Appends (W.contents output.old) (W.contents output.new) out
-        × (why.now.is_asked ≡ false → AreTold (E.contents errors.old) (E.contents errors.new) said)) }
+        × (why.now.is_asked ≡ false → AreTold (E.contents errors.old) (E.contents errors.new) said) }
 {
-    let supplies = read_supplies(alloc, outputs.disk(), why.text, why.args, env)?;
-    Ok(run_supplied(
-        alloc, outputs, window, why, env, &supplies, crew, output, errors,
-    ))
+    match read_supplies(alloc, outputs.disk(), why.text, why.args, env) {
+        Ok(supplies) => run_supplied(
+            alloc, outputs, window, why, env, &supplies, crew, output, errors,
+        ),
+        Err(_) => tell_memory(errors),
+    }
 }
 
 /// Returns what the faults of a run with these arguments and this environment are explained by.
@@ -123,38 +125,6 @@ fn why_of<'a>(
         text,
         args,
         env,
-    }
-}
-
-/// Reads the source that the arguments name, runs it, and returns the exit status.
-fn run_source<D: Disk, C: Crew + Causes, W: Write, E: Write>(
-    alloc: Global,
-    outputs: &mut FileOutputs<D>,
-    is_asked: bool,
-    window: usize,
-    args: &[Bytes],
-    env: &[(Bytes, Bytes)],
-    crew: &mut C,
-    output: &mut W,
-    errors: &mut E,
-) -> Result<u8, AllocError>
-    requires window { IsWindow window }
-    requires may_run { MayRun (C.account crew.old) }
-    requires fresh { outputs.old ≡ fresh outputs.old.disk }
-    ensures idle { IsIdle (C.account crew.new).events }
-    ensures run { IfOk result (λ status. status ≢ 2 → (out : List ℕ) × (said : List (List ℕ))
-        × IsConfigured window args.now env.now (C.account crew.old) (C.account crew.new)
-        (D.known outputs.old.disk) (D.known outputs.new.disk) out said status
-        × Appends (W.contents output.old) (W.contents output.new) out
-        × (is_asked ≡ false → AreTold (E.contents errors.old) (E.contents errors.new) said)) }
-{
-    let path = path_in(alloc, srcdir_of(args), b"configure.ac")?;
-    match read_limited(alloc, outputs.disk(), path.as_slice())? {
-        Some(text) => {
-            let why = why_of(is_asked, path.as_slice(), text.as_slice(), args, env);
-            run_text(alloc, outputs, window, &why, env, crew, output, errors)
-        }
-        None => Ok(tell_unread(alloc, outputs.disk(), is_asked, path.as_slice(), errors)),
     }
 }
 
@@ -184,10 +154,16 @@ pub fn run_configure<D: Disk, C: Crew + Causes, W: Write, E: Write>(
         × Appends (W.contents output.old) (W.contents output.new) out
         × (is_asked ≡ false → AreTold (E.contents errors.old) (E.contents errors.new) said) }
 {
-    match run_source(
-        alloc, outputs, is_asked, window, args, env, crew, output, errors,
-    ) {
-        Ok(status) => status,
+    let Ok(path) = path_in(alloc, srcdir_of(args), b"configure.ac") else {
+        return tell_memory(errors);
+    };
+    let path = path.as_slice();
+    match read_limited(alloc, outputs.disk(), path) {
+        Ok(Some(text)) => {
+            let why = why_of(is_asked, path, text.as_slice(), args, env);
+            run_text(alloc, outputs, window, &why, env, crew, output, errors)
+        }
+        Ok(None) => tell_unread(alloc, outputs.disk(), is_asked, path, errors),
         Err(_) => tell_memory(errors),
     }
 }

@@ -44,32 +44,23 @@ fn show_matches<W: Write>(
     Ok(is_found)
 }
 
-/// Shows the checks that are nearest to the word.
+/// Shows the checks that are nearest to the word, unless those that it is about were found, and
+/// returns the exit status.
 fn show_nearest<W: Write>(
     alloc: Global,
     checks: &[Check<'_>],
     word: &[u8],
-    output: &mut W,
-) -> io::Result<()> {
-    let mut out = Vec::new(alloc);
-    put_nearest(alloc, &mut out, word, checks)?;
-    output.write_all(out.as_slice())
-}
-
-/// Shows the checks that the word is about, or else the nearest ones, and returns the exit status.
-fn show_checks<W: Write>(
-    alloc: Global,
-    lines: &[Line<'_>],
-    checks: &[Check<'_>],
-    word: &[u8],
+    is_found: bool,
     output: &mut W,
 ) -> io::Result<u8>
     ensures { IfOk result (λ status. status ≤ 1) }
 {
-    if show_matches(alloc, lines, checks, word, output)? {
+    if is_found {
         return Ok(FOUND);
     }
-    show_nearest(alloc, checks, word, output)?;
+    let mut out = Vec::new(alloc);
+    put_nearest(alloc, &mut out, word, checks)?;
+    output.write_all(out.as_slice())?;
     Ok(NONE)
 }
 
@@ -80,8 +71,9 @@ fn has_message(lines: &[Line<'_>]) -> bool {
         .any(|line| line.text.starts_with(b"configure: "))
 }
 
-/// Shows what the word is about in the lines of a log, and returns the exit status, or `None` if the lines are those of no log: none
-/// begins a check, and none is an error, a warning or a notice.
+/// Shows the checks of a log that the word is about, or else the nearest ones, and returns the exit
+/// status, or `None` if the lines are those of no log: none begins a check, and none is an error, a
+/// warning or a notice.
 fn show_lines<W: Write>(
     alloc: Global,
     lines: &[Line<'_>],
@@ -94,7 +86,9 @@ fn show_lines<W: Write>(
     if checks.is_empty() && !has_message(lines) {
         return Ok(None);
     }
-    Ok(Some(show_checks(alloc, lines, checks.as_slice(), word, output)?))
+    let checks = checks.as_slice();
+    let is_found = show_matches(alloc, lines, checks, word, output)?;
+    Ok(Some(show_nearest(alloc, checks, word, is_found, output)?))
 }
 
 /// Shows what the word is about in a text, and returns the exit status, or `None` if the text is no log.
