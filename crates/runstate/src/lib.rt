@@ -10,9 +10,10 @@
 //!
 //! `store` holds all but the subject, and contracts see it as a state of the meaning. `pieces` prints messages. `scope`
 //! is the subject of a choice. `open_tests` has the tests that are not at their end. `package` and `literal` are for
-//! AC_INIT. The crate `machine` takes the steps.
+//! AC_INIT. `full_name` says which names are full. The crate `machine` takes the steps.
 #![tactic(auto)]
 
+mod full_name;
 mod literal;
 pub mod open_tests;
 pub mod package;

@@ -5,12 +5,13 @@ ghost use Rattle.deftable.specs.ShellName.{IsShellName};
 ghost use Rattle.deftable.specs.Table.{value_of};
 ghost use Rattle.shellword.specs.Truth.{truth};
 ghost use Rattle.shellword.specs.Value.{word_value};
-ghost use Rattle.meaning.specs.Meaning.{has_value, is_full_name, is_slash, is_unsettled, settled, starts_slash, with_prefixes};
+ghost use Rattle.meaning.specs.Meaning.{has_value, is_full_name, is_unsettled, settled, with_prefixes};
 ghost use Rattle.meaning.specs.Rows.{value_or_empty};
 ghost use Rattle.meaning.specs.State.{opened, told, with_child, with_definition, with_variable, without_variable};
 ghost use Rattle.meaning.specs.Tries.{text_of};
 ghost use Rattle.runstate.specs.Copies.{Copied};
 
+use crate::full_name::is_full_name;
 use crew_trait::{Entry, Log, Reply};
 use csource::program_source;
 use deftable::{Bytes, Defs, Note, Notes, Stream, Vars};
@@ -93,7 +94,7 @@ impl Store {
     ) -> Result<(), AllocError>
         ensures { OnOk result (self.new ≡ told stream (before.now ++ text.now ++ after.now) self.old) }
     {
-        let piece = joined(alloc, before, text, after)?;
+        let piece = Bytes::concat(alloc, &[before, text, after])?;
         self.put_piece(alloc, stream, piece)
     }
 
@@ -252,41 +253,5 @@ impl Store {
             log,
         } = self;
         (vars, defs, messages, log)
-    }
-}
-
-/// Returns a text between two others.
-pub fn joined(alloc: Global, before: &[u8], text: &[u8], after: &[u8]) -> Result<Bytes, AllocError>
-    ensures { IfOk result (λ t. t ≡ before.now ++ text.now ++ after.now) }
-{
-    let mut out = Vec::from_slice(alloc, before)?;
-    out.extend_from_slice(text)?;
-    out.extend_from_slice(after)?;
-    Ok(Bytes::from_vec(out))
-}
-
-fn is_slash(byte: u8) -> bool
-    ensures { result ≡ is_slash byte }
-{
-    byte == b'/' || byte == b'\\'
-}
-
-fn starts_slash(text: &[u8]) -> bool
-    ensures { result ≡ starts_slash text.now }
-{
-    match text {
-        [first, ..] => is_slash(*first),
-        [] => false,
-    }
-}
-
-/// Returns whether a text is a full name: it begins with a slash or a backslash, or with one byte, a colon and one of these.
-fn is_full_name(text: &[u8]) -> bool
-    ensures { result ≡ is_full_name text.now }
-{
-    match text {
-        [drive, colon, rest @ ..] => is_slash(*drive) || (*colon == b':' && starts_slash(rest)),
-        [only] => is_slash(*only),
-        [] => false,
     }
 }
