@@ -16,19 +16,19 @@ pub data ListKind : Type 0 where
   Nested : ListKind
   Commands : (name : List ℕ) (at : ℕ) → ListKind
 
--- The pure value of a list_kind. (own)
+-- The pure value of a list's kind. (own)
 abbrev pub list_kind_of : code.ListKind → ListKind
 list_kind_of code_list_kind.Top = Top
 list_kind_of code_list_kind.Nested = Nested
 list_kind_of (code_list_kind.Commands name at) = Commands name.now at
 
--- The list_kind is the file's own list. (own)
+-- The list is the file's own. (own)
 abbrev pub is_top : ListKind → Bool
 is_top Top = true
 is_top Nested = false
 is_top (Commands name at) = false
 
--- The list_kind of a case: in commands, a case is one of the commands. (own)
+-- The list of a case in this list: in commands, it is one of the commands. (own)
 abbrev pub of_case : ListKind → ListKind
 of_case Top = Nested
 of_case Nested = Nested
@@ -40,7 +40,7 @@ is_command (Choice m) = true
 is_command (Question (Tries kind)) = true
 is_command _ = false
 
--- The list_kind may hold a call of this macro. (own)
+-- The list may hold a call of this macro. (own)
 unfoldable pub may_hold : ListKind → Macro → Result (Unit {0}) ParseFault
 may_hold Top m = Ok tt
 may_hold Nested m = Ok tt

@@ -36,7 +36,7 @@ impl<'a> ListKind<'a> {
         }
     }
 
-    /// Returns the list_kind of a case in this list.
+    /// Returns the list of a case in this list.
     pub fn of_case(self) -> ListKind<'a>
         ensures { list_kind_of result ≡ list_kinds.of_case (list_kind_of self.entry) }
     {

@@ -45,7 +45,7 @@ use Rattle.acparse.specs.Source.{IsSource}
 use Rattle.acparse.specs.Statements.{Within, IsBare, before, ended, assignments, AreCases, no_more, default, pair, IsAction, absent, there, IsItem, bare_text, plain_call, choice, question, check, AreStatements, none, one, IsBody}
 use Rattle.acparse.proofs.Whole.{source_found}
 
--- The statements of a list_kind: commands, or statements with commands in them.
+-- The statements of the list: commands, or statements with commands in them.
 abbrev Held : ListKind → Script → Type 0
 Held Top s = HasCommands s
 Held Nested s = HasCommands s
@@ -56,7 +56,7 @@ HeldIn Top cases = HasCommandsIn cases
 HeldIn Nested cases = HasCommandsIn cases
 HeldIn (Commands n at) cases = AreCommandsIn n cases
 
--- Each statement argument of a list_kind has such statements.
+-- Each statement argument of the list has such statements.
 abbrev Holds : ListKind → Within → Type 0
 Holds list_kind Inside = (c : declarations.Declarations) (arg : Span) (s : Script) → Inside c arg s → Held list_kind s
 
@@ -153,7 +153,7 @@ action_held list_kind Inside holds when (there {c = c} {arg = arg} {body = body}
 
 -- ---- calls
 
--- The statements of a case are those of its list_kind.
+-- The statements of a case are those of its list.
 of_case_held : (list_kind : ListKind) (s : Script) → Held (of_case list_kind) s → Held list_kind s
 of_case_held Top s h = h
 of_case_held Nested s h = h

@@ -39,7 +39,7 @@ assigned (a ∷ more) = Then (Assign a.name a.value) (assigned more)
 abbrev pub set_alone : List ℕ → List Assignment → Bool
 set_alone name list = list_all (λ a. bytes_eq a.name name) list
 
--- The list_kind may hold these assignments: commands set their own name alone. (own)
+-- The list may hold these assignments: commands set their own name alone. (own)
 unfoldable pub may_assign : ListKind → List Assignment → Result (Unit {0}) ParseFault
 may_assign Top list = Ok tt
 may_assign Nested list = Ok tt
@@ -50,7 +50,7 @@ abbrev pub of_value : ℕ → Result (List ℕ) QuoteFault → Result (List Assi
 of_value at (Ok value) = bare_at at (statements_of value)
 of_value at (Err f) = Err (UnknownStatement at)
 
--- The assignments in bare text at an offset, if the list_kind may hold them. (own)
+-- The assignments in bare text at an offset, if the list may hold them. (own)
 unfoldable pub assigned_in : ListKind → ℕ → List ℕ → Result Script ParseFault
 assigned_in list_kind at text = do
   list ← of_value at (bare_value_of text)

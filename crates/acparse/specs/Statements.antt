@@ -44,7 +44,7 @@ use Rattle.acparse.specs.Profile.{when_of, subject_of, case_args, case_if, actio
 abbrev pub Within : Type 1
 Within = declarations.Declarations → Span → Script → Type 0
 
--- A call of the macro is a statement between what precedes it and the items after it, and the list_kind may hold it. (own)
+-- A call of the macro is a statement between what precedes it and the items after it, and the list may hold it. (own)
 pub record MayStand (list_kind : ListKind) (stage : Stage) (line_start : LineStart) (name : List ℕ) (args : List Span) (at : ℕ) (following : List Entry) (m : Macro) : Type 0 where
   pub row : Row
   pub known : row_named name ≡ Some row
@@ -54,7 +54,7 @@ pub record MayStand (list_kind : ListKind) (stage : Stage) (line_start : LineSta
   pub parted : is_statement line_start name args at following ≡ true
   pub held : may_hold list_kind m ≡ Ok tt
 
--- Bare text has these statements: the assignments in its value, which the list_kind may hold; before AC_INIT and after
+-- Bare text has these statements: the assignments in its value, which the list may hold; before AC_INIT and after
 -- AC_OUTPUT, none. (own)
 pub data IsBare (list_kind : ListKind) : Stage → List ℕ → Script → Type 0 where
   before : {text : List ℕ} → is_idle text ≡ true → IsBare list_kind Before text Done

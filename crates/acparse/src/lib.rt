@@ -5,8 +5,8 @@
 //!
 //! Read `bare` (text), then `asked` (questions and their cases), `read` (calls and lists of statements), and `source`, which has the theorem: unless memory
 //! runs out, `parse` returns a tree exactly if the source has one by `specs/Source.antt` and, item by item,
-//! `specs/Statements.antt`. A list of statements is read with its list_kind (`acmacros::list_kind`): the file's own list and the
-//! commands of AC_CACHE_CHECK differ from other lists in what they may hold.
+//! `specs/Statements.antt`. A list of statements is read with its kind (`acmacros::list_kind`): the file's
+//! own list and the commands of AC_CACHE_CHECK differ from other lists in what they may hold.
 //!
 //! `parse` also decides whether the source can be resumed (`testorder`), and `is_resumable` returns it. `forms` has a law on
 //! sources that were read, for the crates above.

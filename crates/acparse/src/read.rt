@@ -163,8 +163,8 @@ fn both(alloc: Global, first: Option<Case>, other: Option<Case>) -> Result<Vec<C
     with_last(one, other)
 }
 
-/// Reads the statements of a statement argument, whose list has this list_kind. Lists nest at most `room` deep in it, counting
-/// its own.
+/// Reads the statements of a statement argument, whose list is of this kind. Lists nest at most `room` deep in it,
+/// counting its own.
 #[cycle(list)]
 #[tactic(auto, unfolding(crate::specs::Profile::body_of))]
 fn read_body(
@@ -360,7 +360,7 @@ fn read_question(
     asked_with(alloc, question, cases, args)
 }
 
-/// Returns the list_kind of the commands in an argument, which set this name.
+/// Returns the list of the commands in an argument, which set this name.
 fn commands_in<'a>(name: &'a Name, arg: Arg<'_>) -> ListKind<'a>
     ensures { list_kind_of result ≡ list_kinds.Commands name.now (span arg.entry).at }
 {
