@@ -1,8 +1,10 @@
-//! Tests of what `acrun lint` and `acrun why` report.
+//! Tests of what `acrun lint` and `acrun why` report, and of how text is shown.
 //!
 //! `calls` has which calls are found in a source, `errors` which errors, and `shows` what is shown of them. `log_lines`
 //! has what each line of a log is, and `whys` the command why over files: no contract says what it prints, so a row
-//! compares the exit status and both streams. Each test is a table of rows, in the form that the crate `testrows` reads.
+//! compares the exit status and both streams. Each of these tests is a table of rows, in the form that the crate `testrows`
+//! reads. `offsets` has the places of offsets in a text, `terminal` a text as a terminal is given it, and `last_line` the last
+//! line of a run on a terminal.
 #![tactic(auto)]
 
 #[cfg(test)]
@@ -10,8 +12,14 @@ mod calls;
 #[cfg(test)]
 mod errors;
 #[cfg(test)]
+mod last_line;
+#[cfg(test)]
 mod log_lines;
 #[cfg(test)]
+mod offsets;
+#[cfg(test)]
 mod shows;
+#[cfg(test)]
+mod terminal;
 #[cfg(test)]
 mod whys;

@@ -17,8 +17,6 @@
 mod awaited;
 mod escaping;
 mod stream;
-#[cfg(test)]
-mod tests;
 
 pub use escaping::escape;
 pub use stream::Shown;

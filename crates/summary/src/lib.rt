@@ -19,8 +19,6 @@ mod children;
 mod counted;
 mod line;
 mod tally;
-#[cfg(test)]
-mod tests;
 
 pub use children::Children;
 pub use counted::Counted;

@@ -1,9 +1,8 @@
 //! Texts whose checks are counted, and their lines.
 
-use crate::counted::Counted;
-use crate::line::put_summary;
 use std::io::Write;
 use std::test::Fail;
+use summary::{Counted, put_summary};
 
 /// Texts that are written one after the other. Checks are cut between two texts, at their front and in the mark.
 const TEXTS: [&[u8]; 5] = [

@@ -1,6 +1,6 @@
 //! Texts as a terminal is given them.
 
-use crate::stream::Shown;
+use shown::Shown;
 use std::io::Write;
 use std::test::Fail;
 
