@@ -12,6 +12,7 @@ import shutil
 import subprocess
 import sys
 
+import lint_codes
 import macro_table
 import places
 
@@ -178,6 +179,11 @@ def macros_that_do_not_agree():
     yield from macro_table.differences()
 
 
+def codes_that_do_not_agree():
+    """docs/running.md or share/acrun.1 lists other codes of findings than the sources have."""
+    yield from lint_codes.differences()
+
+
 def manual_page_faults():
     """A formatter of manual pages complains of share/acrun.1; nothing if there is none. Or the page, or the texts of the help, have
     another version."""
@@ -212,6 +218,7 @@ CHECKS = [
     edits_over_the_budget,
     broken_links,
     macros_that_do_not_agree,
+    codes_that_do_not_agree,
     manual_page_faults,
     picture_is_old,
 ]

@@ -12,8 +12,9 @@ import re
 import sys
 
 WIDTH = 116
-# From such a line on, a script writes the document.
+# From such a line on, a script writes the document, up to the line that ends it if there is one.
 WRITTEN = ("<!-- tools/", "## Macros that are not read")
+END = "<!-- up to here -->"
 KEPT = re.compile(r"#|\s*\||    |\t|<|!\[|$")
 MARK = re.compile(r"> |(?:  )?(?:- |\d+\. )|")
 
@@ -40,7 +41,11 @@ def wrapped(text):
     lines, made, is_code = text.split("\n"), [], False
     while lines:
         if lines[0].startswith(WRITTEN):
-            return "\n".join([*made, *lines])
+            length = lines.index(END) if END in lines else len(lines)
+            made += lines[:length]
+            lines = lines[length:]
+            if not lines:
+                break
         if lines[0].startswith("```"):
             is_code = not is_code
         if is_code or lines[0].startswith("```") or KEPT.match(lines[0]):
