@@ -21,7 +21,7 @@ MARK = re.compile(r"> |(?:  )?(?:- |\d+\. )|")
 
 def parts(text):
     """Returns the words of a text, with each span of code and each link as one."""
-    return re.findall(r"(?:`[^`]*`|\[[^\]\s]*\]\([^)]*\)|\S)+", text)
+    return re.findall(r"(?:``.*?``|`[^`]*`|\[[^\]\s]*\]\([^)]*\)|\S)+", text)
 
 
 def filled(text, first, rest):
