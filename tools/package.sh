@@ -1,8 +1,9 @@
 #!/bin/sh
-# Makes an archive or a Debian package of out/acrun, for machines without the toolchain. The same files give the same bytes.
+# Makes an archive or a Debian package of out/acrun, for machines without the toolchain.
 #   package.sh dist    out/acrun-VERSION-x86_64-linux.tar.gz
 #   package.sh deb     out/acrun_VERSION_amd64.deb
-# The time of each file is that of the last commit, or SOURCE_DATE_EPOCH.
+# The same commit, program and tools give the same bytes, in any directory and at any time, whoever makes it and with any umask. The time
+# of each file is that of the last commit, or SOURCE_DATE_EPOCH.
 set -e
 kind=$1
 version=$(sed -n 's/^pub const VERSION: &str = "\(.*\)";$/\1/p' crates/helptext/src/texts.rt)
@@ -17,8 +18,14 @@ glibc() {
     LC_ALL=C objdump -T out/acrun | sed -n 's/.*GLIBC_\([0-9][0-9.]*\).*/\1/p' | sort -t. -k1,1n -k2,2n -k3,3n | tail -1
 }
 
-# Gives all files below $folder one time.
-date_files() {
+# The KiB that the package takes, whatever the file system: each file rounded up, and one for each directory.
+installed_size() {
+    find "$folder/usr" -printf '%y %s\n' | awk '{ sum += $1 == "f" ? int(($2 + 1023) / 1024) : 1 } END { print sum }'
+}
+
+# Gives all files below $folder one time, and the same modes under each umask.
+settle_files() {
+    chmod -R u+rwX,go+rX,go-w "$folder"
     find "$folder" -exec touch -h -d "@$SOURCE_DATE_EPOCH" {} +
 }
 
@@ -34,7 +41,7 @@ make_dist() {
         echo 'Check the archive by the sum that was published with it, `sha256sum acrun-*.tar.gz`. To install, copy bin/ and share/ below'
         echo '/usr/local or another prefix: cp -R bin share /usr/local'
     } > "$folder/$name/INSTALL"
-    date_files
+    settle_files
     tar --sort=name --owner=0 --group=0 --numeric-owner --format=ustar -C "$folder" -cf - "$name" | gzip -9n > "out/$name.tar.gz"
     sha256sum "out/$name.tar.gz"
 }
@@ -60,7 +67,7 @@ Section: devel
 Priority: optional
 Architecture: amd64
 Depends: libc6 (>= $(glibc))
-Installed-Size: $(du -sk "$folder/usr" | cut -f 1)
+Installed-Size: $(installed_size)
 Maintainer: $(git log -1 --format='%an <%ae>')
 Description: proved configure engine that reads configure.ac itself
  acrun reads a configure.ac in the manner of GNU Autoconf, runs its checks
@@ -69,8 +76,7 @@ Description: proved configure engine that reads configure.ac itself
  is never taken for "no", and a run that was cut is taken up again from
  its cache.
 END
-    chmod -R u+rwX,go+rX,go-w "$folder"
-    date_files
+    settle_files
     dpkg-deb --root-owner-group --build "$folder" "$package" > /dev/null
     sha256sum "$package"
 }
