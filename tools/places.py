@@ -21,6 +21,8 @@ WIDTH = 116
 CASES = ["crates/case_tests/data"]
 PAGE = ["docs/language.md", "CHANGELOG.md"]
 MACRO = [*CASES, *PAGE, "docs/guide.md", "README.md", "crates/macrotable/macros.txt"]
+# In rows of tests a newline is `^J`.
+LINES = "J?(?:start refused|failed program was)"
 LINT = ["examples/lint/sources.txt", "examples/lint/expected.txt"]
 
 # The change, the nearest one, its identifiers, its name as texts of the code have it, the crates to
@@ -41,6 +43,8 @@ KINDS = [
      [*CASES, "docs/formats.md"]),
     ("A fault of outputs made again", "`NoArguments`", r"NoArguments|explain_remake", "", (),
      [*CASES, "docs/formats.md", "docs/running.md"]),
+    ("A line of the log", "`start refused` and `failed program was`", LINES, LINES, (),
+     [*CASES, "docs/formats.md", "tools/fuzz_why.py", "tools/cut_and_resume.py", "bench/windows.py"]),
     ("The words of a fault", "`CacheBody`", r"CacheBody|parse_finding", "",
      ("faultwords", "linting"), LINT),
     ("A warning of `lint`", "`warn_of_compiler`", r"warn_of_compiler", "", (),
@@ -116,12 +120,17 @@ def filled(text):
     return "\n".join(lines)
 
 
+def counted(number, what):
+    """Returns a number with the word for what is counted."""
+    return f"{number} {what}" if number == 1 else f"{number} {what}s"
+
+
 def lists():
     """Returns the lists of all kinds of change."""
     paragraphs = []
     for change, nearest, words, name, crates, others in KINDS:
         files = uses(words, name, crates)
-        count = f"{len(files)} files in {len({file.parts[1] for file in files})} crates"
+        count = f"{counted(len(files), 'file')} in {counted(len({file.parts[1] for file in files}), 'crate')}"
         named = ", ".join(f"`{it}`" for it in others)
         paragraphs.append(filled(f"**{change}**, as {nearest}, {count}: "
                                  + ", ".join(grouped(files)) + f". Besides: {named}."))
