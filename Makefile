@@ -1,7 +1,7 @@
-# make try      runs the program before any proof, in a minute or two
+# make try      configures examples/tally before any proof, in three minutes
 # make          proves the crates that the program stands on, then builds it as out/acrun
 # make demo     the same, and runs it on the examples
-# make ports    configures, builds and tests packages of others, which it fetches
+# make ports    configures, builds and tests packages of Debian, which it fetches; it says which it skips, and why
 # make compile  tries sample conftests with a real compiler, the one that CC names
 # make check    the gate: every proof, every test, every must-fail edit, each allocation refused, and the checks of tools/repository.py
 # make edits    tries the wrong bodies of every crate, or of those that NAMES names: make edits NAMES="crew plan"
@@ -42,8 +42,9 @@ demo: all
 	@sh examples/completions/run.sh out/acrun
 	@sh examples/wrapper/run.sh
 
+# The status 77 says that packages were skipped, and that none failed.
 ports: all
-	@sh examples/ports/run.sh out/acrun
+	@sh examples/ports/run.sh out/acrun || [ $$? -eq 77 ]
 
 compile:
 	@sh tools/build.sh conftest_samples

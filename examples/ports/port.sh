@@ -1,9 +1,10 @@
 # Moves a package of Debian over to acrun: `acrun port` rewrites its configure.ac, and the patch does what is left to do there and in the
 # templates. The result is configured with acrun, and beside it the original and the result with Autoconf. All three have to agree, but for
 # what is named. Then it builds the package with acrun's files and runs its tests.
-#   port.sh PROGRAM NAME
+#   port.sh PROGRAM NAME LISTS
+# LISTS is the directory that sources.sh filled: APT fetches the archive, and the checksum decides whether it is the one that is meant.
 # NAME/settings sets the variables below:
-#   archive, sum where the archive is in Debian's pool, and its SHA-256
+#   source, version, sum   the name of Debian's source package, the version of the package, and the SHA-256 of its archive
 #   prepare      commands that make configure.ac and the templates of what the archive has, if they aren't there
 #   autoconf     commands that make the package's own script, `autoconf` if there are none
 #   header       the config header, if there is one
@@ -12,13 +13,16 @@
 #   texts        the texts, one a line, that make it no fault if a line of the Makefile differs
 #   others       further outputs, which may not differ
 #   tests        commands that run the package's own tests
-# The patch is of configure.ac and templates alone. What is needed: the network, curl, patch, make, a C compiler and Autoconf 2.71.
-# Ends with 77 if the archive can't be fetched or there is no such Autoconf, and with 1 if something is otherwise than it should be.
+#   tools        commands that the tests need
+# The patch is of configure.ac and templates alone. What is needed: the network, APT with an archive of Debian, patch, make, a C compiler,
+# Autoconf 2.71, and the libraries of the package. If one is missing, or if the machine's archives have the package in another version
+# alone, it says so and ends with 77. It ends with 1 if something is otherwise than it should be.
 # If ROWS is set in the environment, it prints the package's row of docs/guide.md too.
 set -u
 acrun=$(realpath "$1") || exit 2
 here=$(realpath "$(dirname "$0")/$2") || exit 2
 name=$2
+lists=$3
 work=$(mktemp -d) || exit 2
 trap 'rm -rf "$work"' EXIT
 mkdir "$work/bin" "$work/ours" "$work/theirs" && ln -s "$acrun" "$work/bin/acrun" || exit 2
@@ -26,16 +30,36 @@ PATH=$work/bin:$PATH:/usr/sbin:/sbin
 unset CC CFLAGS CPPFLAGS LDFLAGS LIBS CONFIG_SITE MAKEFLAGS MFLAGS MAKELEVEL
 status=0
 . "$here/settings"
-url=http://deb.debian.org/debian/pool/main/$archive
 
 skip() {
-    echo "$name: $1"
+    echo "$name: skipped: $1"
     exit 77
 }
 
 wrong() {
     echo "$name: $1"
     status=1
+}
+
+# Fetches the archive, and sets $archive to its path. Debian's version of the package is the one whose archive has the sum.
+fetch() {
+    apt-cache -c "$lists/apt.conf" showsrc --only-source "$source" > "$work/known" 2> "$work/fetch.out"
+    awk -v sum="$sum" 'BEGIN { RS = ""; FS = "\n" }
+        { for (i = 1; i <= NF; i++) {
+              split($i, word, " ")
+              if (word[1] == "Version:") version = word[2]
+              if (word[1] == sum) file = word[3]
+          }
+          if (file != "") { print version, file; exit } }' "$work/known" > "$work/found"
+    if [ ! -s "$work/found" ]; then
+        others=$(sed -n 's/^Version: //p' "$work/known" | sort -u | paste -s -d ' ')
+        skip "it is tried in version $version, and the archives of this machine have ${others:-none}; no archive has the sum $sum"
+    fi
+    read -r debian_version file < "$work/found"
+    archive=$work/$file
+    (cd "$work" && apt-get -c "$lists/apt.conf" -q source --download-only --tar-only "$source=$debian_version") >> "$work/fetch.out" 2>&1
+    [ -f "$archive" ] || { tail -n 3 "$work/fetch.out"; skip "APT can't fetch $file"; }
+    [ "$(sha256sum < "$archive" | cut -d ' ' -f 1)" = "$sum" ] || { wrong 'the archive is another one'; exit 1; }
 }
 
 # The lines of a config header that define a macro, or say that it isn't, each once and without blanks that vary.
@@ -85,16 +109,19 @@ row() {
     echo "| $name | $lines | $by_port | $by_hand | $checks | $one | $four | $cached | $autoconf |"
 }
 
+for tool in apt-get patch make cc ${tools-}; do
+    command -v "$tool" > /dev/null || skip "there is no $tool"
+done
 autoconf --version 2> /dev/null | grep -q '^autoconf .* 2\.71$' || skip 'there is no Autoconf 2.71'
-curl -s -S -f -L -o "$work/archive" "$url" || skip "$url can't be fetched"
-[ "$(sha256sum < "$work/archive" | cut -d ' ' -f 1)" = "$sum" ] || { wrong 'the archive is another one'; exit 1; }
-tar xf "$work/archive" -C "$work/ours" --strip-components=1
+fetch
+tar xf "$archive" -C "$work/ours" --strip-components=1
 cd "$work/ours" && eval "${prepare-}" || exit 2
 cp -R . "$work/theirs"
 
-cd "$work/theirs" && eval "${autoconf-autoconf}" > autoconf.out 2>&1 || { wrong 'Autoconf makes no script of it'; exit 1; }
+# Autoconf keeps a script that is newer than its source, such as the one of the archive that another Autoconf made.
+cd "$work/theirs" && rm -f configure && eval "${autoconf-autoconf}" > autoconf.out 2>&1 || { wrong 'Autoconf makes no script of it'; exit 1; }
 [ -z "${ROWS-}" ] || cp -R . "$work/autoconf"
-./configure -q > configure.out 2>&1 || { wrong 'its own configure fails'; exit 1; }
+./configure -q > configure.out 2>&1 || { tail -n 3 configure.out; skip 'its own configure fails on this machine, so there is nothing to compare with'; }
 
 cd "$work/ours" || exit 2
 lines=$(wc -l < configure.ac)
