@@ -1,15 +1,16 @@
 //! A reader for each macro, which reads its arguments from the left.
 
-ghost use Rattle.std.specs.Prelude.{◌≡◌, ◌||◌, ◌==◌, length, map, Ok, Err, IfOk, ◌<◌, nat_lt};
+ghost use Rattle.std.specs.Prelude.{◌≡◌, map};
 ghost use Rattle.m4quote.specs.Entry.{span};
 ghost use Rattle.acstatement.specs.Reading.{Gives};
-ghost use Rattle.acmacros.specs.PackageName as package_names;
 ghost use Rattle.acmacros.specs.Rows as rows;
 
 use crate::checks::{checks, checks_each};
 use crate::libraries::{check_lib, search_libs};
 use crate::macros::{PlainMacro, QuestionMacro};
-use crate::searches::{check_prog, check_progs, has_room, output_variable, path_prog, prog_cc};
+use crate::package_name::tar_name;
+use crate::room::has_room;
+use crate::searches::{check_prog, check_progs, output_variable, path_prog, prog_cc};
 use crate::tries::tries;
 use acargs::ParseFault;
 use acargs::arguments::{is_given, line, name, text, title};
@@ -21,41 +22,8 @@ use acargs::shell::{here_text, word};
 use acstatement::texts::arg_at;
 use deftable::{Bytes, Name, SubstList};
 use m4quote::Arg;
-use std::alloc::{AllocError, Global};
+use std::alloc::Global;
 use syntax::{Declarations, MessageKind, OptionKind, Plain, Question};
-
-fn tar_byte(byte: u8) -> u8
-    ensures { result ≡ package_names.tar_byte byte }
-{
-    if byte.is_ascii_alphanumeric() || byte == b'_' {
-        byte.to_ascii_lowercase()
-    } else {
-        b'-'
-    }
-}
-
-/// Returns the title without `GNU ` at its front.
-fn without_gnu(title: &[u8]) -> &[u8]
-    ensures { result.now ≡ package_names.without_gnu title.now }
-{
-    if title.starts_with(b"GNU ") {
-        &title[4..]
-    } else {
-        title
-    }
-}
-
-/// Returns the name of the archive that is derived from the package's name.
-#[tactic(auto, unfolding(crate::specs::PackageName::tar_name))]
-fn tar_name(alloc: Global, title: &[u8]) -> Result<Bytes, AllocError>
-    ensures { IfOk result (λ v. v ≡ package_names.tar_name title.now) }
-{
-    let name = without_gnu(title)
-        .iter()
-        .map(|byte| tar_byte(*byte))
-        .collect(alloc)?;
-    Ok(Bytes::from_vec(name))
-}
 
 /// Reads the name of the package's archive. If it is empty, it is derived from the package's name.
 #[tactic(auto, unfolding(crate::specs::Rows::tarname))]

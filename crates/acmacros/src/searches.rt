@@ -3,9 +3,9 @@
 ghost use Rattle.std.specs.Prelude.{◌≡◌, map, IfOk};
 ghost use Rattle.m4quote.specs.Entry.{span};
 ghost use Rattle.acstatement.specs.Reading.{Gives};
-ghost use Rattle.acmacros.specs.Room as rooms;
 ghost use Rattle.acmacros.specs.Searches as rows;
 
+use crate::room::{MAX_NAMES, has_room};
 use acargs::ParseFault;
 use acargs::arguments::{is_given, name};
 use acargs::program::{program, programs};
@@ -16,16 +16,6 @@ use m4quote::Arg;
 use shellword::HereText;
 use std::alloc::{AllocError, Global};
 use syntax::{Declarations, Plain};
-
-/// The largest number of names in a list of the source (own).
-const MAX_NAMES: usize = 1024;
-
-/// Returns whether a list of the source has this name, or room for it.
-pub(crate) fn has_room(names: &SubstList, name: &Name) -> bool
-    ensures { result ≡ rooms.has_room names.now name.now }
-{
-    names.has(name.as_slice()) || names.names().len() < MAX_NAMES
-}
 
 /// Reads the name of an output variable.
 #[tactic(auto, unfolding(crate::specs::Searches::output_variable))]
