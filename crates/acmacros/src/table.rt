@@ -80,9 +80,10 @@ const TABLE: [(&[u8], Named, usize, usize, bool); 45] = [
     (b"AC_LANG_SOURCE", Argument(ArgumentMacro::LangSource), 1, 1, false),
 ];
 
-/// Returns all rows.
+/// Returns all rows: a name, what it means, the least and the most arguments, and whether its calls are allowed only at
+/// top level.
 #[tactic(auto, unfolding(crate::specs::Table::rows))]
-fn rows() -> &'static [(&'static [u8], Named, usize, usize, bool)]
+pub fn rows() -> &'static [(&'static [u8], Named, usize, usize, bool)]
     ensures { map (λ e. (e.0.now, e.1, e.2, e.3, e.4)) result.now ≡ table.rows }
 {
     &TABLE
