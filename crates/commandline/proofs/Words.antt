@@ -1,5 +1,5 @@
 -- How one argument is read, as a function and by its rule.
-use Rattle.std.proofs.Common.{◌≡◌, ℕ, Bool, true, false, ◌||◌, if◌then◌else◌, List, [], ◌∷◌, ◌++◌, append_assoc, Option, Some, None, Ok, codes, refl, sym, ap, subst, ◌∙◌}
+use Rattle.std.proofs.Common.{◌≡◌, ℕ, Bool, true, false, if◌then◌else◌, List, [], ◌∷◌, ◌++◌, append_assoc, Option, Some, None, Ok, codes, refl, sym, ap, subst, ◌∙◌}
 use Rattle.std.specs.Prelude.{unwrap_or}
 use Rattle.std.specs.List.{find}
 use Rattle.std.specs.Option.{option_map}
@@ -10,7 +10,7 @@ use Rattle.syntax.specs.Feature.{is_feature}
 use Rattle.syntax.specs.declared.feature.OptionKind.{OptionKind}
 use Rattle.syntax.specs.declared.feature.OptionKind.TheVariants.{Feature, Package}
 use Rattle.commandline.proofs.Pieces.{rest_is, text_parts, key_whole, key_key, key_front, value_front, no_value_in, feature_key, shell_key, shell_plain}
-use Rattle.commandline.specs.Arguments.{Argument, Flag, OptionValue, OptionName, FeatureValue, BadFeatureName, VariableValue, BadVariableName, Unrecognized, switch_of, install_directory_named, install_directory_of, target_of, chosen, enabled, disabled, package_of, choice_of, given_or_awaited, said_with_value, dashed_of, assigned, read_argument, value_in, rest_after, alone}
+use Rattle.commandline.specs.Arguments.{Argument, Flag, OptionValue, OptionName, FeatureValue, BadFeatureName, VariableValue, BadVariableName, Unrecognized, switch_of, switches, install_directory_named, install_directory_of, target_of, chosen, enabled, disabled, package_of, choice_of, given_or_awaited, said_with_value, dashed_of, assigned, read_argument, value_in, rest_after, alone}
 use Rattle.commandline.specs.CommandLine as line
 use Rattle.commandline.specs.CommandLine.{Setting, Variable, Choice, Switched, valued, IsSwitch, IsOption, enabling, disabling, key_of, is_dashed, GivesAlone, IsMisnamed, IsMisassigned}
 use Rattle.commandline.specs.Directories.{directories, directory_named, option_of, variable_of}
@@ -24,7 +24,7 @@ use Rattle.commandline.specs.declared.argument.Switch.TheVariants.{ConfigCache, 
 -- ---- from the rule to the function
 
 pub switch_said : {word : List ℕ} {switch : Switch} → IsSwitch word switch → read_argument word ≡ Flag switch
-unfolding read_argument dashed_of switch_of
+unfolding read_argument dashed_of switch_of switches
 switch_said line.config_cache_short = refl
 switch_said line.config_cache = refl
 switch_said line.quiet_short = refl
@@ -41,7 +41,7 @@ switch_said line.verbose = refl
 switch_said line.no_recursion = refl
 
 directory_said : (d : Directory) → read_argument (codes "--" ++ option_of d) ≡ OptionName (InstallDirectory d)
-unfolding read_argument dashed_of switch_of said_with_value key_of value_in target_of install_directory_of rest_after directory_named directories option_of variable_of
+unfolding read_argument dashed_of switch_of switches said_with_value key_of value_in target_of install_directory_of rest_after directory_named directories option_of variable_of
 directory_said Prefix = refl
 directory_said ExecPrefix = refl
 directory_said Bindir = refl
@@ -66,7 +66,7 @@ directory_said Localedir = refl
 directory_said Mandir = refl
 
 directory_given : (d : Directory) (value : List ℕ) → read_argument (codes "--" ++ option_of d ++ codes "=" ++ value) ≡ OptionValue (InstallDirectory d) value
-unfolding read_argument dashed_of switch_of said_with_value key_of value_in target_of install_directory_of rest_after directory_named directories option_of variable_of
+unfolding read_argument dashed_of switch_of switches said_with_value key_of value_in target_of install_directory_of rest_after directory_named directories option_of variable_of
 directory_given Prefix value = refl
 directory_given ExecPrefix value = refl
 directory_given Bindir value = refl
@@ -92,24 +92,24 @@ directory_given Mandir value = refl
 
 -- An option by itself takes the next argument.
 pub option_said : {option : List ℕ} {target : Target} → IsOption option target → read_argument option ≡ OptionName target
-unfolding read_argument dashed_of switch_of said_with_value key_of value_in target_of install_directory_of rest_after
+unfolding read_argument dashed_of switch_of switches said_with_value key_of value_in target_of install_directory_of rest_after
 option_said line.srcdir = refl
 option_said line.cache_file = refl
 option_said (line.directory d) = directory_said d
 
 pub option_given : {option : List ℕ} {target : Target} → IsOption option target → (value : List ℕ) → read_argument (option ++ codes "=" ++ value) ≡ OptionValue target value
-unfolding read_argument dashed_of switch_of said_with_value key_of value_in target_of install_directory_of rest_after
+unfolding read_argument dashed_of switch_of switches said_with_value key_of value_in target_of install_directory_of rest_after
 option_given line.srcdir value = refl
 option_given line.cache_file value = refl
 option_given (line.directory d) value = directory_given d value
 
 enabling_said : (kind : OptionKind) (rest : List ℕ) → read_argument (enabling kind ++ rest) ≡ enabled kind rest (enabling kind ++ rest)
-unfolding read_argument dashed_of switch_of said_with_value key_of value_in target_of install_directory_of rest_after directory_named directories option_of variable_of choice_of package_of
+unfolding read_argument dashed_of switch_of switches said_with_value key_of value_in target_of install_directory_of rest_after directory_named directories option_of variable_of choice_of package_of
 enabling_said Feature rest = refl
 enabling_said Package rest = refl
 
 disabling_said : (kind : OptionKind) (rest : List ℕ) → read_argument (disabling kind ++ rest) ≡ disabled kind rest (disabling kind ++ rest)
-unfolding read_argument dashed_of switch_of said_with_value key_of value_in target_of install_directory_of rest_after directory_named directories option_of variable_of choice_of package_of
+unfolding read_argument dashed_of switch_of switches said_with_value key_of value_in target_of install_directory_of rest_after directory_named directories option_of variable_of choice_of package_of
 disabling_said Feature rest = refl
 disabling_said Package rest = refl
 
@@ -193,33 +193,33 @@ by_choice false x y z first second h = second h
 one_of : (P : List ℕ → Type 0) (text word : List ℕ) → P word → bytes_eq text word ≡ true → P text
 one_of P text word h e = subst P (sym ((bytes_eq-Decides text word).0 e)) h
 
-one_of_two : (P : List ℕ → Type 0) (text a b : List ℕ) → P a → P b → (bytes_eq text a || bytes_eq text b) ≡ true → P text
-one_of_two P text a b pa pb e = at (bytes_eq text a) refl e where
-  at : (t : Bool) → bytes_eq text a ≡ t → (t || bytes_eq text b) ≡ true → P text
-  at true is h = one_of P text a pa is
-  at false is h = one_of P text b pb h
-
-one_of_three : (P : List ℕ → Type 0) (text a b c : List ℕ) → P a → P b → P c → ((bytes_eq text a || bytes_eq text b) || bytes_eq text c) ≡ true → P text
-one_of_three P text a b c pa pb pc e = at (bytes_eq text a || bytes_eq text b) refl e where
-  at : (t : Bool) → (bytes_eq text a || bytes_eq text b) ≡ t → (t || bytes_eq text c) ≡ true → P text
-  at true is h = one_of_two P text a b pa pb is
-  at false is h = one_of P text c pc h
-
-abbrev Is : Switch → List ℕ → Type 0
-Is switch word = IsSwitch word switch
-
 same_switch : {a b : Switch} (word : List ℕ) → Some a ≡ Some b → IsSwitch word a → IsSwitch word b
 same_switch {a = a} {b = b} word e h = let same : a ≡ b = cc in subst (λ s. IsSwitch word s) same h
 
+-- A row of the table: if the argument isn't its word, the rows after it decide.
+row_is : {known : List ℕ} {a b : Switch} (word : List ℕ) (rest : Option Switch) → IsSwitch known a → (rest ≡ Some b → IsSwitch word b)
+    → (if bytes_eq word known then Some a else rest) ≡ Some b → IsSwitch word b
+row_is {known = known} {a = a} word rest is more =
+    by_choice _ _ _ _ (λ t e. same_switch word e (one_of (λ w. IsSwitch w a) word known is t)) more
+
 switch_is : (word : List ℕ) (switch : Switch) → switch_of word ≡ Some switch → IsSwitch word switch
-unfolding switch_of
-switch_is word switch = by_choice _ _ _ _ (λ t e. same_switch word e (one_of_two (Is ConfigCache) word _ _ line.config_cache_short line.config_cache t))
-    (by_choice _ _ _ _ (λ t e. same_switch word e (one_of_three (Is Quiet) word _ _ _ line.quiet_short line.quiet line.silent t))
-    (by_choice _ _ _ _ (λ t e. same_switch word e (one_of_two (Is NoCreate) word _ _ line.no_create_short line.no_create t))
-    (by_choice _ _ _ _ (λ t e. same_switch word e (one_of_two (Is Help) word _ _ line.help_short line.help t))
-    (by_choice _ _ _ _ (λ t e. same_switch word e (one_of_two (Is Version) word _ _ line.version_short line.version t))
-    (by_choice _ _ _ _ (λ t e. same_switch word e (one_of_three (Is Ignored) word _ _ _ line.verbose_short line.verbose line.no_recursion t))
-    (λ e. absurd (cc)))))))
+unfolding switch_of switches
+switch_is word switch =
+    row_is word _ line.config_cache_short
+    (row_is word _ line.config_cache
+    (row_is word _ line.quiet_short
+    (row_is word _ line.quiet
+    (row_is word _ line.silent
+    (row_is word _ line.no_create_short
+    (row_is word _ line.no_create
+    (row_is word _ line.help_short
+    (row_is word _ line.help
+    (row_is word _ line.version_short
+    (row_is word _ line.version
+    (row_is word _ line.verbose_short
+    (row_is word _ line.verbose
+    (row_is word _ line.no_recursion
+    (λ e. absurd (cc)))))))))))))))
 
 -- The directory that is found has this option.
 found_option : (option : List ℕ) (d : Directory) (ds : List Directory) → find (λ d. bytes_eq (option_of d) option) ds ≡ Some d → option_of d ≡ option

@@ -1,5 +1,5 @@
 -- How one argument of a command line is read, as a function, and so what all of them give.
-use Rattle.std.specs.Prelude.{ℕ, ◌+◌, ◌||◌, ◌==◌, List, [], ◌∷◌, Option, Some, None, Result, Ok, Err, unwrap_or, option_map, codes, if◌then◌else◌}
+use Rattle.std.specs.Prelude.{ℕ, ◌+◌, ◌==◌, List, [], ◌∷◌, Option, Some, None, Result, Ok, Err, unwrap_or, option_map, codes, if◌then◌else◌}
 use Rattle.std.specs.Str.{bytes_eq}
 use Rattle.deftable.specs.ShellName.{is_shell_name_of}
 use Rattle.syntax.specs.Feature.{is_feature}
@@ -45,16 +45,33 @@ rest_after [] text = Some text
 rest_after (c ∷ cs) [] = None
 rest_after (c ∷ cs) (b ∷ bs) = if b == c then rest_after cs bs else None
 
--- The options without a value. (Autoconf's manual, "configure Invocation")
+-- The options without a value, and what each turns on. (Autoconf's manual, "configure Invocation")
+unfoldable pub switches : List (List ℕ × Switch)
+switches =
+    (codes "-C", ConfigCache)
+    ∷ (codes "--config-cache", ConfigCache)
+    ∷ (codes "-q", Quiet)
+    ∷ (codes "--quiet", Quiet)
+    ∷ (codes "--silent", Quiet)
+    ∷ (codes "-n", NoCreate)
+    ∷ (codes "--no-create", NoCreate)
+    ∷ (codes "-h", Help)
+    ∷ (codes "--help", Help)
+    ∷ (codes "-V", Version)
+    ∷ (codes "--version", Version)
+    ∷ (codes "-v", Ignored)
+    ∷ (codes "--verbose", Ignored)
+    ∷ (codes "--no-recursion", Ignored)
+    ∷ []
+
+-- What the first row of this argument turns on. (own)
+abbrev pub switch_among : List ℕ → List (List ℕ × Switch) → Option Switch
+switch_among argument [] = None
+switch_among argument ((known, switch) ∷ more) = if bytes_eq argument known then Some switch else switch_among argument more
+
+-- The option without a value that an argument is. (Autoconf's manual, "configure Invocation")
 unfoldable pub switch_of : List ℕ → Option Switch
-switch_of argument =
-    if bytes_eq argument (codes "-C") || bytes_eq argument (codes "--config-cache") then Some ConfigCache
-    else (if bytes_eq argument (codes "-q") || bytes_eq argument (codes "--quiet") || bytes_eq argument (codes "--silent") then Some Quiet
-    else (if bytes_eq argument (codes "-n") || bytes_eq argument (codes "--no-create") then Some NoCreate
-    else (if bytes_eq argument (codes "-h") || bytes_eq argument (codes "--help") then Some Help
-    else (if bytes_eq argument (codes "-V") || bytes_eq argument (codes "--version") then Some Version
-    else (if bytes_eq argument (codes "-v") || bytes_eq argument (codes "--verbose") || bytes_eq argument (codes "--no-recursion") then Some Ignored
-    else None)))))
+switch_of argument = switch_among argument switches
 
 -- The option of a directory, given without its dashes. (Autoconf's manual, "Installation Directory Variables")
 abbrev pub install_directory_named : List ℕ → Option Target

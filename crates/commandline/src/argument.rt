@@ -1,10 +1,9 @@
 //! How one argument of a command line is read.
 
-ghost use Rattle.std.specs.Prelude.{◌≡◌, ◌<◌, ◌==◌, ◌||◌, Some, None, length, position, option_map, codes, bytes_eq, if◌then◌else◌, IfSome};
+ghost use Rattle.std.specs.Prelude.{◌≡◌, ◌<◌, ◌==◌, length, map, position, option_map, codes, IfSome};
 ghost use Rattle.commandline.specs.Arguments as words;
 ghost use Rattle.commandline.specs.CommandLine as lines;
 ghost use Rattle.commandline.specs.Argument.{argument_of};
-ghost use Rattle.commandline.specs.declared.argument.Switch.TheVariants.{Help, Version, Ignored};
 
 use crate::directory::{Directory, directory_named};
 use deftable::is_shell_name;
@@ -69,6 +68,32 @@ pub struct Choice<'a> {
     pub option: &'a [u8],
 }
 
+/// The options without a value, and what each turns on.
+const SWITCHES: [(&[u8], Switch); 14] = [
+    (b"-C", Switch::ConfigCache),
+    (b"--config-cache", Switch::ConfigCache),
+    (b"-q", Switch::Quiet),
+    (b"--quiet", Switch::Quiet),
+    (b"--silent", Switch::Quiet),
+    (b"-n", Switch::NoCreate),
+    (b"--no-create", Switch::NoCreate),
+    (b"-h", Switch::Help),
+    (b"--help", Switch::Help),
+    (b"-V", Switch::Version),
+    (b"--version", Switch::Version),
+    (b"-v", Switch::Ignored),
+    (b"--verbose", Switch::Ignored),
+    (b"--no-recursion", Switch::Ignored),
+];
+
+/// Returns the options without a value, and what each turns on (Autoconf's manual, "configure Invocation").
+#[tactic(auto, unfolding(crate::specs::Arguments::switches))]
+pub fn switches() -> &'static [(&'static [u8], Switch)]
+    ensures { map (λ row. (row.0.now, row.1)) result.now ≡ words.switches }
+{
+    &SWITCHES
+}
+
 /// Returns the offset of the first `=`.
 fn equals_in(text: &[u8]) -> Option<usize>
     ensures value { result ≡ position (λ b. b == 61) text.now }
@@ -104,25 +129,16 @@ fn rest_after<'a>(front: &[u8], text: &'a [u8]) -> Option<&'a [u8]>
     text.strip_prefix(front)
 }
 
-/// Returns the option without a value that an argument is, out of those that print a text or have no effect.
-fn other_switch_of(argument: &[u8]) -> Option<Switch>
-    ensures { result ≡ (if bytes_eq argument.now (codes "-h") || bytes_eq argument.now (codes "--help") then Some Help
-        else (if bytes_eq argument.now (codes "-V") || bytes_eq argument.now (codes "--version") then Some Version
-        else (if bytes_eq argument.now (codes "-v") || bytes_eq argument.now (codes "--verbose") || bytes_eq argument.now (codes "--no-recursion") then Some Ignored
-        else None))) }
+/// Returns what the first row of the argument turns on.
+fn switch_among(rows: &[(&[u8], Switch)], argument: &[u8]) -> Option<Switch>
+    ensures { result ≡ words.switch_among argument.now (map (λ row. (row.0.now, row.1)) rows.now) }
 {
-    if argument == b"-h".as_slice() || argument == b"--help".as_slice() {
-        Some(Switch::Help)
-    } else if argument == b"-V".as_slice() || argument == b"--version".as_slice() {
-        Some(Switch::Version)
-    } else if argument == b"-v".as_slice()
-        || argument == b"--verbose".as_slice()
-        || argument == b"--no-recursion".as_slice()
-    {
-        Some(Switch::Ignored)
-    } else {
-        None
+    for row in rows {
+        if argument == row.0 {
+            return Some(row.1);
+        }
     }
+    None
 }
 
 /// Returns the option without a value that an argument is.
@@ -130,18 +146,7 @@ fn other_switch_of(argument: &[u8]) -> Option<Switch>
 fn switch_of(argument: &[u8]) -> Option<Switch>
     ensures { result ≡ words.switch_of argument.now }
 {
-    if argument == b"-C".as_slice() || argument == b"--config-cache".as_slice() {
-        Some(Switch::ConfigCache)
-    } else if argument == b"-q".as_slice()
-        || argument == b"--quiet".as_slice()
-        || argument == b"--silent".as_slice()
-    {
-        Some(Switch::Quiet)
-    } else if argument == b"-n".as_slice() || argument == b"--no-create".as_slice() {
-        Some(Switch::NoCreate)
-    } else {
-        other_switch_of(argument)
-    }
+    switch_among(switches(), argument)
 }
 
 /// Returns what the option of a directory sets, given the option without its dashes.

@@ -27,6 +27,7 @@ pub mod laws;
 pub mod slashes;
 pub mod srcdir;
 
+pub use argument::switches;
 pub use directory::{Directory, directories};
 pub use fault::OptionFault;
 pub use kept::kept_args;

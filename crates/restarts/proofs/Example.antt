@@ -7,7 +7,7 @@ use Rattle.cachefile.specs.Line.{rest_after, before_brace, sets_nothing, front_w
 use Rattle.cachefile.specs.Name.{is_mark}
 use Rattle.cachefile.specs.Text.{line_for, saved_entries, cache_text_of}
 use Rattle.cachefile.specs.Word.{step, value_from, word_of}
-use Rattle.commandline.specs.Arguments.{value_in, rest_after as rest_of, switch_of, install_directory_of, target_of, package_of, choice_of, said_with_value, dashed_of, read_argument, given}
+use Rattle.commandline.specs.Arguments.{value_in, rest_after as rest_of, switch_of, switches, install_directory_of, target_of, package_of, choice_of, said_with_value, dashed_of, read_argument, given}
 use Rattle.commandline.specs.CommandLine.{key_of, Switched}
 use Rattle.commandline.specs.Directories.{directories, variable_of, default_of, directory_named}
 use Rattle.commandline.specs.Kept.{kept_from}
@@ -178,7 +178,7 @@ abbrev start : Start
 start = record { cache_name = Some (codes "config.cache"); srcdir = codes "."; no_create = false; args = codes "-C" ∷ []; vars = begin_vars; notes = [] }
 
 first_accepted : (source : List ℕ) → source_of source ≡ Ok example → follows (call source) None ≡ Ok (Starts example start)
-unfolding judged present started accept cache_named source_directory setters set_by with_unslashed with_marks finished is_declared run_settings opened_by opening old_value blanks_note restored restored_variable restored_from checked after_comma listed warning notes_of value_in rest_of switch_of install_directory_of target_of package_of choice_of said_with_value dashed_of read_argument given key_of directories variable_of default_of directory_named kept_from unslashed without_slashes after after_question value_of with_entry without_entry with_name has_name parts_by parts fields
+unfolding judged present started accept cache_named source_directory setters set_by with_unslashed with_marks finished is_declared run_settings opened_by opening old_value blanks_note restored restored_variable restored_from checked after_comma listed warning notes_of value_in rest_of switch_of switches install_directory_of target_of package_of choice_of said_with_value dashed_of read_argument given key_of directories variable_of default_of directory_named kept_from unslashed without_slashes after after_question value_of with_entry without_entry with_name has_name parts_by parts fields
 first_accepted source read = ap (λ r. named of_parse r >>= λ script. wants (nat_le (weight script) heaviest) (Plan TooLong) >>= λ _. accept (call source).arguments (call source).environment None [] script) read
 
 -- What runs compute with.
@@ -234,7 +234,7 @@ abbrev second : Start
 second = record start { vars = vars_after (map setting_of (saved_entries first_run.state.vars)) begin_vars }
 
 second_accepted : (source : List ℕ) → source_of source ≡ Ok example → follows (call source) (Some (cache_text_of first_run.state.vars)) ≡ Ok (Starts example second)
-unfolding on_values judged present started accept old_value blanks_note restored restored_variable restored_from checked after_comma listed warning notes_of value_in rest_of switch_of install_directory_of target_of package_of choice_of said_with_value dashed_of read_argument given key_of kept_from unslashed without_slashes after after_question with_name has_name entry_of lines_from cache_of rest_after before_brace sets_nothing front_word default_setting assigned_setting assignment guarded_setting setting_in line_of step value_from
+unfolding on_values judged present started accept old_value blanks_note restored restored_variable restored_from checked after_comma listed warning notes_of value_in rest_of switch_of switches install_directory_of target_of package_of choice_of said_with_value dashed_of read_argument given key_of kept_from unslashed without_slashes after after_question with_name has_name entry_of lines_from cache_of rest_after before_brace sets_nothing front_word default_setting assigned_setting assignment guarded_setting setting_in line_of step value_from
 second_accepted source read = ap (λ r. named of_parse r >>= λ script. wants (nat_le (weight script) heaviest) (Plan TooLong) >>= λ _. accept (call source).arguments (call source).environment (Some (cache_text_of first_run.state.vars)) [] script) read
 
 abbrev second_run : Played
