@@ -10,7 +10,7 @@
 //! "own" marks a rule that no manual gives.
 //!
 //! In `specs`, read `Printed` (what a run prints), `Left` (what it leaves in files) and `MadeAgain`. In `src`, read
-//! `reporting` and `remaking`; `answering` and `telling` are small.
+//! `reporting` and `remaking`; `answering` and `errors` are small.
 #![tactic(auto)]
 
 mod answering;

@@ -21,7 +21,7 @@
 //! there. "own" marks a rule that no manual gives.
 //!
 //! Read `specs/Names`, `specs/Lines`, `specs/Steps` and `specs/Done`, then `names`, `reading`,
-//! `writing`, `links`, `places`, `saying`, which has the lines, and `receiver`.
+//! `writing`, `links`, `places`, `lines` and `receiver`.
 #![tactic(auto)]
 
 mod lines;

@@ -10,7 +10,7 @@
 //! "own" marks a rule that no manual gives.
 //!
 //! In `specs`, read `Ran` (what a run leaves if each start is refused), `Handed` (what the filter gives a run, and takes of it) and
-//! `Filtered`. In `src`, read `running`, `taking` and `whole`; `fault` is small.
+//! `Filtered`. In `src`, read `running`, `result` and `whole`; `fault` is small.
 #![tactic(auto)]
 
 mod fault;

@@ -15,8 +15,8 @@
 //! "own" marks a rule that no manual gives.
 //!
 //! In `specs`, read `Given` (what is accepted), `Handing` (what is handed over), `Remade` and `Rechecked`. `Shown`,
-//! `Told` and `Faults` are small. In `src`, read `accepting`, `handing`, `remaking` and `rechecking`; `showing`,
-//! `noting`, `report` and `fault` are small.
+//! `Told` and `Faults` are small. In `src`, read `inputs`, `artifacts`, `remaking` and `rechecking`; `showing`,
+//! `notes`, `report` and `fault` are small.
 #![tactic(auto)]
 
 mod artifacts;

@@ -14,7 +14,7 @@
 //!
 //! In `specs`, read `Calls` (what the program is asked to do), `Errors` (what a run prints on standard error), `Supplies` (what a run is given, as it
 //! is in files), `Logged`, `Quiet` (when nothing is printed) and `Progress`; `Lent` is small. In
-//! `src`, read `call`, `supplies`, `printing` and `telling`; `process` reads what the process is given, and `progress` says whether
+//! `src`, read `call`, `supplies`, `printing` and `errors`; `process` reads what the process is given, and `progress` says whether
 //! the program may show its progress.
 #![tactic(auto)]
 

@@ -10,7 +10,7 @@
 //! "own" marks a rule that no manual gives.
 //!
 //! The definitions are those of the crates below: `Calls` in `invocation`, `Configures` in `configuring`, `MadeAgain`
-//! in `commands`, and `Filtered` in `filtering`. `specs/Puts` is small. In `src`, read `inputs` and `program`; `telling` is small.
+//! in `commands`, and `Filtered` in `filtering`. `specs/Puts` is small. In `src`, read `inputs` and `program`; `errors` is small.
 #![tactic(auto)]
 
 mod errors;

@@ -18,7 +18,7 @@
 //! template's front, and as a function. Then read `table` and `filling`; its [`has_one_filled_text`] says that the two
 //! definitions agree. `specs/Pieces.antt` and `pieces` have templates in pieces, and [`pieces_join`] says what all pieces give
 //! together; [`fill`] and [`Filler::feed`] share one loop. `specs/Header.antt` and `header` do the same for headers. `signs` finds each `@` of a text, and
-//! `sieve` rules out most texts that aren't keys before they are looked up. `placing` has what differs between output
+//! `sieve` rules out most texts that aren't keys before they are looked up. `paths` has what differs between output
 //! files: the names of directories, and the name of the template. `specs/Place.antt` defines them.
 #![tactic(auto)]
 
