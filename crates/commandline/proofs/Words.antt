@@ -19,7 +19,6 @@ use Rattle.commandline.specs.declared.directory.Directory.TheVariants.{Prefix, E
 use Rattle.commandline.specs.declared.argument.Target.{Target}
 use Rattle.commandline.specs.declared.argument.Target.TheVariants.{InstallDirectory, Srcdir, CacheFile}
 use Rattle.commandline.specs.declared.argument.Switch.{Switch}
-use Rattle.commandline.specs.declared.argument.Switch.TheVariants.{ConfigCache, Quiet, NoCreate, Help, Version, Ignored}
 
 -- ---- from the rule to the function
 
