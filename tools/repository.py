@@ -118,6 +118,29 @@ def files_of_changes_that_are_old():
         yield "docs/architecture.md lists other files of a change: run tools/places.py"
 
 
+@functools.cache
+def defined_names(crate):
+    """Returns the names of the modules, functions, definitions and files of a crate."""
+    names = {*re.findall(r"(?m)^\s*(?:pub(?:\(crate\))? )?(?:mod|fn|record) (\w+)", sources(crate))}
+    names.update(re.findall(r"(?m)^ *(?:abbrev |unfoldable |pub ){0,3}(\w+) :", sources(crate)))
+    return names.union(file.stem for part in ("specs", "proofs") for file in (CRATES / crate / part).rglob("*.antt"))
+
+
+def heads_that_name_nothing():
+    """A paragraph of a crate's head that says what to read has a name of nothing. A name with a capital may be of any crate. Another
+    name must be a crate, or a module, a function or a definition of the crate or of one below."""
+    uses = rows()
+    everywhere = set().union(*map(defined_names, uses))
+    for crate in uses:
+        file = CRATES / crate / "src/lib.rt"
+        head = "\n".join(re.findall(r"(?m)^//! ?(.*)$", file.read_text())) if file.exists() else ""
+        known = {"src", "specs", "proofs", *uses}.union(*map(defined_names, {crate, *below(crate, uses)}))
+        for paragraph in re.findall(r"\b[Rr]ead (`(?:.|\n(?!\n))*)", head):
+            for name in re.findall(r"(?<!\[)`(?:specs/|proofs/)?(\w+)(?:\.antt)?`", paragraph):
+                if name not in (everywhere if name[0].isupper() else known):
+                    yield f"{file} says to read {name}, and there is none"
+
+
 def applied(edit):
     """Applies an edit, and returns what is wrong with it, if anything is."""
     file, old, texts = None, None, {}
@@ -214,6 +237,7 @@ CHECKS = [
     promises_without_clauses,
     places_that_are_not_there,
     files_of_changes_that_are_old,
+    heads_that_name_nothing,
     edits_that_do_not_apply,
     edits_over_the_budget,
     broken_links,
