@@ -50,5 +50,5 @@ pub record IsRechecked (environment : List (List ℕ × List ℕ)) (before now :
   pub text : List ℕ
   pub arguments : List (List ℕ)
   pub found : ReadsWhole old (codes "config.status") (Some text)
-  pub rechecked : again.IsRechecked text arguments
+  pub rechecked : again.HasArguments text arguments
   pub configured : IsConfigured 1 arguments environment before now old new out said status

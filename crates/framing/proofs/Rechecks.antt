@@ -8,7 +8,7 @@ use Rattle.status_record.specs.declared.fault.RecordFault.{RecordFault}
 use Rattle.status_record.specs.declared.fault.RecordFault.TheVariants as faults
 use Rattle.status_record.specs.declared.record.Record.{Record}
 use Rattle.framing.specs.Faults.{of_record, named, ◌>>=◌, GivesAgain}
-use Rattle.framing.specs.Rechecked.{IsRechecked, HasNoArguments, args_again, rechecked}
+use Rattle.framing.specs.Rechecked.{HasArguments, HasNoArguments, args_again, rechecked}
 use Rattle.framing.specs.declared.fault.RemakeFault.{RemakeFault}
 use Rattle.framing.specs.declared.fault.RemakeFault.TheVariants.{NoArguments}
 
@@ -30,7 +30,7 @@ some_is : (a b : List (List ℕ)) → Some a ≡ Some b → a ≡ b
 some_is a b e = cc
 
 -- The arguments of a record that is read.
-found : (text : List ℕ) (r : Record) (args : List (List ℕ)) → IsRecordText text r → args_again r.args ≡ Ok args → IsRechecked text args
+found : (text : List ℕ) (r : Record) (args : List (List ℕ)) → IsRecordText text r → args_again r.args ≡ Ok args → HasArguments text args
 found text r args (first h) e = let none : args_again r.args ≡ fails NoArguments = ap args_again h.has_none in absurd (cc)
 found text r args (second h) e =
     record { recorded = r; is_text = h; are = sym (ok_is (h.args ++ codes "--no-create" ∷ []) args (sym (ap args_again h.has_args) ∙ e)) }
@@ -47,10 +47,10 @@ other_fault faults.Truncated e = cc
 other_fault faults.UnknownVersion e = cc
 other_fault (faults.DuplicateName n) e = cc
 
-from_ok : Reads → (text : List ℕ) (args : List (List ℕ)) → rechecked text ≡ Ok args → IsRechecked text args
+from_ok : Reads → (text : List ℕ) (args : List (List ℕ)) → rechecked text ≡ Ok args → HasArguments text args
 unfolding rechecked
 from_ok reads text args e = at (record_in text) refl e where
-  at : (r : Result Record RecordFault) → record_in text ≡ r → (named of_record r >>= λ r. args_again r.args) ≡ Ok args → IsRechecked text args
+  at : (r : Result Record RecordFault) → record_in text ≡ r → (named of_record r >>= λ r. args_again r.args) ≡ Ok args → HasArguments text args
   at (Ok r) is h = found text r args (reads text r is) h
   at (Err f) is h = absurd (cc)
 
@@ -61,7 +61,7 @@ from_none reads text e = at (record_in text) refl e where
   at (Ok r) is h = without text r (reads text r is) h
   at (Err f) is h = absurd (other_fault f (err_is {A = List (List ℕ)} (of_record f) NoArguments h))
 
-to_args : IsRead → (text : List ℕ) (args : List (List ℕ)) → IsRechecked text args → rechecked text ≡ Ok args
+to_args : IsRead → (text : List ℕ) (args : List (List ℕ)) → HasArguments text args → rechecked text ≡ Ok args
 unfolding rechecked
 to_args read text args h =
     ap (λ r. named of_record r >>= λ r. args_again r.args) (read text h.recorded (second h.is_text)) ∙ ap args_again h.is_text.has_args ∙ ap answer (sym h.are)
@@ -70,12 +70,12 @@ to_none : IsRead → (text : List ℕ) (r : Record) → IsFirstText text r → r
 unfolding rechecked
 to_none read text r h = ap (λ r. named of_record r >>= λ r. args_again r.args) (read text r (first h)) ∙ ap args_again h.has_none
 
-pub answer_sound : Reads → (text : List ℕ) (result : Result (List (List ℕ)) RemakeFault) → GivesAgain (λ all. all) result (rechecked text) → IfOk result (λ args. IsRechecked text args)
+pub answer_sound : Reads → (text : List ℕ) (result : Result (List (List ℕ)) RemakeFault) → GivesAgain (λ all. all) result (rechecked text) → IfOk result (λ args. HasArguments text args)
 answer_sound reads text (Ok args) h = from_ok reads text args h
 answer_sound reads text (Err f) h = tt
 
 pub answer_complete : IsRead → (text : List ℕ) (result : Result (List (List ℕ)) RemakeFault) → GivesAgain (λ all. all) result (rechecked text)
-    → (args : List (List ℕ)) → IsRechecked text args → GivesAgain (λ all. all) result (Ok args)
+    → (args : List (List ℕ)) → HasArguments text args → GivesAgain (λ all. all) result (Ok args)
 answer_complete read text result h args is = subst (GivesAgain (λ all. all) result) (to_args read text args is) h
 
 pub none_sound : Reads → (text : List ℕ) (result : Result (List (List ℕ)) RemakeFault) → GivesAgain (λ all. all) result (rechecked text) → result ≡ Err NoArguments → HasNoArguments text

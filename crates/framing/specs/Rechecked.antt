@@ -8,7 +8,7 @@ use Rattle.framing.specs.declared.fault.RemakeFault.{RemakeFault}
 use Rattle.framing.specs.declared.fault.RemakeFault.TheVariants.{NoArguments}
 
 -- The text is that of a record of the second version, and these are its arguments, followed by `--no-create`. (own)
-pub record IsRechecked (text : List ℕ) (args : List (List ℕ)) : Type 0 where
+pub record HasArguments (text : List ℕ) (args : List (List ℕ)) : Type 0 where
   pub recorded : Record
   pub is_text : IsSecondText text recorded
   pub are : args ≡ is_text.args ++ codes "--no-create" ∷ []

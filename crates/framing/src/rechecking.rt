@@ -49,8 +49,8 @@ fn args_in(alloc: Global, text: &[u8]) -> Result<Texts, RemakeFault>
 /// Returns `Record` if the text is no record, and `NoArguments` if it is a record of the first version.
 pub fn recheck_args(alloc: Global, text: &[u8]) -> Result<Texts, RemakeFault>
     // The text is that of a record with arguments, and they are returned, followed by `--no-create`.
-    ensures sound { IfOk result (λ args. words.IsRechecked text.now args) }
-    ensures complete { (args : List (List ℕ)) → words.IsRechecked text.now args → GivesAgain (λ all. all) result (Ok args) }
+    ensures sound { IfOk result (λ args. words.HasArguments text.now args) }
+    ensures complete { (args : List (List ℕ)) → words.HasArguments text.now args → GivesAgain (λ all. all) result (Ok args) }
     // The text is that of a record without arguments.
     ensures none_sound { result ≡ Err NoArguments → words.HasNoArguments text.now }
     ensures none_complete { (r : RecordValue) → IsFirstText text.now r → GivesAgain (λ all. all) result (Err NoArguments) }

@@ -1,5 +1,5 @@
 use Rattle.std.proofs.Common.{subst, sym}
-use Rattle.framing.specs.Rechecked.{IsRechecked}
+use Rattle.framing.specs.Rechecked.{HasArguments}
 use Rattle.configuring.proofs.rechecking.run_again.Goals as goal
 
 pub returns-in-Ok-clause-run : goal.returns-in-Ok-clause-run
@@ -11,7 +11,7 @@ returns-in-Ok-clause-run g c = λ other.
         text = c.args.text.now;
         arguments = c.as_slice-args.result.now;
         found = c.requires.found;
-        rechecked = subst (λ a. IsRechecked c.args.text.now a) (sym c.as_slice-args.ensures) c.in-Ok.ensures.sound;
+        rechecked = subst (λ a. HasArguments c.args.text.now a) (sym c.as_slice-args.ensures) c.in-Ok.ensures.sound;
         configured = told.2;
       },
       told.3,
