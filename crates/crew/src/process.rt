@@ -9,7 +9,7 @@ use crate::children::Children;
 use causes::Causes;
 use crew_trait::{Crew, Refused, Reply};
 use jobs::Job;
-use launching::{Host, System};
+use launching::{DiskLauncher, System};
 use std::alloc::{AllocError, Global};
 use std::marker::Model;
 use std::process::Processes;
@@ -27,7 +27,7 @@ use std::rt::Files;
 /// if memory for its record runs out. The child is waited for even if a read fails.
 #[derive(Drop)]
 pub struct ProcessCrew<R: Files + Processes + Drop> {
-    children: Children<Host<System<R>>>,
+    children: Children<DiskLauncher<System<R>>>,
 }
 
 impl<R: Files + Processes + Drop> Model for ProcessCrew<R> {
@@ -47,7 +47,7 @@ impl<R: Files + Processes + Drop> ProcessCrew<R> {
     pub fn new(rt: R, alloc: Global) -> Result<ProcessCrew<R>, AllocError>
         ensures { IfOk result (λ c. c ≡ record { events = []; attempts = 0; failures = 0 }) }
     {
-        let children = Children::new(Host::new(System::new(rt), None), alloc)?;
+        let children = Children::new(DiskLauncher::new(System::new(rt), None), alloc)?;
         Ok(ProcessCrew { children })
     }
 
@@ -61,7 +61,7 @@ impl<R: Files + Processes + Drop> ProcessCrew<R> {
     pub fn removing(rt: R, alloc: Global, stale: &'static str) -> Result<ProcessCrew<R>, AllocError>
         ensures { IfOk result (λ c. c ≡ record { events = []; attempts = 0; failures = 0 }) }
     {
-        let children = Children::new(Host::new(System::new(rt), Some(stale)), alloc)?;
+        let children = Children::new(DiskLauncher::new(System::new(rt), Some(stale)), alloc)?;
         Ok(ProcessCrew { children })
     }
 }

@@ -6,7 +6,7 @@ use crate::children::Children;
 use causes::Causes;
 use crew_trait::{Crew, Refused, Reply};
 use jobs::Job;
-use launching::{Host, System};
+use launching::{DiskLauncher, System};
 use std::alloc::{AllocError, Global};
 use std::marker::Model;
 use std::process::Processes;
@@ -18,7 +18,7 @@ use std::rt::Files;
 /// may write to standard error until then. So no child is polled.
 #[derive(Drop)]
 pub struct ReadyCrew<R: Files + Processes + Drop> {
-    children: Children<Host<System<R>>>,
+    children: Children<DiskLauncher<System<R>>>,
 }
 
 impl<R: Files + Processes + Drop> Model for ReadyCrew<R> {
@@ -38,7 +38,7 @@ impl<R: Files + Processes + Drop> ReadyCrew<R> {
     pub fn new(rt: R, alloc: Global) -> Result<ReadyCrew<R>, AllocError>
         ensures { IfOk result (λ c. c ≡ record { events = []; attempts = 0; failures = 0 }) }
     {
-        let children = Children::new(Host::new(System::new(rt), None), alloc)?;
+        let children = Children::new(DiskLauncher::new(System::new(rt), None), alloc)?;
         Ok(ReadyCrew { children })
     }
 
@@ -51,7 +51,7 @@ impl<R: Files + Processes + Drop> ReadyCrew<R> {
     pub fn removing(rt: R, alloc: Global, stale: &'static str) -> Result<ReadyCrew<R>, AllocError>
         ensures { IfOk result (λ c. c ≡ record { events = []; attempts = 0; failures = 0 }) }
     {
-        let children = Children::new(Host::new(System::new(rt), Some(stale)), alloc)?;
+        let children = Children::new(DiskLauncher::new(System::new(rt), Some(stale)), alloc)?;
         Ok(ReadyCrew { children })
     }
 }

@@ -42,12 +42,12 @@ pub trait Launcher {
 
 /// The launcher over a disk that can start programs.
 #[derive(Drop)]
-pub struct Host<D: Disk + Processes> {
+pub struct DiskLauncher<D: Disk + Processes> {
     system: D,
     stale: Option<&'static str>,
 }
 
-impl<D: Disk + Processes> Model for Host<D> {
+impl<D: Disk + Processes> Model for DiskLauncher<D> {
     ghost use Rattle.std.specs.Prelude.{option_map};
     ghost use Rattle.launching.specs.Fresh.{Hosted};
 
@@ -56,12 +56,12 @@ impl<D: Disk + Processes> Model for Host<D> {
     ghost view = { λ h. record { disk = h.system; stale = option_map (λ name. name.now) h.stale } };
 }
 
-impl<D: Disk + Processes> Host<D> {
+impl<D: Disk + Processes> DiskLauncher<D> {
     /// Returns a launcher. Before it first writes a file or starts a command, it removes the file that is stale, if there is one.
-    pub fn new(system: D, stale: Option<&'static str>) -> Host<D>
+    pub fn new(system: D, stale: Option<&'static str>) -> DiskLauncher<D>
         ensures { result ≡ record { disk = system; stale = option_map (λ name. name.now) stale.entry } }
     {
-        Host { system, stale }
+        DiskLauncher { system, stale }
     }
 
     /// Removes the file that is stale, once.
@@ -77,7 +77,7 @@ impl<D: Disk + Processes> Host<D> {
     }
 }
 
-impl<D: Disk + Processes> Launcher for Host<D> {
+impl<D: Disk + Processes> Launcher for DiskLauncher<D> {
     type Process = D::Started;
 
     // The file is new, as `write_fresh` says.

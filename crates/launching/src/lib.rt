@@ -1,16 +1,16 @@
 //! Starts and ends a real child.
 //!
 //! ```text
-//! let mut host = Host::new(System::new(rt), None);
-//! let mut child = start_child(&mut host, alloc, &job)?;  // writes the conftest, and starts the command
-//! let (reply, cause) = end_child(alloc, &mut child);     // reads what it writes to standard error, and waits for it
+//! let mut launcher = DiskLauncher::new(System::new(rt), None);
+//! let mut child = start_child(&mut launcher, alloc, &job)?; // writes the conftest, and starts the command
+//! let (reply, cause) = end_child(alloc, &mut child);        // reads what it writes to standard error, and waits for it
 //! ```
 //!
 //! "own" marks a rule that no manual gives.
 //!
-//! [`Launcher`] is what writes files and starts commands; what is asked of a launcher is proved for every launcher. [`Host`] is that of
-//! the program, over any disk that can start programs. It is proved by which steps it writes a file; that it starts the command only
-//! tests check. [`System`] is a real disk with its programs, of which nothing is known. If a start or an end is refused, a cause comes
+//! [`Launcher`] is what writes files and starts commands; what is asked of a launcher is proved for every launcher.
+//! [`DiskLauncher`] is that of the program, over any disk that can start programs. It is proved by which steps it writes a file; that it
+//! starts the command only tests check. [`System`] is a real disk with its programs, of which nothing is known. If a start or an end is refused, a cause comes
 //! with it.
 //!
 //! Read `specs/Launch.antt`, which defines the requests for a job, `specs/Fresh.antt`, which defines what is done to files for them, and
@@ -29,7 +29,7 @@ mod starting;
 mod system;
 
 pub use ending::end_child;
-pub use launcher::{Host, Launcher};
+pub use launcher::{DiskLauncher, Launcher};
 pub use pipe::Pipe;
 pub use started::Started;
 pub use starting::start_child;
