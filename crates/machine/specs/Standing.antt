@@ -9,8 +9,8 @@ use Rattle.machine.specs.declared.machine.Phase.{Phase}
 use Rattle.machine.specs.declared.machine.Phase.TheVariants as phase
 use Rattle.machine.specs.declared.machine.Turn.{Turn}
 use Rattle.machine.specs.declared.machine.Turn.TheVariants as turn
-use Rattle.machine.specs.declared.machine.Outcome.{Outcome}
-use Rattle.machine.specs.declared.machine.Outcome.TheVariants as outcome
+use Rattle.machine.specs.declared.machine.RunOutcome.{RunOutcome}
+use Rattle.machine.specs.declared.machine.RunOutcome.TheVariants as outcome
 use Rattle.searching.specs.declared.wait.Wait.{Wait}
 use Rattle.meaning.specs.Play.{first_refused, refused_after, last_words}
 use Rattle.searching.specs.Waits.{Awaits, given, resumed, waits_for}
@@ -123,7 +123,7 @@ abbrev pub Fits : List Instruction → Standing → Type 0
 Fits plan m = fits_in m.phase plan m
 
 -- The outcome of the run, if the machine is at its end. (own)
-abbrev pub outcome_of : Phase → Option Outcome
+abbrev pub outcome_of : Phase → Option RunOutcome
 outcome_of phase.Past = Some outcome.Completed
 outcome_of phase.Completed = Some outcome.Completed
 outcome_of (phase.Stopped status) = Some (outcome.Stopped status)
@@ -131,7 +131,7 @@ outcome_of (phase.Cut number) = Some (outcome.CutShort number)
 outcome_of p = None
 
 -- The outcome that a turn reports, unless it asks for jobs. (own)
-abbrev pub outcome_by : Turn → Option Outcome
+abbrev pub outcome_by : Turn → Option RunOutcome
 outcome_by turn.Ask = None
 outcome_by turn.Done = Some outcome.Completed
 outcome_by (turn.Stopped status) = Some (outcome.Stopped status)

@@ -23,4 +23,4 @@
 
 mod machine;
 
-pub use machine::{Machine, Outcome, Phase, RunEnd, Turn};
+pub use machine::{Machine, Phase, RunEnd, RunOutcome, Turn};

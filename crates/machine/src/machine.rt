@@ -42,7 +42,7 @@ pub enum Turn {
 
 /// How a run ended.
 #[derive(Clone, Copy, PartialEq, Eq)]
-pub enum Outcome {
+pub enum RunOutcome {
     /// AC_OUTPUT, or the end of the plan, was reached.
     Completed,
     /// An error stopped the run with this exit status, or there was no compiler, which has status 1.
@@ -54,7 +54,7 @@ pub enum Outcome {
 /// What a run leaves.
 #[derive(Drop)]
 pub struct RunEnd {
-    pub outcome: Outcome,
+    pub outcome: RunOutcome,
     /// The variables at the end.
     pub vars: Vars,
     /// The definitions, for the config header.
@@ -406,13 +406,13 @@ impl Machine {
 }
 
 // Returns the outcome of a run that is at its end.
-fn outcome_at(phase: Phase) -> Outcome
+fn outcome_at(phase: Phase) -> RunOutcome
     ensures { IfSome (outcome_of phase) (λ outcome. result ≡ outcome) }
 {
     match phase {
-        Phase::Stopped(status) => Outcome::Stopped(status),
-        Phase::Cut(number) => Outcome::CutShort(number),
-        _ => Outcome::Completed,
+        Phase::Stopped(status) => RunOutcome::Stopped(status),
+        Phase::Cut(number) => RunOutcome::CutShort(number),
+        _ => RunOutcome::Completed,
     }
 }
 

@@ -13,8 +13,8 @@ use Rattle.machine.specs.declared.machine.Phase.{Phase}
 use Rattle.machine.specs.declared.machine.Phase.TheVariants as phase
 use Rattle.machine.specs.declared.machine.Turn.{Turn}
 use Rattle.machine.specs.declared.machine.Turn.TheVariants as turn
-use Rattle.machine.specs.declared.machine.Outcome.{Outcome}
-use Rattle.machine.specs.declared.machine.Outcome.TheVariants as outcome
+use Rattle.machine.specs.declared.machine.RunOutcome.{RunOutcome}
+use Rattle.machine.specs.declared.machine.RunOutcome.TheVariants as outcome
 use Rattle.machine.specs.declared.machine.RunEnd.{RunEnd}
 use Rattle.searching.specs.declared.wait.Wait.TheVariants as waits
 use Rattle.searching.specs.Waits.{given}
@@ -131,7 +131,7 @@ place_by (turn.Cut number) m all h moving r =
     ap first_refused h.whole ∙ refused_later h.earlier (given m.replies) at.0 h.answered at.1 ∙ ap Some n
 
 -- What a run leaves, from its outcome and the state in which it ends.
-abbrev pub end_of : Outcome → State → RunEnd
+abbrev pub end_of : RunOutcome → State → RunEnd
 end_of o st = record { outcome = o; vars = st.vars; defs = st.defs; messages = st.messages; log = st.log }
 
 record Ending (r : Run) (refused : Option ℕ) (end : RunEnd) : Type 0 where
@@ -139,7 +139,7 @@ record Ending (r : Run) (refused : Option ℕ) (end : RunEnd) : Type 0 where
   pub is : r ≡ Ends how (state_of end)
   pub outcome : outcome_from how refused ≡ Some end.outcome
 
-ending_by : (how : How) (o : Outcome) (st : State) (m : Standing) (end : RunEnd) (refused place : Option ℕ) → end ≡ end_of o m.state → m.state ≡ st → refused ≡ place → outcome_from how place ≡ Some o → Ending (Ends how st) refused end
+ending_by : (how : How) (o : RunOutcome) (st : State) (m : Standing) (end : RunEnd) (refused place : Option ℕ) → end ≡ end_of o m.state → m.state ≡ st → refused ≡ place → outcome_from how place ≡ Some o → Ending (Ends how st) refused end
 ending_by how o st m end refused place is same placed gives = record {
   how = how;
   is = ap (Ends how) (sym same ∙ sym (ap state_of is));

@@ -5,8 +5,8 @@ use Rattle.crew_trait.specs.declared.event.CrewEvent.{CrewEvent}
 use Rattle.crew_trait.specs.Events.{Account, IsIdle, replies_in}
 use Rattle.meaning.specs.State.{State, How, Goes_on, Completed, Stopped, Cut, Run}
 use Rattle.meaning.specs.Play.{play, all_jobs, first_refused}
-use Rattle.machine.specs.declared.machine.Outcome.{Outcome}
-use Rattle.machine.specs.declared.machine.Outcome.TheVariants as outcome
+use Rattle.machine.specs.declared.machine.RunOutcome.{RunOutcome}
+use Rattle.machine.specs.declared.machine.RunOutcome.TheVariants as outcome
 pub use Rattle.machine.specs.declared.machine.RunEnd.{RunEnd}
 use Rattle.proberun.specs.Starts.{StartsAre, TakesLeast, Fills, EndsGroup, failures_in}
 
@@ -21,7 +21,7 @@ MayRun before = IsIdle before.events × (before.attempts + 2 ^ 36 ≤ 2 ^ 62) ×
 
 -- The outcome of a run, by how it ends and by the number, from 1, of the first refused reply among those to all its
 -- jobs; a run is cut short exactly if there is such a reply. (own)
-abbrev pub outcome_from : How → Option ℕ → Option Outcome
+abbrev pub outcome_from : How → Option ℕ → Option RunOutcome
 outcome_from Goes_on None = Some outcome.Completed
 outcome_from Completed None = Some outcome.Completed
 outcome_from (Stopped status) None = Some (outcome.Stopped status)

@@ -7,7 +7,7 @@ ghost use Rattle.machine.specs.Standing.{Fits, outcome_of};
 use acparse::{Source, parse};
 use crew::Reply;
 use deftable::Bytes;
-use machine::{Machine, Outcome, RunEnd, Turn};
+use machine::{Machine, RunEnd, RunOutcome, Turn};
 use plan::{Plan, compile};
 use std::alloc::Global;
 use std::test::Fail;
@@ -61,9 +61,9 @@ fn is_at_end(machine: &mut Machine, plan: &Plan) -> bool
 /// Puts how a run ended, and the value of `r` if it is set.
 fn put_run_end(page: &mut Page, end: &RunEnd) {
     match end.outcome {
-        Outcome::Completed => page.put(b"completed"),
-        Outcome::Stopped(_) => page.put(b"stopped"),
-        Outcome::CutShort(number) => {
+        RunOutcome::Completed => page.put(b"completed"),
+        RunOutcome::Stopped(_) => page.put(b"stopped"),
+        RunOutcome::CutShort(number) => {
             page.put(b"cut ");
             page.put_shown(&number);
         }
