@@ -9,13 +9,17 @@ The lines of macros.txt, by how they begin:
   `# `      a comment
   `> `      a heading of the guide, under which the next entries are shown
   `: `      a sentence below the heading
-  `| `      a line of the block that is shown there, as it stands; the idioms are shown where their entries are
   KIND      begins an entry: idiom, drop, none or family, and then the names that it is of
-  `= `      the arguments of a call, for which the guide shows the idiom; none if there is no such line
-  `% `      a word that the idiom has for that call, a blank, and the text that is shown in its place
+  `| `      a line that the guide shows with an idiom: after the one before it, or before the first of its heading
+  `= `      the arguments of a call, for which the guide shows the idiom; none if there is no such line. Several are lines of a call
+  `% `      a word of the idiom that no argument is put in the place of, a blank, and the text that is shown there
   `! `      two numbers and names: for a call of these macros with so many arguments, from the first number to the second, the idiom is
             exact. It leaves the same definitions and output variables, and `acrun port` writes it
   `@ `      what stands around the idiom in the guide, with an `@` in its place; alone: the idiom is not run
+  `+ `      a line before the call and before the idiom, where tools/try_macros.py compares both; the guide does not show it
+  `$ `      arguments of a run in which that script compares both, in place of one without arguments
+  `? `      names of definitions and variables, a colon and a reason: what the idiom leaves otherwise than the macro does, by design.
+            That script fails if it doesn't
   blanks    4 of them begin a line of the entry's text
 Empty lines mean nothing. `specs/Places` and `specs/Values` of the crate say what places are, and what they are filled with.
 """
@@ -41,20 +45,39 @@ class Entry:
     kind: str
     names: list
     lines: list = dataclasses.field(default_factory=list)
+    call_text: str = ""
     arguments: list = dataclasses.field(default_factory=list)
     words: list = dataclasses.field(default_factory=list)
     exact: list = dataclasses.field(default_factory=list)
     around: str = "@"
+    before: list = dataclasses.field(default_factory=list)
+    runs: list = dataclasses.field(default_factory=list)
+    differing: list = dataclasses.field(default_factory=list)
+    raw_before: list = dataclasses.field(default_factory=list)
+    raw_after: list = dataclasses.field(default_factory=list)
 
     def text(self):
         return "\n".join(self.lines)
 
-    def sample(self):
-        """Returns the idiom as the guide shows it, or None if it can't be run."""
-        text = fill(self.text(), self.arguments)
-        for word, shown in sorted(self.words, key=lambda it: -len(it[0])):
-            text = text.replace(word, shown)
+    def within(self, text):
         return self.around.replace("@", text) if self.around else text
+
+    def written(self, arguments):
+        """Returns the idiom as one writes it for a call with these arguments."""
+        return written(self.text(), arguments, dict(self.words))
+
+    def sample(self):
+        """Returns the idiom as the guide shows it."""
+        return self.within(self.written(self.arguments))
+
+    def call(self, name):
+        """Returns a call with the arguments that the guide shows the idiom for."""
+        macro = name.partition("(")[0]
+        return f"{macro}({self.call_text})" if self.arguments else macro
+
+    def block(self):
+        """Returns the lines of the guide's block."""
+        return [*self.raw_before, *self.sample().split("\n"), *self.raw_after]
 
     def is_run(self):
         return self.kind == "idiom" and self.around != ""
@@ -64,10 +87,11 @@ class Entry:
 class Section:
     heading: str
     prose: list = dataclasses.field(default_factory=list)
-    parts: list = dataclasses.field(default_factory=list)
+    raw: list = dataclasses.field(default_factory=list)
+    entries: list = dataclasses.field(default_factory=list)
 
-    def entries(self):
-        return [part for part in self.parts if isinstance(part, Entry)]
+    def idioms(self):
+        return [entry for entry in self.entries if entry.kind == "idiom"]
 
 
 def arguments_of(text):
@@ -122,6 +146,24 @@ def fill(text, arguments):
     return PLACE.sub(value, text)
 
 
+def written(text, arguments, words):
+    """Returns the text with its places filled by these arguments, plain or not, and its words replaced: what one writes by hand."""
+    literal = "|".join(re.escape(word) for word in sorted(words, key=len, reverse=True))
+    pattern = rf"{PLACE.pattern}|(?<![A-Z0-9_])({literal})(?![A-Z0-9_])" if literal else PLACE.pattern
+
+    def value(place):
+        which, sign, word, *other = place.groups()
+        if which is None:
+            return words[other[0]]
+        if which == "@":
+            return ", ".join(f"[{bare(it)}]" for it in arguments) or word
+        if int(which) > len(arguments):
+            return words.get(word, word)
+        return formed(sign if sign != "!" else "", word, bare(arguments[int(which) - 1]))
+
+    return re.sub(pattern, value, text)
+
+
 def sections():
     """Reads the data: the sections in order, the last without a heading."""
     found, entry = [], None
@@ -135,22 +177,33 @@ def sections():
         elif sign == ": ":
             found[-1].prose.append(rest)
         elif line[0] == "|":
-            found[-1].parts.append(rest)
+            kept = found[-1].raw if not found[-1].idioms() else found[-1].idioms()[-1].raw_after
+            kept.append(rest)
         elif line.startswith("    "):
             entry.lines.append(line[4:])
         elif sign == "= ":
-            entry.arguments = arguments_of(rest)
+            entry.call_text = f"{entry.call_text}\n{rest}" if entry.call_text else rest
+            entry.arguments = arguments_of(entry.call_text)
         elif sign == "% ":
-            word, _, shown = rest.partition(" " if not rest.startswith("#") else "> ")
-            entry.words.append((word + ">" if rest.startswith("#") else word, shown))
+            word, _, shown = rest.partition(" ")
+            entry.words.append((word, shown))
         elif sign == "! ":
             least, most, *names = rest.split()
             entry.exact += [(name, int(least), int(most)) for name in names]
         elif line[0] == "@":
             entry.around = rest
+        elif sign == "+ ":
+            entry.before.append(rest)
+        elif sign == "$ ":
+            entry.runs.append(rest.split())
+        elif sign == "? ":
+            names, _, reason = rest.partition(" : ")
+            entry.differing.append((names.split(), reason))
         elif first in KINDS:
             entry = Entry(first, line.split()[1:])
-            found[-1].parts.append(entry)
+            if first == "idiom" and not found[-1].idioms():
+                entry.raw_before, found[-1].raw = found[-1].raw, []
+            found[-1].entries.append(entry)
         else:
             sys.exit(f"{DATA}:{number}: this line has no meaning: {line}")
     return found
@@ -158,7 +211,7 @@ def sections():
 
 def entries():
     """Returns the entries in the order of the table: those of families are last, the longer name first."""
-    all_ = [entry for section in sections() for entry in section.entries()]
+    all_ = [entry for section in sections() for entry in section.entries]
     families = sorted((it for it in all_ if it.kind == "family"), key=lambda it: -len(it.names[0]))
     return [it for it in all_ if it.kind != "family"] + families
 
@@ -193,6 +246,12 @@ def wrong():
                 yield f"{name}: an exact idiom has its arguments as they are"
         if entry.kind != "idiom" and len(entry.lines) > 1:
             yield f"{entry.names[0]}: only an idiom has more than one line"
+        for word, _shown in entry.words:
+            if not re.search(rf"(?<![A-Z0-9_]){re.escape(word)}(?![A-Z0-9_])", PLACE.sub("", text)):
+                yield f"{entry.names[0]}: no text of the idiom is the word {word}"
+        for names, reason in entry.differing:
+            if entry.kind != "idiom" or not names or not reason:
+                yield f"{entry.names[0]}: what an idiom leaves otherwise has names and a reason"
 
 
 def text_of_crate():
@@ -234,31 +293,51 @@ def in_words(names):
 
 
 def is_shown(section):
-    return bool(section.prose) or any(isinstance(it, str) or it.kind == "idiom" for it in section.parts)
+    return bool(section.prose or section.raw or section.idioms())
+
+
+def is_row(section, entry):
+    """Returns whether the idiom is one line, and is shown in a table."""
+    return len(section.idioms()) > 1 and entry.is_run() and len(entry.block()) == 1
+
+
+def table_of_idioms(section):
+    """Yields the lines of the table of a section: a row for each idiom of one line."""
+    found = [entry for entry in section.idioms() if is_row(section, entry)]
+    if found:
+        yield from ("", "| In place of | Write |", "|---|---|")
+    for entry in found:
+        yield f"| `{entry.within(entry.call(entry.names[0]))}` | `{entry.sample()}` |".replace("||", "\\|\\|")
 
 
 def blocks(section):
-    """Yields the blocks of a section: whether it is run, and its lines."""
-    block, was_run = [], True
-    for part in section.parts:
-        if isinstance(part, Entry) and part.kind != "idiom":
-            continue
-        is_run = isinstance(part, str) or part.is_run()
-        if block and is_run != was_run:
-            yield was_run, block
-            block = []
-        block, was_run = block + (part if isinstance(part, str) else part.sample()).split("\n"), is_run
-    if block:
-        yield was_run, block
+    """Yields the lines of the blocks of a section."""
+    if section.raw:
+        yield from ("", "```m4", *section.raw, "```")
+    for entry in section.idioms():
+        if not is_row(section, entry):
+            if entry.arguments or len(section.idioms()) > 1:
+                call = " ".join(entry.within(entry.call(entry.names[0])).split("\n"))
+                yield from ("", f"In place of `{call}`:")
+            yield from ("", "```m4" if entry.is_run() else "```", *entry.block(), "```")
+
+
+def what_differs(section):
+    """Yields the lines of what the idioms of a section leave otherwise than their macros."""
+    found = [(entry, names, reason) for entry in section.idioms() for names, reason in entry.differing]
+    if found:
+        yield from ("", "What is otherwise than after the macro:", "")
+    for entry, names, reason in found:
+        yield f"- {in_words(entry.names[:1])}: {', '.join(f'`{name}`' for name in names)}: {reason}"
 
 
 def rows():
     """Yields the rows of the guide's table."""
     for section in sections():
         for kind in ("idiom", "other"):
-            for entry in section.entries():
+            for entry in section.entries:
                 if kind == "idiom" and entry.kind == "idiom":
-                    names = [name for it in section.entries() if it.kind == "idiom" for name in it.names]
+                    names = [name for it in section.idioms() for name in it.names]
                     yield f"| {in_words(names)} | [{section.heading}]({heading_link(section.heading)}) |"
                     break
                 if kind == "other" and entry.kind in ("drop", "none"):
@@ -282,8 +361,7 @@ def part_of_guide():
     ]
     for section in filter(is_shown, sections()):
         lines += ["", f"### {section.heading}", *([""] + section.prose if section.prose else [])]
-        for is_run, block in blocks(section):
-            lines += ["", "```m4" if is_run else "```", *block, "```"]
+        lines += [*table_of_idioms(section), *blocks(section), *what_differs(section)]
     return "\n".join(lines) + "\n"
 
 

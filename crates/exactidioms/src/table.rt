@@ -3,6 +3,7 @@
 /// The macros, each with the least and the largest number of arguments that its idiom is exact for.
 #[rattlefmt::skip]
 const EXACT: &[u8] = b"\
+AC_CACHE_VAL 2 2
 AC_CHECKING 1 1
 AC_CHECK_DECLS_ONCE 1 1
 AC_CHECK_FUNCS_ONCE 1 1

@@ -16,7 +16,7 @@ AS_IF([$2{TEST}],
   [$1!{NAME}_TRUE='#' $1!{NAME}_FALSE=])
 AC_SUBST([$1!{NAME}_TRUE])
 AC_SUBST([$1!{NAME}_FALSE])~drop AC_C_CONST AC_C_INLINE AC_C_VOLATILE AC_C_RESTRICT AC_C_PROTOTYPES AC_C_STRINGIZE AC_C_TYPEOF AC_C_BACKSLASH_A AC_C_CHAR_UNSIGNED AC_CONST AC_INLINE AC_PROG_CC_STDC AC_PROG_CC_C89 AC_PROG_CC_C99 AC_PROG_GCC_TRADITIONAL AM_PROG_CC_STDC AM_C_PROTOTYPES gl_PROG_CC_C99 AC_CHAR_UNSIGNED
-each compiler of this century has it; a flag such as -std=gnu99 is given in CFLAGS or CC~drop AC_ISC_POSIX AC_AIX AC_MINIX AC_ZOS_USS AC_HEADER_STAT AC_STRUCT_TM AC_FUNC_STAT AC_FUNC_LSTAT AC_FUNC_MEMCMP AC_FUNC_CLOSEDIR_VOID AC_FUNC_SETVBUF_REVERSED AC_FUNC_MKTIME AC_FUNC_STRTOD AC_SETVBUF_REVERSED AC_FUNC_CALLOC
+each compiler of this century has it; a flag such as -std=gnu99 is given in CFLAGS or CC~drop AC_ISC_POSIX AC_AIX AC_MINIX AC_ZOS_USS AC_EMXOS2 AC_HEADER_STAT AC_STRUCT_TM AC_FUNC_STAT AC_FUNC_LSTAT AC_FUNC_MEMCMP AC_FUNC_CLOSEDIR_VOID AC_FUNC_SETVBUF_REVERSED AC_FUNC_MKTIME AC_FUNC_STRTOD AC_SETVBUF_REVERSED AC_FUNC_CALLOC
 it looks for a fault of systems that are long gone~drop AC_TYPE_INT8_T AC_TYPE_INT16_T AC_TYPE_INT32_T AC_TYPE_INT64_T AC_TYPE_UINT8_T AC_TYPE_UINT16_T AC_TYPE_UINT32_T AC_TYPE_UINT64_T AC_TYPE_INTMAX_T AC_TYPE_UINTMAX_T AC_TYPE_INTPTR_T AC_TYPE_UINTPTR_T AC_TYPE_LONG_LONG_INT AC_TYPE_UNSIGNED_LONG_LONG_INT AC_TYPE_LONG_DOUBLE AC_C_LONG_DOUBLE AC_TYPE_MBSTATE_T AC_C_FLEXIBLE_ARRAY_MEMBER AC_C_VARARRAYS gl_C_BOOL gl_AC_TYPE_LONG_LONG
 each compiler of this century has it, the types in stdint.h; if the sources test a name such as HAVE_INTMAX_T, define it by AC_DEFINE~idiom AC_USE_SYSTEM_EXTENSIONS AC_GNU_SOURCE gl_USE_SYSTEM_EXTENSIONS AC_POSIX_SOURCE
 AC_DEFINE([_GNU_SOURCE], [1], [Enable GNU extensions.])
@@ -29,7 +29,7 @@ AC_MSG_WARN([$1{MESSAGE}])~idiom AC_CHECK_TOOL AC_CHECK_TOOLS AC_CHECK_TARGET_TO
 AC_CHECK_PROGS([$1{VARIABLE}], [$2{PROGRAM}], [$3{}])~idiom AC_PATH_TOOL AC_PATH_TARGET_TOOL AM_PATH_PROG_WITH_TEST
 AC_PATH_PROG([$1{VARIABLE}], [$2{PROGRAM}])~idiom AC_HAVE_HEADERS
 AC_CHECK_HEADERS([$1{HEADERS}])~idiom AC_HAVE_FUNCS
-AC_CHECK_FUNCS([$1{FUNCTIONS}])~idiom AC_HEADER_CHECK AC_TEST_CPP
+AC_CHECK_FUNCS([$1{FUNCTIONS}])~idiom AC_HEADER_CHECK
 AC_CHECK_HEADER([$1{HEADER}])~idiom AC_FUNC_CHECK
 AC_CHECK_FUNC([$1{FUNCTION}])~idiom AC_PROGRAM_CHECK
 AC_CHECK_PROG([$1{VARIABLE}], [$2{PROGRAM}], [$3{VALUE}], [$4{OTHERWISE}])~idiom AC_PROGRAMS_CHECK
@@ -45,6 +45,7 @@ a rule that runs ./config.status NAME runs `acrun status NAME`, also for CONFIG_
 a file has one template: join several before, or make the file by a rule of the Makefile~none AC_CONFIG_FILES(commands) AC_CONFIG_HEADERS(commands) AC_OUTPUT(commands)
 no commands are run at the end: write a rule of the Makefile~idiom AC_HEADER_STDC AC_STDC_HEADERS
 AC_DEFINE([STDC_HEADERS], [1], [Define to 1 if you have the C90 headers.])~idiom AC_HEADER_TIME AC_TIME_WITH_SYS_TIME
+AC_CHECK_HEADERS([sys/time.h])
 AC_DEFINE([TIME_WITH_SYS_TIME], [1], [Define to 1 if time.h and sys/time.h can both be included.])~idiom AC_TYPE_SIGNAL AC_RETSIGTYPE
 AC_DEFINE([RETSIGTYPE], [void], [Define as the return type of signal handlers.])~idiom AC_TYPE_GETGROUPS AC_GETGROUPS_T
 AC_DEFINE([GETGROUPS_T], [gid_t], [Define to the type of elements in the array set by getgroups.])~idiom AC_TYPE_SIZE_T AC_SIZE_T
@@ -58,8 +59,19 @@ AC_CHECK_HEADERS([dirent.h])~idiom AC_HEADER_SYS_WAIT
 AC_CHECK_HEADERS([sys/wait.h])~idiom AC_HEADER_STDBOOL AC_CHECK_HEADER_STDBOOL AM_STDBOOL_H
 AC_CHECK_HEADERS([stdbool.h])
 AC_CHECK_TYPES([_Bool])~idiom AC_SYS_POSIX_TERMIOS
-AC_CHECK_HEADERS([termios.h])~idiom AC_HEADER_TIOCGWINSZ
-AC_CHECK_HEADERS([sys/ioctl.h])~idiom AC_HEADER_MAJOR
+AC_CACHE_CHECK([POSIX termios], [ac_cv_sys_posix_termios],
+  [AC_LINK_IFELSE([AC_LANG_PROGRAM([[#include <termios.h>]], [[return tcgetattr (0, 0);]])],
+    [ac_cv_sys_posix_termios=yes], [ac_cv_sys_posix_termios=no])])~idiom AC_HEADER_TIOCGWINSZ
+AC_CACHE_CHECK([whether termios.h defines TIOCGWINSZ], [ac_cv_sys_tiocgwinsz_in_termios_h],
+  [AC_COMPILE_IFELSE([AC_LANG_PROGRAM([[#include <sys/types.h>
+#include <termios.h>]], [[return TIOCGWINSZ == 0;]])],
+    [ac_cv_sys_tiocgwinsz_in_termios_h=yes], [ac_cv_sys_tiocgwinsz_in_termios_h=no])])
+AC_CACHE_CHECK([whether sys/ioctl.h defines TIOCGWINSZ], [ac_cv_sys_tiocgwinsz_in_sys_ioctl_h],
+  [AC_COMPILE_IFELSE([AC_LANG_PROGRAM([[#include <sys/types.h>
+#include <sys/ioctl.h>]], [[return TIOCGWINSZ == 0;]])],
+    [ac_cv_sys_tiocgwinsz_in_sys_ioctl_h=yes], [ac_cv_sys_tiocgwinsz_in_sys_ioctl_h=no])])
+AS_IF([test \"$ac_cv_sys_tiocgwinsz_in_termios_h\" != yes && test \"$ac_cv_sys_tiocgwinsz_in_sys_ioctl_h\" = yes],
+  [AC_DEFINE([GWINSZ_IN_SYS_IOCTL], [1], [Define to 1 if sys/ioctl.h has TIOCGWINSZ, and not termios.h.])])~idiom AC_HEADER_MAJOR
 AC_CHECK_HEADER([sys/sysmacros.h], [AC_DEFINE([MAJOR_IN_SYSMACROS], [1], [Define to 1 if major is in sys/sysmacros.h.])],
   [AC_CHECK_HEADER([sys/mkdev.h], [AC_DEFINE([MAJOR_IN_MKDEV], [1], [Define to 1 if major is in sys/mkdev.h.])])])~idiom AC_HEADER_RESOLV
 AC_CHECK_HEADERS([netinet/in.h arpa/nameser.h netdb.h])
@@ -78,7 +90,8 @@ AC_CHECK_FUNCS([fork], [AC_DEFINE([HAVE_WORKING_FORK], [1], [Define to 1 if fork
 AC_CHECK_FUNCS([vfork], [AC_DEFINE([HAVE_WORKING_VFORK], [1], [Define to 1 if vfork works.])])~idiom AC_FUNC_MALLOC
 AC_DEFINE([HAVE_MALLOC], [1], [Define to 1 if malloc (0) gives a pointer.])~idiom AC_FUNC_REALLOC
 AC_DEFINE([HAVE_REALLOC], [1], [Define to 1 if realloc of nothing works.])~idiom AC_FUNC_MMAP AC_MMAP
-AC_CHECK_FUNCS([mmap])~idiom AC_FUNC_STRERROR_R
+AC_CHECK_HEADERS([sys/param.h])
+AC_CHECK_FUNCS([getpagesize mmap])~idiom AC_FUNC_STRERROR_R
 AC_CHECK_DECLS([strerror_r])
 AC_CHECK_FUNCS([strerror_r])
 AC_CACHE_CHECK([whether strerror_r returns char *], [ac_cv_func_strerror_r_char_p],
@@ -90,26 +103,56 @@ AS_IF([test \"$ac_cv_func_strerror_r_char_p\" = yes],
 AC_CHECK_FUNCS([vprintf])~idiom AC_FUNC_STRFTIME AC_STRFTIME
 AC_CHECK_FUNCS([strftime])~idiom AC_FUNC_STRCOLL AC_STRCOLL
 AC_CHECK_FUNCS([strcoll])~idiom AC_FUNC_STRNLEN
-AC_CHECK_FUNCS([strnlen])~idiom AC_FUNC_MBRTOWC
+AC_CHECK_FUNC([strnlen], [], [EXTRA_OBJS=\"$EXTRA_OBJS strnlen.o\"])
+AC_SUBST([EXTRA_OBJS])~idiom AC_FUNC_MBRTOWC
 AC_CHECK_FUNCS([mbrtowc])~idiom AC_FUNC_FSEEKO
-AC_CHECK_FUNCS([fseeko ftello])~idiom AC_FUNC_ERROR_AT_LINE
-AC_CHECK_FUNCS([error_at_line])~idiom AC_FUNC_CHOWN
+AC_CHECK_FUNCS([fseeko])~idiom AC_FUNC_ERROR_AT_LINE
+AC_CHECK_FUNC([error_at_line], [], [EXTRA_OBJS=\"$EXTRA_OBJS error.o\"])
+AC_SUBST([EXTRA_OBJS])~idiom AC_FUNC_CHOWN
 AC_CHECK_FUNCS([chown])~idiom AC_FUNC_GETMNTENT
 AC_SEARCH_LIBS([getmntent], [sun seq gen], [AC_DEFINE([HAVE_GETMNTENT], [1], [Define to 1 if you have getmntent.])])~idiom AC_FUNC_LSTAT_FOLLOWS_SLASHED_SYMLINK
 AC_DEFINE([LSTAT_FOLLOWS_SLASHED_SYMLINK], [1], [Define to 1 if lstat follows a link with a slash after it.])~idiom AC_FUNC_UTIME_NULL AC_UTIME_NULL
+AC_CHECK_HEADERS([utime.h])
 AC_DEFINE([HAVE_UTIME_NULL], [1], [Define to 1 if utime takes a null pointer.])~idiom AC_FUNC_GETPGRP
 AC_DEFINE([GETPGRP_VOID], [1], [Define to 1 if getpgrp has no argument.])~idiom AC_FUNC_SETPGRP
 AC_DEFINE([SETPGRP_VOID], [1], [Define to 1 if setpgrp has no argument.])~idiom AC_FUNC_SELECT_ARGTYPES
+AC_CHECK_HEADERS([sys/select.h sys/socket.h])
 AC_DEFINE([SELECT_TYPE_ARG1], [int], [Define to the type of arg 1 for select.])
 AC_DEFINE([SELECT_TYPE_ARG234], [(fd_set *)], [Define to the type of args 2, 3 and 4 for select.])
 AC_DEFINE([SELECT_TYPE_ARG5], [(struct timeval *)], [Define to the type of arg 5 for select.])~idiom AC_SYS_LONG_FILE_NAMES AC_LONG_FILE_NAMES
-AC_DEFINE([HAVE_LONG_FILE_NAMES], [1], [Define to 1 if names of files may be long.])~idiom AC_CANONICAL_HOST AC_CANONICAL_SYSTEM AC_CANONICAL_TARGET AC_CANONICAL_BUILD
-AC_ARG_VAR([host_os], [the system to build for, such as linux-gnu])~idiom AC_CYGWIN AC_MINGW32 AC_EMXOS2 AC_OS_WINDOWS
+AC_DEFINE([HAVE_LONG_FILE_NAMES], [1], [Define to 1 if names of files may be long.])~idiom AC_CANONICAL_HOST
+AC_ARG_VAR([host], [the system that the programs run on, as CPU-VENDOR-OS])
+AC_ARG_VAR([host_cpu], [the first part of host, such as x86_64])
+AC_ARG_VAR([host_vendor], [the second part of host, such as pc])
+AC_ARG_VAR([host_os], [the last part of host, such as linux-gnu])
+AS_IF([test -z \"$host\"], [AC_MSG_WARN([host is not detected: give host=CPU-VENDOR-OS, host_cpu=CPU and host_os=OS])])~idiom AC_CANONICAL_BUILD
+AC_ARG_VAR([build], [the system that configure runs on, as CPU-VENDOR-OS])
+AC_ARG_VAR([build_cpu], [the first part of build, such as x86_64])
+AC_ARG_VAR([build_vendor], [the second part of build, such as pc])
+AC_ARG_VAR([build_os], [the last part of build, such as linux-gnu])
+AS_IF([test -z \"$build\"], [AC_MSG_WARN([build is not detected: give build=CPU-VENDOR-OS, build_cpu=CPU and build_os=OS])])~idiom AC_CANONICAL_TARGET AC_CANONICAL_SYSTEM
+AC_ARG_VAR([host], [the system that the programs run on, as CPU-VENDOR-OS])
+AC_ARG_VAR([host_cpu], [the first part of host, such as x86_64])
+AC_ARG_VAR([host_vendor], [the second part of host, such as pc])
+AC_ARG_VAR([host_os], [the last part of host, such as linux-gnu])
+AC_ARG_VAR([target], [the system that the programs make code for, as CPU-VENDOR-OS])
+AC_ARG_VAR([target_cpu], [the first part of target, such as x86_64])
+AC_ARG_VAR([target_vendor], [the second part of target, such as pc])
+AC_ARG_VAR([target_os], [the last part of target, such as linux-gnu])
+AS_IF([test -z \"$host\" || test -z \"$target\"],
+  [AC_MSG_WARN([host and target are not detected: give host=CPU-VENDOR-OS, target=CPU-VENDOR-OS and their parts])])~idiom AC_CYGWIN
+AC_CACHE_CHECK([whether this is for Cygwin], [my_cv_os_cygwin],
+  [AC_COMPILE_IFELSE([AC_LANG_SOURCE([[#ifndef __CYGWIN__
+#error another system
+#endif
+int main (void) { return 0; }]])], [my_cv_os_cygwin=yes], [my_cv_os_cygwin=no])])
+AS_IF([test \"$my_cv_os_cygwin\" = yes], [CYGWIN=yes], [CYGWIN=no])~idiom AC_MINGW32 AC_OS_WINDOWS
 AC_CACHE_CHECK([whether this is for Windows], [my_cv_os_windows],
   [AC_COMPILE_IFELSE([AC_LANG_SOURCE([[#ifndef _WIN32
 #error another system
 #endif
-int main (void) { return 0; }]])], [my_cv_os_windows=yes], [my_cv_os_windows=no])])~idiom AC_PROG_RANLIB AM_PROG_RANLIB
+int main (void) { return 0; }]])], [my_cv_os_windows=yes], [my_cv_os_windows=no])])
+AS_IF([test \"$my_cv_os_windows\" = yes], [MINGW32=yes], [MINGW32=no])~idiom AC_PROG_RANLIB AM_PROG_RANLIB
 AC_CHECK_PROGS([RANLIB], [ranlib], [:])~idiom AM_PROG_AR AC_PROG_AR
 AC_CHECK_PROGS([AR], [ar])
 AS_IF([test -z \"$AR\"], [AC_MSG_ERROR([there is no ar in PATH])])~idiom AC_PROG_CPP
@@ -123,10 +166,17 @@ AC_SUBST([FGREP], [\"grep -F\"])~idiom AC_PROG_SED
 AC_PATH_PROG([SED], [sed])~idiom AC_PROG_AWK
 AC_CHECK_PROGS([AWK], [gawk mawk nawk awk])~idiom AC_PROG_YACC
 AC_CHECK_PROG([YACC], [bison], [bison -y])
-AC_CHECK_PROGS([YACC], [byacc], [yacc])~idiom AC_PROG_LEX AM_PROG_LEX AC_DECL_YYTEXT
-AC_CHECK_PROGS([LEX], [flex lex], [:])~idiom AM_PROG_AS
-AC_SUBST([CCAS], [\"$CC\"])
-AC_SUBST([CCASFLAGS], [\"$CFLAGS\"])~drop AC_PROG_MAKE_SET AC_SET_MAKE
+AC_CHECK_PROGS([YACC], [byacc], [yacc])
+AC_ARG_VAR([YFLAGS], [flags of the parser generator])~idiom AC_PROG_LEX AM_PROG_LEX AC_DECL_YYTEXT
+AC_CHECK_PROGS([LEX], [flex lex], [:])
+AC_CHECK_LIB([l], [yywrap], [LEXLIB=-ll], [AC_CHECK_LIB([fl], [yywrap], [LEXLIB=-lfl])])
+AC_SUBST([LEXLIB])
+AC_SUBST([LEX_OUTPUT_ROOT], [lex.yy])
+AC_DEFINE([YYTEXT_POINTER], [1], [Define to 1 if yytext is a char *.])~idiom AM_PROG_AS
+AC_ARG_VAR([CCAS], [assembler])
+AC_ARG_VAR([CCASFLAGS], [flags of the assembler])
+AS_IF([test -z \"$CCAS\"], [CCAS=$CC])
+AS_IF([test -z \"$CCASFLAGS\"], [CCASFLAGS=$CFLAGS])~drop AC_PROG_MAKE_SET AC_SET_MAKE
 drop @SET_MAKE@ from the template: each make sets MAKE~idiom AC_PROG_SHELL
 AC_SUBST([SHELL], [/bin/sh])~idiom AC_OBJEXT
 AC_SUBST([OBJEXT], [o])~idiom AC_EXEEXT
@@ -134,7 +184,13 @@ AC_SUBST([EXEEXT])~idiom AC_ARG_PROGRAM
 AC_SUBST([program_transform_name], ['s,x,x,'])~idiom PKG_CHECK_MODULES PKG_CHECK_MODULES_STATIC PKG_HAVE_DEFINE_WITH_MODULES PKG_HAVE_WITH_MODULES
 AC_ARG_VAR([$1!{NAME}_CFLAGS], [flags that compile with $1!{NAME}])
 AC_ARG_VAR([$1!{NAME}_LIBS], [flags that link with $1!{NAME}])
-AS_IF([test -z \"$$1!{NAME}_LIBS\"], [$1!{NAME}_LIBS=-l$2!{LIBRARY}])~drop PKG_PROG_PKG_CONFIG PKG_CONFIG PKG_INSTALLDIR PKG_NOARCH_INSTALLDIR
+AS_IF([test -z \"$$1!{NAME}_LIBS\"], [$1!{NAME}_LIBS=-lLIBRARY])
+$1!{NAME}_CFLAGS_before=$CFLAGS $1!{NAME}_LIBS_before=$LIBS
+CFLAGS=\"$CFLAGS $$1!{NAME}_CFLAGS\" LIBS=\"$$1!{NAME}_LIBS $LIBS\"
+AC_CACHE_CHECK([for $1!{NAME}], [my_cv_$1!{NAME}],
+  [AC_LINK_IFELSE([AC_LANG_PROGRAM([], [])], [my_cv_$1!{NAME}=yes], [my_cv_$1!{NAME}=no])])
+CFLAGS=$$1!{NAME}_CFLAGS_before LIBS=$$1!{NAME}_LIBS_before
+AS_IF([test \"$my_cv_$1!{NAME}\" != yes], [AC_MSG_ERROR([no program links with $$1!{NAME}_LIBS: give $1!{NAME}_CFLAGS and $1!{NAME}_LIBS])])~drop PKG_PROG_PKG_CONFIG PKG_CONFIG PKG_INSTALLDIR PKG_NOARCH_INSTALLDIR
 no pkg-config is run: the user gives what it prints~none PKG_CHECK_EXISTS PKG_CHECK_VAR AM_PATH_GTK_2_0 AM_PATH_GLIB_2_0 AM_PATH_SDL AM_PATH_SDL2 AM_PATH_XML2
 no pkg-config is run: let the user give the flags by AC_ARG_VAR, and link a program with them~idiom AC_SYS_LARGEFILE
 AC_DEFINE([_FILE_OFFSET_BITS], [64], [Number of bits in a file offset.])~idiom AC_TRY_COMPILE
@@ -144,25 +200,31 @@ AC_LINK_IFELSE([AC_LANG_PROGRAM([[$1{INCLUDES}]], [[$2{BODY}]])],
   [$3{FOUND}], [$4{NOT-FOUND}])~idiom AC_TRY_LINK_FUNC
 AC_CHECK_FUNC([$1!{FUNCTION}], [$2{FOUND}], [$3{NOT-FOUND}])~idiom AC_TRY_RUN AC_TEST_PROGRAM
 AC_RUN_IFELSE([AC_LANG_SOURCE([[$1{PROGRAM}]])],
-  [$2{FOUND}], [$3{NOT-FOUND}], [$4{CROSS}])~idiom AC_TRY_CPP
+  [$2{FOUND}], [$3{NOT-FOUND}], [$4{CROSS}])~idiom AC_TRY_CPP AC_TEST_CPP
 AC_PREPROC_IFELSE([AC_LANG_SOURCE([[$1{INCLUDES}]])],
   [$2{FOUND}], [$3{NOT-FOUND}])~idiom AC_COMPILE_CHECK
 AC_LINK_IFELSE([AC_LANG_PROGRAM([[$2{INCLUDES}]], [[$3{BODY}]])],
   [$4{FOUND}], [$5{NOT-FOUND}])~idiom AC_CACHE_VAL
-AC_CACHE_CHECK([WHAT], [$1!{NAME_cv_NAME}], [COMMANDS])~idiom AC_EGREP_CPP
+AC_CACHE_CHECK([for $1!{NAME_cv_NAME}], [$1!{NAME_cv_NAME}], [$2{COMMANDS}])~idiom AC_EGREP_CPP
 AC_PREPROC_IFELSE([AC_LANG_SOURCE([[#include <stdio.h>
 #ifndef SYMBOL
 #error none
 #endif]])], [$3{FOUND}], [$4{NOT-FOUND}])~idiom AC_EGREP_HEADER
 AC_CHECK_DECL([$1!{SYMBOL}], [$3{FOUND}], [$4{NOT-FOUND}], [#include <$2!{HEADER}>])~idiom AC_CHECK_MEMBERS
+dnl one such check for each member; includes of the call replace those of AC_LANG_PROGRAM
 AC_CACHE_CHECK([for $1{TYPE.MEMBER}], [ac_cv_member_$1_{TYPE_MEMBER}],
-  [AC_COMPILE_IFELSE([AC_LANG_PROGRAM([[#include <HEADER>]],
+  [AC_COMPILE_IFELSE([AC_LANG_PROGRAM([AC_INCLUDES_DEFAULT
+#include <sys/stat.h>
+#include <unistd.h>],
       [[return sizeof ((($1<{TYPE} *) 0)->$1>{MEMBER}) == 0;]])],
     [ac_cv_member_$1_{TYPE_MEMBER}=yes], [ac_cv_member_$1_{TYPE_MEMBER}=no])])
 AS_IF([test \"$ac_cv_member_$1_{TYPE_MEMBER}\" = yes],
   [AC_DEFINE([HAVE_$1^{TYPE_MEMBER}], [1], [Define to 1 if there is $1{TYPE.MEMBER}.])])~idiom AC_CHECK_MEMBER
+dnl includes of the call replace those of AC_LANG_PROGRAM
 AC_CACHE_CHECK([for $1{TYPE.MEMBER}], [ac_cv_member_$1_{TYPE_MEMBER}],
-  [AC_COMPILE_IFELSE([AC_LANG_PROGRAM([[#include <HEADER>]],
+  [AC_COMPILE_IFELSE([AC_LANG_PROGRAM([AC_INCLUDES_DEFAULT
+#include <sys/stat.h>
+#include <unistd.h>],
       [[return sizeof ((($1<{TYPE} *) 0)->$1>{MEMBER}) == 0;]])],
     [ac_cv_member_$1_{TYPE_MEMBER}=yes], [ac_cv_member_$1_{TYPE_MEMBER}=no])])
 AS_IF([test \"$ac_cv_member_$1_{TYPE_MEMBER}\" = yes], [$2{FOUND}], [$3{NOT-FOUND}])~idiom AC_STRUCT_TIMEZONE AC_TIMEZONE
@@ -183,12 +245,35 @@ AC_CACHE_CHECK([size of $1{TYPE}], [ac_cv_sizeof_$1_{TYPE}],
       [ac_cv_sizeof_$1_{TYPE}=4],
       [AC_COMPILE_IFELSE([AC_LANG_PROGRAM([AC_INCLUDES_DEFAULT],
           [[static int wanted[sizeof ($1{TYPE}) == 2 ? 1 : -1]; return wanted[0];]])],
-        [ac_cv_sizeof_$1_{TYPE}=2], [ac_cv_sizeof_$1_{TYPE}=0])])])])
+        [ac_cv_sizeof_$1_{TYPE}=2],
+        [AC_COMPILE_IFELSE([AC_LANG_PROGRAM([AC_INCLUDES_DEFAULT],
+            [[static int wanted[sizeof ($1{TYPE}) == 1 ? 1 : -1]; return wanted[0];]])],
+          [ac_cv_sizeof_$1_{TYPE}=1],
+          [AC_COMPILE_IFELSE([AC_LANG_PROGRAM([AC_INCLUDES_DEFAULT],
+              [[static int wanted[sizeof ($1{TYPE}) == 16 ? 1 : -1]; return wanted[0];]])],
+            [ac_cv_sizeof_$1_{TYPE}=16], [ac_cv_sizeof_$1_{TYPE}=0])])])])])])
 AC_DEFINE_UNQUOTED([SIZEOF_$1^{TYPE}], [$ac_cv_sizeof_$1_{TYPE}], [The size of $1{TYPE}, as computed by sizeof.])~idiom AC_CHECK_ALIGNOF
 AC_CACHE_CHECK([alignment of $1{TYPE}], [ac_cv_alignof_$1_{TYPE}],
-  [AC_COMPILE_IFELSE([AC_LANG_PROGRAM([AC_INCLUDES_DEFAULT [struct both { char c; $1{TYPE} t; };]],
+  [AC_COMPILE_IFELSE([AC_LANG_PROGRAM([AC_INCLUDES_DEFAULT
+struct both { char c; $1{TYPE} t; };],
       [[static int wanted[offsetof (struct both, t) == 8 ? 1 : -1]; return wanted[0];]])],
-    [ac_cv_alignof_$1_{TYPE}=8], [ac_cv_alignof_$1_{TYPE}=4])])
+    [ac_cv_alignof_$1_{TYPE}=8],
+    [AC_COMPILE_IFELSE([AC_LANG_PROGRAM([AC_INCLUDES_DEFAULT
+struct both { char c; $1{TYPE} t; };],
+        [[static int wanted[offsetof (struct both, t) == 4 ? 1 : -1]; return wanted[0];]])],
+      [ac_cv_alignof_$1_{TYPE}=4],
+      [AC_COMPILE_IFELSE([AC_LANG_PROGRAM([AC_INCLUDES_DEFAULT
+struct both { char c; $1{TYPE} t; };],
+          [[static int wanted[offsetof (struct both, t) == 2 ? 1 : -1]; return wanted[0];]])],
+        [ac_cv_alignof_$1_{TYPE}=2],
+        [AC_COMPILE_IFELSE([AC_LANG_PROGRAM([AC_INCLUDES_DEFAULT
+struct both { char c; $1{TYPE} t; };],
+            [[static int wanted[offsetof (struct both, t) == 1 ? 1 : -1]; return wanted[0];]])],
+          [ac_cv_alignof_$1_{TYPE}=1],
+          [AC_COMPILE_IFELSE([AC_LANG_PROGRAM([AC_INCLUDES_DEFAULT
+struct both { char c; $1{TYPE} t; };],
+              [[static int wanted[offsetof (struct both, t) == 16 ? 1 : -1]; return wanted[0];]])],
+            [ac_cv_alignof_$1_{TYPE}=16], [ac_cv_alignof_$1_{TYPE}=0])])])])])])
 AC_DEFINE_UNQUOTED([ALIGNOF_$1^{TYPE}], [$ac_cv_alignof_$1_{TYPE}], [The alignment of $1{TYPE}.])~none AC_COMPUTE_INT AC_INT_16_BITS AC_LONG_64_BITS AC_LONG_DOUBLE
 write an AC_COMPILE_IFELSE for each value that can be, as for AC_CHECK_SIZEOF~idiom AC_C_BIGENDIAN AC_WORDS_BIGENDIAN
 AC_CACHE_CHECK([whether byte ordering is bigendian], [ac_cv_c_bigendian],
@@ -207,11 +292,16 @@ AC_PATH_PROG([$1!{VARIABLE}], [PROGRAM])
 AS_IF([test -z \"$$1!{VARIABLE}\"], [AC_PATH_PROG([$1!{VARIABLE}], [NEXT])])~none AC_PATH_PROGS_FEATURE_CHECK
 no program that is found is run: let the user give its name by AC_ARG_VAR~none AC_CONFIG_COMMANDS AC_CONFIG_COMMANDS_PRE AC_CONFIG_COMMANDS_POST AC_CONFIG_LINKS AC_CONFIG_SUBDIRS AC_LINK_FILES AC_OUTPUT_COMMANDS AC_CONFIG_TESTDIR AC_CONFIG_ITEMS
 write a rule of the Makefile~idiom AM_GNU_GETTEXT AM_WITH_NLS AM_GLIB_GNU_GETTEXT
-AC_SEARCH_LIBS([gettext], [intl],
-  [AC_DEFINE([ENABLE_NLS], [1], [Define to 1 if messages are translated.])])~drop AM_GNU_GETTEXT_VERSION AM_GNU_GETTEXT_REQUIRE_VERSION AM_GNU_GETTEXT_NEED AM_GNU_GETTEXT_INTL_SUBDIR AM_XGETTEXT_OPTION AM_PO_SUBDIRS AM_NLS IT_PROG_INTLTOOL AC_PROG_INTLTOOL AM_INTL_SUBDIR
+AC_ARG_ENABLE([nls], [AS_HELP_STRING([--disable-nls], [do not translate messages])], [], [enable_nls=yes])
+AS_IF([test \"$enable_nls\" != no],
+  [AC_SEARCH_LIBS([gettext], [intl],
+    [AC_DEFINE([ENABLE_NLS], [1], [Define to 1 if messages are translated.])], [enable_nls=no])])
+AC_SUBST([USE_NLS], [\"$enable_nls\"])
+AC_SUBST([LIBINTL])~drop AM_GNU_GETTEXT_VERSION AM_GNU_GETTEXT_REQUIRE_VERSION AM_GNU_GETTEXT_NEED AM_GNU_GETTEXT_INTL_SUBDIR AM_XGETTEXT_OPTION AM_PO_SUBDIRS AM_NLS IT_PROG_INTLTOOL AC_PROG_INTLTOOL AM_INTL_SUBDIR
 the Makefile says how catalogues of messages are made~idiom AM_ICONV AM_ICONV_LINK
 AC_SEARCH_LIBS([iconv_open], [iconv],
-  [AC_DEFINE([HAVE_ICONV], [1], [Define to 1 if you have iconv.])])~idiom AM_LANGINFO_CODESET
+  [AC_DEFINE([HAVE_ICONV], [1], [Define to 1 if you have iconv.])])
+AC_SUBST([LIBICONV])~idiom AM_LANGINFO_CODESET
 AC_CHECK_FUNCS([nl_langinfo], [AC_DEFINE([HAVE_LANGINFO_CODESET], [1], [Define to 1 if there is nl_langinfo (CODESET).])])~idiom AX_CHECK_COMPILE_FLAG AX_APPEND_COMPILE_FLAGS AX_C_CHECK_FLAG gl_WARN_ADD gl_COMPILER_OPTION_IF
 CFLAGS_before=$CFLAGS
 CFLAGS=\"$CFLAGS $1!{FLAG}\"
@@ -225,20 +315,26 @@ AC_CACHE_CHECK([whether the linker accepts it], [my_cv_flag_$1_{FLAG}],
   [AC_LINK_IFELSE([AC_LANG_PROGRAM([], [])], [my_cv_flag_$1_{FLAG}=yes], [my_cv_flag_$1_{FLAG}=no])])
 AS_IF([test \"$my_cv_flag_$1_{FLAG}\" != yes], [LDFLAGS=$LDFLAGS_before])~idiom AX_PTHREAD ACX_PTHREAD
 AC_SEARCH_LIBS([pthread_create], [pthread],
-  [AC_DEFINE([HAVE_PTHREAD], [1], [Define to 1 if you have POSIX threads.])])~idiom AM_WITH_DMALLOC
+  [AC_DEFINE([HAVE_PTHREAD], [1], [Define to 1 if you have POSIX threads.])])
+AC_SUBST([PTHREAD_CC], [\"$CC\"])
+AC_SUBST([PTHREAD_CFLAGS], [-pthread])
+AC_SUBST([PTHREAD_LIBS])~idiom AM_WITH_DMALLOC
 AC_ARG_WITH([dmalloc], [AS_HELP_STRING([--with-dmalloc], [use dmalloc])],
   [AS_IF([test \"$withval\" = yes], [AC_DEFINE([WITH_DMALLOC], [1], [Define to 1 if dmalloc is used.])
     LIBS=\"$LIBS -ldmalloc\"])])~idiom AM_PATH_PYTHON
 AC_CHECK_PROGS([PYTHON], [python3 python], [:])~idiom AM_PATH_LISPDIR
 AC_ARG_VAR([lispdir], [the directory of Emacs Lisp files])~idiom AC_PATH_X AC_PATH_XTRA AC_FIND_X AC_FIND_XTRA
 AC_ARG_VAR([X_CFLAGS], [flags that compile with X])
-AC_ARG_VAR([X_LIBS], [flags that link with X])~idiom AC_PREFIX_DEFAULT
+AC_ARG_VAR([X_LIBS], [flags that link with X])
+AC_SUBST([X_PRE_LIBS])
+AC_SUBST([X_EXTRA_LIBS])~idiom AC_PREFIX_DEFAULT
 AS_IF([test \"$prefix\" = NONE], [prefix=$1!{DIRECTORY}])~none AC_PREFIX_PROGRAM
 the user gives --prefix~idiom AS_VAR_SET
 $1!{VARIABLE}=\"$2{VALUE}\"~idiom AS_VAR_APPEND
-$1!{VARIABLE}=\"$$1!{VARIABLE}$2{TEXT}\"~idiom AS_VAR_COPY
+$1!{VARIABLE}=\"${$1!{VARIABLE}}$2{TEXT}\"~idiom AS_VAR_COPY
 $1!{VARIABLE}=$$2!{OTHER}~idiom AS_VAR_IF
-AS_IF([test \"$$1!{VARIABLE}\" = \"$2{VALUE}\"], [$3{THEN}], [$4{ELSE}])~idiom AS_VAR_TEST_SET AS_VAR_SET_IF
+AS_IF([test \"$$1!{VARIABLE}\" = \"$2{VALUE}\"], [$3{THEN}], [$4{ELSE}])~idiom AS_VAR_TEST_SET
+test -n \"$$1!{VARIABLE}\"~idiom AS_VAR_SET_IF
 AS_IF([test -n \"$$1!{VARIABLE}\"], [$2{THEN}], [$3{ELSE}])~idiom AS_UNSET
 $1!{VARIABLE}=~idiom AS_ECHO AS_ECHO_N AS_BOX
 AC_MSG_NOTICE([$1{MESSAGE}])~idiom AS_EXIT
