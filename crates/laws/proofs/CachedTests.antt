@@ -4,12 +4,15 @@ use Rattle.deftable.specs.Table.{value_of, without_entry}
 use Rattle.meaning.specs.State.{State, How, Goes_on, Ends, then_run}
 use Rattle.meaning.specs.Tests.{Row, tested_by, may_begin, tested, Test, broken, guarded, checking, with_result, test_by, cached_test}
 use Rattle.laws.specs.Ends.{AtEnds, Breaks}
-use Rattle.laws.specs.Cached.{with_cached, SetRowAsksNothing, IsUnset, StandsOnce, BrokenIsUnset}
+use Rattle.laws.specs.Cached.{with_cached, SetTestsAskNothing, SetRowAsksNothing, IsUnset, StandsOnce, BrokenIsUnset}
 use Rattle.laws.proofs.Values.{cases_value, once_unset}
 use Rattle.laws.proofs.Endings.{ends_then, ends_ended}
 
 pub set_cached : (t : Test) (value : List ℕ) (st : State) → value_of st.vars t.name ≡ Some value → cached_test t st ≡ Ends Goes_on (with_result (codes "(cached) " ++ t.shown (Some value)) (checking t.message st))
 set_cached t value st e = ap (λ o. test_by o t (checking t.message st)) e
+
+pub set_tests_ask_nothing : SetTestsAskNothing
+set_tests_ask_nothing t st value e = set_cached t value st e
 
 pub set_row : (r : Row) (value : List ℕ) (st : State) → value_of st.vars r.test.name ≡ Some value → tested r st ≡ Ends Goes_on (r.after (Some value) (with_cached r.test value st))
 set_row r value st e =

@@ -54,6 +54,11 @@ abbrev pub SetStaysSet : Type 0
 SetStaysSet = (script : Script) (name : List ℕ) (st : State) → IsSet name st.vars
     → AtEnds (λ how now. IsSet name now.vars) (meaning script st)
 
+-- A test whose name is set asks for nothing, and prints its value. (Autoconf's manual, "Caching Results")
+abbrev pub SetTestsAskNothing : Type 0
+SetTestsAskNothing = (test : Test) (st : State) (value : List ℕ) → value_of st.vars test.name ≡ Some value
+    → cached_test test st ≡ Ends Goes_on (with_result (codes "(cached) " ++ test.shown (Some value)) (checking test.message st))
+
 -- The state after a test whose name is set to this value: it has printed what is checked, and the value. (Autoconf's
 -- manual, "Caching Results")
 abbrev pub with_cached : Test → List ℕ → State → State

@@ -15,7 +15,7 @@
 #![tactic(auto)]
 
 ghost use Rattle.laws.specs.Batched.{BatchCommits, BatchAsksUnset, BatchStops, BatchKeepsSet, BatchAsksFew, BatchAsksOnce};
-ghost use Rattle.laws.specs.Cached.{NamesStandOnce, BrokenIsUnset, BrokenRowIsUnset, BrokenCheckIsUnset, SetStaysSet, SetRowAsksNothing};
+ghost use Rattle.laws.specs.Cached.{NamesStandOnce, BrokenIsUnset, BrokenRowIsUnset, BrokenCheckIsUnset, SetStaysSet, SetTestsAskNothing, SetRowAsksNothing};
 ghost use Rattle.laws.specs.Commands.{BrokenLeavesVariables, BrokenRowLeavesVariables, CommandsWriteAlone, BrokenCheckLeavesVariables};
 ghost use Rattle.laws.specs.Deeds.{DeedsAccount, CommandsHaveNoDeeds};
 ghost use Rattle.laws.specs.Linking.{LibsChecked, LibsSearched};
@@ -48,6 +48,11 @@ pub fn broken_check_is_unset()
 /// A name that is set is set at each end of any statements.
 pub fn set_stays_set()
     ensures set { SetStaysSet }
+{}
+
+/// A test whose name is set asks for nothing, and prints its value.
+pub fn set_tests_ask_nothing()
+    ensures nothing { SetTestsAskNothing }
 {}
 
 /// A test in a statement asks for nothing if its name is set. Variables and definitions are those from before, and then

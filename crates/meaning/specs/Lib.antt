@@ -8,4 +8,3 @@ pub mod Package
 pub mod Tries
 pub mod Batches
 pub mod Meaning
-pub mod Laws
