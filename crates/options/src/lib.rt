@@ -38,5 +38,6 @@ pub use commandline::{Directory, OptionFault, directories, srcdir_of};
 pub use declared::{check_precious, help_text, read_args};
 pub use fault::PreciousFault;
 pub use help::help_text_of;
+pub use opening::mark_name;
 pub use precious::check_precious_of;
 pub use settings::{Settings, read_args_of};

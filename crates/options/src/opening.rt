@@ -100,13 +100,10 @@ fn unslash_all(alloc: Global, vars: &mut Vars) -> Result<(), AllocError>
 }
 
 /// Returns the name of a mark of a variable: `ac_cv_env_`, the variable, and an ending.
-pub(crate) fn mark_name(alloc: Global, name: &[u8], ending: &[u8]) -> Result<Bytes, AllocError>
+pub fn mark_name(alloc: Global, name: &[u8], ending: &[u8]) -> Result<Bytes, AllocError>
     ensures { IfOk result (λ mark. mark ≡ codes "ac_cv_env_" ++ name.now ++ ending.now) }
 {
-    let mut mark = Vec::from_slice(alloc, b"ac_cv_env_")?;
-    mark.extend_from_slice(name)?;
-    mark.extend_from_slice(ending)?;
-    Ok(Bytes::from_vec(mark))
+    Bytes::concat(alloc, &[b"ac_cv_env_", name, ending])
 }
 
 /// Returns the value of the mark for whether a variable is set.
