@@ -52,7 +52,7 @@ fetch() {
           }
           if (file != "") { print version, file; exit } }' "$work/known" > "$work/found"
     if [ ! -s "$work/found" ]; then
-        others=$(sed -n 's/^Version: //p' "$work/known" | sort -u | paste -s -d ' ')
+        others=$(sed -n 's/^Version: //p' "$work/known" | sort -u | paste -s -d ' ' -)
         skip "it is tried in version $version, and the archives of this machine have ${others:-none}; no archive has the sum $sum"
     fi
     read -r debian_version file < "$work/found"

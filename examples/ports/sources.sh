@@ -1,10 +1,10 @@
 #!/bin/sh
-# Fetches the lists of source packages from the archives that APT uses on this machine, into a directory of its own. What APT has of the
-# machine itself stays as it is. APT's option -c takes the file apt.conf that is made there.
+# Fetches the lists of source packages from the archives that APT uses on this machine, into a directory of its own. The machine's own
+# lists stay as they are. The script makes the file apt.conf there, for the option -c of APT.
 #   sources.sh DIRECTORY
 # Ends with 77 if there is no APT, or if no list can be fetched.
 set -u
-[ "${1#/}" != "$1" ] || { echo 'sources.sh: takes a directory, from the root' >&2; exit 2; }
+[ "${1#/}" != "$1" ] || { echo 'sources.sh: the directory is an absolute path' >&2; exit 2; }
 
 skip() {
     echo "ports: all are skipped: $1"
@@ -14,10 +14,10 @@ skip() {
 command -v apt-get > /dev/null || skip 'there is no apt-get'
 eval "$(apt-config shell list Dir::Etc::sourcelist/f parts Dir::Etc::sourceparts/d)"
 mkdir -p "$1/parts" "$1/lists/partial" "$1/cache/archives/partial" || exit 2
-# The user that APT fetches as has to reach them.
+# As root, APT fetches as another user, who has to reach the directory.
 chmod 755 "$1"
 
-# Each entry for programs is one for sources here, in both formats.
+# Each entry of the machine, in either format, becomes one for sources.
 for file in "${list-}" "${parts-}"/*.list; do
     [ ! -f "$file" ] || sed -n -E 's/^[ 	]*deb(-src)?[ 	]/deb-src /p' "$file"
 done > "$1/sources.list"
