@@ -16,15 +16,6 @@ use std::alloc::{AllocError, Global};
 use syntax::test_names::sought_name;
 use syntax::{Listed, Sought};
 
-/// Returns a text after a prefix.
-pub(crate) fn prefixed(alloc: Global, prefix: &[u8], text: &[u8]) -> Result<Bytes, AllocError>
-    ensures { IfOk result (λ t. t ≡ prefix.now ++ text.now) }
-{
-    let mut all = Vec::from_slice(alloc, prefix)?;
-    all.extend_from_slice(text)?;
-    Ok(Bytes::from_vec(all))
-}
-
 /// Returns the test of an entry. `defines` is whether its result is defined.
 pub fn trial_of(
     alloc: Global,
@@ -58,6 +49,14 @@ pub fn begin_trial(alloc: Global, store: &mut Store, trial: &Trial) -> Result<()
     }
 }
 
+/// Returns a symbol to define: a prefix, and a name as part of a symbol.
+pub(crate) fn symbol_name(alloc: Global, prefix: &[u8], name: &[u8]) -> Result<Bytes, AllocError>
+    ensures { IfOk result (λ symbol. symbol ≡ prefix.now ++ symbol_part name.now) }
+{
+    let part = cpp_name(alloc, name)?;
+    Bytes::concat(alloc, &[prefix, part.as_slice()])
+}
+
 /// Defines `HAVE_` and the name of what is found, as 1.
 #[tactic(auto, using(plan::proofs::Symbols::have_name))]
 fn define_have(
@@ -71,8 +70,7 @@ fn define_have(
     if !found {
         return Ok(());
     }
-    let part = cpp_name(alloc, entry)?;
-    let symbol = prefixed(alloc, b"HAVE_", part.as_slice())?;
+    let symbol = symbol_name(alloc, b"HAVE_", entry)?;
     store.define(symbol.as_slice(), b"1")
 }
 
@@ -93,8 +91,7 @@ fn define_declared(
 ) -> Result<(), AllocError>
     ensures { OnOk result (store.new ≡ with_definition (codes "HAVE_DECL_" ++ symbol_part entry.now) (digit_of found) store.old) }
 {
-    let part = cpp_name(alloc, entry)?;
-    let symbol = prefixed(alloc, b"HAVE_DECL_", part.as_slice())?;
+    let symbol = symbol_name(alloc, b"HAVE_DECL_", entry)?;
     store.define(symbol.as_slice(), one_or_zero(found))
 }
 

@@ -6,16 +6,14 @@ ghost use Rattle.meaning.specs.Rows as rows;
 ghost use Rattle.meaning.specs.Rows.{is_linked, libraries_after, message_of, name_of, others_text, with_library, with_library_if, with_linked};
 ghost use Rattle.searching.specs.Linking as linking;
 
-use crate::deciding::{is_yes, prefixed};
+use crate::deciding::{is_yes, symbol_name};
 use crate::programs::job_to_try;
 use conftest::{JobFault, link_job_with};
 use csource::function_source;
 use deftable::Bytes;
 use jobs::Job;
-use m4quote::cpp_name;
 use runstate::Store;
 use runstate::pieces::{end_check, end_known_check};
-use runstate::store::joined;
 use shellword::HereText;
 use std::alloc::{AllocError, Global};
 use syntax::Try;
@@ -73,7 +71,7 @@ fn libraries_after(
 {
     let others = others_text(alloc, store, others)?;
     let libs = store.value_or_empty(alloc, b"LIBS")?;
-    joined(alloc, others.as_slice(), b" ", libs.as_slice())
+    Bytes::concat(alloc, &[others.as_slice(), b" ", libs.as_slice()])
 }
 
 /// Returns what AC_CHECK_LIB does with a library that has the function.
@@ -134,30 +132,28 @@ pub fn libraries_test(
 pub fn library_message(alloc: Global, library: &[u8], function: &[u8]) -> Result<Bytes, AllocError>
     ensures { IfOk result (λ m. m ≡ codes "for " ++ function.now ++ codes " in -l" ++ library.now) }
 {
-    let end = prefixed(alloc, b" in -l", library)?;
-    joined(alloc, b"for ", function, end.as_slice())
+    Bytes::concat(alloc, &[b"for ", function, b" in -l", library])
 }
 
 /// Returns what AC_SEARCH_LIBS checks.
 pub fn libraries_message(alloc: Global, function: &[u8]) -> Result<Bytes, AllocError>
     ensures { IfOk result (λ m. m ≡ codes "for library containing " ++ function.now) }
 {
-    prefixed(alloc, b"for library containing ", function)
+    Bytes::concat(alloc, &[b"for library containing ", function])
 }
 
 /// Returns the option that names a library.
 pub fn library_option(alloc: Global, library: &[u8]) -> Result<Bytes, AllocError>
     ensures { IfOk result (λ o. o ≡ codes "-l" ++ library.now) }
 {
-    prefixed(alloc, b"-l", library)
+    Bytes::concat(alloc, &[b"-l", library])
 }
 
 /// Returns the value of LIBS under which a library is tested.
 fn libs_with(alloc: Global, library: &[u8], after: &[u8]) -> Result<Bytes, AllocError>
     ensures { IfOk result (λ v. v ≡ codes "-l" ++ library.now ++ codes " " ++ after.now) }
 {
-    let libs = joined(alloc, library, b" ", after)?;
-    prefixed(alloc, b"-l", libs.as_slice())
+    Bytes::concat(alloc, &[b"-l", library, b" ", after])
 }
 
 /// Returns the job that links the function of a test with a library, or `None` if there is no compiler.
@@ -203,7 +199,7 @@ fn add_to_libs(alloc: Global, store: &mut Store, text: &[u8]) -> Result<(), Allo
     ensures { OnOk result (store.new ≡ with_library text.now store.old) }
 {
     let libs = store.value_or_empty(alloc, b"LIBS")?;
-    let value = joined(alloc, text, b" ", libs.as_slice())?;
+    let value = Bytes::concat(alloc, &[text, b" ", libs.as_slice()])?;
     store.set(b"LIBS", value.as_slice())
 }
 
@@ -212,8 +208,7 @@ fn add_to_libs(alloc: Global, store: &mut Store, text: &[u8]) -> Result<(), Allo
 fn define_library(alloc: Global, store: &mut Store, library: &[u8]) -> Result<(), AllocError>
     ensures { OnOk result (store.new ≡ linking.with_library_defined library.now store.old) }
 {
-    let part = cpp_name(alloc, library)?;
-    let symbol = prefixed(alloc, b"HAVE_LIB", part.as_slice())?;
+    let symbol = symbol_name(alloc, b"HAVE_LIB", library)?;
     store.define(symbol.as_slice(), b"1")
 }
 
