@@ -1,34 +1,12 @@
 -- The line of the version, statement by statement.
-use Rattle.std.proofs.Common.{◌≡◌, ◌≢◌, ℕ, ◌+◌, ◌<◌, ◌≤◌, List, [], length, drop, get_or, Option, Some, None, refl, sym, ap, ◌∙◌}
+use Rattle.std.proofs.Common.{◌≡◌, ℕ, ◌+◌, ◌<◌, ◌≤◌, List, [], length, drop, get_or, Option, Some, None, refl, sym, ap, ◌∙◌}
 use Rattle.std.specs.Prelude.{unwrap_or}
 use Rattle.std.proofs.lemmas.List.{drop_more}
 use Rattle.std.proofs.Math.ListN.{drop_of_length-le}
-use Rattle.syntax.specs.declared.statement.Plain as plain
-use Rattle.syntax.specs.declared.statement.Plain.TheVariants.{Init, Accepted, ConfigFiles, ConfigHeaders, Assign, Subst, SubstValue, Define, DefineUnquoted, Error, Message, ArgVar, CheckProg, CheckProgs, PathProg, ProgCc, Batch, Output}
 use Rattle.syntax.specs.declared.tree.Stmt.{Stmt}
 use Rattle.syntax.specs.declared.tree.Stmt.TheVariants.{Plain, Choose', CacheCheck'}
 use Rattle.syntax.specs.Script.{Script, script_of, stmt_then}
-use Rattle.framing.specs.Shown.{line_of, plain_line, statement_line, version_line}
-
-pub no_line : (p : plain.Plain) → ((title version bug tarname url : List ℕ) → p ≢ Init title version bug tarname url) → None ≡ plain_line p
-no_line (Init title version bug tarname url) h = absurd (h title version bug tarname url refl)
-no_line Accepted h = refl
-no_line (ConfigFiles outputs) h = refl
-no_line (ConfigHeaders outputs) h = refl
-no_line (Assign name value) h = refl
-no_line (Subst name) h = refl
-no_line (SubstValue name value) h = refl
-no_line (Define name value) h = refl
-no_line (DefineUnquoted name value) h = refl
-no_line (Error message status) h = refl
-no_line (Message kind message) h = refl
-no_line (ArgVar name help) h = refl
-no_line (CheckProg variable program found otherwise) h = refl
-no_line (CheckProgs variable programs otherwise) h = refl
-no_line (PathProg variable program otherwise) h = refl
-no_line (ProgCc programs) h = refl
-no_line (Batch listed entries includes) h = refl
-no_line Output h = refl
+use Rattle.framing.specs.Shown.{line_of, statement_line, version_line}
 
 then_line : (s : Stmt) (rest : Script) → version_line (stmt_then s rest) ≡ unwrap_or (statement_line s) (version_line rest)
 then_line (Plain p) rest = refl

@@ -1,6 +1,6 @@
 //! What is shown in place of a run.
 
-ghost use Rattle.std.specs.Prelude.{◌≡◌, ◌∷◌, [], IfOk};
+ghost use Rattle.std.specs.Prelude.{◌≡◌, ◌∷◌, [], IfOk, option_map};
 ghost use Rattle.deftable.specs.declared.note.Stream.TheVariants.{Out};
 ghost use Rattle.syntax.specs.Script.{script_of};
 ghost use Rattle.framing.specs.Shown as words;
@@ -23,15 +23,25 @@ fn line_of(alloc: Global, title: &[u8], version: &[u8]) -> Result<Bytes, AllocEr
     Ok(Bytes::from_vec(line))
 }
 
+/// Returns the title and the version, if the statement is AC_INIT.
+fn named_package(statement: &Plain) -> Option<(&[u8], &[u8])>
+    ensures { option_map (λ p. words.line_of p.0.now p.1.now) result ≡ words.plain_line statement.now }
+{
+    match statement {
+        Plain::Init { title, version, .. } => Some((title.as_slice(), version.as_slice())),
+        _ => None,
+    }
+}
+
 /// Returns the line of the version, if the statement is AC_INIT.
 fn plain_line(alloc: Global, statement: &Plain) -> Result<Option<Bytes>, AllocError>
     ensures { IfOk result (λ line. line ≡ words.plain_line statement.now) }
 {
-    if let Plain::Init { title, version, .. } = statement {
-        let line = line_of(alloc, title.as_slice(), version.as_slice())?;
-        return Ok(Some(line));
-    }
-    Ok(None)
+    let Some((title, version)) = named_package(statement) else {
+        return Ok(None);
+    };
+    let line = line_of(alloc, title, version)?;
+    Ok(Some(line))
 }
 
 /// Returns the same of any statement.
