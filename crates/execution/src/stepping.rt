@@ -1,6 +1,6 @@
 //! One step.
 
-ghost use Rattle.std.specs.Prelude.{◌≡◌, ◌≤◌, ◌++◌, ◌∷◌, ◌||◌, not, [], IfOk, IsOk, OnOk, None, Some, if◌then◌else◌, option_map};
+ghost use Rattle.std.specs.Prelude.{◌≡◌, ◌≤◌, ◌∷◌, ◌||◌, not, [], IfOk, IsOk, OnOk, None, Some, if◌then◌else◌, option_map};
 ghost use Rattle.deftable.specs.ShellName.{IsShellName};
 ghost use Rattle.deftable.specs.Table as tables;
 ghost use Rattle.deftable.specs.declared.note.Stream.TheVariants as streams;
@@ -33,6 +33,7 @@ use searching::search::look_for;
 use searching::{Flow, Search};
 use shellword::{HereText, Word};
 use std::alloc::{AllocError, Global};
+use syntax::test_names::{path_name, program_name};
 use syntax::{
     Entries, MessageKind, OptionKind, Plain, Program, Question, Sought, Subject, Try, When,
 };
@@ -51,30 +52,6 @@ fn value_of(
     }
 }
 
-/// Returns a name with a prefix before it.
-fn prefixed(alloc: Global, prefix: &[u8], name: &[u8]) -> Result<Bytes, AllocError>
-    ensures { IfOk result (λ b. b ≡ prefix.now ++ name.now) }
-{
-    let mut text = Vec::from_slice(alloc, prefix)?;
-    text.extend_from_slice(name)?;
-    Ok(Bytes::from_vec(text))
-}
-
-/// Returns a variable's name, its cached name, and the program's name.
-fn search_names(
-    alloc: Global,
-    prefix: &[u8],
-    variable: &[u8],
-    program: &Bytes,
-) -> Result<(Bytes, Bytes, Bytes), AllocError>
-    ensures { IfOk result (λ r. (r.0 ≡ variable.now) × (r.1 ≡ prefix.now ++ variable.now) × (r.2 ≡ program.now)) }
-{
-    let name = prefixed(alloc, prefix, variable)?;
-    let variable = Bytes::from_slice(alloc, variable)?;
-    let program = program.copy(alloc)?;
-    Ok((variable, name, program))
-}
-
 /// Returns the search of AC_CHECK_PROG.
 fn check_prog(
     alloc: Global,
@@ -85,7 +62,9 @@ fn check_prog(
 ) -> Result<Search, AllocError>
     ensures { IfOk result (λ s. s ≡ check_prog variable.now program.now found otherwise) }
 {
-    let (variable, name, program) = search_names(alloc, b"ac_cv_prog_", variable, program)?;
+    let name = program_name(alloc, variable)?;
+    let variable = Bytes::from_slice(alloc, variable)?;
+    let program = program.copy(alloc)?;
     Ok(Search {
         variable,
         name,
@@ -104,7 +83,9 @@ fn path_prog(
 ) -> Result<Search, AllocError>
     ensures { IfOk result (λ s. s ≡ path_prog variable.now program.now otherwise) }
 {
-    let (variable, name, program) = search_names(alloc, b"ac_cv_path_", variable, program)?;
+    let name = path_name(alloc, variable)?;
+    let variable = Bytes::from_slice(alloc, variable)?;
+    let program = program.copy(alloc)?;
     Ok(Search {
         variable,
         name,
