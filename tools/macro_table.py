@@ -27,6 +27,7 @@ import dataclasses
 import pathlib
 import re
 import sys
+import textwrap
 
 ROOT = pathlib.Path(__file__).resolve().parent.parent
 DATA = ROOT / "crates/macrotable/macros.txt"
@@ -316,8 +317,10 @@ def blocks(section):
         yield from ("", "```m4", *section.raw, "```")
     for entry in section.idioms():
         if not is_row(section, entry):
-            if entry.arguments or len(section.idioms()) > 1:
-                call = " ".join(entry.within(entry.call(entry.names[0])).split("\n"))
+            call = entry.within(entry.call(entry.names[0]))
+            if "\n" in call:
+                yield from ("", "In place of", "", "```", *call.split("\n"), "```", "", "write")
+            elif entry.arguments or len(section.idioms()) > 1:
                 yield from ("", f"In place of `{call}`:")
             yield from ("", "```m4" if entry.is_run() else "```", *entry.block(), "```")
 
@@ -326,9 +329,10 @@ def what_differs(section):
     """Yields the lines of what the idioms of a section leave otherwise than their macros."""
     found = [(entry, names, reason) for entry in section.idioms() for names, reason in entry.differing]
     if found:
-        yield from ("", "What is otherwise than after the macro:", "")
+        yield from ("", "By design, this differs from what the macro leaves:", "")
     for entry, names, reason in found:
-        yield f"- {in_words(entry.names[:1])}: {', '.join(f'`{name}`' for name in names)}: {reason}"
+        text = f"- {in_words(entry.names[:1])}: {', '.join(f'`{name}`' for name in names)}. {reason[0].upper()}{reason[1:]}."
+        yield from textwrap.wrap(text, 116, subsequent_indent="  ", break_long_words=False, break_on_hyphens=False)
 
 
 def rows():
@@ -352,8 +356,7 @@ def part_of_guide():
     lines = [
         BEGIN.rstrip("\n"),
         "",
-        "`crates/macrotable/macros.txt` has what is said here of each macro, and `tools/macro_table.py` writes this part of the guide from",
-        "it. What is used most comes first.",
+        "`tools/macro_table.py` writes this part of the guide from `crates/macrotable/macros.txt`. What is used most comes first.",
         "",
         "| Macro | What to do |",
         "|---|---|",

@@ -56,14 +56,10 @@ def left(text, ends):
 
 def tried(name, entry):
     """Returns how a macro and its idiom differ, or nothing."""
-    macro = name.partition("(")[0]
-    call = f"{macro}({','.join(entry.arguments)})" if entry.arguments else macro
-    around = entry.around or "@"
-    text = macro_table.fill(entry.text(), entry.arguments) if entry.kind == "idiom" else ""
-    for word, shown in sorted(entry.words, key=lambda it: -len(it[0])):
-        text = text.replace(word, shown)
+    call = entry.within(entry.call(name))
+    text = entry.sample() if entry.kind == "idiom" else ""
     ends = "AC_OUTPUT" in name
-    before, after = left(around.replace("@", call), ends), left(around.replace("@", text), ends)
+    before, after = left(call, ends), left(text, ends)
     if isinstance(before, str) or isinstance(after, str):
         return f"{before if isinstance(before, str) else ''} {after if isinstance(after, str) else ''}"
     names = sorted(it for it in {*before, *after} if before.get(it) != after.get(it))

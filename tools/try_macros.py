@@ -342,6 +342,7 @@ class Tries:
 
     def trial(self, entry, trial):
         """Returns what a trial leaves otherwise than it should."""
+        called = "the block" if trial.arguments is None else trial.arguments
         if trial.arguments is None:
             text = "\n".join(entry.block())
         else:
@@ -350,9 +351,9 @@ class Tries:
         shown = "".join(f"\nAC_SUBST([{name}])" for name in trial.wanted if name in assigned(text))
         mine = left_by_acrun(self.program, source_with(f"{trial.before}\n{text}{shown}"), text, names, trial.given, trial.has_no_programs)
         if mine["status"] != str(trial.status):
-            return f"{trial.arguments} {' '.join(trial.given)}: status {mine['status']}: {mine.get('why')}"
+            return f"{called} {' '.join(trial.given)}: status {mine['status']}: {mine.get('why')}"
         wrong = [f"{name} is {value!r}" for name in trial.wanted for value in [mine.get(f"#{name}", mine.get(name))] if value != wanted_of(trial, name)]
-        return f"{trial.arguments} {' '.join(trial.given)}: {', '.join(wrong)}" if wrong else ""
+        return f"{called} {' '.join(trial.given)}: {', '.join(wrong)}" if wrong else ""
 
     def entry(self, entry):
         """Returns how an idiom was tried, and what is wrong with it."""

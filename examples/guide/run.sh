@@ -1,6 +1,6 @@
 #!/bin/sh
 # Runs what README.md and docs/guide.md show: each command of their sessions, whose output has to be the one that is printed there, and
-# a run of each block of statements. Ends with 1 if anything is otherwise, and with 0 if there is no C compiler. The sessions of
+# a run of each block of statements and of each statement in a table. Ends with 1 if anything is otherwise, and with 0 if there is no C compiler. The sessions of
 # README.md have what gcc says, so they are passed over if there is no gcc. A line `[N more lines]` of an output is any N lines.
 #   run.sh PROGRAM
 set -u
@@ -64,6 +64,11 @@ run_document() {
         case $where:$line in
         'text:```console') where=session ;;
         'text:```m4') where=block && : > "$work/statements" ;;
+        'text:| `'*'` | `'*'` |')
+            statement=${line##*'` | `'}
+            printf '%s\n' "${statement%'` |'}" | sed 's/\\|/|/g' > "$work/statements"
+            run_block
+            ;;
         'session:```')
             run_command
             where=text

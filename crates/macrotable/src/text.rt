@@ -125,12 +125,12 @@ AC_ARG_VAR([host], [the system that the programs run on, as CPU-VENDOR-OS])
 AC_ARG_VAR([host_cpu], [the first part of host, such as x86_64])
 AC_ARG_VAR([host_vendor], [the second part of host, such as pc])
 AC_ARG_VAR([host_os], [the last part of host, such as linux-gnu])
-AS_IF([test -z \"$host\"], [AC_MSG_WARN([host is not detected: give host=CPU-VENDOR-OS, host_cpu=CPU and host_os=OS])])~idiom AC_CANONICAL_BUILD
+AS_IF([test -z \"$host\"], [AC_MSG_WARN([host is not detected: give host=CPU-VENDOR-OS and its parts])])~idiom AC_CANONICAL_BUILD
 AC_ARG_VAR([build], [the system that configure runs on, as CPU-VENDOR-OS])
 AC_ARG_VAR([build_cpu], [the first part of build, such as x86_64])
 AC_ARG_VAR([build_vendor], [the second part of build, such as pc])
 AC_ARG_VAR([build_os], [the last part of build, such as linux-gnu])
-AS_IF([test -z \"$build\"], [AC_MSG_WARN([build is not detected: give build=CPU-VENDOR-OS, build_cpu=CPU and build_os=OS])])~idiom AC_CANONICAL_TARGET AC_CANONICAL_SYSTEM
+AS_IF([test -z \"$build\"], [AC_MSG_WARN([build is not detected: give build=CPU-VENDOR-OS and its parts])])~idiom AC_CANONICAL_TARGET AC_CANONICAL_SYSTEM
 AC_ARG_VAR([host], [the system that the programs run on, as CPU-VENDOR-OS])
 AC_ARG_VAR([host_cpu], [the first part of host, such as x86_64])
 AC_ARG_VAR([host_vendor], [the second part of host, such as pc])
@@ -205,7 +205,8 @@ AC_PREPROC_IFELSE([AC_LANG_SOURCE([[$1{INCLUDES}]])],
   [$2{FOUND}], [$3{NOT-FOUND}])~idiom AC_COMPILE_CHECK
 AC_LINK_IFELSE([AC_LANG_PROGRAM([[$2{INCLUDES}]], [[$3{BODY}]])],
   [$4{FOUND}], [$5{NOT-FOUND}])~idiom AC_CACHE_VAL
-AC_CACHE_CHECK([for $1!{NAME_cv_NAME}], [$1!{NAME_cv_NAME}], [$2{COMMANDS}])~idiom AC_EGREP_CPP
+AC_CACHE_CHECK([for $1!{NAME_cv_NAME}], [$1!{NAME_cv_NAME}],
+  [$2{COMMANDS}])~idiom AC_EGREP_CPP
 AC_PREPROC_IFELSE([AC_LANG_SOURCE([[#include <stdio.h>
 #ifndef SYMBOL
 #error none
@@ -311,7 +312,7 @@ AS_IF([test \"$my_cv_flag_$1_{FLAG}\" != yes], [CFLAGS=$CFLAGS_before])~idiom AX
 CFLAGS=\"$CFLAGS $1{FLAGS}\"~idiom AX_CHECK_LINK_FLAG
 LDFLAGS_before=$LDFLAGS
 LDFLAGS=\"$LDFLAGS $1!{-Wl,FLAG}\"
-AC_CACHE_CHECK([whether the linker accepts it], [my_cv_flag_$1_{FLAG}],
+AC_CACHE_CHECK([whether the linker accepts $1!{-Wl,FLAG}], [my_cv_flag_$1_{FLAG}],
   [AC_LINK_IFELSE([AC_LANG_PROGRAM([], [])], [my_cv_flag_$1_{FLAG}=yes], [my_cv_flag_$1_{FLAG}=no])])
 AS_IF([test \"$my_cv_flag_$1_{FLAG}\" != yes], [LDFLAGS=$LDFLAGS_before])~idiom AX_PTHREAD ACX_PTHREAD
 AC_SEARCH_LIBS([pthread_create], [pthread],
