@@ -1,6 +1,6 @@
 //! A precious variable that is not as it was in the run that made the cache.
 
-ghost use Rattle.std.specs.Prelude.{◌≡◌, ◌++◌, [], IfOk, codes, option_map, unwrap_or};
+ghost use Rattle.std.specs.Prelude.{◌≡◌, [], IfOk, option_map, unwrap_or};
 ghost use Rattle.cachefile.specs.Cache.{vars_after};
 ghost use Rattle.deftable.specs.Table.{value_of};
 ghost use Rattle.options.specs.Precious.{old_value as value_then};
@@ -11,19 +11,9 @@ use cachefile::{OldCache, read_cache};
 use deftable::Vars;
 use explaining::Why;
 use faultwords::{Words, precious_words};
-use options::{PreciousFault, Settings, read_args};
+use options::{PreciousFault, Settings, mark_name, read_args};
 use std::alloc::{AllocError, Global};
 use syntax::Source;
-
-/// Returns the name of a mark of a variable: `ac_cv_env_`, the variable, and an ending.
-fn mark_name(alloc: Global, name: &[u8], ending: &[u8]) -> Result<Vec<u8>, AllocError>
-    ensures { IfOk result (λ mark. mark.items ≡ codes "ac_cv_env_" ++ name.now ++ ending.now) }
-{
-    let mut mark = Vec::from_slice(alloc, b"ac_cv_env_")?;
-    mark.extend_from_slice(name)?;
-    mark.extend_from_slice(ending)?;
-    Ok(mark)
-}
 
 /// Returns the value that pouring the cache over the variables would leave in this one, or an empty text if it would be unset.
 fn poured<'a>(vars: &'a Vars, cache: &'a OldCache, name: &[u8]) -> &'a [u8]
