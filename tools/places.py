@@ -23,6 +23,7 @@ PAGE = ["docs/language.md", "CHANGELOG.md"]
 MACRO = [*CASES, *PAGE, "docs/guide.md", "README.md", "crates/macrotable/macros.txt"]
 # In rows of tests a newline is `^J`.
 LINES = "J?(?:start refused|failed program was)"
+CODES = ["docs/running.md", "share/acrun.1"]
 LINT = ["examples/lint/sources.txt", "examples/lint/expected.txt"]
 
 # The change, the nearest one, its identifiers, its name as texts of the code have it, the crates to
@@ -38,7 +39,8 @@ KINDS = [
     ("An output kind", "the headers",
      r"headers|ConfigHeaders|\w*fill_header\w*|Kind::Header|made_header\w*", "AC_CONFIG_HEADERS", (),
      [*CASES, *PAGE, "docs/formats.md", "docs/running.md"]),
-    ("A fault of a source", "`CacheBody`", r"CacheBody", "", (), [*CASES, "docs/formats.md", *LINT]),
+    ("A fault of a source", "`CacheBody`", r"CacheBody", "", (),
+     [*CASES, "docs/formats.md", *LINT, *CODES]),
     ("A fault of a command line", "`FatalUnrecognized`", r"FatalUnrecognized", "", (),
      [*CASES, "docs/formats.md"]),
     ("A fault of outputs made again", "`NoArguments`", r"NoArguments|explain_remake", "", (),
@@ -48,7 +50,7 @@ KINDS = [
     ("The words of a fault", "`CacheBody`", r"CacheBody|parse_finding", "",
      ("faultwords", "linting"), LINT),
     ("A warning of `lint`", "`warn_of_compiler`", r"warn_of_compiler", "", (),
-     [*LINT, "docs/running.md"]),
+     [*LINT, *CODES, "docs/promises.md"]),
 ]
 
 
