@@ -70,7 +70,7 @@ def warnings():
                     is_error = code[1] == "plan-1" or "Severity::Error" in file[:code.start()][-40:]
                     found[code[1]] = (is_error, said)
     for code in sorted(used - {*found}):
-        sys.exit(f"lint_codes.py: nothing is found that {code} says")
+        raise LookupError(f"no message is found for the code {code}")
     return found
 
 
@@ -124,7 +124,7 @@ def written(path, text, marks):
     front, begin, rest = path.read_text().partition(marks[0])
     end = rest.find(marks[1])
     if not begin or end < 0:
-        sys.exit(f"lint_codes.py: {path.name} has no place for the list")
+        raise LookupError(f"{path.name} has no place for the list")
     return front + begin + text + rest[end:]
 
 
@@ -137,10 +137,13 @@ def documents():
 
 
 def differences():
-    """Yields a line for each document whose list is another."""
-    for path, text in documents():
-        if path.read_text() != text:
-            yield f"{path.relative_to(ROOT)} has other codes of findings: run tools/lint_codes.py"
+    """Yields a line for each document whose list is another, or for what has no place in the list."""
+    try:
+        for path, text in documents():
+            if path.read_text() != text:
+                yield f"{path.relative_to(ROOT)} has other codes of findings: run tools/lint_codes.py"
+    except LookupError as error:
+        yield f"tools/lint_codes.py: {error}"
 
 
 def main():
@@ -148,8 +151,11 @@ def main():
         found = [*differences()]
         print("".join(f"{line}\n" for line in found), end="")
         return int(bool(found))
-    for path, text in documents():
-        path.write_text(text)
+    try:
+        for path, text in documents():
+            path.write_text(text)
+    except LookupError as error:
+        sys.exit(f"lint_codes.py: {error}")
     return 0
 
 
