@@ -395,6 +395,8 @@ def main(words):
     autoconf = Autoconf() if shutil.which("autoconf") else None
     known = autoconf.known([name.partition("(")[0] for entry in entries for name in entry.names]) if autoconf else set()
     tries, counts, failed = Tries(program, autoconf, known), {}, 0
+    for name in sorted({*TRIALS} - {name for entry in macro_table.entries() for name in entry.names}):
+        sys.exit(f"no idiom is of {name}, which TRIALS has")
     with concurrent.futures.ThreadPoolExecutor(max_workers=os.cpu_count()) as pool:
         of_entries = zip(entries, pool.map(tries.entry, entries))
         for entry, (how, wrong) in of_entries:
