@@ -1,7 +1,7 @@
 //! The table of macros and their readers. What statements declare, `declare` and `declare_question`, shows in the lists
 //! of a source (`sources`): their contracts would make each function that calls them slow to prove.
 
-use crate::told::{Next, Told, add, put_each, put_if, put_made, put_next, put_of, put_sought};
+use crate::told::{Next, Told, add, put_each, put_if, put_made, put_next, put_of};
 use acargs::ParseFault;
 use acmacros::checks::complete;
 use acmacros::list_kind::{ListKind, check_list_kind};
@@ -9,15 +9,13 @@ use acmacros::placement::{as_statement, bare_fault, check_place};
 use acmacros::rows::{plain, question};
 use acmacros::table::{row_named, takes};
 use acmacros::{ArgumentMacro, ChoiceMacro, Macro, Named, PlainMacro, QuestionMacro};
-use deftable::{Bytes, Texts};
+use deftable::Texts;
 use m4quote::{Arg, Item, read_items};
-use shellword::HereText;
 use std::alloc::Global;
 use std::test::Fail;
-use syntax::{
-    Declarations, Entries, MessageKind, OptionKind, Plain, Program, Question, Sought, Stage, Try,
-};
+use syntax::{Declarations, OptionKind, Plain, Question, Stage, Try};
 use testrows::{Call, Page, try_rows};
+use testtrees::{put_plain, put_question, put_sought};
 
 // ---- the table
 
@@ -103,132 +101,17 @@ fn allowed_in_commands(name: &[u8]) -> Result<(), ParseFault> {
 
 // ---- readers
 
-/// Returns the word for a kind of message.
-fn kind_of(kind: MessageKind) -> &'static [u8] {
-    match kind {
-        MessageKind::Checking => b"Checking",
-        MessageKind::Results => b"Results",
-        MessageKind::Notice => b"Notice",
-        MessageKind::Warning => b"Warning",
-    }
-}
-
-/// Returns the word for a statement, as its variant is called.
-fn word_of(statement: &Plain) -> &'static [u8] {
-    match statement {
-        Plain::Init { .. } => b"Init",
-        Plain::Accepted => b"Accepted",
-        Plain::ConfigFiles { .. } => b"ConfigFiles",
-        Plain::ConfigHeaders { .. } => b"ConfigHeaders",
-        Plain::Assign { .. } => b"Assign",
-        Plain::Subst { .. } => b"Subst",
-        Plain::SubstValue { .. } => b"SubstValue",
-        Plain::Define { .. } => b"Define",
-        Plain::DefineUnquoted { .. } => b"DefineUnquoted",
-        Plain::Error { .. } => b"Error",
-        Plain::Message { kind, .. } => kind_of(*kind),
-        Plain::ArgVar { .. } => b"ArgVar",
-        Plain::CheckProg { .. } => b"CheckProg",
-        Plain::CheckProgs { .. } => b"CheckProgs",
-        Plain::PathProg { .. } => b"PathProg",
-        Plain::ProgCc { .. } => b"ProgCc",
-        Plain::Batch { .. } => b"Batch",
-        Plain::Output => b"Output",
-    }
-}
-
-/// The word for a statement, and the programs that it looks for.
+/// The statement, in words.
 impl Told for Plain {
     fn tell(&self, page: &mut Page) {
-        page.put(word_of(self));
-        if let Plain::CheckProgs { programs, .. } | Plain::ProgCc { programs } = self {
-            put_each(page, programs.as_slice());
-        }
+        put_plain(page, self);
     }
 }
 
-/// Puts a question about entries.
-fn put_entries(page: &mut Page, sought: Sought, entries: &Entries, includes: &Option<HereText>) {
-    page.put(b"each ");
-    put_sought(page, sought);
-    put_each(page, entries.as_slice());
-    includes.tell(page);
-}
-
-/// Puts a question about an entry.
-fn put_entry(page: &mut Page, sought: Sought, entry: &Bytes, includes: &Option<HereText>) {
-    put_sought(page, sought);
-    entry.tell(page);
-    includes.tell(page);
-}
-
-/// Puts a question about a program.
-fn put_tries(page: &mut Page, kind: Try, program: &Program) {
-    page.put(match kind {
-        Try::Compile => b"compile",
-        Try::Link => b"link",
-        Try::Preproc => b"preprocess",
-        Try::Run => b"run",
-    });
-    page.put(match program {
-        Program::Program { .. } => b" a program",
-        Program::Source { .. } => b" a source",
-    });
-}
-
-/// Puts a question about a library.
-fn put_library(
-    page: &mut Page,
-    library: &Bytes,
-    function: &Bytes,
-    others: &Option<HereText>,
-    adds: bool,
-) {
-    page.put(b"library");
-    library.tell(page);
-    page.put(b" function");
-    function.tell(page);
-    others.tell(page);
-    put_if(page, adds, b" adds");
-}
-
-/// Puts a question about several libraries.
-fn put_libraries(page: &mut Page, function: &Bytes, libraries: &Texts, others: &Option<HereText>) {
-    page.put(b"libraries");
-    put_each(page, libraries.as_slice());
-    page.put(b" function");
-    function.tell(page);
-    others.tell(page);
-}
-
-/// What a question asks.
+/// The question, in words.
 impl Told for Question {
     fn tell(&self, page: &mut Page) {
-        match self {
-            Question::Given { variable, .. } => page.put_text(variable.as_slice()),
-            Question::Tries { kind, program } => put_tries(page, *kind, program),
-            Question::Checks {
-                sought,
-                entry,
-                includes,
-            } => put_entry(page, *sought, entry, includes),
-            Question::ChecksEach {
-                sought,
-                entries,
-                includes,
-            } => put_entries(page, *sought, entries, includes),
-            Question::Library {
-                library,
-                function,
-                others,
-                adds,
-            } => put_library(page, library, function, others, *adds),
-            Question::Libraries {
-                function,
-                libraries,
-                others,
-            } => put_libraries(page, function, libraries, others),
-        }
+        put_question(page, self);
     }
 }
 
@@ -471,39 +354,39 @@ after AC_SEARCH_LIBS => 10 at 3
 after AS_HELP_STRING => 10 at 3
 after a => 10 at 3
 // what a call is read as
-reads AC_INIT([x],[1]) => Init
-reads AC_LANG([C]) => Accepted
-reads AC_CONFIG_FILES([a b:c]) => ConfigFiles
-reads AC_CONFIG_HEADERS([config.h]) => ConfigHeaders
+reads AC_INIT([x],[1]) => init [x] [1] [] [x] []
+reads AC_LANG([C]) => accepted
+reads AC_CONFIG_FILES([a b:c]) => files a:a.in b:c
+reads AC_CONFIG_HEADERS([config.h]) => config headers config.h:config.h.in
 reads AC_CONFIG_HEADERS([ ]) => 5 at 18
 reads AC_CONFIG_HEADERS([/config.h]) => 5 at 18
 reads AC_CONFIG_HEADERS([a:b:c]) => 5 at 18
-reads AC_MSG_CHECKING([for x]) => Checking
-reads AC_MSG_RESULT([$x]) => Results
-reads AC_MSG_NOTICE([here]) => Notice
-reads AC_MSG_WARN([there]) => Warning
+reads AC_MSG_CHECKING([for x]) => checking [for x]
+reads AC_MSG_RESULT([$x]) => results [${x}]
+reads AC_MSG_NOTICE([here]) => notice [here]
+reads AC_MSG_WARN([there]) => warning [there]
 reads AC_MSG_WARN([`a`]) => 6.1 at 12
-reads AC_SUBST([a]) => Subst
-reads AC_SUBST([a],[b]) => SubstValue
-reads AC_DEFINE([A]) => Define
-reads AC_DEFINE_UNQUOTED([A],[$a]) => DefineUnquoted
-reads AC_MSG_ERROR([no]) => Error
-reads AC_ARG_VAR([CC],[a compiler]) => ArgVar
-reads AC_CHECK_PROG([P],[p],[yes]) => CheckProg
-reads AC_CHECK_PROGS([P],[p q]) => CheckProgs[p][q]
-reads AC_PATH_PROG([P],[p]) => PathProg
-reads AC_PROG_CC => ProgCc[gcc][cc]
-reads AC_OUTPUT => Output
-reads AC_ARG_ENABLE([a-b],[AS_HELP_STRING([--enable-a-b],[c])]) => [enable_a_b]
-reads AC_ARG_WITH([x],[as it is]) => [with_x]
-reads AC_RUN_IFELSE([AC_LANG_SOURCE([x])]) => run a source
-reads AC_LINK_IFELSE([AC_LANG_PROGRAM]) => link a program
+reads AC_SUBST([a]) => subst a
+reads AC_SUBST([a],[b]) => subst a=b
+reads AC_DEFINE([A]) => define A [1]
+reads AC_DEFINE_UNQUOTED([A],[$a]) => define unquoted A [${a}]
+reads AC_MSG_ERROR([no]) => error 1 [no]
+reads AC_ARG_VAR([CC],[a compiler]) => precious CC [a compiler]
+reads AC_CHECK_PROG([P],[p],[yes]) => program P [p] found [yes]
+reads AC_CHECK_PROGS([P],[p q]) => programs P [p] [q]
+reads AC_PATH_PROG([P],[p]) => path P [p]
+reads AC_PROG_CC => compiler [gcc] [cc]
+reads AC_OUTPUT => output
+reads AC_ARG_ENABLE([a-b],[AS_HELP_STRING([--enable-a-b],[c])]) => feature enable_a_b [--enable-a-b] [c]
+reads AC_ARG_WITH([x],[as it is]) => package with_x [as it is]
+reads AC_RUN_IFELSE([AC_LANG_SOURCE([x])]) => run source [x]
+reads AC_LINK_IFELSE([AC_LANG_PROGRAM]) => link program [] []
 // one entry, and its includes
-reads AC_CHECK_HEADER([ sys/stat.h ]) => header[sys/stat.h]
-reads AC_CHECK_FUNC(strdup,[x=1]) => function[strdup]
-reads AC_CHECK_DECL([errno],,,[#include <errno.h>]) => declaration[errno] with #include <errno.h>
-reads AC_CHECK_TYPE([struct stat],,,[]) => type[struct stat]
-reads AC_CHECK_TYPE([f (int, char)]) => type[f (int, char)]
+reads AC_CHECK_HEADER([ sys/stat.h ]) => header [sys/stat.h]
+reads AC_CHECK_FUNC(strdup,[x=1]) => function [strdup]
+reads AC_CHECK_DECL([errno],,,[#include <errno.h>]) => declaration [errno] includes [#include <errno.h>]
+reads AC_CHECK_TYPE([struct stat],,,[]) => type [struct stat]
+reads AC_CHECK_TYPE([f (int, char)]) => type [f (int, char)]
 reads AC_CHECK_HEADER([a.h b.h]) => 5 at 16
 reads AC_CHECK_FUNC([9p]) => 5 at 14
 reads AC_CHECK_DECL([f (int)]) => 5 at 14
@@ -511,20 +394,20 @@ reads AC_CHECK_TYPE([a^Jb]) => 5 at 14
 reads AC_CHECK_TYPE() => 5 at 14
 reads AC_CHECK_DECL([a],,,[-]) => 5 at 20
 // lists of entries
-reads AC_CHECK_HEADERS([stdio.h^Junistd.h]) => each header[stdio.h][unistd.h]
-reads AC_CHECK_HEADERS([a.h],,,[$i]) => each header[a.h] with $[i]
-reads AC_CHECK_FUNCS(f g f) => each function[f][g][f]
-reads AC_CHECK_DECLS([a, b,]) => each declaration[a][b]
-reads AC_CHECK_TYPES([char *, f (int, char)]) => each type[char *][f (int, char)]
+reads AC_CHECK_HEADERS([stdio.h^Junistd.h]) => each header [stdio.h] [unistd.h]
+reads AC_CHECK_HEADERS([a.h],,,[$i]) => each header [a.h] includes [${i}]
+reads AC_CHECK_FUNCS(f g f) => each function [f] [g] [f]
+reads AC_CHECK_DECLS([a, b,]) => each declaration [a] [b]
+reads AC_CHECK_TYPES([char *, f (int, char)]) => each type [char *] [f (int, char)]
 reads AC_CHECK_HEADERS([ ]) => 5 at 17
 reads AC_CHECK_FUNCS([f,g]) => 5 at 15
 reads AC_CHECK_DECLS([a b]) => 5 at 15
 reads AC_CHECK_TYPES([a, $b]) => 5 at 15
 reads AC_CHECK_TYPES([a],,,[`]) => 6.1 at 21
 // a library; that it is added is said after its actions are read
-reads AC_CHECK_LIB([m],[sin]) => library[m] function[sin]
-reads AC_CHECK_LIB([ stdc++.1-a_B ],[ sin ],[:],[:],[-lz $L]) => library[stdc++.1-a_B] function[sin] with -lz $[L]
-reads AC_CHECK_LIB(m,sin,,,[]) => library[m] function[sin]
+reads AC_CHECK_LIB([m],[sin]) => library [m] function [sin]
+reads AC_CHECK_LIB([ stdc++.1-a_B ],[ sin ],[:],[:],[-lz $L]) => library [stdc++.1-a_B] function [sin] others [-lz ${L}]
+reads AC_CHECK_LIB(m,sin,,,[]) => library [m] function [sin]
 reads AC_CHECK_LIB([a/b],[sin]) => 5 at 13
 reads AC_CHECK_LIB([a b],[sin]) => 5 at 13
 reads AC_CHECK_LIB([$m],[sin]) => 5 at 13
@@ -535,8 +418,8 @@ reads AC_CHECK_LIB([m],[]) => 5 at 17
 reads AC_CHECK_LIB([a/b],[9p]) => 5 at 13
 reads AC_CHECK_LIB([m],[sin],,,[`]) => 6.1 at 25
 // several libraries
-reads AC_SEARCH_LIBS([sin],[m c]) => libraries[m][c] function[sin]
-reads AC_SEARCH_LIBS(sin,[ m^J^Ic m ],,,[-lz]) => libraries[m][c][m] function[sin] with -lz
+reads AC_SEARCH_LIBS([sin],[m c]) => libraries [m] [c] function [sin]
+reads AC_SEARCH_LIBS(sin,[ m^J^Ic m ],,,[-lz]) => libraries [m] [c] [m] function [sin] others [-lz]
 reads AC_SEARCH_LIBS([9p],[/]) => 5 at 15
 reads AC_SEARCH_LIBS([sin],[m a/b]) => 5 at 21
 reads AC_SEARCH_LIBS([sin],[m,c]) => 5 at 21

@@ -1,11 +1,11 @@
 //! Whole sources. The crate `case_tests` has them macro by macro and error by error.
 
-use crate::told::{Told, put_each, put_made, put_sought};
+use crate::told::{Told, put_each, put_made};
 use acparse::{ParseFault, Plain, Question, Source, Stmt, Subject, parse};
 use std::alloc::Global;
 use std::test::Fail;
-use syntax::Sought;
 use testrows::{Call, Page, try_rows};
+use testtrees::{put_plain, put_question};
 
 /// Puts the message of AC_CACHE_CHECK, its name, and how many commands it has.
 fn put_check(page: &mut Page, statement: &Stmt) {
@@ -22,21 +22,6 @@ fn put_check(page: &mut Page, statement: &Stmt) {
     }
 }
 
-/// Puts a batch.
-fn put_batch(page: &mut Page, statement: &Plain) {
-    if let Plain::Batch {
-        listed,
-        entries,
-        includes,
-    } = statement
-    {
-        page.put(b";batch ");
-        put_sought(page, Sought::Entry(*listed));
-        put_each(page, entries.as_slice());
-        includes.tell(page);
-    }
-}
-
 /// Returns whether the question is about entries or libraries.
 fn is_listed(question: &Question) -> bool {
     match question {
@@ -50,7 +35,7 @@ fn is_listed(question: &Question) -> bool {
 fn put_asked(page: &mut Page, question: &Question, cases: usize) {
     if is_listed(question) {
         page.put(b";");
-        question.tell(page);
+        put_question(page, question);
         page.put(b" ");
         page.put_number(cases);
     }
@@ -59,7 +44,10 @@ fn put_asked(page: &mut Page, question: &Question, cases: usize) {
 /// Puts a statement that looks for entries or libraries.
 fn put_entries(page: &mut Page, statement: &Stmt) {
     match statement {
-        Stmt::Plain(plain) => put_batch(page, plain),
+        Stmt::Plain(plain @ Plain::Batch { .. }) => {
+            page.put(b";");
+            put_plain(page, plain);
+        }
         Stmt::Choose {
             subject: Subject::Asked(question),
             cases,
@@ -158,19 +146,19 @@ AC_INIT([x],[1])^JAS_IF([:],[AS_IF([:],[AS_IF([:],[AS_IF([:],[AS_IF([:],[AS_IF([
 AC_INIT([x],[1])^JAS_IF([:],[AS_IF([:],[AS_IF([:],[AS_IF([:],[AS_IF([:],[AS_IF([:],[AS_IF([:],[AS_IF([:],[AS_IF([:],[AS_IF([:],[AS_IF([:],[AS_IF([:],[AS_IF([:],[AS_IF([:],[AS_IF([:],[AS_IF([:],[AS_IF([:],[AS_IF([:],[AS_IF([:],[AS_IF([:],[AS_IF([:],[AS_IF([:],[AS_IF([:],[AS_IF([:],[AS_IF([:],[AS_IF([:],[AS_IF([:],[AS_IF([:],[AS_IF([:],[AS_IF([:],[AC_CACHE_CHECK([x],[v_cv_x],[AS_IF([:],[v_cv_x=1])])])])])])])])])])])])])])])])])])])])])])])])])])])])])])])])^JAC_OUTPUT^J => 12 at 386
 AC_INIT([x],[1])^JAS_IF([:],[AS_IF([:],[AS_IF([:],[AS_IF([:],[AS_IF([:],[AS_IF([:],[AS_IF([:],[AS_IF([:],[AS_IF([:],[AS_IF([:],[AS_IF([:],[AS_IF([:],[AS_IF([:],[AS_IF([:],[AS_IF([:],[AS_IF([:],[AS_IF([:],[AS_IF([:],[AS_IF([:],[AS_IF([:],[AS_IF([:],[AS_IF([:],[AS_IF([:],[AS_IF([:],[AS_IF([:],[AS_IF([:],[AS_IF([:],[AS_IF([:],[AS_IF([:],[AS_IF([:],[AS_IF([:],[AC_CACHE_CHECK([x],[v_cv_x],[y=1])])])])])])])])])])])])])])])])])])])])])])])])])])])])])])])])^JAC_OUTPUT^J => 12 at 386
 // AC_CHECK_HEADER and its kin: a choice, with cases and without
-AC_INIT([x],[1])^JAC_CHECK_HEADER([a.h])^JAC_OUTPUT^J => 3;;;;;;0;header[a.h] 0
-AC_INIT([x],[1])^JAC_CHECK_FUNC([f],[x=1],[x=2])^JAC_OUTPUT^J => 3;;;;;;0;function[f] 2
-AC_INIT([x],[1])^JAC_CHECK_DECL([d],,[x=2],[i])^JAC_OUTPUT^J => 3;;;;;;0;declaration[d] with i 1
-AC_INIT([x],[1])^JAC_CHECK_TYPE([t],[AC_SUBST([v])])^JAC_OUTPUT^J => 3;[v];;;;;0;type[t] 1
+AC_INIT([x],[1])^JAC_CHECK_HEADER([a.h])^JAC_OUTPUT^J => 3;;;;;;0;header [a.h] 0
+AC_INIT([x],[1])^JAC_CHECK_FUNC([f],[x=1],[x=2])^JAC_OUTPUT^J => 3;;;;;;0;function [f] 2
+AC_INIT([x],[1])^JAC_CHECK_DECL([d],,[x=2],[i])^JAC_OUTPUT^J => 3;;;;;;0;declaration [d] includes [i] 1
+AC_INIT([x],[1])^JAC_CHECK_TYPE([t],[AC_SUBST([v])])^JAC_OUTPUT^J => 3;[v];;;;;0;type [t] 1
 // lists: a batch without cases, else a choice
-AC_INIT([x],[1])^JAC_CHECK_HEADERS([a.h b.h])^JAC_OUTPUT^J => 3;;;;;;0;batch header[a.h][b.h]
-AC_INIT([x],[1])^JAC_CHECK_HEADERS([a.h b.h],[],[[]],[i])^JAC_OUTPUT^J => 3;;;;;;0;batch header[a.h][b.h] with i
-AC_INIT([x],[1])^JAC_CHECK_HEADERS([a.h b.h],[ ],,[i])^JAC_OUTPUT^J => 3;;;;;;0;each header[a.h][b.h] with i 1
-AC_INIT([x],[1])^JAC_CHECK_FUNCS([f g],dnl x^J)^JAC_OUTPUT^J => 3;;;;;;0;batch function[f][g]
-AC_INIT([x],[1])^JAC_CHECK_FUNCS([f g],,[AC_SUBST([v])])^JAC_OUTPUT^J => 3;[v];;;;;0;each function[f][g] 1
-AC_INIT([x],[1])^JAC_CHECK_DECLS([a, b])^JAC_OUTPUT^J => 3;;;;;;0;batch declaration[a][b]
-AC_INIT([x],[1])^JAC_CHECK_DECLS([a],[:],[:])^JAC_OUTPUT^J => 3;;;;;;0;each declaration[a] 2
-AC_INIT([x],[1])^JAC_CHECK_TYPES([t])^JAC_OUTPUT^J => 3;;;;;;0;each type[t] 0
+AC_INIT([x],[1])^JAC_CHECK_HEADERS([a.h b.h])^JAC_OUTPUT^J => 3;;;;;;0;headers [a.h] [b.h]
+AC_INIT([x],[1])^JAC_CHECK_HEADERS([a.h b.h],[],[[]],[i])^JAC_OUTPUT^J => 3;;;;;;0;headers [a.h] [b.h] includes [i]
+AC_INIT([x],[1])^JAC_CHECK_HEADERS([a.h b.h],[ ],,[i])^JAC_OUTPUT^J => 3;;;;;;0;each header [a.h] [b.h] includes [i] 1
+AC_INIT([x],[1])^JAC_CHECK_FUNCS([f g],dnl x^J)^JAC_OUTPUT^J => 3;;;;;;0;functions [f] [g]
+AC_INIT([x],[1])^JAC_CHECK_FUNCS([f g],,[AC_SUBST([v])])^JAC_OUTPUT^J => 3;[v];;;;;0;each function [f] [g] 1
+AC_INIT([x],[1])^JAC_CHECK_DECLS([a, b])^JAC_OUTPUT^J => 3;;;;;;0;declarations [a] [b]
+AC_INIT([x],[1])^JAC_CHECK_DECLS([a],[:],[:])^JAC_OUTPUT^J => 3;;;;;;0;each declaration [a] 2
+AC_INIT([x],[1])^JAC_CHECK_TYPES([t])^JAC_OUTPUT^J => 3;;;;;;0;each type [t] 0
 AC_INIT([x],[1])^JAS_IF([:],[AC_CHECK_TYPES([t],[AC_CHECK_HEADERS([a.h])])])^JAC_OUTPUT^J => 3;;;;;;0
 // the first argument that has an error: the entry, the statements for yes, those for no, the includes
 AC_INIT([x],[1])^JAC_CHECK_HEADER([a b],[AC_NOPE],[AC_NOPE],[-])^JAC_OUTPUT^J => 5 at 33
@@ -193,14 +181,14 @@ AC_INIT([x],[1])^JAC_CACHE_CHECK([x],[v_cv_x],[AS_IF([:],[AC_CHECK_FUNCS([f])])]
 AC_INIT([x],[1])^JAC_CACHE_CHECK([x],[v_cv_x],[AC_CHECK_LIB([a/b],[f])])^JAC_OUTPUT^J => 11 at 45
 AC_INIT([x],[1])^JAC_CACHE_CHECK([x],[v_cv_x],[AS_IF([:],[AC_SEARCH_LIBS([f],[m])])])^JAC_OUTPUT^J => 11 at 45
 // a library is added if there are no statements for yes
-AC_INIT([x],[1])^JAC_CHECK_LIB([m],[sin])^JAC_OUTPUT^J => 3;;;;;;0;library[m] function[sin] adds 0
-AC_INIT([x],[1])^JAC_CHECK_LIB([m],[sin],[],[],[-lz])^JAC_OUTPUT^J => 3;;;;;;0;library[m] function[sin] with -lz adds 0
-AC_INIT([x],[1])^JAC_CHECK_LIB([m],[sin],[dnl x^J])^JAC_OUTPUT^J => 3;;;;;;0;library[m] function[sin] adds 0
-AC_INIT([x],[1])^JAC_CHECK_LIB([m],[sin],,[AC_SUBST([v])])^JAC_OUTPUT^J => 3;[v];;;;;0;library[m] function[sin] adds 1
-AC_INIT([x],[1])^JAC_CHECK_LIB([m],[sin],[ ])^JAC_OUTPUT^J => 3;;;;;;0;library[m] function[sin] 1
-AC_INIT([x],[1])^JAC_CHECK_LIB([m],[sin],[AC_SUBST([v])],[w=1])^JAC_OUTPUT^J => 3;[v];;;;;0;library[m] function[sin] 2
-AC_INIT([x],[1])^JAC_SEARCH_LIBS([sin],[m^Jc])^JAC_OUTPUT^J => 3;;;;;;0;libraries[m][c] function[sin] 0
-AC_INIT([x],[1])^JAC_SEARCH_LIBS([sin],[m],[v=1],[AC_SUBST([v])],[$L])^JAC_OUTPUT^J => 3;[v];;;;;0;libraries[m] function[sin] with $[L] 2
+AC_INIT([x],[1])^JAC_CHECK_LIB([m],[sin])^JAC_OUTPUT^J => 3;;;;;;0;library [m] function [sin] adds 0
+AC_INIT([x],[1])^JAC_CHECK_LIB([m],[sin],[],[],[-lz])^JAC_OUTPUT^J => 3;;;;;;0;library [m] function [sin] others [-lz] adds 0
+AC_INIT([x],[1])^JAC_CHECK_LIB([m],[sin],[dnl x^J])^JAC_OUTPUT^J => 3;;;;;;0;library [m] function [sin] adds 0
+AC_INIT([x],[1])^JAC_CHECK_LIB([m],[sin],,[AC_SUBST([v])])^JAC_OUTPUT^J => 3;[v];;;;;0;library [m] function [sin] adds 1
+AC_INIT([x],[1])^JAC_CHECK_LIB([m],[sin],[ ])^JAC_OUTPUT^J => 3;;;;;;0;library [m] function [sin] 1
+AC_INIT([x],[1])^JAC_CHECK_LIB([m],[sin],[AC_SUBST([v])],[w=1])^JAC_OUTPUT^J => 3;[v];;;;;0;library [m] function [sin] 2
+AC_INIT([x],[1])^JAC_SEARCH_LIBS([sin],[m^Jc])^JAC_OUTPUT^J => 3;;;;;;0;libraries [m] [c] function [sin] 0
+AC_INIT([x],[1])^JAC_SEARCH_LIBS([sin],[m],[v=1],[AC_SUBST([v])],[$L])^JAC_OUTPUT^J => 3;[v];;;;;0;libraries [m] function [sin] others [${L}] 2
 AC_INIT([x],[1])^JAS_IF([:],[AC_CHECK_LIB([m],[sin],[AC_SEARCH_LIBS([cos],[m],[AC_SUBST([v])])])])^JAC_OUTPUT^J => 3;[v];;;;;0
 // the first argument that has an error: the library, the function, the statements for yes, those for no, the others
 AC_INIT([x],[1])^JAC_CHECK_LIB([a/b],[9],[AC_NOPE],[AC_NOPE],[`])^JAC_OUTPUT^J => 5 at 30

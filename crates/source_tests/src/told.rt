@@ -5,7 +5,7 @@ use m4quote::Arg;
 use outputlist::OutputList;
 use shellword::{HereText, Part, Pattern, Patterns, Piece, Test, Word};
 use std::fmt::Display;
-use syntax::{Entries, Help, Listed, Sought};
+use syntax::{Entries, Help};
 use testrows::Page;
 
 /// What a call makes.
@@ -166,16 +166,6 @@ impl Told for Option<HereText> {
             text.tell(page);
         }
     }
-}
-
-/// Puts the word for what a macro looks for.
-pub fn put_sought(page: &mut Page, sought: Sought) {
-    page.put(match sought {
-        Sought::Entry(Listed::Header) => b"header",
-        Sought::Entry(Listed::Function) => b"function",
-        Sought::Entry(Listed::Declaration) => b"declaration",
-        Sought::Type => b"type",
-    });
 }
 
 /// Puts a blank and each piece: `*`, `?`, or a byte in brackets.

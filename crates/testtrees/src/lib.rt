@@ -8,4 +8,5 @@ pub mod plain_words;
 pub mod shell_words;
 pub mod tree_words;
 
-pub use tree_words::{put_counts, put_lists, put_statements};
+pub use plain_words::put_plain;
+pub use tree_words::{put_counts, put_lists, put_question, put_sought, put_statements};

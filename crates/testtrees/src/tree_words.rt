@@ -23,7 +23,8 @@ fn put_program(page: &mut Page, program: &Program) {
     }
 }
 
-fn put_sought(page: &mut Page, sought: Sought) {
+/// Puts the word for what a macro looks for.
+pub fn put_sought(page: &mut Page, sought: Sought) {
     page.put(match sought {
         Sought::Entry(Listed::Header) => b"header",
         Sought::Entry(Listed::Function) => b"function",
@@ -71,7 +72,8 @@ fn put_linked(page: &mut Page, question: &Question) {
     }
 }
 
-fn put_question(page: &mut Page, question: &Question) {
+/// Puts a question on one line, without its newline.
+pub fn put_question(page: &mut Page, question: &Question) {
     match question {
         Question::Given {
             kind,
