@@ -104,12 +104,15 @@ impl<L: Launcher + Drop> Children<L> {
         ensures oldest { place ≡ 0 → slots_in_flight self.old.events ≡ result.0 ∷ slots_in_flight self.new.events }
     {
         let slot = take_slot(&mut self.slots, place);
-        let child = take_child(self.children.as_mut_slice(), slot);
-        let number = child.number();
-        let (reply, kept, cause) = doubled(self.alloc, child.end(self.alloc));
+        let reply = end_in(
+            self.children.as_mut_slice(),
+            slot,
+            self.alloc,
+            &mut self.causes,
+            &mut self.events,
+            self.attempts,
+        );
         self.failures = failures_after(&reply, self.failures);
-        self.causes.put(number, cause);
-        put_end(&mut self.events, slot, kept, self.attempts);
         (slot, reply)
     }
 }
@@ -161,17 +164,54 @@ fn no_children<P: OpenProcess + Drop>(alloc: Global) -> Result<Vec<Option<Number
     Ok(children)
 }
 
-/// Takes the child out of a slot.
-fn take_child<P: OpenProcess + Drop>(
+/// Waits for the end of the child in a slot, takes it out, and appends its end to the events, of which `attempts` were
+/// starts. Returns the reply.
+fn end_in<P: OpenProcess + Drop>(
     children: &mut [Option<Numbered<P>>],
     slot: usize,
-) -> Numbered<P>
+    alloc: Global,
+    causes: &mut CauseList,
+    events: &mut Vec<CrewEvent>,
+    attempts: u64,
+) -> Reply
     requires slot { slot < length children.old }
     requires taken { IsSome (get_or children.old slot None) }
-    ensures taken { Some result ≡ get_or children.old slot None }
+    requires room { length events.old.items < vec_capacity events.old }
     ensures left { children.new ≡ slice_set children.old slot None }
+    ensures reply { result ≢ StartRefused }
+    ensures items { events.new.items ≡ events.old.items ++ Ended slot result attempts ∷ [] }
+    ensures room { vec_capacity events.old ≤ vec_capacity events.new }
 {
-    children[slot].take().unwrap()
+    let (reply, kept) = end_of(&mut children[slot], alloc, causes);
+    put_end(events, slot, kept, attempts);
+    reply
+}
+
+/// Waits for the end of a child, and takes it out. Returns its reply twice.
+fn end_of<P: OpenProcess + Drop>(
+    child: &mut Option<Numbered<P>>,
+    alloc: Global,
+    causes: &mut CauseList,
+) -> (Reply, Reply)
+    requires { IsSome child.old }
+    ensures left { child.new ≡ None }
+    ensures copy { result.1 ≡ result.0 }
+    ensures answer { result.0 ≢ StartRefused }
+{
+    let child = taken(child);
+    let number = child.number();
+    let (reply, kept, cause) = doubled(alloc, child.end(alloc));
+    causes.put(number, cause);
+    (reply, kept)
+}
+
+/// Takes a child out of its slot.
+fn taken<P: OpenProcess + Drop>(child: &mut Option<Numbered<P>>) -> Numbered<P>
+    requires { IsSome child.old }
+    ensures taken { Some result ≡ child.old }
+    ensures left { child.new ≡ None }
+{
+    child.take().unwrap()
 }
 
 /// Returns a reply twice, and its cause. If memory runs out, both are [`Reply::EndRefused`].
