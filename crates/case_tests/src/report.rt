@@ -1,10 +1,9 @@
 //! The check of a file of cases, and its report.
 
-use crate::answers::put_answer;
 use crate::calling::NOTHING;
-use crate::kinds::{Kind, kind_of};
 use crate::steps::put_file_case;
 use std::alloc::AllocError;
+use testanswers::{Kind, kind_of, put_answer};
 use testrows::escaped::{has, note_cut, put_difference};
 use testrows::{Case, Page, Section, next_case, next_section, read_file};
 use testruns::{Given, MARK, read_given};

@@ -10,13 +10,15 @@
 //! "own" marks a rule that no manual gives.
 //!
 //! In `specs`, read `Ran` (what a run leaves if each start is refused), `Handed` (what the filter gives a run, and takes of it) and
-//! `Filtered`. In `src`, read `running`, `result` and `whole`; `fault` is small.
+//! `Filtered`. In `src`, read `running`, `result` and `whole`; `fault` and `errors` are small.
 #![tactic(auto)]
 
+mod errors;
 mod fault;
 mod result;
 mod running;
 mod whole;
 
+pub use errors::tell;
 pub use fault::FilterFault;
 pub use whole::{Filtered, filter, filter_text, source_part};

@@ -5,11 +5,10 @@ ghost use Rattle.std.specs.Io.KnownBytes.{Appends};
 ghost use Rattle.filtering.specs.Filtered.{IsFiltered};
 ghost use Rattle.invocation.specs.Errors.{AreTold};
 
-use crate::errors::tell;
 use explaining::Why;
 use faultlines::{explain_source, explain_usage};
 use filter_input::read_input;
-use filtering::{FilterFault, Filtered, filter_text, source_part};
+use filtering::{FilterFault, Filtered, filter_text, source_part, tell};
 use invocation::{FAULT, tell_text};
 use std::alloc::Global;
 use std::io::{Read, Write};

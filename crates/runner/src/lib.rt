@@ -10,16 +10,14 @@
 //! "own" marks a rule that no manual gives.
 //!
 //! The definitions are those of the crates below: `Calls` in `invocation`, `Configures` in `configuring`, `MadeAgain`
-//! in `commands`, and `Filtered` in `filtering`. `specs/Puts` is small. In `src`, read `inputs` and `program`; `errors` is small.
+//! in `commands`, and `Filtered` in `filtering`. `specs/Puts` is small. In `src`, read `inputs` and `program`.
 #![tactic(auto)]
 
-mod errors;
 mod inputs;
 mod program;
 
-pub use errors::tell;
 pub use explaining::asks_why;
-pub use filtering::{FilterFault, Filtered, filter};
+pub use filtering::{FilterFault, Filtered, filter, tell};
 pub use framing::Fault;
 pub use invocation::{LOG, environment, may_show_progress, words};
 pub use program::{command, run};

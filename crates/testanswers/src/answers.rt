@@ -3,7 +3,7 @@
 use crate::calls::{can_resume, help_of, put_fault_line, run_filter, srcdir_in};
 use crate::kinds::Kind;
 use acparse::{Source, Stmt};
-use runner::{FilterFault, Filtered};
+use filtering::{FilterFault, Filtered};
 use testrows::escaped::{note_cut, put_error, put_fault, put_text};
 use testrows::{Page, cut, number_of};
 use testruns::given::{arguments_of, lines_of, put_source_of};

@@ -4,8 +4,8 @@
 use crate::pieces::Pieces;
 use acparse::{Source, is_resumable};
 use deftable::Bytes;
+use filtering::{FilterFault, Filtered, filter, tell};
 use options::{help_text, srcdir_of};
-use runner::{FilterFault, Filtered, filter, tell};
 use std::alloc::{AllocError, Global};
 
 pub fn can_resume(source: &Source) -> bool {
