@@ -8,11 +8,7 @@ use findings::Finding;
 use macrotable::{Entry, Index, Kind, fill};
 use sourcecalls::{CallAt, Extent};
 use std::alloc::{AllocError, Global};
-
-/// Returns a part of the text, or nothing if the text has no such part.
-fn part(text: &[u8], start: usize, end: usize) -> &[u8] {
-    text.get(start..end).unwrap_or(b"")
-}
+use textpieces::part;
 
 /// Returns the texts of the arguments.
 fn texts<'a>(alloc: Global, text: &'a [u8], args: &[Extent]) -> Result<Vec<&'a [u8]>, AllocError> {

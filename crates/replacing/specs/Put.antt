@@ -1,5 +1,5 @@
 -- What is put in the place of a call.
-use Rattle.std.specs.Prelude.{◌≡◌, ◌⊎◌, ℕ, ◌==◌, ◌||◌, ◌&&◌, nat_le, Bool, true, List, [], length, map, slice_range, Option, Some, codes, if◌then◌else◌}
+use Rattle.std.specs.Prelude.{◌≡◌, ◌⊎◌, ℕ, ◌==◌, ◌||◌, Bool, true, List, [], map, Option, Some, codes, if◌then◌else◌}
 use Rattle.std.specs.List.{list_all}
 use Rattle.macrotable.specs.Entries.{entry_of}
 use Rattle.macrotable.specs.declared.text.TheConstants.{TABLE}
@@ -7,10 +7,7 @@ use Rattle.exactidioms.specs.Filled.{filled}
 use Rattle.exactidioms.specs.Rows.{put_by}
 use Rattle.sourcecalls.specs.Calls.{Call}
 use Rattle.sourcecalls.specs.declared.call.Extent.{Extent}
-
--- The part of a text between two offsets, or nothing if it has no such part. (own)
-abbrev pub part : List ℕ → ℕ → ℕ → List ℕ
-part text start end = if nat_le start end && nat_le end (length text) then slice_range text start end else []
+use Rattle.textpieces.specs.Parts.{part}
 
 -- The text of an argument. (own)
 abbrev pub arg_text : List ℕ → Extent → List ℕ

@@ -5,18 +5,7 @@ ghost use Rattle.std.specs.List.{list_all};
 ghost use Rattle.replacing.specs.Put as specs;
 
 use crate::spots::Spot;
-use textpieces::{before, from};
-
-/// Returns a part of the text, or nothing if the text has no such part.
-pub(crate) fn part(text: &[u8], start: usize, end: usize) -> &[u8]
-    ensures { result.now ≡ specs.part text.now start end }
-{
-    if start <= end && end <= text.len() {
-        &text[start..end]
-    } else {
-        b""
-    }
-}
+use textpieces::{before, from, part};
 
 /// Returns whether the byte is a space, a tab or a carriage return.
 pub(crate) fn is_space(byte: u8) -> bool

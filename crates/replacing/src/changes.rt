@@ -5,13 +5,13 @@ ghost use Rattle.sourcecalls.specs.Calls.{seen};
 ghost use Rattle.exactidioms.specs.Exact.{text_of};
 ghost use Rattle.replacing.specs.Put as specs;
 
-use crate::around::{before_idle, begins_statement, ends_statement, indent_of, part, space_len};
+use crate::around::{before_idle, begins_statement, ends_statement, indent_of, space_len};
 use crate::spots::Spot;
 use exactidioms::{Exact, exact_of, filled};
 use macrotable::Index;
 use sourcecalls::{CallAt, Extent};
 use std::alloc::{AllocError, Global};
-use textpieces::from;
+use textpieces::{from, part};
 
 /// What a part of the text is replaced by.
 #[derive(Drop)]

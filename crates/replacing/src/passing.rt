@@ -6,12 +6,12 @@ ghost use Rattle.sourcecalls.specs.Calls.{calls_in, seen};
 ghost use Rattle.replacing.specs.Put.{IsPut};
 ghost use Rattle.replacing.specs.Rewritten as specs;
 
-use crate::around::{blank_len, part};
+use crate::around::blank_len;
 use crate::changes::{Change, Known, change_of, known_of};
 use crate::spots::{Spot, Walk};
 use sourcecalls::{CallAt, calls_of};
 use std::alloc::{AllocError, Global};
-use textpieces::from;
+use textpieces::{from, part};
 
 /// The old name of AS_HELP_STRING.
 const OLD_HELP: &[u8] = b"AC_HELP_STRING";

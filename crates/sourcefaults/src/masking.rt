@@ -2,12 +2,7 @@
 
 use crate::scan::Scan;
 use sourcecalls::{CallAt, Extent};
-use textpieces::from;
-
-/// Returns a part of the text, or nothing if the text has no such part.
-pub(crate) fn part(text: &[u8], start: usize, end: usize) -> &[u8] {
-    text.get(start..end).unwrap_or(b"")
-}
+use textpieces::{from, part};
 
 /// Writes a space for each byte between two offsets, but for newlines. Returns whether that changed anything.
 pub(crate) fn blank(text: &mut [u8], start: usize, end: usize) -> bool {

@@ -1,10 +1,11 @@
 //! The errors of a text, one after the other.
 
-use crate::masking::{blank, blank_bare, blank_call, innermost, part};
+use crate::masking::{blank, blank_bare, blank_call, innermost};
 use findings::Finding;
 use linting::errors_of;
 use sourcecalls::CallAt;
 use std::alloc::{AllocError, Global};
+use textpieces::part;
 
 /// A call that begins a source.
 pub(crate) const INIT: &[u8] = b"AC_INIT([a],[1])\n";

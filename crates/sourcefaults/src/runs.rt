@@ -1,6 +1,5 @@
 //! The errors of the pieces of a source.
 
-use crate::masking::part;
 use crate::pieces::starts_of;
 use crate::rounds::{ALL, Copy, INIT, OUTPUT, Piece, add_rounds};
 use acparse::parse;
@@ -8,6 +7,7 @@ use acstatement::ParseFault;
 use findings::Finding;
 use sourcecalls::{CallAt, calls_of};
 use std::alloc::{AllocError, Global};
+use textpieces::part;
 
 /// The pieces of a source.
 #[derive(Drop)]

@@ -5,12 +5,12 @@
 //! can. So the statement is found by fronts of the source, each read as a source of its own: the
 //! shortest one that can't be resumed ends with it.
 
-use crate::extent::{name_of, part, warn_of_part};
+use crate::extent::{name_of, warn_of_part};
 use acparse::{ParseFault, parse};
 use findings::Finding;
 use sourcecalls::{CallAt, Extent};
 use std::alloc::{AllocError, Global};
-use textpieces::{after_blanks, before, first_line, without_end_blanks};
+use textpieces::{after_blanks, before, first_line, part, without_end_blanks};
 
 /// Returns whether the source that ends at this offset can be resumed, or `None` if it isn't read.
 fn is_resumable_until(alloc: Global, text: &[u8], end: usize) -> Result<Option<bool>, AllocError> {

@@ -1,6 +1,6 @@
 //! The name, the word or the line that a text begins with, and the text around an offset.
 //!
-//! An offset after the end of a text is read as its end. No call allocates, and none fails.
+//! An offset after the end of a text is read as its end, but in [`part`]. No call allocates, and none fails.
 //!
 //! ```text
 //! first_name(b"AC_INIT([a])")     // AC_INIT
@@ -8,6 +8,9 @@
 //! after_blanks(b"  x=1")          // x=1
 //! ```
 #![tactic(auto)]
+
+ghost use Rattle.std.specs.Prelude.{◌≡◌};
+ghost use Rattle.textpieces.specs.Parts as specs;
 
 /// Returns the text from an offset on.
 pub fn from(text: &[u8], at: usize) -> &[u8] {
@@ -17,6 +20,17 @@ pub fn from(text: &[u8], at: usize) -> &[u8] {
 /// Returns the text before an offset.
 pub fn before(text: &[u8], at: usize) -> &[u8] {
     &text[..at.min(text.len())]
+}
+
+/// Returns a part of the text, or nothing if the text has no such part.
+pub fn part(text: &[u8], start: usize, end: usize) -> &[u8]
+    ensures { result.now ≡ specs.part text.now start end }
+{
+    if start <= end && end <= text.len() {
+        &text[start..end]
+    } else {
+        b""
+    }
 }
 
 /// Returns whether a byte is a letter, a digit or `_`.
