@@ -40,6 +40,7 @@ fn unknown(alloc: Global, index: &Index, text: &[u8], call: &CallAt) -> Result<F
         text,
         ParseFault::UnknownMacro(call.start),
         call.start,
+        &[],
     )?;
     advised(alloc, index, text, call, finding)
 }
@@ -114,7 +115,7 @@ pub(crate) fn fault_finding(
     ensures shown { IfOk result (λ f. specs.shown f ≡ specs.error_at at) }
     ensures end { IfOk result (specs.EndsIn (length text.now)) }
 {
-    let finding = parse_finding(alloc, text, fault, at)?;
+    let finding = parse_finding(alloc, text, fault, at, calls)?;
     match call_of(fault, calls) {
         None => Ok(finding),
         Some(call) => advised(alloc, index, text, call, finding),

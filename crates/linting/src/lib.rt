@@ -4,7 +4,7 @@
 //! each once. If the source is read and weighs too much for a plan, that is the error. There is none exactly if both accept.
 //!
 //! ```
-//! let findings = errors_of(alloc, b"AC_INIT([a],[1])\nAC_PROG_AWK\nif x; then\nAC_OUTPUT\n")?; // AC_PROG_AWK at 17, and `if` at 29
+//! let findings = errors_of(alloc, b"AC_INIT([a],[1])\nAC_PROG_AWK\nif x; then\nAC_OUTPUT\n")?; // AC_PROG_AWK at 17; `if` is later
 //! ```
 //!
 //! Read `fault` (where a fault is), `statement` (where the statement at fault begins), `advice` (what to write in place

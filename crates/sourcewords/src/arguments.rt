@@ -63,21 +63,3 @@ pub(crate) fn argument_words(name: &[u8]) -> (&'static [u8], &'static [u8]) {
         None => (b"is not what the argument may be", b""),
     }
 }
-
-/// The macros that acrun knows.
-#[rattlefmt::skip]
-const MACROS: [&[u8]; 45] = [
-    b"AC_INIT", b"AC_PREREQ", b"AC_CONFIG_SRCDIR", b"AC_CONFIG_AUX_DIR", b"AC_CONFIG_MACRO_DIR", b"AC_CONFIG_MACRO_DIRS",
-    b"AC_LANG", b"AC_CONFIG_FILES", b"AC_CONFIG_HEADERS", b"AC_OUTPUT", b"AC_ARG_ENABLE", b"AC_ARG_WITH", b"AC_ARG_VAR",
-    b"AC_SUBST", b"AC_DEFINE", b"AC_DEFINE_UNQUOTED", b"AC_MSG_ERROR", b"AC_MSG_CHECKING", b"AC_MSG_RESULT",
-    b"AC_MSG_NOTICE", b"AC_MSG_WARN", b"AS_IF", b"AS_CASE", b"AC_CACHE_CHECK", b"AC_PROG_CC", b"AC_CHECK_PROG",
-    b"AC_CHECK_PROGS", b"AC_PATH_PROG", b"AC_CHECK_HEADER", b"AC_CHECK_FUNC", b"AC_CHECK_DECL", b"AC_CHECK_TYPE",
-    b"AC_CHECK_HEADERS", b"AC_CHECK_FUNCS", b"AC_CHECK_DECLS", b"AC_CHECK_TYPES", b"AC_CHECK_LIB", b"AC_SEARCH_LIBS",
-    b"AC_COMPILE_IFELSE", b"AC_LINK_IFELSE", b"AC_PREPROC_IFELSE", b"AC_RUN_IFELSE", b"AS_HELP_STRING",
-    b"AC_LANG_PROGRAM", b"AC_LANG_SOURCE",
-];
-
-/// Returns the macros that acrun knows.
-pub(crate) fn macros() -> &'static [&'static [u8]] {
-    &MACROS
-}

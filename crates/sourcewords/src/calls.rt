@@ -1,62 +1,9 @@
-//! The argument at a place, the arguments of a call, and the call that a place is in.
-//!
-//! Brackets and parentheses are counted, and nothing else is looked at: where these are at fault, the words may name another call.
+//! The call that a place is in, and the arguments of a call.
 
-use textpieces::{before, first_name, from, is_word_byte, without_end_blanks};
-
-/// How many brackets and parentheses are open.
-#[derive(Clone, Copy)]
-struct Open {
-    brackets: usize,
-    parens: usize,
-}
-
-impl Open {
-    fn is_none(&self) -> bool {
-        self.brackets == 0 && self.parens == 0
-    }
-
-    /// Returns what is open after the byte.
-    fn after(&self, byte: u8) -> Open {
-        let Open { brackets, parens } = *self;
-        if byte == b'[' {
-            let brackets = brackets.saturating_add(1);
-            return Open { brackets, parens };
-        }
-        if byte == b']' {
-            let brackets = brackets.saturating_sub(1);
-            return Open { brackets, parens };
-        }
-        if brackets > 0 {
-            return Open { brackets, parens };
-        }
-        if byte == b'(' {
-            let parens = parens.saturating_add(1);
-            return Open { brackets, parens };
-        }
-        let parens = parens.saturating_sub(usize::from(byte == b')'));
-        Open { brackets, parens }
-    }
-}
-
-const NOTHING: Open = Open {
-    brackets: 0,
-    parens: 0,
-};
-
-/// Returns the argument that a text begins with: what is before a comma or a parenthesis that ends it.
-pub(crate) fn first_argument(text: &[u8]) -> &[u8] {
-    let mut open = NOTHING;
-    let mut len: usize = 0;
-    for byte in text {
-        if open.is_none() && matches!(*byte, b',' | b')' | b']') {
-            return without_end_blanks(before(text, len));
-        }
-        open = open.after(*byte);
-        len = len.saturating_add(1);
-    }
-    without_end_blanks(text)
-}
+use m4quote::{Arg, Item, QuoteFault, read_items};
+use sourcecalls::{CallAt, Extent};
+use std::alloc::{AllocError, Global};
+use textpieces::{before, from, is_word_byte, part};
 
 /// Returns what is before a bracket that closes more than the text opens, or the whole text.
 pub(crate) fn before_close(text: &[u8]) -> &[u8] {
@@ -73,29 +20,6 @@ pub(crate) fn before_close(text: &[u8]) -> &[u8] {
     text
 }
 
-/// Returns how many arguments are before the parenthesis that ends a text of arguments.
-fn count_within(text: &[u8]) -> usize {
-    let mut open = NOTHING;
-    let mut count: usize = 1;
-    for byte in text {
-        if open.is_none() && *byte == b')' {
-            return count;
-        }
-        count = count.saturating_add(usize::from(open.is_none() && *byte == b','));
-        open = open.after(*byte);
-    }
-    count
-}
-
-/// Returns the number of arguments of the call that a text begins with.
-pub(crate) fn argument_count(text: &[u8]) -> usize {
-    let name = first_name(text);
-    match from(text, name.len()) {
-        [b'(', inside @ ..] => count_within(inside),
-        _ => 0,
-    }
-}
-
 /// Returns the letters, digits and `_` that a text ends with.
 pub(crate) fn last_name(text: &[u8]) -> &[u8] {
     let len = text
@@ -106,26 +30,6 @@ pub(crate) fn last_name(text: &[u8]) -> &[u8] {
     from(text, text.len().saturating_sub(len))
 }
 
-/// Returns the name of the innermost call that is open at the end of a text. If none is, it is empty.
-pub(crate) fn open_call(text: &[u8]) -> &[u8] {
-    let mut closed: usize = 0;
-    let mut left = text.len();
-    for byte in text.iter().rev() {
-        left = left.saturating_sub(1);
-        if *byte == b')' {
-            closed = closed.saturating_add(1);
-        } else if *byte == b'(' && closed > 0 {
-            closed -= 1;
-        } else if *byte == b'(' {
-            let name = last_name(before(text, left));
-            if !name.is_empty() {
-                return name;
-            }
-        }
-    }
-    b"".as_slice()
-}
-
 /// Returns an argument without the quotes around it.
 pub(crate) fn unquoted(argument: &[u8]) -> &[u8] {
     match argument {
@@ -134,8 +38,69 @@ pub(crate) fn unquoted(argument: &[u8]) -> &[u8] {
     }
 }
 
-/// Returns whether the offset is the start of an argument: before it, but for blanks, is a parenthesis or a comma.
-pub(crate) fn is_argument(text: &[u8], at: usize) -> bool {
-    let front = without_end_blanks(before(text, at));
-    front.ends_with(b"(") || front.ends_with(b",")
+/// Returns the innermost call in whose arguments the place is.
+pub(crate) fn call_around(calls: &[CallAt], at: usize) -> Option<&CallAt> {
+    calls
+        .iter()
+        .rev()
+        .find(|call| call.name_end <= at && at < call.end)
+}
+
+/// Returns the texts of these parts of a source.
+fn texts_at<'a>(
+    alloc: Global,
+    text: &'a [u8],
+    args: &[Extent],
+) -> Result<Vec<&'a [u8]>, AllocError> {
+    let mut texts = Vec::new(alloc);
+    for arg in args {
+        texts.push(part(text, arg.start, arg.end))?;
+    }
+    Ok(texts)
+}
+
+/// Returns the texts of arguments.
+fn texts_of<'a>(alloc: Global, args: &[Arg<'a>]) -> Result<Vec<&'a [u8]>, AllocError> {
+    let mut texts = Vec::new(alloc);
+    for arg in args {
+        texts.push(arg.text)?;
+    }
+    Ok(texts)
+}
+
+/// Returns the arguments of the call that a text begins with, or none if its quotes have an error.
+fn first_arguments(alloc: Global, text: &[u8]) -> Result<Vec<&[u8]>, AllocError> {
+    match read_items(alloc, text) {
+        Ok(items) => match items.first() {
+            Some(Item::Call { args, .. }) => texts_of(alloc, args.as_slice()),
+            _ => Ok(Vec::new(alloc)),
+        },
+        Err(QuoteFault::OutOfMemory) => Err(AllocError),
+        Err(_) => Ok(Vec::new(alloc)),
+    }
+}
+
+/// Returns the rest of the argument that the place is in, without the bracket that closes it.
+fn rest_of_argument<'a>(text: &'a [u8], calls: &[CallAt], at: usize) -> &'a [u8] {
+    let Some(call) = call_around(calls, at) else {
+        return b"";
+    };
+    match call.args.iter().find(|arg| arg.start <= at && at < arg.end) {
+        Some(arg) => before_close(part(text, at, arg.end)),
+        None => b"",
+    }
+}
+
+/// Returns the arguments of the call that begins at the place. It may be one of an argument that has no statements, which is not
+/// among the calls.
+pub(crate) fn arguments_at<'a>(
+    alloc: Global,
+    text: &'a [u8],
+    calls: &[CallAt],
+    at: usize,
+) -> Result<Vec<&'a [u8]>, AllocError> {
+    match calls.iter().find(|call| call.start == at) {
+        Some(call) => texts_at(alloc, text, call.args.as_slice()),
+        None => first_arguments(alloc, rest_of_argument(text, calls, at)),
+    }
 }

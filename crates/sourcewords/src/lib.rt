@@ -6,13 +6,13 @@
 //!
 //! ```text
 //! // acrun does not know the macro AC_AIX
-//! let finding = parse_finding(alloc, source, ParseFault::UnknownMacro(749), 749)?;
+//! let finding = parse_finding(alloc, source, ParseFault::UnknownMacro(749), 749, calls)?;
 //! ```
 //!
 //! A call fails only if memory runs out. What is said is tested, and what is proved is that each
 //! call ends, and where a finding is.
 //!
-//! Read `calls`, which finds the argument and the call at a place, and `arguments`, which has what
+//! Read `calls`, which finds the call that a place is in, and `arguments`, which has what
 //! an argument may be. Then `parse` has the faults. What is said of shell text that is not read is in
 //! the crate `shellfaults`.
 #![tactic(auto)]

@@ -3,11 +3,10 @@
 ghost use Rattle.std.specs.Prelude.{◌≡◌, ◌≤◌, length, IfOk};
 ghost use Rattle.findings.specs.declared.finding.Severity.TheVariants.{Error};
 
-use crate::arguments::{argument_words, macros};
-use crate::calls::{
-    argument_count, before_close, first_argument, is_argument, last_name, open_call, unquoted,
-};
-use acmacros::table::row_named;
+use crate::arguments::argument_words;
+use crate::calls::{arguments_at, before_close, call_around, last_name, unquoted};
+use acmacros::Row;
+use acmacros::table::{row_named, rows};
 use acstatement::ParseFault;
 use bstr::ByteSlice;
 use deftable::Bytes;
@@ -16,15 +15,17 @@ use findings::Finding;
 use m4quote::QuoteFault;
 use shellfaults::{Construct, shell_help, test_help, word_help};
 use shellword::ShellFault;
+use sourcecalls::{CallAt, Extent};
 use std::alloc::{AllocError, Global};
 use textpieces::{
-    after_blanks, before, first_line, first_name, first_word, from, without_end_blanks,
+    after_blanks, before, first_line, first_name, first_word, from, part, without_end_blanks,
 };
 
-/// The text around a fault.
+/// The text around a fault, and the calls of the source.
 #[derive(Clone, Copy)]
 struct Around<'a> {
     text: &'a [u8],
+    calls: &'a [CallAt],
     at: usize,
 }
 
@@ -39,14 +40,45 @@ impl<'a> Around<'a> {
         first_name(self.rest())
     }
 
-    /// Returns the name of the call that the place is in.
+    /// Returns the name of the call that the place is in. If it is in none, the name is empty.
     fn call(&self) -> &'a [u8] {
-        open_call(before(self.text, self.at))
+        match call_around(self.calls, self.at) {
+            Some(call) => part(self.text, call.start, call.name_end),
+            None => b"",
+        }
     }
 
-    /// Returns the argument at the place, without the quotes around it.
+    /// Returns where the argument is that begins at the place, and its number, from 0.
+    fn found(&self) -> Option<(usize, Extent)> {
+        let call = call_around(self.calls, self.at)?;
+        let number = call.args.iter().position(|arg| arg.start == self.at)?;
+        Some((number, *call.args.get(number)?))
+    }
+
+    /// Returns whether an argument begins at the place.
+    fn is_argument(&self) -> bool {
+        self.found().is_some()
+    }
+
+    /// Returns the argument that begins at the place.
+    fn written(&self) -> &'a [u8] {
+        match self.found() {
+            Some((_, arg)) => without_end_blanks(part(self.text, arg.start, arg.end)),
+            None => b"",
+        }
+    }
+
+    /// Returns the argument that begins at the place, without the quotes around it.
     fn argument(&self) -> &'a [u8] {
-        unquoted(first_argument(self.rest()))
+        unquoted(self.written())
+    }
+
+    /// Returns whether the first argument of a call that tries a program begins at the place.
+    fn is_program(&self) -> bool {
+        match self.found() {
+            Some((number, _)) => number == 0 && self.call().ends_with(b"_IFELSE"),
+            None => false,
+        }
     }
 }
 
@@ -96,6 +128,14 @@ fn put_quote(page: &mut Page, around: Around<'_>, fault: QuoteFault) {
     }
 }
 
+/// What is said of a macro that no table has.
+const UNLISTED: &[u8] =
+    b"no table of acrun has it: if the package defines it (aclocal.m4, acinclude.m4, m4/), write here what its definition does";
+
+/// What is said of a name that may be that of a macro of the package.
+const OWN: &[u8] =
+    b"if the package defines it (aclocal.m4, acinclude.m4, m4/), write here what its definition does";
+
 /// Writes the macro that has the nearest name, or else other help.
 fn put_near_macro(
     alloc: Global,
@@ -103,37 +143,57 @@ fn put_near_macro(
     name: &[u8],
     otherwise: &[u8],
 ) -> Result<(), AllocError> {
+    let mut names = Vec::new(alloc);
+    for row in rows() {
+        names.push(row.0)?;
+    }
     page.advise_near(
         alloc,
         name,
-        macros(),
+        names.as_slice(),
         b"a macro of a similar name is ",
         otherwise,
     )
 }
 
+/// The macros that Autoconf replaces by what AC_INIT says. A variable has each without its `AC_`.
+const PACKAGE: [&[u8]; 6] = [
+    b"AC_PACKAGE_NAME",
+    b"AC_PACKAGE_TARNAME",
+    b"AC_PACKAGE_VERSION",
+    b"AC_PACKAGE_STRING",
+    b"AC_PACKAGE_BUGREPORT",
+    b"AC_PACKAGE_URL",
+];
+
 /// Writes that a macro isn't known, and the nearest one.
 fn put_unknown(alloc: Global, page: &mut Page, name: &[u8]) -> Result<(), AllocError> {
     page.say(b"acrun does not know the macro ");
     page.say(name);
-    put_near_macro(
-        alloc,
-        page,
-        name,
-        b"docs/guide.md says what to write in place of many macros",
-    )
+    if PACKAGE.iter().any(|other| *other == name) {
+        page.advise(b"write $");
+        page.advise(from(name, 3));
+        return Ok(());
+    }
+    put_near_macro(alloc, page, name, UNLISTED)
 }
 
-/// Writes that a name with a parenthesis is no macro, and the nearest one.
+/// Writes that a name is no macro, and the nearest one.
 fn put_no_macro(alloc: Global, page: &mut Page, name: &[u8]) -> Result<(), AllocError> {
     page.say_text(name);
-    page.say(b" is no macro, and no command is run");
-    put_near_macro(
-        alloc,
-        page,
-        name,
-        b"the macros of a package itself are not read: write out what they do",
-    )
+    page.say(b" is no macro that acrun knows, and no command is run");
+    put_near_macro(alloc, page, name, OWN)
+}
+
+/// Returns whether a statement is a name alone that looks like that of a macro, such as `CF_PROG_CC`.
+fn is_macro_like(name: &[u8], rest: &[u8]) -> bool {
+    let has_form = name.iter().all(|byte| byte.is_ascii_uppercase()
+        || byte.is_ascii_digit()
+        || *byte == b'_');
+    has_form
+        && name.contains(&b'_')
+        && name.first().is_some_and(|byte| byte.is_ascii_uppercase())
+        && without_end_blanks(first_line(rest)).len() == name.len()
 }
 
 /// Returns whether a text begins with `=` and a blank.
@@ -156,7 +216,8 @@ fn put_plain_text(alloc: Global, page: &mut Page, around: Around<'_>) -> Result<
         put_not_alone(page, name);
         return Ok(());
     }
-    if !name.is_empty() && from(rest, name.len()).starts_with(b"(") {
+    let is_called = !name.is_empty() && from(rest, name.len()).starts_with(b"(");
+    if is_called || is_macro_like(name, rest) {
         return put_no_macro(alloc, page, name);
     }
     if has_blank_after_equals(from(rest, name.len())) {
@@ -186,9 +247,13 @@ fn put_no_statements(page: &mut Page, around: Around<'_>) {
     page.say(b" of ");
     page.say(around.call());
     page.say(b" is not read");
-    if around.call().ends_with(b"_IFELSE") {
+    if around.is_program() {
         page.advise(
             b"a program is AC_LANG_PROGRAM([includes], [statements]) or AC_LANG_SOURCE([text])",
+        );
+    } else if !around.written().contains(&b'[') {
+        page.advise(
+            b"an action is assignments NAME=VALUE and calls, and no command is run; a list has blanks between its entries",
         );
     } else {
         page.advise(
@@ -204,7 +269,7 @@ fn put_statement(alloc: Global, page: &mut Page, around: Around<'_>) -> Result<(
         put_construct(page, found);
         return Ok(());
     }
-    if is_argument(around.text, around.at) {
+    if around.is_argument() {
         put_no_statements(page, around);
         return Ok(());
     }
@@ -227,28 +292,18 @@ fn unquoted_front(text: &[u8]) -> &[u8] {
     }
 }
 
-/// Returns the largest number of arguments of a macro, or 0.
-fn most_of(name: &[u8]) -> usize {
-    match row_named(name) {
-        Some(row) => row.most,
-        None => 0,
-    }
-}
-
 /// Writes how many arguments a macro takes, and how many there are.
-fn put_counts(page: &mut Page, name: &[u8], count: usize) {
+fn put_counts(page: &mut Page, name: &[u8], row: Row, count: usize) {
     page.say(name);
     page.say(b" takes ");
-    if let Some(row) = row_named(name) {
-        page.say_number(row.least);
-        if row.most > 1000 {
-            page.say(b" or more");
-        } else if row.most > row.least {
-            page.say(b" to ");
-            page.say_number(row.most);
-        }
+    page.say_number(row.least);
+    if row.most > 1000 {
+        page.say(b" or more");
+    } else if row.most > row.least {
+        page.say(b" to ");
+        page.say_number(row.most);
     }
-    page.say(if most_of(name) == 1 {
+    page.say(if row.most == 1 {
         b" argument, and has ".as_slice()
     } else {
         b" arguments, and has ".as_slice()
@@ -256,26 +311,75 @@ fn put_counts(page: &mut Page, name: &[u8], count: usize) {
     page.say_number(count);
 }
 
-/// Writes what is wrong with the number of arguments of the call at the place.
-fn put_count(page: &mut Page, around: Around<'_>) {
-    let name = around.name();
-    let rest = from(around.rest(), name.len());
-    let count = argument_count(around.rest());
-    if name == b"AC_OUTPUT".as_slice() {
-        page.say(b"AC_OUTPUT takes no argument");
-        page.advise(b"write instead\nAC_CONFIG_FILES([Makefile])\nAC_OUTPUT");
-        return;
+/// Returns what to do about arguments of a macro that Autoconf takes, and acrun does not.
+fn surplus_help(name: &[u8]) -> Option<&'static [u8]> {
+    if name == b"AC_CHECK_PROG".as_slice()
+        || name == b"AC_CHECK_PROGS".as_slice()
+        || name == b"AC_PATH_PROG".as_slice()
+    {
+        return Some(b"programs are looked for along PATH alone: leave the last argument out");
     }
-    put_counts(page, name, count);
-    if after_blanks(rest).starts_with(b"(") && !rest.starts_with(b"(") {
-        page.advise(b"no blank may be between the name and its parenthesis");
-    } else if count > 0 {
+    if name == b"AC_CONFIG_FILES".as_slice() || name == b"AC_CONFIG_HEADERS".as_slice() {
+        return Some(
+            b"files have blanks between them, and no commands are run for them: leave the other arguments out",
+        );
+    }
+    None
+}
+
+/// Writes what to do about too few arguments.
+fn advise_more(page: &mut Page, name: &[u8], args: &[&[u8]]) {
+    if name == b"AC_INIT".as_slice() {
+        page.advise(
+            b"the package's name and version are missing: write AC_INIT([package], [version])",
+        );
+        if let [file, ..] = args {
+            page.advise(b" and then AC_CONFIG_SRCDIR([");
+            page.advise(unquoted(without_end_blanks(file)));
+            page.advise(b"])");
+        }
+    } else if args.is_empty() {
+        page.advise(b"docs/language.md has its arguments");
+    } else {
+        page.advise(b"an argument is missing: docs/language.md has them");
+    }
+}
+
+/// Writes what to do about too many arguments.
+fn advise_fewer(page: &mut Page, name: &[u8], args: &[&[u8]]) {
+    if let Some(help) = surplus_help(name) {
+        page.advise(help);
+    } else if args.iter().all(|arg| arg.starts_with(b"[")) {
+        page.advise(b"leave the last argument out: docs/language.md has those that are read");
+    } else {
         page.advise(
             b"a comma ends an argument that is not in brackets: put each argument in [ and ]",
         );
-    } else {
-        page.advise(b"docs/language.md has its arguments");
     }
+}
+
+/// Writes what is wrong with the number of arguments of the call at the place.
+fn put_count(alloc: Global, page: &mut Page, around: Around<'_>) -> Result<(), AllocError> {
+    let name = around.name();
+    let rest = from(around.rest(), name.len());
+    if name == b"AC_OUTPUT".as_slice() {
+        page.say(b"AC_OUTPUT takes no argument");
+        page.advise(b"write instead\nAC_CONFIG_FILES([Makefile])\nAC_OUTPUT");
+        return Ok(());
+    }
+    let args = arguments_at(alloc, around.text, around.calls, around.at)?;
+    let Some(row) = row_named(name) else {
+        return Ok(());
+    };
+    put_counts(page, name, row, args.len());
+    if after_blanks(rest).starts_with(b"(") && !rest.starts_with(b"(") {
+        page.advise(b"no blank may be between the name and its parenthesis");
+    } else if args.len() < row.least {
+        advise_more(page, name, args.as_slice());
+    } else {
+        advise_fewer(page, name, args.as_slice());
+    }
+    Ok(())
 }
 
 /// Writes what is wrong with an argument that is no name, list or number.
@@ -291,7 +395,7 @@ fn put_bad_name(page: &mut Page, around: Around<'_>) {
 
 /// Writes what is wrong with a word, or with text that has variables.
 fn put_word(page: &mut Page, around: Around<'_>) {
-    if is_argument(around.text, around.at) {
+    if around.is_argument() {
         match word_help(around.argument()) {
             Some(found) => put_construct(page, found),
             None => {
@@ -427,7 +531,7 @@ fn put_fault(
         ParseFault::Quote(fault) => put_quote(page, around, fault),
         ParseFault::UnknownMacro(_) => return put_unknown(alloc, page, around.name()),
         ParseFault::UnknownStatement(_) => return put_statement(alloc, page, around),
-        ParseFault::ArgCount(_) => put_count(page, around),
+        ParseFault::ArgCount(_) => return put_count(alloc, page, around),
         ParseFault::BadName(_) => put_bad_name(page, around),
         ParseFault::Shell(fault, _) => put_shell(page, around, fault),
         other => put_rest(page, around, other),
@@ -443,7 +547,7 @@ fn marked_len(around: Around<'_>, fault: ParseFault) -> usize {
         ParseFault::UnknownMacro(_) | ParseFault::ArgCount(_) | ParseFault::NotAtTop(_) => {
             around.name().len()
         }
-        _ if is_argument(around.text, around.at) => first_argument(around.rest()).len(),
+        _ if around.is_argument() => around.written().len(),
         _ => without_end_blanks(before_close(first_line(around.rest()))).len(),
     }
 }
@@ -457,6 +561,8 @@ fn code_of(alloc: Global, fault: ParseFault) -> Result<Bytes, AllocError> {
 
 /// Returns an error of the source, in words, at the offset `at`. If there is no help, it is empty.
 ///
+/// The calls are those of the source, in order of their offsets. An unknown macro is named without them.
+///
 /// The offset is that of the fault, or that of the statement at fault in text between calls. The end is that of the name, of the
 /// argument, of the quoted text or of the line there.
 ///
@@ -468,6 +574,7 @@ pub fn parse_finding(
     text: &[u8],
     fault: ParseFault,
     at: usize,
+    calls: &[CallAt],
 ) -> Result<Finding, AllocError>
     ensures file { IfOk result (λ finding. finding.file ≡ 0) }
     ensures start { IfOk result (λ finding. finding.start ≡ at) }
@@ -476,7 +583,7 @@ pub fn parse_finding(
     ensures order { IfOk result (λ finding. finding.start ≤ length text.now → finding.start ≤ finding.end) }
     ensures severity { IfOk result (λ finding. finding.severity ≡ Error) }
 {
-    let around = Around { text, at };
+    let around = Around { text, calls, at };
     let code = code_of(alloc, fault)?;
     let mut page = Page::new(alloc);
     put_fault(alloc, &mut page, around, fault)?;
