@@ -2,7 +2,6 @@
 
 use crate::reading::Linted;
 use crate::sheets::{Sheets, read_sheets};
-use crate::templates::add_missing;
 use crate::warnings::add_warnings;
 use acparse::{ParseFault, parse};
 use disk::Disk;
@@ -19,31 +18,16 @@ pub(crate) struct Found {
     pub(crate) sheets: Sheets,
 }
 
-/// Appends an error for each template of a source that is not there.
-fn add_of_source<D: Disk>(
+/// Returns the templates of a source that are there, and appends an error for each that can't be read.
+fn sheets_of<D: Disk>(
     alloc: Global,
     disk: &D,
     linted: &Linted,
     source: &Source,
     found: &mut Vec<Finding>,
-) -> Result<(), AllocError> {
-    let directory = linted.directory.as_slice();
-    let text = linted.text.as_slice();
-    let outputs = source.files();
-    add_missing(alloc, disk, directory, text, outputs.as_slice(), found)?;
-    let headers = source.headers();
-    add_missing(alloc, disk, directory, text, headers.as_slice(), found)
-}
-
-/// Returns the templates of a source that are there.
-fn sheets_of<D: Disk>(
-    alloc: Global,
-    disk: &D,
-    directory: &[u8],
-    source: &Source,
 ) -> Result<Sheets, AllocError> {
-    let of_files = read_sheets(alloc, disk, directory, source.files().as_slice())?;
-    let of_headers = read_sheets(alloc, disk, directory, source.headers().as_slice())?;
+    let of_files = read_sheets(alloc, disk, linted, source.files().as_slice(), found)?;
+    let of_headers = read_sheets(alloc, disk, linted, source.headers().as_slice(), found)?;
     Ok(Sheets {
         files: of_files,
         headers: of_headers,
@@ -59,8 +43,7 @@ fn add_of_read<D: Disk>(
     source: &Source,
     found: &mut Vec<Finding>,
 ) -> Result<Sheets, AllocError> {
-    add_of_source(alloc, disk, linted, source, found)?;
-    let sheets = sheets_of(alloc, disk, linted.directory.as_slice(), source)?;
+    let sheets = sheets_of(alloc, disk, linted, source, found)?;
     add_warnings(alloc, linted.text.as_slice(), calls, source, &sheets, found)?;
     Ok(sheets)
 }

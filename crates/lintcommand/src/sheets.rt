@@ -1,8 +1,11 @@
 //! The templates of a source, as they are read for warnings.
 
+use crate::reading::Linted;
+use crate::templates::missing;
 use deftable::Bytes;
 use disk::Disk;
 use diskfiles::{path_in, read_text};
+use findings::Finding;
 use outputlist::Output;
 use std::alloc::{AllocError, Global};
 
@@ -44,34 +47,44 @@ fn has(sheets: &[Sheet], name: &[u8]) -> bool {
     sheets.iter().any(|sheet| sheet.name.as_slice() == name)
 }
 
-/// Reads the template of an output, unless it was read before or is not there.
+/// Reads the template of an output, unless it was read before, and appends an error if it can't be read.
 fn read_sheet<D: Disk>(
     alloc: Global,
     disk: &D,
-    directory: &[u8],
+    linted: &Linted,
     output: &Output,
     sheets: &mut Vec<Sheet>,
+    found: &mut Vec<Finding>,
 ) -> Result<(), AllocError> {
-    let name = path_in(alloc, directory, output.template.as_slice())?;
+    let name = path_in(
+        alloc,
+        linted.directory.as_slice(),
+        output.template.as_slice(),
+    )?;
     if has(sheets.as_slice(), name.as_slice()) {
         return Ok(());
     }
-    if let Some(text) = read_text(alloc, disk, name.as_slice())? {
-        sheets.push(Sheet { name, text })?;
+    match read_text(alloc, disk, name.as_slice())? {
+        Some(text) => sheets.push(Sheet { name, text })?,
+        None => {
+            let text = linted.text.as_slice();
+            found.push(missing(alloc, text, output.name.as_slice(), name.as_slice())?)?;
+        }
     }
     Ok(())
 }
 
-/// Returns the templates of outputs that are there.
+/// Returns the templates of outputs that are there, and appends an error for each output whose template can't be read.
 pub(crate) fn read_sheets<D: Disk>(
     alloc: Global,
     disk: &D,
-    directory: &[u8],
+    linted: &Linted,
     outputs: &[Output],
+    found: &mut Vec<Finding>,
 ) -> Result<Vec<Sheet>, AllocError> {
     let mut sheets = Vec::new(alloc);
     for output in outputs {
-        read_sheet(alloc, disk, directory, output, &mut sheets)?;
+        read_sheet(alloc, disk, linted, output, &mut sheets, found)?;
     }
     Ok(sheets)
 }

@@ -1,10 +1,6 @@
-//! The templates that are not there.
+//! The error of a template that is not there.
 
-use deftable::Bytes;
-use disk::Disk;
-use diskfiles::{path_in, read_text};
 use findings::{Finding, Severity, Span};
-use outputlist::Output;
 use std::alloc::{AllocError, Global};
 
 /// Returns whether the byte is before or after a name in a list of files.
@@ -30,8 +26,13 @@ fn place_of(text: &[u8], name: &[u8]) -> usize {
     text.len()
 }
 
-/// Returns that a template is not at a path.
-fn missing(alloc: Global, text: &[u8], name: &[u8], path: &[u8]) -> Result<Finding, AllocError> {
+/// Returns that the template of the output with this name is not at a path. The text is that of the source.
+pub(crate) fn missing(
+    alloc: Global,
+    text: &[u8],
+    name: &[u8],
+    path: &[u8],
+) -> Result<Finding, AllocError> {
     let mut message = Vec::from_slice(alloc, b"the template ")?;
     message.extend_from_slice(path)?;
     message.extend_from_slice(b" can't be read")?;
@@ -49,37 +50,4 @@ fn missing(alloc: Global, text: &[u8], name: &[u8], path: &[u8]) -> Result<Findi
         message.as_slice(),
         b"make the template, or name another one as in AC_CONFIG_FILES([file:template])",
     )
-}
-
-/// Appends an error if the template of an output can't be read.
-fn add_output<D: Disk>(
-    alloc: Global,
-    disk: &D,
-    directory: &[u8],
-    text: &[u8],
-    output: &Output,
-    found: &mut Vec<Finding>,
-) -> Result<(), AllocError> {
-    let path = path_in(alloc, directory, output.template.as_slice())?;
-    if read_text(alloc, disk, path.as_slice())?.is_some() {
-        return Ok(());
-    }
-    let finding = missing(alloc, text, output.name.as_slice(), path.as_slice())?;
-    found.push(finding)?;
-    Ok(())
-}
-
-/// Appends an error for each output whose template can't be read.
-pub(crate) fn add_missing<D: Disk>(
-    alloc: Global,
-    disk: &D,
-    directory: &[u8],
-    text: &[u8],
-    outputs: &[Output],
-    found: &mut Vec<Finding>,
-) -> Result<(), AllocError> {
-    for output in outputs {
-        add_output(alloc, disk, directory, text, output, found)?;
-    }
-    Ok(())
 }
