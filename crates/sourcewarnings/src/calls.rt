@@ -1,6 +1,6 @@
 //! Warnings about calls.
 
-use crate::extent::{Named, bare, text_at, warn_by_code};
+use crate::extent::{Named, assigns, bare, text_at, warn_by_code};
 use crate::foreign::warn_of_texts;
 use crate::rows::{EMPTY, FUNCTIONS, HELD, LIBRARY_ACTION, NAMES, SILENT};
 use bstr::ByteSlice;
@@ -110,6 +110,16 @@ fn warn_of_missing(
     warn_if(alloc, text, call.whole(), has_no_word, b"empty-case", out)
 }
 
+/// Warns of the variable SHELL, if it gets its value from the environment alone.
+fn warn_of_shell(alloc: Global, call: Named<'_>, out: &mut Vec<Finding>) -> Result<(), AllocError> {
+    let Named { text, name, .. } = call;
+    let args = &call.at.args;
+    let is_shell = name == b"AC_SUBST".as_slice()
+        && bare(text_at(text, args.first().copied())) == b"SHELL".as_slice();
+    let is_wrong = is_shell && !is_given(text, args.get(1)) && !assigns(text, b"SHELL");
+    warn_if(alloc, text, call.whole(), is_wrong, b"login-shell", out)
+}
+
 /// Warns if a `;` is after a call of which Autoconf makes no shell text.
 fn warn_of_semicolon(
     alloc: Global,
@@ -137,6 +147,7 @@ fn warn_of_call(
     warn_of_rows(alloc, call, out)?;
     warn_of_places(alloc, call, out)?;
     warn_of_missing(alloc, call, out)?;
+    warn_of_shell(alloc, call, out)?;
     warn_of_semicolon(alloc, call, out)?;
     warn_of_texts(alloc, index, call, out)
 }

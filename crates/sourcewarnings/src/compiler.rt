@@ -1,9 +1,10 @@
-//! A warning if nothing tries whether the compiler works.
+//! Warnings if nothing looks for a compiler, or if nothing tries whether it works.
 
-use crate::extent::{name_of, warn_of_part};
+use crate::extent::{assigns, bare, name_of, text_at, warn_of_part};
 use findings::Finding;
 use sourcecalls::{CallAt, Extent};
 use std::alloc::{AllocError, Global};
+use textpieces::before;
 
 /// Returns whether the call compiles or links something.
 fn compiles(name: &[u8]) -> bool {
@@ -23,8 +24,36 @@ fn tries(name: &[u8]) -> bool {
         || name == b"AC_CACHE_CHECK".as_slice()
 }
 
-/// Adds a warning about the first check that compiles something, if no program was tried before it
-/// (own).
+/// Returns whether the call looks for a compiler.
+fn finds_compiler(text: &[u8], call: &CallAt) -> bool {
+    let name = name_of(text, call);
+    let finds_program = name == b"AC_CHECK_PROG".as_slice()
+        || name == b"AC_CHECK_PROGS".as_slice()
+        || name == b"AC_PATH_PROG".as_slice();
+    let variable = bare(text_at(text, call.args.first().copied()));
+    name == b"AC_PROG_CC".as_slice() || finds_program && variable == b"CC".as_slice()
+}
+
+/// Returns the first call that needs a compiler, if nothing before it looks for one or names one.
+fn without_compiler<'a>(text: &[u8], calls: &'a [CallAt]) -> Option<&'a CallAt> {
+    for call in calls {
+        let name = name_of(text, call);
+        if finds_compiler(text, call) {
+            return None;
+        }
+        if compiles(name) || name.ends_with(b"_IFELSE") {
+            return if assigns(before(text, call.start), b"CC") {
+                None
+            } else {
+                Some(call)
+            };
+        }
+    }
+    None
+}
+
+/// Adds a warning about the first check that compiles something, if nothing before it looks for a compiler, or else if no program
+/// was tried before it (own).
 ///
 /// # Errors
 ///
@@ -35,6 +64,21 @@ pub fn warn_of_compiler(
     calls: &[CallAt],
     out: &mut Vec<Finding>,
 ) -> Result<(), AllocError> {
+    if let Some(call) = without_compiler(text, calls) {
+        return warn_of_part(
+            alloc,
+            out,
+            text,
+            Extent {
+                start: call.start,
+                end: call.name_end,
+            },
+            b"no-compiler",
+            b"nothing before this check looks for a compiler, so CC has no value unless the user \
+              gives one",
+            b"write before it\n  AC_PROG_CC",
+        );
+    }
     for call in calls {
         let name = name_of(text, call);
         if tries(name) {

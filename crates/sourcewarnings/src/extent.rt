@@ -5,12 +5,7 @@ use bstr::ByteSlice;
 use findings::{Finding, Span, warn};
 use sourcecalls::{CallAt, Extent};
 use std::alloc::{AllocError, Global};
-use textpieces::{before, from};
-
-/// Returns the part of the text between two offsets.
-pub(crate) fn part(text: &[u8], start: usize, end: usize) -> &[u8] {
-    from(before(text, end), start)
-}
+use textpieces::{before, from, is_word_byte, part};
 
 /// Returns the text of an argument. One that isn't given is empty.
 pub(crate) fn text_at(text: &[u8], argument: Option<Extent>) -> &[u8] {
@@ -23,6 +18,19 @@ pub(crate) fn text_at(text: &[u8], argument: Option<Extent>) -> &[u8] {
 /// Returns an argument without blanks and brackets around it.
 pub(crate) fn bare(argument: &[u8]) -> &[u8] {
     argument.trim_with(|c| c == '[' || c == ']' || c == ' ' || c == '\t' || c == '\n')
+}
+
+/// Returns whether a text seems to assign to a variable: the name is in it, with a `=` after it and no `$` before it.
+pub(crate) fn assigns(text: &[u8], name: &[u8]) -> bool {
+    let mut at: usize = 0;
+    for word in text.split(|byte| !is_word_byte(*byte)) {
+        let end = at.saturating_add(word.len());
+        if word == name && from(text, end).starts_with(b"=") && !before(text, at).ends_with(b"$") {
+            return true;
+        }
+        at = end.saturating_add(1);
+    }
+    false
 }
 
 /// Returns the name of a call.

@@ -1,12 +1,12 @@
 //! Names of macros in arguments that are text.
 
-use crate::extent::{Named, bare, part, warn_of_part};
+use crate::extent::{Named, bare, warn_of_part};
 use crate::rows::TEXTS;
 use findings::Finding;
 use macrotable::{Index, Kind};
 use sourcecalls::Extent;
 use std::alloc::{AllocError, Global};
-use textpieces::{before, is_word_byte};
+use textpieces::{before, from, is_word_byte, part};
 
 /// The macro that may be in an argument with help.
 const HELP: &[u8] = b"AS_HELP_STRING";
@@ -88,29 +88,46 @@ fn macro_in(
     first_macro(alloc, index, argument, 1, b"")
 }
 
-/// Returns what to do about the name of a macro in a text.
-fn help_for(word: &[u8]) -> &'static [u8] {
+/// The macros that Autoconf replaces by what AC_INIT says. A variable has each without its `AC_`.
+#[rattlefmt::skip]
+const PACKAGE: [&[u8]; 6] = [
+    b"AC_PACKAGE_NAME", b"AC_PACKAGE_TARNAME", b"AC_PACKAGE_VERSION", b"AC_PACKAGE_STRING",
+    b"AC_PACKAGE_BUGREPORT", b"AC_PACKAGE_URL",
+];
+
+/// Returns what to do about the name of a macro in a text of a call.
+fn help_for(alloc: Global, call: &[u8], word: &[u8]) -> Result<Vec<u8>, AllocError> {
     if word == b"AC_HELP_STRING".as_slice() {
-        b"write AS_HELP_STRING"
-    } else {
-        b"write the text that is meant, or put it in two pairs of brackets"
+        return Vec::from_slice(alloc, b"write AS_HELP_STRING");
     }
+    if !PACKAGE.iter().any(|name| *name == word) {
+        let help = b"write the text that is meant, or put it in two pairs of brackets";
+        return Vec::from_slice(alloc, help);
+    }
+    let mut help = Vec::from_slice(alloc, b"write $")?;
+    help.extend_from_slice(from(word, 3))?;
+    if call == b"AC_DEFINE".as_slice() {
+        help.extend_from_slice(b" in AC_DEFINE_UNQUOTED")?;
+    }
+    Ok(help)
 }
 
-/// Warns if an argument that is text has the name of a macro.
+/// Warns if an argument of a call that is text has the name of a macro.
 fn warn_of_text(
     alloc: Global,
     index: &Index,
-    text: &[u8],
+    call: Named<'_>,
     extent: Extent,
     out: &mut Vec<Finding>,
 ) -> Result<(), AllocError> {
+    let text = call.text;
     let argument = part(text, extent.start, extent.end);
     let Some((at, length)) = macro_in(alloc, index, argument)? else {
         return Ok(());
     };
     let start = extent.start.saturating_add(at);
     let end = start.saturating_add(length);
+    let help = help_for(alloc, call.name, part(text, start, end))?;
     warn_of_part(
         alloc,
         out,
@@ -118,7 +135,7 @@ fn warn_of_text(
         Extent { start, end },
         b"macro-in-text",
         b"the name of this macro is text here; Autoconf expands it",
-        help_for(part(text, start, end)),
+        help.as_slice(),
     )
 }
 
@@ -131,7 +148,7 @@ pub(crate) fn warn_of_texts(
 ) -> Result<(), AllocError> {
     for place in &TEXTS {
         if let Some(extent) = call.argument_at(place) {
-            warn_of_text(alloc, index, call.text, extent, out)?;
+            warn_of_text(alloc, index, call, extent, out)?;
         }
     }
     Ok(())

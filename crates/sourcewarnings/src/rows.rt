@@ -6,7 +6,7 @@ type Words = (&'static [u8], &'static [u8], &'static [u8]);
 
 /// The warnings that always have the same words.
 #[rattlefmt::skip]
-const WORDS: [Words; 19] = [
+const WORDS: [Words; 20] = [
     (
         b"comma-in-list",
         b"the comma is a part of a name here: entries are separated by blanks",
@@ -93,6 +93,12 @@ const WORDS: [Words; 19] = [
         b"semicolon-after-call",
         b"Autoconf makes no shell text of this call, so a script with the `;` after it doesn't run",
         b"put what is after the `;` on a line of its own",
+    ),
+    (
+        b"login-shell",
+        b"SHELL is the login shell of whoever runs this, or empty; in Autoconf it is the shell that \
+          runs configure",
+        b"write AC_SUBST([SHELL], [/bin/sh])",
     ),
     (
         b"script-variable",
