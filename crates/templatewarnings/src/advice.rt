@@ -25,18 +25,17 @@ const VARIABLES: [(&[u8], &[u8]); 20] = [
     (b"abs_top_builddir", b"use @top_builddir@, or `cd` and `pwd` in the rule"),
 ];
 
-/// Definitions that Autoconf makes with its default includes, each with the check that makes it.
+/// The definitions that Autoconf makes of its default includes, each with its header.
 #[rattlefmt::skip]
-const DEFINITIONS: [(&[u8], &[u8]); 11] = [
-    (b"HAVE_STDIO_H", b"Autoconf checks it by itself; write\n  AC_CHECK_HEADERS([stdio.h])"),
-    (b"HAVE_STDLIB_H", b"Autoconf checks it by itself; write\n  AC_CHECK_HEADERS([stdlib.h])"),
-    (b"HAVE_STRING_H", b"Autoconf checks it by itself; write\n  AC_CHECK_HEADERS([string.h])"),
-    (b"HAVE_STRINGS_H", b"Autoconf checks it by itself; write\n  AC_CHECK_HEADERS([strings.h])"),
-    (b"HAVE_INTTYPES_H", b"Autoconf checks it by itself; write\n  AC_CHECK_HEADERS([inttypes.h])"),
-    (b"HAVE_STDINT_H", b"Autoconf checks it by itself; write\n  AC_CHECK_HEADERS([stdint.h])"),
-    (b"HAVE_SYS_STAT_H", b"Autoconf checks it by itself; write\n  AC_CHECK_HEADERS([sys/stat.h])"),
-    (b"HAVE_SYS_TYPES_H", b"Autoconf checks it by itself; write\n  AC_CHECK_HEADERS([sys/types.h])"),
-    (b"HAVE_UNISTD_H", b"Autoconf checks it by itself; write\n  AC_CHECK_HEADERS([unistd.h])"),
+const DEFAULTS: [(&[u8], &[u8]); 9] = [
+    (b"HAVE_STDIO_H", b"stdio.h"), (b"HAVE_STDLIB_H", b"stdlib.h"), (b"HAVE_STRING_H", b"string.h"),
+    (b"HAVE_STRINGS_H", b"strings.h"), (b"HAVE_INTTYPES_H", b"inttypes.h"), (b"HAVE_STDINT_H", b"stdint.h"),
+    (b"HAVE_SYS_STAT_H", b"sys/stat.h"), (b"HAVE_SYS_TYPES_H", b"sys/types.h"), (b"HAVE_UNISTD_H", b"unistd.h"),
+];
+
+/// Other definitions that the templates of many packages have, each with what makes it.
+#[rattlefmt::skip]
+const DEFINITIONS: [(&[u8], &[u8]); 2] = [
     (b"HAVE_DLFCN_H", b"libtool checks it; write\n  AC_CHECK_HEADERS([dlfcn.h])"),
     (b"STDC_HEADERS", b"every compiler of this century has them; write\n  AC_DEFINE([STDC_HEADERS], [1])"),
 ];
@@ -57,4 +56,9 @@ pub(crate) fn variable_advice(name: &[u8]) -> &'static [u8] {
 /// Returns what to write for a definition that the source doesn't make, or an empty text.
 pub(crate) fn definition_advice(name: &[u8]) -> &'static [u8] {
     text_in(&DEFINITIONS, name)
+}
+
+/// Returns the header of a definition that Autoconf makes of its default includes. That of another one is empty.
+pub(crate) fn default_header(name: &[u8]) -> &'static [u8] {
+    text_in(&DEFAULTS, name)
 }

@@ -83,7 +83,7 @@ fn first_of(text: &[u8], texts: &[&[u8]]) -> Option<(usize, usize)> {
 }
 
 /// What is said of a directory below `datarootdir`.
-const DIRECTORY: Words = (
+const DIRECTORY: Words<'static> = (
     b"no-datarootdir",
     b"its value begins with ${datarootdir}, which this template does not set: files would go to /man, /doc and the like",
     b"add the line\n  datarootdir = @datarootdir@",
@@ -98,14 +98,14 @@ fn directory_in(text: &[u8]) -> Option<(usize, usize)> {
 }
 
 /// What is said of a rule that runs `config.status`.
-const SCRIPT: Words = (
+const SCRIPT: Words<'static> = (
     b"config-status-script",
     b"config.status is a record here, and no script that can be run",
     b"write `acrun status NAME` in the rule, and `acrun status --recheck` for `./config.status --recheck`",
 );
 
 /// What is said of a last line that has no newline.
-const OPEN_LINE: Words = (
+const OPEN_LINE: Words<'static> = (
     b"no-newline-at-end",
     b"the last line has no newline, and so has that of the file that is made; Autoconf adds one",
     b"add a newline at the end of the template",

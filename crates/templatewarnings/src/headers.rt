@@ -3,9 +3,9 @@
 ghost use Rattle.std.specs.Prelude.{◌≡◌, OnOk};
 ghost use Rattle.findings.specs.Within.{KeepsWithin};
 
-use crate::advice::definition_advice;
+use crate::advice::{default_header, definition_advice};
 use crate::given::{Given, add_name};
-use crate::messages::{Form, joined, warn_of_name};
+use crate::messages::{Form, joined, warn_at, warn_of_name};
 use bstr::ByteSlice;
 use deftable::{SubstList, is_shell_name};
 use findings::{Finding, Span, warn};
@@ -36,14 +36,89 @@ const FORM: Form = Form {
     question: (b"did you mean ", b"?"),
 };
 
-/// Warns of the name of a line that begins at this offset, if it is undefined and nothing defines it.
+/// Returns the definitions that a source may make and that this template doesn't list. A name that the template lists too isn't what
+/// another one was meant to be.
+fn unlisted(alloc: Global, given: &Given, text: &[u8]) -> Result<SubstList, AllocError> {
+    let mut listed = SubstList::new(alloc);
+    add_listed(&mut listed, text)?;
+    let mut names = SubstList::new(alloc);
+    for name in given.defined.names() {
+        if !listed.has(name.as_slice()) {
+            add_name(&mut names, name.as_slice())?;
+        }
+    }
+    Ok(names)
+}
+
+/// The names of default includes that a template undefines, and that nothing defines.
+#[derive(Drop)]
+struct Defaults {
+    /// Where the first name is.
+    first: Option<(usize, usize)>,
+    /// The names, with commas between them.
+    names: Vec<u8>,
+    /// The headers, with blanks between them.
+    headers: Vec<u8>,
+}
+
+impl Defaults {
+    /// Adds a name, which is at this offset.
+    fn add(&mut self, at: usize, name: &[u8], header: &[u8]) -> Result<(), AllocError> {
+        if self.first.is_some() {
+            self.names.extend_from_slice(b", ")?;
+            self.headers.extend_from_slice(b" ")?;
+        } else {
+            self.first = Some((at, name.len()));
+        }
+        self.names.extend_from_slice(name)?;
+        self.headers.extend_from_slice(header)
+    }
+}
+
+/// Warns of the names of default includes, at the first of them.
+fn warn_of_defaults(
+    alloc: Global,
+    file: usize,
+    text: &[u8],
+    defaults: &Defaults,
+    out: &mut Vec<Finding>,
+) -> Result<(), AllocError>
+    ensures within { OnOk result (KeepsWithin file text.now out.old.items out.new.items) }
+{
+    let message = joined(alloc, FORM.message.0, defaults.names.as_slice(), b"")?;
+    let help = joined(
+        alloc,
+        b"Autoconf checks its default headers by itself; write\n  AC_CHECK_HEADERS([",
+        defaults.headers.as_slice(),
+        b"])",
+    )?;
+    warn_at(
+        alloc,
+        out,
+        text,
+        file,
+        defaults.first,
+        (FORM.code, message.as_slice(), help.as_slice()),
+    )
+}
+
+/// The definitions that a source may make: all of them, and those that the template doesn't list.
+#[derive(Clone, Copy)]
+struct Known<'a> {
+    all: &'a SubstList,
+    candidates: &'a SubstList,
+}
+
+/// Warns of the name of a line that begins at this offset, if it is undefined and nothing defines it. One of a default include is
+/// added to those.
 fn warn_of_line(
     alloc: Global,
-    given: &Given,
+    known: Known<'_>,
     file: usize,
     text: &[u8],
     at: usize,
     line: &[u8],
+    defaults: &mut Defaults,
     out: &mut Vec<Finding>,
 ) -> Result<(), AllocError>
     ensures within { OnOk result (KeepsWithin file text.now out.old.items out.new.items) }
@@ -51,17 +126,40 @@ fn warn_of_line(
     let Some((column, name)) = named(line, false) else {
         return Ok(());
     };
-    if given.defined.has(name) {
+    if known.all.has(name) {
         return Ok(());
     }
     let start = at.saturating_add(column);
+    let header = default_header(name);
+    if !header.is_empty() {
+        return defaults.add(start, name, header);
+    }
     let span = Span {
         file,
         start,
         end: start.saturating_add(name.len()),
     };
     let advice = definition_advice(name);
-    warn_of_name(alloc, out, text, span, FORM, name, advice, &given.defined)
+    warn_of_name(alloc, out, text, span, FORM, name, advice, known.candidates)
+}
+
+/// Warns of the name of each line that is undefined and that nothing defines. Those of default includes are added to these.
+fn warn_of_lines(
+    alloc: Global,
+    known: Known<'_>,
+    file: usize,
+    text: &[u8],
+    defaults: &mut Defaults,
+    out: &mut Vec<Finding>,
+) -> Result<(), AllocError>
+    ensures within { OnOk result (KeepsWithin file text.now out.old.items out.new.items) }
+{
+    let mut at = 0usize;
+    for line in text.split(|byte| *byte == b'\n') {
+        warn_of_line(alloc, known, file, text, at, line, defaults, out)?;
+        at = at.saturating_add(line.len()).saturating_add(1);
+    }
+    Ok(())
 }
 
 /// Adds the warnings about the template of a header: each name with `#undef` that no statement defines (own).
@@ -79,12 +177,18 @@ pub fn warn_of_header(
     // If the findings of this file were in its text, they still are.
     ensures within { OnOk result (KeepsWithin file text.now out.old.items out.new.items) }
 {
-    let mut at = 0usize;
-    for line in text.split(|byte| *byte == b'\n') {
-        warn_of_line(alloc, given, file, text, at, line, out)?;
-        at = at.saturating_add(line.len()).saturating_add(1);
-    }
-    Ok(())
+    let candidates = unlisted(alloc, given, text)?;
+    let known = Known {
+        all: &given.defined,
+        candidates: &candidates,
+    };
+    let mut defaults = Defaults {
+        first: None,
+        names: Vec::new(alloc),
+        headers: Vec::new(alloc),
+    };
+    warn_of_lines(alloc, known, file, text, &mut defaults, out)?;
+    warn_of_defaults(alloc, file, text, &defaults, out)
 }
 
 /// Adds the names that the template of a header undefines or defines.

@@ -96,7 +96,7 @@ pub(crate) fn warn_of_name(
 }
 
 /// The code of a warning, what it says, and what to do.
-pub(crate) type Words = (&'static [u8], &'static [u8], &'static [u8]);
+pub(crate) type Words<'a> = (&'static [u8], &'a [u8], &'a [u8]);
 
 /// Warns of a part of a file, if it is there: its offset and its length.
 pub(crate) fn warn_at(
@@ -105,7 +105,7 @@ pub(crate) fn warn_at(
     text: &[u8],
     file: usize,
     part: Option<(usize, usize)>,
-    words: Words,
+    words: Words<'_>,
 ) -> Result<(), AllocError>
     ensures within { OnOk result (KeepsWithin file text.now out.old.items out.new.items) }
 {
