@@ -6,9 +6,9 @@ use Rattle.strsim.specs.Edits.{levenshtein_row}
 abbrev pub edits : List ℕ → List ℕ → ℕ
 edits name other = levenshtein_row nat_eq name other (length other)
 
--- How many edits are few: none for up to three bytes, one for four to seven, two for eight to eleven, and three for more.
+-- How many edits are few: none for up to three bytes, one for four to eight, two for nine to thirteen, and three for more.
 abbrev pub few : List ℕ → ℕ
-few name = min (length name / 4) 3
+few name = min ((length name + 1) / 5) 3
 
 -- It is the first of the names with the fewest edits, and these are fewer than a number.
 pub record IsFirst (name : List ℕ) (room : ℕ) (names : List (List ℕ)) (near : List ℕ) : Type 0 where

@@ -6,12 +6,12 @@ ghost use Rattle.faultwords.specs.Near as specs;
 use std::alloc::{AllocError, Global};
 use strsim::generic_levenshtein;
 
-/// Returns how many edits two names may differ by to be near: none for up to three letters, one for four to seven, two for eight to
-/// eleven, and three for longer ones.
+/// Returns how many edits two names may differ by to be near: none for up to three letters, one for four to eight, two for nine to
+/// thirteen, and three for longer ones.
 fn allowed(name: &[u8]) -> usize
     ensures { result ≡ specs.few name.now }
 {
-    (name.len() / 4).min(3)
+    ((name.len() + 1) / 5).min(3)
 }
 
 /// Returns how many edits lead from a name to another one, if they are fewer than `room`.
