@@ -223,6 +223,56 @@ def manual_page_faults():
         yield f"CHANGELOG.md has no version {version}"
 
 
+COMPLETIONS = pathlib.Path("share/completions")
+
+
+def literals(text):
+    """Returns the byte strings of a piece of source that have letters and dashes alone, such as `--with-`."""
+    return {*re.findall(r'b"([a-z-]*[a-z][a-z-]*)"', text)}
+
+
+def command_lists():
+    """Returns a place and the names there, for each place that names all commands."""
+    call, texts, running = ((CRATES / it).read_text() for it in ("invocation/src/call.rt", "helptext/src/texts.rt", "faultwords/src/running.rt"))
+    page = pathlib.Path("share/acrun.1").read_text().partition(".SH COMMANDS\n")[2].partition("\n.SH ")[0]
+    bash, zsh, fish = ((COMPLETIONS / it).read_text() for it in ("acrun.bash", "_acrun", "acrun.fish"))
+    yield "crates/invocation/src/call.rt", {it for it in literals(call) if not it.startswith("-")}
+    yield "crates/helptext/src/texts.rt", {*re.findall(r'\(b"(\w+)", [A-Z]+\)', texts)}
+    yield "crates/faultwords/src/running.rt", literals(running.partition("const COMMANDS")[2].partition(";\n")[0].partition("=")[2])
+    yield "share/acrun.1", {*re.findall(r"(?m)^\.TP\n\.BR? ([a-z]+)", page)}
+    yield "the commands of acrun.bash", {*re.findall(r"\b(?<!-)[a-z]+", re.search(r"words='(configure [^']*)'", bash)[1])}
+    yield "the help of acrun.bash", {*re.search(r"help\) .* -W '([^']*)'", bash)[1].split()}
+    first, later = re.search(r"options=\((\w+)\)", zsh)[1], re.search(r"options\+=\(([a-z ]*) --", zsh)[1]
+    yield "the commands of _acrun", {first, *later.split()}
+    yield "the help of _acrun", {*re.search(r"help\) compadd (.*) ;;", zsh)[1].split()}
+    yield "the commands of acrun.fish", {*re.findall(r"(?m)^complete .*__acrun_begins.* -a ([a-z]+) -d", fish)}
+    yield "the help of acrun.fish", {*re.search(r"__acrun_uses help' -a '([^']*)'", fish)[1].split()}
+
+
+def commands_that_do_not_agree():
+    """The commands are not the same where they are read, explained, offered and listed."""
+    (home, known), *others = command_lists()
+    for place, names in others:
+        for name in sorted(names ^ known):
+            yield f"{place} and {home} do not agree on the command {name}"
+
+
+def options_that_do_not_agree():
+    """The options among which a similar one is sought are not those that are read, or a completion lacks one with a value."""
+    text = {file.name: file.read_text() for file in (CRATES / "commandline/src").glob("*.rt")}
+    of_variables = text["directory.rt"].partition("fn variable")[2].partition("fn default_value")[0]
+    directories = {it.replace("_", "-") for it in re.findall(r'=> b"(\w+)"', of_variables)}
+    read = {it for it in literals("".join(text.values())) if it.startswith("--")} | {f"--{it}" for it in directories}
+    running = (CRATES / "faultwords/src/running.rt").read_text()
+    said = literals(running.partition("const OPTIONS")[2].partition(";\n")[0].partition("=")[2])
+    for name in sorted((said ^ read) - {"--disable-option-checking", "--enable-option-checking"}):
+        yield f"crates/faultwords/src/running.rt and crates/commandline do not agree on the option {name}"
+    for file in sorted(COMPLETIONS.iterdir()):
+        words = {*re.findall(r"[a-z-]+", file.read_text())}
+        for name in sorted({"srcdir", "cache-file", *directories} - words):
+            yield f"{file} does not offer --{name}"
+
+
 def picture_is_old():
     """docs/speed.svg is not what bench/picture.py draws from docs/performance.md."""
     if subprocess.run([sys.executable, "bench/picture.py", "--check"], stderr=subprocess.DEVNULL).returncode:
@@ -244,6 +294,8 @@ CHECKS = [
     macros_that_do_not_agree,
     codes_that_do_not_agree,
     manual_page_faults,
+    commands_that_do_not_agree,
+    options_that_do_not_agree,
     picture_is_old,
 ]
 

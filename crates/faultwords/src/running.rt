@@ -5,24 +5,25 @@ use cachefile::CacheFault;
 use commandline::OptionFault;
 use status_record::RecordFault;
 use std::alloc::{AllocError, Global};
-use textpieces::{before, first_line};
+use textpieces::{before, first_line, from};
 
-/// The options of a command line that need no declaration, without their values.
+/// The long options of a command line that need no declaration, without their values.
 #[rattlefmt::skip]
-const OPTIONS: [&[u8]; 42] = [
-    b"--help", b"--version", b"--quiet", b"--silent", b"--no-create", b"--config-cache", b"--cache-file", b"--srcdir",
+const OPTIONS: [&[u8]; 38] = [
+    b"--help", b"--version", b"--verbose", b"--quiet", b"--silent", b"--no-create", b"--no-recursion", b"--config-cache",
+    b"--cache-file", b"--srcdir",
     b"--prefix", b"--exec-prefix", b"--bindir", b"--sbindir", b"--libexecdir", b"--libdir", b"--datarootdir", b"--datadir",
     b"--sysconfdir", b"--sharedstatedir", b"--localstatedir", b"--runstatedir", b"--includedir", b"--oldincludedir",
     b"--docdir", b"--infodir", b"--htmldir", b"--dvidir", b"--pdfdir", b"--psdir", b"--localedir", b"--mandir",
-    b"--enable-", b"--disable-", b"--with-", b"--without-", b"-h", b"-V", b"-q", b"-n", b"-C",
-    b"--disable-option-checking", b"--enable-option-checking", b"--help",
+    b"--enable-", b"--disable-", b"--with-", b"--without-", b"--disable-option-checking", b"--enable-option-checking",
 ];
 
 /// The commands of the program.
-const COMMANDS: [&[u8]; 6] = [
+const COMMANDS: [&[u8]; 7] = [
     b"configure",
     b"status",
     b"lint",
+    b"port",
     b"why",
     b"standin",
     b"help",
@@ -74,10 +75,10 @@ fn put_unknown(alloc: Global, page: &mut Page, word: &[u8]) -> Result<(), AllocE
             before_equals(word),
             &OPTIONS,
             b"a similar option is ",
-            b"acrun configure --help shows the options of the source, and docs/running.md all others",
+            b"acrun configure --help shows the options of the source, and man acrun all others",
         );
     } else {
-        page.advise(b"an argument is an option or NAME=VALUE; docs/running.md has all options");
+        page.advise(b"an argument is an option or NAME=VALUE; man acrun has all options");
     }
     Ok(())
 }
@@ -294,6 +295,50 @@ fn is_alone(word: &[u8]) -> bool {
         || word == b"-V".as_slice()
 }
 
+/// Returns whether a word is `-j` with a number of children.
+fn is_window(word: &[u8]) -> bool {
+    matches!(from(word, 2), [b'1'..=b'9'] | [b'1', b'0'..=b'6'])
+}
+
+/// Writes what is wrong with a command line that begins with `-j`.
+fn put_window(page: &mut Page, word: &[u8]) {
+    page.say_text(word);
+    if is_window(word) {
+        page.say(b" is for the command configure alone");
+        page.advise(b"write acrun ");
+        page.advise(word);
+        page.advise(b" configure");
+    } else {
+        page.say(b" is no number of children");
+        page.advise(b"write -j1 to -j16, without a blank, before the command: acrun -j8 configure");
+    }
+}
+
+/// Returns how often a text has a byte.
+fn count_of(text: &[u8], byte: u8) -> usize {
+    text.iter().filter(|other| **other == byte).count()
+}
+
+/// Returns whether a word has the letters of a name, each as often.
+fn has_letters_of(word: &[u8], name: &[u8]) -> bool {
+    word.len() == name.len()
+        && word
+            .iter()
+            .all(|byte| count_of(word, *byte) == count_of(name, *byte))
+}
+
+/// Writes that a word is no command, and the nearest one. One with the same letters is near too.
+fn put_no_command(alloc: Global, page: &mut Page, word: &[u8]) -> Result<(), AllocError> {
+    page.say_text(word);
+    page.say(b" is no command");
+    if let Some(name) = COMMANDS.iter().find(|name| has_letters_of(word, **name)) {
+        page.advise(NEAR);
+        page.advise(*name);
+        return Ok(());
+    }
+    page.advise_near(alloc, word, &COMMANDS, NEAR, b"")
+}
+
 /// Writes what is wrong with the first words of a command line.
 fn put_usage(alloc: Global, page: &mut Page, words: &[&[u8]]) -> Result<(), AllocError> {
     let first = numbered(words, 1);
@@ -303,13 +348,10 @@ fn put_usage(alloc: Global, page: &mut Page, words: &[&[u8]]) -> Result<(), Allo
         page.say_text(first);
         page.say(b" takes no other word");
         page.advise(b"acrun help COMMAND explains a command");
-    } else if first == b"-j".as_slice() {
-        page.say(b"-j is no number of children");
-        page.advise(b"write -j1 to -j16, without a blank");
+    } else if first.starts_with(b"-j") {
+        put_window(page, first);
     } else {
-        page.say_text(first);
-        page.say(b" is no command");
-        return page.advise_near(alloc, first, &COMMANDS, NEAR, b"");
+        return put_no_command(alloc, page, first);
     }
     Ok(())
 }
