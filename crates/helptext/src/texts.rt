@@ -55,7 +55,8 @@ const LINT: &str = "\
 Usage: acrun lint [--json] [FILE]..
 
 Reads each FILE, a configure.ac or a directory of one (by default ./configure.ac; - is standard input), and its templates. Runs nothing,
-writes nothing, and prints all errors and warnings that it finds, each with its place. --json prints an object a line.
+writes nothing, and prints the first error that a run would report, each call of a macro that acrun does not know, each template that can't
+be read, and warnings, each with its place. --json prints an object a line.
 
 Exit status: 0 no error; 1 errors; 2 a file can't be read, or the words are wrong.
 ";
