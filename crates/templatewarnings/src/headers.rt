@@ -188,7 +188,8 @@ pub fn warn_of_header(
         headers: Vec::new(alloc),
     };
     warn_of_lines(alloc, known, file, text, &mut defaults, out)?;
-    warn_of_defaults(alloc, file, text, &defaults, out)
+    warn_of_defaults(alloc, file, text, &defaults, out)?;
+    Ok(())
 }
 
 /// Adds the names that the template of a header undefines or defines.
