@@ -2,9 +2,9 @@
 """Compares each idiom of crates/macrotable/macros.txt with its macro.
   try_macros.py PROGRAM [NAME]..     PROGRAM is a built acrun; only the idioms of these macros, if there are any
 If Autoconf 2.71 has the macro, it is given a source with the call that the guide shows, and acrun one with the idiom. Both runs have to
-leave the same definitions, output variables, variables that the idiom assigns, outputs, messages and exit status. So have further runs,
-with the arguments of a `$ ` line. A name of a `? ` line may differ, and has to. Programs may be named with their directory or without.
-What Autoconf defines for the headers that it includes by itself is left out, unless the idiom defines it.
+leave the same definitions, output variables, variables that the idiom assigns, outputs, messages and exit status. A name of a `? ` line
+may differ, and has to. Programs may be named with their directory or without. Left out is what Autoconf defines for the headers that it
+includes by itself, and what a macro looks for on its way, unless the idiom has it.
 If Autoconf doesn't have the macro, the idiom is tried by what it is for, as TRIALS says.
 Each block of the guide is also given to acrun and to Autoconf, and both have to leave the same. `autoconf -Wall` and `autoheader -Wall`
 have to read it without a warning.
@@ -352,7 +352,8 @@ class Tries:
         mine = left_by_acrun(self.program, source_with(f"{trial.before}\n{text}{shown}"), text, names, trial.given, trial.has_no_programs)
         if mine["status"] != str(trial.status):
             return f"{called} {' '.join(trial.given)}: status {mine['status']}: {mine.get('why')}"
-        wrong = [f"{name} is {value!r}" for name in trial.wanted for value in [mine.get(f"#{name}", mine.get(name))] if value != wanted_of(trial, name)]
+        found = {name: mine.get(f"#{name}", mine.get(name)) for name in trial.wanted}
+        wrong = [f"{name} is {value!r}" for name, value in found.items() if value != wanted_of(trial, name)]
         return f"{called} {' '.join(trial.given)}: {', '.join(wrong)}" if wrong else ""
 
     def entry(self, entry):
