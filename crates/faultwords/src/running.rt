@@ -5,7 +5,7 @@ use cachefile::CacheFault;
 use commandline::OptionFault;
 use status_record::RecordFault;
 use std::alloc::{AllocError, Global};
-use textpieces::{before, first_line, from};
+use textpieces::{before, first_line};
 
 /// The long options of a command line that need no declaration, without their values.
 #[rattlefmt::skip]
@@ -295,25 +295,6 @@ fn is_alone(word: &[u8]) -> bool {
         || word == b"-V".as_slice()
 }
 
-/// Returns whether a word is `-j` with a number of children.
-fn is_window(word: &[u8]) -> bool {
-    matches!(from(word, 2), [b'1'..=b'9'] | [b'1', b'0'..=b'6'])
-}
-
-/// Writes what is wrong with a command line that begins with `-j`.
-fn put_window(page: &mut Page, word: &[u8]) {
-    page.say_text(word);
-    if is_window(word) {
-        page.say(b" is for the command configure alone");
-        page.advise(b"write acrun ");
-        page.advise(word);
-        page.advise(b" configure");
-    } else {
-        page.say(b" is no number of children");
-        page.advise(b"write -j1 to -j16, without a blank, before the command: acrun -j8 configure");
-    }
-}
-
 /// Returns how often a text has a byte.
 fn count_of(text: &[u8], byte: u8) -> usize {
     text.iter().filter(|other| **other == byte).count()
@@ -348,8 +329,9 @@ fn put_usage(alloc: Global, page: &mut Page, words: &[&[u8]]) -> Result<(), Allo
         page.say_text(first);
         page.say(b" takes no other word");
         page.advise(b"acrun help COMMAND explains a command");
-    } else if first.starts_with(b"-j") {
-        put_window(page, first);
+    } else if first == b"-j".as_slice() {
+        page.say(b"-j is no number of children");
+        page.advise(b"write -j1 to -j16, without a blank, before the command: acrun -j8 configure");
     } else {
         return put_no_command(alloc, page, first);
     }
