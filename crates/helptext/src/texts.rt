@@ -76,6 +76,7 @@ Usage: acrun why WORD [LOG]
 
 Prints each check in LOG (by default config.log) that WORD is about, with its answer, and the commands, diagnostics and statuses that led
 to it. WORD is a part of the check's message (sys/stat.h), or a name made of its subject (HAVE_SYS_STAT_H, ac_cv_header_sys_stat_h).
+Without WORD it prints the arguments of the run that config.status is of.
 
 Exit status: 0 found; 1 nothing matches; 2 a file can't be read, or the words are wrong.
 ";

@@ -6,7 +6,8 @@ use std::test::Fail;
 use testrows::{Call, Page, cut, try_rows_in};
 use whycommand::run_why;
 
-/// The words with commas between them, a bar, and the log: the exit status, standard output and standard error.
+/// The words with commas between them, a bar, and the log, which is `config.status` too: the exit status, standard output and standard
+/// error.
 const WHYS: &[u8] = b"
 // a header that is missing: by its message, the symbol, and the name of the cached value
 sys/stat.h|checking for sys/stat.h... ^J$ cc -c conftest1.c^Ja.c:6:10: none^Jstatus 1^Jfailed program was:^J| #include <sys/stat.h>^Jno^J => 0[checking for sys/stat.h... no^Jchild 1:^J$ cc -c conftest1.c^Ja.c:6:10: none^Jstatus 1^Jfailed program was:^J| #include <sys/stat.h>^J][]
@@ -40,7 +41,7 @@ getlien|checking for getline... ^Jyes^Jchecking for a.h... ^Jno^J => 1[No check 
 HAVE_SYS_STATS_H|checking for sys/stat.h... ^J$ cc -c conftest1.c^Ja.c:6:10: none^Jstatus 1^Jfailed program was:^J| #include <sys/stat.h>^Jno^Jchecking for sys/stat.h... ^J$ cc -c conftest1.c^Ja.c:6:10: none^Jstatus 1^Jfailed program was:^J| #include <sys/stat.h>^Jno^J => 1[No check in the log is about HAVE_SYS_STATS_H.^JThe nearest are:^J  checking for sys/stat.h^J][]
 gf9|checking for f10... ^Jno^Jchecking for f1... ^Jno^Jchecking for f2... ^Jno^Jchecking for f3... ^Jno^Jchecking for f4... ^Jno^Jchecking for f5... ^Jno^J => 1[No check in the log is about gf9.^JThe nearest are:^J  checking for f1^J  checking for f2^J  checking for f3^J  checking for f4^J  checking for f5^J][]
 qqqq|checking for a.h... ^Jno^J => 1[No check in the log is about qqqq.^J][]
-// no log, no file, and words that mean nothing
+// no log, and no file
 a|configure: error: no C compiler^J => 1[No check in the log is about a.^J][]
 a|hello => 2[][acrun: log config.log^J]
 a|hello^J => 2[][acrun: log config.log^J]
@@ -48,7 +49,14 @@ a| => 2[][acrun: log config.log^J]
 a|checking for a... ^J$ cc^J => 2[][acrun: log config.log^J]
 a,missing| => 2[][acrun: file missing^J]
 a,.| => 2[][acrun: file .^J]
+// without a word: the arguments of config.status, as words of a shell
+|acrun-record 2^Jsrcdir .^Jend^J => 0[The run that config.status is of: acrun configure^J][]
+|acrun-record 2^Jsrcdir .^Jarg -C^Jarg CFLAGS=-O2 -g^Jarg ^Jarg it's^Jend^J => 0[The run that config.status is of: acrun configure -C 'CFLAGS=-O2 -g' '' 'it'\\''s'^J][]
+// a record without arguments, and a text that is no record
+|acrun-record 1^Jsrcdir .^Jend^J => 2[][acrun: usage^J]
+|acrun-record 2^Jsrcdir .^Jarg a^J => 2[][acrun: usage^J]
 | => 2[][acrun: usage^J]
+// words that mean nothing
 a,config.log,b| => 2[][acrun: usage^J]
 stat,config.log|checking for sys/stat.h... ^J$ cc -c conftest1.c^Ja.c:6:10: none^Jstatus 1^Jfailed program was:^J| #include <sys/stat.h>^Jno^J => 0[checking for sys/stat.h... no^Jchild 1:^J$ cc -c conftest1.c^Ja.c:6:10: none^Jstatus 1^Jfailed program was:^J| #include <sys/stat.h>^J][]
 ";
@@ -82,8 +90,10 @@ fn put_answer(page: &mut Page, rt: &HostRuntime, words: &[Bytes]) {
 impl Call for Whys<'_> {
     fn put(&self, page: &mut Page, given: &[u8]) {
         let (words, log) = cut(given, b"|");
-        if fs::write(self.0, "config.log", log).is_err() {
-            page.put(b"no file");
+        for name in ["config.log", "config.status"] {
+            if fs::write(self.0, name, log).is_err() {
+                page.put(b"no file");
+            }
         }
         let mut list = Vec::new(page.alloc());
         add_words(page, &mut list, words);

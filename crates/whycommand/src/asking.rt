@@ -6,6 +6,7 @@ ghost use Rattle.logreading.specs.Log.{is_log};
 use crate::checks::{Check, checks_of};
 use crate::names::is_about;
 use crate::nearest::put_nearest;
+use crate::record::line_in;
 use crate::showing::put_check;
 use deftable::Bytes;
 use invocation::{LOG, tell_file, tell_memory, tell_named, tell_usage};
@@ -21,8 +22,11 @@ const FOUND: u8 = 0;
 /// The exit status if the word is about no check.
 const NONE: u8 = 1;
 
-/// The largest number of bytes of a log that is read, 4 GiB.
-const LARGEST_LOG: u64 = 4_294_967_296;
+/// The largest number of bytes of a file that is read, 4 GiB.
+const LARGEST: u64 = 4_294_967_296;
+
+/// The name of the record.
+const RECORD: &[u8] = b"config.status";
 
 /// Shows each check that the word is about. Returns whether there is one.
 fn show_matches<W: Write>(
@@ -107,7 +111,7 @@ fn show_text<W: Write>(
     }
 }
 
-/// Reads the text of a log. Only a regular file is opened, since a read of a pipe or of a device may wait.
+/// Reads the text of a file. Only a regular file is opened, since a read of a pipe or of a device may wait.
 fn read_file<F: Files>(alloc: Global, files: &F, name: &[u8]) -> io::Result<Vec<u8>> {
     let Ok(name) = str::from_utf8(name) else {
         return Err(io::Error::from(ErrorKind::NotFound));
@@ -117,7 +121,7 @@ fn read_file<F: Files>(alloc: Global, files: &F, name: &[u8]) -> io::Result<Vec<
     }
     let mut file = fs::open(files, name)?;
     let mut text = Vec::new(alloc);
-    (&mut file).take(LARGEST_LOG).read_to_end(&mut text)?;
+    (&mut file).take(LARGEST).read_to_end(&mut text)?;
     Ok(text)
 }
 
@@ -155,6 +159,30 @@ fn explain_file<F: Files, W: Write, E: Write>(
     }
 }
 
+/// Returns the line of the run that the record is of, or `None` if it can't be read.
+fn record_line<F: Files>(alloc: Global, files: &F) -> Option<Vec<u8>> {
+    match &read_file(alloc, files, RECORD) {
+        Ok(text) => line_in(alloc, text.as_slice()),
+        Err(_) => None,
+    }
+}
+
+/// Shows a line, and returns the exit status. If there is none, a word is missing.
+#[tactic(auto, using(crate::proofs::Empty::some_log))]
+fn show_line<W: Write, E: Write>(line: &Option<Vec<u8>>, output: &mut W, errors: &mut E) -> u8
+    ensures status { result ≤ 2 }
+    ensures silent { result ≢ 2 → errors.new ≡ errors.old }
+    ensures log { result ≢ 2 → (text : List ℕ) × (is_log text ≡ true) }
+{
+    let Some(line) = line else {
+        return tell_usage(errors);
+    };
+    match output.write_all(line.as_slice()) {
+        Ok(()) => FOUND,
+        Err(error) => tell_failure(errors, &error, b"standard output"),
+    }
+}
+
 /// Shows why the checks that a word is about have their answers, and returns the exit status (own).
 ///
 /// The words are WORD, and the name of the log, which is `config.log` if it isn't given. WORD is a part of a check's message, or a
@@ -162,9 +190,12 @@ fn explain_file<F: Files, W: Write, E: Write>(
 /// Each such check is printed with its answer, then the command, the diagnostics and the status of each of its children, with the
 /// child's number in the log, and last the program that failed last.
 ///
-/// The status is 0 if a check is shown, and 1 if there is none: then the checks that are nearest to WORD are printed. It is 2 if the
-/// words aren't these, or if the log can't be read, is no log, or can't be explained on standard output. Then standard error has a
-/// line that says which.
+/// Without words, it prints the call of the run that `config.status` is of, with its arguments as words of a shell. A run that is
+/// stopped or cut writes no `config.status`, so this may be an earlier run than that of the log.
+///
+/// The status is 0 if a check or such a call is shown, and 1 if no check is about WORD: then the checks that are nearest to WORD are printed. It is 2 if the
+/// words aren't these, if there are none and no `config.status` with arguments can be read, or if the log can't be read, is no log, or
+/// can't be explained on standard output. Then standard error has a line that says which.
 pub fn run_why<F: Files, W: Write, E: Write>(
     alloc: Global,
     files: &F,
@@ -179,6 +210,7 @@ pub fn run_why<F: Files, W: Write, E: Write>(
     ensures log { result ≢ 2 → (text : List ℕ) × (is_log text ≡ true) }
 {
     match words {
+        [] => show_line(&record_line(alloc, files), output, errors),
         [word] => explain_file(alloc, files, word, LOG.as_bytes(), output, errors),
         [word, log] => explain_file(alloc, files, word, log.as_slice(), output, errors),
         _ => tell_usage(errors),

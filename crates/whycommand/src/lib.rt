@@ -1,7 +1,8 @@
-//! The command `acrun why WORD [LOG]`: why a check has the answer that it has, by the log of the run.
+//! The command `acrun why [WORD [LOG]]`: why a check has the answer that it has, by the log of the run.
 //!
 //! [`run_why`] reads a log, looks for the checks that WORD is about, and prints each with its answer, its children, and the program
-//! that failed. If WORD is about none, it prints the checks that are nearest to it.
+//! that failed. If WORD is about none, it prints the checks that are nearest to it. Without WORD, it prints with which arguments the run was
+//! made that `config.status` is of.
 //!
 //! The time is in proportion to the log, and the memory to its lines. "own" marks a rule that no manual gives.
 //!
@@ -17,13 +18,14 @@
 //! ```
 //!
 //! Read `subject` (what a check is about), `names` (which names a check has), `checks` (which lines are a check's), `showing`,
-//! `nearest`, and then `asking`.
+//! `nearest`, `record`, and then `asking`.
 #![tactic(auto)]
 
 mod asking;
 mod checks;
 mod names;
 mod nearest;
+mod record;
 mod showing;
 mod subject;
 
