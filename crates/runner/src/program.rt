@@ -69,6 +69,35 @@ fn tell_unknown<E: Write>(alloc: Global, is_asked: bool, words: &[Bytes], errors
     FAULT
 }
 
+/// Runs the command that the words name, if it is one that explains something, and returns its exit status. Any other words are
+/// reported as no command.
+fn explain<F: Files, D: Disk, R: Read, W: Write, E: Write>(
+    alloc: Global,
+    files: &F,
+    disk: &D,
+    words: &[Bytes],
+    has_colours: bool,
+    is_asked: bool,
+    input: &mut R,
+    output: &mut W,
+    errors: &mut E,
+) -> u8
+    ensures explained { IfWhy (call_of words.now) (λ asked. (result ≤ 2) × (result ≢ 2 → errors.new ≡ errors.old)) }
+    ensures help { IfHelp (call_of words.now) (λ asked. (result ≡ 0) ⊎ (result ≡ 2)) }
+    ensures unknown { call_of words.now ≡ Unknown → result ≡ 2 }
+    ensures input { HasNoInput (call_of words.now) → input.new ≡ input.old }
+    ensures output { HasNoOutput (call_of words.now) → output.new ≡ output.old }
+{
+    match call_of(words) {
+        Call::Help(words) => run_help(words, output, errors),
+        Call::Version => run_version(output, errors),
+        Call::Why(words) => run_why(alloc, files, words, output, errors),
+        Call::Port(words) => run_port(alloc, disk, words, input, output, errors),
+        Call::Lint(words) => run_lint(alloc, disk, words, has_colours, input, output, errors),
+        _ => tell_unknown(alloc, is_asked, words, errors),
+    }
+}
+
 /// Runs the command that the words name, and returns its exit status.
 ///
 /// Without words, it filters its input, and the status is that of the source's run. After `standin` they are the command line
@@ -146,22 +175,17 @@ pub fn run<F: Files, D: Disk, C: Crew + Causes, R: Read, W: Write, E: Write>(
         }
         Call::Status(tags) => run_status(alloc, outputs, why, tags, output, errors),
         Call::Recheck => run_recheck(alloc, outputs, why, env, crew, output, errors),
-        Call::Help(words) => run_help(words, output, errors),
-        Call::Version => run_version(output, errors),
-        Call::Why(words) => run_why(alloc, files, words, output, errors),
-        Call::Port(words) => run_port(alloc, outputs.disk(), words, input, output, errors),
-        Call::Lint(words) => {
-            run_lint(
-                alloc,
-                outputs.disk(),
-                words,
-                may_colour(env, is_terminal),
-                input,
-                output,
-                errors,
-            )
-        }
-        Call::Unknown => tell_unknown(alloc, why, words, errors),
+        _ => explain(
+            alloc,
+            files,
+            outputs.disk(),
+            words,
+            may_colour(env, is_terminal),
+            why,
+            input,
+            output,
+            errors,
+        ),
     }
 }
 
@@ -196,16 +220,19 @@ fn millis_since(rt: &HostRuntime, begun: &io::Result<Instant>) -> u64 {
     }
 }
 
-/// Sums a run up that began then, on its last line.
+/// Sums a run up that began then, on its last line, if it is asked.
 fn sum_up<E: Write>(
     rt: &HostRuntime,
     alloc: Global,
+    is_asked: bool,
     begun: &io::Result<Instant>,
     tally: &Tally,
     children: u64,
     errors: &mut E,
 ) {
-    let _ = put_summary(alloc, tally, children, millis_since(rt, begun), errors);
+    if is_asked {
+        let _ = put_summary(alloc, tally, children, millis_since(rt, begun), errors);
+    }
 }
 
 /// Runs the command that the words name, on the streams and the files of the process, and returns its exit status.
@@ -254,15 +281,9 @@ pub fn command<C: Crew + Causes + Children>(
         &mut output,
         &mut errors,
     );
-    if is_seen && asks_run(words) {
-        sum_up(
-            &rt,
-            alloc,
-            &begun,
-            &output.tally(),
-            crew.children(),
-            &mut errors,
-        );
-    }
+    let is_summed = is_seen && asks_run(words);
+    let tally = output.tally();
+    let children = crew.children();
+    sum_up(&rt, alloc, is_summed, &begun, &tally, children, &mut errors);
     status
 }

@@ -1,0 +1,35 @@
+-- What is said of a call of one kind, for a call of another kind.
+use Rattle.std.specs.Prelude.{◌≡◌, ℕ, List, refl}
+use Rattle.std.proofs.Common.{subst}
+use Rattle.invocation.specs.Calls.{Call, Why, Help, IfFilter, IfStandIn, IfConfigure, IfStatus, IfRecheck, IfWhy, IfHelp}
+use Rattle.invocation.specs.Lent.{call_seen}
+use Rattle.invocation.specs.declared.call.Call as lent
+use Rattle.invocation.specs.declared.call.Call.TheVariants as lends
+
+pub no_filter : (call : lent.Call) (seen : Call) (P : Type 0) → (call ≡ lends.Filter → ⊥) → call_seen call ≡ seen → IfFilter seen P
+no_filter lends.Filter seen P ne e = absurd (ne refl)
+no_filter call seen P ne e = subst (λ s. IfFilter s P) e tt
+
+pub no_standin : (call : lent.Call) (seen : Call) (P : List (List ℕ) → Type 0) → ((words : _) → call ≡ lends.StandIn words → ⊥) → call_seen call ≡ seen → IfStandIn seen P
+no_standin (lends.StandIn words) seen P ne e = absurd (ne words refl)
+no_standin call seen P ne e = subst (λ s. IfStandIn s P) e tt
+
+pub no_configure : (call : lent.Call) (seen : Call) (P : ℕ → List (List ℕ) → Type 0) → ((window : ℕ) (words : _) → call ≡ lends.Configure window words → ⊥) → call_seen call ≡ seen → IfConfigure seen P
+no_configure (lends.Configure window words) seen P ne e = absurd (ne window words refl)
+no_configure call seen P ne e = subst (λ s. IfConfigure s P) e tt
+
+pub no_status : (call : lent.Call) (seen : Call) (P : List (List ℕ) → Type 0) → ((tags : _) → call ≡ lends.Status tags → ⊥) → call_seen call ≡ seen → IfStatus seen P
+no_status (lends.Status tags) seen P ne e = absurd (ne tags refl)
+no_status call seen P ne e = subst (λ s. IfStatus s P) e tt
+
+pub no_recheck : (call : lent.Call) (seen : Call) (P : Type 0) → (call ≡ lends.Recheck → ⊥) → call_seen call ≡ seen → IfRecheck seen P
+no_recheck lends.Recheck seen P ne e = absurd (ne refl)
+no_recheck call seen P ne e = subst (λ s. IfRecheck s P) e tt
+
+pub any_why : (seen : Call) (P : List (List ℕ) → Type 0) → ((words : List (List ℕ)) → P words) → IfWhy seen P
+any_why (Why words) P p = p words
+any_why call P p = tt
+
+pub any_help : (seen : Call) (P : List (List ℕ) → Type 0) → ((words : List (List ℕ)) → P words) → IfHelp seen P
+any_help (Help words) P p = p words
+any_help call P p = tt

@@ -1,0 +1,20 @@
+use Rattle.runner.proofs.Others.{no_filter, no_standin, no_configure, no_status, no_recheck}
+use Rattle.runner.proofs.program.run.Goals as goal
+
+pub returns-in_default-clause-filter : goal.returns-in_default-clause-filter
+returns-in_default-clause-filter g c = no_filter c.call_of.result _ _ c.in_default.not-Filter c.call_of.ensures.call
+
+pub returns-in_default-clause-standin : goal.returns-in_default-clause-standin
+returns-in_default-clause-standin g c = no_standin c.call_of.result _ _ c.in_default.not-StandIn c.call_of.ensures.call
+
+pub returns-in_default-clause-silent : goal.returns-in_default-clause-silent
+returns-in_default-clause-silent g c = no_standin c.call_of.result _ _ c.in_default.not-StandIn c.call_of.ensures.call
+
+pub returns-in_default-clause-configure : goal.returns-in_default-clause-configure
+returns-in_default-clause-configure g c = no_configure c.call_of.result _ _ c.in_default.not-Configure c.call_of.ensures.call
+
+pub returns-in_default-clause-status : goal.returns-in_default-clause-status
+returns-in_default-clause-status g c = no_status c.call_of.result _ _ c.in_default.not-Status c.call_of.ensures.call
+
+pub returns-in_default-clause-recheck : goal.returns-in_default-clause-recheck
+returns-in_default-clause-recheck g c = no_recheck c.call_of.result _ _ c.in_default.not-Recheck c.call_of.ensures.call
