@@ -1,6 +1,6 @@
 -- What is said of a call of one kind, for a call of another kind.
 use Rattle.std.specs.Prelude.{◌≡◌, ℕ, List, refl}
-use Rattle.std.proofs.Common.{subst}
+use Rattle.std.proofs.Common.{◌≢◌, ◌≤◌, arith, subst}
 use Rattle.invocation.specs.Calls.{Call, Why, Help, IfFilter, IfStandIn, IfConfigure, IfStatus, IfRecheck, IfWhy, IfHelp}
 use Rattle.invocation.specs.Lent.{call_seen}
 use Rattle.invocation.specs.declared.call.Call as lent
@@ -26,9 +26,9 @@ pub no_recheck : (call : lent.Call) (seen : Call) (P : Type 0) → (call ≡ len
 no_recheck lends.Recheck seen P ne e = absurd (ne refl)
 no_recheck call seen P ne e = subst (λ s. IfRecheck s P) e tt
 
-pub any_why : (seen : Call) (P : List (List ℕ) → Type 0) → ((words : List (List ℕ)) → P words) → IfWhy seen P
-any_why (Why words) P p = p words
-any_why call P p = tt
+pub failed_why : (n : ℕ) (P : Type 0) (seen : Call) → n ≡ 2 → IfWhy seen (λ words. (n ≤ 2) × (n ≢ 2 → P))
+failed_why n P (Why words) e = (omega (arith, e), λ ne. absurd (ne e))
+failed_why n P call e = tt
 
 pub any_help : (seen : Call) (P : List (List ℕ) → Type 0) → ((words : List (List ℕ)) → P words) → IfHelp seen P
 any_help (Help words) P p = p words
