@@ -11,7 +11,7 @@ use std::alloc::Global;
 use std::io::{self, Write};
 
 /// Reports a fault of a run, and returns the exit status. Of a precious variable, the line has the number and not the name.
-pub fn tell_fault<E: Write>(errors: &mut E, fault: &Fault) -> u8
+fn tell_fault<E: Write>(errors: &mut E, fault: &Fault) -> u8
     ensures { result ≡ 2 }
 {
     match fault {

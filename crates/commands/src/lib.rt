@@ -19,6 +19,6 @@ mod remaking;
 mod reporting;
 
 pub use answering::run_standin;
-pub use errors::{tell_fault, tell_remake, tell_unread};
+pub use errors::{tell_remake, tell_unread};
 pub use remaking::{RECORD, run_status};
 pub use reporting::tell_result;

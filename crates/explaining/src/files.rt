@@ -5,6 +5,7 @@ ghost use Rattle.std.specs.Prelude.{◌≡◌, false};
 use crate::asking::Why;
 use crate::lines::put_words;
 use causes::words_of;
+use deftable::Bytes;
 use disk::Disk;
 use diskfiles::{path_in, unread_cause};
 use std::alloc::Global;
@@ -27,8 +28,23 @@ pub fn explain_error<E: Write>(
     }
 }
 
+/// Says that a source has the name that Autoconf used before `configure.ac`, if the path is that of a source and such a file is beside
+/// it.
+fn explain_old_name<D: Disk, E: Write>(alloc: Global, disk: &D, path: &[u8], errors: &mut E) {
+    let Some(front) = path.strip_suffix(b"configure.ac") else {
+        return;
+    };
+    let Ok(old) = Bytes::concat(alloc, &[front, b"configure.in"]) else {
+        return;
+    };
+    if unread_cause(disk, old.as_slice()).is_none() {
+        let words = b"configure.in is there, and is not read: give it the name configure.ac";
+        put_words(alloc, words, errors);
+    }
+}
+
 /// Says why the file at a path was not read, if it is asked: `acrun: NAME: CAUSE`. The file is looked at once more for that, so if it
-/// can be read now, nothing is said.
+/// can be read now, nothing is said. If it is a `configure.ac` and a `configure.in` is beside it, one more line says so (own).
 pub fn explain_file<D: Disk, E: Write>(
     alloc: Global,
     disk: &D,
@@ -42,6 +58,7 @@ pub fn explain_file<D: Disk, E: Write>(
     if is_asked {
         if let Some(error) = unread_cause(disk, path) {
             explain_error(alloc, true, name, &error, errors);
+            explain_old_name(alloc, disk, path, errors);
         }
     }
 }
