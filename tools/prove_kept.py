@@ -6,7 +6,8 @@ or what a crate below it hands to the crates above. It serves a toolchain whose 
 
 What is kept is in the folder that ACRUN_KEPT names, or else in out/kept. Several clones may share one folder, also at the same
 time. There is a line for each crate that is proved now, with all that the check says if it fails. The last line is
-'N passed, M failed', and the exit status is 1 if M is not 0. It is no part of the gate, which proves everything by itself.
+'N passed, M failed', and the exit status is 1 if M is not 0. It is no part of the gate, which proves everything by itself, and which
+refuses more: a layout that is not that of `rt fmt`, say, or a contract that no call can meet.
 """
 import argparse
 import concurrent.futures
