@@ -71,6 +71,8 @@ ROWS = [
     ("cache of 299,593 names, 4,194,302 bytes", lambda: configure_row(INIT + END, {"config.cache": NAMES}, ["-C"]), DONE),
     ("a PATH of 524,000 directories, the first child refused", lambda: filter_row(
         INIT + b"PATH=" + b"a:" * 524_000 + b"\nAC_PATH_PROG([P],[p])\n" + END), (3, b"configure: cut short at child 1\n")),
+    ("weight 65,535, of a search in libraries, its first child refused", lambda: filter_row(
+        INIT + b"CC=cc\nAC_SEARCH_LIBS([f],[" + numbered(b" l%05d", 65_529) + b"])\n" + END), (3, b"configure: cut short at child 1\n")),
     ("a child that never stops writing", lambda: configure_row(INIT + ENDLESS + b"AC_CHECK_HEADER([a.h])\n" + END), DONE),
     ("16 such children at once", lambda: configure_row(
         INIT + ENDLESS + b"AC_CHECK_HEADERS([" + numbered(b" a%d.h", 16) + b"])\n" + END, words=["-j16"]), DONE),

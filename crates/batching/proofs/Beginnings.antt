@@ -4,9 +4,10 @@ use Rattle.jobs.specs.declared.job.Job.{Job}
 use Rattle.meaning.specs.State.{State, Run, Asks, then_run}
 use Rattle.meaning.specs.Batches.{Batch, asking, jobs_in, batched}
 use Rattle.plan.specs.Broken.{guarded_all}
-use Rattle.searching.specs.Waits.{Awaits, Suits, after_entries, at_once, batch_end, is_refused}
-use Rattle.searching.specs.declared.trial.Waiting as waiting
-use Rattle.searching.specs.declared.wait.Wait.TheVariants as wait
+use Rattle.run_test.specs.Waits.{Awaits, Suits}
+use Rattle.run_test.specs.Batched.{after_entries, at_once, batch_end, is_refused}
+use Rattle.run_test.specs.declared.wait.Waiting as waiting
+use Rattle.run_test.specs.declared.wait.Wait.TheVariants as wait
 use Rattle.batching.specs.Waiting.{fronted, jobs_of, waiting_for}
 use Rattle.batching.proofs.Committing.{at_once_is, batch_asks, batch_now, few_jobs, few_waiting, jobs_are}
 

@@ -18,52 +18,54 @@ use Rattle.meaning.specs.Asking.{success}
 use Rattle.meaning.specs.Batches.{is_known}
 use Rattle.meaning.specs.Play.{refused_here, first_refused}
 use Rattle.meaning.specs.Rows.{entry_name}
-use Rattle.searching.specs.Trials.{begun, known_end, heard_end, trial_for}
-use Rattle.searching.specs.Waits.{after_entries, at_once, batch_end, entry_end, entry_refused, given, is_refused, refuses, rest_after, with_asked}
-use Rattle.searching.specs.declared.trial.Trial.{Trial}
-use Rattle.searching.specs.declared.trial.Waiting as waiting
+use Rattle.run_test.specs.Courses.{entry_test}
+use Rattle.run_test.specs.Entries.{begun, known_end, heard_end}
+use Rattle.run_test.specs.Waits.{given}
+use Rattle.run_test.specs.Batched.{after_entries, at_once, batch_end, entry_end, entry_refused, is_refused, refuses, rest_after, with_asked}
+use Rattle.run_test.specs.declared.course.EntryTest.{EntryTest}
+use Rattle.run_test.specs.declared.wait.Waiting as waiting
 use Rattle.batching.specs.Taking.{Takes, TakesReply}
 use Rattle.batching.specs.Waiting.{any_asks, front_end, is_named, job_at, jobs_of, names_before, waiting_at, waiting_for}
 
 -- ---- names
 
-any_name : (name : List ℕ) (entries : List waiting.Waiting) → list_any (bytes_eq name) (map (λ e. e.trial.name) entries) ≡ is_named name entries
+any_name : (name : List ℕ) (entries : List waiting.Waiting) → list_any (bytes_eq name) (map (λ e. e.test.name) entries) ≡ is_named name entries
 any_name name [] = refl
-any_name name (e ∷ more) = ap (λ b. bytes_eq name e.trial.name || b) (any_name name more)
+any_name name (e ∷ more) = ap (λ b. bytes_eq name e.test.name || b) (any_name name more)
 
 pub named_before : (name : List ℕ) (entries : List waiting.Waiting) → is_named name entries ≡ list_any (bytes_eq name) (names_before entries)
 named_before name entries =
     sym (any_name name entries)
-    ∙ list_any-IsPermutation (bytes_eq name) (map (λ e. e.trial.name) entries) (reverse (map (λ e. e.trial.name) entries)) (IsPermutation-reverse (map (λ e. e.trial.name) entries))
+    ∙ list_any-IsPermutation (bytes_eq name) (map (λ e. e.test.name) entries) (reverse (map (λ e. e.test.name) entries)) (IsPermutation-reverse (map (λ e. e.test.name) entries))
 
-names_map : (a b : List waiting.Waiting) → map (λ e. e.trial.name) (a ++ b) ≡ map (λ e. e.trial.name) a ++ map (λ e. e.trial.name) b
+names_map : (a b : List waiting.Waiting) → map (λ e. e.test.name) (a ++ b) ≡ map (λ e. e.test.name) a ++ map (λ e. e.test.name) b
 names_map [] b = refl
-names_map (e ∷ a) b = ap (λ l. e.trial.name ∷ l) (names_map a b)
+names_map (e ∷ a) b = ap (λ l. e.test.name ∷ l) (names_map a b)
 
-names_more : (entries : List waiting.Waiting) (e : waiting.Waiting) → names_before (entries ++ e ∷ []) ≡ e.trial.name ∷ names_before entries
-names_more entries e = ap reverse (names_map entries (e ∷ [])) ∙ reverse-append (map (λ x. x.trial.name) entries) (e.trial.name ∷ [])
+names_more : (entries : List waiting.Waiting) (e : waiting.Waiting) → names_before (entries ++ e ∷ []) ≡ e.test.name ∷ names_before entries
+names_more entries e = ap reverse (names_map entries (e ∷ [])) ∙ reverse-append (map (λ x. x.test.name) entries) (e.test.name ∷ [])
 
 -- ---- the tests and their jobs
 
-pub waiting_more : (listed : Listed) (all : List waiting.Waiting) (entries : List (List ℕ)) (i : ℕ) (entry : List ℕ) (st : State) (trial : Trial) (asks : Bool) (whole : List waiting.Waiting) → i < length entries
-    → entry ≡ get_or entries i entry → trial ≡ trial_for (Entry listed) entry true → asks ≡ not (is_known trial.name (names_before all) st)
+pub waiting_more : (listed : Listed) (all : List waiting.Waiting) (entries : List (List ℕ)) (i : ℕ) (entry : List ℕ) (st : State) (test : EntryTest) (asks : Bool) (whole : List waiting.Waiting) → i < length entries
+    → entry ≡ get_or entries i entry → test ≡ entry_test (Entry listed) entry true → asks ≡ not (is_known test.name (names_before all) st)
     → all ++ waiting_for listed (names_before all) (drop i entries) st ≡ whole
-    → (all ++ record { trial = trial; asks = asks } ∷ []) ++ waiting_for listed (names_before (all ++ record { trial = trial; asks = asks } ∷ [])) (drop (i + 1) entries) st ≡ whole
-waiting_more listed all entries i entry st trial asks whole lt is t a so_far =
-    let w : waiting.Waiting = record { trial = trial; asks = asks } in
+    → (all ++ record { test = test; asks = asks } ∷ []) ++ waiting_for listed (names_before (all ++ record { test = test; asks = asks } ∷ [])) (drop (i + 1) entries) st ≡ whole
+waiting_more listed all entries i entry st test asks whole lt is t a so_far =
+    let w : waiting.Waiting = record { test = test; asks = asks } in
     let name = entry_name listed entry in
-    let asks_is : asks ≡ not (is_known name (names_before all) st) = a ∙ ap (λ (x : Trial). not (is_known x.name (names_before all) st)) t in
-    let w_is : w ≡ waiting_at listed (names_before all) entry st = ap (λ (x : Trial). the_waiting x asks) t ∙ ap (the_waiting (trial_for (Entry listed) entry true)) asks_is in
+    let asks_is : asks ≡ not (is_known name (names_before all) st) = a ∙ ap (λ (x : EntryTest). not (is_known x.name (names_before all) st)) t in
+    let w_is : w ≡ waiting_at listed (names_before all) entry st = ap (λ (x : EntryTest). the_waiting x asks) t ∙ ap (the_waiting (entry_test (Entry listed) entry true)) asks_is in
     let rest = drop (i + 1) entries in
     append_assoc all (w ∷ []) (waiting_for listed (names_before (all ++ w ∷ [])) rest st)
     ∙ ap (λ names. all ++ w ∷ waiting_for listed names rest st) (names_more all w)
-    ∙ ap (λ (x : waiting.Waiting). all ++ x ∷ waiting_for listed (x.trial.name ∷ names_before all) rest st) w_is
+    ∙ ap (λ (x : waiting.Waiting). all ++ x ∷ waiting_for listed (x.test.name ∷ names_before all) rest st) w_is
     ∙ ap (λ e. all ++ waiting_for listed (names_before all) (e ∷ rest) st) is
     ∙ ap (λ l. all ++ waiting_for listed (names_before all) l st) (sym (drop_more entries i entry lt))
     ∙ so_far
   where
-    the_waiting : Trial → Bool → waiting.Waiting
-    the_waiting t b = record { trial = t; asks = b }
+    the_waiting : EntryTest → Bool → waiting.Waiting
+    the_waiting t b = record { test = t; asks = b }
 
 pub jobs_more : (listed : Listed) (includes : Option (List Part)) (jobs new : List Job) (entries : List waiting.Waiting) (i number : ℕ) (e : waiting.Waiting) (st : State) (job : Option Job) (whole : List Job) → i < length entries
     → e ≡ get_or entries i e → number ≡ i + 1 → job ≡ job_at listed includes number e st → new ≡ jobs ++ option_to_list job
@@ -85,7 +87,7 @@ jobs_more listed includes jobs new entries i number e st job whole lt is n j mad
 -- ---- the front
 
 pub front_more : (entries : List waiting.Waiting) (i : ℕ) (e : waiting.Waiting) (st now last : State) (asks : Bool) → i < length entries → e ≡ get_or entries i e → e.asks ≡ false
-    → now ≡ known_end (value_of st.vars e.trial.name) e.trial (begun e.trial st)
+    → now ≡ known_end (value_of st.vars e.test.name) e.test (begun e.test st)
     → (any_asks (drop i entries) ≡ asks) × (front_end (drop i entries) st ≡ last)
     → (any_asks (drop (i + 1) entries) ≡ asks) × (front_end (drop (i + 1) entries) now ≡ last)
 front_more entries i e st now last asks lt is no_ask moved so_far =
@@ -93,7 +95,7 @@ front_more entries i e st now last asks lt is no_ask moved so_far =
     let here : drop i entries ≡ e ∷ rest = drop_more entries i e lt ∙ ap (λ (x : waiting.Waiting). x ∷ rest) (sym is) in (
       ap (λ b. b || any_asks rest) (sym no_ask) ∙ ap any_asks (sym here) ∙ so_far.0,
       ap (front_end rest) moved
-          ∙ ap (λ b. cond b st (front_end rest (known_end (value_of st.vars e.trial.name) e.trial (begun e.trial st)))) (sym no_ask)
+          ∙ ap (λ b. cond b st (front_end rest (known_end (value_of st.vars e.test.name) e.test (begun e.test st)))) (sym no_ask)
           ∙ ap (λ l. front_end l st) (sym here) ∙ so_far.1,
     )
 
@@ -103,13 +105,13 @@ front_asks entries i e st last asks lt is ask so_far =
     let rest = drop (i + 1) entries in
     let here : drop i entries ≡ e ∷ rest = drop_more entries i e lt ∙ ap (λ (x : waiting.Waiting). x ∷ rest) (sym is) in (
       ap (λ b. b || any_asks rest) (sym ask) ∙ ap any_asks (sym here) ∙ so_far.0,
-      ap (λ b. cond b st (front_end rest (known_end (value_of st.vars e.trial.name) e.trial (begun e.trial st)))) (sym ask)
+      ap (λ b. cond b st (front_end rest (known_end (value_of st.vars e.test.name) e.test (begun e.test st)))) (sym ask)
           ∙ ap (λ l. front_end l st) (sym here) ∙ so_far.1,
     )
 
 -- ---- the replies
 
-entry_by : (asks : Bool) (t : Trial) (jobs left taken : List Job) (replies rest : List Reply) (reply : Reply) (st : State) → Takes asks jobs left taken → TakesReply asks replies rest reply
+entry_by : (asks : Bool) (t : EntryTest) (jobs left taken : List Job) (replies rest : List Reply) (reply : Reply) (st : State) → Takes asks jobs left taken → TakesReply asks replies rest reply
     → (entry_end asks t taken (reply ∷ []) st ≡ entry_end asks t jobs replies st) × (left ≡ rest_after asks jobs) × (rest ≡ rest_after asks replies)
 entry_by true t [] left taken replies rest reply st job r =
     (ap (λ (x : List Job). heard_end (success reply) t (with_asked x (reply ∷ []) (begun t st))) job.0 ∙ ap (λ (x : Reply). heard_end (success x) t (begun t st)) r.0, job.1, r.1)
@@ -118,15 +120,15 @@ entry_by true t (j ∷ js) left taken replies rest reply st job r =
 entry_by false t jobs left taken replies rest reply st job r = (refl, job.1, r.1)
 
 pub entries_more : (entries : List waiting.Waiting) (i : ℕ) (e : waiting.Waiting) (jobs left taken : List Job) (replies rest : List Reply) (reply : Reply) (st now last : State) → i < length entries → e ≡ get_or entries i e
-    → Takes e.asks jobs left taken → TakesReply e.asks replies rest reply → now ≡ entry_end e.asks e.trial taken (reply ∷ []) st
+    → Takes e.asks jobs left taken → TakesReply e.asks replies rest reply → now ≡ entry_end e.asks e.test taken (reply ∷ []) st
     → after_entries (drop i entries) jobs replies st ≡ last
     → after_entries (drop (i + 1) entries) left rest now ≡ last
 entries_more entries i e jobs left taken replies rest reply st now last lt is job r moved so_far =
     let others = drop (i + 1) entries in
-    let by = entry_by e.asks e.trial jobs left taken replies rest reply st job r in
+    let by = entry_by e.asks e.test jobs left taken replies rest reply st job r in
     ap (after_entries others left rest) (moved ∙ by.0)
-    ∙ ap (λ l. after_entries others l rest (entry_end e.asks e.trial jobs replies st)) by.1
-    ∙ ap (λ l. after_entries others (rest_after e.asks jobs) l (entry_end e.asks e.trial jobs replies st)) by.2
+    ∙ ap (λ l. after_entries others l rest (entry_end e.asks e.test jobs replies st)) by.1
+    ∙ ap (λ l. after_entries others (rest_after e.asks jobs) l (entry_end e.asks e.test jobs replies st)) by.2
     ∙ ap (λ (x : waiting.Waiting). after_entries (x ∷ others) jobs replies st) is
     ∙ ap (λ l. after_entries l jobs replies st) (sym (drop_more entries i e lt))
     ∙ so_far

@@ -7,19 +7,18 @@ ghost use Rattle.batching.specs.Waiting.{is_named, job_at, jobs_of, names_before
 
 use deftable::Bytes;
 use jobs::Job;
+use run_test::Waiting;
+use run_test::entries::{entry_job, entry_test};
 use runstate::Store;
-use searching::Waiting;
-use searching::deciding::trial_of;
-use searching::programs::entry_job;
 use shellword::HereText;
 use std::alloc::{AllocError, Global};
 use syntax::{Listed, Sought};
 
 /// Returns whether an entry has this cached name.
 fn has_name(entry: &Waiting, name: &[u8]) -> bool
-    ensures { result ≡ bytes_eq name.now entry.now.trial.name }
+    ensures { result ≡ bytes_eq name.now entry.now.test.name }
 {
-    name == entry.trial.name.as_slice()
+    name == entry.test.name.as_slice()
 }
 
 /// Returns whether one of the entries has this cached name.
@@ -53,9 +52,9 @@ pub(crate) fn waiting_for(
 {
     let mut all = Vec::new(alloc);
     for i in 0..entries.len() {
-        let trial = trial_of(alloc, Sought::Entry(listed), &entries[i], true)?;
-        let asks = !is_known(store, all.as_slice(), trial.name.as_slice());
-        all.push(Waiting { trial, asks })?;
+        let test = entry_test(alloc, Sought::Entry(listed), &entries[i], true)?;
+        let asks = !is_known(store, all.as_slice(), test.name.as_slice());
+        all.push(Waiting { test, asks })?;
     }
     Ok(all)
 }
@@ -78,7 +77,7 @@ fn job_of(
         alloc,
         store,
         listed,
-        entry.trial.entry.as_slice(),
+        entry.test.entry.as_slice(),
         includes,
         number,
     )

@@ -1,22 +1,22 @@
 //! The end of a batch, with the replies to its jobs.
 
-ghost use Rattle.std.specs.Prelude.{◌≡◌, ◌<◌, ◌+◌, ◌^◌, ◌∷◌, [], IfOk, OnOk, None, Some, length, option_to_list, reverse, true, unwrap_or};
+ghost use Rattle.std.specs.Prelude.{◌≡◌, ◌<◌, ◌+◌, ◌^◌, IfOk, OnOk, length, option_to_list, reverse, unwrap_or};
 ghost use Rattle.meaning.specs.Asking.{success};
 ghost use Rattle.meaning.specs.Play.{first_refused, refused_after};
-ghost use Rattle.meaning.specs.State.{Run, Scope, State};
 ghost use Rattle.crew_trait.specs.declared.reply.Reply.TheVariants.{StartRefused};
+ghost use Rattle.run_test.specs.Batched.{at_once};
+ghost use Rattle.run_test.specs.Flows.{IsStep, LedOn};
+ghost use Rattle.run_test.specs.Waits.{given};
+ghost use Rattle.batching.specs.Runs.{all_ended, asked_end, given_last, end_run, waiting_end};
 ghost use Rattle.batching.specs.Taking.{Takes, TakesReply};
-ghost use Rattle.searching.specs.Flows.{IsStep, Leads};
-ghost use Rattle.searching.specs.Waits.{after_entries, at_once, entry_end, given, resumed};
-ghost use Rattle.searching.specs.declared.wait.Wait.TheVariants as wait;
 
 use crate::beginning::end_quiet;
 use crew_trait::Reply;
 use jobs::Job;
+use run_test::entries::{begin_entry, end_heard};
+use run_test::replies::{log_asked, success};
+use run_test::{EntryTest, Flow, Waiting};
 use runstate::Store;
-use searching::deciding::{begin_trial, end_heard};
-use searching::replies::{log_asked, success};
-use searching::{Flow, Trial, Waiting};
 use std::alloc::{AllocError, Global};
 
 /// Takes the next job, if the entry asked for one. The next one is last.
@@ -28,7 +28,7 @@ fn take_job(jobs: &mut Vec<Job>, asks: bool) -> Option<Job>
 
 /// Takes the next reply, if the entry asked for a child. The next one is last, and a missing one is a refused start.
 fn take_reply(replies: &mut Vec<Option<Reply>>, asks: bool) -> Reply
-    ensures { TakesReply asks (given (reverse replies.old.items)) (given (reverse replies.new.items)) result }
+    ensures { TakesReply asks (given_last replies.old.items) (given_last replies.new.items) result }
 {
     if !asks {
         return Reply::StartRefused;
@@ -43,16 +43,16 @@ fn take_reply(replies: &mut Vec<Option<Reply>>, asks: bool) -> Reply
 fn end_asked(
     alloc: Global,
     store: &mut Store,
-    trial: &Trial,
+    test: &EntryTest,
     job: Option<Job>,
     reply: Reply,
 ) -> Result<(), AllocError>
-    ensures { OnOk result (store.new ≡ entry_end true trial.now (option_to_list job) (reply ∷ []) store.old) }
+    ensures { OnOk result (store.new ≡ asked_end test.now job reply store.old) }
 {
     let heard = success(&reply);
-    begin_trial(alloc, store, trial)?;
+    begin_entry(alloc, store, test)?;
     log_asked(store, job, reply)?;
-    end_heard(alloc, store, trial, heard)
+    end_heard(alloc, store, test, heard)
 }
 
 /// Ends the test of an entry.
@@ -63,12 +63,12 @@ fn end_entry(
     job: Option<Job>,
     reply: Reply,
 ) -> Result<(), AllocError>
-    ensures { OnOk result (store.new ≡ entry_end entry.now.asks entry.now.trial (option_to_list job) (reply ∷ []) store.old) }
+    ensures { OnOk result (store.new ≡ waiting_end entry.now job reply store.old) }
 {
     if !entry.asks {
-        return end_quiet(alloc, store, &entry.trial);
+        return end_quiet(alloc, store, &entry.test);
     }
-    end_asked(alloc, store, &entry.trial, job, reply)
+    end_asked(alloc, store, &entry.test, job, reply)
 }
 
 /// Ends the tests of all entries, in the order of the list.
@@ -79,7 +79,7 @@ fn end_all(
     mut jobs: Vec<Job>,
     mut replies: Vec<Option<Reply>>,
 ) -> Result<(), AllocError>
-    ensures { OnOk result (store.new ≡ after_entries entries.now jobs.items (given replies.items) store.old) }
+    ensures { OnOk result (store.new ≡ all_ended entries.now jobs.items replies.items store.old) }
 {
     jobs.reverse();
     replies.reverse();
@@ -120,19 +120,19 @@ fn first_refused(replies: &[Option<Reply>]) -> Option<u64>
 pub fn hear_batch(
     alloc: Global,
     store: &mut Store,
-    entries: &Vec<Waiting>,
+    batch: &Vec<Waiting>,
     jobs: Vec<Job>,
     replies: Vec<Option<Reply>>,
     before: u64,
 ) -> Result<Flow, AllocError>
-    requires asked { length jobs.items ≡ at_once entries.now.items }
+    requires asked { length jobs.items ≡ at_once batch.now.items }
     requires replies { length replies.items ≡ length jobs.items }
     requires room { before + length jobs.items < 2 ^ 64 }
     ensures step { IfOk result (IsStep 0 (refused_after before (given replies.items))) }
-    ensures leads { IfOk result (λ flow. (about : Scope) → Leads flow (λ tests next. resumed tests (wait.Batch entries.now) jobs.items (given replies.items) (next 0) about store.old) about store.new) }
+    ensures leads { LedOn result (end_run batch.now jobs.items replies.items) store.old store.new }
 {
     let refused = first_refused(replies.as_slice());
-    end_all(alloc, store, entries.as_slice(), jobs, replies)?;
+    end_all(alloc, store, batch.as_slice(), jobs, replies)?;
     match refused {
         Some(number) => Ok(Flow::Cut {
             number: before + number,

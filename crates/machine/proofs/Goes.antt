@@ -9,19 +9,19 @@ use Rattle.meaning.specs.State.{State, Goes_on, Cut, Run, Ends, Asks}
 use Rattle.plan.specs.declared.step.Step.{Step}
 use Rattle.plan.specs.Walk.{Instruction, Mind, minded, act, walk, shown}
 use Rattle.plan.specs.Inside.{StaysInside, reach, asks_of, asks_after}
-use Rattle.searching.specs.declared.flow.Flow.{Flow}
-use Rattle.searching.specs.declared.flow.Flow.TheVariants as flow
+use Rattle.run_test.specs.declared.flow.Flow.{Flow}
+use Rattle.run_test.specs.declared.flow.Flow.TheVariants as flow
 use Rattle.machine.specs.declared.machine.Phase.TheVariants as phase
 use Rattle.machine.specs.declared.machine.Turn.{Turn}
 use Rattle.machine.specs.declared.machine.Turn.TheVariants as turn
-use Rattle.searching.specs.declared.wait.Wait.TheVariants as waits
-use Rattle.searching.specs.Flows.{Leads, Continues, Heeds, IsGroup, passed, asks_now}
+use Rattle.run_test.specs.declared.wait.Wait.TheVariants as waits
+use Rattle.run_test.specs.Flows.{Leads, Continues, Heeds, IsGroup, passed, asks_now}
 use Rattle.machine.specs.Moves.{arrived, turn_by}
 use Rattle.machine.specs.Standing.{Standing, walk_inside, with_phase, run_left, left_in, CutsAt, Refusals, asks_in, asks_left, Holds, Rests, Turned}
 use Rattle.meaning.specs.Play.{first_refused, refused_after, last_words}
 use Rattle.plan.specs.Broken.{broken_all}
-use Rattle.searching.proofs.Searches.{continued}
-use Rattle.searching.specs.Waits.{given, resumed, waits_for}
+use Rattle.run_test.proofs.Flows.{continued}
+use Rattle.run_test.specs.Waits.{given, resumed, waits_for}
 
 -- One step, at an offset.
 walk_at : (steps : List Step) (k : ℕ) (s : Step) (c : Mind) (st : State) → k < length steps → s ≡ get_or steps k s

@@ -1,7 +1,7 @@
 -- The moves of a machine.
 use Rattle.std.specs.Prelude.{◌+◌, [], Option, Some, None, length, replicate}
-use Rattle.searching.specs.declared.flow.Flow.{Flow}
-use Rattle.searching.specs.declared.flow.Flow.TheVariants as flow
+use Rattle.run_test.specs.declared.flow.Flow.{Flow}
+use Rattle.run_test.specs.declared.flow.Flow.TheVariants as flow
 use Rattle.machine.specs.declared.machine.Phase.TheVariants as phase
 use Rattle.machine.specs.declared.machine.Turn.{Turn}
 use Rattle.machine.specs.declared.machine.Turn.TheVariants as turn

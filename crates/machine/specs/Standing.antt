@@ -11,9 +11,9 @@ use Rattle.machine.specs.declared.machine.Turn.{Turn}
 use Rattle.machine.specs.declared.machine.Turn.TheVariants as turn
 use Rattle.machine.specs.declared.machine.RunOutcome.{RunOutcome}
 use Rattle.machine.specs.declared.machine.RunOutcome.TheVariants as outcome
-use Rattle.searching.specs.declared.wait.Wait.{Wait}
+use Rattle.run_test.specs.declared.wait.Wait.{Wait}
 use Rattle.meaning.specs.Play.{first_refused, refused_after, last_words}
-use Rattle.searching.specs.Waits.{Awaits, given, resumed, waits_for}
+use Rattle.run_test.specs.Waits.{Awaits, given, resumed, waits_for}
 
 -- A machine, as contracts see it: its place is the number of steps that are passed; while it asks, `jobs` are asked
 -- for, after `before` others, and `replies` has room for the reply to each. (own)

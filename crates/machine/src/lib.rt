@@ -14,7 +14,7 @@
 //! ```
 //!
 //! Read `specs/Standing` (the position of a machine in a plan, the run that remains from there, and a turn), then
-//! `machine`. The crate `execution` has single steps, and `runstate` what they change.
+//! `machine`. The crate `run_step` has single steps, and `runstate` what they change.
 //!
 //! The theorem is about one run: the plan's walk, with the variables that the machine was given and no definitions. At
 //! each turn, the run that remains is what the walk leaves to do, and each group of replies leads to the run that

@@ -7,22 +7,21 @@ ghost use Rattle.meaning.specs.State.{opened};
 ghost use Rattle.plan.specs.Broken.{refused_all, unset_all};
 ghost use Rattle.plan.specs.Inside.{StaysInside, asks_after, asks_of, reach};
 ghost use Rattle.plan.specs.Walk.{act, empty_mind, minded, shown};
-ghost use Rattle.searching.specs.Flows.{Continues, Heeds, IsGroup, IsStep, Leads, asks_now, passed};
+ghost use Rattle.run_test.specs.Flows.{Continues, Heeds, IsGroup, IsStep, Leads, asks_now, passed};
 ghost use Rattle.machine.specs.Moves.{arrived, turn_by};
 ghost use Rattle.machine.specs.Standing.{Fits, Holds, Rests, Turned, outcome_of, with_phase};
-ghost use Rattle.searching.specs.Waits.{Awaits, given, refused_rest, resumed, waits_for};
-ghost use Rattle.searching.specs.declared.wait.Wait.TheVariants as waits;
+ghost use Rattle.run_test.specs.Waits.{Awaits, given, refused_rest, resumed, waits_for};
+ghost use Rattle.run_test.specs.declared.wait.Wait.TheVariants as waits;
 
 use crew_trait::{Log, Reply};
 use deftable::{Defs, Notes, Vars};
-use execution::do_step;
-use hearing::hear;
 use jobs::Job;
 use plan::{Plan, Step};
+use run_step::{Replied, do_step, hear};
+use run_test::{Flow, Wait};
 use runstate::open_tests::{OpenTests, refuse_all, unset_all};
 use runstate::pieces::report_cut;
 use runstate::{About, Store};
-use searching::{Flow, Wait};
 use std::alloc::{AllocError, Global};
 use std::marker::Model;
 use std::mem;
@@ -269,13 +268,16 @@ impl Machine {
         let jobs = mem::replace(&mut self.jobs, Vec::new(self.alloc));
         let replies = mem::replace(&mut self.replies, Vec::new(self.alloc));
         let wait = mem::replace(&mut self.wait, Wait::Nothing);
+        let replied = Replied {
+            wait,
+            jobs,
+            replies,
+        };
         hear(
             self.alloc,
             &mut self.store,
             &mut self.about,
-            wait,
-            jobs,
-            replies,
+            replied,
             before,
         )
     }

@@ -16,8 +16,8 @@ use Rattle.machine.specs.declared.machine.Turn.TheVariants as turn
 use Rattle.machine.specs.declared.machine.RunOutcome.{RunOutcome}
 use Rattle.machine.specs.declared.machine.RunOutcome.TheVariants as outcome
 use Rattle.machine.specs.declared.machine.RunEnd.{RunEnd}
-use Rattle.searching.specs.declared.wait.Wait.TheVariants as waits
-use Rattle.searching.specs.Waits.{given}
+use Rattle.run_test.specs.declared.wait.Wait.TheVariants as waits
+use Rattle.run_test.specs.Waits.{given}
 use Rattle.machine.specs.Standing.{Standing, run_under, run_in, run_at, left_in, run_left, Shows, CutsAt, Refusals, Holds, Fits, fits_in, asks_in, asks_left, Turned, outcome_of}
 use Rattle.proberun.specs.Serving.{Served}
 use Rattle.proberun.specs.Ran.{Ran, outcome_from, state_of}

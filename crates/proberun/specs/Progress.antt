@@ -10,7 +10,7 @@ use Rattle.meaning.specs.Play.{play, after, all_jobs, first_refused}
 use Rattle.machine.specs.declared.machine.Phase.{Phase}
 use Rattle.machine.specs.declared.machine.Phase.TheVariants as phase
 use Rattle.machine.specs.declared.machine.RunEnd.{RunEnd}
-use Rattle.searching.specs.declared.wait.Wait.TheVariants as waits
+use Rattle.run_test.specs.declared.wait.Wait.TheVariants as waits
 use Rattle.machine.specs.Standing.{Standing, outcome_of}
 use Rattle.proberun.specs.Starts.{StartsAre, TakesLeast, Fills, EndsGroup, failures_in}
 

@@ -1,6 +1,6 @@
 use Rattle.std.proofs.Common.{refl, ap, ◌∙◌, length, arith}
 use Rattle.meaning.specs.Batches.{Batch}
-use Rattle.searching.proofs.Searches.{led}
+use Rattle.run_test.proofs.Flows.{led}
 use Rattle.batching.proofs.Beginnings.{batch_awaits, begins_asking, begins_now, few_asked, made}
 use Rattle.batching.proofs.Committing.{few_waiting}
 use Rattle.batching.proofs.Turns.{is_nothing, is_something}

@@ -1,6 +1,7 @@
 use Rattle.std.proofs.Common.{◌≡◌, drop}
 use Rattle.std.specs.Prelude.{reverse}
-use Rattle.searching.specs.Waits.{after_entries, given}
+use Rattle.run_test.specs.Waits.{given}
+use Rattle.run_test.specs.Batched.{after_entries}
 use Rattle.batching.proofs.replied.end_all.Given as goal
 
 abbrev pub invariant-loop-i : goal.invariant-loop-i

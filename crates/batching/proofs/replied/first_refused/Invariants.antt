@@ -1,7 +1,7 @@
 use Rattle.std.proofs.Common.{◌≡◌, ◌+◌, drop}
 use Rattle.std.specs.Prelude.{option_map}
 use Rattle.meaning.specs.Play.{first_refused}
-use Rattle.searching.specs.Waits.{given}
+use Rattle.run_test.specs.Waits.{given}
 use Rattle.batching.proofs.replied.first_refused.Given as goal
 
 abbrev pub invariant-loop-i : goal.invariant-loop-i

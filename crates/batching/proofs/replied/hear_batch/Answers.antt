@@ -8,10 +8,10 @@ overflow_add-result c =
 
 pub returns-in-Some-clause-leads : goal.returns-in-Some-clause-leads
 returns-in-Some-clause-leads c = λ about tests next.
-    batch_cut c.args.entries.now.items c.as_slice-2.result.now c.args.jobs.items c.args.replies.items c.as_slice.result.now c.in-Some.number c.args.store.now c.end_all.new.store tests (next 0 about)
+    batch_cut c.args.batch.now.items c.as_slice-2.result.now c.args.jobs.items c.args.replies.items c.as_slice.result.now c.in-Some.number c.args.store.now c.end_all.new.store tests (next 0 about)
     c.as_slice.ensures.value c.as_slice-2.ensures.value c.requires.replies c.requires.asked c.in-Some.ensures c.in_ok-end_all.ensures
 
 pub returns-in-None-clause-leads : goal.returns-in-None-clause-leads
 returns-in-None-clause-leads c = λ about tests next.
-    batch_ends c.args.entries.now.items c.as_slice-2.result.now c.args.jobs.items c.args.replies.items c.as_slice.result.now c.args.store.now c.end_all.new.store tests (next 0 about)
+    batch_ends c.args.batch.now.items c.as_slice-2.result.now c.args.jobs.items c.args.replies.items c.as_slice.result.now c.args.store.now c.end_all.new.store tests (next 0 about)
     c.as_slice.ensures.value c.as_slice-2.ensures.value c.requires.replies c.requires.asked c.in-None.ensures c.in_ok-end_all.ensures

@@ -1,5 +1,5 @@
 use Rattle.std.proofs.Common.{◌≡◌, ◌++◌, take, drop}
-use Rattle.searching.specs.Waits.{refused_rest}
+use Rattle.run_test.specs.Waits.{refused_rest}
 use Rattle.machine.proofs.machine.refuse_rest.Given as goal
 
 abbrev pub invariant-loop-reply : goal.invariant-loop-reply

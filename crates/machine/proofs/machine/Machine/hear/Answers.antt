@@ -1,6 +1,6 @@
 use Rattle.std.proofs.Common.{IfOk, subst}
-use Rattle.searching.specs.Flows.{Leads}
-use Rattle.searching.specs.Waits.{given, resumed}
+use Rattle.run_test.specs.Flows.{Leads}
+use Rattle.run_test.specs.Waits.{given, resumed}
 use Rattle.machine.proofs.machine.Machine.hear.Goals as goal
 
 pub returns-clause-leads : goal.returns-clause-leads

@@ -1,6 +1,0 @@
-use Rattle.std.proofs.Common.{refl, arith}
-use Rattle.searching.proofs.Searches.{asks_one}
-use Rattle.probing.proofs.hearing.ask_again.Goals as goal
-
-pub returns-clause-step : goal.returns-clause-step
-returns-clause-step c = asks_one _ _ _ _ refl c.in_ok-jobs.ensures (omega arith)

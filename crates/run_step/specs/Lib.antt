@@ -1,0 +1,5 @@
+pub mod Checks
+pub mod Openings
+pub mod Statements
+pub mod Runs
+pub mod Replies

@@ -1,0 +1,8 @@
+pub mod Places
+pub mod GivenIncludes
+pub mod Rows
+pub mod Ends
+pub mod Starts
+pub mod Follows
+pub mod PathParts
+pub mod Flows

@@ -1,0 +1,10 @@
+pub mod Courses
+pub mod Attempts
+pub mod Entries
+pub mod Trying
+pub mod Batched
+pub mod Waits
+pub mod Flows
+pub mod Runs
+pub mod Starts
+pub mod Laws

@@ -1,0 +1,55 @@
+-- The tests that a plan's steps begin.
+use Rattle.std.specs.Prelude.{◌≡◌, ◌+◌, ℕ, Bool, List, [], Option, None, Some, Result, IfOk, length, if◌then◌else◌}
+use Rattle.deftable.specs.Table.{value_of}
+use Rattle.shellword.specs.declared.part.Part.{Part}
+use Rattle.std.specs.declared.alloc.AllocError.{AllocError}
+use Rattle.meaning.specs.State.{State, Scope}
+use Rattle.meaning.specs.Rows.{Kind, Search, Program, Single, Sized, Library, Libraries, name_of, libraries_after, value_if, value_or_empty}
+use Rattle.plan.specs.Inside.{most_directories}
+use Rattle.run_test.specs.declared.course.Course.{Course}
+use Rattle.run_test.specs.declared.trying.Opening.{Opening}
+use Rattle.run_test.specs.declared.flow.Flow.{Flow}
+use Rattle.run_test.specs.Flows.{IsStep, Led}
+use Rattle.run_test.specs.Runs.{kind_run}
+use Rattle.run_test.specs.Courses.{course_by, course_of, value_in}
+
+-- The test of a kind: the value of its name, and its course by that value. (own)
+pub record Opens (kind : Kind) (st : State) (o : Opening) : Type 0 where
+  pub value : o.value ≡ value_of st.vars (name_of kind)
+  pub course : o.course ≡ course_by o.value kind st
+
+-- The test that opens so is that of its kind, which the flow continues from one subject and state to others. (own)
+abbrev pub Begins : Opening → Result Flow AllocError → Scope → Scope → State → State → Type 0
+Begins o result scope about st now = (kind : Kind) → Opens kind st o → Led result (kind_run kind scope st) about now
+
+-- How many jobs the test of a kind may ask for. (own)
+abbrev pub most_of : Kind → ℕ
+most_of (Program s own) = most_directories
+most_of (Single listed entry includes defines) = 1
+most_of (Sized name includes defines) = 2
+most_of (Library library function others adds) = 1
+most_of (Libraries function libraries others) = 1 + length libraries
+
+-- The test that opens so asks for no more jobs than its kind may. (own)
+abbrev pub AsksMost : Opening → State → Result Flow AllocError → Type 0
+AsksMost o st result = (kind : Kind) → Opens kind st o → IfOk result (IsStep (most_of kind) None)
+
+-- The kind of test that looks for a program. The variable's own value counts if the Boolean is true. (own)
+abbrev pub program_kind : Search → Bool → State → Kind
+program_kind s counts st = Program s (value_if counts (value_or_empty st s.variable))
+
+-- The course of a search in the directories of PATH, and of one that has its variable's own value. (Autoconf's manual,
+-- "Generic Programs")
+abbrev pub path_course : Search → State → Course
+path_course s st = course_of (Program s None) st
+
+abbrev pub own_course : Search → State → Course
+own_course s st = course_of (Program s (Some (value_or_empty st s.variable))) st
+
+-- A text's value, unless the name of the test is set. (own)
+abbrev pub value_unless : Bool → Option (List Part) → State → Option (List ℕ)
+value_unless known text st = if known then None else value_in text st
+
+-- What is linked after a library, unless the name of the test is set. (own)
+abbrev pub after_unless : Bool → Option (List Part) → State → List ℕ
+after_unless known others st = if known then [] else libraries_after others st

@@ -1,0 +1,82 @@
+//! Jobs that need a compiler.
+
+ghost use Rattle.std.specs.Prelude.{◌≡◌, ◌++◌, IfOk, OnOk, codes};
+ghost use Rattle.deftable.specs.declared.note.Stream.TheVariants as streams;
+ghost use Rattle.meaning.specs.Asking.{no_compiler};
+ghost use Rattle.meaning.specs.State.{told};
+ghost use Rattle.run_test.specs.Attempts.{job_with, tried_job};
+ghost use Rattle.run_test.specs.declared.flow.Flow.TheVariants.{Stop};
+
+use crate::flow::Flow;
+use conftest::{JobFault, compile_job, link_job, link_job_with, preproc_job};
+use deftable::Bytes;
+use jobs::Job;
+use runstate::Store;
+use runstate::pieces::report_no_compiler;
+use std::alloc::{AllocError, Global};
+use syntax::Try;
+
+/// Returns the first job of a program that is tried, with this number, or `None` if there is no compiler.
+pub fn job_to_try(
+    alloc: Global,
+    store: &Store,
+    kind: Try,
+    source: &[u8],
+    number: u64,
+) -> Result<Option<Job>, AllocError>
+    ensures { IfOk result (λ job. job ≡ tried_job kind source.now number store.now) }
+{
+    let job = match kind {
+        Try::Compile => compile_job(alloc, store.vars(), store.defs(), source, number),
+        Try::Link | Try::Run => link_job(alloc, store.vars(), store.defs(), source, number),
+        Try::Preproc => preproc_job(alloc, store.vars(), store.defs(), source, number),
+    };
+    match job {
+        Ok(job) => Ok(Some(job)),
+        Err(JobFault::NoCompiler) => Ok(None),
+        Err(JobFault::OutOfMemory) => Err(AllocError),
+    }
+}
+
+/// Returns the value of LIBS under which a library is tested. `after` is linked after it.
+fn libs_with(alloc: Global, library: &[u8], after: &[u8]) -> Result<Bytes, AllocError>
+    ensures { IfOk result (λ v. v ≡ codes "-l" ++ library.now ++ codes " " ++ after.now) }
+{
+    Bytes::concat(alloc, &[b"-l", library, b" ", after])
+}
+
+/// Returns the job that links a program with a library, or `None` if there is no compiler. `after` is linked after the
+/// library.
+pub(crate) fn job_with(
+    alloc: Global,
+    store: &Store,
+    source: &[u8],
+    library: &[u8],
+    after: &[u8],
+) -> Result<Option<Job>, AllocError>
+    ensures { IfOk result (λ job. job ≡ job_with source.now library.now after.now store.now) }
+{
+    let libs = libs_with(alloc, library, after)?;
+    let job = link_job_with(
+        alloc,
+        store.vars(),
+        libs.as_slice(),
+        store.defs(),
+        source,
+        0,
+    );
+    match job {
+        Ok(job) => Ok(Some(job)),
+        Err(JobFault::NoCompiler) => Ok(None),
+        Err(JobFault::OutOfMemory) => Err(AllocError),
+    }
+}
+
+/// Stops the run because there is no compiler.
+pub fn stop_without_compiler(alloc: Global, store: &mut Store) -> Result<Flow, AllocError>
+    ensures stops { IfOk result (λ flow. flow ≡ Stop 1) }
+    ensures prints { OnOk result (store.new ≡ told streams.Err no_compiler store.old) }
+{
+    report_no_compiler(alloc, store)?;
+    Ok(Flow::Stop { status: 1 })
+}

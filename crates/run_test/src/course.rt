@@ -1,0 +1,142 @@
+//! Tests that have begun, with the values that they were begun with.
+
+ghost use Rattle.std.specs.Prelude.{◌≡◌, ◌+◌, ◌<◌, ◌^◌, Some};
+
+use deftable::{Bytes, Texts};
+use std::marker::Model;
+use syntax::Sought;
+
+/// A search for a program, which sets a variable. Contracts see it as `meaning` defines it.
+pub struct Search {
+    pub variable: Bytes,
+    /// The cached name.
+    pub name: Bytes,
+    pub program: Bytes,
+    /// The value if the program is found, unless it is the program's full name.
+    pub found: Option<Bytes>,
+    /// The value if the program isn't found.
+    pub otherwise: Option<Bytes>,
+}
+
+impl Drop for Search {
+    fn drop(self) {
+        let Search {
+            variable: _variable,
+            name: _name,
+            program: _program,
+            found: _found,
+            otherwise: _otherwise,
+        } = self;
+    }
+}
+
+impl Model for Search {
+    ghost use Rattle.meaning.specs.Rows.{Search};
+
+    ghost Value = { Search };
+
+    ghost view = { λ s. record { variable = s.variable; name = s.name; program = s.program; found = s.found; otherwise = s.otherwise } };
+}
+
+impl Search {
+    /// Returns the search with another value if the program isn't found.
+    pub(crate) fn with_otherwise(self, value: Bytes) -> Search
+        ensures { result ≡ record self { otherwise = Some value } }
+    {
+        let Search {
+            variable,
+            name,
+            program,
+            found,
+            otherwise: _otherwise,
+        } = self;
+        Search {
+            variable,
+            name,
+            program,
+            found,
+            otherwise: Some(value),
+        }
+    }
+}
+
+/// A test of a header, a function, a declaration or a type.
+pub struct EntryTest {
+    pub sought: Sought,
+    pub entry: Bytes,
+    /// The cached name.
+    pub name: Bytes,
+    /// Whether the result is defined.
+    pub defines: bool,
+}
+
+impl Drop for EntryTest {
+    fn drop(self) {
+        let EntryTest {
+            sought: _sought,
+            entry: _entry,
+            name: _name,
+            defines: _defines,
+        } = self;
+    }
+}
+
+/// A test, with the values that it was begun with.
+#[derive(Drop)]
+pub enum Course {
+    /// A program is looked for in these directories.
+    Program {
+        search: Search,
+        directories: Texts,
+    },
+    /// An entry or a type. Without includes the default ones count.
+    Entry {
+        test: EntryTest,
+        includes: Option<Bytes>,
+    },
+    /// A function is looked for in a library. `after` is linked after it.
+    Library {
+        name: Bytes,
+        function: Bytes,
+        library: Bytes,
+        after: Bytes,
+        /// Whether the library is defined and added to LIBS.
+        adds: bool,
+    },
+    /// A function is looked for in none of these libraries, and then in each. `after` is linked after each.
+    Libraries {
+        name: Bytes,
+        function: Bytes,
+        after: Bytes,
+        libraries: Texts,
+    },
+}
+
+/// A test that has begun, and the place of its next attempt, from 0.
+pub struct Trial {
+    pub course: Course,
+    pub next: usize,
+}
+
+impl Drop for Trial {
+    fn drop(self) {
+        let Trial {
+            course: _course,
+            next: _next,
+        } = self;
+    }
+}
+
+impl Trial {
+    /// Returns the test at the place after this one.
+    pub fn moved(self) -> Trial
+        requires { self.next + 1 < 2 ^ 64 }
+        ensures { result ≡ record { course = self.course; next = self.next + 1 } }
+    {
+        let Trial { course, next } = self;
+        Trial {
+            course,
+            next: next + 1,
+        }
+    }
+}

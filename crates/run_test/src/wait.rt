@@ -1,0 +1,33 @@
+//! What a machine waits for.
+
+use crate::course::{EntryTest, Trial};
+use deftable::Bytes;
+
+/// An entry of a batch, and whether it asked for a child.
+#[derive(Drop)]
+pub struct Waiting {
+    pub test: EntryTest,
+    pub asks: bool,
+}
+
+/// What the replies to the jobs that are asked for decide.
+#[derive(Drop)]
+pub enum Wait {
+    /// No job is asked for.
+    Nothing,
+    /// The answer to the question of a choice.
+    Answer,
+    /// Whether the program that is to be run was linked.
+    Link,
+    /// Whether a test ends. If the child's success is `ends_on`, it ends with the value. Otherwise the next attempt of `trial`
+    /// is made.
+    Attempt {
+        trial: Trial,
+        ends_on: bool,
+        value: Bytes,
+    },
+    /// Which entries of a batch are found.
+    Batch {
+        entries: Vec<Waiting>,
+    },
+}

@@ -1,6 +1,0 @@
-use Rattle.std.proofs.Common.{◌∙◌, arith}
-use Rattle.searching.proofs.Searches.{last_at}
-use Rattle.searching.proofs.search.ends_empty.Goals as goal
-
-pub returns : goal.returns
-returns c = c.is_empty.ensures ∙ last_at c.args.parts.now _ c.in-Some.last (omega (arith, c.in-Some.ensures))

@@ -1,9 +1,0 @@
-use Rattle.std.proofs.Common.{sym, arith}
-use Rattle.std.proofs.lemmas.List.{length-take-le, take_all}
-use Rattle.searching.proofs.search.within.Goals as goal
-
-pub slice_bounds-result-end : goal.slice_bounds-result-end
-slice_bounds-result-end c = sym (length-take-le 65536 c.args.parts.now (omega (arith, c.if-parts-gt-MOST_DIRECTORIES.true)))
-
-pub returns : goal.returns
-returns c = sym (take_all 65536 c.args.parts.now (omega (arith, c.if-parts-gt-MOST_DIRECTORIES.false)))
