@@ -84,7 +84,7 @@ IsMade attempt made = attempt_of made ≡ attempt
 abbrev pub Gives : List asking.Attempt → ℕ → Option Attempt → Type 0
 Gives attempts place made = option_map attempt_of made ≡ slice_get attempts place
 
--- The same; if there is an attempt, the place after it is a number of the code. (own)
+-- The same, and the place after an attempt is below 2^64. (own)
 pub record IsAt (attempts : List asking.Attempt) (place : ℕ) (made : Option Attempt) : Type 0 where
   pub attempt : Gives attempts place made
   pub room : IfSome made (λ a. place + 1 < 2 ^ 64)

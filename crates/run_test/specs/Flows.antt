@@ -24,11 +24,11 @@ Leads (flow.Cut number) run scope st = (tests : List (List ℕ)) (next : ℕ →
 abbrev pub Led : Result Flow AllocError → Inside → Scope → State → Type 0
 Led result run scope st = IfOk result (λ flow. Leads flow run scope st)
 
--- The same, whatever the subject, which is left. (own)
+-- The same for any subject, which stays as it is. (own)
 abbrev pub LedOn : Result Flow AllocError → (Scope → State → Inside) → State → State → Type 0
 LedOn result run old new = (scope : Scope) → Led result (run scope old) scope new
 
--- The same, whatever the subject and the state, which are left. (own)
+-- The same for any subject and state, which stay as they are. (own)
 abbrev pub LedAnywhere : Result Flow AllocError → (Scope → State → Inside) → Type 0
 LedAnywhere result run = (scope : Scope) (st : State) → Led result (run scope st) scope st
 

@@ -13,12 +13,12 @@ use Rattle.run_test.specs.Flows.{IsStep, Led}
 use Rattle.run_test.specs.Runs.{kind_run}
 use Rattle.run_test.specs.Courses.{course_by, course_of, value_in}
 
--- The test of a kind: the value of its name, and its course by that value. (own)
+-- An opening is that of a kind: it has the value of the test's name, and the test's course by that value. (own)
 pub record Opens (kind : Kind) (st : State) (o : Opening) : Type 0 where
   pub value : o.value ≡ value_of st.vars (name_of kind)
   pub course : o.course ≡ course_by o.value kind st
 
--- The test that opens so is that of its kind, which the flow continues from one subject and state to others. (own)
+-- If the opening is that of a kind, the flow continues the test of this kind, from one subject and state to others. (own)
 abbrev pub Begins : Opening → Result Flow AllocError → Scope → Scope → State → State → Type 0
 Begins o result scope about st now = (kind : Kind) → Opens kind st o → Led result (kind_run kind scope st) about now
 
@@ -30,7 +30,7 @@ most_of (Sized name includes defines) = 2
 most_of (Library library function others adds) = 1
 most_of (Libraries function libraries others) = 1 + length libraries
 
--- The test that opens so asks for no more jobs than its kind may. (own)
+-- If the opening is that of a kind, no more jobs are asked for than the test of this kind may. (own)
 abbrev pub AsksMost : Opening → State → Result Flow AllocError → Type 0
 AsksMost o st result = (kind : Kind) → Opens kind st o → IfOk result (IsStep (most_of kind) None)
 
@@ -38,11 +38,11 @@ AsksMost o st result = (kind : Kind) → Opens kind st o → IfOk result (IsStep
 abbrev pub program_kind : Search → Bool → State → Kind
 program_kind s counts st = Program s (value_if counts (value_or_empty st s.variable))
 
--- The course of a search in the directories of PATH, and of one that has its variable's own value. (Autoconf's manual,
--- "Generic Programs")
+-- The course of a search in the directories of PATH. (Autoconf's manual, "Generic Programs")
 abbrev pub path_course : Search → State → Course
 path_course s st = course_of (Program s None) st
 
+-- The course of a search that has its variable's own value. (Autoconf's manual, "Generic Programs")
 abbrev pub own_course : Search → State → Course
 own_course s st = course_of (Program s (Some (value_or_empty st s.variable))) st
 

@@ -27,17 +27,19 @@ scope_after c value scope st = scope_in c (value_after c value st) scope
 abbrev pub state_after : Course → Option (List ℕ) → State → State
 state_after c value st = ended_in c (value_after c value st) (with_value (name_in c) value st)
 
--- The subject and the state after the end of a test with a value. (own)
+-- The subject after the end of a test with this value. (own)
 abbrev pub scope_set : Course → List ℕ → Scope → State → Scope
 scope_set c value scope st = scope_after c (Some value) scope st
 
+-- The state after it. (own)
 abbrev pub state_set : Course → List ℕ → State → State
 state_set c value st = state_after c (Some value) st
 
--- The same, if no attempt ended the test. (own)
+-- The subject after the end of a test that no attempt ended. (own)
 abbrev pub scope_otherwise : Course → Scope → State → Scope
 scope_otherwise c scope st = scope_after c (otherwise_in c) scope st
 
+-- The state after it. (own)
 abbrev pub state_otherwise : Course → State → State
 state_otherwise c st = state_after c (otherwise_in c) st
 

@@ -105,7 +105,7 @@ fn stop_inside(alloc: Global, store: &mut Store, trial: &Trial) -> Result<Flow, 
     Ok(flow)
 }
 
-/// Asks for the job of an attempt. `trial` is at its place.
+/// Asks for the job of an attempt, whose place is `trial.next`.
 fn ask(
     alloc: Global,
     trial: Trial,
@@ -130,7 +130,7 @@ fn ask(
     })
 }
 
-/// Makes an attempt of a test, or ends the test if there is none. `trial` is at its place.
+/// Asks for the job of an attempt, whose place is `trial.next`. If there is no attempt, ends the test.
 fn make(
     alloc: Global,
     store: &mut Store,
