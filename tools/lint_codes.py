@@ -1,77 +1,29 @@
 #!/usr/bin/env python3
-"""Writes the codes of lint's findings into docs/running.md and share/acrun.1, from the sources that make findings.
+"""Writes the codes of lint's findings into docs/running.md and share/acrun.1, from the words and the faults.
 
     tools/lint_codes.py            writes both lists
     tools/lint_codes.py --check    prints what differs from them, and then exits with status 1
 
 The code of an error of the source is `parse-` and the number by which a fault prints, and what it says is the comment of the fault.
-Every other code is a text of the crates below, and what it says is the message next to it. A part of a message that a source gives is
-in capitals.
+Every other code is a key of crates/wordtable/words.txt, and what it says is the message there. A place of a message is in capitals.
 """
 import pathlib
 import re
 import sys
 
+import word_table
+
 ROOT = pathlib.Path(__file__).resolve().parent.parent
 CRATES = ROOT / "crates"
-# The crates that make findings. In `sourcefaults` and `findings` codes are compared or are examples.
-MAKERS = ("linting", "lintcommand", "sourcewarnings", "sourcewords", "templatewarnings")
 FAULTS = {"": "acstatement", "1.": "m4quote", "6.": "shellword"}
-TEXT = r'b"((?:[^"\\]|\\[\s\S])*)"'
-CODE = re.compile(r'b"([a-z]+(?:-[a-z0-9]+)+|template)"')
 BEGIN, END = "tools/lint_codes.py writes what follows", "up to here"
 PAGE, MANUAL = ROOT / "docs/running.md", ROOT / "share/acrun.1"
 
 
-def plain(text):
-    """Returns the text of a byte string, without escapes and line continuations."""
-    return re.sub(r"\\(.)", r"\1", re.sub(r"\\\n\s*", "", text))
-
-
-def joined(code):
-    """Returns the text that a piece of code puts together, with what is no constant as a word in capitals."""
-    parts = re.findall(rf'{TEXT}|\b(name|path|statement)\b(?=[,)\]])', re.sub(r"\.(?:is_empty|as_slice)\(\)", "", code))
-    return "".join(plain(text) or name.upper() for text, name in parts)
-
-
-def built(file, before):
-    """Returns the message that is put together before a code, or in the function that the code before it calls."""
-    call = re.findall(r"let message = (\w+)\(", before)
-    if call and call[-1] != "joined":
-        body = re.search(rf"(?ms)^fn {call[-1]}\(.*?\{{(.*?)^}}", file)
-        return joined(body[1].replace("before(statement, 60)", "statement"))
-    at = max(before.rfind("let message ="), before.rfind("let mut message ="))
-    return joined(re.match(r"(?s).*?;(?:\s*message\..*?;)*", before[at:])[0])
-
-
-def message(file, code, at):
-    """Returns what a finding says whose code ends at this offset, or `None` if the code is only passed on there."""
-    rest = file[at:]
-    if found := re.match(rf',\s*{TEXT}', rest, re.S):
-        return plain(found[1])
-    if found := re.match(rf',\s*message: \({TEXT}, {TEXT}\)', rest, re.S):
-        return f"{plain(found[1])}NAME{plain(found[2])}"
-    if re.match(r",\s*message\.as_slice\(\)", rest):
-        return built(file, file[:at])
-    if code == "plan-1":
-        return plain(re.search(rf"page\.say\({TEXT}\)", rest)[1])
-    return None
-
-
 def warnings():
-    """Returns the codes of the crates that make findings, each with whether it is an error and with what it says."""
-    found, used = {}, set()
-    for crate in MAKERS:
-        for path in sorted((CRATES / crate / "src").glob("*.rt")):
-            file = path.read_text()
-            for code in CODE.finditer(file):
-                used.add(code[1])
-                if (said := message(file, code[1], code.end())) is not None:
-                    is_error = code[1] == "plan-1" or "Severity::Error" in file[:code.start()][-40:]
-                    found[code[1]] = (is_error, said)
-    for code in sorted(used - {*found}):
-        raise LookupError(f"no message is found for the code {code}")
-    return found
+    """Returns the codes that are keys, each with whether it is an error and with what it says."""
+    found = (entry for entry in word_table.entries().values() if entry.severity)
+    return {entry.key: (entry.severity == "error", word_table.shown(entry)) for entry in found}
 
 
 def faults(front=""):

@@ -47,10 +47,10 @@ KINDS = [
      [*CASES, "docs/formats.md", "docs/running.md"]),
     ("A line of the log", "`start refused` and `failed program was`", LINES, LINES, (),
      [*CASES, "docs/formats.md", "tools/fuzz_why.py", "tools/cut_and_resume.py", "bench/windows.py"]),
-    ("The words of a fault", "`CacheBody`", r"CacheBody|parse_finding", "",
-     ("faultwords", "linting"), LINT),
+    ("The words of a fault", "`CacheBody`", r"CacheBody|CACHE_BODY", "",
+     ("sourcewords", "wordtable"), ["crates/wordtable/words.txt", *LINT]),
     ("A warning of `lint`", "`warn_of_compiler`", r"warn_of_compiler", "", (),
-     [*LINT, *CODES, "docs/promises.md"]),
+     ["crates/wordtable/words.txt", *LINT, *CODES, "docs/promises.md"]),
 ]
 
 
@@ -76,7 +76,7 @@ def is_used(file, words, name):
     """Returns whether a file uses one of the identifiers, or has the name in a text."""
     if re.search(rf"\b(?:{words})\b", code(file, is_test(file))):
         return True
-    if not name or is_test(file) or file.parts[1] == "macrotable":
+    if not name or is_test(file) or file.parts[1] in ("macrotable", "wordtable"):
         return False
     return bool(re.search(rf'"[^"]*(?<![\w-]){name}(?![\w-])', code(file, True)))
 

@@ -15,6 +15,7 @@ import sys
 import lint_codes
 import macro_table
 import places
+import word_table
 
 CRATES = pathlib.Path("crates")
 # The budget of must-fail edits, which `rt ci` tries one by one.
@@ -202,6 +203,11 @@ def macros_that_do_not_agree():
     yield from macro_table.differences()
 
 
+def words_that_do_not_agree():
+    """The crate wordtable is not what is written from words.txt, a key is not used, or a call has other parts than its words."""
+    yield from word_table.differences()
+
+
 def codes_that_do_not_agree():
     """docs/running.md or share/acrun.1 lists other codes of findings than the sources have."""
     yield from lint_codes.differences()
@@ -292,6 +298,7 @@ CHECKS = [
     edits_over_the_budget,
     broken_links,
     macros_that_do_not_agree,
+    words_that_do_not_agree,
     codes_that_do_not_agree,
     manual_page_faults,
     commands_that_do_not_agree,

@@ -8,6 +8,7 @@ use causes::Causes;
 use crew_trait::{Entry, Reply};
 use std::alloc::{AllocError, Global};
 use std::io::Write;
+use wordtable::{Page, Part, keys};
 
 /// What a program says that finds no room for a process, for a file or for its memory.
 const SHORTAGES: [&[u8]; 3] = [
@@ -44,9 +45,10 @@ fn child_words(alloc: Global, number: u64, cause: &[u8]) -> Result<Vec<u8>, Allo
 
 /// Returns what is said of a cache in which a "no" may be wrong.
 fn cache_words(alloc: Global, cache: &[u8]) -> Result<Vec<u8>, AllocError> {
-    let mut words = Vec::from_slice(alloc, cache)?;
-    words.extend_from_slice(b" may hold a wrong \"no\", as a program found no room: remove it")?;
-    Ok(words)
+    let mut page = Page::new(alloc);
+    page.put(keys::WRONG_NO, &[Part::AsItIs(cache)]);
+    let words = page.message()?;
+    Ok(words.into_vec())
 }
 
 /// Writes words as a line. If memory ran out, writes nothing.

@@ -10,6 +10,7 @@ use disk::Disk;
 use diskfiles::{path_in, unread_cause};
 use std::alloc::Global;
 use std::io::{self, Write};
+use wordtable::{Page, keys};
 
 /// Writes the line `acrun: NAME: CAUSE` with the words of an error, if it is asked.
 pub fn explain_error<E: Write>(
@@ -28,6 +29,15 @@ pub fn explain_error<E: Write>(
     }
 }
 
+/// Writes what to do about a source with an old name. If memory runs out, writes nothing.
+fn put_old_name<E: Write>(alloc: Global, errors: &mut E) {
+    let mut page = Page::new(alloc);
+    page.put(keys::OLD_SOURCE_NAME, &[]);
+    if let Ok(words) = page.message() {
+        put_words(alloc, words.as_slice(), errors);
+    }
+}
+
 /// Says that a source has the name that Autoconf used before `configure.ac`, if the path is that of a source and such a file is beside
 /// it.
 fn explain_old_name<D: Disk, E: Write>(alloc: Global, disk: &D, path: &[u8], errors: &mut E) {
@@ -38,8 +48,7 @@ fn explain_old_name<D: Disk, E: Write>(alloc: Global, disk: &D, path: &[u8], err
         return;
     };
     if unread_cause(disk, old.as_slice()).is_none() {
-        let words = b"configure.in is there, and is not read: give it the name configure.ac";
-        put_words(alloc, words, errors);
+        put_old_name(alloc, errors);
     }
 }
 

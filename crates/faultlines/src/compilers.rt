@@ -2,10 +2,11 @@
 
 ghost use Rattle.std.specs.Prelude.{◌≡◌, false};
 
+use crate::page::put_key;
 use crew_trait::{Entry, Reply};
-use explaining::explain_words;
 use std::alloc::Global;
 use std::io::Write;
+use wordtable::keys;
 
 /// Returns the exit status of an entry of a log that is an answer to a conftest.
 fn answer_of(entry: &Entry) -> Option<u32> {
@@ -33,11 +34,6 @@ pub fn explain_compilers<E: Write>(alloc: Global, is_asked: bool, log: &[Entry],
     ensures silent { is_asked ≡ false → errors.new ≡ errors.old }
 {
     if is_asked && log.iter().any(is_answered) && !log.iter().any(is_accepted) {
-        explain_words(
-            alloc,
-            true,
-            b"no compiler job of this run succeeded: see config.log",
-            errors,
-        );
+        put_key(alloc, keys::NO_COMPILER_WORKS, errors);
     }
 }

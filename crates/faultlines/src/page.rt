@@ -2,9 +2,9 @@
 
 use deftable::Bytes;
 use explaining::explain_words;
-use faultwords::Words;
 use std::alloc::{AllocError, Global};
 use std::io::Write;
+use wordtable::{Key, Page, Words};
 
 /// Writes each line of a text as `acrun: LINE`.
 fn put_lines<E: Write>(alloc: Global, text: &[u8], errors: &mut E) {
@@ -19,6 +19,13 @@ pub(crate) fn put_words<E: Write>(alloc: Global, made: Result<Words, AllocError>
         explain_words(alloc, true, words.message.as_slice(), errors);
         put_lines(alloc, words.help.as_slice(), errors);
     }
+}
+
+/// Writes the words of a key that has no places, as lines. If memory runs out, writes nothing.
+pub(crate) fn put_key<E: Write>(alloc: Global, key: Key, errors: &mut E) {
+    let mut page = Page::new(alloc);
+    page.put(key, &[]);
+    put_words(alloc, page.words(), errors);
 }
 
 /// Returns the texts as slices.

@@ -10,10 +10,11 @@ use acparse::parse;
 use cachefile::{OldCache, read_cache};
 use deftable::Vars;
 use explaining::Why;
-use faultwords::{Words, precious_words};
+use faultwords::precious_words;
 use options::{PreciousFault, Settings, mark_name, read_args};
 use std::alloc::{AllocError, Global};
 use syntax::Source;
+use wordtable::Words;
 
 /// Returns the value that pouring the cache over the variables would leave in this one, or an empty text if it would be unset.
 fn poured<'a>(vars: &'a Vars, cache: &'a OldCache, name: &[u8]) -> &'a [u8]

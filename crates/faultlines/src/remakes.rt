@@ -5,12 +5,13 @@ ghost use Rattle.std.specs.Prelude.{◌≡◌, false};
 use crate::page::{numbered, put_words};
 use disk::Disk;
 use explaining::{Why, explain_template, explain_words};
-use faultwords::{Words, record_words, tag_words};
+use faultwords::{record_words, tag_words};
 use framing::RemakeFault;
 use outputlist::Output;
 use status_record::{Record, read_record};
 use std::alloc::{AllocError, Global};
 use std::io::Write;
+use wordtable::Words;
 
 /// Appends the names of outputs.
 fn push_names<'a>(outputs: &'a [Output], names: &mut Vec<&'a [u8]>) -> Result<(), AllocError> {

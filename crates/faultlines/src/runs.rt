@@ -8,10 +8,11 @@ use crate::source::explain_source;
 use commandline::OptionFault;
 use disk::Disk;
 use explaining::{Why, explain_template};
-use faultwords::{Words, cache_words, option_words};
+use faultwords::{cache_words, option_words};
 use framing::Fault;
 use std::alloc::{AllocError, Global};
 use std::io::Write;
+use wordtable::Words;
 
 /// Returns what is wrong with an argument.
 fn of_option(alloc: Global, why: &Why<'_>, fault: OptionFault) -> Result<Words, AllocError> {

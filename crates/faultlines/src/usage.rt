@@ -2,12 +2,12 @@
 
 ghost use Rattle.std.specs.Prelude.{◌≡◌, false};
 
-use crate::page::{put_words, slices};
+use crate::page::{put_key, put_words, slices};
 use deftable::Bytes;
-use explaining::explain_words;
-use faultwords::{Words, usage_words};
+use faultwords::usage_words;
 use std::alloc::{AllocError, Global};
 use std::io::Write;
+use wordtable::{Words, keys};
 
 /// Returns what is wrong with words that are no command.
 fn of_words(alloc: Global, words: &[Bytes]) -> Result<Words, AllocError> {
@@ -21,6 +21,6 @@ pub fn explain_usage<E: Write>(alloc: Global, is_asked: bool, words: &[Bytes], e
 {
     if is_asked {
         put_words(alloc, of_words(alloc, words), errors);
-        explain_words(alloc, true, b"acrun help lists the commands", errors);
+        put_key(alloc, keys::SEE_COMMANDS, errors);
     }
 }

@@ -8,18 +8,16 @@
 //! ```
 //!
 //! A call fails only if memory runs out. What is said is tested, and what is proved is that each call ends, and which name is near
-//! another.
+//! another. The words themselves are in `wordtable`.
 //!
-//! Read `specs/Near` and `near`, which finds a similar name, and `page`, on which words are written. Then `running` has what is
-//! said of the faults of a run: those of options, caches and records. `sourcewords` has the words of the faults of a source.
+//! Read `specs/Near` and `near`, which finds a similar name. Then `running` has what is said of the faults of a run: those of options,
+//! caches and records. `sourcewords` has the words of the faults of a source.
 #![tactic(auto)]
 
 mod near;
-mod page;
 mod running;
 
 pub use near::near_name;
-pub use page::{Page, Words};
 pub use running::{
-    cache_words, option_words, precious_words, put_words, record_words, tag_words, usage_words,
+    cache_words, option_words, precious_words, record_words, tag_words, usage_words,
 };

@@ -1,11 +1,12 @@
 //! The faults of a run.
 
-use crate::page::{Page, Words};
+use crate::near::near_name;
 use cachefile::CacheFault;
 use commandline::OptionFault;
 use status_record::RecordFault;
 use std::alloc::{AllocError, Global};
 use textpieces::{before, first_line};
+use wordtable::{Page, Part, Words, keys};
 
 /// The long options of a command line that need no declaration, without their values.
 #[rattlefmt::skip]
@@ -28,9 +29,6 @@ const COMMANDS: [&[u8]; 7] = [
     b"standin",
     b"help",
 ];
-
-/// What is said before a name that is near.
-const NEAR: &[u8] = b"a similar name is ";
 
 /// Returns the text before its first `=`.
 fn before_equals(text: &[u8]) -> &[u8] {
@@ -62,23 +60,25 @@ fn line_numbered(text: &[u8], number: u64) -> &[u8] {
     b"".as_slice()
 }
 
+/// Writes which option is similar to a long option that is not known, or where all are shown.
+fn put_near_option(alloc: Global, page: &mut Page, word: &[u8]) -> Result<(), AllocError> {
+    match near_name(alloc, before_equals(word), &OPTIONS)? {
+        Some(near) => page.put(keys::NEAR_OPTION, &[Part::AsItIs(near)]),
+        None => page.put(keys::SEE_OPTIONS, &[]),
+    }
+    Ok(())
+}
+
 /// Writes what is wrong with an argument that is no option.
 fn put_unknown(alloc: Global, page: &mut Page, word: &[u8]) -> Result<(), AllocError> {
-    page.say(b"the option ");
-    page.say_text(word);
-    page.say(b" is not known");
+    page.put(keys::UNKNOWN_OPTION, &[Part::Quoted(word)]);
+    if word.starts_with(b"--") {
+        return put_near_option(alloc, page, word);
+    }
     if word.starts_with(b"-j") {
-        page.advise(b"write it before the command: acrun -j8 configure");
-    } else if word.starts_with(b"--") {
-        return page.advise_near(
-            alloc,
-            before_equals(word),
-            &OPTIONS,
-            b"a similar option is ",
-            b"acrun configure --help shows the options of the source, and man acrun all others",
-        );
+        page.put(keys::OPTION_BEFORE_COMMAND, &[]);
     } else {
-        page.advise(b"an argument is an option or NAME=VALUE; man acrun has all options");
+        page.put(keys::NO_OPTION, &[]);
     }
     Ok(())
 }
@@ -86,31 +86,14 @@ fn put_unknown(alloc: Global, page: &mut Page, word: &[u8]) -> Result<(), AllocE
 /// Writes what is wrong with an argument that is read as an option or an assignment.
 fn put_argument(page: &mut Page, fault: OptionFault, word: &[u8]) {
     match fault {
-        OptionFault::BadFeature(_) => {
-            page.say_text(word);
-            page.say(b" names no feature or package");
-            page.advise(
-                b"a name has letters, digits, `-`, `+`, `.` and `_`; give each option by itself",
-            );
-        }
+        OptionFault::BadFeature(_) => page.put(keys::NO_OPTION_NAME, &[Part::Quoted(word)]),
         OptionFault::BadVariable(_) => {
-            page.say_text(before_equals(word));
-            page.say(b" is no name of a variable");
-            page.advise(b"a name has letters, digits and `_`, and does not begin with a digit");
+            page.put(keys::NO_ASSIGNED_NAME, &[Part::Quoted(before_equals(word))])
         }
         OptionFault::MissingValue(_) => {
-            page.say(b"the option ");
-            page.say_text(word);
-            page.say(b" needs a value");
-            page.advise(b"write it after `=`, as in --prefix=/usr");
+            page.put(keys::OPTION_WITHOUT_VALUE, &[Part::Quoted(word)])
         }
-        _ => {
-            page.say(b"the source declares no option ");
-            page.say_text(word);
-            page.advise(
-                b"acrun configure --help shows the options of the source; without --enable-option-checking=fatal it is a warning",
-            );
-        }
+        _ => page.put(keys::UNDECLARED_OPTION, &[Part::Quoted(word)]),
     }
 }
 
@@ -152,24 +135,19 @@ pub fn option_words(
 fn put_cache(page: &mut Page, fault: CacheFault, text: &[u8]) {
     match fault {
         CacheFault::BadLine(number) => {
-            page.say(b"the line ");
-            page.say_text(line_numbered(text, number));
-            page.say(b" is none of a cache");
-            page.advise(b"remove the line, or the whole cache file: it is then made anew");
+            page.put(
+                keys::NO_CACHE_LINE,
+                &[Part::Quoted(line_numbered(text, number))],
+            )
         }
         CacheFault::BadName(number) => {
-            page.say(b"the line ");
-            page.say_text(line_numbered(text, number));
-            page.say(b" sets what is no cached value");
-            page.advise(
-                b"a name in a cache has _cv_ in it; give other variables as arguments of acrun configure",
-            );
+            page.put(
+                keys::NO_CACHE_NAME,
+                &[Part::Quoted(line_numbered(text, number))],
+            )
         }
-        CacheFault::TooLarge => {
-            page.say(b"the cache file has more than 4,194,304 bytes");
-            page.advise(b"remove it: it is then made anew");
-        }
-        CacheFault::OutOfMemory => page.say(b"memory ran out"),
+        CacheFault::TooLarge => page.put(keys::CACHE_TOO_LARGE, &[]),
+        CacheFault::OutOfMemory => page.put(keys::NO_MEMORY, &[]),
     }
 }
 
@@ -184,11 +162,21 @@ pub fn cache_words(alloc: Global, fault: CacheFault, text: &[u8]) -> Result<Word
     page.words()
 }
 
-/// Writes a value that a variable has, or that it has none.
-fn put_value(page: &mut Page, value: Option<&[u8]>) {
-    match value {
-        Some(value) => page.say_value(value),
-        None => page.say(b"not set"),
+/// Writes how a variable was in the run that made the cache of this name.
+fn put_old(page: &mut Page, name: &[u8], old: Option<&[u8]>, cache_name: &[u8]) {
+    let name = Part::AsItIs(name);
+    let cache = Part::Quoted(cache_name);
+    match old {
+        Some(old) => page.put(keys::WAS_SET, &[name, Part::Value(old), cache]),
+        None => page.put(keys::WAS_UNSET, &[name, cache]),
+    }
+}
+
+/// Writes how a variable is now.
+fn put_now(page: &mut Page, now: Option<&[u8]>) {
+    match now {
+        Some(now) => page.put(keys::IS_SET, &[Part::Value(now)]),
+        None => page.put(keys::IS_UNSET, &[]),
     }
 }
 
@@ -206,48 +194,26 @@ pub fn precious_words(
     cache_name: &[u8],
 ) -> Result<Words, AllocError> {
     let mut page = Page::new(alloc);
-    page.say(name);
-    page.say(b" was ");
-    put_value(&mut page, old);
-    page.say(b" in the run that made the cache ");
-    page.say_text(cache_name);
-    page.say(b", and is now ");
-    put_value(&mut page, now);
-    page.advise(match old {
-        Some(_) =>
-            b"give it the old value again, or remove the cache, whose answers hold for that value".as_slice(),
-        None =>
-            b"leave it unset again, or remove the cache, whose answers hold for that".as_slice(),
-    });
+    put_old(&mut page, name, old, cache_name);
+    put_now(&mut page, now);
     page.words()
 }
 
 /// Writes what is wrong with the text of a record.
 fn put_record(page: &mut Page, fault: RecordFault, text: &[u8]) {
     match fault {
-        RecordFault::BadMagic => {
-            page.say(b"the file is no record of a run: it begins with ");
-            page.say_text(first_line(text));
-            page.advise(
-                b"run acrun configure first; the config.status of GNU Autoconf is a script, and is not read",
-            );
-        }
+        RecordFault::BadMagic => page.put(keys::NO_RECORD, &[Part::Quoted(first_line(text))]),
         RecordFault::UnknownVersion => {
-            page.say(b"the record has another version: ");
-            page.say_text(first_line(text));
-            page.advise(b"it was made by a later acrun: run acrun configure again");
+            page.put(keys::OTHER_RECORD, &[Part::Quoted(first_line(text))])
         }
         RecordFault::BadLine(number) | RecordFault::DuplicateName(number) => {
-            page.say(b"the line ");
-            page.say_text(line_numbered(text, number));
-            page.say(b" is wrong in the record");
-            page.advise(b"run acrun configure again");
+            page.put(
+                keys::WRONG_RECORD_LINE,
+                &[Part::Quoted(line_numbered(text, number))],
+            )
         }
-        RecordFault::Truncated => {
-            page.say(b"the record is cut off");
-            page.advise(b"run acrun configure again");
-        }
-        RecordFault::OutOfMemory => page.say(b"memory ran out"),
+        RecordFault::Truncated => page.put(keys::CUT_RECORD, &[]),
+        RecordFault::OutOfMemory => page.put(keys::NO_MEMORY, &[]),
     }
 }
 
@@ -262,6 +228,13 @@ pub fn record_words(alloc: Global, fault: RecordFault, text: &[u8]) -> Result<Wo
     page.words()
 }
 
+/// Writes which name is similar, if there is one.
+fn put_near(page: &mut Page, near: Option<&[u8]>) {
+    if let Some(near) = near {
+        page.put(keys::NEAR_NAME, &[Part::AsItIs(near)]);
+    }
+}
+
 /// Returns that a name given to `acrun status` is that of no output. The names are those of the outputs.
 ///
 /// # Errors
@@ -269,21 +242,8 @@ pub fn record_words(alloc: Global, fault: RecordFault, text: &[u8]) -> Result<Wo
 /// Fails only if memory runs out.
 pub fn tag_words(alloc: Global, name: &[u8], names: &[&[u8]]) -> Result<Words, AllocError> {
     let mut page = Page::new(alloc);
-    page.say_text(name);
-    page.say(b" is no output of this package");
-    page.advise_near(alloc, name, names, NEAR, b"")?;
-    page.words()
-}
-
-/// Returns that a file could not be written.
-///
-/// # Errors
-///
-/// Fails only if memory runs out.
-pub fn put_words(alloc: Global, name: &[u8]) -> Result<Words, AllocError> {
-    let mut page = Page::new(alloc);
-    page.say_text(name);
-    page.say(b" could not be written");
+    page.put(keys::NO_OUTPUT_NAME, &[Part::Quoted(name)]);
+    put_near(&mut page, near_name(alloc, name, names)?);
     page.words()
 }
 
@@ -308,32 +268,26 @@ fn has_letters_of(word: &[u8], name: &[u8]) -> bool {
             .all(|byte| count_of(word, *byte) == count_of(name, *byte))
 }
 
-/// Writes that a word is no command, and the nearest one. One with the same letters is near too.
-fn put_no_command(alloc: Global, page: &mut Page, word: &[u8]) -> Result<(), AllocError> {
-    page.say_text(word);
-    page.say(b" is no command");
-    if let Some(name) = COMMANDS.iter().find(|name| has_letters_of(word, **name)) {
-        page.advise(NEAR);
-        page.advise(*name);
-        return Ok(());
+/// Returns the command that is nearest to a word. One with the same letters is near too.
+fn near_command(alloc: Global, word: &[u8]) -> Result<Option<&'static [u8]>, AllocError> {
+    match COMMANDS.iter().find(|name| has_letters_of(word, **name)) {
+        Some(name) => Ok(Some(*name)),
+        None => near_name(alloc, word, &COMMANDS),
     }
-    page.advise_near(alloc, word, &COMMANDS, NEAR, b"")
 }
 
 /// Writes what is wrong with the first words of a command line.
 fn put_usage(alloc: Global, page: &mut Page, words: &[&[u8]]) -> Result<(), AllocError> {
     let first = numbered(words, 1);
     if first.is_empty() {
-        page.say(b"there is no command, and no line of the input is `%%`");
+        page.put(keys::NO_CALL, &[]);
     } else if is_alone(first) {
-        page.say_text(first);
-        page.say(b" takes no other word");
-        page.advise(b"acrun help COMMAND explains a command");
+        page.put(keys::WORD_AFTER_OPTION, &[Part::Quoted(first)]);
     } else if first == b"-j".as_slice() {
-        page.say(b"-j is no number of children");
-        page.advise(b"write -j1 to -j16, without a blank, before the command: acrun -j8 configure");
+        page.put(keys::NO_NUMBER_OF_CHILDREN, &[]);
     } else {
-        return put_no_command(alloc, page, first);
+        page.put(keys::NO_COMMAND, &[Part::Quoted(first)]);
+        put_near(page, near_command(alloc, first)?);
     }
     Ok(())
 }

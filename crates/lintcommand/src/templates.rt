@@ -1,7 +1,9 @@
 //! The error of a template that is not there.
 
-use findings::{Finding, Severity, Span};
+use deftable::Bytes;
+use findings::Finding;
 use std::alloc::{AllocError, Global};
+use wordtable::{Page, Part, keys};
 
 /// Returns whether the byte is before or after a name in a list of files.
 fn is_border(byte: u8) -> bool {
@@ -33,21 +35,10 @@ pub(crate) fn missing(
     name: &[u8],
     path: &[u8],
 ) -> Result<Finding, AllocError> {
-    let mut message = Vec::from_slice(alloc, b"the template ")?;
-    message.extend_from_slice(path)?;
-    message.extend_from_slice(b" can't be read")?;
+    let mut page = Page::new(alloc);
+    page.put(keys::TEMPLATE, &[Part::AsItIs(path)]);
+    let code = Bytes::from_slice(alloc, keys::TEMPLATE.name())?;
     let start = place_of(text, name);
-    let span = Span {
-        file: 0,
-        start,
-        end: start.saturating_add(name.len()).min(text.len()),
-    };
-    Finding::from_slices(
-        alloc,
-        span,
-        Severity::Error,
-        b"template",
-        message.as_slice(),
-        b"make the template, or name another one as in AC_CONFIG_FILES([file:template])",
-    )
+    let end = start.saturating_add(name.len()).min(text.len());
+    page.finding(code, start, end)
 }

@@ -9,6 +9,7 @@ use macrotable::{Entry, Index, Kind, fill};
 use sourcecalls::{CallAt, Extent};
 use std::alloc::{AllocError, Global};
 use textpieces::part;
+use wordtable::{Page, Part, keys};
 
 /// Returns the texts of the arguments.
 fn texts<'a>(alloc: Global, text: &'a [u8], args: &[Extent]) -> Result<Vec<&'a [u8]>, AllocError> {
@@ -23,10 +24,9 @@ fn texts<'a>(alloc: Global, text: &'a [u8], args: &[Extent]) -> Result<Vec<&'a [
 fn written(alloc: Global, text: &[u8], args: &[Extent], idiom: &[u8]) -> Result<Bytes, AllocError> {
     let texts = texts(alloc, text, args)?;
     let filled = fill(alloc, idiom, &texts)?;
-    let mut out = Vec::new(alloc);
-    out.extend_from_slice(b"write instead\n")?;
-    out.extend_from_slice(filled.as_slice())?;
-    Ok(Bytes::from_vec(out))
+    let mut page = Page::new(alloc);
+    page.put(keys::WRITE_INSTEAD, &[Part::AsItIs(filled.as_slice())]);
+    page.help()
 }
 
 /// Returns what the table says of a call: an idiom with the call's own arguments, or a line.

@@ -5,9 +5,10 @@
 //! test_help(b"test $a == b")            // `==` is no operator of `test`
 //! ```
 //!
-//! No call allocates, and none fails. That each call ends is proved; what it says is tested.
+//! [`Construct::put`] writes what is said on a page. That each call ends is proved; what it says is tested. The words themselves are
+//! in `wordtable`.
 //!
-//! Read `table`, which has what is said, and then `shell`, which finds what to say of a text.
+//! Read `table`, which has what is not read, and then `shell`, which finds it in a text.
 #![tactic(auto)]
 
 mod shell;

@@ -1,12 +1,12 @@
 //! What is said of shell text that is not read.
 
-use crate::table::{Construct, Fit, named, row_of};
+use crate::table::{Construct, Fit, Kind, Nameless, row_of, said_of};
 use textpieces::{after_blanks, first_line, first_name, first_word, from};
 
 /// Returns what is said of the first word of the text that a test may not have.
 fn row_of_words(text: &[u8]) -> Option<Construct> {
     for word in text.split(|byte| matches!(*byte, b' ' | b'\t' | b'\n')) {
-        if let Some(found) = row_of(b"test", Fit::Is(word)) {
+        if let Some(found) = row_of(Kind::Test, Fit::Is(word)) {
             return Some(found);
         }
     }
@@ -16,13 +16,13 @@ fn row_of_words(text: &[u8]) -> Option<Construct> {
 /// Returns what is said of what a text begins with, not as a word.
 fn row_of_front(text: &[u8]) -> Option<Construct> {
     let fit = Fit::Begins(text);
-    if let Some(found) = row_of(b"inside", fit) {
+    if let Some(found) = row_of(Kind::Inside, fit) {
         return Some(found);
     }
-    if let Some(found) = row_of(b"part", fit) {
+    if let Some(found) = row_of(Kind::Piece, fit) {
         return Some(found);
     }
-    row_of(b"front", fit)
+    row_of(Kind::Front, fit)
 }
 
 /// Returns whether the text after a `$` is an expansion with an operator, such as `${x-y}`.
@@ -47,10 +47,10 @@ fn variable_help(text: &[u8]) -> Option<Construct> {
     for byte in text {
         at = at.saturating_add(1);
         if *byte == b'$' && is_operator(from(text, at)) {
-            return named(b"operator");
+            return Some(said_of(Nameless::Operator));
         }
         if *byte == b'$' && is_special(from(text, at)) {
-            return named(b"special");
+            return Some(said_of(Nameless::Special));
         }
     }
     None
@@ -78,7 +78,7 @@ impl Quote {
             Quote::Double if byte == b'\\' => Quote::Escape(true),
             Quote::Escape(true) => Quote::Double,
             Quote::Escape(false) => Quote::Nothing,
-            other => other,
+            quote => quote,
         }
     }
 }
@@ -90,8 +90,8 @@ fn quote_help(text: &[u8]) -> Option<Construct> {
         quote = quote.after(*byte);
     }
     match quote {
-        Quote::Single => named(b"single"),
-        Quote::Double => named(b"double"),
+        Quote::Single => Some(said_of(Nameless::SingleQuote)),
+        Quote::Double => Some(said_of(Nameless::DoubleQuote)),
         _ => None,
     }
 }
@@ -106,7 +106,7 @@ fn has_blank_before_equals(text: &[u8]) -> bool {
 
 /// Returns what is said of words, as far as their parts tell it.
 pub fn word_help(text: &[u8]) -> Option<Construct> {
-    if let Some(found) = row_of(b"inside", Fit::IsIn(text)) {
+    if let Some(found) = row_of(Kind::Inside, Fit::IsIn(text)) {
         return Some(found);
     }
     if let Some(found) = variable_help(text) {
@@ -118,13 +118,13 @@ pub fn word_help(text: &[u8]) -> Option<Construct> {
 /// Returns what is said of a statement by what it begins with.
 fn front_help(text: &[u8]) -> Option<Construct> {
     if first_line(text).ends_with(b"\r") {
-        return named(b"return");
+        return Some(said_of(Nameless::CarriageReturn));
     }
-    if let Some(found) = row_of(b"word", Fit::Is(first_word(text))) {
+    if let Some(found) = row_of(Kind::Word, Fit::Is(first_word(text))) {
         return Some(found);
     }
     if has_blank_before_equals(text) {
-        return named(b"blanks");
+        return Some(said_of(Nameless::BlankBesideEquals));
     }
     row_of_front(text)
 }
@@ -140,16 +140,16 @@ pub fn shell_help(statement: &[u8]) -> Option<Construct> {
     if let Some(found) = word_help(text) {
         return Some(found);
     }
-    row_of(b"part", Fit::IsIn(text))
+    row_of(Kind::Piece, Fit::IsIn(text))
 }
 
 /// Returns what is wrong with a test, as far as its text shows that. The text is without the quotes around it.
 pub fn test_help(test: &[u8]) -> Option<Construct> {
     if test.contains(&b'\r') {
-        return named(b"return");
+        return Some(said_of(Nameless::CarriageReturn));
     }
     if after_blanks(test).starts_with(b"[") {
-        return named(b"bracket");
+        return Some(said_of(Nameless::Bracket));
     }
     if let Some(found) = row_of_words(test) {
         return Some(found);

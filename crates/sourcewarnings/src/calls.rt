@@ -1,6 +1,6 @@
 //! Warnings about calls.
 
-use crate::extent::{Named, assigns, bare, text_at, warn_by_code};
+use crate::extent::{Named, assigns, bare, text_at, warn_of_part};
 use crate::foreign::warn_of_texts;
 use crate::rows::{EMPTY, FUNCTIONS, HELD, LIBRARY_ACTION, NAMES, SILENT};
 use bstr::ByteSlice;
@@ -9,18 +9,19 @@ use macrotable::Index;
 use sourcecalls::{CallAt, Extent};
 use std::alloc::{AllocError, Global};
 use textpieces::{after_blanks, from};
+use wordtable::{Key, keys};
 
-/// Adds the warning of this code about a part of the source, if that is there and wrong.
+/// Adds the warning of this key about a part of the source, if that is there and wrong.
 fn warn_if(
     alloc: Global,
     text: &[u8],
     extent: Option<Extent>,
     is_wrong: bool,
-    code: &[u8],
+    key: Key,
     out: &mut Vec<Finding>,
 ) -> Result<(), AllocError> {
     match extent {
-        Some(extent) if is_wrong => warn_by_code(alloc, out, text, extent, code),
+        Some(extent) if is_wrong => warn_of_part(alloc, out, text, extent, key),
         _ => Ok(()),
     }
 }
@@ -40,11 +41,11 @@ fn warn_of_library(
     for place in &FUNCTIONS {
         let function = text_at(text, call.argument_at(place));
         let is_main = bare(function) == b"main".as_slice();
-        warn_if(alloc, text, call.whole(), is_main, b"library-main", out)?;
+        warn_if(alloc, text, call.whole(), is_main, keys::LIBRARY_MAIN, out)?;
     }
     let action = call.argument_at(&LIBRARY_ACTION);
     let is_idle = is_comment(bare(text_at(text, action)));
-    warn_if(alloc, text, action, is_idle, b"dnl-action", out)
+    warn_if(alloc, text, action, is_idle, keys::DNL_ACTION, out)
 }
 
 /// Returns whether an argument holds a text that isn't empty.
@@ -79,12 +80,12 @@ fn warn_of_places(
     for place in &EMPTY {
         let argument = call.argument_at(place);
         let is_empty = text_at(text, argument) == b"[[]]".as_slice();
-        warn_if(alloc, text, argument, is_empty, b"empty-quotes", out)?;
+        warn_if(alloc, text, argument, is_empty, keys::EMPTY_QUOTES, out)?;
     }
     for place in &NAMES {
         let argument = call.argument_at(place);
         let has_blanks = has_end_blanks(text_at(text, argument));
-        warn_if(alloc, text, argument, has_blanks, b"blank-in-name", out)?;
+        warn_if(alloc, text, argument, has_blanks, keys::BLANK_IN_NAME, out)?;
     }
     Ok(())
 }
@@ -105,9 +106,23 @@ fn warn_of_missing(
     let has_no_value = name == b"AC_CHECK_PROG".as_slice()
         && !is_given(text, args.get(2))
         && is_given(text, args.get(3));
-    warn_if(alloc, text, call.whole(), has_no_value, b"empty-value", out)?;
+    warn_if(
+        alloc,
+        text,
+        call.whole(),
+        has_no_value,
+        keys::EMPTY_VALUE,
+        out,
+    )?;
     let has_no_word = name == b"AS_CASE".as_slice() && !is_given(text, args.first());
-    warn_if(alloc, text, call.whole(), has_no_word, b"empty-case", out)
+    warn_if(
+        alloc,
+        text,
+        call.whole(),
+        has_no_word,
+        keys::EMPTY_CASE,
+        out,
+    )
 }
 
 /// Warns of the variable SHELL, if it gets its value from the environment alone.
@@ -117,7 +132,7 @@ fn warn_of_shell(alloc: Global, call: Named<'_>, out: &mut Vec<Finding>) -> Resu
     let is_shell = name == b"AC_SUBST".as_slice()
         && bare(text_at(text, args.first().copied())) == b"SHELL".as_slice();
     let is_wrong = is_shell && !is_given(text, args.get(1)) && !assigns(text, b"SHELL");
-    warn_if(alloc, text, call.whole(), is_wrong, b"login-shell", out)
+    warn_if(alloc, text, call.whole(), is_wrong, keys::LOGIN_SHELL, out)
 }
 
 /// Warns if a `;` is after a call of which Autoconf makes no shell text.
@@ -129,8 +144,8 @@ fn warn_of_semicolon(
     let text = call.text;
     let is_followed = SILENT.iter().any(|other| *other == call.name)
         && after_blanks(from(text, call.at.end)).starts_with(b";");
-    let code = b"semicolon-after-call";
-    warn_if(alloc, text, call.whole(), is_followed, code, out)
+    let key = keys::SEMICOLON_AFTER_CALL;
+    warn_if(alloc, text, call.whole(), is_followed, key, out)
 }
 
 /// Warns of a call.

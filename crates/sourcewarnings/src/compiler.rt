@@ -5,6 +5,7 @@ use findings::Finding;
 use sourcecalls::{CallAt, Extent};
 use std::alloc::{AllocError, Global};
 use textpieces::before;
+use wordtable::keys;
 
 /// Returns whether the call compiles or links something.
 fn compiles(name: &[u8]) -> bool {
@@ -52,6 +53,28 @@ fn without_compiler<'a>(text: &[u8], calls: &'a [CallAt]) -> Option<&'a CallAt> 
     None
 }
 
+/// Returns the first call that compiles something, if no program was tried before it.
+fn without_trial<'a>(text: &[u8], calls: &'a [CallAt]) -> Option<&'a CallAt> {
+    for call in calls {
+        let name = name_of(text, call);
+        if tries(name) {
+            return None;
+        }
+        if compiles(name) {
+            return Some(call);
+        }
+    }
+    None
+}
+
+/// Returns where the name of a call is.
+fn name_at(call: &CallAt) -> Extent {
+    Extent {
+        start: call.start,
+        end: call.name_end,
+    }
+}
+
 /// Adds a warning about the first check that compiles something, if nothing before it looks for a compiler, or else if no program
 /// was tried before it (own).
 ///
@@ -65,47 +88,10 @@ pub fn warn_of_compiler(
     out: &mut Vec<Finding>,
 ) -> Result<(), AllocError> {
     if let Some(call) = without_compiler(text, calls) {
-        return warn_of_part(
-            alloc,
-            out,
-            text,
-            Extent {
-                start: call.start,
-                end: call.name_end,
-            },
-            b"no-compiler",
-            b"nothing before this check looks for a compiler, so CC has no value unless the user \
-              gives one",
-            b"write before it\n  AC_PROG_CC",
-        );
+        return warn_of_part(alloc, out, text, name_at(call), keys::NO_COMPILER);
     }
-    for call in calls {
-        let name = name_of(text, call);
-        if tries(name) {
-            return Ok(());
-        }
-        if compiles(name) {
-            return warn_of_part(
-                alloc,
-                out,
-                text,
-                Extent {
-                    start: call.start,
-                    end: call.name_end,
-                },
-                b"compiler-not-tried",
-                b"nothing before this check tries whether the compiler works; with a misspelt flag \
-                  in CFLAGS each check says no",
-                b"write after AC_PROG_CC\n  \
-                  AC_CACHE_CHECK([whether the C compiler makes programs], \
-                  [PACKAGE_cv_prog_cc_works],\n    \
-                  [AC_COMPILE_IFELSE([AC_LANG_PROGRAM([], [])],\n      \
-                  [AC_LINK_IFELSE([AC_LANG_PROGRAM([], [])], \
-                  [PACKAGE_cv_prog_cc_works=yes])])])\n  \
-                  AS_IF([test \"$PACKAGE_cv_prog_cc_works\" != yes],\n    \
-                  [AC_MSG_ERROR([the C compiler makes no programs; config.log says why], [77])])",
-            );
-        }
+    match without_trial(text, calls) {
+        Some(call) => warn_of_part(alloc, out, text, name_at(call), keys::COMPILER_NOT_TRIED),
+        None => Ok(()),
     }
-    Ok(())
 }

@@ -1,11 +1,12 @@
 //! The parts of a call.
 
-use crate::rows::{Place, words_of};
+use crate::rows::Place;
 use bstr::ByteSlice;
-use findings::{Finding, Span, warn};
+use findings::{Finding, Span};
 use sourcecalls::{CallAt, Extent};
 use std::alloc::{AllocError, Global};
 use textpieces::{before, from, is_word_byte, part};
+use wordtable::{Key, warn_by_key};
 
 /// Returns the text of an argument. One that isn't given is empty.
 pub(crate) fn text_at(text: &[u8], argument: Option<Extent>) -> &[u8] {
@@ -75,32 +76,22 @@ impl<'a> Named<'a> {
     }
 }
 
-/// Adds a warning about a part of the source.
+/// Returns a part of the source.
+pub(crate) fn span_of(extent: Extent) -> Span {
+    Span {
+        file: 0,
+        start: extent.start,
+        end: extent.end,
+    }
+}
+
+/// Adds the warning of a key without places about a part of the source.
 pub(crate) fn warn_of_part(
     alloc: Global,
     out: &mut Vec<Finding>,
     text: &[u8],
     extent: Extent,
-    code: &[u8],
-    message: &[u8],
-    help: &[u8],
+    key: Key,
 ) -> Result<(), AllocError> {
-    let span = Span {
-        file: 0,
-        start: extent.start,
-        end: extent.end,
-    };
-    warn(alloc, out, text, span, code, message, help)
-}
-
-/// Adds the warning of this code about a part of the source.
-pub(crate) fn warn_by_code(
-    alloc: Global,
-    out: &mut Vec<Finding>,
-    text: &[u8],
-    extent: Extent,
-    code: &[u8],
-) -> Result<(), AllocError> {
-    let (message, help) = words_of(code);
-    warn_of_part(alloc, out, text, extent, code, message, help)
+    warn_by_key(alloc, out, text, span_of(extent), key, &[])
 }

@@ -1,12 +1,13 @@
 //! Names of macros in arguments that are text.
 
-use crate::extent::{Named, bare, warn_of_part};
+use crate::extent::{Named, bare, span_of};
 use crate::rows::TEXTS;
 use findings::Finding;
 use macrotable::{Index, Kind};
 use sourcecalls::Extent;
 use std::alloc::{AllocError, Global};
 use textpieces::{before, from, is_word_byte, part};
+use wordtable::{Page, Part, keys};
 
 /// The macro that may be in an argument with help.
 const HELP: &[u8] = b"AS_HELP_STRING";
@@ -95,21 +96,18 @@ const PACKAGE: [&[u8]; 6] = [
     b"AC_PACKAGE_BUGREPORT", b"AC_PACKAGE_URL",
 ];
 
-/// Returns what to do about the name of a macro in a text of a call.
-fn help_for(alloc: Global, call: &[u8], word: &[u8]) -> Result<Vec<u8>, AllocError> {
+/// Writes what to do about the name of a macro in a text of a call.
+fn put_help(page: &mut Page, call: &[u8], word: &[u8]) {
+    let variable = Part::AsItIs(from(word, 3));
     if word == b"AC_HELP_STRING".as_slice() {
-        return Vec::from_slice(alloc, b"write AS_HELP_STRING");
+        page.put(keys::WRITE_HELP_STRING, &[]);
+    } else if !PACKAGE.iter().any(|name| *name == word) {
+        page.put(keys::WRITE_TEXT, &[]);
+    } else if call == b"AC_DEFINE".as_slice() {
+        page.put(keys::WRITE_IN_UNQUOTED, &[variable]);
+    } else {
+        page.put(keys::WRITE_VARIABLE, &[variable]);
     }
-    if !PACKAGE.iter().any(|name| *name == word) {
-        let help = b"write the text that is meant, or put it in two pairs of brackets";
-        return Vec::from_slice(alloc, help);
-    }
-    let mut help = Vec::from_slice(alloc, b"write $")?;
-    help.extend_from_slice(from(word, 3))?;
-    if call == b"AC_DEFINE".as_slice() {
-        help.extend_from_slice(b" in AC_DEFINE_UNQUOTED")?;
-    }
-    Ok(help)
 }
 
 /// Warns if an argument of a call that is text has the name of a macro.
@@ -127,16 +125,11 @@ fn warn_of_text(
     };
     let start = extent.start.saturating_add(at);
     let end = start.saturating_add(length);
-    let help = help_for(alloc, call.name, part(text, start, end))?;
-    warn_of_part(
-        alloc,
-        out,
-        text,
-        Extent { start, end },
-        b"macro-in-text",
-        b"the name of this macro is text here; Autoconf expands it",
-        help.as_slice(),
-    )
+    let mut page = Page::new(alloc);
+    page.put(keys::MACRO_IN_TEXT, &[]);
+    put_help(&mut page, call.name, part(text, start, end));
+    let span = span_of(Extent { start, end });
+    page.warn(alloc, out, text, span, keys::MACRO_IN_TEXT.name())
 }
 
 /// Warns of names of macros in the arguments of a call that are text.

@@ -5,12 +5,13 @@
 //! can. So the statement is found by fronts of the source, each read as a source of its own: the
 //! shortest one that can't be resumed ends with it.
 
-use crate::extent::{name_of, warn_of_part};
+use crate::extent::{name_of, span_of};
 use acparse::{ParseFault, parse};
 use findings::Finding;
 use sourcecalls::{CallAt, Extent};
 use std::alloc::{AllocError, Global};
 use textpieces::{after_blanks, before, first_line, part, without_end_blanks};
+use wordtable::{Page, Part, keys};
 
 /// Returns whether the source that ends at this offset can be resumed, or `None` if it isn't read.
 fn is_resumable_until(alloc: Global, text: &[u8], end: usize) -> Result<Option<bool>, AllocError> {
@@ -162,21 +163,6 @@ fn first_statement(alloc: Global, text: &[u8], calls: &[CallAt]) -> Result<Exten
     }
 }
 
-/// Returns the message about a statement.
-fn message_of(alloc: Global, statement: &[u8]) -> Result<Vec<u8>, AllocError> {
-    let mut message = Vec::new(alloc);
-    if !statement.is_empty() {
-        message.extend_from_slice(b"after `")?;
-        message.extend_from_slice(before(statement, 60))?;
-        message.extend_from_slice(b"`, ")?;
-    }
-    message.extend_from_slice(
-        b"a run of this source that is cut and started again may end otherwise than one that is \
-          not cut",
-    )?;
-    Ok(message)
-}
-
 /// Warns of the first statement of a source that can't be resumed.
 pub(crate) fn warn_of_order(
     alloc: Global,
@@ -185,15 +171,18 @@ pub(crate) fn warn_of_order(
     out: &mut Vec<Finding>,
 ) -> Result<(), AllocError> {
     let extent = first_statement(alloc, text, calls)?;
-    let message = message_of(alloc, part(text, extent.start, extent.end))?;
-    warn_of_part(
+    let statement = before(part(text, extent.start, extent.end), 60);
+    let mut page = Page::new(alloc);
+    if statement.is_empty() {
+        page.put(keys::NOT_RESUMABLE_ANYWHERE, &[]);
+    } else {
+        page.put(keys::NOT_RESUMABLE, &[Part::AsItIs(statement)]);
+    }
+    page.warn(
         alloc,
         out,
         text,
-        extent,
-        b"not-resumable",
-        message.as_slice(),
-        b"read a cached value, such as $ac_cv_func_f, only after its check, assign to none, and \
-          try programs within AC_CACHE_CHECK",
+        span_of(extent),
+        keys::NOT_RESUMABLE.name(),
     )
 }

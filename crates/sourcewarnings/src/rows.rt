@@ -1,127 +1,9 @@
-//! What warnings say, and what an argument may hold that means something else here than with
-//! Autoconf, or than it seems to.
+//! What an argument may hold that means something else here than with Autoconf, or than it seems to.
 
-/// The code of a warning, what it says, and what to do.
-type Words = (&'static [u8], &'static [u8], &'static [u8]);
-
-/// The warnings that always have the same words.
-#[rattlefmt::skip]
-const WORDS: [Words; 20] = [
-    (
-        b"comma-in-list",
-        b"the comma is a part of a name here: entries are separated by blanks",
-        b"leave the commas out",
-    ),
-    (
-        b"backslash-in-message",
-        b"the backslash stays in the message; Autoconf drops it",
-        b"leave the backslash out",
-    ),
-    (
-        b"blank-before-comma",
-        b"the blank before the comma is dropped; in Autoconf it is a part of the name",
-        b"write the comma right after the name",
-    ),
-    (
-        b"quote-in-value",
-        b"the quote is a part of the value; in Autoconf it ends the quotes that are around the \
-          value",
-        b"leave the quotes out",
-    ),
-    (
-        b"list-on-lines",
-        b"Autoconf makes a script of a list on several lines that doesn't run",
-        b"write the list on one line",
-    ),
-    (
-        b"forbidden-name",
-        b"Autoconf refuses a name with _AC_ in it",
-        b"choose another name",
-    ),
-    (
-        b"ampersand-in-output",
-        b"Autoconf makes a script of an `&` in the name of an output that doesn't run",
-        b"choose another name",
-    ),
-    (
-        b"dnl-in-list",
-        b"Autoconf refuses a dnl line in AC_CONFIG_FILES",
-        b"put the comment before the call",
-    ),
-    (
-        b"hash-in-message",
-        b"a `#` in single brackets begins a comment of m4 in Autoconf, which refuses this or \
-          drops the rest",
-        b"put the text in two pairs of brackets",
-    ),
-    (
-        b"comma-in-name",
-        b"the tarname is made of the whole name here, and in Autoconf of what is before the comma",
-        b"put the name in two pairs of brackets, or give the tarname as the fourth argument",
-    ),
-    (
-        b"library-main",
-        b"a library is never found by the function main",
-        b"name a function that the library has, as in AC_CHECK_LIB([m], [cos])",
-    ),
-    (
-        b"dnl-action",
-        b"a comment is no action, so the library is added to LIBS; in Autoconf nothing is done",
-        b"write an assignment, such as [have_it=yes], for an action that does nothing",
-    ),
-    (
-        b"empty-quotes",
-        b"this is an empty argument; in Autoconf it is an argument that isn't empty",
-        b"write `[]` for an empty argument",
-    ),
-    (
-        b"blank-in-name",
-        b"the blanks at the ends of this name are dropped; in Autoconf they are a part of it",
-        b"write the name without blanks",
-    ),
-    (
-        b"empty-value",
-        b"if the program is found, the variable is empty; in Autoconf it gets the last argument",
-        b"give a value, as in AC_CHECK_PROG([HAVE_AWK], [awk], [yes], [no])",
-    ),
-    (
-        b"empty-case",
-        b"Autoconf makes a script of a case without a word that doesn't run",
-        b"write the word, as in AS_CASE([$name], ..)",
-    ),
-    (
-        b"semicolon-after-call",
-        b"Autoconf makes no shell text of this call, so a script with the `;` after it doesn't run",
-        b"put what is after the `;` on a line of its own",
-    ),
-    (
-        b"login-shell",
-        b"SHELL is the login shell of whoever runs this, or empty; in Autoconf it is the shell that \
-          runs configure",
-        b"write AC_SUBST([SHELL], [/bin/sh])",
-    ),
-    (
-        b"script-variable",
-        b"a variable of configure scripts is an ordinary one here, and empty until it is set",
-        b"leave it out, or use @srcdir@ in a template",
-    ),
-    (
-        b"quoted-includes",
-        b"AC_INCLUDES_DEFAULT in two pairs of brackets is read here; in Autoconf it is text",
-        b"put it in one pair of brackets",
-    ),
-];
-
-/// Returns what the warning of this code says, and what to do.
-pub(crate) fn words_of(code: &[u8]) -> (&'static [u8], &'static [u8]) {
-    match WORDS.iter().find(|row| row.0 == code) {
-        Some(row) => (row.1, row.2),
-        None => (b"", b""),
-    }
-}
+use wordtable::{Key, keys};
 
 /// A macro, the number of one of its arguments from 0, a text that the argument may hold, another
-/// one if it isn't empty, whether the argument may hold them in two pairs of brackets, and the code
+/// one if it isn't empty, whether the argument may hold them in two pairs of brackets, and the key
 /// of the warning.
 pub(crate) type Row = (
     &'static [u8],
@@ -129,39 +11,39 @@ pub(crate) type Row = (
     &'static [u8],
     &'static [u8],
     bool,
-    &'static [u8],
+    Key,
 );
 
 /// What an argument may hold.
 #[rattlefmt::skip]
 pub(crate) const HELD: [Row; 27] = [
-    (b"AC_CHECK_HEADERS", 0, b",", b"", false, b"comma-in-list"),
-    (b"AC_CHECK_FUNCS", 0, b",", b"", false, b"comma-in-list"),
-    (b"AC_MSG_NOTICE", 0, b"\\\"", b"\\`", false, b"backslash-in-message"),
-    (b"AC_MSG_WARN", 0, b"\\\"", b"\\`", false, b"backslash-in-message"),
-    (b"AC_MSG_ERROR", 0, b"\\\"", b"\\`", false, b"backslash-in-message"),
-    (b"AC_MSG_CHECKING", 0, b"\\\"", b"\\`", false, b"backslash-in-message"),
-    (b"AC_MSG_RESULT", 0, b"\\\"", b"\\`", false, b"backslash-in-message"),
-    (b"AC_CACHE_CHECK", 0, b"\\\"", b"\\`", false, b"backslash-in-message"),
-    (b"AC_CHECK_DECLS", 0, b" ,", b"\t,", false, b"blank-before-comma"),
-    (b"AC_CHECK_TYPES", 0, b" ,", b"\t,", false, b"blank-before-comma"),
-    (b"AC_CHECK_PROG", 2, b"\"", b"", false, b"quote-in-value"),
-    (b"AC_CHECK_PROGS", 1, b"\n", b"", false, b"list-on-lines"),
-    (b"AC_SEARCH_LIBS", 1, b"\n", b"", false, b"list-on-lines"),
-    (b"AC_SUBST", 0, b"_AC_", b"", false, b"forbidden-name"),
-    (b"AC_DEFINE", 0, b"_AC_", b"", false, b"forbidden-name"),
-    (b"AC_DEFINE_UNQUOTED", 0, b"_AC_", b"", false, b"forbidden-name"),
-    (b"AC_ARG_VAR", 0, b"_AC_", b"", false, b"forbidden-name"),
-    (b"AC_CONFIG_FILES", 0, b"&", b"", false, b"ampersand-in-output"),
-    (b"AC_CONFIG_HEADERS", 0, b"&", b"", false, b"ampersand-in-output"),
-    (b"AC_CONFIG_FILES", 0, b"\ndnl ", b"[dnl ", false, b"dnl-in-list"),
-    (b"AC_CONFIG_FILES", 0, b" dnl ", b"\tdnl ", false, b"dnl-in-list"),
-    (b"AC_MSG_NOTICE", 0, b"#", b"", true, b"hash-in-message"),
-    (b"AC_MSG_WARN", 0, b"#", b"", true, b"hash-in-message"),
-    (b"AC_MSG_ERROR", 0, b"#", b"", true, b"hash-in-message"),
-    (b"AC_MSG_CHECKING", 0, b"#", b"", true, b"hash-in-message"),
-    (b"AC_MSG_RESULT", 0, b"#", b"", true, b"hash-in-message"),
-    (b"AC_INIT", 0, b",", b"", true, b"comma-in-name"),
+    (b"AC_CHECK_HEADERS", 0, b",", b"", false, keys::COMMA_IN_LIST),
+    (b"AC_CHECK_FUNCS", 0, b",", b"", false, keys::COMMA_IN_LIST),
+    (b"AC_MSG_NOTICE", 0, b"\\\"", b"\\`", false, keys::BACKSLASH_IN_MESSAGE),
+    (b"AC_MSG_WARN", 0, b"\\\"", b"\\`", false, keys::BACKSLASH_IN_MESSAGE),
+    (b"AC_MSG_ERROR", 0, b"\\\"", b"\\`", false, keys::BACKSLASH_IN_MESSAGE),
+    (b"AC_MSG_CHECKING", 0, b"\\\"", b"\\`", false, keys::BACKSLASH_IN_MESSAGE),
+    (b"AC_MSG_RESULT", 0, b"\\\"", b"\\`", false, keys::BACKSLASH_IN_MESSAGE),
+    (b"AC_CACHE_CHECK", 0, b"\\\"", b"\\`", false, keys::BACKSLASH_IN_MESSAGE),
+    (b"AC_CHECK_DECLS", 0, b" ,", b"\t,", false, keys::BLANK_BEFORE_COMMA),
+    (b"AC_CHECK_TYPES", 0, b" ,", b"\t,", false, keys::BLANK_BEFORE_COMMA),
+    (b"AC_CHECK_PROG", 2, b"\"", b"", false, keys::QUOTE_IN_VALUE),
+    (b"AC_CHECK_PROGS", 1, b"\n", b"", false, keys::LIST_ON_LINES),
+    (b"AC_SEARCH_LIBS", 1, b"\n", b"", false, keys::LIST_ON_LINES),
+    (b"AC_SUBST", 0, b"_AC_", b"", false, keys::FORBIDDEN_NAME),
+    (b"AC_DEFINE", 0, b"_AC_", b"", false, keys::FORBIDDEN_NAME),
+    (b"AC_DEFINE_UNQUOTED", 0, b"_AC_", b"", false, keys::FORBIDDEN_NAME),
+    (b"AC_ARG_VAR", 0, b"_AC_", b"", false, keys::FORBIDDEN_NAME),
+    (b"AC_CONFIG_FILES", 0, b"&", b"", false, keys::AMPERSAND_IN_OUTPUT),
+    (b"AC_CONFIG_HEADERS", 0, b"&", b"", false, keys::AMPERSAND_IN_OUTPUT),
+    (b"AC_CONFIG_FILES", 0, b"\ndnl ", b"[dnl ", false, keys::DNL_IN_LIST),
+    (b"AC_CONFIG_FILES", 0, b" dnl ", b"\tdnl ", false, keys::DNL_IN_LIST),
+    (b"AC_MSG_NOTICE", 0, b"#", b"", true, keys::HASH_IN_MESSAGE),
+    (b"AC_MSG_WARN", 0, b"#", b"", true, keys::HASH_IN_MESSAGE),
+    (b"AC_MSG_ERROR", 0, b"#", b"", true, keys::HASH_IN_MESSAGE),
+    (b"AC_MSG_CHECKING", 0, b"#", b"", true, keys::HASH_IN_MESSAGE),
+    (b"AC_MSG_RESULT", 0, b"#", b"", true, keys::HASH_IN_MESSAGE),
+    (b"AC_INIT", 0, b",", b"", true, keys::COMMA_IN_NAME),
 ];
 
 /// A macro and the number of one of its arguments, from 0.

@@ -1,20 +1,21 @@
 //! Warnings about the text of a source, and about its statements.
 
-use crate::extent::warn_by_code;
+use crate::extent::warn_of_part;
 use crate::order::warn_of_order;
 use bstr::ByteSlice;
 use findings::Finding;
 use sourcecalls::{CallAt, Extent};
 use std::alloc::{AllocError, Global};
 use syntax::Source;
+use wordtable::{Key, keys};
 
-/// Texts that may not mean what they seem to, each with the code of the warning.
+/// Texts that may not mean what they seem to, each with the key of the warning.
 #[rattlefmt::skip]
-const TEXTS: [(&[u8], &[u8]); 4] = [
-    (b"$srcdir", b"script-variable"),
-    (b"${srcdir}", b"script-variable"),
-    (b"$ac_top_srcdir", b"script-variable"),
-    (b"[[AC_INCLUDES_DEFAULT", b"quoted-includes"),
+const TEXTS: [(&[u8], Key); 4] = [
+    (b"$srcdir", keys::SCRIPT_VARIABLE),
+    (b"${srcdir}", keys::SCRIPT_VARIABLE),
+    (b"$ac_top_srcdir", keys::SCRIPT_VARIABLE),
+    (b"[[AC_INCLUDES_DEFAULT", keys::QUOTED_INCLUDES),
 ];
 
 /// Warns if a text is there, at its first place.
@@ -22,14 +23,14 @@ fn warn_of_text(
     alloc: Global,
     text: &[u8],
     sought: &[u8],
-    code: &[u8],
+    key: Key,
     out: &mut Vec<Finding>,
 ) -> Result<(), AllocError> {
     let Some(start) = text.find(sought) else {
         return Ok(());
     };
     let end = start.saturating_add(sought.len());
-    warn_by_code(alloc, out, text, Extent { start, end }, code)
+    warn_of_part(alloc, out, text, Extent { start, end }, key)
 }
 
 /// Adds the warnings about the text and the statements of a source: texts that may not mean what

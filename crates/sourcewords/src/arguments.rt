@@ -1,65 +1,51 @@
 //! What the arguments of a macro may be, for an argument that is not.
 
-/// A macro, what one of its arguments may not be, and what it may be.
-type Row = (&'static [u8], &'static [u8], &'static [u8]);
+use wordtable::{Key, Page, Part, keys};
 
-const SHELL_NAME: &[u8] = b"a name has letters, digits and `_`, and does not begin with a digit";
-
-const HEADERS: &[u8] =
-    b"name headers as in sys/stat.h, without < and >, and with blanks between them";
-
-const NAMES: &[u8] =
-    b"name functions with blanks between them, as in AC_CHECK_FUNCS([getline strdup])";
-
-const ENTRIES: &[u8] =
-    b"name them with commas between them; includes are lines of #include, and not `-`";
-
-const PATHS: &[u8] =
-    b"name files below the directory, each once, with blanks between them: no `..`, no `/` in front, no `$`";
-
-const OPTION: &[u8] = b"a feature or a package has letters, digits, `-`, `+`, `.` and `_`";
-
-const LIBRARIES: &[u8] = b"a library has letters, digits, `-`, `+`, `.` and `_`, as m of -lm";
-
-const PROGRAMS: &[u8] =
-    b"name programs without blanks, `$`, backslash and backquote; a variable can have a value with blanks";
+/// A macro, and what is said of an argument of it.
+type Row = (&'static [u8], Key);
 
 /// What is said of a bad argument, for each macro.
 #[rattlefmt::skip]
 const ROWS: [Row; 27] = [
-    (b"AC_SUBST", b"is no name of a variable, or no text on one line", SHELL_NAME),
-    (b"AC_ARG_VAR", b"is no name of a variable", SHELL_NAME),
-    (b"AC_DEFINE", b"is no name of a C macro, or no text on one line", SHELL_NAME),
-    (b"AC_DEFINE_UNQUOTED", b"is no name of a C macro, or no text on one line", SHELL_NAME),
-    (b"AC_CHECK_HEADER", b"is no header", HEADERS),
-    (b"AC_CHECK_HEADERS", b"is no list of headers", HEADERS),
-    (b"AC_CHECK_FUNC", b"is no function", NAMES),
-    (b"AC_CHECK_FUNCS", b"is no list of functions", NAMES),
-    (b"AC_CHECK_DECL", b"is no declaration", ENTRIES),
-    (b"AC_CHECK_DECLS", b"is no list of declarations", ENTRIES),
-    (b"AC_CHECK_TYPE", b"is no type", ENTRIES),
-    (b"AC_CHECK_TYPES", b"is no list of types", ENTRIES),
-    (b"AC_CONFIG_FILES", b"is no list of files", PATHS),
-    (b"AC_CONFIG_HEADERS", b"is no list of headers that are made", PATHS),
-    (b"AC_ARG_ENABLE", b"is no name of a feature", OPTION),
-    (b"AC_ARG_WITH", b"is no name of a package", OPTION),
-    (b"AC_CHECK_LIB", b"is no library or no function", LIBRARIES),
-    (b"AC_SEARCH_LIBS", b"is no list of libraries or no function", LIBRARIES),
-    (b"AC_CHECK_PROG", b"is no variable or no program", PROGRAMS),
-    (b"AC_CHECK_PROGS", b"is no variable or no list of programs", PROGRAMS),
-    (b"AC_PATH_PROG", b"is no variable or no program", PROGRAMS),
-    (b"AC_PROG_CC", b"is no list of compilers", PROGRAMS),
-    (b"AC_PREREQ", b"is no version of Autoconf", b"a version is one to three numbers with dots, as 2.69"),
-    (b"AC_MSG_ERROR", b"is no exit status", b"an exit status is a number from 1 to 255"),
-    (b"AC_LANG", b"is no language that is known", b"C is the only language"),
-    (b"AC_CACHE_CHECK", b"is no name of a cached value", b"write a shell name that has _cv_ in it, as my_cv_has_zlib"),
-    (b"AC_INIT", b"is no text on one line", b"the arguments of AC_INIT are texts as they are, each on one line"),
+    (b"AC_SUBST", keys::NO_VARIABLE_OR_TEXT),
+    (b"AC_ARG_VAR", keys::NO_VARIABLE),
+    (b"AC_DEFINE", keys::NO_SYMBOL_OR_TEXT),
+    (b"AC_DEFINE_UNQUOTED", keys::NO_SYMBOL_OR_TEXT),
+    (b"AC_CHECK_HEADER", keys::NO_HEADER),
+    (b"AC_CHECK_HEADERS", keys::NO_HEADERS),
+    (b"AC_CHECK_FUNC", keys::NO_FUNCTION),
+    (b"AC_CHECK_FUNCS", keys::NO_FUNCTIONS),
+    (b"AC_CHECK_DECL", keys::NO_DECLARATION),
+    (b"AC_CHECK_DECLS", keys::NO_DECLARATIONS),
+    (b"AC_CHECK_TYPE", keys::NO_TYPE),
+    (b"AC_CHECK_TYPES", keys::NO_TYPES),
+    (b"AC_CONFIG_FILES", keys::NO_FILES),
+    (b"AC_CONFIG_HEADERS", keys::NO_MADE_HEADERS),
+    (b"AC_ARG_ENABLE", keys::NO_FEATURE),
+    (b"AC_ARG_WITH", keys::NO_PACKAGE),
+    (b"AC_CHECK_LIB", keys::NO_LIBRARY),
+    (b"AC_SEARCH_LIBS", keys::NO_LIBRARIES),
+    (b"AC_CHECK_PROG", keys::NO_PROGRAM),
+    (b"AC_CHECK_PROGS", keys::NO_PROGRAMS),
+    (b"AC_PATH_PROG", keys::NO_PROGRAM),
+    (b"AC_PROG_CC", keys::NO_COMPILERS),
+    (b"AC_PREREQ", keys::NO_VERSION),
+    (b"AC_MSG_ERROR", keys::NO_EXIT_STATUS),
+    (b"AC_LANG", keys::NO_LANGUAGE),
+    (b"AC_CACHE_CHECK", keys::NO_CACHED_VALUE),
+    (b"AC_INIT", keys::NO_TEXT),
 ];
 
-/// Returns what is said of a bad argument of the macro: what it is not, and what it may be.
-pub(crate) fn argument_words(name: &[u8]) -> (&'static [u8], &'static [u8]) {
+/// Returns what is said of a bad argument of the macro.
+fn key_of(name: &[u8]) -> Key {
     match ROWS.iter().find(|row| row.0 == name) {
-        Some(row) => (row.1, row.2),
-        None => (b"is not what the argument may be", b""),
+        Some(row) => row.1,
+        None => keys::BAD_ARGUMENT,
     }
+}
+
+/// Writes what a bad argument of the macro is not, and what it may be.
+pub(crate) fn put_bad_argument(page: &mut Page, argument: &[u8], name: &[u8]) {
+    page.put(key_of(name), &[Part::Quoted(argument), Part::AsItIs(name)]);
 }

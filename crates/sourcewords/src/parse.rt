@@ -3,23 +3,24 @@
 ghost use Rattle.std.specs.Prelude.{◌≡◌, ◌≤◌, length, IfOk};
 ghost use Rattle.findings.specs.declared.finding.Severity.TheVariants.{Error};
 
-use crate::arguments::argument_words;
+use crate::arguments::put_bad_argument;
 use crate::calls::{arguments_at, before_close, call_around, last_name, unquoted};
 use acmacros::Row;
 use acmacros::table::{row_named, rows};
 use acstatement::ParseFault;
 use bstr::ByteSlice;
 use deftable::Bytes;
-use faultwords::Page;
+use faultwords::near_name;
 use findings::Finding;
 use m4quote::QuoteFault;
-use shellfaults::{Construct, shell_help, test_help, word_help};
+use shellfaults::{shell_help, test_help, word_help};
 use shellword::ShellFault;
 use sourcecalls::{CallAt, Extent};
 use std::alloc::{AllocError, Global};
 use textpieces::{
     after_blanks, before, first_line, first_name, first_word, from, part, without_end_blanks,
 };
+use wordtable::{Key, Page, Part, keys};
 
 /// The text around a fault, and the calls of the source.
 #[derive(Clone, Copy)]
@@ -82,78 +83,43 @@ impl<'a> Around<'a> {
     }
 }
 
-/// Writes what a construct of the shell is.
-fn put_construct(page: &mut Page, found: Construct) {
-    let mut between = b"".as_slice();
-    for piece in found.what.split(|byte| *byte == b'%') {
-        page.say(between);
-        page.say(piece);
-        between = found.key;
-    }
-    page.advise(found.help);
-}
-
-/// What is wrong, and what to do.
-type Words = (&'static [u8], &'static [u8]);
-
-/// Writes what is wrong, and what to do.
-fn put_words(page: &mut Page, words: Words) {
-    page.say(words.0);
-    page.advise(words.1);
-}
-
-/// Returns the words of an error of quotes. They have no text of the source.
-#[rattlefmt::skip]
-fn quote_words(fault: QuoteFault) -> Words {
+/// Returns what is said of an error of quotes that names no text of the source.
+fn quote_key(fault: QuoteFault) -> Key {
     match fault {
-        QuoteFault::UnclosedQuote(_) =>
-            (b"a quote is open at the end of the file: this `[` has no `]`", b"close the argument before the parenthesis or the comma that ends it"),
-        QuoteFault::StrayClose(_) =>
-            (b"a `]` closes no quote", b"remove it, or open a quote before it; within an argument write [[ and ]] for brackets that stay"),
-        QuoteFault::Nul(_) => (b"there is a NUL byte", b"a source is text: save it as UTF-8"),
-        QuoteFault::TooLarge => (b"the file has more than 1,048,576 bytes", b"no larger source is read"),
-        _ => (b"more than 64 brackets and parentheses are open at once", b"one of them may be closed nowhere: no call nests so deep"),
+        QuoteFault::UnclosedQuote(_) => keys::UNCLOSED_QUOTE,
+        QuoteFault::StrayClose(_) => keys::STRAY_CLOSE,
+        QuoteFault::Nul(_) => keys::NUL_BYTE,
+        QuoteFault::TooLarge => keys::SOURCE_TOO_LARGE,
+        _ => keys::TOO_MANY_BRACKETS,
     }
 }
 
 fn put_quote(page: &mut Page, around: Around<'_>, fault: QuoteFault) {
     match fault {
         QuoteFault::UnclosedParen(_) => {
-            page.say(b"a call is open at the end of the file: the parenthesis of ");
-            page.say_text(last_name(before(around.text, around.at)));
-            page.say(b" is not closed");
-            page.advise(b"close it after the last argument");
+            let name = last_name(before(around.text, around.at));
+            page.put(keys::UNCLOSED_CALL, &[Part::Quoted(name)])
         }
-        other => put_words(page, quote_words(other)),
+        other => page.put(quote_key(other), &[]),
     }
 }
-
-/// What is said of a macro that no table has.
-const UNLISTED: &[u8] =
-    b"no table of acrun has it: if the package defines it (aclocal.m4, acinclude.m4, m4/), write here what its definition does";
-
-/// What is said of a name that may be that of a macro of the package.
-const OWN: &[u8] =
-    b"if the package defines it (aclocal.m4, acinclude.m4, m4/), write here what its definition does";
 
 /// Writes the macro that has the nearest name, or else other help.
 fn put_near_macro(
     alloc: Global,
     page: &mut Page,
     name: &[u8],
-    otherwise: &[u8],
+    otherwise: Key,
 ) -> Result<(), AllocError> {
     let mut names = Vec::new(alloc);
     for row in rows() {
         names.push(row.0)?;
     }
-    page.advise_near(
-        alloc,
-        name,
-        names.as_slice(),
-        b"a macro of a similar name is ",
-        otherwise,
-    )
+    match near_name(alloc, name, names.as_slice())? {
+        Some(near) => page.put(keys::NEAR_MACRO, &[Part::AsItIs(near)]),
+        None => page.put(otherwise, &[]),
+    }
+    Ok(())
 }
 
 /// The macros that Autoconf replaces by what AC_INIT says. A variable has each without its `AC_`.
@@ -168,21 +134,18 @@ const PACKAGE: [&[u8]; 6] = [
 
 /// Writes that a macro isn't known, and the nearest one.
 fn put_unknown(alloc: Global, page: &mut Page, name: &[u8]) -> Result<(), AllocError> {
-    page.say(b"acrun does not know the macro ");
-    page.say(name);
+    page.put(keys::UNKNOWN_MACRO, &[Part::AsItIs(name)]);
     if PACKAGE.iter().any(|other| *other == name) {
-        page.advise(b"write $");
-        page.advise(from(name, 3));
+        page.put(keys::WRITE_VARIABLE, &[Part::AsItIs(from(name, 3))]);
         return Ok(());
     }
-    put_near_macro(alloc, page, name, UNLISTED)
+    put_near_macro(alloc, page, name, keys::UNLISTED_MACRO)
 }
 
 /// Writes that a name is no macro, and the nearest one.
 fn put_no_macro(alloc: Global, page: &mut Page, name: &[u8]) -> Result<(), AllocError> {
-    page.say_text(name);
-    page.say(b" is no macro that acrun knows, and no command is run");
-    put_near_macro(alloc, page, name, OWN)
+    page.put(keys::NO_MACRO, &[Part::Quoted(name)]);
+    put_near_macro(alloc, page, name, keys::OWN_MACRO)
 }
 
 /// Returns whether a statement is a name alone that looks like that of a macro, such as `CF_PROG_CC`.
@@ -201,19 +164,12 @@ fn has_blank_after_equals(text: &[u8]) -> bool {
     text.starts_with(b"= ") || text.starts_with(b"=\t")
 }
 
-/// Writes that a call is no statement because of what is beside it.
-fn put_not_alone(page: &mut Page, name: &[u8]) {
-    page.say(name);
-    page.say(b" has other text beside it on its line");
-    page.advise(b"a call begins and ends its line: put it on a line of its own");
-}
-
 /// Writes what is wrong with text that is no statement, and that has no construct by which to say it.
 fn put_plain_text(alloc: Global, page: &mut Page, around: Around<'_>) -> Result<(), AllocError> {
     let rest = around.rest();
     let name = first_name(rest);
     if row_named(name).is_some() {
-        put_not_alone(page, name);
+        page.put(keys::TEXT_BESIDE_CALL, &[Part::AsItIs(name)]);
         return Ok(());
     }
     let is_called = !name.is_empty() && from(rest, name.len()).starts_with(b"(");
@@ -221,15 +177,10 @@ fn put_plain_text(alloc: Global, page: &mut Page, around: Around<'_>) -> Result<
         return put_no_macro(alloc, page, name);
     }
     if has_blank_after_equals(from(rest, name.len())) {
-        page.say(b"there is a blank after the `=` of an assignment");
-        page.advise(b"write NAME=VALUE without blanks, and a value with blanks in quotes");
-        return Ok(());
+        page.put(keys::BLANK_AFTER_EQUALS, &[]);
+    } else {
+        page.put(keys::NO_STATEMENT, &[Part::Quoted(first_word(rest))]);
     }
-    page.say_text(first_word(rest));
-    page.say(b" is no statement that acrun reads");
-    page.advise(
-        b"text between calls is assignments NAME=VALUE, and calls are on lines of their own; no command is run",
-    );
     Ok(())
 }
 
@@ -242,23 +193,17 @@ fn is_argument_macro(name: &[u8]) -> bool {
 
 /// Writes what is wrong with an argument that is to hold statements, help or a program.
 fn put_no_statements(page: &mut Page, around: Around<'_>) {
-    page.say(b"the argument ");
-    page.say_text(around.argument());
-    page.say(b" of ");
-    page.say(around.call());
-    page.say(b" is not read");
+    let argument = Part::Quoted(around.argument());
+    page.put(
+        keys::UNREAD_ARGUMENT,
+        &[argument, Part::AsItIs(around.call())],
+    );
     if around.is_program() {
-        page.advise(
-            b"a program is AC_LANG_PROGRAM([includes], [statements]) or AC_LANG_SOURCE([text])",
-        );
+        page.put(keys::PROGRAM_ARGUMENT, &[]);
     } else if !around.written().contains(&b'[') {
-        page.advise(
-            b"an action is assignments NAME=VALUE and calls, and no command is run; a list has blanks between its entries",
-        );
+        page.put(keys::BARE_ARGUMENT, &[]);
     } else {
-        page.advise(
-            b"put the whole argument in one pair of brackets; a list has blanks between its entries",
-        );
+        page.put(keys::BRACKETED_ARGUMENT, &[]);
     }
 }
 
@@ -266,7 +211,7 @@ fn put_no_statements(page: &mut Page, around: Around<'_>) {
 fn put_statement(alloc: Global, page: &mut Page, around: Around<'_>) -> Result<(), AllocError> {
     let rest = around.rest();
     if let Some(found) = shell_help(unquoted_front(rest)) {
-        put_construct(page, found);
+        found.put(page);
         return Ok(());
     }
     if around.is_argument() {
@@ -274,11 +219,7 @@ fn put_statement(alloc: Global, page: &mut Page, around: Around<'_>) -> Result<(
         return Ok(());
     }
     if is_argument_macro(around.name()) {
-        page.say(around.name());
-        page.say(b" is no statement by itself");
-        page.advise(
-            b"AS_HELP_STRING is an argument of AC_ARG_ENABLE and AC_ARG_WITH, and AC_LANG_PROGRAM and AC_LANG_SOURCE are arguments of AC_COMPILE_IFELSE and its like",
-        );
+        page.put(keys::ARGUMENT_MACRO, &[Part::AsItIs(around.name())]);
         return Ok(());
     }
     put_plain_text(alloc, page, around)
@@ -294,67 +235,58 @@ fn unquoted_front(text: &[u8]) -> &[u8] {
 
 /// Writes how many arguments a macro takes, and how many there are.
 fn put_counts(page: &mut Page, name: &[u8], row: Row, count: usize) {
-    page.say(name);
-    page.say(b" takes ");
-    page.say_number(row.least);
+    let name = Part::AsItIs(name);
+    let least = Part::Number(row.least);
     if row.most > 1000 {
-        page.say(b" or more");
-    } else if row.most > row.least {
-        page.say(b" to ");
-        page.say_number(row.most);
-    }
-    page.say(if row.most == 1 {
-        b" argument, and has ".as_slice()
+        page.put(keys::TAKES_MORE, &[name, least]);
+    } else if row.most > 1 && row.most > row.least {
+        page.put(keys::TAKES_RANGE, &[name, least, Part::Number(row.most)]);
+    } else if row.most > 1 {
+        page.put(keys::TAKES_SOME, &[name, least]);
+    } else if row.least < 1 {
+        page.put(keys::TAKES_AT_MOST_ONE, &[name, least]);
     } else {
-        b" arguments, and has ".as_slice()
-    });
-    page.say_number(count);
+        page.put(keys::TAKES_ONE, &[name]);
+    }
+    page.put(keys::HAS_ARGUMENTS, &[Part::Number(count)]);
 }
 
 /// Returns what to do about arguments of a macro that Autoconf takes, and acrun does not.
-fn surplus_help(name: &[u8]) -> Option<&'static [u8]> {
+fn surplus_key(name: &[u8]) -> Option<Key> {
     if name == b"AC_CHECK_PROG".as_slice()
         || name == b"AC_CHECK_PROGS".as_slice()
         || name == b"AC_PATH_PROG".as_slice()
     {
-        return Some(b"programs are looked for along PATH alone: leave the last argument out");
+        return Some(keys::SURPLUS_DIRECTORIES);
     }
     if name == b"AC_CONFIG_FILES".as_slice() || name == b"AC_CONFIG_HEADERS".as_slice() {
-        return Some(
-            b"files have blanks between them, and no commands are run for them: leave the other arguments out",
-        );
+        return Some(keys::SURPLUS_COMMANDS);
     }
     None
 }
 
 /// Writes what to do about too few arguments.
-fn advise_more(page: &mut Page, name: &[u8], args: &[&[u8]]) {
-    if name == b"AC_INIT".as_slice() {
-        page.advise(
-            b"the package's name and version are missing: write AC_INIT([package], [version])",
-        );
-        if let [file, ..] = args {
-            page.advise(b" and then AC_CONFIG_SRCDIR([");
-            page.advise(unquoted(without_end_blanks(file)));
-            page.advise(b"])");
+fn put_fewer(page: &mut Page, name: &[u8], args: &[&[u8]]) {
+    let is_init = name == b"AC_INIT".as_slice();
+    match args.first() {
+        Some(file) if is_init => {
+            let file = unquoted(without_end_blanks(file));
+            page.put(keys::MISSING_VERSION_OF, &[Part::AsItIs(file)])
         }
-    } else if args.is_empty() {
-        page.advise(b"docs/language.md has its arguments");
-    } else {
-        page.advise(b"an argument is missing: docs/language.md has them");
+        Some(_) => page.put(keys::MISSING_ARGUMENT, &[]),
+        None if is_init => page.put(keys::MISSING_VERSION, &[]),
+        None => page.put(keys::SEE_ARGUMENTS, &[]),
     }
 }
 
 /// Writes what to do about too many arguments.
-fn advise_fewer(page: &mut Page, name: &[u8], args: &[&[u8]]) {
-    if let Some(help) = surplus_help(name) {
-        page.advise(help);
+fn put_more(page: &mut Page, name: &[u8], args: &[&[u8]]) {
+    if let Some(key) = surplus_key(name) {
+        page.put(key, &[]);
     } else if args.iter().all(|arg| arg.starts_with(b"[")) {
-        page.advise(b"leave the last argument out: docs/language.md has those that are read");
+        page.put(keys::SURPLUS_ARGUMENT, &[]);
     } else {
-        page.advise(
-            b"a comma ends an argument that is not in brackets: put each argument in [ and ]",
-        );
+        page.put(keys::COMMA_IN_ARGUMENT, &[]);
     }
 }
 
@@ -363,8 +295,7 @@ fn put_count(alloc: Global, page: &mut Page, around: Around<'_>) -> Result<(), A
     let name = around.name();
     let rest = from(around.rest(), name.len());
     if name == b"AC_OUTPUT".as_slice() {
-        page.say(b"AC_OUTPUT takes no argument");
-        page.advise(b"write instead\nAC_CONFIG_FILES([Makefile])\nAC_OUTPUT");
+        page.put(keys::OUTPUT_ARGUMENT, &[]);
         return Ok(());
     }
     let args = arguments_at(alloc, around.text, around.calls, around.at)?;
@@ -373,140 +304,101 @@ fn put_count(alloc: Global, page: &mut Page, around: Around<'_>) -> Result<(), A
     };
     put_counts(page, name, row, args.len());
     if after_blanks(rest).starts_with(b"(") && !rest.starts_with(b"(") {
-        page.advise(b"no blank may be between the name and its parenthesis");
+        page.put(keys::BLANK_BEFORE_PARENTHESIS, &[]);
     } else if args.len() < row.least {
-        advise_more(page, name, args.as_slice());
+        put_fewer(page, name, args.as_slice());
     } else {
-        advise_fewer(page, name, args.as_slice());
+        put_more(page, name, args.as_slice());
     }
     Ok(())
 }
 
-/// Writes what is wrong with an argument that is no name, list or number.
-fn put_bad_name(page: &mut Page, around: Around<'_>) {
-    let (what, help) = argument_words(around.call());
-    page.say_text(first_line(around.argument()));
-    page.say(b" ");
-    page.say(what);
-    page.say(b" in ");
-    page.say(around.call());
-    page.advise(help);
+/// Writes what is wrong with a word that is an argument.
+fn put_argument_word(page: &mut Page, argument: &[u8]) {
+    match word_help(argument) {
+        Some(found) => found.put(page),
+        None => page.put(keys::NO_WORD, &[Part::Quoted(argument)]),
+    }
+}
+
+/// Writes what is wrong with a value that is assigned.
+fn put_value(page: &mut Page, rest: &[u8]) {
+    match shell_help(rest) {
+        Some(found) => found.put(page),
+        None => page.put(keys::NO_VALUE, &[]),
+    }
 }
 
 /// Writes what is wrong with a word, or with text that has variables.
 fn put_word(page: &mut Page, around: Around<'_>) {
     if around.is_argument() {
-        match word_help(around.argument()) {
-            Some(found) => put_construct(page, found),
-            None => {
-                page.say_text(around.argument());
-                page.say(b" is no shell word that is read");
-                page.advise(
-                    b"a word with blanks is in quotes, and variables are $name and ${name}",
-                );
-            }
-        }
+        put_argument_word(page, around.argument());
     } else {
-        match shell_help(around.rest()) {
-            Some(found) => put_construct(page, found),
-            None => {
-                page.say(b"the value of this assignment is not read");
-                page.advise(b"a value is a shell word: text, quotes, $name and ${name}");
-            }
-        }
+        put_value(page, around.rest());
     }
 }
 
 /// Writes what is wrong with a test.
-fn put_test(page: &mut Page, around: Around<'_>) {
-    let argument = around.argument();
-    match test_help(argument) {
-        Some(found) => put_construct(page, found),
-        None => {
-            page.say_text(first_line(argument));
-            page.say(b" is no test that is read");
-            page.advise(
-                b"a test is made of test -n, test -z, test A = B, test A != B, `:`, true, false, !, && and ||; no other command is run",
-            );
-        }
+fn put_test(page: &mut Page, test: &[u8]) {
+    match test_help(test) {
+        Some(found) => found.put(page),
+        None => page.put(keys::NO_TEST, &[Part::Quoted(first_line(test))]),
     }
-}
-
-/// Writes what is wrong with a list of patterns.
-fn put_pattern(page: &mut Page, around: Around<'_>) {
-    page.say_text(first_line(around.argument()));
-    page.say(b" is no list of patterns that is read");
-    page.advise(
-        b"patterns have * and ?, are joined by |, and have no variables and no bracket expressions; quote what is meant as it is",
-    );
 }
 
 fn put_shell(page: &mut Page, around: Around<'_>, fault: ShellFault) {
     match fault {
-        ShellFault::BadTest(_) => put_test(page, around),
-        ShellFault::BadPattern(_) => put_pattern(page, around),
+        ShellFault::BadTest(_) => put_test(page, around.argument()),
+        ShellFault::BadPattern(_) => {
+            page.put(
+                keys::NO_PATTERN,
+                &[Part::Quoted(first_line(around.argument()))],
+            )
+        }
         _ => put_word(page, around),
     }
 }
 
 fn put_not_at_top(page: &mut Page, around: Around<'_>) {
+    let name = Part::AsItIs(around.name());
     if around.call().is_empty() {
-        page.say(around.name());
-        page.say(b" is called a second time");
-        page.advise(b"remove this call");
+        page.put(keys::SECOND_CALL, &[name]);
     } else {
-        page.say(around.name());
-        page.say(b" is not allowed within ");
-        page.say(around.call());
-        page.advise(b"move it to the top of the file: what it says holds for the whole package");
+        page.put(keys::NOT_AT_TOP, &[name, Part::AsItIs(around.call())]);
     }
 }
 
-/// Writes why there is no AC_INIT where one has to be.
-fn put_no_init(page: &mut Page, text: &[u8]) {
+/// Returns why there is no AC_INIT where one has to be.
+fn no_init_key(text: &[u8]) -> Key {
     if text.starts_with(b"\xef\xbb\xbf") {
-        page.say(b"the file begins with a byte order mark");
-        page.advise(
-            b"remove its first three bytes\ntail -c +4 configure.ac > configure.new && mv configure.new configure.ac",
-        );
+        keys::BYTE_ORDER_MARK
     } else if text.trim_end().is_empty() {
-        page.say(b"the file is empty");
-        page.advise(b"a source begins with AC_INIT([package], [version]) and ends with AC_OUTPUT");
+        keys::EMPTY_FILE
     } else if text.contains_str(b"AC_INIT") {
-        page.say(b"something is before AC_INIT");
-        page.advise(
-            b"only AC_PREREQ, blanks and comments may be there: move AC_INIT to the top of the file",
-        );
+        keys::TEXT_BEFORE_INIT
     } else {
-        page.say(b"there is no AC_INIT");
-        page.advise(b"begin with AC_INIT([package], [version])");
+        keys::NO_INIT
     }
 }
 
-fn put_after_output(page: &mut Page, around: Around<'_>) {
-    let rest = around.rest();
-    let word = if rest.starts_with(b";") {
-        before(rest, 1)
+/// Returns the first word of a text, or the `;` that it begins with.
+fn word_or_semicolon(text: &[u8]) -> &[u8] {
+    if text.starts_with(b";") {
+        before(text, 1)
     } else {
-        first_word(rest)
-    };
-    page.say_text(word);
-    page.say(b" is after AC_OUTPUT");
-    page.advise(b"only blanks and comments may be there: move it before AC_OUTPUT");
+        first_word(text)
+    }
 }
 
-/// Returns the words of a fault that have no text of the source.
-#[rattlefmt::skip]
-fn fixed_words(fault: ParseFault) -> Words {
+/// Returns what is said of a fault that names no text of the source.
+fn fixed_key(fault: ParseFault) -> Key {
     match fault {
-        ParseFault::NoOutput => (b"there is no AC_OUTPUT", b"end the file with a line AC_OUTPUT"),
-        ParseFault::CacheBody(_) =>
-            (b"the commands of AC_CACHE_CHECK may set their own name alone", b"set the name of the second argument here, and do the rest after the check, by AS_IF"),
-        ParseFault::TooDeep(_) => (b"statements nest more than 32 deep", b"set a variable in the inner statements, and test it after them"),
-        ParseFault::TooMany(_) =>
-            (b"there are too many entries", b"at most 1,024 files, headers, output variables, features and packages, and 256 entries of one list"),
-        ParseFault::NewerVersion(_) => (b"a version of Autoconf after 2.71 is required", b"acrun follows 2.71: write AC_PREREQ([2.71])"),
-        _ => (b"memory ran out", b""),
+        ParseFault::NoOutput => keys::NO_OUTPUT,
+        ParseFault::CacheBody(_) => keys::CACHE_BODY,
+        ParseFault::TooDeep(_) => keys::TOO_DEEP,
+        ParseFault::TooMany(_) => keys::TOO_MANY,
+        ParseFault::NewerVersion(_) => keys::NEWER_VERSION,
+        _ => keys::NO_MEMORY,
     }
 }
 
@@ -514,9 +406,12 @@ fn fixed_words(fault: ParseFault) -> Words {
 fn put_rest(page: &mut Page, around: Around<'_>, fault: ParseFault) {
     match fault {
         ParseFault::NotAtTop(_) => put_not_at_top(page, around),
-        ParseFault::NoInit => put_no_init(page, around.text),
-        ParseFault::AfterOutput(_) => put_after_output(page, around),
-        other => put_words(page, fixed_words(other)),
+        ParseFault::NoInit => page.put(no_init_key(around.text), &[]),
+        ParseFault::AfterOutput(_) => {
+            let word = word_or_semicolon(around.rest());
+            page.put(keys::TEXT_AFTER_OUTPUT, &[Part::Quoted(word)])
+        }
+        other => page.put(fixed_key(other), &[]),
     }
 }
 
@@ -532,7 +427,9 @@ fn put_fault(
         ParseFault::UnknownMacro(_) => return put_unknown(alloc, page, around.name()),
         ParseFault::UnknownStatement(_) => return put_statement(alloc, page, around),
         ParseFault::ArgCount(_) => return put_count(alloc, page, around),
-        ParseFault::BadName(_) => put_bad_name(page, around),
+        ParseFault::BadName(_) => {
+            put_bad_argument(page, first_line(around.argument()), around.call())
+        }
         ParseFault::Shell(fault, _) => put_shell(page, around, fault),
         other => put_rest(page, around, other),
     }
@@ -602,11 +499,8 @@ pub fn too_long_finding(alloc: Global) -> Result<Finding, AllocError>
     ensures end { IfOk result (λ finding. finding.end ≡ 0) }
     ensures severity { IfOk result (λ finding. finding.severity ≡ Error) }
 {
-    let code = Bytes::from_slice(alloc, b"plan-1")?;
+    let code = Bytes::from_slice(alloc, keys::PLAN_1.name())?;
     let mut page = Page::new(alloc);
-    page.say(b"the source weighs more than 65,535 statements");
-    page.advise(
-        b"each statement counts, in cases too, and the cases of a list once for each of its entries: make lists shorter",
-    );
+    page.put(keys::PLAN_1, &[]);
     page.finding(code, 0, 0)
 }

@@ -1,28 +1,30 @@
 //! What is said of names that Autoconf gives templates, and acrun doesn't.
 
+use wordtable::{Key, keys};
+
 /// Output variables that Autoconf sets by itself or by a macro that acrun doesn't know, each with what to write.
 #[rattlefmt::skip]
-const VARIABLES: [(&[u8], &[u8]); 20] = [
-    (b"SHELL", b"write in configure.ac\n  AC_SUBST([SHELL], [/bin/sh])"),
-    (b"DEFS", b"there is no config header; write the definitions into a header of AC_CONFIG_HEADERS, or build DEFS by hand with AC_SUBST"),
-    (b"SET_MAKE", b"leave it out: each make sets MAKE"),
-    (b"INSTALL", b"write in configure.ac\n  AC_SUBST([INSTALL], [\"install -c\"])"),
-    (b"INSTALL_PROGRAM", b"write in configure.ac\n  AC_SUBST([INSTALL_PROGRAM], [\"install -c\"])"),
-    (b"INSTALL_SCRIPT", b"write in configure.ac\n  AC_SUBST([INSTALL_SCRIPT], [\"install -c\"])"),
-    (b"INSTALL_DATA", b"write in configure.ac\n  AC_SUBST([INSTALL_DATA], [\"install -c -m 644\"])"),
-    (b"MKDIR_P", b"write in configure.ac\n  AC_SUBST([MKDIR_P], [\"mkdir -p\"])"),
-    (b"LN_S", b"write in configure.ac\n  AC_SUBST([LN_S], [\"ln -s\"])"),
-    (b"RANLIB", b"write in configure.ac\n  AC_CHECK_PROGS([RANLIB], [ranlib], [:])"),
-    (b"AR", b"write in configure.ac\n  AC_CHECK_PROGS([AR], [ar])"),
-    (b"AWK", b"write in configure.ac\n  AC_CHECK_PROGS([AWK], [gawk mawk nawk awk])"),
-    (b"CPP", b"write in configure.ac\n  AC_SUBST([CPP], [\"$CC -E\"])"),
-    (b"EXEEXT", b"it is empty on this system; write in configure.ac\n  AC_SUBST([EXEEXT], [])"),
-    (b"OBJEXT", b"write in configure.ac\n  AC_SUBST([OBJEXT], [o])"),
-    (b"LIBOBJS", b"write in configure.ac\n  AC_SUBST([LIBOBJS])"),
-    (b"program_transform_name", b"acrun renames no programs; write in configure.ac\n  AC_SUBST([program_transform_name], [s,x,x,])"),
-    (b"abs_srcdir", b"use @srcdir@, or `cd` and `pwd` in the rule"),
-    (b"abs_top_srcdir", b"use @top_srcdir@, or `cd` and `pwd` in the rule"),
-    (b"abs_top_builddir", b"use @top_builddir@, or `cd` and `pwd` in the rule"),
+const VARIABLES: [(&[u8], Key); 20] = [
+    (b"SHELL", keys::SET_SHELL),
+    (b"DEFS", keys::SET_DEFS),
+    (b"SET_MAKE", keys::SET_MAKE),
+    (b"INSTALL", keys::SET_INSTALL),
+    (b"INSTALL_PROGRAM", keys::SET_INSTALL_PROGRAM),
+    (b"INSTALL_SCRIPT", keys::SET_INSTALL_SCRIPT),
+    (b"INSTALL_DATA", keys::SET_INSTALL_DATA),
+    (b"MKDIR_P", keys::SET_MKDIR_P),
+    (b"LN_S", keys::SET_LN_S),
+    (b"RANLIB", keys::SET_RANLIB),
+    (b"AR", keys::SET_AR),
+    (b"AWK", keys::SET_AWK),
+    (b"CPP", keys::SET_CPP),
+    (b"EXEEXT", keys::SET_EXEEXT),
+    (b"OBJEXT", keys::SET_OBJEXT),
+    (b"LIBOBJS", keys::SET_LIBOBJS),
+    (b"program_transform_name", keys::SET_TRANSFORM_NAME),
+    (b"abs_srcdir", keys::SET_ABS_SRCDIR),
+    (b"abs_top_srcdir", keys::SET_ABS_TOP_SRCDIR),
+    (b"abs_top_builddir", keys::SET_ABS_TOP_BUILDDIR),
 ];
 
 /// The definitions that Autoconf makes of its default includes, each with its header.
@@ -35,30 +37,33 @@ const DEFAULTS: [(&[u8], &[u8]); 9] = [
 
 /// Other definitions that the templates of many packages have, each with what makes it.
 #[rattlefmt::skip]
-const DEFINITIONS: [(&[u8], &[u8]); 2] = [
-    (b"HAVE_DLFCN_H", b"libtool checks it; write\n  AC_CHECK_HEADERS([dlfcn.h])"),
-    (b"STDC_HEADERS", b"every compiler of this century has them; write\n  AC_DEFINE([STDC_HEADERS], [1])"),
+const DEFINITIONS: [(&[u8], Key); 2] = [
+    (b"HAVE_DLFCN_H", keys::DEFINE_DLFCN_H),
+    (b"STDC_HEADERS", keys::DEFINE_STDC_HEADERS),
 ];
 
-/// Returns the text of the first row with this name, or an empty text.
-fn text_in(rows: &[(&'static [u8], &'static [u8])], name: &[u8]) -> &'static [u8] {
+/// Returns the key of the first row with this name.
+fn key_in(rows: &[(&'static [u8], Key)], name: &[u8]) -> Option<Key> {
     match rows.iter().find(|row| row.0 == name) {
-        Some(row) => row.1,
-        None => b"",
+        Some(row) => Some(row.1),
+        None => None,
     }
 }
 
-/// Returns what to write for an output variable that the source doesn't name, or an empty text.
-pub(crate) fn variable_advice(name: &[u8]) -> &'static [u8] {
-    text_in(&VARIABLES, name)
+/// Returns what to write for an output variable that the source doesn't name, if that is known.
+pub(crate) fn variable_advice(name: &[u8]) -> Option<Key> {
+    key_in(&VARIABLES, name)
 }
 
-/// Returns what to write for a definition that the source doesn't make, or an empty text.
-pub(crate) fn definition_advice(name: &[u8]) -> &'static [u8] {
-    text_in(&DEFINITIONS, name)
+/// Returns what to write for a definition that the source doesn't make, if that is known.
+pub(crate) fn definition_advice(name: &[u8]) -> Option<Key> {
+    key_in(&DEFINITIONS, name)
 }
 
 /// Returns the header of a definition that Autoconf makes of its default includes. That of another one is empty.
 pub(crate) fn default_header(name: &[u8]) -> &'static [u8] {
-    text_in(&DEFAULTS, name)
+    match DEFAULTS.iter().find(|row| row.0 == name) {
+        Some(row) => row.1,
+        None => b"",
+    }
 }

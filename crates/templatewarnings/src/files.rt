@@ -5,24 +5,18 @@ ghost use Rattle.findings.specs.Within.{KeepsWithin};
 
 use crate::advice::variable_advice;
 use crate::given::Given;
-use crate::messages::{Form, Words, warn_at, warn_of_name};
+use crate::messages::{Form, warn_at, warn_of_name};
 use bstr::ByteSlice;
 use deftable::{SubstList, is_shell_name};
 use findings::{Finding, Span};
 use std::alloc::{AllocError, Global};
+use wordtable::keys;
 
 /// The variables whose usual values name `datarootdir`.
 #[rattlefmt::skip]
 const BELOW_DATAROOTDIR: [&[u8]; 9] = [
     b"@mandir@", b"@datadir@", b"@localedir@", b"@docdir@", b"@infodir@", b"@htmldir@", b"@dvidir@", b"@pdfdir@", b"@psdir@",
 ];
-
-/// How it is said that a name between two `@` is no output variable.
-const FORM: Form = Form {
-    code: b"unset-variable",
-    message: (b"no statement sets @", b"@, so it stays as it is"),
-    question: (b"did you mean @", b"@?"),
-};
 
 /// Warns of the name between two `@`, the first time that it occurs.
 fn warn_once(
@@ -41,7 +35,8 @@ fn warn_once(
     }
     seen.add(name)?;
     let advice = variable_advice(name);
-    warn_of_name(alloc, out, text, span, FORM, name, advice, &given.variables)
+    let form = Form::Variable;
+    warn_of_name(alloc, out, text, span, form, name, advice, &given.variables)
 }
 
 /// Warns of each name between two `@` that is no output variable, once.
@@ -82,13 +77,6 @@ fn first_of(text: &[u8], texts: &[&[u8]]) -> Option<(usize, usize)> {
     None
 }
 
-/// What is said of a directory below `datarootdir`.
-const DIRECTORY: Words<'static> = (
-    b"no-datarootdir",
-    b"its value begins with ${datarootdir}, which this template does not set: files would go to /man, /doc and the like",
-    b"add the line\n  datarootdir = @datarootdir@",
-);
-
 /// Returns the offset of a directory below `datarootdir` with its length, if nothing sets that.
 fn directory_in(text: &[u8]) -> Option<(usize, usize)> {
     if text.contains_str(b"datarootdir") {
@@ -96,20 +84,6 @@ fn directory_in(text: &[u8]) -> Option<(usize, usize)> {
     }
     first_of(text, &BELOW_DATAROOTDIR)
 }
-
-/// What is said of a rule that runs `config.status`.
-const SCRIPT: Words<'static> = (
-    b"config-status-script",
-    b"config.status is a record here, and no script that can be run",
-    b"write `acrun status NAME` in the rule, and `acrun status --recheck` for `./config.status --recheck`",
-);
-
-/// What is said of a last line that has no newline.
-const OPEN_LINE: Words<'static> = (
-    b"no-newline-at-end",
-    b"the last line has no newline, and so has that of the file that is made; Autoconf adds one",
-    b"add a newline at the end of the template",
-);
 
 /// Returns the end of a text whose last line has no newline.
 fn open_end(text: &[u8]) -> Option<(usize, usize)> {
@@ -136,9 +110,23 @@ pub fn warn_of_file(
     ensures within { OnOk result (KeepsWithin file text.now out.old.items out.new.items) }
 {
     warn_of_names(alloc, given, file, text, out)?;
-    warn_at(alloc, out, text, file, directory_in(text), DIRECTORY)?;
+    warn_at(
+        alloc,
+        out,
+        text,
+        file,
+        directory_in(text),
+        keys::NO_DATAROOTDIR,
+    )?;
     let script = first_of(text, &[b"./config.status"]);
-    warn_at(alloc, out, text, file, script, SCRIPT)?;
-    warn_at(alloc, out, text, file, open_end(text), OPEN_LINE)?;
+    warn_at(alloc, out, text, file, script, keys::CONFIG_STATUS_SCRIPT)?;
+    warn_at(
+        alloc,
+        out,
+        text,
+        file,
+        open_end(text),
+        keys::NO_NEWLINE_AT_END,
+    )?;
     Ok(())
 }

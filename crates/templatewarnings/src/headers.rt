@@ -5,12 +5,13 @@ ghost use Rattle.findings.specs.Within.{KeepsWithin};
 
 use crate::advice::{default_header, definition_advice};
 use crate::given::{Given, add_name};
-use crate::messages::{Form, joined, warn_at, warn_of_name};
+use crate::messages::{Form, warn_of_name};
 use bstr::ByteSlice;
 use deftable::{SubstList, is_shell_name};
-use findings::{Finding, Span, warn};
+use findings::{Finding, Span};
 use std::alloc::{AllocError, Global};
 use textpieces::{after_blanks, first_name};
+use wordtable::{Page, Part, keys, warn_by_key};
 
 /// Returns the identifier of a line with `#undef`, or with `#define` if that is asked for too, with its offset in the line.
 fn named(line: &[u8], takes_define: bool) -> Option<(usize, &[u8])> {
@@ -28,13 +29,6 @@ fn named(line: &[u8], takes_define: bool) -> Option<(usize, &[u8])> {
         None
     }
 }
-
-/// How it is said that nothing defines a name.
-const FORM: Form = Form {
-    code: b"never-defined",
-    message: (b"no statement defines ", b""),
-    question: (b"did you mean ", b"?"),
-};
 
 /// Returns the definitions that a source may make and that this template doesn't list. A name that the template lists too isn't what
 /// another one was meant to be.
@@ -85,21 +79,24 @@ fn warn_of_defaults(
 ) -> Result<(), AllocError>
     ensures within { OnOk result (KeepsWithin file text.now out.old.items out.new.items) }
 {
-    let message = joined(alloc, FORM.message.0, defaults.names.as_slice(), b"")?;
-    let help = joined(
-        alloc,
-        b"Autoconf checks its default headers by itself; write\n  AC_CHECK_HEADERS([",
-        defaults.headers.as_slice(),
-        b"])",
-    )?;
-    warn_at(
-        alloc,
-        out,
-        text,
+    let Some((start, length)) = defaults.first else {
+        return Ok(());
+    };
+    let span = Span {
         file,
-        defaults.first,
-        (FORM.code, message.as_slice(), help.as_slice()),
-    )
+        start,
+        end: start.saturating_add(length),
+    };
+    let mut page = Page::new(alloc);
+    page.put(
+        keys::NEVER_DEFINED,
+        &[Part::AsItIs(defaults.names.as_slice())],
+    );
+    page.put(
+        keys::DEFAULT_HEADERS,
+        &[Part::AsItIs(defaults.headers.as_slice())],
+    );
+    page.warn(alloc, out, text, span, keys::NEVER_DEFINED.name())
 }
 
 /// The definitions that a source may make: all of them, and those that the template doesn't list.
@@ -140,7 +137,16 @@ fn warn_of_line(
         end: start.saturating_add(name.len()),
     };
     let advice = definition_advice(name);
-    warn_of_name(alloc, out, text, span, FORM, name, advice, known.candidates)
+    warn_of_name(
+        alloc,
+        out,
+        text,
+        span,
+        Form::Definition,
+        name,
+        advice,
+        known.candidates,
+    )
 }
 
 /// Warns of the name of each line that is undefined and that nothing defines. Those of default includes are added to these.
@@ -247,26 +253,14 @@ fn warn_of_definition(
     if names.has(name) || name.starts_with(b"PACKAGE_") {
         return Ok(());
     }
-    let message = joined(
-        alloc,
-        b"no header template has ",
-        name,
-        b", so its definition goes nowhere",
-    )?;
-    let help = joined(
-        alloc,
-        b"add the line\n  #undef ",
-        name,
-        b"\nto the template, or run autoheader",
-    )?;
-    warn(
+    let span = place_of_definition(source, name);
+    warn_by_key(
         alloc,
         out,
         source,
-        place_of_definition(source, name),
-        b"not-in-header",
-        message.as_slice(),
-        help.as_slice(),
+        span,
+        keys::NOT_IN_HEADER,
+        &[Part::AsItIs(name)],
     )
 }
 

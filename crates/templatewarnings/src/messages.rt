@@ -5,20 +5,33 @@ ghost use Rattle.findings.specs.Within.{KeepsWithin};
 
 use deftable::{Bytes, SubstList};
 use faultwords::near_name;
-use findings::{Finding, Span, warn};
+use findings::{Finding, Span};
 use std::alloc::{AllocError, Global};
+use wordtable::{Key, Page, Part, keys, warn_by_key};
 
-/// Returns three texts as one.
-pub(crate) fn joined(
-    alloc: Global,
-    first: &[u8],
-    second: &[u8],
-    third: &[u8],
-) -> Result<Vec<u8>, AllocError> {
-    let mut all = Vec::from_slice(alloc, first)?;
-    all.extend_from_slice(second)?;
-    all.extend_from_slice(third)?;
-    Ok(all)
+/// What has no value.
+#[derive(Clone, Copy)]
+pub(crate) enum Form {
+    /// A name between two `@`.
+    Variable,
+    /// A name that a header's template undefines.
+    Definition,
+}
+
+/// Returns what is said of a name that has no value.
+fn key_of(form: Form) -> Key {
+    match form {
+        Form::Variable => keys::UNSET_VARIABLE,
+        Form::Definition => keys::NEVER_DEFINED,
+    }
+}
+
+/// Returns the question whether a near name was meant.
+fn near_key(form: Form) -> Key {
+    match form {
+        Form::Variable => keys::NEAR_VARIABLE,
+        Form::Definition => keys::NEAR_DEFINITION,
+    }
 }
 
 /// Returns the names as slices.
@@ -33,38 +46,26 @@ fn slices<'a>(alloc: Global, names: &'a [Bytes]) -> Result<Vec<&'a [u8]>, AllocE
 /// How many findings may have been made before no near name is sought any more.
 const SOUGHT: usize = 200;
 
-/// Returns the question whether a near name was meant, between these texts, or an empty text if no
-/// name is near. After this many findings it is an empty text.
-fn near_question(
+/// Writes the question whether a near name was meant, if one is near. After this many findings none is sought.
+fn put_near(
     alloc: Global,
+    page: &mut Page,
     found: usize,
+    form: Form,
     name: &[u8],
     names: &SubstList,
-    front: &[u8],
-    back: &[u8],
-) -> Result<Vec<u8>, AllocError> {
+) -> Result<(), AllocError> {
     if found > SOUGHT || name.len() > 80 {
-        return Ok(Vec::new(alloc));
+        return Ok(());
     }
     let all = slices(alloc, names.names())?;
-    match near_name(alloc, name, all.as_slice())? {
-        Some(near) => joined(alloc, front, near, back),
-        None => Ok(Vec::new(alloc)),
+    if let Some(near) = near_name(alloc, name, all.as_slice())? {
+        page.put(near_key(form), &[Part::AsItIs(near)]);
     }
+    Ok(())
 }
 
-/// How it is said that a name has no value.
-#[derive(Clone, Copy)]
-pub(crate) struct Form {
-    pub(crate) code: &'static [u8],
-    /// The message before the name, and after it.
-    pub(crate) message: (&'static [u8], &'static [u8]),
-    /// The question before a name that is near, and after it.
-    pub(crate) question: (&'static [u8], &'static [u8]),
-}
-
-/// Warns of a name that has no value, with this advice, or with the nearest of some names if the
-/// advice is empty.
+/// Warns of a name that has no value, with this advice, or with the nearest of some names if there is no advice.
 pub(crate) fn warn_of_name(
     alloc: Global,
     out: &mut Vec<Finding>,
@@ -72,31 +73,20 @@ pub(crate) fn warn_of_name(
     span: Span,
     form: Form,
     name: &[u8],
-    advice: &[u8],
+    advice: Option<Key>,
     names: &SubstList,
 ) -> Result<(), AllocError>
     ensures within { OnOk result (KeepsWithin span.file text.now out.old.items out.new.items) }
 {
-    let message = joined(alloc, form.message.0, name, form.message.1)?;
-    let message = message.as_slice();
-    if !advice.is_empty() {
-        return warn(alloc, out, text, span, form.code, message, advice);
+    let key = key_of(form);
+    let mut page = Page::new(alloc);
+    page.put(key, &[Part::AsItIs(name)]);
+    match advice {
+        Some(advice) => page.put(advice, &[]),
+        None => put_near(alloc, &mut page, out.len(), form, name, names)?,
     }
-    let (front, back) = form.question;
-    let question = near_question(alloc, out.len(), name, names, front, back)?;
-    warn(
-        alloc,
-        out,
-        text,
-        span,
-        form.code,
-        message,
-        question.as_slice(),
-    )
+    page.warn(alloc, out, text, span, key.name())
 }
-
-/// The code of a warning, what it says, and what to do.
-pub(crate) type Words<'a> = (&'static [u8], &'a [u8], &'a [u8]);
 
 /// Warns of a part of a file, if it is there: its offset and its length.
 pub(crate) fn warn_at(
@@ -105,7 +95,7 @@ pub(crate) fn warn_at(
     text: &[u8],
     file: usize,
     part: Option<(usize, usize)>,
-    words: Words<'_>,
+    key: Key,
 ) -> Result<(), AllocError>
     ensures within { OnOk result (KeepsWithin file text.now out.old.items out.new.items) }
 {
@@ -117,6 +107,5 @@ pub(crate) fn warn_at(
         start,
         end: start.saturating_add(length),
     };
-    let (code, message, help) = words;
-    warn(alloc, out, text, span, code, message, help)
+    warn_by_key(alloc, out, text, span, key, &[])
 }

@@ -1,0 +1,1203 @@
+//! What is said. `tools/word_table.py` writes this file from `words.txt`.
+
+ghost use Rattle.std.specs.Prelude.{◌≡◌};
+
+use crate::key::Key;
+
+/// a quote is open at the end of the file: this `[` has no `]`
+pub const UNCLOSED_QUOTE: Key = Key((0, 14), (15, 74), (75, 142));
+
+/// a call is open at the end of the file: the parenthesis of MACRO is not closed
+pub const UNCLOSED_CALL: Key = Key((143, 156), (157, 230), (231, 263));
+
+/// a `]` closes no quote
+pub const STRAY_CLOSE: Key = Key((264, 275), (276, 297), (298, 393));
+
+/// there is a NUL byte
+pub const NUL_BYTE: Key = Key((394, 402), (403, 422), (423, 457));
+
+/// the file has more than 1,048,576 bytes
+pub const SOURCE_TOO_LARGE: Key = Key((458, 474), (475, 513), (514, 538));
+
+/// more than 64 brackets and parentheses are open at once
+pub const TOO_MANY_BRACKETS: Key = Key((539, 556), (557, 611), (612, 668));
+
+/// acrun does not know the macro MACRO
+pub const UNKNOWN_MACRO: Key = Key((669, 682), (683, 714), (715, 715));
+
+/// NAME is no macro that acrun knows, and no command is run
+pub const NO_MACRO: Key = Key((715, 723), (724, 777), (778, 778));
+
+/// a macro of a similar name is MACRO
+pub const NEAR_MACRO: Key = Key((778, 788), (789, 789), (789, 819));
+
+/// no table of acrun has it: if the package defines it (aclocal.m4, acinclude.m4, m4/), write here what its definition does
+pub const UNLISTED_MACRO: Key = Key((820, 834), (835, 835), (835, 955));
+
+/// if the package defines it (aclocal.m4, acinclude.m4, m4/), write here what its definition does
+pub const OWN_MACRO: Key = Key((956, 965), (966, 966), (966, 1060));
+
+/// write $VARIABLE
+pub const WRITE_VARIABLE: Key = Key((1061, 1075), (1076, 1076), (1076, 1084));
+
+/// write instead
+pub const WRITE_INSTEAD: Key = Key((1085, 1098), (1099, 1099), (1099, 1114));
+
+/// MACRO has other text beside it on its line
+pub const TEXT_BESIDE_CALL: Key = Key((1115, 1131), (1132, 1170), (1171, 1231));
+
+/// there is a blank after the `=` of an assignment
+pub const BLANK_AFTER_EQUALS: Key = Key((1232, 1250), (1251, 1298), (1299, 1365));
+
+/// TEXT is no statement that acrun reads
+pub const NO_STATEMENT: Key = Key((1366, 1378), (1379, 1413), (1414, 1514));
+
+/// MACRO is no statement by itself
+pub const ARGUMENT_MACRO: Key = Key((1515, 1529), (1530, 1557), (1558, 1708));
+
+/// the argument ARGUMENT of MACRO is not read
+pub const UNREAD_ARGUMENT: Key = Key((1709, 1724), (1725, 1756), (1757, 1757));
+
+/// a program is AC_LANG_PROGRAM([includes], [statements]) or AC_LANG_SOURCE([text])
+pub const PROGRAM_ARGUMENT: Key = Key((1757, 1773), (1774, 1774), (1774, 1854));
+
+/// an action is assignments NAME=VALUE and calls, and no command is run; a list has blanks between its entries
+pub const BARE_ARGUMENT: Key = Key((1855, 1868), (1869, 1869), (1869, 1976));
+
+/// put the whole argument in one pair of brackets; a list has blanks between its entries
+pub const BRACKETED_ARGUMENT: Key = Key((1977, 1995), (1996, 1996), (1996, 2081));
+
+/// MACRO takes 1 argument
+pub const TAKES_ONE: Key = Key((2082, 2091), (2092, 2110), (2111, 2111));
+
+/// MACRO takes NUMBER arguments
+pub const TAKES_SOME: Key = Key((2111, 2121), (2122, 2141), (2142, 2142));
+
+/// MACRO takes NUMBER to 1 argument
+pub const TAKES_AT_MOST_ONE: Key = Key((2142, 2159), (2160, 2183), (2184, 2184));
+
+/// MACRO takes NUMBER to NUMBER arguments
+pub const TAKES_RANGE: Key = Key((2184, 2195), (2196, 2220), (2221, 2221));
+
+/// MACRO takes NUMBER or more arguments
+pub const TAKES_MORE: Key = Key((2221, 2231), (2232, 2259), (2260, 2260));
+
+/// , and has NUMBER
+pub const HAS_ARGUMENTS: Key = Key((2260, 2273), (2274, 2285), (2286, 2286));
+
+/// AC_OUTPUT takes no argument
+pub const OUTPUT_ARGUMENT: Key = Key((2286, 2301), (2302, 2329), (2330, 2381));
+
+/// no blank may be between the name and its parenthesis
+pub const BLANK_BEFORE_PARENTHESIS: Key = Key((2382, 2406), (2407, 2407), (2407, 2459));
+
+/// the package's name and version are missing: write AC_INIT([package], [version])
+pub const MISSING_VERSION: Key = Key((2460, 2475), (2476, 2476), (2476, 2555));
+
+/// the package's name and version are missing: write AC_INIT([package], [version]) and then AC_CONFIG_SRCDIR([FILE])
+pub const MISSING_VERSION_OF: Key = Key((2556, 2574), (2575, 2575), (2575, 2685));
+
+/// docs/language.md has its arguments
+pub const SEE_ARGUMENTS: Key = Key((2686, 2699), (2700, 2700), (2700, 2734));
+
+/// an argument is missing: docs/language.md has them
+pub const MISSING_ARGUMENT: Key = Key((2735, 2751), (2752, 2752), (2752, 2801));
+
+/// programs are looked for along PATH alone: leave the last argument out
+pub const SURPLUS_DIRECTORIES: Key = Key((2802, 2821), (2822, 2822), (2822, 2891));
+
+/// files have blanks between them, and no commands are run for them: leave the other arguments out
+pub const SURPLUS_COMMANDS: Key = Key((2892, 2908), (2909, 2909), (2909, 3004));
+
+/// leave the last argument out: docs/language.md has those that are read
+pub const SURPLUS_ARGUMENT: Key = Key((3005, 3021), (3022, 3022), (3022, 3091));
+
+/// a comma ends an argument that is not in brackets: put each argument in [ and ]
+pub const COMMA_IN_ARGUMENT: Key = Key((3092, 3109), (3110, 3110), (3110, 3188));
+
+/// ARGUMENT is no name of a variable in MACRO
+pub const NO_VARIABLE: Key = Key((3189, 3200), (3201, 3232), (3233, 3300));
+
+/// ARGUMENT is no name of a variable, or no text on one line in MACRO
+pub const NO_VARIABLE_OR_TEXT: Key = Key((3301, 3320), (3321, 3376), (3233, 3300));
+
+/// ARGUMENT is no name of a C macro, or no text on one line in MACRO
+pub const NO_SYMBOL_OR_TEXT: Key = Key((3377, 3394), (3395, 3449), (3233, 3300));
+
+/// ARGUMENT is no header in MACRO
+pub const NO_HEADER: Key = Key((3450, 3459), (3460, 3479), (3480, 3556));
+
+/// ARGUMENT is no list of headers in MACRO
+pub const NO_HEADERS: Key = Key((3557, 3567), (3568, 3596), (3480, 3556));
+
+/// ARGUMENT is no function in MACRO
+pub const NO_FUNCTION: Key = Key((3597, 3608), (3609, 3630), (3631, 3710));
+
+/// ARGUMENT is no list of functions in MACRO
+pub const NO_FUNCTIONS: Key = Key((3711, 3723), (3724, 3754), (3631, 3710));
+
+/// ARGUMENT is no declaration in MACRO
+pub const NO_DECLARATION: Key = Key((3755, 3769), (3770, 3794), (3795, 3874));
+
+/// ARGUMENT is no list of declarations in MACRO
+pub const NO_DECLARATIONS: Key = Key((3875, 3890), (3891, 3924), (3795, 3874));
+
+/// ARGUMENT is no type in MACRO
+pub const NO_TYPE: Key = Key((3925, 3932), (3933, 3950), (3795, 3874));
+
+/// ARGUMENT is no list of types in MACRO
+pub const NO_TYPES: Key = Key((3951, 3959), (3960, 3986), (3795, 3874));
+
+/// ARGUMENT is no list of files in MACRO
+pub const NO_FILES: Key = Key((3987, 3995), (3996, 4022), (4023, 4124));
+
+/// ARGUMENT is no list of headers that are made in MACRO
+pub const NO_MADE_HEADERS: Key = Key((4125, 4140), (4141, 4183), (4023, 4124));
+
+/// ARGUMENT is no name of a feature in MACRO
+pub const NO_FEATURE: Key = Key((4184, 4194), (4195, 4225), (4226, 4291));
+
+/// ARGUMENT is no name of a package in MACRO
+pub const NO_PACKAGE: Key = Key((4292, 4302), (4303, 4333), (4226, 4291));
+
+/// ARGUMENT is no library or no function in MACRO
+pub const NO_LIBRARY: Key = Key((4334, 4344), (4345, 4380), (4381, 4446));
+
+/// ARGUMENT is no list of libraries or no function in MACRO
+pub const NO_LIBRARIES: Key = Key((4447, 4459), (4460, 4505), (4381, 4446));
+
+/// ARGUMENT is no variable or no program in MACRO
+pub const NO_PROGRAM: Key = Key((4506, 4516), (4517, 4552), (4553, 4652));
+
+/// ARGUMENT is no variable or no list of programs in MACRO
+pub const NO_PROGRAMS: Key = Key((4653, 4664), (4665, 4709), (4553, 4652));
+
+/// ARGUMENT is no list of compilers in MACRO
+pub const NO_COMPILERS: Key = Key((4710, 4722), (4723, 4753), (4553, 4652));
+
+/// ARGUMENT is no version of Autoconf in MACRO
+pub const NO_VERSION: Key = Key((4754, 4764), (4765, 4797), (4798, 4850));
+
+/// ARGUMENT is no exit status in MACRO
+pub const NO_EXIT_STATUS: Key = Key((4851, 4865), (4866, 4890), (4891, 4931));
+
+/// ARGUMENT is no language that is known in MACRO
+pub const NO_LANGUAGE: Key = Key((4932, 4943), (4944, 4979), (4980, 5002));
+
+/// ARGUMENT is no name of a cached value in MACRO
+pub const NO_CACHED_VALUE: Key = Key((5003, 5018), (5019, 5054), (5055, 5112));
+
+/// ARGUMENT is no text on one line in MACRO
+pub const NO_TEXT: Key = Key((5113, 5120), (5121, 5150), (5151, 5215));
+
+/// ARGUMENT is not what the argument may be in MACRO
+pub const BAD_ARGUMENT: Key = Key((5216, 5228), (5229, 5267), (5268, 5268));
+
+/// TEXT is no shell word that is read
+pub const NO_WORD: Key = Key((5268, 5275), (5276, 5307), (5308, 5376));
+
+/// the value of this assignment is not read
+pub const NO_VALUE: Key = Key((5377, 5385), (5386, 5426), (5427, 5483));
+
+/// TEXT is no test that is read
+pub const NO_TEST: Key = Key((5484, 5491), (5492, 5517), (5518, 5634));
+
+/// TEXT is no list of patterns that is read
+pub const NO_PATTERN: Key = Key((5635, 5645), (5646, 5683), (5684, 5802));
+
+/// `WORD` of the shell is not read
+pub const SHELL_IF: Key = Key((5803, 5811), (5812, 5840), (5841, 5935));
+
+/// a test by itself is not read
+pub const SHELL_TEST: Key = Key((5936, 5946), (5947, 5975), (5841, 5935));
+
+/// `WORD` by itself is not read
+pub const SHELL_NOT: Key = Key((5976, 5985), (5986, 6011), (5841, 5935));
+
+/// `WORD` between statements is not read
+pub const SHELL_AND: Key = Key((6012, 6021), (6022, 6056), (5841, 5935));
+
+/// `WORD` of the shell is not read
+pub const SHELL_CASE: Key = Key((6057, 6067), (6068, 6096), (6097, 6199));
+
+/// `WORD` of the shell is not read
+pub const SHELL_FOR: Key = Key((6200, 6209), (6210, 6238), (6239, 6392));
+
+/// `WORD` is not run
+pub const SHELL_ECHO: Key = Key((6393, 6403), (6404, 6418), (6419, 6454));
+
+/// `WORD` is not read
+pub const SHELL_EXIT: Key = Key((6455, 6465), (6466, 6481), (6482, 6534));
+
+/// `WORD` is not read
+pub const SHELL_EXPORT: Key = Key((6535, 6547), (6548, 6563), (6564, 6699));
+
+/// `WORD` is not read
+pub const SHELL_UNSET: Key = Key((6700, 6711), (6712, 6727), (6728, 6795));
+
+/// `WORD` is not read
+pub const SHELL_COMMAND: Key = Key((6796, 6809), (6810, 6825), (6826, 6972));
+
+/// `WORD` is not read
+pub const SHELL_EVAL: Key = Key((6973, 6983), (6984, 6999), (7000, 7056));
+
+/// functions of the shell are not read
+pub const SHELL_FUNCTION: Key = Key((7057, 7071), (7072, 7107), (7108, 7159));
+
+/// groups of the shell are not read
+pub const SHELL_GROUP: Key = Key((7160, 7171), (7172, 7204), (7205, 7244));
+
+/// `WORD` is not run
+pub const SHELL_CD: Key = Key((7245, 7253), (7254, 7268), (7269, 7340));
+
+/// a command in backquotes is not run
+pub const SHELL_BACKQUOTE: Key = Key((7341, 7356), (7357, 7391), (6826, 6972));
+
+/// arithmetic of the shell is not read
+pub const SHELL_ARITHMETIC: Key = Key((7392, 7408), (7409, 7444), (6826, 6972));
+
+/// a command in `$(..)` is not run
+pub const SHELL_SUBSTITUTION: Key = Key((7445, 7463), (7464, 7495), (6826, 6972));
+
+/// redirections are not read
+pub const SHELL_REDIRECTION: Key = Key((7496, 7513), (7514, 7539), (6826, 6972));
+
+/// pipes are not read
+pub const SHELL_PIPE: Key = Key((7540, 7550), (7551, 7569), (6826, 6972));
+
+/// subshells are not read
+pub const SHELL_SUBSHELL: Key = Key((7570, 7584), (7585, 7607), (6826, 6972));
+
+/// a command that a variable names is not run
+pub const SHELL_VARIABLE_COMMAND: Key = Key((7608, 7630), (7631, 7673), (6826, 6972));
+
+/// `WORD` is no operator of `test`
+pub const TEST_EQUALS: Key = Key((7674, 7685), (7686, 7714), (7715, 7748));
+
+/// `WORD` in a test is not read
+pub const TEST_AND: Key = Key((7749, 7757), (7758, 7783), (7784, 7861));
+
+/// `WORD` in a test is not read
+pub const TEST_OR: Key = Key((7862, 7869), (7870, 7895), (7896, 7973));
+
+/// `test WORD` is not read
+pub const TEST_FILE: Key = Key((7974, 7983), (7984, 8004), (8005, 8169));
+
+/// `WORD` in a test is not read
+pub const TEST_NUMBER: Key = Key((8170, 8181), (8182, 8207), (8208, 8268));
+
+/// `WORD` in a test is not read
+pub const TEST_SEMICOLON: Key = Key((8269, 8283), (8284, 8309), (8310, 8333));
+
+/// `[` of the shell is not read as a test, since brackets are quotes here
+pub const TEST_BRACKET: Key = Key((8334, 8346), (8347, 8417), (8418, 8470));
+
+/// the line ends in a carriage return
+pub const CARRIAGE_RETURN: Key = Key((8471, 8486), (8487, 8521), (8522, 8654));
+
+/// there is a blank beside the `=` of an assignment
+pub const BLANK_BESIDE_EQUALS: Key = Key((8655, 8674), (8675, 8723), (1299, 1365));
+
+/// `${NAME-WORD}` and its like are not read
+pub const VARIABLE_WITH_OPERATOR: Key = Key((8724, 8746), (8747, 8787), (8788, 8842));
+
+/// the shell's own variables, such as `$1`, `$@` and `$?`, are not read
+pub const SPECIAL_VARIABLE: Key = Key((8843, 8859), (8860, 8928), (8929, 9010));
+
+/// a double quote is not closed
+pub const OPEN_DOUBLE_QUOTE: Key = Key((9011, 9028), (9029, 9057), (9058, 9122));
+
+/// a single quote is not closed
+pub const OPEN_SINGLE_QUOTE: Key = Key((9123, 9140), (9141, 9169), (9170, 9230));
+
+/// MACRO is called a second time
+pub const SECOND_CALL: Key = Key((9231, 9242), (9243, 9268), (9269, 9285));
+
+/// MACRO is not allowed within MACRO
+pub const NOT_AT_TOP: Key = Key((9286, 9296), (9297, 9322), (9323, 9395));
+
+/// the file begins with a byte order mark
+pub const BYTE_ORDER_MARK: Key = Key((9396, 9411), (9412, 9450), (9451, 9552));
+
+/// the file is empty
+pub const EMPTY_FILE: Key = Key((9553, 9563), (9564, 9581), (9582, 9656));
+
+/// something is before AC_INIT
+pub const TEXT_BEFORE_INIT: Key = Key((9657, 9673), (9674, 9701), (9702, 9787));
+
+/// there is no AC_INIT
+pub const NO_INIT: Key = Key((9788, 9795), (9796, 9815), (9816, 9856));
+
+/// TEXT is after AC_OUTPUT
+pub const TEXT_AFTER_OUTPUT: Key = Key((9857, 9874), (9875, 9895), (9896, 9959));
+
+/// there is no AC_OUTPUT
+pub const NO_OUTPUT: Key = Key((9960, 9969), (9970, 9991), (9992, 10026));
+
+/// the commands of AC_CACHE_CHECK may set their own name alone
+pub const CACHE_BODY: Key = Key((10027, 10037), (10038, 10097), (10098, 10181));
+
+/// statements nest more than 32 deep
+pub const TOO_DEEP: Key = Key((10182, 10190), (10191, 10224), (10225, 10287));
+
+/// there are too many entries
+pub const TOO_MANY: Key = Key((10288, 10296), (10297, 10323), (10324, 10422));
+
+/// a version of Autoconf after 2.71 is required
+pub const NEWER_VERSION: Key = Key((10423, 10436), (10437, 10481), (10482, 10525));
+
+/// memory ran out
+pub const NO_MEMORY: Key = Key((10526, 10535), (10536, 10550), (10551, 10551));
+
+/// the source weighs more than 65,535 statements
+pub const PLAN_1: Key = Key((10551, 10557), (10558, 10603), (10604, 10713));
+
+/// the template PATH can't be read
+pub const TEMPLATE: Key = Key((10714, 10722), (10723, 10751), (10752, 10829));
+
+/// the comma is a part of a name here: entries are separated by blanks
+pub const COMMA_IN_LIST: Key = Key((10830, 10843), (10844, 10911), (10912, 10932));
+
+/// the backslash stays in the message; Autoconf drops it
+pub const BACKSLASH_IN_MESSAGE: Key = Key((10933, 10953), (10954, 11007), (11008, 11031));
+
+/// the blank before the comma is dropped; in Autoconf it is a part of the name
+pub const BLANK_BEFORE_COMMA: Key = Key((11032, 11050), (11051, 11126), (11127, 11163));
+
+/// the quote is a part of the value; in Autoconf it ends the quotes that are around the value
+pub const QUOTE_IN_VALUE: Key = Key((11164, 11178), (11179, 11269), (11270, 11290));
+
+/// Autoconf makes a script of a list on several lines that doesn't run
+pub const LIST_ON_LINES: Key = Key((11291, 11304), (11305, 11372), (11373, 11399));
+
+/// Autoconf refuses a name with _AC_ in it
+pub const FORBIDDEN_NAME: Key = Key((11400, 11414), (11415, 11454), (11455, 11474));
+
+/// Autoconf makes a script of an `&` in the name of an output that doesn't run
+pub const AMPERSAND_IN_OUTPUT: Key = Key((11475, 11494), (11495, 11570), (11571, 11590));
+
+/// Autoconf refuses a dnl line in AC_CONFIG_FILES
+pub const DNL_IN_LIST: Key = Key((11591, 11602), (11603, 11649), (11650, 11681));
+
+/// a `#` in single brackets begins a comment of m4 in Autoconf, which refuses this or drops the rest
+pub const HASH_IN_MESSAGE: Key = Key((11682, 11697), (11698, 11795), (11796, 11833));
+
+/// the tarname is made of the whole name here, and in Autoconf of what is before the comma
+pub const COMMA_IN_NAME: Key = Key((11834, 11847), (11848, 11935), (11936, 12017));
+
+/// a library is never found by the function main
+pub const LIBRARY_MAIN: Key = Key((12018, 12030), (12031, 12076), (12077, 12145));
+
+/// a comment is no action, so the library is added to LIBS; in Autoconf nothing is done
+pub const DNL_ACTION: Key = Key((12146, 12156), (12157, 12241), (12242, 12317));
+
+/// this is an empty argument; in Autoconf it is an argument that isn't empty
+pub const EMPTY_QUOTES: Key = Key((12318, 12330), (12331, 12404), (12405, 12437));
+
+/// the blanks at the ends of this name are dropped; in Autoconf they are a part of it
+pub const BLANK_IN_NAME: Key = Key((12438, 12451), (12452, 12534), (12535, 12564));
+
+/// if the program is found, the variable is empty; in Autoconf it gets the last argument
+pub const EMPTY_VALUE: Key = Key((12565, 12576), (12577, 12662), (12663, 12728));
+
+/// Autoconf makes a script of a case without a word that doesn't run
+pub const EMPTY_CASE: Key = Key((12729, 12739), (12740, 12805), (12806, 12848));
+
+/// Autoconf makes no shell text of this call, so a script with the `;` after it doesn't run
+pub const SEMICOLON_AFTER_CALL: Key = Key((12849, 12869), (12870, 12958), (12959, 13005));
+
+/// SHELL is the login shell of whoever runs this, or empty; in Autoconf it is the shell that runs configure
+pub const LOGIN_SHELL: Key = Key((13006, 13017), (13018, 13122), (13123, 13157));
+
+/// a variable of configure scripts is an ordinary one here, and empty until it is set
+pub const SCRIPT_VARIABLE: Key = Key((13158, 13173), (13174, 13256), (13257, 13300));
+
+/// AC_INCLUDES_DEFAULT in two pairs of brackets is read here; in Autoconf it is text
+pub const QUOTED_INCLUDES: Key = Key((13301, 13316), (13317, 13398), (13399, 13429));
+
+/// the name of this macro is text here; Autoconf expands it
+pub const MACRO_IN_TEXT: Key = Key((13430, 13443), (13444, 13500), (13501, 13501));
+
+/// write AS_HELP_STRING
+pub const WRITE_HELP_STRING: Key = Key((13501, 13518), (13519, 13519), (13519, 13539));
+
+/// write $VARIABLE in AC_DEFINE_UNQUOTED
+pub const WRITE_IN_UNQUOTED: Key = Key((13540, 13557), (13558, 13558), (13558, 13588));
+
+/// write the text that is meant, or put it in two pairs of brackets
+pub const WRITE_TEXT: Key = Key((13589, 13599), (13600, 13600), (13600, 13664));
+
+/// nothing before this check looks for a compiler, so CC has no value unless the user gives one
+pub const NO_COMPILER: Key = Key((13665, 13676), (13677, 13769), (13770, 13798));
+
+/// nothing before this check tries whether the compiler works; with a misspelt flag in CFLAGS each check says no
+pub const COMPILER_NOT_TRIED: Key = Key((13799, 13817), (13818, 13927), (13928, 14305));
+
+/// after `STATEMENT`, a run of this source that is cut and started again may end otherwise than one that is not cut
+pub const NOT_RESUMABLE: Key = Key((14306, 14319), (14320, 14424), (14425, 14545));
+
+/// a run of this source that is cut and started again may end otherwise than one that is not cut
+pub const NOT_RESUMABLE_ANYWHERE: Key = Key((14546, 14568), (14569, 14662), (14425, 14545));
+
+/// no statement sets @NAME@, so it stays as it is
+pub const UNSET_VARIABLE: Key = Key((14663, 14677), (14678, 14721), (14722, 14722));
+
+/// did you mean @NAME@?
+pub const NEAR_VARIABLE: Key = Key((14722, 14735), (14736, 14736), (14736, 14753));
+
+/// its value begins with ${datarootdir}, which this template does not set: files would go to /man, /doc and the like
+pub const NO_DATAROOTDIR: Key = Key((14754, 14768), (14769, 14882), (14883, 14925));
+
+/// config.status is a record here, and no script that can be run
+pub const CONFIG_STATUS_SCRIPT: Key = Key((14926, 14946), (14947, 15008), (15009, 15108));
+
+/// the last line has no newline, and so has that of the file that is made; Autoconf adds one
+pub const NO_NEWLINE_AT_END: Key = Key((15109, 15126), (15127, 15216), (15217, 15257));
+
+/// no statement defines NAME
+pub const NEVER_DEFINED: Key = Key((15258, 15271), (15272, 15294), (15295, 15295));
+
+/// did you mean NAME?
+pub const NEAR_DEFINITION: Key = Key((15295, 15310), (15311, 15311), (15311, 15326));
+
+/// Autoconf checks its default headers by itself; write
+pub const DEFAULT_HEADERS: Key = Key((15327, 15342), (15343, 15343), (15343, 15419));
+
+/// no header template has NAME, so its definition goes nowhere
+pub const NOT_IN_HEADER: Key = Key((15420, 15433), (15434, 15490), (15491, 15549));
+
+/// write in configure.ac
+pub const SET_SHELL: Key = Key((15550, 15559), (15560, 15560), (15560, 15612));
+
+/// there is no config header; write the definitions into a header of AC_CONFIG_HEADERS, or build DEFS by hand with AC_SUBST
+pub const SET_DEFS: Key = Key((15613, 15621), (15622, 15622), (15622, 15742));
+
+/// leave it out: each make sets MAKE
+pub const SET_MAKE: Key = Key((15743, 15751), (15752, 15752), (15752, 15785));
+
+/// write in configure.ac
+pub const SET_INSTALL: Key = Key((15786, 15797), (15798, 15798), (15798, 15857));
+
+/// write in configure.ac
+pub const SET_INSTALL_PROGRAM: Key = Key((15858, 15877), (15878, 15878), (15878, 15945));
+
+/// write in configure.ac
+pub const SET_INSTALL_SCRIPT: Key = Key((15946, 15964), (15965, 15965), (15965, 16031));
+
+/// write in configure.ac
+pub const SET_INSTALL_DATA: Key = Key((16032, 16048), (16049, 16049), (16049, 16120));
+
+/// write in configure.ac
+pub const SET_MKDIR_P: Key = Key((16121, 16132), (16133, 16133), (16133, 16190));
+
+/// write in configure.ac
+pub const SET_LN_S: Key = Key((16191, 16199), (16200, 16200), (16200, 16251));
+
+/// write in configure.ac
+pub const SET_RANLIB: Key = Key((16252, 16262), (16263, 16263), (16263, 16326));
+
+/// write in configure.ac
+pub const SET_AR: Key = Key((16327, 16333), (16334, 16334), (16334, 16384));
+
+/// write in configure.ac
+pub const SET_AWK: Key = Key((16385, 16392), (16393, 16393), (16393, 16460));
+
+/// write in configure.ac
+pub const SET_CPP: Key = Key((16461, 16468), (16469, 16469), (16469, 16520));
+
+/// it is empty on this system; write in configure.ac
+pub const SET_EXEEXT: Key = Key((16521, 16531), (16532, 16532), (16532, 16606));
+
+/// write in configure.ac
+pub const SET_OBJEXT: Key = Key((16607, 16617), (16618, 16618), (16618, 16665));
+
+/// write in configure.ac
+pub const SET_LIBOBJS: Key = Key((16666, 16677), (16678, 16678), (16678, 16721));
+
+/// acrun renames no programs; write in configure.ac
+pub const SET_TRANSFORM_NAME: Key = Key((16722, 16740), (16741, 16741), (16741, 16836));
+
+/// use @srcdir@, or `cd` and `pwd` in the rule
+pub const SET_ABS_SRCDIR: Key = Key((16837, 16851), (16852, 16852), (16852, 16895));
+
+/// use @top_srcdir@, or `cd` and `pwd` in the rule
+pub const SET_ABS_TOP_SRCDIR: Key = Key((16896, 16914), (16915, 16915), (16915, 16962));
+
+/// use @top_builddir@, or `cd` and `pwd` in the rule
+pub const SET_ABS_TOP_BUILDDIR: Key = Key((16963, 16983), (16984, 16984), (16984, 17033));
+
+/// libtool checks it; write
+pub const DEFINE_DLFCN_H: Key = Key((17034, 17048), (17049, 17049), (17049, 17103));
+
+/// every compiler of this century has them; write
+pub const DEFINE_STDC_HEADERS: Key = Key((17104, 17123), (17124, 17124), (17124, 17203));
+
+/// the option OPTION is not known
+pub const UNKNOWN_OPTION: Key = Key((17204, 17218), (17219, 17244), (17245, 17245));
+
+/// write it before the command: acrun -j8 configure
+pub const OPTION_BEFORE_COMMAND: Key = Key((17245, 17266), (17267, 17267), (17267, 17315));
+
+/// a similar option is OPTION
+pub const NEAR_OPTION: Key = Key((17316, 17327), (17328, 17328), (17328, 17349));
+
+/// acrun configure --help shows the options of the source, and man acrun all others
+pub const SEE_OPTIONS: Key = Key((17350, 17361), (17362, 17362), (17362, 17442));
+
+/// an argument is an option or NAME=VALUE; man acrun has all options
+pub const NO_OPTION: Key = Key((17443, 17452), (17453, 17453), (17453, 17518));
+
+/// OPTION names no feature or package
+pub const NO_OPTION_NAME: Key = Key((17519, 17533), (17534, 17563), (17564, 17641));
+
+/// NAME is no name of a variable
+pub const NO_ASSIGNED_NAME: Key = Key((17642, 17658), (17659, 17685), (17686, 17753));
+
+/// the option OPTION needs a value
+pub const OPTION_WITHOUT_VALUE: Key = Key((17754, 17774), (17775, 17801), (17802, 17841));
+
+/// the source declares no option OPTION
+pub const UNDECLARED_OPTION: Key = Key((17842, 17859), (17860, 17891), (17892, 18002));
+
+/// there is no command, and no line of the input is `%%`
+pub const NO_CALL: Key = Key((18003, 18010), (18011, 18064), (18065, 18065));
+
+/// OPTION takes no other word
+pub const WORD_AFTER_OPTION: Key = Key((18065, 18082), (18083, 18104), (18105, 18142));
+
+/// -j is no number of children
+pub const NO_NUMBER_OF_CHILDREN: Key = Key((18143, 18164), (18165, 18192), (18193, 18268));
+
+/// WORD is no command
+pub const NO_COMMAND: Key = Key((18269, 18279), (18280, 18295), (18296, 18296));
+
+/// a similar name is NAME
+pub const NEAR_NAME: Key = Key((18296, 18305), (18306, 18306), (18306, 18325));
+
+/// acrun help lists the commands
+pub const SEE_COMMANDS: Key = Key((18326, 18338), (18339, 18368), (18369, 18369));
+
+/// the line LINE is none of a cache
+pub const NO_CACHE_LINE: Key = Key((18369, 18382), (18383, 18412), (18413, 18475));
+
+/// the line LINE sets what is no cached value
+pub const NO_CACHE_NAME: Key = Key((18476, 18489), (18490, 18529), (18530, 18616));
+
+/// the cache file has more than 4,194,304 bytes
+pub const CACHE_TOO_LARGE: Key = Key((18617, 18632), (18633, 18677), (18678, 18709));
+
+/// NAME was VALUE in the run that made the cache CACHE
+pub const WAS_SET: Key = Key((18710, 18717), (18718, 18758), (18759, 18842));
+
+/// NAME was not set in the run that made the cache CACHE
+pub const WAS_UNSET: Key = Key((18843, 18852), (18853, 18899), (18900, 18970));
+
+/// , and is now VALUE
+pub const IS_SET: Key = Key((18971, 18977), (18978, 18992), (18993, 18993));
+
+/// , and is now not set
+pub const IS_UNSET: Key = Key((18993, 19001), (19002, 19022), (19023, 19023));
+
+/// CACHE may hold a wrong "no", as a program found no room: remove it
+pub const WRONG_NO: Key = Key((19023, 19031), (19032, 19094), (19095, 19095));
+
+/// the file is no record of a run: it begins with LINE
+pub const NO_RECORD: Key = Key((19095, 19104), (19105, 19153), (19154, 19243));
+
+/// the record has another version: LINE
+pub const OTHER_RECORD: Key = Key((19244, 19256), (19257, 19290), (19291, 19346));
+
+/// the line LINE is wrong in the record
+pub const WRONG_RECORD_LINE: Key = Key((19347, 19364), (19365, 19398), (19399, 19424));
+
+/// the record is cut off
+pub const CUT_RECORD: Key = Key((19425, 19435), (19436, 19457), (19458, 19483));
+
+/// NAME is no output of this package
+pub const NO_OUTPUT_NAME: Key = Key((19484, 19498), (19499, 19529), (19530, 19530));
+
+/// configure.in is there, and is not read: give it the name configure.ac
+pub const OLD_SOURCE_NAME: Key = Key((19530, 19545), (19546, 19615), (19616, 19616));
+
+/// no compiler job of this run succeeded: see config.log
+pub const NO_COMPILER_WORKS: Key = Key((19616, 19633), (19634, 19687), (19688, 19688));
+
+/// The names, the messages and the help. A place is the byte 1, 2 or 3.
+#[rattlefmt::skip]
+const TEXT: &[u8] = b"\
+unclosed-quote
+a quote is open at the end of the file: this `[` has no `]`
+close the argument before the parenthesis or the comma that ends it
+unclosed-call
+a call is open at the end of the file: the parenthesis of \x01 is not closed
+close it after the last argument
+stray-close
+a `]` closes no quote
+remove it, or open a quote before it; within an argument write [[ and ]] for brackets that stay
+nul-byte
+there is a NUL byte
+a source is text: save it as UTF-8
+source-too-large
+the file has more than 1,048,576 bytes
+no larger source is read
+too-many-brackets
+more than 64 brackets and parentheses are open at once
+one of them may be closed nowhere: no call nests so deep
+unknown-macro
+acrun does not know the macro \x01
+no-macro
+\x01 is no macro that acrun knows, and no command is run
+near-macro
+a macro of a similar name is \x01
+unlisted-macro
+no table of acrun has it: if the package defines it (aclocal.m4, acinclude.m4, m4/), write here what its definition does
+own-macro
+if the package defines it (aclocal.m4, acinclude.m4, m4/), write here what its definition does
+write-variable
+write $\x01
+write-instead
+write instead
+\x01
+text-beside-call
+\x01 has other text beside it on its line
+a call begins and ends its line: put it on a line of its own
+blank-after-equals
+there is a blank after the `=` of an assignment
+write NAME=VALUE without blanks, and a value with blanks in quotes
+no-statement
+\x01 is no statement that acrun reads
+text between calls is assignments NAME=VALUE, and calls are on lines of their own; no command is run
+argument-macro
+\x01 is no statement by itself
+AS_HELP_STRING is an argument of AC_ARG_ENABLE and AC_ARG_WITH, and AC_LANG_PROGRAM and AC_LANG_SOURCE are arguments of AC_COMPILE_IFELSE and its like
+unread-argument
+the argument \x01 of \x02 is not read
+program-argument
+a program is AC_LANG_PROGRAM([includes], [statements]) or AC_LANG_SOURCE([text])
+bare-argument
+an action is assignments NAME=VALUE and calls, and no command is run; a list has blanks between its entries
+bracketed-argument
+put the whole argument in one pair of brackets; a list has blanks between its entries
+takes-one
+\x01 takes 1 argument
+takes-some
+\x01 takes \x02 arguments
+takes-at-most-one
+\x01 takes \x02 to 1 argument
+takes-range
+\x01 takes \x02 to \x03 arguments
+takes-more
+\x01 takes \x02 or more arguments
+has-arguments
+, and has \x01
+output-argument
+AC_OUTPUT takes no argument
+write instead
+AC_CONFIG_FILES([Makefile])
+AC_OUTPUT
+blank-before-parenthesis
+no blank may be between the name and its parenthesis
+missing-version
+the package's name and version are missing: write AC_INIT([package], [version])
+missing-version-of
+the package's name and version are missing: write AC_INIT([package], [version]) and then AC_CONFIG_SRCDIR([\x01])
+see-arguments
+docs/language.md has its arguments
+missing-argument
+an argument is missing: docs/language.md has them
+surplus-directories
+programs are looked for along PATH alone: leave the last argument out
+surplus-commands
+files have blanks between them, and no commands are run for them: leave the other arguments out
+surplus-argument
+leave the last argument out: docs/language.md has those that are read
+comma-in-argument
+a comma ends an argument that is not in brackets: put each argument in [ and ]
+no-variable
+\x01 is no name of a variable in \x02
+a name has letters, digits and `_`, and does not begin with a digit
+no-variable-or-text
+\x01 is no name of a variable, or no text on one line in \x02
+no-symbol-or-text
+\x01 is no name of a C macro, or no text on one line in \x02
+no-header
+\x01 is no header in \x02
+name headers as in sys/stat.h, without < and >, and with blanks between them
+no-headers
+\x01 is no list of headers in \x02
+no-function
+\x01 is no function in \x02
+name functions with blanks between them, as in AC_CHECK_FUNCS([getline strdup])
+no-functions
+\x01 is no list of functions in \x02
+no-declaration
+\x01 is no declaration in \x02
+name them with commas between them; includes are lines of #include, and not `-`
+no-declarations
+\x01 is no list of declarations in \x02
+no-type
+\x01 is no type in \x02
+no-types
+\x01 is no list of types in \x02
+no-files
+\x01 is no list of files in \x02
+name files below the directory, each once, with blanks between them: no `..`, no `/` in front, no `$`
+no-made-headers
+\x01 is no list of headers that are made in \x02
+no-feature
+\x01 is no name of a feature in \x02
+a feature or a package has letters, digits, `-`, `+`, `.` and `_`
+no-package
+\x01 is no name of a package in \x02
+no-library
+\x01 is no library or no function in \x02
+a library has letters, digits, `-`, `+`, `.` and `_`, as m of -lm
+no-libraries
+\x01 is no list of libraries or no function in \x02
+no-program
+\x01 is no variable or no program in \x02
+name programs without blanks, `$`, backslash and backquote; a variable can have a value with blanks
+no-programs
+\x01 is no variable or no list of programs in \x02
+no-compilers
+\x01 is no list of compilers in \x02
+no-version
+\x01 is no version of Autoconf in \x02
+a version is one to three numbers with dots, as 2.69
+no-exit-status
+\x01 is no exit status in \x02
+an exit status is a number from 1 to 255
+no-language
+\x01 is no language that is known in \x02
+C is the only language
+no-cached-value
+\x01 is no name of a cached value in \x02
+write a shell name that has _cv_ in it, as my_cv_has_zlib
+no-text
+\x01 is no text on one line in \x02
+the arguments of AC_INIT are texts as they are, each on one line
+bad-argument
+\x01 is not what the argument may be in \x02
+no-word
+\x01 is no shell word that is read
+a word with blanks is in quotes, and variables are $name and ${name}
+no-value
+the value of this assignment is not read
+a value is a shell word: text, quotes, $name and ${name}
+no-test
+\x01 is no test that is read
+a test is made of test -n, test -z, test A = B, test A != B, `:`, true, false, !, && and ||; no other command is run
+no-pattern
+\x01 is no list of patterns that is read
+patterns have * and ?, are joined by |, and have no variables and no bracket expressions; quote what is meant as it is
+shell-if
+`\x01` of the shell is not read
+write instead
+AS_IF([test \"$name\" = value],
+  [what is done then],
+  [what is done otherwise])
+shell-test
+a test by itself is not read
+shell-not
+`\x01` by itself is not read
+shell-and
+`\x01` between statements is not read
+shell-case
+`\x01` of the shell is not read
+write instead
+AS_CASE([$name],
+  [pattern | pattern], [what is done then],
+  [what is done otherwise])
+shell-for
+`\x01` of the shell is not read
+name the list in one call, whose action is done for each entry, or write a statement for each
+AC_CHECK_HEADERS([termios.h termio.h], [have_terminal=yes])
+shell-echo
+`\x01` is not run
+write instead
+AC_MSG_NOTICE([text])
+shell-exit
+`\x01` is not read
+write instead
+AC_MSG_ERROR([why the run stops], [1])
+shell-export
+`\x01` is not read
+drop it: CC, CFLAGS, CPPFLAGS, LDFLAGS and LIBS are in the commands of each check, and the templates take variables by AC_SUBST([NAME])
+shell-unset
+`\x01` is not read
+write NAME= instead: an empty variable is tested by test -z \"$NAME\"
+shell-command
+`\x01` is not read
+no command is run; what it would print is a variable that the user gives
+AC_ARG_VAR([NAME], [what it is])
+AS_IF([test -z \"$NAME\"], [NAME=default])
+shell-eval
+`\x01` is not read
+write the assignments out: no text is read a second time
+shell-function
+functions of the shell are not read
+write out what the function does where it is called
+shell-group
+groups of the shell are not read
+write the statements without the braces
+shell-cd
+`\x01` is not run
+leave it out: files and templates are named from the top of the package
+shell-backquote
+a command in backquotes is not run
+shell-arithmetic
+arithmetic of the shell is not read
+shell-substitution
+a command in `$(..)` is not run
+shell-redirection
+redirections are not read
+shell-pipe
+pipes are not read
+shell-subshell
+subshells are not read
+shell-variable-command
+a command that a variable names is not run
+test-equals
+`\x01` is no operator of `test`
+write = with a blank on each side
+test-and
+`\x01` in a test is not read
+write two tests joined by &&, as in
+AS_IF([test -n \"$a\" && test -z \"$b\"], ..)
+test-or
+`\x01` in a test is not read
+write two tests joined by ||, as in
+AS_IF([test -n \"$a\" || test -z \"$b\"], ..)
+test-file
+`test \x01` is not read
+there are no tests of files; let the user say it, by AC_ARG_WITH or AC_ARG_VAR, or check what is needed of the file
+AC_CHECK_HEADER([header.h], [what is done then])
+test-number
+`\x01` in a test is not read
+there are no tests of numbers; write = or != for -eq and -ne
+test-semicolon
+`\x01` in a test is not read
+join tests by && and ||
+test-bracket
+`[` of the shell is not read as a test, since brackets are quotes here
+write test instead
+AS_IF([test \"$name\" = value], ..)
+carriage-return
+the line ends in a carriage return
+the file has the line ends of another system; remove them
+tr -d '\\r' < configure.ac > configure.new && mv configure.new configure.ac
+blank-beside-equals
+there is a blank beside the `=` of an assignment
+variable-with-operator
+`${NAME-WORD}` and its like are not read
+write instead
+AS_IF([test -z \"$name\"], [name=default])
+special-variable
+the shell's own variables, such as `$1`, `$@` and `$?`, are not read
+name a variable of the source, as $name or ${name}; a dollar sign by itself is \\$
+open-double-quote
+a double quote is not closed
+close it on the same argument, or write \\\" for a quote by itself
+open-single-quote
+a single quote is not closed
+close it on the same argument; an apostrophe by itself is \\'
+second-call
+\x01 is called a second time
+remove this call
+not-at-top
+\x01 is not allowed within \x02
+move it to the top of the file: what it says holds for the whole package
+byte-order-mark
+the file begins with a byte order mark
+remove its first three bytes
+tail -c +4 configure.ac > configure.new && mv configure.new configure.ac
+empty-file
+the file is empty
+a source begins with AC_INIT([package], [version]) and ends with AC_OUTPUT
+text-before-init
+something is before AC_INIT
+only AC_PREREQ, blanks and comments may be there: move AC_INIT to the top of the file
+no-init
+there is no AC_INIT
+begin with AC_INIT([package], [version])
+text-after-output
+\x01 is after AC_OUTPUT
+only blanks and comments may be there: move it before AC_OUTPUT
+no-output
+there is no AC_OUTPUT
+end the file with a line AC_OUTPUT
+cache-body
+the commands of AC_CACHE_CHECK may set their own name alone
+set the name of the second argument here, and do the rest after the check, by AS_IF
+too-deep
+statements nest more than 32 deep
+set a variable in the inner statements, and test it after them
+too-many
+there are too many entries
+at most 1,024 files, headers, output variables, features and packages, and 256 entries of one list
+newer-version
+a version of Autoconf after 2.71 is required
+acrun follows 2.71: write AC_PREREQ([2.71])
+no-memory
+memory ran out
+plan-1
+the source weighs more than 65,535 statements
+each statement counts, in cases too, and the cases of a list once for each of its entries: make lists shorter
+template
+the template \x01 can't be read
+make the template, or name another one as in AC_CONFIG_FILES([file:template])
+comma-in-list
+the comma is a part of a name here: entries are separated by blanks
+leave the commas out
+backslash-in-message
+the backslash stays in the message; Autoconf drops it
+leave the backslash out
+blank-before-comma
+the blank before the comma is dropped; in Autoconf it is a part of the name
+write the comma right after the name
+quote-in-value
+the quote is a part of the value; in Autoconf it ends the quotes that are around the value
+leave the quotes out
+list-on-lines
+Autoconf makes a script of a list on several lines that doesn't run
+write the list on one line
+forbidden-name
+Autoconf refuses a name with _AC_ in it
+choose another name
+ampersand-in-output
+Autoconf makes a script of an `&` in the name of an output that doesn't run
+choose another name
+dnl-in-list
+Autoconf refuses a dnl line in AC_CONFIG_FILES
+put the comment before the call
+hash-in-message
+a `#` in single brackets begins a comment of m4 in Autoconf, which refuses this or drops the rest
+put the text in two pairs of brackets
+comma-in-name
+the tarname is made of the whole name here, and in Autoconf of what is before the comma
+put the name in two pairs of brackets, or give the tarname as the fourth argument
+library-main
+a library is never found by the function main
+name a function that the library has, as in AC_CHECK_LIB([m], [cos])
+dnl-action
+a comment is no action, so the library is added to LIBS; in Autoconf nothing is done
+write an assignment, such as [have_it=yes], for an action that does nothing
+empty-quotes
+this is an empty argument; in Autoconf it is an argument that isn't empty
+write `[]` for an empty argument
+blank-in-name
+the blanks at the ends of this name are dropped; in Autoconf they are a part of it
+write the name without blanks
+empty-value
+if the program is found, the variable is empty; in Autoconf it gets the last argument
+give a value, as in AC_CHECK_PROG([HAVE_AWK], [awk], [yes], [no])
+empty-case
+Autoconf makes a script of a case without a word that doesn't run
+write the word, as in AS_CASE([$name], ..)
+semicolon-after-call
+Autoconf makes no shell text of this call, so a script with the `;` after it doesn't run
+put what is after the `;` on a line of its own
+login-shell
+SHELL is the login shell of whoever runs this, or empty; in Autoconf it is the shell that runs configure
+write AC_SUBST([SHELL], [/bin/sh])
+script-variable
+a variable of configure scripts is an ordinary one here, and empty until it is set
+leave it out, or use @srcdir@ in a template
+quoted-includes
+AC_INCLUDES_DEFAULT in two pairs of brackets is read here; in Autoconf it is text
+put it in one pair of brackets
+macro-in-text
+the name of this macro is text here; Autoconf expands it
+write-help-string
+write AS_HELP_STRING
+write-in-unquoted
+write $\x01 in AC_DEFINE_UNQUOTED
+write-text
+write the text that is meant, or put it in two pairs of brackets
+no-compiler
+nothing before this check looks for a compiler, so CC has no value unless the user gives one
+write before it
+  AC_PROG_CC
+compiler-not-tried
+nothing before this check tries whether the compiler works; with a misspelt flag in CFLAGS each check says no
+write after AC_PROG_CC
+  AC_CACHE_CHECK([whether the C compiler makes programs], [PACKAGE_cv_prog_cc_works],
+    [AC_COMPILE_IFELSE([AC_LANG_PROGRAM([], [])],
+      [AC_LINK_IFELSE([AC_LANG_PROGRAM([], [])], [PACKAGE_cv_prog_cc_works=yes])])])
+  AS_IF([test \"$PACKAGE_cv_prog_cc_works\" != yes],
+    [AC_MSG_ERROR([the C compiler makes no programs; config.log says why], [77])])
+not-resumable
+after `\x01`, a run of this source that is cut and started again may end otherwise than one that is not cut
+read a cached value, such as $ac_cv_func_f, only after its check, assign to none, and try programs within AC_CACHE_CHECK
+not-resumable-anywhere
+a run of this source that is cut and started again may end otherwise than one that is not cut
+unset-variable
+no statement sets @\x01@, so it stays as it is
+near-variable
+did you mean @\x01@?
+no-datarootdir
+its value begins with ${datarootdir}, which this template does not set: files would go to /man, /doc and the like
+add the line
+  datarootdir = @datarootdir@
+config-status-script
+config.status is a record here, and no script that can be run
+write `acrun status NAME` in the rule, and `acrun status --recheck` for `./config.status --recheck`
+no-newline-at-end
+the last line has no newline, and so has that of the file that is made; Autoconf adds one
+add a newline at the end of the template
+never-defined
+no statement defines \x01
+near-definition
+did you mean \x01?
+default-headers
+Autoconf checks its default headers by itself; write
+  AC_CHECK_HEADERS([\x01])
+not-in-header
+no header template has \x01, so its definition goes nowhere
+add the line
+  #undef \x01
+to the template, or run autoheader
+set-shell
+write in configure.ac
+  AC_SUBST([SHELL], [/bin/sh])
+set-defs
+there is no config header; write the definitions into a header of AC_CONFIG_HEADERS, or build DEFS by hand with AC_SUBST
+set-make
+leave it out: each make sets MAKE
+set-install
+write in configure.ac
+  AC_SUBST([INSTALL], [\"install -c\"])
+set-install-program
+write in configure.ac
+  AC_SUBST([INSTALL_PROGRAM], [\"install -c\"])
+set-install-script
+write in configure.ac
+  AC_SUBST([INSTALL_SCRIPT], [\"install -c\"])
+set-install-data
+write in configure.ac
+  AC_SUBST([INSTALL_DATA], [\"install -c -m 644\"])
+set-mkdir-p
+write in configure.ac
+  AC_SUBST([MKDIR_P], [\"mkdir -p\"])
+set-ln-s
+write in configure.ac
+  AC_SUBST([LN_S], [\"ln -s\"])
+set-ranlib
+write in configure.ac
+  AC_CHECK_PROGS([RANLIB], [ranlib], [:])
+set-ar
+write in configure.ac
+  AC_CHECK_PROGS([AR], [ar])
+set-awk
+write in configure.ac
+  AC_CHECK_PROGS([AWK], [gawk mawk nawk awk])
+set-cpp
+write in configure.ac
+  AC_SUBST([CPP], [\"$CC -E\"])
+set-exeext
+it is empty on this system; write in configure.ac
+  AC_SUBST([EXEEXT], [])
+set-objext
+write in configure.ac
+  AC_SUBST([OBJEXT], [o])
+set-libobjs
+write in configure.ac
+  AC_SUBST([LIBOBJS])
+set-transform-name
+acrun renames no programs; write in configure.ac
+  AC_SUBST([program_transform_name], [s,x,x,])
+set-abs-srcdir
+use @srcdir@, or `cd` and `pwd` in the rule
+set-abs-top-srcdir
+use @top_srcdir@, or `cd` and `pwd` in the rule
+set-abs-top-builddir
+use @top_builddir@, or `cd` and `pwd` in the rule
+define-dlfcn-h
+libtool checks it; write
+  AC_CHECK_HEADERS([dlfcn.h])
+define-stdc-headers
+every compiler of this century has them; write
+  AC_DEFINE([STDC_HEADERS], [1])
+unknown-option
+the option \x01 is not known
+option-before-command
+write it before the command: acrun -j8 configure
+near-option
+a similar option is \x01
+see-options
+acrun configure --help shows the options of the source, and man acrun all others
+no-option
+an argument is an option or NAME=VALUE; man acrun has all options
+no-option-name
+\x01 names no feature or package
+a name has letters, digits, `-`, `+`, `.` and `_`; give each option by itself
+no-assigned-name
+\x01 is no name of a variable
+a name has letters, digits and `_`, and does not begin with a digit
+option-without-value
+the option \x01 needs a value
+write it after `=`, as in --prefix=/usr
+undeclared-option
+the source declares no option \x01
+acrun configure --help shows the options of the source; without --enable-option-checking=fatal it is a warning
+no-call
+there is no command, and no line of the input is `%%`
+word-after-option
+\x01 takes no other word
+acrun help COMMAND explains a command
+no-number-of-children
+-j is no number of children
+write -j1 to -j16, without a blank, before the command: acrun -j8 configure
+no-command
+\x01 is no command
+near-name
+a similar name is \x01
+see-commands
+acrun help lists the commands
+no-cache-line
+the line \x01 is none of a cache
+remove the line, or the whole cache file: it is then made anew
+no-cache-name
+the line \x01 sets what is no cached value
+a name in a cache has _cv_ in it; give other variables as arguments of acrun configure
+cache-too-large
+the cache file has more than 4,194,304 bytes
+remove it: it is then made anew
+was-set
+\x01 was \x02 in the run that made the cache \x03
+give it the old value again, or remove the cache, whose answers hold for that value
+was-unset
+\x01 was not set in the run that made the cache \x02
+leave it unset again, or remove the cache, whose answers hold for that
+is-set
+, and is now \x01
+is-unset
+, and is now not set
+wrong-no
+\x01 may hold a wrong \"no\", as a program found no room: remove it
+no-record
+the file is no record of a run: it begins with \x01
+run acrun configure first; the config.status of GNU Autoconf is a script, and is not read
+other-record
+the record has another version: \x01
+it was made by a later acrun: run acrun configure again
+wrong-record-line
+the line \x01 is wrong in the record
+run acrun configure again
+cut-record
+the record is cut off
+run acrun configure again
+no-output-name
+\x01 is no output of this package
+old-source-name
+configure.in is there, and is not read: give it the name configure.ac
+no-compiler-works
+no compiler job of this run succeeded: see config.log
+";
+
+/// Returns the text.
+pub(crate) fn text() -> &'static [u8]
+    ensures { result.now ≡ TEXT.now }
+{
+    TEXT
+}

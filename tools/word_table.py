@@ -1,0 +1,231 @@
+#!/usr/bin/env python3
+"""Writes the crate wordtable's keys and text from crates/wordtable/words.txt, which has what acrun says of errors and warnings.
+
+    tools/word_table.py            writes crates/wordtable/src/keys.rt
+    tools/word_table.py --check    prints what is wrong with the words and with the calls that name them, and then exits with status 1
+    tools/word_table.py --show     prints each key with its message and its help, as a reader sees them
+
+A line of the file that begins with a letter is a key, with the names of its places: at most three words in capitals. Then come
+
+    : TEXT           the message, in one line
+    error: TEXT      the message of an error that lint finds, whose code is the key
+    warning: TEXT    the message of a warning that lint finds, whose code is the key
+        TEXT         a line of help, after four blanks
+    = KEY            the help is that of another key
+
+In a text `%1`, `%2` and `%3` are the places of the first name, the second and the third, and `%%` is a percent sign. A place is filled with
+a part, which the program finds. An empty line or one that begins with `#` is no part of an entry.
+
+The key `no-header` is the constant `keys::NO_HEADER` in the program. It is named in a call with its parts after it,
+
+    page.put(keys::NO_HEADER, &[Part::Quoted(argument), Part::AsItIs(name)]);
+
+or it is handed on, in a table or by a function. If it has places, the call that puts it is then in the same file, and all keys that the file
+hands on have as many places as that call has parts.
+"""
+import functools
+import pathlib
+import re
+import sys
+
+ROOT = pathlib.Path(__file__).resolve().parent.parent
+CRATES = ROOT / "crates"
+WORDS, KEYS = CRATES / "wordtable/words.txt", CRATES / "wordtable/src/keys.rt"
+PLACE = re.compile(r"%(.)")
+
+
+class Entry:
+    """What is said under a key."""
+
+    def __init__(self, key, places):
+        self.key, self.places, self.message, self.lines, self.same, self.severity = key, places, "", [], None, None
+
+    def constant(self):
+        return self.key.upper().replace("-", "_")
+
+    def own_help(self):
+        return "\n".join(self.lines)
+
+
+@functools.cache
+def entries():
+    """Returns the entries by their keys."""
+    found, entry = {}, None
+    for number, line in enumerate(WORDS.read_text().splitlines(), 1):
+        sign, _, text = line.partition(" ")
+        if not line or line.startswith("#"):
+            continue
+        if re.fullmatch(r"[a-z][a-z0-9-]*(?: [A-Z]+)*", line):
+            key, *places = line.split()
+            if key in found:
+                sys.exit(f"{WORDS}:{number}: {key} is there twice")
+            entry = found[key] = Entry(key, places)
+        elif entry and sign in (":", "error:", "warning:") and not entry.message:
+            entry.message, entry.severity = text, sign[:-1] or None
+        elif entry and sign == "=" and not entry.same:
+            entry.same = text
+        elif entry and line.startswith("    "):
+            entry.lines.append(line[4:])
+        else:
+            sys.exit(f"{WORDS}:{number}: this line has no meaning: {line}")
+    return found
+
+
+def help_of(entry):
+    """Returns the help of an entry, its own or that of another key."""
+    return entries()[entry.same].own_help() if entry.same in entries() else entry.own_help()
+
+
+def wrong_words():
+    """Yields what is wrong with the words."""
+    for entry in entries().values():
+        text = f"{entry.message}\n{help_of(entry)}"
+        used = set(PLACE.findall(text)) - {"%"}
+        allowed = {str(number) for number in range(1, len(entry.places) + 1)}
+        if entry.same and (entry.lines or entry.same not in entries() or entries()[entry.same].same):
+            yield f"{entry.key}: the help is its own, or that of a key which has help of its own"
+        if not text.strip():
+            yield f"{entry.key} says nothing"
+        if used - allowed or len(entry.places) > 3:
+            yield f"{entry.key}: a place has no name, or there are more than three"
+        if allowed - used and not is_of_group(entry):
+            yield f"{entry.key}: a name has no place"
+        if not re.fullmatch(r"[ -~\n]*", text) or "%" in PLACE.sub("", text):
+            yield f"{entry.key}: a text has printable ASCII alone, and a `%` before a place or another `%`"
+
+
+def is_of_group(entry):
+    """Returns whether the entry is one of those of shell text, which are handed a word whether they name it or not."""
+    return entry.places == ["WORD"]
+
+
+def named(entry, text):
+    """Returns a text with the names of its places, as documents show it."""
+    return PLACE.sub(lambda it: "%" if it[1] == "%" else entry.places[int(it[1]) - 1], text)
+
+
+def shown(entry):
+    """Returns the message of an entry, or the first line of its help, with the names of its places."""
+    return named(entry, entry.message or help_of(entry).split("\n")[0])
+
+
+def read_text(text):
+    """Returns a text as the program reads it: a place is the byte of its number."""
+    return PLACE.sub(lambda it: "%" if it[1] == "%" else chr(int(it[1])), text)
+
+
+def extents():
+    """Returns the whole text, and where the name, the message and the help of each key are in it."""
+    text, found, helps = "", {}, {}
+    for entry in entries().values():
+        found[entry.key] = []
+        for piece in (entry.key, read_text(entry.message)):
+            found[entry.key].append((len(text), len(text) + len(piece)))
+            text += f"{piece}\n" if piece else ""
+        if not entry.same:
+            helps[entry.key] = (len(text), len(text) + len(read_text(entry.own_help())))
+            text += f"{read_text(entry.own_help())}\n" if entry.lines else ""
+    for entry in entries().values():
+        found[entry.key].append(helps[entry.same or entry.key])
+    return text, found
+
+
+def text_of_crate():
+    """Returns the crate's file: a constant for each key, and the text."""
+    text, found = extents()
+    rows = "".join(
+        f"/// {shown(entry)}\npub const {entry.constant()}: Key = Key({', '.join(map(str, found[entry.key]))});\n\n" for entry in entries().values())
+    escaped = re.sub(r"[\x01-\x03]", lambda it: f"\\x0{ord(it[0])}", text.replace("\\", "\\\\").replace('"', '\\"'))
+    return (
+        "//! What is said. `tools/word_table.py` writes this file from `words.txt`.\n\n"
+        "ghost use Rattle.std.specs.Prelude.{◌≡◌};\n\n"
+        "use crate::key::Key;\n\n"
+        f"{rows}"
+        "/// The names, the messages and the help. A place is the byte 1, 2 or 3.\n"
+        f'#[rattlefmt::skip]\nconst TEXT: &[u8] = b"\\\n{escaped}";\n\n'
+        "/// Returns the text.\npub(crate) fn text() -> &'static [u8]\n    ensures { result.now ≡ TEXT.now }\n{\n    TEXT\n}\n"
+    )
+
+
+def without_comments(text):
+    return re.sub(r"(?m)//.*$", "", text)
+
+
+def parts_from(text, at):
+    """Returns how many parts a list has whose bracket is at this place."""
+    depth, parts = 0, [""]
+    for sign in text[at:]:
+        depth += (sign in "([{") - (sign in ")]}")
+        if depth == 0:
+            break
+        if sign == "," and depth == 1:
+            parts.append("")
+        else:
+            parts[-1] += sign
+    return sum(bool(part.strip("[ \n")) for part in parts)
+
+
+@functools.cache
+def uses():
+    """Returns for each file that names keys: those with their parts, those that it hands on, and the parts of keys that it has from there."""
+    found = {}
+    for file in sorted(CRATES.glob("*/src/*.rt")):
+        text = without_comments(file.read_text())
+        if file != KEYS and re.search(r"\bkeys::[A-Z]|\.put\(", text):
+            direct, handed, later = [], [], []
+            for it in re.finditer(r"\bkeys::([A-Z][A-Z0-9_]*)\b(?!\.name)", text):
+                parts = re.match(r",\s*&(?=\[)", text[it.end():])
+                if parts:
+                    direct.append((it[1], parts_from(text, it.end() + parts.end())))
+                else:
+                    handed.append(it[1])
+            for it in re.finditer(r"\.put\(\s*(?!keys::)[\w.]+(?:\([^()]*\))?,\s*&(?=\[)", text):
+                later.append(parts_from(text, it.end()))
+            found[file.relative_to(ROOT)] = (direct, handed, later)
+    return found
+
+
+def wrong_calls():
+    """Yields a line for each key that nothing names, and for each call that has other parts than its text has places."""
+    places = {entry.constant(): len(entry.places) for entry in entries().values()}
+    for file, (direct, handed, later) in uses().items():
+        for key, parts in direct:
+            if key in places and places[key] != parts:
+                yield f"{file}: {key} has {places[key]} places, and {parts} parts are put there"
+        for key in handed:
+            if places.get(key) and places[key] not in later:
+                yield f"{file}: {key} is handed on, and no call of this file puts {places[key]} parts"
+        for parts in later:
+            if parts and parts not in {places.get(key) for key in handed}:
+                yield f"{file}: {parts} parts are put, and this file hands on no key with as many places"
+    named_keys = {key for direct, handed, _ in uses().values() for key in [*handed, *(it for it, _ in direct)]}
+    for key in sorted({*places} - named_keys):
+        yield f"{WORDS.relative_to(ROOT)}: nothing says {key.lower().replace('_', '-')}"
+
+
+def differences():
+    """Yields a line for each thing that is wrong with the words or with a call, and for the crate's file if it is old."""
+    yield from wrong_words()
+    yield from wrong_calls()
+    if not KEYS.exists() or KEYS.read_text() != text_of_crate():
+        yield f"{KEYS.relative_to(ROOT)} is not what tools/word_table.py writes"
+
+
+def main(words):
+    if words == ["--check"]:
+        found = [*differences()]
+        print("".join(f"{line}\n" for line in found), end="")
+        return int(bool(found))
+    if words == ["--show"]:
+        for entry in entries().values():
+            print(f"{entry.key}: {named(entry, entry.message)}")
+            print("".join(f"    {named(entry, line)}\n" for line in help_of(entry).splitlines()), end="")
+        return 0
+    for line in wrong_words():
+        print(line)
+    KEYS.write_text(text_of_crate())
+    return 0
+
+
+if __name__ == "__main__":
+    sys.exit(main(sys.argv[1:]))
