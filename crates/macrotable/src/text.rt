@@ -212,7 +212,7 @@ AC_PREPROC_IFELSE([AC_LANG_SOURCE([[#include <stdio.h>
 #error none
 #endif]])], [$3{FOUND}], [$4{NOT-FOUND}])~idiom AC_EGREP_HEADER
 AC_CHECK_DECL([$1!{SYMBOL}], [$3{FOUND}], [$4{NOT-FOUND}], [#include <$2!{HEADER}>])~idiom AC_CHECK_MEMBERS
-dnl one such check for each member; includes of the call replace those of AC_LANG_PROGRAM
+dnl includes of the call replace those of AC_LANG_PROGRAM
 AC_CACHE_CHECK([for $1{TYPE.MEMBER}], [ac_cv_member_$1_{TYPE_MEMBER}],
   [AC_COMPILE_IFELSE([AC_LANG_PROGRAM([AC_INCLUDES_DEFAULT
 #include <sys/stat.h>

@@ -47,11 +47,26 @@ fn depth_of(text: &[u8]) -> usize {
     depth
 }
 
+/// Returns whether a comment of m4 is open at the end of a text: its last line has a `#` that isn't in more brackets than these.
+fn is_in_comment(text: &[u8], most: usize) -> bool {
+    let mut depth: usize = 0;
+    let mut is_open = false;
+    for byte in text {
+        is_open = *byte != b'\n' && (is_open || *byte == b'#' && depth <= most);
+        depth = depth.saturating_add(usize::from(*byte == b'['));
+        depth = depth.saturating_sub(usize::from(*byte == b']'));
+    }
+    is_open
+}
+
 /// Returns whether a word at this offset of an argument is read as text here, and as a macro by
-/// Autoconf: it isn't the name of a variable, and isn't in more brackets than these.
+/// Autoconf: it isn't the name of a variable, isn't in more brackets than these, and isn't in a comment.
 fn is_expanded(argument: &[u8], at: usize, most: usize) -> bool {
     let front = before(argument, at);
-    !front.ends_with(b"$") && !front.ends_with(b"${") && depth_of(front) <= most
+    !front.ends_with(b"$")
+        && !front.ends_with(b"${")
+        && depth_of(front) <= most
+        && !is_in_comment(front, most)
 }
 
 /// Returns the first name of a macro in an argument that Autoconf expands, by its offset, but for
