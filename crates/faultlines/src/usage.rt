@@ -7,7 +7,7 @@ use deftable::Bytes;
 use faultwords::usage_words;
 use std::alloc::{AllocError, Global};
 use std::io::Write;
-use wordtable::{Words, keys};
+use wordtable::{Key, Words, keys};
 
 /// Returns what is wrong with words that are no command.
 fn of_words(alloc: Global, words: &[Bytes]) -> Result<Words, AllocError> {
@@ -15,12 +15,32 @@ fn of_words(alloc: Global, words: &[Bytes]) -> Result<Words, AllocError> {
     usage_words(alloc, words.as_slice())
 }
 
+/// Returns what is wrong with words that begin as those of a command do.
+fn misuse_of(words: &[Bytes]) -> Option<Key> {
+    let word = words.first()?.as_slice();
+    if word == b"status".as_slice() {
+        Some(keys::WORD_AFTER_STATUS)
+    } else if word.starts_with(b"-j") && word.len() > 2 {
+        Some(keys::WINDOW_WITHOUT_CONFIGURE)
+    } else {
+        None
+    }
+}
+
+/// Says what is wrong with words that are no command, and where the commands are listed.
+fn put_unknown<E: Write>(alloc: Global, words: &[Bytes], errors: &mut E) {
+    put_words(alloc, of_words(alloc, words), errors);
+    put_key(alloc, keys::SEE_COMMANDS, errors);
+}
+
 /// Says what is wrong with words that are no command, after its line, if it is asked.
 pub fn explain_usage<E: Write>(alloc: Global, is_asked: bool, words: &[Bytes], errors: &mut E)
     ensures silent { is_asked ≡ false → errors.new ≡ errors.old }
 {
     if is_asked {
-        put_words(alloc, of_words(alloc, words), errors);
-        put_key(alloc, keys::SEE_COMMANDS, errors);
+        match misuse_of(words) {
+            Some(key) => put_key(alloc, key, errors),
+            None => put_unknown(alloc, words, errors),
+        }
     }
 }

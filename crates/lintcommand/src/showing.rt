@@ -8,8 +8,8 @@ use crate::sheets::Sheets;
 use deftable::Bytes;
 use excerpts::{excerpt_of, json_of};
 use findings::{Finding, Severity};
-use itoa::Buffer;
 use std::alloc::{AllocError, Global};
+use wordtable::{Page, Part, keys};
 
 /// How findings are shown.
 #[derive(Clone, Copy)]
@@ -64,16 +64,21 @@ fn first_of(findings: &[Finding]) -> &[Finding] {
 }
 
 /// Appends how many findings are not shown, if there are any.
-fn put_rest(page: &mut Vec<u8>, linted: &Linted, count: usize) -> Result<(), AllocError> {
+fn put_rest(
+    alloc: Global,
+    page: &mut Vec<u8>,
+    linted: &Linted,
+    count: usize,
+) -> Result<(), AllocError> {
     let rest = count.saturating_sub(MOST);
     if rest == 0 {
         return Ok(());
     }
-    let mut digits = Buffer::new();
-    page.extend_from_slice(linted.name.as_slice())?;
-    page.extend_from_slice(b": ")?;
-    page.extend_from_slice(digits.format(rest).as_bytes())?;
-    page.extend_from_slice(b" more findings are not shown\n")?;
+    let mut line = Page::new(alloc);
+    let name = Part::AsItIs(linted.name.as_slice());
+    line.put(keys::MORE_FINDINGS, &[name, Part::Number(rest)]);
+    page.extend_from_slice(line.message()?.as_slice())?;
+    page.push(b'\n')?;
     Ok(())
 }
 
@@ -91,7 +96,7 @@ pub(crate) fn page_of(
         page.extend_from_slice(text.as_slice())?;
     }
     if !form.is_json {
-        put_rest(&mut page, linted, findings.len())?;
+        put_rest(alloc, &mut page, linted, findings.len())?;
     }
     Ok(page)
 }

@@ -11,6 +11,7 @@ use std::alloc::{AllocError, Global};
 use std::collections::BTreeSet;
 use textcut::parts;
 use textpieces::{first_line, from};
+use wordtable::{Page, keys};
 
 /// Lines of comment, each after the offset of the line that it is above.
 type Said = BTreeSet<Vec<u8>>;
@@ -44,8 +45,13 @@ fn without_brackets(alloc: Global, text: &[u8]) -> Result<Vec<u8>, AllocError> {
         .collect(alloc)
 }
 
-/// What is said if AC_INIT is not first. A comment that has its name is before it too.
-const NOT_FIRST: &[u8] = b"something is before AC_INIT; begin with AC_INIT([package], [version])";
+/// Returns what is said if AC_INIT is not first. A comment that has its name is before it too.
+fn not_first(alloc: Global) -> Result<Vec<u8>, AllocError> {
+    let mut page = Page::new(alloc);
+    page.put(keys::INIT_NOT_FIRST, &[]);
+    let words = page.message()?;
+    Ok(words.into_vec())
+}
 
 /// Returns whether the help is of this source, or one line. Other help is an example.
 fn is_own_help(error: &Finding) -> bool {
@@ -55,7 +61,7 @@ fn is_own_help(error: &Finding) -> bool {
 /// Returns what is said of an error.
 fn said(alloc: Global, error: &Finding) -> Result<Vec<u8>, AllocError> {
     if error.code.as_slice() == b"parse-8".as_slice() {
-        return Vec::from_slice(alloc, NOT_FIRST);
+        return not_first(alloc);
     }
     let mut words = Vec::from_slice(alloc, error.message.as_slice())?;
     if !error.help.is_empty() && is_own_help(error) {

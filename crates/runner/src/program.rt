@@ -34,38 +34,12 @@ use std::time::Instant;
 use summary::{Children, Counted, Tally, put_summary};
 use whycommand::run_why;
 
-/// Returns what is wrong with words that begin as those of a command do, or an empty text.
-fn misuse_of(words: &[Bytes]) -> &'static [u8] {
-    let Some(word) = words.first() else {
-        return b"";
-    };
-    if word.as_slice() == b"status".as_slice() {
-        return b"acrun: --recheck is the only word after status\n";
-    }
-    if word.as_slice().starts_with(b"-j") && word.len() > 2 {
-        return b"acrun: -jN is followed by configure, and N is from 1 to 16\n";
-    }
-    b""
-}
-
-/// Says why the words are no command.
-fn explain_words<E: Write>(alloc: Global, words: &[Bytes], errors: &mut E) {
-    let misuse = misuse_of(words);
-    if misuse.is_empty() {
-        explain_usage(alloc, true, words, errors);
-    } else {
-        let _ = errors.write_all(misuse);
-    }
-}
-
 /// Reports that the words are no command, and says more of it if it is asked. Returns the exit status.
 fn tell_unknown<E: Write>(alloc: Global, is_asked: bool, words: &[Bytes], errors: &mut E) -> u8
     ensures { result ≡ 2 }
 {
     let _ = tell_usage(errors);
-    if is_asked {
-        explain_words(alloc, words, errors);
-    }
+    explain_usage(alloc, is_asked, words, errors);
     FAULT
 }
 

@@ -325,302 +325,314 @@ pub const EMPTY_FILE: Key = Key((9553, 9563), (9564, 9581), (9582, 9656));
 /// something is before AC_INIT
 pub const TEXT_BEFORE_INIT: Key = Key((9657, 9673), (9674, 9701), (9702, 9787));
 
+/// something is before AC_INIT; begin with AC_INIT([package], [version])
+pub const INIT_NOT_FIRST: Key = Key((9788, 9802), (9803, 9872), (9873, 9873));
+
 /// there is no AC_INIT
-pub const NO_INIT: Key = Key((9788, 9795), (9796, 9815), (9816, 9856));
+pub const NO_INIT: Key = Key((9873, 9880), (9881, 9900), (9901, 9941));
 
 /// TEXT is after AC_OUTPUT
-pub const TEXT_AFTER_OUTPUT: Key = Key((9857, 9874), (9875, 9895), (9896, 9959));
+pub const TEXT_AFTER_OUTPUT: Key = Key((9942, 9959), (9960, 9980), (9981, 10044));
 
 /// there is no AC_OUTPUT
-pub const NO_OUTPUT: Key = Key((9960, 9969), (9970, 9991), (9992, 10026));
+pub const NO_OUTPUT: Key = Key((10045, 10054), (10055, 10076), (10077, 10111));
 
 /// the commands of AC_CACHE_CHECK may set their own name alone
-pub const CACHE_BODY: Key = Key((10027, 10037), (10038, 10097), (10098, 10181));
+pub const CACHE_BODY: Key = Key((10112, 10122), (10123, 10182), (10183, 10266));
 
 /// statements nest more than 32 deep
-pub const TOO_DEEP: Key = Key((10182, 10190), (10191, 10224), (10225, 10287));
+pub const TOO_DEEP: Key = Key((10267, 10275), (10276, 10309), (10310, 10372));
 
 /// there are too many entries
-pub const TOO_MANY: Key = Key((10288, 10296), (10297, 10323), (10324, 10422));
+pub const TOO_MANY: Key = Key((10373, 10381), (10382, 10408), (10409, 10507));
 
 /// a version of Autoconf after 2.71 is required
-pub const NEWER_VERSION: Key = Key((10423, 10436), (10437, 10481), (10482, 10525));
+pub const NEWER_VERSION: Key = Key((10508, 10521), (10522, 10566), (10567, 10610));
 
 /// memory ran out
-pub const NO_MEMORY: Key = Key((10526, 10535), (10536, 10550), (10551, 10551));
+pub const NO_MEMORY: Key = Key((10611, 10620), (10621, 10635), (10636, 10636));
 
 /// the source weighs more than 65,535 statements
-pub const PLAN_1: Key = Key((10551, 10557), (10558, 10603), (10604, 10713));
+pub const PLAN_1: Key = Key((10636, 10642), (10643, 10688), (10689, 10798));
 
 /// the template PATH can't be read
-pub const TEMPLATE: Key = Key((10714, 10722), (10723, 10751), (10752, 10829));
+pub const TEMPLATE: Key = Key((10799, 10807), (10808, 10836), (10837, 10914));
+
+/// FILE: NUMBER more findings are not shown
+pub const MORE_FINDINGS: Key = Key((10915, 10928), (10929, 10961), (10962, 10962));
 
 /// the comma is a part of a name here: entries are separated by blanks
-pub const COMMA_IN_LIST: Key = Key((10830, 10843), (10844, 10911), (10912, 10932));
+pub const COMMA_IN_LIST: Key = Key((10962, 10975), (10976, 11043), (11044, 11064));
 
 /// the backslash stays in the message; Autoconf drops it
-pub const BACKSLASH_IN_MESSAGE: Key = Key((10933, 10953), (10954, 11007), (11008, 11031));
+pub const BACKSLASH_IN_MESSAGE: Key = Key((11065, 11085), (11086, 11139), (11140, 11163));
 
 /// the blank before the comma is dropped; in Autoconf it is a part of the name
-pub const BLANK_BEFORE_COMMA: Key = Key((11032, 11050), (11051, 11126), (11127, 11163));
+pub const BLANK_BEFORE_COMMA: Key = Key((11164, 11182), (11183, 11258), (11259, 11295));
 
 /// the quote is a part of the value; in Autoconf it ends the quotes that are around the value
-pub const QUOTE_IN_VALUE: Key = Key((11164, 11178), (11179, 11269), (11270, 11290));
+pub const QUOTE_IN_VALUE: Key = Key((11296, 11310), (11311, 11401), (11402, 11422));
 
 /// Autoconf makes a script of a list on several lines that doesn't run
-pub const LIST_ON_LINES: Key = Key((11291, 11304), (11305, 11372), (11373, 11399));
+pub const LIST_ON_LINES: Key = Key((11423, 11436), (11437, 11504), (11505, 11531));
 
 /// Autoconf refuses a name with _AC_ in it
-pub const FORBIDDEN_NAME: Key = Key((11400, 11414), (11415, 11454), (11455, 11474));
+pub const FORBIDDEN_NAME: Key = Key((11532, 11546), (11547, 11586), (11587, 11606));
 
 /// Autoconf makes a script of an `&` in the name of an output that doesn't run
-pub const AMPERSAND_IN_OUTPUT: Key = Key((11475, 11494), (11495, 11570), (11571, 11590));
+pub const AMPERSAND_IN_OUTPUT: Key = Key((11607, 11626), (11627, 11702), (11703, 11722));
 
 /// Autoconf refuses a dnl line in AC_CONFIG_FILES
-pub const DNL_IN_LIST: Key = Key((11591, 11602), (11603, 11649), (11650, 11681));
+pub const DNL_IN_LIST: Key = Key((11723, 11734), (11735, 11781), (11782, 11813));
 
 /// a `#` in single brackets begins a comment of m4 in Autoconf, which refuses this or drops the rest
-pub const HASH_IN_MESSAGE: Key = Key((11682, 11697), (11698, 11795), (11796, 11833));
+pub const HASH_IN_MESSAGE: Key = Key((11814, 11829), (11830, 11927), (11928, 11965));
 
 /// the tarname is made of the whole name here, and in Autoconf of what is before the comma
-pub const COMMA_IN_NAME: Key = Key((11834, 11847), (11848, 11935), (11936, 12017));
+pub const COMMA_IN_NAME: Key = Key((11966, 11979), (11980, 12067), (12068, 12149));
 
 /// a library is never found by the function main
-pub const LIBRARY_MAIN: Key = Key((12018, 12030), (12031, 12076), (12077, 12145));
+pub const LIBRARY_MAIN: Key = Key((12150, 12162), (12163, 12208), (12209, 12277));
 
 /// a comment is no action, so the library is added to LIBS; in Autoconf nothing is done
-pub const DNL_ACTION: Key = Key((12146, 12156), (12157, 12241), (12242, 12317));
+pub const DNL_ACTION: Key = Key((12278, 12288), (12289, 12373), (12374, 12449));
 
 /// this is an empty argument; in Autoconf it is an argument that isn't empty
-pub const EMPTY_QUOTES: Key = Key((12318, 12330), (12331, 12404), (12405, 12437));
+pub const EMPTY_QUOTES: Key = Key((12450, 12462), (12463, 12536), (12537, 12569));
 
 /// the blanks at the ends of this name are dropped; in Autoconf they are a part of it
-pub const BLANK_IN_NAME: Key = Key((12438, 12451), (12452, 12534), (12535, 12564));
+pub const BLANK_IN_NAME: Key = Key((12570, 12583), (12584, 12666), (12667, 12696));
 
 /// if the program is found, the variable is empty; in Autoconf it gets the last argument
-pub const EMPTY_VALUE: Key = Key((12565, 12576), (12577, 12662), (12663, 12728));
+pub const EMPTY_VALUE: Key = Key((12697, 12708), (12709, 12794), (12795, 12860));
 
 /// Autoconf makes a script of a case without a word that doesn't run
-pub const EMPTY_CASE: Key = Key((12729, 12739), (12740, 12805), (12806, 12848));
+pub const EMPTY_CASE: Key = Key((12861, 12871), (12872, 12937), (12938, 12980));
 
 /// Autoconf makes no shell text of this call, so a script with the `;` after it doesn't run
-pub const SEMICOLON_AFTER_CALL: Key = Key((12849, 12869), (12870, 12958), (12959, 13005));
+pub const SEMICOLON_AFTER_CALL: Key = Key((12981, 13001), (13002, 13090), (13091, 13137));
 
 /// SHELL is the login shell of whoever runs this, or empty; in Autoconf it is the shell that runs configure
-pub const LOGIN_SHELL: Key = Key((13006, 13017), (13018, 13122), (13123, 13157));
+pub const LOGIN_SHELL: Key = Key((13138, 13149), (13150, 13254), (13255, 13289));
 
 /// a variable of configure scripts is an ordinary one here, and empty until it is set
-pub const SCRIPT_VARIABLE: Key = Key((13158, 13173), (13174, 13256), (13257, 13300));
+pub const SCRIPT_VARIABLE: Key = Key((13290, 13305), (13306, 13388), (13389, 13432));
 
 /// AC_INCLUDES_DEFAULT in two pairs of brackets is read here; in Autoconf it is text
-pub const QUOTED_INCLUDES: Key = Key((13301, 13316), (13317, 13398), (13399, 13429));
+pub const QUOTED_INCLUDES: Key = Key((13433, 13448), (13449, 13530), (13531, 13561));
 
 /// the name of this macro is text here; Autoconf expands it
-pub const MACRO_IN_TEXT: Key = Key((13430, 13443), (13444, 13500), (13501, 13501));
+pub const MACRO_IN_TEXT: Key = Key((13562, 13575), (13576, 13632), (13633, 13633));
 
 /// write AS_HELP_STRING
-pub const WRITE_HELP_STRING: Key = Key((13501, 13518), (13519, 13519), (13519, 13539));
+pub const WRITE_HELP_STRING: Key = Key((13633, 13650), (13651, 13651), (13651, 13671));
 
 /// write $VARIABLE in AC_DEFINE_UNQUOTED
-pub const WRITE_IN_UNQUOTED: Key = Key((13540, 13557), (13558, 13558), (13558, 13588));
+pub const WRITE_IN_UNQUOTED: Key = Key((13672, 13689), (13690, 13690), (13690, 13720));
 
 /// write the text that is meant, or put it in two pairs of brackets
-pub const WRITE_TEXT: Key = Key((13589, 13599), (13600, 13600), (13600, 13664));
+pub const WRITE_TEXT: Key = Key((13721, 13731), (13732, 13732), (13732, 13796));
 
 /// nothing before this check looks for a compiler, so CC has no value unless the user gives one
-pub const NO_COMPILER: Key = Key((13665, 13676), (13677, 13769), (13770, 13798));
+pub const NO_COMPILER: Key = Key((13797, 13808), (13809, 13901), (13902, 13930));
 
 /// nothing before this check tries whether the compiler works; with a misspelt flag in CFLAGS each check says no
-pub const COMPILER_NOT_TRIED: Key = Key((13799, 13817), (13818, 13927), (13928, 14305));
+pub const COMPILER_NOT_TRIED: Key = Key((13931, 13949), (13950, 14059), (14060, 14437));
 
 /// after `STATEMENT`, a run of this source that is cut and started again may end otherwise than one that is not cut
-pub const NOT_RESUMABLE: Key = Key((14306, 14319), (14320, 14424), (14425, 14545));
+pub const NOT_RESUMABLE: Key = Key((14438, 14451), (14452, 14556), (14557, 14677));
 
 /// a run of this source that is cut and started again may end otherwise than one that is not cut
-pub const NOT_RESUMABLE_ANYWHERE: Key = Key((14546, 14568), (14569, 14662), (14425, 14545));
+pub const NOT_RESUMABLE_ANYWHERE: Key = Key((14678, 14700), (14701, 14794), (14557, 14677));
 
 /// no statement sets @NAME@, so it stays as it is
-pub const UNSET_VARIABLE: Key = Key((14663, 14677), (14678, 14721), (14722, 14722));
+pub const UNSET_VARIABLE: Key = Key((14795, 14809), (14810, 14853), (14854, 14854));
 
 /// did you mean @NAME@?
-pub const NEAR_VARIABLE: Key = Key((14722, 14735), (14736, 14736), (14736, 14753));
+pub const NEAR_VARIABLE: Key = Key((14854, 14867), (14868, 14868), (14868, 14885));
 
 /// its value begins with ${datarootdir}, which this template does not set: files would go to /man, /doc and the like
-pub const NO_DATAROOTDIR: Key = Key((14754, 14768), (14769, 14882), (14883, 14925));
+pub const NO_DATAROOTDIR: Key = Key((14886, 14900), (14901, 15014), (15015, 15057));
 
 /// config.status is a record here, and no script that can be run
-pub const CONFIG_STATUS_SCRIPT: Key = Key((14926, 14946), (14947, 15008), (15009, 15108));
+pub const CONFIG_STATUS_SCRIPT: Key = Key((15058, 15078), (15079, 15140), (15141, 15240));
 
 /// the last line has no newline, and so has that of the file that is made; Autoconf adds one
-pub const NO_NEWLINE_AT_END: Key = Key((15109, 15126), (15127, 15216), (15217, 15257));
+pub const NO_NEWLINE_AT_END: Key = Key((15241, 15258), (15259, 15348), (15349, 15389));
 
 /// no statement defines NAME
-pub const NEVER_DEFINED: Key = Key((15258, 15271), (15272, 15294), (15295, 15295));
+pub const NEVER_DEFINED: Key = Key((15390, 15403), (15404, 15426), (15427, 15427));
 
 /// did you mean NAME?
-pub const NEAR_DEFINITION: Key = Key((15295, 15310), (15311, 15311), (15311, 15326));
+pub const NEAR_DEFINITION: Key = Key((15427, 15442), (15443, 15443), (15443, 15458));
 
 /// Autoconf checks its default headers by itself; write
-pub const DEFAULT_HEADERS: Key = Key((15327, 15342), (15343, 15343), (15343, 15419));
+pub const DEFAULT_HEADERS: Key = Key((15459, 15474), (15475, 15475), (15475, 15551));
 
 /// no header template has NAME, so its definition goes nowhere
-pub const NOT_IN_HEADER: Key = Key((15420, 15433), (15434, 15490), (15491, 15549));
+pub const NOT_IN_HEADER: Key = Key((15552, 15565), (15566, 15622), (15623, 15681));
 
 /// write in configure.ac
-pub const SET_SHELL: Key = Key((15550, 15559), (15560, 15560), (15560, 15612));
+pub const SET_SHELL: Key = Key((15682, 15691), (15692, 15692), (15692, 15744));
 
 /// there is no config header; write the definitions into a header of AC_CONFIG_HEADERS, or build DEFS by hand with AC_SUBST
-pub const SET_DEFS: Key = Key((15613, 15621), (15622, 15622), (15622, 15742));
+pub const SET_DEFS: Key = Key((15745, 15753), (15754, 15754), (15754, 15874));
 
 /// leave it out: each make sets MAKE
-pub const SET_MAKE: Key = Key((15743, 15751), (15752, 15752), (15752, 15785));
+pub const SET_MAKE: Key = Key((15875, 15883), (15884, 15884), (15884, 15917));
 
 /// write in configure.ac
-pub const SET_INSTALL: Key = Key((15786, 15797), (15798, 15798), (15798, 15857));
+pub const SET_INSTALL: Key = Key((15918, 15929), (15930, 15930), (15930, 15989));
 
 /// write in configure.ac
-pub const SET_INSTALL_PROGRAM: Key = Key((15858, 15877), (15878, 15878), (15878, 15945));
+pub const SET_INSTALL_PROGRAM: Key = Key((15990, 16009), (16010, 16010), (16010, 16077));
 
 /// write in configure.ac
-pub const SET_INSTALL_SCRIPT: Key = Key((15946, 15964), (15965, 15965), (15965, 16031));
+pub const SET_INSTALL_SCRIPT: Key = Key((16078, 16096), (16097, 16097), (16097, 16163));
 
 /// write in configure.ac
-pub const SET_INSTALL_DATA: Key = Key((16032, 16048), (16049, 16049), (16049, 16120));
+pub const SET_INSTALL_DATA: Key = Key((16164, 16180), (16181, 16181), (16181, 16252));
 
 /// write in configure.ac
-pub const SET_MKDIR_P: Key = Key((16121, 16132), (16133, 16133), (16133, 16190));
+pub const SET_MKDIR_P: Key = Key((16253, 16264), (16265, 16265), (16265, 16322));
 
 /// write in configure.ac
-pub const SET_LN_S: Key = Key((16191, 16199), (16200, 16200), (16200, 16251));
+pub const SET_LN_S: Key = Key((16323, 16331), (16332, 16332), (16332, 16383));
 
 /// write in configure.ac
-pub const SET_RANLIB: Key = Key((16252, 16262), (16263, 16263), (16263, 16326));
+pub const SET_RANLIB: Key = Key((16384, 16394), (16395, 16395), (16395, 16458));
 
 /// write in configure.ac
-pub const SET_AR: Key = Key((16327, 16333), (16334, 16334), (16334, 16384));
+pub const SET_AR: Key = Key((16459, 16465), (16466, 16466), (16466, 16516));
 
 /// write in configure.ac
-pub const SET_AWK: Key = Key((16385, 16392), (16393, 16393), (16393, 16460));
+pub const SET_AWK: Key = Key((16517, 16524), (16525, 16525), (16525, 16592));
 
 /// write in configure.ac
-pub const SET_CPP: Key = Key((16461, 16468), (16469, 16469), (16469, 16520));
+pub const SET_CPP: Key = Key((16593, 16600), (16601, 16601), (16601, 16652));
 
 /// it is empty on this system; write in configure.ac
-pub const SET_EXEEXT: Key = Key((16521, 16531), (16532, 16532), (16532, 16606));
+pub const SET_EXEEXT: Key = Key((16653, 16663), (16664, 16664), (16664, 16738));
 
 /// write in configure.ac
-pub const SET_OBJEXT: Key = Key((16607, 16617), (16618, 16618), (16618, 16665));
+pub const SET_OBJEXT: Key = Key((16739, 16749), (16750, 16750), (16750, 16797));
 
 /// write in configure.ac
-pub const SET_LIBOBJS: Key = Key((16666, 16677), (16678, 16678), (16678, 16721));
+pub const SET_LIBOBJS: Key = Key((16798, 16809), (16810, 16810), (16810, 16853));
 
 /// acrun renames no programs; write in configure.ac
-pub const SET_TRANSFORM_NAME: Key = Key((16722, 16740), (16741, 16741), (16741, 16836));
+pub const SET_TRANSFORM_NAME: Key = Key((16854, 16872), (16873, 16873), (16873, 16968));
 
 /// use @srcdir@, or `cd` and `pwd` in the rule
-pub const SET_ABS_SRCDIR: Key = Key((16837, 16851), (16852, 16852), (16852, 16895));
+pub const SET_ABS_SRCDIR: Key = Key((16969, 16983), (16984, 16984), (16984, 17027));
 
 /// use @top_srcdir@, or `cd` and `pwd` in the rule
-pub const SET_ABS_TOP_SRCDIR: Key = Key((16896, 16914), (16915, 16915), (16915, 16962));
+pub const SET_ABS_TOP_SRCDIR: Key = Key((17028, 17046), (17047, 17047), (17047, 17094));
 
 /// use @top_builddir@, or `cd` and `pwd` in the rule
-pub const SET_ABS_TOP_BUILDDIR: Key = Key((16963, 16983), (16984, 16984), (16984, 17033));
+pub const SET_ABS_TOP_BUILDDIR: Key = Key((17095, 17115), (17116, 17116), (17116, 17165));
 
 /// libtool checks it; write
-pub const DEFINE_DLFCN_H: Key = Key((17034, 17048), (17049, 17049), (17049, 17103));
+pub const DEFINE_DLFCN_H: Key = Key((17166, 17180), (17181, 17181), (17181, 17235));
 
 /// every compiler of this century has them; write
-pub const DEFINE_STDC_HEADERS: Key = Key((17104, 17123), (17124, 17124), (17124, 17203));
+pub const DEFINE_STDC_HEADERS: Key = Key((17236, 17255), (17256, 17256), (17256, 17335));
 
 /// the option OPTION is not known
-pub const UNKNOWN_OPTION: Key = Key((17204, 17218), (17219, 17244), (17245, 17245));
+pub const UNKNOWN_OPTION: Key = Key((17336, 17350), (17351, 17376), (17377, 17377));
 
 /// write it before the command: acrun -j8 configure
-pub const OPTION_BEFORE_COMMAND: Key = Key((17245, 17266), (17267, 17267), (17267, 17315));
+pub const OPTION_BEFORE_COMMAND: Key = Key((17377, 17398), (17399, 17399), (17399, 17447));
 
 /// a similar option is OPTION
-pub const NEAR_OPTION: Key = Key((17316, 17327), (17328, 17328), (17328, 17349));
+pub const NEAR_OPTION: Key = Key((17448, 17459), (17460, 17460), (17460, 17481));
 
 /// acrun configure --help shows the options of the source, and man acrun all others
-pub const SEE_OPTIONS: Key = Key((17350, 17361), (17362, 17362), (17362, 17442));
+pub const SEE_OPTIONS: Key = Key((17482, 17493), (17494, 17494), (17494, 17574));
 
 /// an argument is an option or NAME=VALUE; man acrun has all options
-pub const NO_OPTION: Key = Key((17443, 17452), (17453, 17453), (17453, 17518));
+pub const NO_OPTION: Key = Key((17575, 17584), (17585, 17585), (17585, 17650));
 
 /// OPTION names no feature or package
-pub const NO_OPTION_NAME: Key = Key((17519, 17533), (17534, 17563), (17564, 17641));
+pub const NO_OPTION_NAME: Key = Key((17651, 17665), (17666, 17695), (17696, 17773));
 
 /// NAME is no name of a variable
-pub const NO_ASSIGNED_NAME: Key = Key((17642, 17658), (17659, 17685), (17686, 17753));
+pub const NO_ASSIGNED_NAME: Key = Key((17774, 17790), (17791, 17817), (17818, 17885));
 
 /// the option OPTION needs a value
-pub const OPTION_WITHOUT_VALUE: Key = Key((17754, 17774), (17775, 17801), (17802, 17841));
+pub const OPTION_WITHOUT_VALUE: Key = Key((17886, 17906), (17907, 17933), (17934, 17973));
 
 /// the source declares no option OPTION
-pub const UNDECLARED_OPTION: Key = Key((17842, 17859), (17860, 17891), (17892, 18002));
+pub const UNDECLARED_OPTION: Key = Key((17974, 17991), (17992, 18023), (18024, 18134));
 
 /// there is no command, and no line of the input is `%%`
-pub const NO_CALL: Key = Key((18003, 18010), (18011, 18064), (18065, 18065));
+pub const NO_CALL: Key = Key((18135, 18142), (18143, 18196), (18197, 18197));
 
 /// OPTION takes no other word
-pub const WORD_AFTER_OPTION: Key = Key((18065, 18082), (18083, 18104), (18105, 18142));
+pub const WORD_AFTER_OPTION: Key = Key((18197, 18214), (18215, 18236), (18237, 18274));
 
 /// -j is no number of children
-pub const NO_NUMBER_OF_CHILDREN: Key = Key((18143, 18164), (18165, 18192), (18193, 18268));
+pub const NO_NUMBER_OF_CHILDREN: Key = Key((18275, 18296), (18297, 18324), (18325, 18400));
 
 /// WORD is no command
-pub const NO_COMMAND: Key = Key((18269, 18279), (18280, 18295), (18296, 18296));
+pub const NO_COMMAND: Key = Key((18401, 18411), (18412, 18427), (18428, 18428));
 
 /// a similar name is NAME
-pub const NEAR_NAME: Key = Key((18296, 18305), (18306, 18306), (18306, 18325));
+pub const NEAR_NAME: Key = Key((18428, 18437), (18438, 18438), (18438, 18457));
 
 /// acrun help lists the commands
-pub const SEE_COMMANDS: Key = Key((18326, 18338), (18339, 18368), (18369, 18369));
+pub const SEE_COMMANDS: Key = Key((18458, 18470), (18471, 18500), (18501, 18501));
+
+/// --recheck is the only word after status
+pub const WORD_AFTER_STATUS: Key = Key((18501, 18518), (18519, 18558), (18559, 18559));
+
+/// -jN is followed by configure, and N is from 1 to 16
+pub const WINDOW_WITHOUT_CONFIGURE: Key = Key((18559, 18583), (18584, 18635), (18636, 18636));
 
 /// the line LINE is none of a cache
-pub const NO_CACHE_LINE: Key = Key((18369, 18382), (18383, 18412), (18413, 18475));
+pub const NO_CACHE_LINE: Key = Key((18636, 18649), (18650, 18679), (18680, 18742));
 
 /// the line LINE sets what is no cached value
-pub const NO_CACHE_NAME: Key = Key((18476, 18489), (18490, 18529), (18530, 18616));
+pub const NO_CACHE_NAME: Key = Key((18743, 18756), (18757, 18796), (18797, 18883));
 
 /// the cache file has more than 4,194,304 bytes
-pub const CACHE_TOO_LARGE: Key = Key((18617, 18632), (18633, 18677), (18678, 18709));
+pub const CACHE_TOO_LARGE: Key = Key((18884, 18899), (18900, 18944), (18945, 18976));
 
 /// NAME was VALUE in the run that made the cache CACHE
-pub const WAS_SET: Key = Key((18710, 18717), (18718, 18758), (18759, 18842));
+pub const WAS_SET: Key = Key((18977, 18984), (18985, 19025), (19026, 19109));
 
 /// NAME was not set in the run that made the cache CACHE
-pub const WAS_UNSET: Key = Key((18843, 18852), (18853, 18899), (18900, 18970));
+pub const WAS_UNSET: Key = Key((19110, 19119), (19120, 19166), (19167, 19237));
 
 /// , and is now VALUE
-pub const IS_SET: Key = Key((18971, 18977), (18978, 18992), (18993, 18993));
+pub const IS_SET: Key = Key((19238, 19244), (19245, 19259), (19260, 19260));
 
 /// , and is now not set
-pub const IS_UNSET: Key = Key((18993, 19001), (19002, 19022), (19023, 19023));
+pub const IS_UNSET: Key = Key((19260, 19268), (19269, 19289), (19290, 19290));
 
 /// CACHE may hold a wrong "no", as a program found no room: remove it
-pub const WRONG_NO: Key = Key((19023, 19031), (19032, 19094), (19095, 19095));
+pub const WRONG_NO: Key = Key((19290, 19298), (19299, 19361), (19362, 19362));
 
 /// the file is no record of a run: it begins with LINE
-pub const NO_RECORD: Key = Key((19095, 19104), (19105, 19153), (19154, 19243));
+pub const NO_RECORD: Key = Key((19362, 19371), (19372, 19420), (19421, 19510));
 
 /// the record has another version: LINE
-pub const OTHER_RECORD: Key = Key((19244, 19256), (19257, 19290), (19291, 19346));
+pub const OTHER_RECORD: Key = Key((19511, 19523), (19524, 19557), (19558, 19613));
 
 /// the line LINE is wrong in the record
-pub const WRONG_RECORD_LINE: Key = Key((19347, 19364), (19365, 19398), (19399, 19424));
+pub const WRONG_RECORD_LINE: Key = Key((19614, 19631), (19632, 19665), (19666, 19691));
 
 /// the record is cut off
-pub const CUT_RECORD: Key = Key((19425, 19435), (19436, 19457), (19458, 19483));
+pub const CUT_RECORD: Key = Key((19692, 19702), (19703, 19724), (19725, 19750));
 
 /// NAME is no output of this package
-pub const NO_OUTPUT_NAME: Key = Key((19484, 19498), (19499, 19529), (19530, 19530));
+pub const NO_OUTPUT_NAME: Key = Key((19751, 19765), (19766, 19796), (19797, 19797));
 
 /// configure.in is there, and is not read: give it the name configure.ac
-pub const OLD_SOURCE_NAME: Key = Key((19530, 19545), (19546, 19615), (19616, 19616));
+pub const OLD_SOURCE_NAME: Key = Key((19797, 19812), (19813, 19882), (19883, 19883));
 
 /// no compiler job of this run succeeded: see config.log
-pub const NO_COMPILER_WORKS: Key = Key((19616, 19633), (19634, 19687), (19688, 19688));
+pub const NO_COMPILER_WORKS: Key = Key((19883, 19900), (19901, 19954), (19955, 19955));
 
 /// The names, the messages and the help. A place is the byte 1, 2 or 3.
 #[rattlefmt::skip]
@@ -917,6 +929,8 @@ a source begins with AC_INIT([package], [version]) and ends with AC_OUTPUT
 text-before-init
 something is before AC_INIT
 only AC_PREREQ, blanks and comments may be there: move AC_INIT to the top of the file
+init-not-first
+something is before AC_INIT; begin with AC_INIT([package], [version])
 no-init
 there is no AC_INIT
 begin with AC_INIT([package], [version])
@@ -946,6 +960,8 @@ each statement counts, in cases too, and the cases of a list once for each of it
 template
 the template \x01 can't be read
 make the template, or name another one as in AC_CONFIG_FILES([file:template])
+more-findings
+\x01: \x02 more findings are not shown
 comma-in-list
 the comma is a part of a name here: entries are separated by blanks
 leave the commas out
@@ -1154,6 +1170,10 @@ near-name
 a similar name is \x01
 see-commands
 acrun help lists the commands
+word-after-status
+--recheck is the only word after status
+window-without-configure
+-jN is followed by configure, and N is from 1 to 16
 no-cache-line
 the line \x01 is none of a cache
 remove the line, or the whole cache file: it is then made anew
