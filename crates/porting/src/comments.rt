@@ -10,7 +10,7 @@ use sourcecalls::calls_of;
 use std::alloc::{AllocError, Global};
 use std::collections::BTreeSet;
 use textcut::parts;
-use textpieces::{first_line, from};
+use textpieces::{first_line, first_word, from};
 use wordtable::{Page, keys};
 
 /// Lines of comment, each after the offset of the line that it is above.
@@ -146,7 +146,40 @@ fn add_note(alloc: Global, note: &Note, said: &mut Said) -> Result<bool, AllocEr
     Ok(is_new)
 }
 
-/// Returns what is said of errors, in order of the lines that it is said above, but for what is there.
+/// The words of the shell that go on with a construct or end it.
+const CONTINUING: [&[u8]; 6] = [b"then", b"else", b"fi", b"do", b"done", b"esac"];
+
+/// Returns whether an error is of text that is no statement.
+fn is_of_text(error: &Finding) -> bool {
+    error.code.as_slice() == b"parse-3".as_slice()
+}
+
+/// Returns whether an error is of text that goes on with a construct of the shell, or ends it.
+fn is_continuing(text: &[u8], error: &Finding) -> bool {
+    let word = first_word(from(text, error.start));
+    is_of_text(error) && CONTINUING.iter().any(|other| *other == word)
+}
+
+/// Adds what is said of an error, but for what is there.
+fn push_note(
+    alloc: Global,
+    lines: &[Line],
+    error: &Finding,
+    said: &mut Said,
+    out: &mut Vec<Note>,
+) -> Result<(), AllocError> {
+    let note = Note {
+        line: comment_line(lines, error.start),
+        words: words_of(alloc, error)?,
+    };
+    if add_note(alloc, &note, said)? {
+        out.push(note)?;
+    }
+    Ok(())
+}
+
+/// Returns what is said of errors, in order of the lines that it is said above, but for what is there. After the first error of text
+/// nothing is said of words that go on with a construct or end it: what is said above its start is about them too.
 fn notes_of(
     alloc: Global,
     text: &[u8],
@@ -155,14 +188,12 @@ fn notes_of(
 ) -> Result<Vec<Note>, AllocError> {
     let mut said = said_in(alloc, text, lines)?;
     let mut out = Vec::new(alloc);
+    let mut has_text = false;
     for error in errors {
-        let note = Note {
-            line: comment_line(lines, error.start),
-            words: words_of(alloc, error)?,
-        };
-        if add_note(alloc, &note, &mut said)? {
-            out.push(note)?;
+        if !has_text || !is_continuing(text, error) {
+            push_note(alloc, lines, error, &mut said, &mut out)?;
         }
+        has_text |= is_of_text(error);
     }
     out.sort_by_key(|note| note.line)?;
     Ok(out)
