@@ -264,7 +264,8 @@ def commands_that_do_not_agree():
 
 
 def options_that_do_not_agree():
-    """The options among which a similar one is sought are not those that are read, or a completion lacks one with a value."""
+    """The options among which a similar one is sought are not those that are read, the manual page lacks one of these, or a completion
+    lacks one with a value."""
     text = {file.name: file.read_text() for file in (CRATES / "commandline/src").glob("*.rt")}
     of_variables = text["directory.rt"].partition("fn variable")[2].partition("fn default_value")[0]
     directories = {it.replace("_", "-") for it in re.findall(r'=> b"(\w+)"', of_variables)}
@@ -273,6 +274,9 @@ def options_that_do_not_agree():
     said = literals(running.partition("const OPTIONS")[2].partition(";\n")[0].partition("=")[2])
     for name in sorted((said ^ read) - {"--disable-option-checking", "--enable-option-checking"}):
         yield f"crates/faultwords/src/running.rt and crates/commandline do not agree on the option {name}"
+    page = {*re.findall(r"--[a-z-]*", pathlib.Path("share/acrun.1").read_text().replace("\\-", "-"))}
+    for name in sorted(read - page):
+        yield f"share/acrun.1 does not name {name}"
     for file in sorted(COMPLETIONS.iterdir()):
         words = {*re.findall(r"[a-z-]+", file.read_text())}
         for name in sorted({"srcdir", "cache-file", *directories} - words):

@@ -28,10 +28,16 @@ import pathlib
 import re
 import sys
 
+import macro_table
+
 ROOT = pathlib.Path(__file__).resolve().parent.parent
 CRATES = ROOT / "crates"
 WORDS, KEYS = CRATES / "wordtable/words.txt", CRATES / "wordtable/src/keys.rt"
 PLACE = re.compile(r"%(.)")
+# The crates with tables of macros, and the file that names the variables of AC_INIT.
+LINT = ("linting", "shellfaults", "sourcewarnings", "sourcewords", "templatewarnings")
+GIVEN = CRATES / "templatewarnings/src/given.rt"
+MACRO = r"\b(?:AC|AM|AS|AX|m4)_\w+"
 
 
 class Entry:
@@ -203,10 +209,27 @@ def wrong_calls():
         yield f"{WORDS.relative_to(ROOT)}: nothing says {key.lower().replace('_', '-')}"
 
 
+def unknown_macros():
+    """Yields a line for each macro that the words name, or a table of lint, and that is neither read nor in crates/macrotable/macros.txt. A
+    name of what AC_INIT says is the name of its variable after `AC_`."""
+    known = macro_table.profile().union(*(entry.names for entry in macro_table.entries()))
+    known |= {f"AC_{name}" for name in re.findall(r'b"(PACKAGE_\w+)"', GIVEN.read_text())}
+    for entry in entries().values():
+        for name in sorted({*re.findall(MACRO, f"{entry.message}\n{help_of(entry)}")} - known):
+            yield f"{WORDS.relative_to(ROOT)}: {entry.key} names {name}, which is no macro"
+    for file in sorted(file for crate in LINT for file in (CRATES / crate / "src").glob("*.rt")):
+        for name in sorted({*re.findall(rf'b"({MACRO})"', without_comments(file.read_text()))} - known):
+            yield f"{file.relative_to(ROOT)} names {name}, which is no macro"
+
+
 def differences():
     """Yields a line for each thing that is wrong with the words or with a call, and for the crate's file if it is old."""
-    yield from wrong_words()
+    wrong = [*wrong_words()]
+    if wrong:
+        yield from wrong
+        return
     yield from wrong_calls()
+    yield from unknown_macros()
     if not KEYS.exists() or KEYS.read_text() != text_of_crate():
         yield f"{KEYS.relative_to(ROOT)} is not what tools/word_table.py writes"
 
@@ -221,10 +244,11 @@ def main(words):
             print(f"{entry.key}: {named(entry, entry.message)}")
             print("".join(f"    {named(entry, line)}\n" for line in help_of(entry).splitlines()), end="")
         return 0
-    for line in wrong_words():
-        print(line)
-    KEYS.write_text(text_of_crate())
-    return 0
+    wrong = [*wrong_words()]
+    print("".join(f"{line}\n" for line in wrong), end="")
+    if not wrong:
+        KEYS.write_text(text_of_crate())
+    return int(bool(wrong))
 
 
 if __name__ == "__main__":
