@@ -4,7 +4,7 @@
 //! has what each line of a log is, and `whys` the command why over files: no contract says what it prints, so a row
 //! compares the exit status and both streams. Each of these tests is a table of rows, in the form that the crate `testrows`
 //! reads. `offsets` has the places of offsets in a text, `terminal` a text as a terminal is given it, and `last_line` the last
-//! line of a run on a terminal.
+//! line of a run on a terminal, and `parts` what is put in the places of words.
 #![tactic(auto)]
 
 #[cfg(test)]
@@ -17,6 +17,8 @@ mod last_line;
 mod log_lines;
 #[cfg(test)]
 mod offsets;
+#[cfg(test)]
+mod parts;
 #[cfg(test)]
 mod shows;
 #[cfg(test)]
