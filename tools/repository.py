@@ -263,6 +263,20 @@ def commands_that_do_not_agree():
             yield f"{place} and {home} do not agree on the command {name}"
 
 
+def package_names(file):
+    """Returns the names of a package that a file spells, without the AC_ of a macro."""
+    return re.findall(r'b"(?:AC_)?(PACKAGE_\w+)"', (CRATES / file).read_text())
+
+
+def package_names_that_do_not_agree():
+    """A table of the macros or variables that AC_INIT sets has other names than a run sets."""
+    wanted = package_names("runstate/src/package.rt")
+    for file in ("sourcewarnings/src/foreign.rt", "sourcewords/src/parse.rt", "templatewarnings/src/given.rt"):
+        found = package_names(file)
+        if sorted(found) != sorted(wanted):
+            yield f"crates/{file} names {' '.join(found)}; a run sets {' '.join(wanted)}"
+
+
 def options_that_do_not_agree():
     """The options among which a similar one is sought are not those that are read, the manual page lacks one of these, or a completion
     lacks one with a value."""
@@ -307,6 +321,7 @@ CHECKS = [
     manual_page_faults,
     commands_that_do_not_agree,
     options_that_do_not_agree,
+    package_names_that_do_not_agree,
     picture_is_old,
 ]
 
