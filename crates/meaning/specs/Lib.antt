@@ -1,4 +1,5 @@
 pub mod State
+pub mod Messages
 pub mod Asking
 pub mod Tests
 pub mod Directories

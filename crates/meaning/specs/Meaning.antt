@@ -1,6 +1,5 @@
 -- The meaning of statements. It always passes `as_is` for `early`; a plan passes what its open tests do.
 use Rattle.std.specs.Prelude.{ℕ, ◌==◌, ◌&&◌, ◌||◌, length, [], ◌∷◌, ◌++◌, option_map, Bool, true, false, not, List, Option, Some, None, bytes_eq, codes, if◌then◌else◌, map, unwrap_or}
-use Rattle.deftable.specs.declared.note.Stream.TheVariants as streams
 use Rattle.deftable.specs.Table.{value_of}
 use Rattle.shellword.specs.declared.part.Part.{Part}
 use Rattle.shellword.specs.Matching.{matches_any}
@@ -9,10 +8,11 @@ use Rattle.shellword.specs.Value.{word_value}
 use Rattle.syntax.specs.declared.feature.OptionKind.{OptionKind}
 use Rattle.syntax.specs.declared.feature.OptionKind.TheVariants.{Feature, Package}
 use Rattle.syntax.specs.declared.listed.Sought.{Sought}
-use Rattle.syntax.specs.declared.statement.MessageKind.{MessageKind}
-use Rattle.syntax.specs.declared.statement.MessageKind.TheVariants as messages
-use Rattle.syntax.specs.declared.statement.Plain as plain
-use Rattle.syntax.specs.declared.statement.Plain.TheVariants.{Init, Accepted, ConfigFiles, ConfigHeaders, Assign, Subst, SubstValue, Define, DefineUnquoted, Error, Message, ArgVar, CheckProg, CheckProgs, PathProg, ProgCc, Batch, Output}
+use Rattle.syntax.specs.declared.statement.Effect.{Effect}
+use Rattle.syntax.specs.declared.statement.Effect.TheVariants as effects
+use Rattle.syntax.specs.declared.statement.Effect.TheVariants.{Assign, Define, DefineText, Print, Stop, Package, Search, Searches, Batch, Complete}
+use Rattle.syntax.specs.declared.statement.Message.TheVariants.{Error}
+use Rattle.syntax.specs.declared.statement.ProgramValue.TheVariants.{Text, FullName}
 use Rattle.syntax.specs.declared.statement.Question as asks
 use Rattle.syntax.specs.declared.statement.Question.TheVariants as questions
 use Rattle.syntax.specs.declared.statement.Question.TheVariants.{Given, Tries, Checks, ChecksEach}
@@ -23,10 +23,12 @@ use Rattle.syntax.specs.declared.tree.When.TheVariants.{Holds, Matches, Yes, No,
 use Rattle.syntax.specs.Script.{Script, Done, Then, Choice, Check, Cases, No_case, Case}
 use Rattle.syntax.specs.TestNames.{program_name, path_name}
 use Rattle.meaning.specs.Package.{initialised}
-use Rattle.meaning.specs.State.{State, Scope, no_choice, about, answered, told, with_variable, with_definition, How, as_is, Run, Ends, Goes_on, Completed, Stopped, then_run, ended}
-use Rattle.meaning.specs.Rows.{Search, Kind, Program, Library, Libraries, kind_for, name_of, is_found, value_or_empty, value_if, row_of}
+use Rattle.meaning.specs.Messages.{said}
+use Rattle.meaning.specs.State.{State, Scope, no_choice, about, answered, with_variable, with_definition, How, as_is, Run, Ends, Goes_on, Completed, Stopped, then_run, ended}
+use Rattle.meaning.specs.Rows as rows
+use Rattle.meaning.specs.Rows.{Kind, Program, Library, Libraries, kind_for, name_of, is_found, value_or_empty, value_if, row_of}
 use Rattle.meaning.specs.Batches.{batched}
-use Rattle.meaning.specs.Tests.{Test, cached_test, checking, with_result, tested}
+use Rattle.meaning.specs.Tests.{Test, cached_test, tested}
 use Rattle.meaning.specs.Tries.{text_of, tried}
 
 -- The prefix is set, and is still `NONE`. (own)
@@ -46,12 +48,12 @@ with_prefixes st = settled (codes "exec_prefix") (codes "${prefix}") (settled (c
 
 -- AC_CHECK_PROG: the search for a program, with the variable's values if it is found and if it isn't. (Autoconf's
 -- manual, "Generic Programs")
-abbrev pub check_prog : List ℕ → List ℕ → List ℕ → Option (List ℕ) → Search
+abbrev pub check_prog : List ℕ → List ℕ → List ℕ → Option (List ℕ) → rows.Search
 check_prog variable program found otherwise =
     record { variable = variable; name = program_name variable; program = program; found = Some found; otherwise = otherwise }
 
 -- AC_PATH_PROG: the value is the program's full name if it is found. (Autoconf's manual, "Generic Programs")
-abbrev pub path_prog : List ℕ → List ℕ → Option (List ℕ) → Search
+abbrev pub path_prog : List ℕ → List ℕ → Option (List ℕ) → rows.Search
 path_prog variable program otherwise =
     record { variable = variable; name = path_name variable; program = program; found = None; otherwise = otherwise }
 
@@ -75,7 +77,7 @@ is_full_name (a ∷ []) = is_slash a
 is_full_name (a ∷ b ∷ more) = is_slash a || (b == 58 && starts_slash more)
 
 -- The test of a program; `counts` says whether the variable's own value counts. (Autoconf's manual, "Generic Programs")
-abbrev pub program_test : Search → Bool → State → Run
+abbrev pub program_test : rows.Search → Bool → State → Run
 program_test s counts st = tested (row_of (Program s (value_if counts (value_or_empty st s.variable))) st) st
 
 -- One program of several: the first is always looked for, a later one only if the variable is still empty. (Autoconf's
@@ -96,44 +98,26 @@ abbrev pub defaulted : List ℕ → Option (List ℕ) → State → State
 defaulted variable None st = st
 defaulted variable (Some value) st = if has_value st variable then st else with_variable variable value st
 
--- The line of an error. (Autoconf's manual, "Printing Messages")
-abbrev pub error_line : List ℕ → List ℕ
-error_line message = codes "configure: error: " ++ message ++ codes "\n"
-
--- A message: what is checked, and the results of a check; a notice; and a warning, on standard error. (Autoconf's manual,
--- "Printing Messages")
-unfoldable pub said : MessageKind → List ℕ → State → State
-said messages.Checking message st = checking message st
-said messages.Results message st = with_result message st
-said messages.Notice message st = told streams.Out (codes "configure: " ++ message ++ codes "\n") st
-said messages.Warning message st = told streams.Err (codes "configure: WARNING: " ++ message ++ codes "\n") st
-
--- A statement: AC_INIT sets the package's variables and definitions; an assignment and AC_SUBST with a value set a
--- variable to the value of a word; the macros of programs look for them; the macros of lists test all entries at once;
--- AC_DEFINE defines a name as a text, AC_DEFINE_UNQUOTED as the value of one; AC_MSG_ERROR prints its line and stops the
--- run; the macros of other messages print them; AC_OUTPUT gives prefix and exec_prefix their values and completes the run; and the others have no effect. (Autoconf's manual, the sections of the macros)
-unfoldable pub effect : plain.Plain → State → Run
-effect (Init title version bug tarname url) st = Ends Goes_on (initialised title version bug tarname url st)
-effect Accepted st = Ends Goes_on st
-effect (ConfigFiles outputs) st = Ends Goes_on st
-effect (ConfigHeaders outputs) st = Ends Goes_on st
+-- What a statement with no statements in it does: nothing; a variable gets the value of a word; a name is defined as a text,
+-- or as the value of one; a message is printed; the line of an error is printed, and the run stops; the package's variables
+-- and definitions are set; a program is looked for, or several, one after the other; all entries of a list are tested at
+-- once; and prefix and exec_prefix get their values, and the run completes. (Autoconf's manual, the sections of the macros)
+unfoldable pub effect : Effect → State → Run
+effect effects.Nothing st = Ends Goes_on st
 effect (Assign name value) st = Ends Goes_on (with_variable name (word_value value st.vars) st)
-effect (Subst name) st = Ends Goes_on st
-effect (SubstValue name value) st = Ends Goes_on (with_variable name (word_value value st.vars) st)
 effect (Define name value) st = Ends Goes_on (with_definition name value st)
-effect (DefineUnquoted name value) st = Ends Goes_on (with_definition name (word_value value st.vars) st)
-effect (Error message status) st = Ends (Stopped status) (told streams.Err (error_line (word_value message st.vars)) st)
-effect (Message kind message) st = Ends Goes_on (said kind (word_value message st.vars) st)
-effect (ArgVar name help) st = Ends Goes_on st
-effect (CheckProg variable program found otherwise) st =
+effect (DefineText name value) st = Ends Goes_on (with_definition name (word_value value st.vars) st)
+effect (Print message text) st = Ends Goes_on (said message (word_value text st.vars) st)
+effect (Stop text status) st = Ends (Stopped status) (said Error (word_value text st.vars) st)
+effect (Package title version bug tarname url) st = Ends Goes_on (initialised title version bug tarname url st)
+effect (Search variable program (Text found) otherwise) st =
     program_test (check_prog variable program (word_value found st.vars) (option_map (λ t. word_value t st.vars) otherwise)) (has_value st variable) st
-effect (CheckProgs variable programs otherwise) st =
-    then_run (looks_all variable programs true st) (λ now. Ends Goes_on (defaulted variable (option_map (λ t. word_value t now.vars) otherwise) now))
-effect (PathProg variable program otherwise) st =
+effect (Search variable program FullName otherwise) st =
     program_test (path_prog variable program (option_map (λ t. word_value t st.vars) otherwise)) (is_full_name (value_or_empty st variable)) st
-effect (ProgCc programs) st = looks_all (codes "CC") programs true st
+effect (Searches variable programs otherwise) st =
+    then_run (looks_all variable programs true st) (λ now. Ends Goes_on (defaulted variable (option_map (λ t. word_value t now.vars) otherwise) now))
 effect (Batch listed entries includes) st = batched (record { listed = listed; entries = entries; includes = includes }) st
-effect Output st = Ends Completed (with_prefixes st)
+effect Complete st = Ends Completed (with_prefixes st)
 
 -- The variable that gets the value of an option if the option is given. (Autoconf's manual, "Choosing Package Options"
 -- and "External Software")
@@ -162,7 +146,7 @@ first_found early sought (entry ∷ more) includes st go = found_by early (kind_
 -- Compiler", "Existing Tests" and "Library Files")
 abbrev pub asked : (How → State → State) → asks.Question → State → (Scope → State → Run) → Run
 asked early (Tries kind program) st go = tried early kind (text_of program st.vars) st (λ passed. go (answered passed))
-asked early (Given kind variable help) st go = given (value_of st.vars variable) kind st go
+asked early (Given kind variable) st go = given (value_of st.vars variable) kind st go
 asked early (Checks sought entry includes) st go = found_by early (kind_for sought entry includes false) st go
 asked early (ChecksEach sought entries includes) st go = first_found early sought entries includes st go
 asked early (questions.Library library function others adds) st go = found_by early (Library library function others adds) st go
@@ -211,8 +195,8 @@ unfoldable mutual
   -- round. (own)
   pub meaning : Script → State → Run
   meaning Done st = Ends Goes_on st
-  meaning (Then s rest) st = then_run (effect s st) (meaning rest)
-  meaning (Choice subject cases rest) st = then_run (in_turn (rounds_of subject) (chosen cases) st) (meaning rest)
+  meaning (Then declares e rest) st = then_run (effect e st) (meaning rest)
+  meaning (Choice declares subject cases rest) st = then_run (in_turn (rounds_of subject) (chosen cases) st) (meaning rest)
   meaning (Check message name commands rest) st = then_run (cached_test (check message name (meaning commands) st) st) (meaning rest)
 
   -- The statements of the first case that is taken, if any. (own)

@@ -2,6 +2,8 @@
 use Rattle.std.specs.Prelude.{ℕ, Bool, true, false, List, [], ◌∷◌, ◌++◌, Option, Some, None, codes}
 use Rattle.deftable.specs.declared.note.Stream.TheVariants as streams
 use Rattle.deftable.specs.Table.{value_of}
+use Rattle.syntax.specs.declared.statement.Message.TheVariants.{Checking, Results}
+use Rattle.meaning.specs.Messages.{said}
 use Rattle.meaning.specs.State.{State, told, with_variable, without_variable, How, Goes_on, Completed, Stopped, Cut, Run, Ends, then_run, ended, as_is}
 use Rattle.meaning.specs.Asking.{Attempt, attempted, without_compiler}
 
@@ -26,11 +28,11 @@ guarded name run = ended (broken name) run
 
 -- The piece with which a test begins. (Autoconf's manual, "Printing Messages")
 abbrev pub checking : List ℕ → State → State
-checking message st = told streams.Out (codes "checking " ++ message ++ codes "... ") st
+checking message st = said Checking message st
 
 -- The piece with which a test ends. (Autoconf's manual, "Printing Messages")
 abbrev pub with_result : List ℕ → State → State
-with_result text st = told streams.Out (text ++ codes "\n") st
+with_result text st = said Results text st
 
 -- A test, given the value of its name: if the name is set, its value counts, and the body is not run. (Autoconf's
 -- manual, "Caching Results")

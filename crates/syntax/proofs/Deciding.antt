@@ -10,19 +10,14 @@ use Rattle.shellword.specs.declared.element.Condition.TheVariants as conditions
 use Rattle.shellword.specs.declared.part.Part.{Part}
 use Rattle.shellword.specs.declared.part.Part.TheVariants as parts
 use Rattle.shellword.specs.Truth.{Joined, single, joined}
-use Rattle.syntax.specs.declared.program.Program as programs
-use Rattle.syntax.specs.declared.program.Program.TheVariants as texts
-use Rattle.syntax.specs.declared.statement.Plain as plain
-use Rattle.syntax.specs.declared.statement.Plain.TheVariants.{Init, Accepted, ConfigFiles, ConfigHeaders, Assign, Subst, SubstValue, Define, DefineUnquoted, Error, Message, ArgVar, CheckProg, CheckProgs, PathProg, ProgCc, Batch, Output}
-use Rattle.syntax.specs.declared.statement.Question as question
-use Rattle.syntax.specs.declared.statement.Question.TheVariants.{Given, Tries, Checks, ChecksEach, Library, Libraries}
 use Rattle.syntax.specs.declared.tree.Subject.{Subject}
 use Rattle.syntax.specs.declared.tree.Subject.TheVariants.{Nothing, Word, Asked}
 use Rattle.syntax.specs.declared.tree.When.{When}
 use Rattle.syntax.specs.declared.tree.When.TheVariants.{Holds, Matches, Yes, No, Always}
 use Rattle.syntax.specs.Script.{Script, Done, Then, Choice, Check, Cases, No_case, Case}
-use Rattle.syntax.specs.Resumable.{Among, IsOrdinary, MayRead, ReadsText, ReadsIfGiven, ReadsCondition, ReadsTest, ReadsProgram, ReadsWhen, tests_of, tests_at, first_alone, IsCommand, IsCommandOf, MayAssign, ResumablePlain, ResumableQuestion, ResumableSubject, Resumable, ResumableIn}
-use Rattle.syntax.specs.Decide.{may_read, reads_text, reads_if_given, reads_condition, reads_test, reads_program, reads_when, is_command_of, may_assign, resumable_plain, resumable_question, resumable_subject, resumable, resumable_in}
+use Rattle.syntax.specs.Resumable.{Among, IsOrdinary, MayRead, ReadsText, ReadsAll, ReadsCondition, ReadsTest, ReadsWhen, tests_at, first_alone, IsCommand, IsCommandOf, MayAssign, MayAssignIfAny, MayTry, MayUse, ResumableSubject, Resumable, ResumableIn}
+use Rattle.syntax.specs.Decide.{may_read, reads_text, reads_all, reads_condition, reads_test, reads_when, is_command_of, may_assign, may_assign_if_any, may_try, may_use, resumable_subject, resumable, resumable_in}
+use Rattle.syntax.specs.Uses.{Uses, uses_of, uses_asked}
 
 -- The test answers true exactly if this holds.
 abbrev Decides : Bool → Type 0 → Type 0
@@ -76,9 +71,9 @@ text_read tested (parts.Quoted b ∷ more) = text_read tested more
 text_read tested (parts.Variable name ∷ more) =
     both (may_read tested name) (reads_text tested more) (MayRead tested name) (ReadsText tested more) (read tested name) (text_read tested more)
 
-given_read : (tested : List (List ℕ)) (text : Option (List Part)) → Decides (reads_if_given tested text) (ReadsIfGiven tested text)
-given_read tested None = always
-given_read tested (Some text) = text_read tested text
+all_read : (tested : List (List ℕ)) (texts : List (List Part)) → Decides (reads_all tested texts) (ReadsAll tested texts)
+all_read tested [] = always
+all_read tested (text ∷ more) = both (reads_text tested text) (reads_all tested more) (ReadsText tested text) (ReadsAll tested more) (text_read tested text) (all_read tested more)
 
 two_read : (tested : List (List ℕ)) (a b : List Part) → Decides (reads_text tested a && reads_text tested b) (ReadsText tested a × ReadsText tested b)
 two_read tested a b = both (reads_text tested a) (reads_text tested b) (ReadsText tested a) (ReadsText tested b) (text_read tested a) (text_read tested b)
@@ -96,10 +91,6 @@ test_read tested (single element) = condition_read tested element.condition
 test_read tested (joined left joint element) =
     both (reads_test tested left) (reads_condition tested element.condition) (ReadsTest tested left) (ReadsCondition tested element.condition)
     (test_read tested left) (condition_read tested element.condition)
-
-program_read : (tested : List (List ℕ)) (program : programs.Program) → Decides (reads_program tested program) (ReadsProgram tested program)
-program_read tested (texts.Program prologue body) = two_read tested prologue body
-program_read tested (texts.Source text) = text_read tested text
 
 when_read : (tested : List (List ℕ)) (when : When) → Decides (reads_when tested when) (ReadsWhen tested when)
 when_read tested (Holds test) = test_read tested test
@@ -120,62 +111,33 @@ assigned : (own : Option (List ℕ)) (name : List ℕ) → Decides (may_assign o
 assigned own name =
     either (not (is_cache_name name)) (is_command_of name own) (IsOrdinary name) (IsCommandOf name own) (ordinary name) (command_of name own)
 
-set : (own : Option (List ℕ)) (tested : List (List ℕ)) (name : List ℕ) (value : List Part)
-    → Decides (may_assign own name && reads_text tested value) (MayAssign own name × ReadsText tested value)
-set own tested name value =
-    both (may_assign own name) (reads_text tested value) (MayAssign own name) (ReadsText tested value) (assigned own name) (text_read tested value)
+any_assigned : (own name : Option (List ℕ)) → Decides (may_assign_if_any own name) (MayAssignIfAny own name)
+any_assigned own None = always
+any_assigned own (Some name) = assigned own name
 
-sought : (own : Option (List ℕ)) (tested : List (List ℕ)) (name : List ℕ) (otherwise : Option (List Part))
-    → Decides (may_assign own name && reads_if_given tested otherwise) (MayAssign own name × ReadsIfGiven tested otherwise)
-sought own tested name otherwise =
-    both (may_assign own name) (reads_if_given tested otherwise) (MayAssign own name) (ReadsIfGiven tested otherwise)
-    (assigned own name) (given_read tested otherwise)
+tried : (own : Option (List ℕ)) (tries : Bool) → Decides (may_try own tries) (MayTry own tries)
+tried own false = always
+tried own true = command own
 
-plain_decided : (own : Option (List ℕ)) (tested : List (List ℕ)) (s : plain.Plain) → Decides (resumable_plain own tested s) (ResumablePlain own tested s)
-plain_decided own tested (Init title version bug tarname url) = always
-plain_decided own tested Accepted = always
-plain_decided own tested (ConfigFiles outputs) = always
-plain_decided own tested (ConfigHeaders outputs) = always
-plain_decided own tested (Assign name value) = set own tested name value
-plain_decided own tested (Subst name) = read tested name
-plain_decided own tested (SubstValue name value) = set own tested name value
-plain_decided own tested (Define name value) = always
-plain_decided own tested (DefineUnquoted name value) = text_read tested value
-plain_decided own tested (Error message status) = text_read tested message
-plain_decided own tested (Message kind message) = text_read tested message
-plain_decided own tested (ArgVar name help) = always
-plain_decided own tested (CheckProg variable program found otherwise) =
-    both (may_assign own variable) (reads_text tested found && reads_if_given tested otherwise)
-    (MayAssign own variable) (ReadsText tested found × ReadsIfGiven tested otherwise) (assigned own variable)
-    (both (reads_text tested found) (reads_if_given tested otherwise) (ReadsText tested found) (ReadsIfGiven tested otherwise)
-    (text_read tested found) (given_read tested otherwise))
-plain_decided own tested (CheckProgs variable programs otherwise) = sought own tested variable otherwise
-plain_decided own tested (PathProg variable program otherwise) = sought own tested variable otherwise
-plain_decided own tested (ProgCc programs) = always
-plain_decided own tested (Batch listed entries includes) = given_read tested includes
-plain_decided own tested Output = always
-
-question_decided : (own : Option (List ℕ)) (tested : List (List ℕ)) (q : question.Question) → Decides (resumable_question own tested q) (ResumableQuestion own tested q)
-question_decided own tested (Given kind variable help) = assigned own variable
-question_decided own tested (Tries kind program) =
-    both (is_some own) (reads_program tested program) (IsCommand own) (ReadsProgram tested program) (command own) (program_read tested program)
-question_decided own tested (Checks sought entry includes) = given_read tested includes
-question_decided own tested (ChecksEach sought entries includes) = given_read tested includes
-question_decided own tested (Library library function others adds) = given_read tested others
-question_decided own tested (Libraries function libraries others) = given_read tested others
+use_decided : (own : Option (List ℕ)) (tested : List (List ℕ)) (u : Uses) → Decides (may_use own tested u) (MayUse own tested u)
+use_decided own tested u =
+    both (may_try own u.tries) (may_assign_if_any own u.assigns && reads_all tested u.reads) (MayTry own u.tries) (MayAssignIfAny own u.assigns × ReadsAll tested u.reads)
+    (tried own u.tries)
+    (both (may_assign_if_any own u.assigns) (reads_all tested u.reads) (MayAssignIfAny own u.assigns) (ReadsAll tested u.reads) (any_assigned own u.assigns) (all_read tested u.reads))
 
 subject_decided : (own : Option (List ℕ)) (tested : List (List ℕ)) (s : Subject) → Decides (resumable_subject own tested s) (ResumableSubject own tested s)
 subject_decided own tested Nothing = always
 subject_decided own tested (Word word) = text_read tested word
-subject_decided own tested (Asked q) = question_decided own tested q
+subject_decided own tested (Asked q) = use_decided own tested (uses_asked q)
 
 mutual
   pub script_decided : (own : Option (List ℕ)) (tested : List (List ℕ)) (s : Script) → Decides (resumable own tested s) (Resumable own tested s)
   script_decided own tested Done = always
-  script_decided own tested (Then s rest) =
-      both (resumable_plain own tested s) (resumable own (tests_of s ++ tested) rest) (ResumablePlain own tested s) (Resumable own (tests_of s ++ tested) rest)
-      (plain_decided own tested s) (script_decided own (tests_of s ++ tested) rest)
-  script_decided own tested (Choice subject cases rest) =
+  script_decided own tested (Then d e rest) =
+      let u = uses_of d e in
+      both (may_use own tested u) (resumable own (u.tests ++ tested) rest) (MayUse own tested u) (Resumable own (u.tests ++ tested) rest)
+      (use_decided own tested u) (script_decided own (u.tests ++ tested) rest)
+  script_decided own tested (Choice d subject cases rest) =
       let inside = first_alone (tests_at subject) ++ tested in
       let later = tests_at subject ++ tested in
       both (resumable_subject own tested subject) (resumable_in own inside cases && resumable own later rest)

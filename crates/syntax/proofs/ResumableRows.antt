@@ -12,7 +12,10 @@ use Rattle.syntax.specs.declared.listed.Listed.TheVariants.{Header, Function}
 use Rattle.syntax.specs.declared.listed.Sought.TheVariants as seeks
 use Rattle.syntax.specs.declared.program.Program.TheVariants as texts
 use Rattle.syntax.specs.declared.program.Try.TheVariants.{Compile}
-use Rattle.syntax.specs.declared.statement.Plain.TheVariants.{Assign, Subst, ArgVar, CheckProg, Batch}
+use Rattle.syntax.specs.declared.statement.Declares.TheVariants as declares
+use Rattle.syntax.specs.declared.statement.Effect.TheVariants as effects
+use Rattle.syntax.specs.declared.statement.Effect.TheVariants.{Assign, Search, Searches, Batch, Stop}
+use Rattle.syntax.specs.declared.statement.ProgramValue.TheVariants.{Text, FullName}
 use Rattle.syntax.specs.declared.statement.Question.TheVariants.{Given, Tries, Checks, ChecksEach, Library, Libraries}
 use Rattle.syntax.specs.declared.tree.Subject.TheVariants.{Nothing, Asked}
 use Rattle.syntax.specs.declared.tree.When.TheVariants.{Holds, Yes}
@@ -27,23 +30,27 @@ value name = parts.Variable name ∷ []
 
 -- NAME=TEXT
 abbrev sets : List ℕ → List ℕ → Script
-sets name text = Then (Assign name (plainly text)) Done
+sets name text = Then declares.Nothing (Assign name (plainly text)) Done
+
+-- AC_SUBST([NAME])
+abbrev substs : List ℕ → Script → Script
+substs name rest = Then (declares.Variable name) effects.Nothing rest
 
 -- AC_CHECK_HEADER([a.h],[x=1])
 abbrev header : Script → Script
-header rest = Choice (Asked (Checks (seeks.Entry Header) (codes "a.h") None)) (Case Yes (sets (codes "x") (codes "1")) No_case) rest
+header rest = Choice declares.Nothing (Asked (Checks (seeks.Entry Header) (codes "a.h") None)) (Case Yes (sets (codes "x") (codes "1")) No_case) rest
 
 -- AC_CHECK_FUNC([f],[y=1])
 abbrev function : Script → Script
-function rest = Choice (Asked (Checks (seeks.Entry Function) (codes "f") None)) (Case Yes (sets (codes "y") (codes "1")) No_case) rest
+function rest = Choice declares.Nothing (Asked (Checks (seeks.Entry Function) (codes "f") None)) (Case Yes (sets (codes "y") (codes "1")) No_case) rest
 
 -- AS_IF([test "$NAME" = yes],[x=2])
 abbrev if_yes : List ℕ → Script → Script
 if_yes name rest =
-    Choice Nothing (Case (Holds (single (record { negated = false; condition = Equal (value name) (plainly (codes "yes")) }))) (sets (codes "x") (codes "2")) No_case) rest
+    Choice declares.Nothing Nothing (Case (Holds (single (record { negated = false; condition = Equal (value name) (plainly (codes "yes")) }))) (sets (codes "x") (codes "2")) No_case) rest
 
 -- Two tests, and the variables that they set.
-row_tests : is_resumable (header (function (Then (Subst (codes "x")) (Then (Subst (codes "y")) Done)))) ≡ true
+row_tests : is_resumable (header (function (substs (codes "x") (substs (codes "y") Done)))) ≡ true
 unfolding is_cache_name has_cv has_name
 row_tests = refl
 
@@ -62,21 +69,21 @@ abbrev check : Script → Script
 check rest = Check (plainly (codes "x")) (codes "v_cv_x") (sets (codes "v_cv_x") (codes "1")) rest
 
 -- AC_SUBST without a value reads its variable: after the check it may, and before it it may not.
-row_check : is_resumable (check (Then (Subst (codes "v_cv_x")) Done)) ≡ true
+row_check : is_resumable (check (substs (codes "v_cv_x") Done)) ≡ true
 unfolding is_cache_name has_cv has_name
 row_check = refl
 
-row_check_late : is_resumable (Then (Subst (codes "v_cv_x")) (check Done)) ≡ false
+row_check_late : is_resumable (substs (codes "v_cv_x") (check Done)) ≡ false
 unfolding is_cache_name has_cv has_name
 row_check_late = refl
 
 -- AC_ARG_VAR reads nothing.
-row_arg_var : is_resumable (Then (ArgVar (codes "v_cv_x") (codes "h")) (check Done)) ≡ true
+row_arg_var : is_resumable (Then (declares.Precious (codes "v_cv_x") (codes "h")) effects.Nothing (check Done)) ≡ true
 unfolding is_cache_name has_cv has_name
 row_arg_var = refl
 
 -- A check inside a case counts in that case alone.
-row_case : is_resumable (Choice Nothing (Case (Holds (single (record { negated = false; condition = Equal [] [] }))) (check Done) No_case) (Then (Subst (codes "v_cv_x")) Done)) ≡ false
+row_case : is_resumable (Choice declares.Nothing Nothing (Case (Holds (single (record { negated = false; condition = Equal [] [] }))) (check Done) No_case) (substs (codes "v_cv_x") Done)) ≡ false
 unfolding is_cache_name has_cv has_name
 row_case = refl
 
@@ -85,19 +92,19 @@ row_assigned : is_resumable (sets (codes "ac_cv_func_f") (codes "yes")) ≡ fals
 unfolding is_cache_name has_cv has_name
 row_assigned = refl
 
-row_program : is_resumable (Then (CheckProg (codes "a_cv_b") (codes "p") [] None) Done) ≡ false
+row_program : is_resumable (Then (declares.Variable (codes "a_cv_b")) (Search (codes "a_cv_b") (codes "p") (Text []) None) Done) ≡ false
 unfolding is_cache_name has_cv has_name
 row_program = refl
 
-row_option : is_resumable (Choice (Asked (Given Feature (codes "enable_a_cv_b") (Entry (codes "a") (codes "b")))) No_case Done) ≡ false
+row_option : is_resumable (Choice (declares.Option Feature (codes "enable_a_cv_b") (Entry (codes "a") (codes "b"))) (Asked (Given Feature (codes "enable_a_cv_b"))) No_case Done) ≡ false
 unfolding is_cache_name has_cv has_name
 row_option = refl
 
 -- A program is tried outside AC_CACHE_CHECK, and in its commands.
 abbrev tries : Script
-tries = Choice (Asked (Tries Compile (texts.Source (plainly (codes "p"))))) (Case Yes (sets (codes "v_cv_x") (codes "1")) No_case) Done
+tries = Choice declares.Nothing (Asked (Tries Compile (texts.Source (plainly (codes "p"))))) (Case Yes (sets (codes "v_cv_x") (codes "1")) No_case) Done
 
-row_tries : is_resumable (Choice (Asked (Tries Compile (texts.Source []))) No_case Done) ≡ false
+row_tries : is_resumable (Choice declares.Nothing (Asked (Tries Compile (texts.Source []))) No_case Done) ≡ false
 unfolding is_cache_name has_cv has_name
 row_tries = refl
 
@@ -106,17 +113,17 @@ unfolding is_cache_name has_cv has_name
 row_commands = refl
 
 -- AC_SEARCH_LIBS([f],[a b]), and AC_CHECK_LIB with other libraries that read a cache name before its test.
-row_libraries : is_resumable (Choice (Asked (Libraries (codes "f") (codes "a" ∷ codes "b" ∷ []) None)) No_case (Then (Subst (codes "ac_cv_search_f")) Done)) ≡ true
+row_libraries : is_resumable (Choice declares.Nothing (Asked (Libraries (codes "f") (codes "a" ∷ codes "b" ∷ []) None)) No_case (substs (codes "ac_cv_search_f") Done)) ≡ true
 unfolding is_cache_name has_cv has_name
 row_libraries = refl
 
-row_library : is_resumable (Choice (Asked (Library (codes "a") (codes "f") (Some (value (codes "ac_cv_lib_a_f"))) true)) No_case Done) ≡ false
+row_library : is_resumable (Choice declares.Nothing (Asked (Library (codes "a") (codes "f") (Some (value (codes "ac_cv_lib_a_f"))) true)) No_case Done) ≡ false
 unfolding is_cache_name has_cv has_name
 row_library = refl
 
 -- The actions of AC_CHECK_HEADERS([a.h b.h]) may read the result of the first entry, and not that of the second.
 abbrev headers : List ℕ → Script
-headers name = Choice (Asked (ChecksEach (seeks.Entry Header) (codes "a.h" ∷ codes "b.h" ∷ []) None)) (Case Yes (if_yes name Done) No_case) Done
+headers name = Choice declares.Nothing (Asked (ChecksEach (seeks.Entry Header) (codes "a.h" ∷ codes "b.h" ∷ []) None)) (Case Yes (if_yes name Done) No_case) Done
 
 row_first : is_resumable (headers (codes "ac_cv_header_a_h")) ≡ true
 unfolding is_cache_name has_cv has_name
@@ -127,6 +134,6 @@ unfolding is_cache_name has_cv has_name
 row_second = refl
 
 -- A list without actions: what its programs include is read before all its tests.
-row_batch : is_resumable (Then (Batch Header (codes "a.h" ∷ []) (Some (value (codes "ac_cv_header_a_h")))) Done) ≡ false
+row_batch : is_resumable (Then declares.Nothing (Batch Header (codes "a.h" ∷ []) (Some (value (codes "ac_cv_header_a_h")))) Done) ≡ false
 unfolding is_cache_name has_cv has_name
 row_batch = refl

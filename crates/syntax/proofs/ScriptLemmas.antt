@@ -5,21 +5,22 @@ use Rattle.shellword.specs.declared.part.Part.{Part}
 use Rattle.syntax.specs.declared.declarations.Declarations as declarations
 use Rattle.syntax.specs.Lists.{after}
 use Rattle.syntax.specs.declared.tree.Case as case
-use Rattle.syntax.specs.declared.tree.Stmt.{Stmt, Plain, Choose, Choose', CacheCheck, CacheCheck', Row_of-Stmt, end_of-Stmt, more_of-Stmt, Row_of-Case, end_of-Case, more_of-Case, items-the_row-Stmt, items_shown-the_row-Stmt-0, items-the_row-Case, items_hidden-the_row-Case-1, items_hidden-the_row-Stmt-0}
+use Rattle.syntax.specs.declared.statement.Declares as declares
+use Rattle.syntax.specs.declared.tree.Stmt.{Stmt, Do, Choose, Choose', CacheCheck, CacheCheck', Row_of-Stmt, end_of-Stmt, more_of-Stmt, Row_of-Case, end_of-Case, more_of-Case, items-the_row-Stmt, items_shown-the_row-Stmt-0, items-the_row-Case, items_hidden-the_row-Case-1, items_hidden-the_row-Stmt-0}
 use Rattle.syntax.specs.declared.tree.Subject.{Subject}
-use Rattle.syntax.specs.Lists.{after_all, after_cases, after_subject}
+use Rattle.syntax.specs.Lists.{after_all, after_cases}
 use Rattle.syntax.specs.Script.{Script, Done, Then, Choice, Check, Cases, No_case, Case, joined, followed, stmt_then, row_script, row_cases, script_of, cases_of}
 
 pub joined_done : (s : Script) → joined s Done ≡ s
 joined_done Done = refl
-joined_done (Then s rest) = ap (Then s) (joined_done rest)
-joined_done (Choice subject cases rest) = ap (Choice subject cases) (joined_done rest)
+joined_done (Then d e rest) = ap (Then d e) (joined_done rest)
+joined_done (Choice d subject cases rest) = ap (Choice d subject cases) (joined_done rest)
 joined_done (Check message name commands rest) = ap (Check message name commands) (joined_done rest)
 
 pub joined_assoc : (a b c : Script) → joined (joined a b) c ≡ joined a (joined b c)
 joined_assoc Done b c = refl
-joined_assoc (Then s rest) b c = ap (Then s) (joined_assoc rest b c)
-joined_assoc (Choice subject cases rest) b c = ap (Choice subject cases) (joined_assoc rest b c)
+joined_assoc (Then d e rest) b c = ap (Then d e) (joined_assoc rest b c)
+joined_assoc (Choice d subject cases rest) b c = ap (Choice d subject cases) (joined_assoc rest b c)
 joined_assoc (Check message name commands rest) b c = ap (Check message name commands) (joined_assoc rest b c)
 
 row_is : (n : _) (row : Row_of-Stmt n) → row_script row ≡ script_of (items-the_row-Stmt n row)
@@ -33,18 +34,18 @@ cases_are n (more_of-Case when m body rest) =
     ∙ ap (λ s. Case when s (cases_of (items-the_row-Case _ rest))) (row_is _ body ∙ ap script_of (sym (items_shown-the_row-Stmt-0 m body)))
 
 abbrev cases_row : Stmt → (n : Count) × Row_of-Case n
-cases_row (Choose' subject m cases) = (_, cases)
+cases_row (Choose' d subject m cases) = (_, cases)
 cases_row _ = (_, end_of-Case)
 
 -- A choice of the code, and what follows.
-pub choice_is : (subject : Subject) (cases : Vec case.Case Global) (rest : Script) → stmt_then (Choose subject cases) rest ≡ Choice subject (cases_of cases.items) rest
-choice_is subject cases rest =
-    let a = cases_row (Choose subject cases) in
-    ap (λ s. Choice subject s rest) (cases_are a.0 a.1 ∙ ap cases_of (items_hidden-the_row-Case-1 cases))
+pub choice_is : (d : declares.Declares) (subject : Subject) (cases : Vec case.Case Global) (rest : Script) → stmt_then (Choose d subject cases) rest ≡ Choice d subject (cases_of cases.items) rest
+choice_is d subject cases rest =
+    let a = cases_row (Choose d subject cases) in
+    ap (λ s. Choice d subject s rest) (cases_are a.0 a.1 ∙ ap cases_of (items_hidden-the_row-Case-1 cases))
 
 stmt_joined : (x : Stmt) (a b : Script) → stmt_then x (joined a b) ≡ joined (stmt_then x a) b
-stmt_joined (Plain s) a b = refl
-stmt_joined (Choose' subject m cases) a b = refl
+stmt_joined (Do d e) a b = refl
+stmt_joined (Choose' d subject m cases) a b = refl
 stmt_joined (CacheCheck' message name m commands) a b = refl
 
 -- One statement is appended.
@@ -55,8 +56,8 @@ script_push (x ∷ xs) s = ap (stmt_then x) (script_push xs s) ∙ stmt_joined x
 -- The declarations after two lists.
 pub after_joined : (a b : Script) (c : declarations.Declarations) → after_all c (joined a b) ≡ after_all (after_all c a) b
 after_joined Done b c = refl
-after_joined (Then s rest) b c = after_joined rest b (after c s)
-after_joined (Choice subject cases rest) b c = after_joined rest b (after_cases (after_subject c subject) cases)
+after_joined (Then d e rest) b c = after_joined rest b (after c d)
+after_joined (Choice d subject cases rest) b c = after_joined rest b (after_cases (after c d) cases)
 after_joined (Check message name commands rest) b c = after_joined rest b (after_all c commands)
 
 -- One case is appended.

@@ -2,15 +2,22 @@
 -- is own.
 use Rattle.std.specs.Prelude.{◌≡◌, ℕ, true, List}
 use Rattle.deftable.specs.CacheName.{is_cache_name}
-use Rattle.syntax.specs.declared.statement.Plain as plain
-use Rattle.syntax.specs.declared.statement.Plain.TheVariants.{Assign}
+use Rattle.syntax.specs.declared.statement.Declares.{Declares}
+use Rattle.syntax.specs.declared.statement.Declares.TheVariants as declares
+use Rattle.syntax.specs.declared.statement.Effect.{Effect}
+use Rattle.syntax.specs.declared.statement.Effect.TheVariants.{Assign}
 use Rattle.syntax.specs.declared.statement.Question.TheVariants.{Given, Tries, Checks, ChecksEach, Library, Libraries}
 use Rattle.syntax.specs.declared.tree.Subject.{Subject}
 use Rattle.syntax.specs.declared.tree.Subject.TheVariants.{Nothing, Word, Asked}
 use Rattle.syntax.specs.Script.{Script, Done, Then, Choice, Check, Cases, No_case, Case}
 
+-- The statement declares nothing.
+abbrev pub DeclaresNothing : Declares → Type 0
+DeclaresNothing declares.Nothing = Unit {0}
+DeclaresNothing _ = ⊥
+
 -- The statement is an assignment to this name.
-abbrev pub AssignsAlone : List ℕ → plain.Plain → Type 0
+abbrev pub AssignsAlone : List ℕ → Effect → Type 0
 AssignsAlone name (Assign variable value) = variable ≡ name
 AssignsAlone name _ = ⊥
 
@@ -19,18 +26,20 @@ abbrev pub TriesAlone : Subject → Type 0
 TriesAlone Nothing = Unit {0}
 TriesAlone (Word word) = Unit {0}
 TriesAlone (Asked (Tries kind program)) = Unit {0}
-TriesAlone (Asked (Given kind variable help)) = ⊥
+TriesAlone (Asked (Given kind variable)) = ⊥
 TriesAlone (Asked (Checks sought entry includes)) = ⊥
 TriesAlone (Asked (ChecksEach sought entries includes)) = ⊥
 TriesAlone (Asked (Library library function others adds)) = ⊥
 TriesAlone (Asked (Libraries function libraries others)) = ⊥
 
 abbrev mutual
-  -- The statements are commands that set this name: assignments to it, and choices that hold such commands.
+  -- The statements are commands that set this name: assignments to it, and choices that hold such commands. They declare
+  -- nothing.
   pub AreCommands : List ℕ → Script → Type 0
   AreCommands name Done = Unit {0}
-  AreCommands name (Then s rest) = AssignsAlone name s × AreCommands name rest
-  AreCommands name (Choice subject cases rest) = TriesAlone subject × (AreCommandsIn name cases × AreCommands name rest)
+  AreCommands name (Then declares effect rest) = DeclaresNothing declares × (AssignsAlone name effect × AreCommands name rest)
+  AreCommands name (Choice declares subject cases rest) =
+      DeclaresNothing declares × (TriesAlone subject × (AreCommandsIn name cases × AreCommands name rest))
   AreCommands name (Check message other commands rest) = ⊥
 
   -- The statements of all cases are such commands.
@@ -42,8 +51,8 @@ abbrev mutual
   -- Each AC_CACHE_CHECK among the statements has a cache name, and commands that set it.
   pub HasCommands : Script → Type 0
   HasCommands Done = Unit {0}
-  HasCommands (Then s rest) = HasCommands rest
-  HasCommands (Choice subject cases rest) = HasCommandsIn cases × HasCommands rest
+  HasCommands (Then declares effect rest) = HasCommands rest
+  HasCommands (Choice declares subject cases rest) = HasCommandsIn cases × HasCommands rest
   HasCommands (Check message name commands rest) = (is_cache_name name ≡ true) × (AreCommands name commands × HasCommands rest)
 
   -- So has each among the statements of all cases.

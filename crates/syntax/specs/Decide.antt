@@ -7,18 +7,13 @@ use Rattle.shellword.specs.declared.element.Condition.TheVariants as conditions
 use Rattle.shellword.specs.declared.part.Part.{Part}
 use Rattle.shellword.specs.declared.part.Part.TheVariants as parts
 use Rattle.shellword.specs.Truth.{Joined, single, joined}
-use Rattle.syntax.specs.declared.program.Program as programs
-use Rattle.syntax.specs.declared.program.Program.TheVariants as texts
-use Rattle.syntax.specs.declared.statement.Plain as plain
-use Rattle.syntax.specs.declared.statement.Plain.TheVariants.{Init, Accepted, ConfigFiles, ConfigHeaders, Assign, Subst, SubstValue, Define, DefineUnquoted, Error, Message, ArgVar, CheckProg, CheckProgs, PathProg, ProgCc, Batch, Output}
-use Rattle.syntax.specs.declared.statement.Question as question
-use Rattle.syntax.specs.declared.statement.Question.TheVariants.{Given, Tries, Checks, ChecksEach, Library, Libraries}
 use Rattle.syntax.specs.declared.tree.Subject.{Subject}
 use Rattle.syntax.specs.declared.tree.Subject.TheVariants.{Nothing, Word, Asked}
 use Rattle.syntax.specs.declared.tree.When.{When}
 use Rattle.syntax.specs.declared.tree.When.TheVariants.{Holds, Matches, Yes, No, Always}
 use Rattle.syntax.specs.Script.{Script, Done, Then, Choice, Check, Cases, No_case, Case}
-use Rattle.syntax.specs.Resumable.{tests_of, tests_at, first_alone, Resumable}
+use Rattle.syntax.specs.Resumable.{tests_at, first_alone, Resumable}
+use Rattle.syntax.specs.Uses.{Uses, uses_of, uses_asked}
 
 -- The name may be read after tests of these names. (own)
 abbrev pub may_read : List (List ℕ) → List ℕ → Bool
@@ -31,10 +26,10 @@ reads_text tested (parts.Plain b ∷ more) = reads_text tested more
 reads_text tested (parts.Quoted b ∷ more) = reads_text tested more
 reads_text tested (parts.Variable name ∷ more) = may_read tested name && reads_text tested more
 
--- Each variable of a text may be read, if there is a text. (own)
-abbrev pub reads_if_given : List (List ℕ) → Option (List Part) → Bool
-reads_if_given tested None = true
-reads_if_given tested (Some text) = reads_text tested text
+-- Each variable of each text may be read. (own)
+abbrev pub reads_all : List (List ℕ) → List (List Part) → Bool
+reads_all tested [] = true
+reads_all tested (text ∷ more) = reads_text tested text && reads_all tested more
 
 -- Each variable of a condition may be read. (own)
 abbrev pub reads_condition : List (List ℕ) → Condition → Bool
@@ -49,11 +44,6 @@ reads_condition tested (conditions.Different left right) = reads_text tested lef
 abbrev pub reads_test : List (List ℕ) → Joined → Bool
 reads_test tested (single element) = reads_condition tested element.condition
 reads_test tested (joined left joint element) = reads_test tested left && reads_condition tested element.condition
-
--- Each variable of a program's text may be read. (own)
-abbrev pub reads_program : List (List ℕ) → programs.Program → Bool
-reads_program tested (texts.Program prologue body) = reads_text tested prologue && reads_text tested body
-reads_program tested (texts.Source text) = reads_text tested text
 
 -- Each variable that decides about a case may be read. (own)
 abbrev pub reads_when : List (List ℕ) → When → Bool
@@ -72,49 +62,33 @@ is_command_of name (Some own) = bytes_eq own name
 abbrev pub may_assign : Option (List ℕ) → List ℕ → Bool
 may_assign own name = not (is_cache_name name) || is_command_of name own
 
--- A statement keeps the rules of sources that can be resumed. (own)
-abbrev pub resumable_plain : Option (List ℕ) → List (List ℕ) → plain.Plain → Bool
-resumable_plain own tested (Init title version bug tarname url) = true
-resumable_plain own tested Accepted = true
-resumable_plain own tested (ConfigFiles outputs) = true
-resumable_plain own tested (ConfigHeaders outputs) = true
-resumable_plain own tested (Assign name value) = may_assign own name && reads_text tested value
-resumable_plain own tested (Subst name) = may_read tested name
-resumable_plain own tested (SubstValue name value) = may_assign own name && reads_text tested value
-resumable_plain own tested (Define name value) = true
-resumable_plain own tested (DefineUnquoted name value) = reads_text tested value
-resumable_plain own tested (Error message status) = reads_text tested message
-resumable_plain own tested (Message kind message) = reads_text tested message
-resumable_plain own tested (ArgVar name help) = true
-resumable_plain own tested (CheckProg variable program found otherwise) =
-    may_assign own variable && (reads_text tested found && reads_if_given tested otherwise)
-resumable_plain own tested (CheckProgs variable programs otherwise) = may_assign own variable && reads_if_given tested otherwise
-resumable_plain own tested (PathProg variable program otherwise) = may_assign own variable && reads_if_given tested otherwise
-resumable_plain own tested (ProgCc programs) = true
-resumable_plain own tested (Batch listed entries includes) = reads_if_given tested includes
-resumable_plain own tested Output = true
+-- The name may be assigned, if there is one. (own)
+abbrev pub may_assign_if_any : Option (List ℕ) → Option (List ℕ) → Bool
+may_assign_if_any own None = true
+may_assign_if_any own (Some name) = may_assign own name
 
--- A question keeps them. (own)
-abbrev pub resumable_question : Option (List ℕ) → List (List ℕ) → question.Question → Bool
-resumable_question own tested (Given kind variable help) = may_assign own variable
-resumable_question own tested (Tries kind program) = is_some own && reads_program tested program
-resumable_question own tested (Checks sought entry includes) = reads_if_given tested includes
-resumable_question own tested (ChecksEach sought entries includes) = reads_if_given tested includes
-resumable_question own tested (Library library function others adds) = reads_if_given tested others
-resumable_question own tested (Libraries function libraries others) = reads_if_given tested others
+-- A program that is tried is tried by a command. (own)
+abbrev pub may_try : Option (List ℕ) → Bool → Bool
+may_try own false = true
+may_try own true = is_some own
+
+-- What is used keeps the rules of sources that can be resumed. (own)
+abbrev pub may_use : Option (List ℕ) → List (List ℕ) → Uses → Bool
+may_use own tested uses = may_try own uses.tries && (may_assign_if_any own uses.assigns && reads_all tested uses.reads)
 
 -- The subject of a choice keeps them. (own)
 abbrev pub resumable_subject : Option (List ℕ) → List (List ℕ) → Subject → Bool
 resumable_subject own tested Nothing = true
 resumable_subject own tested (Word word) = reads_text tested word
-resumable_subject own tested (Asked question) = resumable_question own tested question
+resumable_subject own tested (Asked question) = may_use own tested (uses_asked question)
 
 abbrev mutual
   -- Statements keep them. (own)
   pub resumable : Option (List ℕ) → List (List ℕ) → Script → Bool
   resumable own tested Done = true
-  resumable own tested (Then s rest) = resumable_plain own tested s && resumable own (tests_of s ++ tested) rest
-  resumable own tested (Choice subject cases rest) =
+  resumable own tested (Then declares effect rest) =
+      may_use own tested (uses_of declares effect) && resumable own ((uses_of declares effect).tests ++ tested) rest
+  resumable own tested (Choice declares subject cases rest) =
       resumable_subject own tested subject
       && (resumable_in own (first_alone (tests_at subject) ++ tested) cases && resumable own (tests_at subject ++ tested) rest)
   resumable own tested (Check message name commands rest) =

@@ -5,5 +5,6 @@ pub mod Lists
 pub mod Limits
 pub mod Commands
 pub mod TestNames
+pub mod Uses
 pub mod Resumable
 pub mod Decide

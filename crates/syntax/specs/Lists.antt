@@ -6,12 +6,13 @@ use Rattle.syntax.specs.declared.declarations.Declarations as declarations
 use Rattle.syntax.specs.declared.declarations.Stage.TheVariants.{Before, Open, Ended}
 use Rattle.syntax.specs.declared.feature.OptionKind.TheVariants.{Feature, Package}
 use Rattle.syntax.specs.declared.help.Help.TheVariants.{Entry}
-use Rattle.syntax.specs.declared.statement.Plain as plain
-use Rattle.syntax.specs.declared.statement.Plain.TheVariants.{Init, ConfigFiles, ConfigHeaders, Subst, SubstValue, ArgVar, CheckProg, CheckProgs, PathProg, ProgCc, Output}
-use Rattle.syntax.specs.declared.statement.Question as question
-use Rattle.syntax.specs.declared.statement.Question.TheVariants.{Given, Tries, Checks, ChecksEach, Library, Libraries}
-use Rattle.syntax.specs.declared.tree.Subject.{Subject}
-use Rattle.syntax.specs.declared.tree.Subject.TheVariants.{Nothing, Word, Asked}
+use Rattle.syntax.specs.declared.help.Help.{Help}
+use Rattle.syntax.specs.declared.feature.OptionKind.{OptionKind}
+use Rattle.outputlist.specs.declared.output.Output.{Output}
+use Rattle.syntax.specs.declared.statement.Declares.{Declares}
+use Rattle.syntax.specs.declared.statement.Declares.TheVariants as declares
+use Rattle.syntax.specs.declared.statement.OutputKind.{OutputKind}
+use Rattle.syntax.specs.declared.statement.OutputKind.TheVariants.{File, Header}
 use Rattle.syntax.specs.Script.{Script, Done, Then, Choice, Check, Cases, No_case, Case}
 
 -- The declarations before the first statement. (own)
@@ -32,44 +33,33 @@ abbrev pub with_tools : declarations.Declarations → declarations.Declarations
 with_tools c =
     with_tool (with_tool (with_tool (with_tool (with_tool c (codes "CC")) (codes "CFLAGS")) (codes "LDFLAGS")) (codes "LIBS")) (codes "CPPFLAGS")
 
--- The declarations after a statement. (Autoconf's manual, the sections of the macros)
-unfoldable pub after : declarations.Declarations → plain.Plain → declarations.Declarations
-after c (Init a b d e f) = record c { stage = Open }
-after c (ConfigFiles outputs) = record c { files = c.files ++ outputs }
-after c (ConfigHeaders outputs) = record c { headers = c.headers ++ outputs }
-after c (Subst name) = record c { substituted = with_name c.substituted name }
-after c (SubstValue name value) = record c { substituted = with_name c.substituted name }
-after c (ArgVar name help) = with_precious c name help
-after c (CheckProg variable program found otherwise) = record c { substituted = with_name c.substituted variable }
-after c (CheckProgs variable programs otherwise) = record c { substituted = with_name c.substituted variable }
-after c (PathProg variable program otherwise) = record c { substituted = with_name c.substituted variable }
-after c (ProgCc programs) = with_tools c
-after c Output = record c { stage = Ended }
-after c statement = c
+-- Outputs of a kind are appended. (Autoconf's manual, "Configuration Files" and "Configuration Headers")
+abbrev pub with_outputs : declarations.Declarations → OutputKind → List Output → declarations.Declarations
+with_outputs c File outputs = record c { files = c.files ++ outputs }
+with_outputs c Header outputs = record c { headers = c.headers ++ outputs }
 
--- The declarations after a question: its option is declared, with its help. (Autoconf's manual, "Choosing Package
--- Options" and "External Software")
-unfoldable pub after_question : declarations.Declarations → question.Question → declarations.Declarations
-after_question c (Given Feature variable help) = record c { features = with_name c.features variable; help = c.help ++ help ∷ [] }
-after_question c (Given Package variable help) = record c { packages = with_name c.packages variable; help = c.help ++ help ∷ [] }
-after_question c (Tries kind program) = c
-after_question c (Checks sought entry includes) = c
-after_question c (ChecksEach sought entries includes) = c
-after_question c (Library library function others adds) = c
-after_question c (Libraries function libraries others) = c
+-- An option has help. (Autoconf's manual, "Choosing Package Options" and "External Software")
+abbrev pub with_option : declarations.Declarations → OptionKind → List ℕ → Help → declarations.Declarations
+with_option c Feature variable help = record c { features = with_name c.features variable; help = c.help ++ help ∷ [] }
+with_option c Package variable help = record c { packages = with_name c.packages variable; help = c.help ++ help ∷ [] }
 
--- The declarations after the subject of a choice. (own)
-abbrev pub after_subject : declarations.Declarations → Subject → declarations.Declarations
-after_subject c Nothing = c
-after_subject c (Word w) = c
-after_subject c (Asked question) = after_question c question
+-- The declarations after a statement that declares this. (Autoconf's manual, the sections of the macros)
+unfoldable pub after : declarations.Declarations → Declares → declarations.Declarations
+after c declares.Nothing = c
+after c declares.Begin = record c { stage = Open }
+after c declares.End = record c { stage = Ended }
+after c (declares.Outputs kind outputs) = with_outputs c kind outputs
+after c (declares.Variable name) = record c { substituted = with_name c.substituted name }
+after c (declares.Precious name help) = with_precious c name help
+after c declares.Compiler = with_tools c
+after c (declares.Option kind variable help) = with_option c kind variable help
 
 -- The declarations after all statements, also those of cases that a run does not take. (own)
 abbrev mutual
   pub after_all : declarations.Declarations → Script → declarations.Declarations
   after_all c Done = c
-  after_all c (Then s rest) = after_all (after c s) rest
-  after_all c (Choice subject cases rest) = after_all (after_cases (after_subject c subject) cases) rest
+  after_all c (Then declares effect rest) = after_all (after c declares) rest
+  after_all c (Choice declares subject cases rest) = after_all (after_cases (after c declares) cases) rest
   after_all c (Check message name commands rest) = after_all (after_all c commands) rest
 
   -- The declarations after all cases of a choice. (own)

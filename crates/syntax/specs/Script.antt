@@ -1,20 +1,21 @@
 -- A list of statements, as contracts see it: its first statement, and what follows.
 use Rattle.std.specs.Prelude.{ℕ, List, [], ◌∷◌}
 use Rattle.shellword.specs.declared.part.Part.{Part}
-use Rattle.syntax.specs.declared.statement.Plain as plain
+use Rattle.syntax.specs.declared.statement.Declares.{Declares}
+use Rattle.syntax.specs.declared.statement.Effect.{Effect}
 use Rattle.syntax.specs.declared.tree.Case as case
 use Rattle.syntax.specs.declared.tree.Stmt.{Stmt, Row_of-Stmt, end_of-Stmt, more_of-Stmt, Row_of-Case, end_of-Case, more_of-Case}
-use Rattle.syntax.specs.declared.tree.Stmt.TheVariants.{Plain, Choose', CacheCheck'}
+use Rattle.syntax.specs.declared.tree.Stmt.TheVariants.{Do, Choose', CacheCheck'}
 use Rattle.syntax.specs.declared.tree.Subject.{Subject}
 use Rattle.syntax.specs.declared.tree.When.{When}
 
 mutual
-  -- A list of statements; a choice runs the statements of its first case whose condition holds, and a check its commands,
-  -- unless its name is set. (own)
+  -- A list of statements. One with no statements in it has what it declares and what it does; a choice runs the statements of
+  -- its first case whose condition holds, and a check its commands, unless its name is set. (own)
   pub data Script : Type 0 where
     Done : Script
-    Then : (first : plain.Plain) (rest : Script) → Script
-    Choice : (subject : Subject) (cases : Cases) (rest : Script) → Script
+    Then : (declares : Declares) (effect : Effect) (rest : Script) → Script
+    Choice : (declares : Declares) (subject : Subject) (cases : Cases) (rest : Script) → Script
     Check : (message : List Part) (name : List ℕ) (commands rest : Script) → Script
 
   -- The cases of a choice, in order. (own)
@@ -25,8 +26,8 @@ mutual
 -- One list after the other. (own)
 abbrev pub joined : Script → Script → Script
 joined Done more = more
-joined (Then s rest) more = Then s (joined rest more)
-joined (Choice subject cases rest) more = Choice subject cases (joined rest more)
+joined (Then declares effect rest) more = Then declares effect (joined rest more)
+joined (Choice declares subject cases rest) more = Choice declares subject cases (joined rest more)
 joined (Check message name commands rest) more = Check message name commands (joined rest more)
 
 -- Cases, and those after them. (own)
@@ -37,8 +38,8 @@ followed (Case when body rest) more = Case when body (followed rest more)
 abbrev mutual
   -- A statement of the code, and what follows. (own)
   pub stmt_then : Stmt → Script → Script
-  stmt_then (Plain s) rest = Then s rest
-  stmt_then (Choose' subject m cases) rest = Choice subject (row_cases cases) rest
+  stmt_then (Do declares effect) rest = Then declares effect rest
+  stmt_then (Choose' declares subject m cases) rest = Choice declares subject (row_cases cases) rest
   stmt_then (CacheCheck' message name m commands) rest = Check message name (row_script commands) rest
 
   -- A row of statements of the code. (own)

@@ -6,8 +6,10 @@ use Rattle.syntax.specs.declared.listed.Listed.{Listed}
 use Rattle.syntax.specs.declared.listed.Listed.TheVariants.{Header, Function, Declaration}
 use Rattle.syntax.specs.declared.listed.Sought.{Sought}
 use Rattle.syntax.specs.declared.listed.Sought.TheVariants.{Entry, «Type»}
-use Rattle.syntax.specs.declared.statement.Plain as plain
-use Rattle.syntax.specs.declared.statement.Plain.TheVariants.{CheckProg, CheckProgs, PathProg}
+use Rattle.syntax.specs.declared.statement.Effect.{Effect}
+use Rattle.syntax.specs.declared.statement.Effect.TheVariants.{Search, Searches}
+use Rattle.syntax.specs.declared.statement.ProgramValue.{ProgramValue}
+use Rattle.syntax.specs.declared.statement.ProgramValue.TheVariants.{Text, FullName}
 use Rattle.syntax.specs.Script.{Script, Done, Then, Choice, Check, Cases, No_case, Case}
 
 -- The text as the end of a shell variable's name. (Autoconf's manual, AS_TR_SH in "Common Shell Constructs")
@@ -45,19 +47,24 @@ program_name variable = codes "ac_cv_prog_" ++ variable
 abbrev pub path_name : List ℕ → List ℕ
 path_name variable = codes "ac_cv_path_" ++ variable
 
--- The variable of a program is a shell name. (POSIX, "Name")
-abbrev pub NamesVariable : plain.Plain → Type 0
-NamesVariable (CheckProg variable program found otherwise) = IsShellName variable
-NamesVariable (CheckProgs variable programs otherwise) = IsShellName variable
-NamesVariable (PathProg variable program otherwise) = IsShellName variable
-NamesVariable statement = Unit {0}
+-- The cached name of a program that is looked for, by the value that the variable gets. (Autoconf's manual, "Generic
+-- Programs")
+abbrev pub search_name : ProgramValue → List ℕ → List ℕ
+search_name (Text text) variable = program_name variable
+search_name FullName variable = path_name variable
+
+-- The variable of each program that the statement looks for is a shell name. (POSIX, "Name")
+abbrev pub NamesVariable : Effect → Type 0
+NamesVariable (Search variable program value otherwise) = IsShellName variable
+NamesVariable (Searches variable programs otherwise) = IsShellName variable
+NamesVariable effect = Unit {0}
 
 abbrev mutual
   -- The variable of each program that statements look for is a shell name, so each test has a cache name. (POSIX, "Name")
   pub HasTestNames : Script → Type 0
   HasTestNames Done = Unit {0}
-  HasTestNames (Then s rest) = NamesVariable s × HasTestNames rest
-  HasTestNames (Choice subject cases rest) = HasTestNamesIn cases × HasTestNames rest
+  HasTestNames (Then declares effect rest) = NamesVariable effect × HasTestNames rest
+  HasTestNames (Choice declares subject cases rest) = HasTestNamesIn cases × HasTestNames rest
   HasTestNames (Check message name commands rest) = HasTestNames commands × HasTestNames rest
 
   -- The same in all cases. (own)

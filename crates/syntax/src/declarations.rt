@@ -6,7 +6,7 @@ ghost use Rattle.syntax.specs.Lists as lists;
 
 use crate::feature::OptionKind;
 use crate::help::{Help, HelpList};
-use crate::statement::{Plain, Question};
+use crate::statement::{Declares, OutputKind};
 use deftable::{Bytes, Name, SubstList};
 use outputlist::OutputList;
 use std::alloc::{AllocError, Global};
@@ -75,33 +75,6 @@ impl Declarations {
     }
 }
 
-/// Adds what a statement declares. If memory runs out, some of it may have been added.
-#[tactic(auto, unfolding(crate::specs::Lists::after))]
-pub fn declare(alloc: Global, known: &mut Declarations, statement: &Plain) -> Result<(), AllocError>
-    ensures { OnOk result (known.new ≡ lists.after known.old statement.now) }
-{
-    match statement {
-        Plain::Init { .. } => known.stage = Stage::Open,
-        Plain::ConfigFiles { outputs } => {
-            return known.files.push_copies(alloc, outputs.as_slice());
-        }
-        Plain::ConfigHeaders { outputs } => {
-            return known.headers.push_copies(alloc, outputs.as_slice());
-        }
-        Plain::Subst { name } | Plain::SubstValue { name, .. } => {
-            return known.substituted.add(name.as_slice());
-        }
-        Plain::CheckProg { variable, .. }
-        | Plain::CheckProgs { variable, .. }
-        | Plain::PathProg { variable, .. } => return known.substituted.add(variable.as_slice()),
-        Plain::ProgCc { .. } => return declare_tools(known),
-        Plain::ArgVar { name, help } => return declare_variable(alloc, known, name, help),
-        Plain::Output => known.stage = Stage::Ended,
-        _ => {}
-    }
-    Ok(())
-}
-
 /// Adds a precious variable, with its help.
 fn declare_variable(
     alloc: Global,
@@ -140,36 +113,65 @@ fn declare_tools(known: &mut Declarations) -> Result<(), AllocError>
     Ok(())
 }
 
-/// Adds what a question declares. If memory runs out, some of it may have been added.
-#[tactic(auto, unfolding(crate::specs::Lists::after_question))]
-pub fn declare_question(
+/// Adds outputs of a kind.
+fn declare_outputs(
     alloc: Global,
     known: &mut Declarations,
-    question: &Question,
+    kind: OutputKind,
+    outputs: &OutputList,
 ) -> Result<(), AllocError>
-    ensures { OnOk result (known.new ≡ lists.after_question known.old question.now) }
+    ensures { OnOk result (known.new ≡ lists.with_outputs known.old kind outputs.now) }
 {
-    match question {
-        Question::Given {
-            kind: OptionKind::Feature,
+    match kind {
+        OutputKind::File => known.files.push_copies(alloc, outputs.as_slice()),
+        OutputKind::Header => known.headers.push_copies(alloc, outputs.as_slice()),
+    }
+}
+
+/// Adds an option, with its help.
+fn declare_option(
+    alloc: Global,
+    known: &mut Declarations,
+    kind: OptionKind,
+    variable: &Name,
+    help: &Help,
+) -> Result<(), AllocError>
+    ensures { OnOk result (known.new ≡ lists.with_option known.old kind variable.now help.now) }
+{
+    match kind {
+        OptionKind::Feature => known.features.add(variable.as_slice())?,
+        OptionKind::Package => known.packages.add(variable.as_slice())?,
+    }
+    known.help.push(help.copy(alloc)?)
+}
+
+/// Adds what a statement declares. If memory runs out, some of it may have been added.
+#[tactic(auto, unfolding(crate::specs::Lists::after))]
+pub fn declare(
+    alloc: Global,
+    known: &mut Declarations,
+    declares: &Declares,
+) -> Result<(), AllocError>
+    ensures { OnOk result (known.new ≡ lists.after known.old declares.now) }
+{
+    match declares {
+        Declares::Nothing => Ok(()),
+        Declares::Begin => {
+            known.stage = Stage::Open;
+            Ok(())
+        }
+        Declares::End => {
+            known.stage = Stage::Ended;
+            Ok(())
+        }
+        Declares::Outputs { kind, outputs } => declare_outputs(alloc, known, *kind, outputs),
+        Declares::Variable { name } => known.substituted.add(name.as_slice()),
+        Declares::Precious { name, help } => declare_variable(alloc, known, name, help),
+        Declares::Compiler => declare_tools(known),
+        Declares::Option {
+            kind,
             variable,
             help,
-        } => {
-            known.features.add(variable.as_slice())?;
-            known.help.push(help.copy(alloc)?)
-        }
-        Question::Given {
-            kind: OptionKind::Package,
-            variable,
-            help,
-        } => {
-            known.packages.add(variable.as_slice())?;
-            known.help.push(help.copy(alloc)?)
-        }
-        Question::Tries { .. }
-        | Question::Checks { .. }
-        | Question::ChecksEach { .. }
-        | Question::Library { .. }
-        | Question::Libraries { .. } => Ok(()),
+        } => declare_option(alloc, known, *kind, variable, help),
     }
 }

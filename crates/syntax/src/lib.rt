@@ -7,12 +7,12 @@
 //!
 //! Contracts see a list of statements as its first statement and what follows: `specs/Script.antt`. `specs/Lists.antt`
 //! says which lists statements declare, also in cases that a run does not take. `specs/Commands.antt` says what the
-//! commands of AC_CACHE_CHECK hold, `specs/Resumable.antt` which sources can be cut and started again, and
-//! `specs/TestNames.antt` the names under which tests are cached, which `test_names` makes. `resumable` has a law that the crates
-//! above use.
+//! commands of AC_CACHE_CHECK hold, `specs/TestNames.antt` the names under which tests are cached, which `test_names` makes,
+//! `specs/Uses.antt` what a statement or a question assigns, reads, tests and tries, which `uses` has in code, and
+//! `specs/Resumable.antt` which sources can be cut and started again. `resumable` has a law that the crates above use.
 //!
-//! `AS_IF([test x = y], [a=1], [a=2])` is a `Choose` of two cases: one decided by the test, and one that is always
-//! taken.
+//! `AC_SUBST([a], [b])` is a `Do`: it declares the variable `a`, and its effect is to assign it. `AS_IF([test x = y], [a=1],
+//! [a=2])` is a `Choose` of two cases: one decided by the test, and one that is always taken.
 //!
 //! An operation that allocates fails only if memory runs out.
 #![tactic(auto)]
@@ -27,6 +27,7 @@ pub mod source;
 pub mod statement;
 pub mod test_names;
 pub mod tree;
+pub mod uses;
 
 pub use declarations::{Declarations, Stage};
 pub use feature::{OptionKind, is_feature, option_variable};
@@ -35,5 +36,6 @@ pub use listed::{Entries, Listed, Sought};
 pub use program::{Program, Try};
 pub use resumable::resumable_is_decided;
 pub use source::Source;
-pub use statement::{MessageKind, Plain, Question};
+pub use statement::{Declares, Effect, Message, OutputKind, ProgramValue, Question};
 pub use tree::{Case, Stmt, Subject, When, cache_check, choose};
+pub use uses::{Reads, Uses, uses_asked, uses_of};

@@ -4,6 +4,7 @@ ghost use Rattle.std.specs.Prelude.{◌≡◌, IfOk};
 ghost use Rattle.syntax.specs.TestNames as names;
 
 use crate::listed::{Listed, Sought};
+use crate::statement::ProgramValue;
 use deftable::Bytes;
 use m4quote::sh_name;
 use std::alloc::{AllocError, Global};
@@ -53,4 +54,18 @@ pub fn path_name(alloc: Global, variable: &[u8]) -> Result<Bytes, AllocError>
     ensures { IfOk result (λ n. n ≡ names.path_name variable.now) }
 {
     Bytes::concat(alloc, &[b"ac_cv_path_", variable])
+}
+
+/// Returns the name of the test of a program, by the value that its variable gets.
+pub fn search_name(
+    alloc: Global,
+    value: &ProgramValue,
+    variable: &[u8],
+) -> Result<Bytes, AllocError>
+    ensures { IfOk result (λ n. n ≡ names.search_name value.now variable.now) }
+{
+    match value {
+        ProgramValue::Text(_) => program_name(alloc, variable),
+        ProgramValue::FullName => path_name(alloc, variable),
+    }
 }

@@ -3,7 +3,7 @@
 ghost use Rattle.std.specs.Prelude.{◌≡◌, [], ◌∷◌};
 ghost use Rattle.syntax.specs.Script.{script_of, cases_of, Choice, Check, Done};
 
-use crate::statement::{Plain, Question};
+use crate::statement::{Declares, Effect, Question};
 use deftable::Name;
 use shellword::{HereText, Patterns, Test, Word};
 
@@ -37,10 +37,15 @@ pub enum When {
 #[derive(Drop)]
 #[cycle(statements)]
 pub enum Stmt {
-    /// A statement with no statements in it.
-    Plain(Plain),
-    /// AS_IF, AS_CASE, or a macro that asks a question: the statements of the first case whose condition holds, if any.
+    /// A statement with no statements in it: what it declares, and what it does.
+    Do {
+        declares: Declares,
+        effect: Effect,
+    },
+    /// AS_IF, AS_CASE, or a macro that asks a question: what it declares, and then the statements of the first case whose
+    /// condition holds, if any.
     Choose {
+        declares: Declares,
         subject: Subject,
         cases: Vec<Case>,
     },
@@ -60,11 +65,15 @@ pub struct Case {
     pub body: Vec<Stmt>,
 }
 
-/// Makes a statement from a subject and its cases.
-pub fn choose(subject: Subject, cases: Vec<Case>) -> Stmt
-    ensures { script_of (result ∷ []) ≡ Choice subject (cases_of cases.items) Done }
+/// Makes a statement from what it declares, a subject and its cases.
+pub fn choose(declares: Declares, subject: Subject, cases: Vec<Case>) -> Stmt
+    ensures { script_of (result ∷ []) ≡ Choice declares subject (cases_of cases.items) Done }
 {
-    Stmt::Choose { subject, cases }
+    Stmt::Choose {
+        declares,
+        subject,
+        cases,
+    }
 }
 
 /// Makes a statement from the arguments of AC_CACHE_CHECK.

@@ -3,4 +3,4 @@ use Rattle.syntax.specs.Script.{Done}
 use Rattle.syntax.proofs.tree.choose.Goals as goal
 
 pub returns : goal.returns
-returns c = choice_is c.args.subject c.args.cases Done
+returns c = choice_is c.args.declares c.args.subject c.args.cases Done
