@@ -5,7 +5,7 @@ use Rattle.std.proofs.Math.Path.{fun_ext}
 use Rattle.jobs.specs.declared.job.Job.{Job}
 use Rattle.jobs.specs.Probe.{run_of, job_of}
 use Rattle.deftable.specs.declared.note.Stream.{Stream}
-use Rattle.deftable.specs.declared.note.Stream.TheVariants.{Out, Err}
+use Rattle.deftable.specs.declared.note.Stream.TheVariants.{Err}
 use Rattle.deftable.specs.Table.{value_of}
 use Rattle.shellword.specs.Value.{word_value}
 use Rattle.shellword.specs.declared.part.Part.{Part}
@@ -16,7 +16,7 @@ use Rattle.syntax.specs.declared.statement.Effect.{Effect}
 use Rattle.syntax.specs.declared.statement.Effect.TheVariants as effects
 use Rattle.syntax.specs.declared.statement.Effect.TheVariants.{Assign, Define, DefineText, Print, Stop, Package, Search, Searches, Complete}
 use Rattle.syntax.specs.declared.statement.Message.{Message}
-use Rattle.syntax.specs.declared.statement.Message.TheVariants.{Error}
+use Rattle.syntax.specs.declared.statement.Message.TheVariants.{Checking, Results, Error}
 use Rattle.syntax.specs.declared.statement.ProgramValue.TheVariants.{Text, FullName}
 use Rattle.syntax.specs.declared.statement.Question as asks
 use Rattle.syntax.specs.declared.statement.Question.TheVariants as questions
@@ -63,8 +63,11 @@ pub record AllSteps (R : State → Run → Type 0) : Type 0 where
 
 -- ---- changes
 
-tells_holds : (R : State → Run → Type 0) → Steps R → (stream : Stream) (text : List ℕ) (st : State) → R st (Ends Goes_on (told stream text st))
-tells_holds R c stream text st = c.tells stream text st (Ends Goes_on (told stream text st)) (c.goes (told stream text st))
+said_holds : (R : State → Run → Type 0) → Steps R → (message : Message) (text : List ℕ) (st : State) (run : Run) → R (said message text st) run → R st run
+said_holds R c message text st run h = c.tells (form_of message).stream _ st run h
+
+prints_holds : (R : State → Run → Type 0) → Steps R → (message : Message) (text : List ℕ) (st : State) → R st (Ends Goes_on (said message text st))
+prints_holds R c message text st = said_holds R c message text st (Ends Goes_on (said message text st)) (c.goes (said message text st))
 
 sets_holds : (R : State → Run → Type 0) → Steps R → (name value : List ℕ) (st : State) → R st (Ends Goes_on (with_variable name value st))
 sets_holds R c name value st = c.variables name value st (Ends Goes_on (with_variable name value st)) (c.goes (with_variable name value st))
@@ -97,11 +100,11 @@ attempted_holds R c (a ∷ more) otherwise st go k =
 pub cached_holds : (R : State → Run → Type 0) → Steps R → (t : Test) (st : State) → ((now : State) → R now (t.body now)) → R st (cached_test t st)
 cached_holds R c t st body =
     let s = checking t.message st in
-    c.tells Out (codes "checking " ++ t.message ++ codes "... ") st (cached_test t st)
+    said_holds R c Checking t.message st (cached_test t st)
     (⊎_elim
     (λ e. subst (R s) (sym (unset_cached t st e))
-    (c.joins s (guarded t.name (t.body s)) _ (c.guards t.name s (t.body s) e (body s)) (λ now. tells_holds R c Out (t.shown (value_of now.vars t.name) ++ codes "\n") now)))
-    (λ some. subst (R s) (sym (set_cached t some.0 st some.1)) (tells_holds R c Out ((codes "(cached) " ++ t.shown (Some some.0)) ++ codes "\n") s))
+    (c.joins s (guarded t.name (t.body s)) _ (c.guards t.name s (t.body s) e (body s)) (λ now. prints_holds R c Results (t.shown (value_of now.vars t.name)) now)))
+    (λ some. subst (R s) (sym (set_cached t some.0 st some.1)) (prints_holds R c Results (codes "(cached) " ++ t.shown (Some some.0)) s))
     (cases_value (value_of st.vars t.name)))
 
 value_holds : (R : State → Run → Type 0) → Steps R → (name : List ℕ) (value : Option (List ℕ)) (st : State) → R st (Ends Goes_on (with_value name value st))
@@ -178,15 +181,12 @@ initialised_holds R c title version bug tarname url st run h =
     package_holds R c (codes "PACKAGE_NAME") title _ run (package_holds R c (codes "PACKAGE_TARNAME") tarname _ run (package_holds R c (codes "PACKAGE_VERSION") version _ run
     (package_holds R c (codes "PACKAGE_STRING") (package_string title version) _ run (package_holds R c (codes "PACKAGE_BUGREPORT") bug _ run (package_holds R c (codes "PACKAGE_URL") url _ run h)))))
 
-said_holds : (R : State → Run → Type 0) → Steps R → (message : Message) (text : List ℕ) (st : State) (run : Run) → R (said message text st) run → R st run
-said_holds R c message text st run h = c.tells (form_of message).stream _ st run h
-
 pub effect_holds : (R : State → Run → Type 0) → AllSteps R → (e : Effect) (st : State) → R st (effect e st)
 unfolding effect
 effect_holds R a (Assign name value) st = sets_holds R a.steps name (word_value value st.vars) st
 effect_holds R a (Define name value) st = defines_holds R a.steps name value st
 effect_holds R a (DefineText name value) st = defines_holds R a.steps name (word_value value st.vars) st
-effect_holds R a (Print message text) st = said_holds R a.steps message (word_value text st.vars) st _ (a.steps.goes (said message (word_value text st.vars) st))
+effect_holds R a (Print message text) st = prints_holds R a.steps message (word_value text st.vars) st
 effect_holds R a (Stop text status) st = said_holds R a.steps Error (word_value text st.vars) st _ (a.steps.stops status (said Error (word_value text st.vars) st))
 effect_holds R a (Package title version bug tarname url) st = initialised_holds R a.steps title version bug tarname url st _ (a.steps.goes (initialised title version bug tarname url st))
 effect_holds R a (Search variable program (Text found) otherwise) st = kind_holds R a.steps (Program _ _) st

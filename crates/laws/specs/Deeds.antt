@@ -132,7 +132,7 @@ effect_deeds (Batch listed entries includes) st replies =
 effect_deeds Complete st replies =
     prefix_deeds (codes "prefix") st
     ++ prefix_deeds (codes "exec_prefix") (settled (codes "prefix") (codes "/usr/local") st)
-effect_deeds effect st replies = []
+effect_deeds e st replies = []
 
 -- An option that is given assigns its variable. (own)
 abbrev pub given_deeds : Option (List ℕ) → OptionKind → List Deed
