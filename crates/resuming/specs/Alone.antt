@@ -52,7 +52,7 @@ AloneAt (Asked question) later = AloneUse (uses_asked question) later
 abbrev pub AloneRounds : List Subject → List (List ℕ) → (List (List ℕ) → Type 0) → List (List ℕ) → Type 0
 AloneRounds [] inside holds later = Unit {0}
 AloneRounds (round ∷ more) inside holds later =
-    (AloneAt round (inside ++ tested_rounds more inside ++ later) × holds (tested_rounds more inside ++ later))
+    (AloneAt round (inside ++ (tested_rounds more inside ++ later)) × holds (tested_rounds more inside ++ later))
     × AloneRounds more inside holds later
 
 abbrev mutual
