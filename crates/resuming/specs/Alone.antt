@@ -56,9 +56,9 @@ AloneRounds (round ∷ more) inside holds later =
     × AloneRounds more inside holds later
 
 abbrev mutual
-  -- The name of each AC_CACHE_CHECK, and of each other test that may leave it unset, is tested once: by no later statement,
-  -- and in no later round of a list whose actions it is in. Of today's tests these are those of programs. `later` are the
-  -- names that are tested after the statements.
+  -- The name of each AC_CACHE_CHECK, and of each other test that may leave it unset, such as that of a program, is tested
+  -- once: by no later statement, and in no later round of a list whose actions it is in. `later` are the names that are
+  -- tested after the statements.
   pub Alone : Script → List (List ℕ) → Type 0
   Alone Done later = Unit {0}
   Alone (Then declares effect rest) later = AloneUse (uses_of declares effect) (tested_in rest ++ later) × Alone rest later
