@@ -57,11 +57,12 @@ prog_test known name variable program found otherwise own c p every twin = recor
 abbrev look_kind : (name variable program : List ℕ) → State → Kind
 look_kind name variable program st = prog_kind name variable program (Some program) None (value_if (has_value st variable) (value_or_empty st variable))
 
-own_value_same : (at : List ℕ → Type 0) (variable : List ℕ) (s t : State) → at variable → Alike at s t → value_if (has_value s variable) (value_or_empty s variable) ≡ value_if (has_value t variable) (value_or_empty t variable)
-own_value_same at variable s t a h = ap (λ o. value_if (not (length (unwrap_or o []) == 0)) (unwrap_or o [])) (h.value variable a)
+-- A variable's own value, if it counts.
+pub own_same : (at : List ℕ → Type 0) (counts : List ℕ → Bool) (variable : List ℕ) (s t : State) → at variable → Alike at s t → value_if (counts (value_or_empty s variable)) (value_or_empty s variable) ≡ value_if (counts (value_or_empty t variable)) (value_or_empty t variable)
+own_same at counts variable s t a h = ap (λ o. value_if (counts (unwrap_or o [])) (unwrap_or o [])) (h.value variable a)
 
 look_same : (at : List ℕ → Type 0) (name variable program : List ℕ) → at variable → SameKind at (look_kind name variable program)
-look_same at name variable program a s t h = ap (prog_kind name variable program (Some program) None) (own_value_same at variable s t a h)
+look_same at name variable program a s t h = ap (prog_kind name variable program (Some program) None) (own_same at (λ value. not (length value == 0)) variable s t a h)
 
 abbrev look : (name variable program : List ℕ) → Bool → State → Run
 look name variable program always st =

@@ -1,6 +1,6 @@
 -- Statements without statements in them, as parts.
 use Rattle.std.proofs.Common.{◌≡◌, ℕ, List, [], ◌∷◌, ◌++◌, codes, Bool, cond, length, Option, Some, None, inl, refl, sym, ap, ◌∙◌, subst, ⊎_elim}
-use Rattle.std.specs.Prelude.{◌==◌, not, option_map, option_to_list, unwrap_or}
+use Rattle.std.specs.Prelude.{◌==◌, not, option_map, option_to_list}
 use Rattle.deftable.specs.CacheName.{is_cache_name, has_cv}
 use Rattle.deftable.specs.Table.{value_of}
 use Rattle.shellword.specs.declared.part.Part.{Part}
@@ -17,9 +17,10 @@ use Rattle.syntax.specs.TestNames.{program_name, path_name, NamesVariable}
 use Rattle.syntax.specs.Uses.{uses_of}
 use Rattle.meaning.specs.State.{State, with_variable, with_definition, Goes_on, Completed, Stopped, Run, Ends}
 use Rattle.meaning.specs.Messages.{said}
-use Rattle.meaning.specs.Rows.{value_or_empty, value_if}
+use Rattle.meaning.specs.Tests.{tested}
+use Rattle.meaning.specs.Rows.{value_or_empty, value_if, row_of}
 use Rattle.meaning.specs.Package.{literal, package_string, with_package, initialised}
-use Rattle.meaning.specs.Meaning.{is_unsettled, settled, with_prefixes, has_value, is_full_name, effect}
+use Rattle.meaning.specs.Meaning.{is_unsettled, settled, with_prefixes, is_full_name, effect}
 use Rattle.resuming.specs.Alone.{AreNone, AloneUse}
 use Rattle.resuming.specs.Joint.{joint_plain, joint_one}
 use Rattle.resuming.specs.Same.{SameEach, SameUse}
@@ -28,7 +29,7 @@ use Rattle.resuming.proofs.Names.{value_else, cached_apart, program_cached, path
 use Rattle.resuming.proofs.Liking.{Reads, variable_alike, written_alike, definition_alike, cond_alike, text_same}
 use Rattle.resuming.proofs.Forms.{IsTest, cond_values, reads_more}
 use Rattle.resuming.proofs.Parts.{part_less}
-use Rattle.resuming.proofs.Programs.{SameKind, prog_kind, prog_test, looks_test, test_then, default_of, default_alike, default_values, given_same}
+use Rattle.resuming.proofs.Programs.{SameKind, prog_kind, prog_test, own_same, looks_test, test_then, default_of, default_alike, default_values, given_same}
 use Rattle.resuming.proofs.Single.{still_part, ends_part, test_part}
 use Rattle.resuming.proofs.BatchPart.{batch_part}
 
@@ -82,23 +83,14 @@ prefixes_values n st c =
 pub may_assign : (variable : List ℕ) → MayAssign None variable → IsOrdinary variable
 may_assign variable m = ⊎_elim (λ p. p) (λ h. absurd h) m
 
-own_same : (at : List ℕ → Type 0) (counts : List ℕ → Bool) (variable : List ℕ) (s t : State) → at variable → Alike at s t → value_if (counts (value_or_empty s variable)) (value_or_empty s variable) ≡ value_if (counts (value_or_empty t variable)) (value_or_empty t variable)
-own_same at counts variable s t a h = ap (λ o. value_if (counts (unwrap_or o [])) (unwrap_or o [])) (h.value variable a)
-
 same_three : (name variable program : List ℕ) (a b c d e f : Option (List ℕ)) → a ≡ b → c ≡ d → e ≡ f → prog_kind name variable program a c e ≡ prog_kind name variable program b d f
 same_three name variable program a b c d e f p q r =
     ap (λ x. prog_kind name variable program x c e) p ∙ ap (λ x. prog_kind name variable program b x e) q ∙ ap (prog_kind name variable program b d) r
 
-check_same : (at : List ℕ → Type 0) (names : List (List ℕ)) (name variable program : List ℕ) (found : List Part) (otherwise : Option (List Part)) → at variable → Reads at names → ReadsText names found → ReadsAll names (option_to_list otherwise)
-    → SameKind at (λ st. prog_kind name variable program (Some (word_value found st.vars)) (option_map (λ t. word_value t st.vars) otherwise) (value_if (has_value st variable) (value_or_empty st variable)))
-check_same at names name variable program found otherwise a reads r q s t h =
-    same_three name variable program _ _ _ _ _ _ (ap Some (text_same at names found s t reads r h)) (given_same at names otherwise s t reads q h)
-    (ap (λ o. value_if (not (length (unwrap_or o []) == 0)) (unwrap_or o [])) (h.value variable a))
-
-path_same : (at : List ℕ → Type 0) (names : List (List ℕ)) (name variable program : List ℕ) (otherwise : Option (List Part)) → at variable → Reads at names → ReadsAll names (option_to_list otherwise)
-    → SameKind at (λ st. prog_kind name variable program None (option_map (λ t. word_value t st.vars) otherwise) (value_if (is_full_name (value_or_empty st variable)) (value_or_empty st variable)))
-path_same at names name variable program otherwise a reads q s t h =
-    same_three name variable program _ _ _ _ _ _ refl (given_same at names otherwise s t reads q h) (own_same at is_full_name variable s t a h)
+search_same : (at : List ℕ → Type 0) (names : List (List ℕ)) (counts : List ℕ → Bool) (name variable program : List ℕ) (found otherwise : Option (List Part)) → at variable → Reads at names → ReadsAll names (option_to_list found) → ReadsAll names (option_to_list otherwise)
+    → SameKind at (λ st. prog_kind name variable program (option_map (λ t. word_value t st.vars) found) (option_map (λ t. word_value t st.vars) otherwise) (value_if (counts (value_or_empty st variable)) (value_or_empty st variable)))
+search_same at names counts name variable program found otherwise a reads r q s t h =
+    same_three name variable program _ _ _ _ _ _ (given_same at names found s t reads r h) (given_same at names otherwise s t reads q h) (own_same at counts variable s t a h)
 
 -- A test that may leave its name unset.
 search_part : (known : List (List ℕ)) (name : List ℕ) (after : Option (List ℕ) → State → State) (part : State → Run) → IsTest known name after part
@@ -106,6 +98,16 @@ search_part : (known : List (List ℕ)) (name : List ℕ) (after : Option (List 
 search_part known name after part test =
     part_less known (name ∷ known) (name ∷ known) (name ∷ []) (name ∷ []) part (joint_one part) _ _ _ _ (λ n k. k) (λ n k. k) (λ p x. x.0) (λ later x. x)
     (test_part known name after part (AreNone (name ∷ [])) test (λ later f. inl f.0))
+
+-- AC_CHECK_PROG and AC_PATH_PROG; `counts` says whether the variable's own value counts.
+program_part : (tested_before known : List (List ℕ)) (counts : List ℕ → Bool) (name variable program : List ℕ) (found otherwise : Option (List Part)) → Within tested_before known → IsCached name → MayAssign None variable → ReadsAll tested_before (option_to_list found) → ReadsAll tested_before (option_to_list otherwise)
+    → (let part : State → Run = λ st. tested (row_of (prog_kind name variable program (option_map (λ t. word_value t st.vars) found) (option_map (λ t. word_value t st.vars) otherwise) (value_if (counts (value_or_empty st variable)) (value_or_empty st variable))) st) st in
+    IsPart known (name ∷ known) (name ∷ []) part (joint_one part) (SameEach (name ∷ []) part) (AreNone (name ∷ [])))
+program_part tested_before known counts name variable program found otherwise w c m r q =
+    let p = may_assign variable m in
+    search_part known name _ _
+    (prog_test known name variable program _ _ _ c p (search_same Every tested_before counts name variable program found otherwise tt (λ n k. tt) r q)
+    (search_same (MayRead (name ∷ known)) tested_before counts name variable program found otherwise (inl p) (reads_more tested_before known name w) r q))
 
 -- ---- statements
 
@@ -138,19 +140,9 @@ plain_part tested known d (Package title version bug tarname url) w v r =
     still_part tested known (initialised title version bug tarname url) _ w (λ at reads s t a. init_alike at title version bug tarname url s t a)
     (λ n st c. init_values title version bug tarname url n st c)
 plain_part tested known d (Search variable program (Text found) otherwise) w v r =
-    let name = program_name variable in
-    let p = may_assign variable r.1.0 in
-    search_part known name _ _
-    (prog_test known name variable program (λ st. Some (word_value found st.vars)) (λ st. option_map (λ t. word_value t st.vars) otherwise) (λ st. value_if (has_value st variable) (value_or_empty st variable))
-    (program_cached variable v) p (check_same Every tested name variable program found otherwise tt (λ n k. tt) r.1.1.0 r.1.1.1)
-    (check_same (MayRead (name ∷ known)) tested name variable program found otherwise (inl p) (reads_more tested known name w) r.1.1.0 r.1.1.1))
+    program_part tested known (λ value. not (length value == 0)) (program_name variable) variable program (Some found) otherwise w (program_cached variable v) r.1.0 (r.1.1.0, tt) r.1.1.1
 plain_part tested known d (Search variable program FullName otherwise) w v r =
-    let name = path_name variable in
-    let p = may_assign variable r.1.0 in
-    search_part known name _ _
-    (prog_test known name variable program (λ st. None) (λ st. option_map (λ t. word_value t st.vars) otherwise) (λ st. value_if (is_full_name (value_or_empty st variable)) (value_or_empty st variable))
-    (path_cached variable v) p (path_same Every tested name variable program otherwise tt (λ n k. tt) r.1.1)
-    (path_same (MayRead (name ∷ known)) tested name variable program otherwise (inl p) (reads_more tested known name w) r.1.1))
+    program_part tested known is_full_name (path_name variable) variable program None otherwise w (path_cached variable v) r.1.0 tt r.1.1
 plain_part tested known d (Searches variable programs otherwise) w v r =
     let name = program_name variable in
     let p = may_assign variable r.1.0 in
