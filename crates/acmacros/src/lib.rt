@@ -27,5 +27,7 @@ mod searches;
 pub mod table;
 mod tries;
 
-pub use macros::{ArgumentMacro, ChoiceMacro, Macro, Named, PlainMacro, QuestionMacro};
+pub use macros::{
+    ActMacro, ArgumentMacro, ChoiceMacro, DeclaringMacro, Macro, Named, PlainMacro, QuestionMacro,
+};
 pub use table::Row;
