@@ -172,7 +172,7 @@ declaring_of c declaring.PathProg at args = path_prog c args
 declaring_of c declaring.Output at args = Ok (declares.End, Complete)
 
 -- What is read of a macro that declares nothing. (own)
-abbrev pub undeclared : {A : Type 0} → Result A ParseFault → Result (Declares × A) ParseFault
+unfoldable pub undeclared : {A : Type 0} → Result A ParseFault → Result (Declares × A) ParseFault
 undeclared r = r >>= λ x. Ok (declares.Nothing, x)
 
 -- What a macro with its name at this offset declares and does, given what has been declared. (own)

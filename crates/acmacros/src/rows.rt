@@ -1,9 +1,11 @@
 //! A reader for each macro, which reads its arguments from the left.
 
-ghost use Rattle.std.specs.Prelude.{◌≡◌, map};
+ghost use Rattle.std.specs.Prelude.{◌≡◌, Result, map};
 ghost use Rattle.m4quote.specs.Entry.{span};
 ghost use Rattle.acstatement.specs.Reading.{Gives};
 ghost use Rattle.acmacros.specs.Rows as rows;
+ghost use Rattle.acstatement.specs.declared.fault.ParseFault as faults;
+ghost use Rattle.syntax.specs.declared.statement.Question as questions;
 
 use crate::checks::{checks, checks_each};
 use crate::libraries::{check_lib, search_libs};
@@ -272,6 +274,7 @@ fn declaring(
 /// - The error of the first argument that has one.
 /// - `TooMany` at the argument, if it names one variable or output more than a source may have.
 /// - `TooMany` at `at`, if AC_PROG_CC adds more variables than a source may have.
+#[tactic(auto, unfolding(crate::specs::Rows::undeclared))]
 pub fn plain(
     alloc: Global,
     known: &Declarations,
@@ -323,10 +326,11 @@ fn given(
 }
 
 /// Returns a question of a macro that declares nothing.
-fn undeclared(question: Result<Question, ParseFault>) -> Result<(Declares, Question), ParseFault>
-    ensures { (r : Result question.Question ParseFault) → Gives (λ q. q) question r → Gives (λ q. q) result (rows.undeclared r) }
+#[tactic(auto, unfolding(crate::specs::Rows::undeclared))]
+fn undeclared(asked: Result<Question, ParseFault>) -> Result<(Declares, Question), ParseFault>
+    ensures { (r : Result questions.Question faults.ParseFault) → Gives (λ q. q) asked r → Gives (λ q. q) result (rows.undeclared r) }
 {
-    question.map(|question| (Declares::Nothing, question))
+    asked.map(|question| (Declares::Nothing, question))
 }
 
 /// Returns what a call with these arguments declares, and its question, given what the statements before it declare. Its
