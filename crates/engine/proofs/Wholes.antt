@@ -1,16 +1,18 @@
 -- What follows from all of a call, clause by clause.
-use Rattle.std.proofs.Common.{◌≡◌, ℕ, Bool, true, false, cond, List, Option, Some, None, length, Result, Ok, Err, refl, sym, subst, ap, ◌∙◌}
-use Rattle.std.specs.Prelude.{IfOk, IsErrAnd, nat_le, ◌||◌}
+use Rattle.std.proofs.Common.{◌≡◌, ℕ, Bool, true, false, List, Option, Some, None, length, Result, Ok, Err, refl, sym, subst, ap, ◌∙◌}
+use Rattle.std.specs.Prelude.{IfOk, IsErrAnd, nat_le, ◌||◌, if◌then◌else◌}
 use Rattle.outputs.specs.Receipt.{Receipt, with_artifacts}
 use Rattle.acparse.specs.Profile.{source_of}
 use Rattle.crew_trait.specs.Events.{Account}
+use Rattle.options.specs.Opening.{opening}
 use Rattle.options.specs.declared.settings.Settings.{Settings}
 use Rattle.plan.specs.Weight.{heaviest, weight}
 use Rattle.plan.specs.declared.fault.PlanFault.TheVariants.{TooLong}
 use Rattle.syntax.specs.Commands.{HasCommands}
+use Rattle.syntax.specs.Lists.{lists_of}
 use Rattle.syntax.specs.Script.{Script}
 use Rattle.syntax.specs.TestNames.{HasTestNames}
-use Rattle.framing.specs.Faults.{Fails, ◌>>=◌, named, wants, of_parse}
+use Rattle.framing.specs.Faults.{Fails, ◌>>=◌, named, wants, of_parse, of_option}
 use Rattle.engine.specs.Judged.{judged}
 use Rattle.framing.specs.Given.{Accepted, Shows, Starts, started, accepted, seen}
 use Rattle.engine.specs.Configured.{IsWhole, refused, memory, shown, ran, IsAnswer, IsNotRun, IfStarts, IfReport, IfPutRefused, IsMeant, IsDone, IsCut, HasRunPart, not_begun, artifacts, record_after}
@@ -52,15 +54,25 @@ named_ok : {A E F : Type 0} (fault : E → F) (r : Result A E) (x : A) → named
 named_ok fault (Ok y) x e = let same : y ≡ x = cc in ap Ok same
 named_ok fault (Err f) x e = absurd cc
 
-same_script : (a : List (List ℕ)) (e : List (List ℕ × List ℕ)) (c : Option (List ℕ)) (t : List (List ℕ × List ℕ)) (read script : Script) (start : Start) → accepted a e c t read ≡ Ok (Starts script start) → read ≡ script
+abbrev chosen : List (List ℕ) → Option (List ℕ) → List (List ℕ × List ℕ) → Script → Settings → Bool → Result Accepted Fault
+chosen a c t script settings b = if b then Ok (Shows script settings) else (started a c t script settings >>= λ start. Ok (Starts script start))
+
+same_chosen : (a : List (List ℕ)) (c : Option (List ℕ)) (t : List (List ℕ × List ℕ)) (read script : Script) (settings : Settings) (start : Start) (b : Bool) → chosen a c t read settings b ≡ Ok (Starts script start) → read ≡ script
+same_chosen a c t read script settings start true is = absurd cc
+same_chosen a c t read script settings start false is =
+    let begins = bind_ok (started a c t read settings) (λ at. Ok (Starts read at)) (Starts script start) is in
+    let same : Ok (Starts read begins.0) ≡ Ok (Starts script start) = begins.1.1 in cc
+
+is_accepted : (a : List (List ℕ)) (e : List (List ℕ × List ℕ)) (c : Option (List ℕ)) (t : List (List ℕ × List ℕ)) (script : Script)
+    → accepted a e c t script ≡ (named of_option (opening (lists_of script).features (lists_of script).packages (lists_of script).precious a e) >>= λ settings. chosen a c t script settings (settings.help || settings.version))
 unfolding accepted
+is_accepted a e c t script = refl
+
+same_script : (a : List (List ℕ)) (e : List (List ℕ × List ℕ)) (c : Option (List ℕ)) (t : List (List ℕ × List ℕ)) (read script : Script) (start : Start) → accepted a e c t read ≡ Ok (Starts script start) → read ≡ script
 same_script a e c t read script start is =
-    let settles = bind_ok _ _ _ is in
-    by_choice (settles.0.help || settles.0.version) settles.0 (started a c t read settles.0) settles.1.1
-  where
-    by_choice : (b : Bool) (settings : Settings) (starts : Result Start Fault) → cond b (Ok (Shows read settings)) (starts >>= λ start. Ok (Starts read start)) ≡ Ok (Starts script start) → read ≡ script
-    by_choice true settings starts h = absurd cc
-    by_choice false settings starts h = let begins = bind_ok starts _ _ h in let same = begins.1.1 in cc
+    let settles = bind_ok (named of_option (opening (lists_of read).features (lists_of read).packages (lists_of read).precious a e)) (λ settings. chosen a c t read settings (settings.help || settings.version)) (Starts script start)
+    (sym (is_accepted a e c t read) ∙ is) in
+    same_chosen a c t read script settles.0 start (settles.0.help || settles.0.version) settles.1.1
 
 -- The statements of a run are those of the source.
 pub source_is : (s : List ℕ) (a : List (List ℕ)) (e : List (List ℕ × List ℕ)) (c : Option (List ℕ)) (t : List (List ℕ × List ℕ)) (script : Script) (start : Start) → judged s a e c t ≡ Ok (Starts script start) → source_of s ≡ Ok script
