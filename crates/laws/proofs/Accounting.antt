@@ -11,11 +11,10 @@ use Rattle.syntax.specs.declared.feature.OptionKind.{OptionKind}
 use Rattle.syntax.specs.declared.listed.Sought.{Sought}
 use Rattle.syntax.specs.declared.program.Try as kinds
 use Rattle.syntax.specs.declared.program.Try.TheVariants as kinds_are
-use Rattle.syntax.specs.declared.statement.Plain as plain
-use Rattle.syntax.specs.declared.statement.MessageKind.{MessageKind}
-use Rattle.syntax.specs.declared.statement.MessageKind.TheVariants as messages
-use Rattle.syntax.specs.declared.statement.Plain.TheVariants.{Init, Assign, SubstValue, Message, CheckProg, CheckProgs, PathProg, ProgCc, Output}
-use Rattle.syntax.specs.declared.statement.Plain.TheVariants as plain_is
+use Rattle.syntax.specs.declared.statement.Effect.{Effect}
+use Rattle.syntax.specs.declared.statement.Effect.TheVariants as effects
+use Rattle.syntax.specs.declared.statement.Effect.TheVariants.{Assign, Package, Search, Searches, Complete}
+use Rattle.syntax.specs.declared.statement.ProgramValue.TheVariants.{Text, FullName}
 use Rattle.syntax.specs.declared.statement.Question.TheVariants as questions
 use Rattle.syntax.specs.declared.statement.Question.TheVariants.{Given, Tries, Checks, ChecksEach}
 use Rattle.syntax.specs.declared.tree.Subject.{Subject}
@@ -28,7 +27,7 @@ use Rattle.meaning.specs.Rows.{Kind, Program, Library, Libraries, kind_for, is_f
 use Rattle.meaning.specs.Package.{package_string, initialised}
 use Rattle.meaning.specs.Play.{play, first_number, refused_after, last_words}
 use Rattle.meaning.specs.Tries.{first_probe, after_first, text_of}
-use Rattle.meaning.specs.Meaning.{settled, is_unsettled, has_value, check_prog, looks, looks_all, defaulted, said, effect, value_name, given, found_by, first_found, begun, rounds_of, in_turn, is_taken, check, meaning, chosen}
+use Rattle.meaning.specs.Meaning.{settled, is_unsettled, has_value, check_prog, looks, looks_all, defaulted, effect, value_name, given, found_by, first_found, begun, rounds_of, in_turn, is_taken, check, meaning, chosen}
 use Rattle.laws.specs.Ends.{AtEnds}
 use Rattle.laws.specs.Questions.{yes_or_no}
 use Rattle.laws.specs.Deeds.{Deed, Assigned, kind_deeds, look_deeds, looks_deeds, default_deeds, prefix_deeds, effect_deeds, given_deeds, first_deeds, deeds_answered, subject_deeds, turn_deeds, deeds, case_deeds, Accounts, DeedsAccount}
@@ -70,27 +69,19 @@ prefix_by false name value st = nothing st.vars
 prefix_accounts : (name value : List ℕ) (st : State) → Accounts st.vars (prefix_deeds name st) (settled name value st).vars
 prefix_accounts name value st = prefix_by (is_unsettled (value_of st.vars name)) name value st
 
-said_accounts : (kind : MessageKind) (message : List ℕ) (st : State) → Accounts st.vars [] (said kind message st).vars
-unfolding said
-said_accounts messages.Checking message st = nothing st.vars
-said_accounts _ message st = nothing st.vars
-
-effect_accounts : (s : plain.Plain) (st : State) (rs : List Reply) → Accounts st.vars (effect_deeds s st rs) (play (effect s st) rs).state.vars
+effect_accounts : (e : Effect) (st : State) (rs : List Reply) → Accounts st.vars (effect_deeds e st rs) (play (effect e st) rs).state.vars
 unfolding effect effect_deeds initialised
-effect_accounts (Init title version bug tarname url) st rs =
+effect_accounts (Assign name value) st rs = writes st.vars name (word_value value st.vars)
+effect_accounts (Package title version bug tarname url) st rs =
     writes_more st.vars _ _ (codes "PACKAGE_URL") url (writes_more st.vars _ _ (codes "PACKAGE_BUGREPORT") bug (writes_more st.vars _ _ (codes "PACKAGE_STRING") (package_string title version)
     (writes_more st.vars _ _ (codes "PACKAGE_VERSION") version (writes_more st.vars _ _ (codes "PACKAGE_TARNAME") tarname (writes st.vars (codes "PACKAGE_NAME") title)))))
-effect_accounts (Assign name value) st rs = writes st.vars name (word_value value st.vars)
-effect_accounts (SubstValue name value) st rs = writes st.vars name (word_value value st.vars)
-effect_accounts (Message kind message) st rs = said_accounts kind (word_value message st.vars) st
-effect_accounts (CheckProg variable program found otherwise) st rs = kind_accounts (Program _ _) st rs
-effect_accounts (CheckProgs variable programs otherwise) st rs =
+effect_accounts (Search variable program (Text found) otherwise) st rs = kind_accounts (Program _ _) st rs
+effect_accounts (Search variable program FullName otherwise) st rs = kind_accounts (Program _ _) st rs
+effect_accounts (Searches variable programs otherwise) st rs =
     then_accounts (looks_all variable programs true st) rs st.vars (looks_deeds variable programs true st rs) _ (λ now left. default_deeds variable otherwise now)
     (looks_account variable programs true st rs) (λ now left. default_accounts variable otherwise now)
-effect_accounts (PathProg variable program otherwise) st rs = kind_accounts (Program _ _) st rs
-effect_accounts (ProgCc programs) st rs = looks_account (codes "CC") programs true st rs
-effect_accounts (plain_is.Batch listed entries includes) st rs = batch_accounts (record { listed = listed; entries = entries; includes = includes }) st rs
-effect_accounts Output st rs =
+effect_accounts (effects.Batch listed entries includes) st rs = batch_accounts (record { listed = listed; entries = entries; includes = includes }) st rs
+effect_accounts Complete st rs =
     let first = settled (codes "prefix") (codes "/usr/local") st in
     joined st.vars first.vars (settled (codes "exec_prefix") (codes "${prefix}") first).vars (prefix_deeds (codes "prefix") st) (prefix_deeds (codes "exec_prefix") first)
     (prefix_accounts (codes "prefix") (codes "/usr/local") st) (prefix_accounts (codes "exec_prefix") (codes "${prefix}") first)
@@ -167,7 +158,7 @@ subject_accounts : (subject : Subject) (st : State) (rs : List Reply) (go : Scop
 unfolding begun
 subject_accounts Nothing st rs go did y = y no_choice st rs
 subject_accounts (Word word) st rs go did y = y (about (word_value word st.vars)) st rs
-subject_accounts (Asked (Given kind variable help)) st rs go did y = given_accounts (value_of st.vars variable) kind st rs go did y
+subject_accounts (Asked (Given kind variable)) st rs go did y = given_accounts (value_of st.vars variable) kind st rs go did y
 subject_accounts (Asked (Tries kind program)) st rs go did y =
     compiled_answers did (job_of (first_probe kind (text_of program st.vars)) 0 st.vars st.defs) st _ _
     (first_answers did kind (λ b. yes_or_no (answered b)) (λ b. go (answered b)) (either_answers did go y)) rs
@@ -187,9 +178,9 @@ mutual
 
   meaning_accounts : (script : Script) (st : State) (rs : List Reply) → Accounts st.vars (deeds script st rs) (play (meaning script st) rs).state.vars
   meaning_accounts Done st rs = nothing st.vars
-  meaning_accounts (Then s rest) st rs =
-      then_accounts (effect s st) rs st.vars (effect_deeds s st rs) (meaning rest) (deeds rest) (effect_accounts s st rs) (λ now left. meaning_accounts rest now left)
-  meaning_accounts (Choice subject cases rest) st rs =
+  meaning_accounts (Then declares e rest) st rs =
+      then_accounts (effect e st) rs st.vars (effect_deeds e st rs) (meaning rest) (deeds rest) (effect_accounts e st rs) (λ now left. meaning_accounts rest now left)
+  meaning_accounts (Choice declares subject cases rest) st rs =
       then_accounts (in_turn (rounds_of subject) (chosen cases) st) rs st.vars (turn_deeds (rounds_of subject) (chosen cases) (case_deeds cases) st rs) (meaning rest) (deeds rest)
       (turns_account (rounds_of subject) (chosen cases) (case_deeds cases) (λ scope now left. case_accounts cases scope now left) st rs)
       (λ now left. meaning_accounts rest now left)

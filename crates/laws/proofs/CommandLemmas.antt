@@ -3,8 +3,8 @@ use Rattle.std.proofs.Common.{◌≡◌, ℕ, Option, Some, None, List, Bool, tr
 use Rattle.jobs.specs.Probe.{job_of}
 use Rattle.deftable.specs.Table.{value_of, with_entry, without_entry}
 use Rattle.shellword.specs.Value.{word_value}
-use Rattle.syntax.specs.declared.statement.Plain as plain
-use Rattle.syntax.specs.declared.statement.Plain.TheVariants.{Assign}
+use Rattle.syntax.specs.declared.statement.Effect.{Effect}
+use Rattle.syntax.specs.declared.statement.Effect.TheVariants.{Assign}
 use Rattle.syntax.specs.declared.statement.Question.TheVariants.{Tries}
 use Rattle.syntax.specs.declared.tree.Subject.{Subject}
 use Rattle.syntax.specs.declared.tree.Subject.TheVariants.{Nothing, Word, Asked}
@@ -90,7 +90,7 @@ own_write before now name value w =
     (λ set. inr (value, ap (λ l. with_entry l name value) set.1 ∙ rewritten before name set.0 value))
     w
 
-effect_writes : (name : List ℕ) (first : State) (s : plain.Plain) (st : State) → AssignsAlone name s → OwnOnly name first st → Keeps (OwnOnly name first) (effect s st)
+effect_writes : (name : List ℕ) (first : State) (e : Effect) (st : State) → AssignsAlone name e → OwnOnly name first st → Keeps (OwnOnly name first) (effect e st)
 unfolding effect
 effect_writes name first (Assign variable value) st a h =
     (subst (λ x. WritesOwn name first.vars (with_entry st.vars x (word_value value st.vars))) (sym a) (own_write first.vars st.vars name (word_value value st.vars) h.0), h.1)
@@ -124,11 +124,11 @@ mutual
 
   commands_write : (name : List ℕ) (first : State) (script : Script) (st : State) → AreCommands name script → OwnOnly name first st → Keeps (OwnOnly name first) (meaning script st)
   commands_write name first Done st a h = h
-  commands_write name first (Then s rest) st a h =
-      then_keeps (OwnOnly name first) (effect s st) (meaning rest) (effect_writes name first s st a.0 h) (λ now k. commands_write name first rest now a.1 k)
-  commands_write name first (Choice subject cases rest) st a h =
+  commands_write name first (Then declares e rest) st a h =
+      then_keeps (OwnOnly name first) (effect e st) (meaning rest) (effect_writes name first e st a.1.0 h) (λ now k. commands_write name first rest now a.1.1 k)
+  commands_write name first (Choice declares subject cases rest) st a h =
       then_keeps (OwnOnly name first) (in_turn (rounds_of subject) (chosen cases) st) (meaning rest)
-      (turn_writes name first subject st (chosen cases) a.0 (λ scope now k. cases_write name first cases scope now a.1.0 k) h) (λ now k. commands_write name first rest now a.1.1 k)
+      (turn_writes name first subject st (chosen cases) a.1.0 (λ scope now k. cases_write name first cases scope now a.1.1.0 k) h) (λ now k. commands_write name first rest now a.1.1.1 k)
   commands_write name first (Check message other commands rest) st a h = absurd a
 
   cases_write : (name : List ℕ) (first : State) (cases : Cases) (scope : Scope) (st : State) → AreCommandsIn name cases → OwnOnly name first st → Keeps (OwnOnly name first) (chosen cases scope st)

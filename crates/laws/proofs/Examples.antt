@@ -13,8 +13,9 @@ use Rattle.shellword.specs.declared.part.Part.TheVariants as parts_are
 use Rattle.shellword.specs.Value.{word_value}
 use Rattle.textcut.specs.Cuts.{fields, parts_by, parts}
 use Rattle.syntax.specs.declared.listed.Listed.TheVariants.{Declaration}
-use Rattle.syntax.specs.declared.statement.Plain as plain
-use Rattle.syntax.specs.declared.statement.Plain.TheVariants as statements
+use Rattle.syntax.specs.declared.statement.Declares.TheVariants as declares
+use Rattle.syntax.specs.declared.statement.Effect.{Effect}
+use Rattle.syntax.specs.declared.statement.Effect.TheVariants as effects
 use Rattle.syntax.specs.Script.{Script, Done, Then}
 use Rattle.meaning.specs.State.{State, opened, piece, Cut}
 use Rattle.meaning.specs.Batches.{Batch, asking, jobs_in, batched}
@@ -82,7 +83,7 @@ pieces_so = refl
 -- ---- the same as a whole run
 
 abbrev script : Script
-script = Then (statements.Batch Declaration declarations.entries None) Done
+script = Then declares.Nothing (effects.Batch Declaration declarations.entries None) Done
 
 script_has_replies : HasReplies (played script start replies) replies
 unfolding effect meaning words_of value_of with_entry without_entry fields parts_by job_of
@@ -121,8 +122,8 @@ is_sought : IsSought (codes "P") paths
 unfolding value_of
 is_sought = record { empty = refl; unset = refl }
 
-abbrev looks : Option (List Part) → plain.Plain
-looks otherwise = statements.CheckProgs (codes "P") programs otherwise
+abbrev looks : Option (List Part) → Effect
+looks otherwise = effects.Searches (codes "P") programs otherwise
 
 enough_looks : Enough (effect (looks (Some (parts_are.Plain 99 ∷ []))) paths) (bad ∷ bad ∷ good ∷ [])
 unfolding effect value_of with_entry directories_of parts parts_by

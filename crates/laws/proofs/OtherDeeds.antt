@@ -4,8 +4,8 @@ use Rattle.std.specs.Prelude.{bytes_eq}
 use Rattle.std.proofs.lemmas.Bool.{cases_Bool}
 use Rattle.crew_trait.specs.declared.reply.Reply.{Reply}
 use Rattle.shellword.specs.Value.{word_value}
-use Rattle.syntax.specs.declared.statement.Plain as plain
-use Rattle.syntax.specs.declared.statement.Plain.TheVariants.{Assign}
+use Rattle.syntax.specs.declared.statement.Effect.{Effect}
+use Rattle.syntax.specs.declared.statement.Effect.TheVariants.{Assign}
 use Rattle.syntax.specs.declared.statement.Question.TheVariants.{Tries}
 use Rattle.syntax.specs.declared.tree.Subject.{Subject}
 use Rattle.syntax.specs.declared.tree.Subject.TheVariants.{Nothing, Word, Asked}
@@ -49,7 +49,7 @@ none_answered name (Asks jobs ask) rs rest h = none_answered name (ask (take (le
 own_assigned : (name variable : List ℕ) → variable ≡ name → NoOthers name (Assigned variable ∷ [])
 own_assigned name variable e = cond_true (bytes_eq name variable) [] (Assigned variable ∷ []) (ap (bytes_eq name) e ∙ same_self name)
 
-effect_none : (name : List ℕ) (s : plain.Plain) (st : State) (rs : List Reply) → AssignsAlone name s → NoOthers name (effect_deeds s st rs)
+effect_none : (name : List ℕ) (e : Effect) (st : State) (rs : List Reply) → AssignsAlone name e → NoOthers name (effect_deeds e st rs)
 unfolding effect_deeds
 effect_none name (Assign variable value) st rs a = own_assigned name variable a
 effect_none name _ st rs a = absurd a
@@ -72,12 +72,12 @@ mutual
 
   commands_none : (name : List ℕ) (script : Script) (st : State) (rs : List Reply) → AreCommands name script → NoOthers name (deeds script st rs)
   commands_none name Done st rs a = refl
-  commands_none name (Then s rest) st rs a =
-      none_both name (effect_deeds s st rs) (deeds_after (effect s st) rs (deeds rest)) (effect_none name s st rs a.0) (none_after name (effect s st) rs (deeds rest) (λ now left. commands_none name rest now left a.1))
-  commands_none name (Choice subject cases rest) st rs a =
+  commands_none name (Then declares e rest) st rs a =
+      none_both name (effect_deeds e st rs) (deeds_after (effect e st) rs (deeds rest)) (effect_none name e st rs a.1.0) (none_after name (effect e st) rs (deeds rest) (λ now left. commands_none name rest now left a.1.1))
+  commands_none name (Choice declares subject cases rest) st rs a =
       none_both name (turn_deeds (rounds_of subject) (chosen cases) (case_deeds cases) st rs) (deeds_after (in_turn (rounds_of subject) (chosen cases) st) rs (deeds rest))
-      (turn_none name subject st rs (chosen cases) (case_deeds cases) a.0 (λ scope now left. cases_none name cases scope now left a.1.0))
-      (none_after name (in_turn (rounds_of subject) (chosen cases) st) rs (deeds rest) (λ now left. commands_none name rest now left a.1.1))
+      (turn_none name subject st rs (chosen cases) (case_deeds cases) a.1.0 (λ scope now left. cases_none name cases scope now left a.1.1.0))
+      (none_after name (in_turn (rounds_of subject) (chosen cases) st) rs (deeds rest) (λ now left. commands_none name rest now left a.1.1.1))
   commands_none name (Check message other commands rest) st rs a = absurd a
 
   cases_none : (name : List ℕ) (cases : Cases) (scope : Scope) (st : State) (rs : List Reply) → AreCommandsIn name cases → NoOthers name (case_deeds cases scope st rs)

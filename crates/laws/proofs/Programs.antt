@@ -5,7 +5,6 @@ use Rattle.std.specs.List.{AllByRecursion}
 use Rattle.std.proofs.lemmas.Bool.{cases_Bool}
 use Rattle.std.proofs.lemmas.Bool.Decides.{eqb_tells}
 use Rattle.std.proofs.lemmas.List.{append-nil}
-use Rattle.std.proofs.Math.Path.{fun_ext}
 use Rattle.jobs.specs.declared.job.Job.{Job}
 use Rattle.jobs.specs.Probe.{path_of}
 use Rattle.crew_trait.specs.declared.reply.Reply.{Reply}
@@ -13,19 +12,17 @@ use Rattle.deftable.specs.Table.{value_of, with_entry}
 use Rattle.deftable.specs.declared.note.Stream.TheVariants.{Out}
 use Rattle.shellword.specs.declared.part.Part.{Part}
 use Rattle.shellword.specs.Value.{word_value}
-use Rattle.syntax.specs.declared.statement.Plain as plain
+use Rattle.syntax.specs.declared.statement.Effect.TheVariants as effects
 use Rattle.syntax.specs.TestNames.{program_name}
-use Rattle.meaning.specs.State.{State, piece, with_child, with_variable, Goes_on, Run, Ends, Asks, then_run, as_is}
+use Rattle.meaning.specs.State.{State, piece, with_child, with_variable, Goes_on, Run, Ends, then_run, as_is}
 use Rattle.meaning.specs.Asking.{success, heard, same, attempted}
 use Rattle.meaning.specs.Directories.{directories_of}
 use Rattle.meaning.specs.Tests.{checking, with_result, Row, tested}
 use Rattle.meaning.specs.Rows.{Program, attempts_in, value_or_empty, value_if, row_of}
 use Rattle.meaning.specs.Meaning.{check_prog, has_value, looks_all, defaulted, effect}
-use Rattle.meaning.specs.Play.{first_refused}
 use Rattle.laws.specs.Cached.{with_cached}
-use Rattle.laws.specs.Finished.{finish, Enough}
 use Rattle.laws.specs.Logged.{children_of}
-use Rattle.laws.specs.Programs.{found_or, default_of, SearchEnds, IsSearch, AreNamed, IsSought, places_in, Searches, ProgramsAreSought, named_by, SearchesNothing, CachedIsNotSought, OwnIsNotSought}
+use Rattle.laws.specs.Programs.{found_or, default_of, SearchEnds, AreNamed, IsSought, places_in, ProgramsAreSought, named_by, CachedIsNotSought, OwnIsNotSought}
 use Rattle.laws.proofs.Values.{same_text, not_same, value_here, value_there, rewritten}
 use Rattle.laws.proofs.CachedTests.{set_row}
 use Rattle.laws.proofs.BatchEntries.{said, added, finds, rounded, unset_run}
@@ -279,28 +276,11 @@ all_of variable (program ∷ more) otherwise st named s =
 
 -- ---- the statements
 
-abbrev both : List ℕ → List (List ℕ) → Option (List Part) → State → Run
-both variable programs otherwise st = then_run (looks_all variable programs true st) (lasts variable otherwise)
-
-goes_on : (run : Run) → then_run run (λ now. Ends Goes_on now) ≡ run
-goes_on (Ends Goes_on st) = refl
-goes_on (Ends _ st) = refl
-goes_on (Asks jobs ask) = ap (Asks jobs) (fun_ext (λ replies. goes_on (ask replies)))
-
-search_is : (s : plain.Plain) (variable : List ℕ) (programs : List (List ℕ)) (otherwise : Option (List Part)) (st : State) → IsSearch s variable programs otherwise → both variable programs otherwise st ≡ effect s st
-unfolding effect
-search_is s variable programs otherwise st h =
-    ⊎_elim
-    (λ e. ap (λ x. effect x st) (sym e))
-    (λ e. ap (λ o. both variable programs o st) e.1.1 ∙ goes_on (looks_all variable programs true st) ∙ ap (λ v. looks_all v programs true st) e.1.0 ∙ ap (λ x. effect x st) (sym e.0))
-    h
-
 pub programs_are_sought : ProgramsAreSought
-programs_are_sought s variable programs otherwise st replies is named sought =
-    subst (λ run. Enough run replies → first_refused replies ≡ None → Searches variable (places_in programs st) (default_of variable otherwise st) replies st (finish run replies)) (search_is s variable programs otherwise st is)
-    (λ enough none.
-    let h = hunted (places_in programs st) (Ends_so variable otherwise st) [] (both variable programs otherwise st) replies (all_of variable programs otherwise st named sought) enough none in
-    record { how = h.0; ends = h.1 })
+unfolding effect
+programs_are_sought variable programs otherwise st replies named sought enough none =
+    let h = hunted (places_in programs st) (Ends_so variable otherwise st) [] (effect (effects.Searches variable programs otherwise) st) replies (all_of variable programs otherwise st named sought) enough none in
+    record { how = h.0; ends = h.1 }
 
 -- ---- a value that is there
 
@@ -335,10 +315,10 @@ cached_ends : (variable v : List ℕ) (otherwise : Option (List Part)) (st now :
 cached_ends variable [] otherwise st now cached a = empty_ends variable (Some []) otherwise st now [] cached a
 cached_ends variable (b ∷ bs) otherwise st now cached a = full_ends variable (b ∷ bs) (Some (b ∷ bs)) [] otherwise st now [] st.vars (λ e. cc) (λ n x y. refl) cached a
 
-cached_all : (variable : List ℕ) (programs : List (List ℕ)) (otherwise : Option (List Part)) (st : State) (v : List ℕ) → AreNamed programs → value_of st.vars (program_name variable) ≡ Some v
-    → SearchesNothing variable (found_or (named_by v) (default_of variable otherwise st)) v st (both variable programs otherwise st)
-cached_all variable [] otherwise st v named cached = absurd (named.some refl)
-cached_all variable (program ∷ more) otherwise st v named cached =
+pub cached_is_not_sought : CachedIsNotSought
+unfolding effect
+cached_is_not_sought variable [] otherwise st v named cached = absurd (named.some refl)
+cached_is_not_sought variable (program ∷ more) otherwise st v named cached =
     let r = row variable program (value_if (has_value st variable) (value_or_empty st variable)) st in
     let z = r.after (Some v) (with_cached r.test v st) in
     let at : At st (with_entry st.vars variable v) [] z = record {
@@ -354,14 +334,10 @@ cached_all variable (program ∷ more) otherwise st v named cached =
       ends = last.1.1;
     }
 
-pub cached_is_not_sought : CachedIsNotSought
-cached_is_not_sought s variable programs otherwise st value is named cached =
-    subst (SearchesNothing variable (found_or (named_by value) (default_of variable otherwise st)) value st) (search_is s variable programs otherwise st is) (cached_all variable programs otherwise st value named cached)
-
-own_all : (variable : List ℕ) (programs : List (List ℕ)) (otherwise : Option (List Part)) (st : State) (v : List ℕ) → AreNamed programs → value_of st.vars (program_name variable) ≡ None → value_of st.vars variable ≡ Some v → (v ≡ [] → ⊥)
-    → SearchesNothing variable v v st (both variable programs otherwise st)
-own_all variable [] otherwise st v named unset own full = absurd (named.some refl)
-own_all variable (program ∷ more) otherwise st v named unset own full =
+pub own_is_not_sought : OwnIsNotSought
+unfolding effect
+own_is_not_sought variable [] otherwise st v named unset own full = absurd (named.some refl)
+own_is_not_sought variable (program ∷ more) otherwise st v named unset own full =
     let name = program_name variable in
     let own_is : value_or_empty st variable ≡ v = ap (λ o. unwrap_or o []) own in
     let has : has_value st variable ≡ true = ap (λ v. not (length v == 0)) own_is ∙ full_is v full in
@@ -377,7 +353,3 @@ own_all variable (program ∷ more) otherwise st v named unset own full =
     let last = full_ends variable v (Some v) more otherwise st (tested_end r y (Some v)) [] (with_entry st.vars name v) full
     (λ n a b. value_there st.vars name v n (not_same n name b)) (value_here st.vars name v) (quiet_at st (with_entry st.vars name v) [] y variable program (Some v) st (Some v) at) in
     record { now = last.0; is = ap (λ run. then_run (then_run run (looks_all variable more false)) (lasts variable otherwise)) run ∙ last.1.0; ends = last.1.1 }
-
-pub own_is_not_sought : OwnIsNotSought
-own_is_not_sought s variable programs otherwise st value is named unset own full =
-    subst (SearchesNothing variable value value st) (search_is s variable programs otherwise st is) (own_all variable programs otherwise st value named unset own full)

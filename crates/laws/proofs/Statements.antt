@@ -5,18 +5,19 @@ use Rattle.std.proofs.Math.Path.{fun_ext}
 use Rattle.jobs.specs.declared.job.Job.{Job}
 use Rattle.jobs.specs.Probe.{run_of, job_of}
 use Rattle.deftable.specs.declared.note.Stream.{Stream}
-use Rattle.deftable.specs.declared.note.Stream.TheVariants.{Out, Err}
+use Rattle.deftable.specs.declared.note.Stream.TheVariants.{Err}
 use Rattle.deftable.specs.Table.{value_of}
 use Rattle.shellword.specs.Value.{word_value}
 use Rattle.shellword.specs.declared.part.Part.{Part}
 use Rattle.syntax.specs.declared.feature.OptionKind.{OptionKind}
 use Rattle.syntax.specs.declared.program.Try as kinds
 use Rattle.syntax.specs.declared.program.Try.TheVariants as kinds_are
-use Rattle.syntax.specs.declared.statement.Plain as plain
-use Rattle.syntax.specs.declared.statement.MessageKind.{MessageKind}
-use Rattle.syntax.specs.declared.statement.MessageKind.TheVariants as messages
-use Rattle.syntax.specs.declared.statement.Plain.TheVariants.{Init, Assign, SubstValue, Define, DefineUnquoted, Error, Message, CheckProg, CheckProgs, PathProg, ProgCc, Output}
-use Rattle.syntax.specs.declared.statement.Plain.TheVariants as plain_is
+use Rattle.syntax.specs.declared.statement.Effect.{Effect}
+use Rattle.syntax.specs.declared.statement.Effect.TheVariants as effects
+use Rattle.syntax.specs.declared.statement.Effect.TheVariants.{Assign, Define, DefineText, Print, Stop, Package, Search, Searches, Complete}
+use Rattle.syntax.specs.declared.statement.Message.{Message}
+use Rattle.syntax.specs.declared.statement.Message.TheVariants.{Checking, Results, Error}
+use Rattle.syntax.specs.declared.statement.ProgramValue.TheVariants.{Text, FullName}
 use Rattle.syntax.specs.declared.statement.Question as asks
 use Rattle.syntax.specs.declared.statement.Question.TheVariants as questions
 use Rattle.syntax.specs.declared.statement.Question.TheVariants.{Given, Tries, Checks, ChecksEach}
@@ -26,12 +27,13 @@ use Rattle.syntax.specs.Script.{Script, Done, Then, Choice, Check, Cases, No_cas
 use Rattle.syntax.specs.declared.listed.Sought.{Sought}
 use Rattle.syntax.specs.declared.listed.Listed.TheVariants.{Header, Function, Declaration}
 use Rattle.meaning.specs.State.{State, told, with_variable, with_definition, Scope, answered, Goes_on, Completed, Stopped, Run, Ends, Asks, then_run, as_is, ended}
+use Rattle.meaning.specs.Messages.{form_of, said}
 use Rattle.meaning.specs.Asking.{no_compiler, without_compiler, child, compiled, same, Attempt, attempted}
 use Rattle.meaning.specs.Tests.{Test, guarded, checking, cached_test, with_value, tested_by, may_begin, tested, Row}
 use Rattle.meaning.specs.Rows.{Kind, Program, Single, Sized, Library, Libraries, kind_for, symbol_part, is_yes, is_linked, is_found, with_library, with_library_if, defined_if, name_of, attempts_of, otherwise_of, after_of, row_of}
 use Rattle.meaning.specs.Package.{with_package, package_string, literal, initialised}
 use Rattle.meaning.specs.Tries.{first_probe, after_first, text_of}
-use Rattle.meaning.specs.Meaning.{settled, is_unsettled, has_value, check_prog, looks, looks_all, defaulted, error_line, said, effect, value_name, given, found_by, first_found, asked, begun, rounds_of, in_turn, is_taken, check, meaning, chosen}
+use Rattle.meaning.specs.Meaning.{settled, is_unsettled, has_value, check_prog, looks, looks_all, defaulted, effect, value_name, given, found_by, first_found, asked, begun, rounds_of, in_turn, is_taken, check, meaning, chosen}
 use Rattle.meaning.specs.Batches.{Batch, batched}
 use Rattle.laws.specs.Cached.{IsUnset}
 use Rattle.laws.proofs.Values.{cases_value}
@@ -61,8 +63,11 @@ pub record AllSteps (R : State → Run → Type 0) : Type 0 where
 
 -- ---- changes
 
-tells_holds : (R : State → Run → Type 0) → Steps R → (stream : Stream) (text : List ℕ) (st : State) → R st (Ends Goes_on (told stream text st))
-tells_holds R c stream text st = c.tells stream text st (Ends Goes_on (told stream text st)) (c.goes (told stream text st))
+said_holds : (R : State → Run → Type 0) → Steps R → (message : Message) (text : List ℕ) (st : State) (run : Run) → R (said message text st) run → R st run
+said_holds R c message text st run h = c.tells (form_of message).stream _ st run h
+
+prints_holds : (R : State → Run → Type 0) → Steps R → (message : Message) (text : List ℕ) (st : State) → R st (Ends Goes_on (said message text st))
+prints_holds R c message text st = said_holds R c message text st (Ends Goes_on (said message text st)) (c.goes (said message text st))
 
 sets_holds : (R : State → Run → Type 0) → Steps R → (name value : List ℕ) (st : State) → R st (Ends Goes_on (with_variable name value st))
 sets_holds R c name value st = c.variables name value st (Ends Goes_on (with_variable name value st)) (c.goes (with_variable name value st))
@@ -95,11 +100,11 @@ attempted_holds R c (a ∷ more) otherwise st go k =
 pub cached_holds : (R : State → Run → Type 0) → Steps R → (t : Test) (st : State) → ((now : State) → R now (t.body now)) → R st (cached_test t st)
 cached_holds R c t st body =
     let s = checking t.message st in
-    c.tells Out (codes "checking " ++ t.message ++ codes "... ") st (cached_test t st)
+    said_holds R c Checking t.message st (cached_test t st)
     (⊎_elim
     (λ e. subst (R s) (sym (unset_cached t st e))
-    (c.joins s (guarded t.name (t.body s)) _ (c.guards t.name s (t.body s) e (body s)) (λ now. tells_holds R c Out (t.shown (value_of now.vars t.name) ++ codes "\n") now)))
-    (λ some. subst (R s) (sym (set_cached t some.0 st some.1)) (tells_holds R c Out ((codes "(cached) " ++ t.shown (Some some.0)) ++ codes "\n") s))
+    (c.joins s (guarded t.name (t.body s)) _ (c.guards t.name s (t.body s) e (body s)) (λ now. prints_holds R c Results (t.shown (value_of now.vars t.name)) now)))
+    (λ some. subst (R s) (sym (set_cached t some.0 st some.1)) (prints_holds R c Results (codes "(cached) " ++ t.shown (Some some.0)) s))
     (cases_value (value_of st.vars t.name)))
 
 value_holds : (R : State → Run → Type 0) → Steps R → (name : List ℕ) (value : Option (List ℕ)) (st : State) → R st (Ends Goes_on (with_value name value st))
@@ -176,31 +181,20 @@ initialised_holds R c title version bug tarname url st run h =
     package_holds R c (codes "PACKAGE_NAME") title _ run (package_holds R c (codes "PACKAGE_TARNAME") tarname _ run (package_holds R c (codes "PACKAGE_VERSION") version _ run
     (package_holds R c (codes "PACKAGE_STRING") (package_string title version) _ run (package_holds R c (codes "PACKAGE_BUGREPORT") bug _ run (package_holds R c (codes "PACKAGE_URL") url _ run h)))))
 
-said_holds : (R : State → Run → Type 0) → Steps R → (kind : MessageKind) (message : List ℕ) (st : State) → R st (Ends Goes_on (said kind message st))
-unfolding said
-said_holds R c messages.Checking message st = tells_holds R c Out _ st
-said_holds R c messages.Results message st = tells_holds R c Out _ st
-said_holds R c messages.Notice message st = tells_holds R c Out _ st
-said_holds R c messages.Warning message st = tells_holds R c Err _ st
-
-pub effect_holds : (R : State → Run → Type 0) → AllSteps R → (s : plain.Plain) (st : State) → R st (effect s st)
+pub effect_holds : (R : State → Run → Type 0) → AllSteps R → (e : Effect) (st : State) → R st (effect e st)
 unfolding effect
-effect_holds R a (Init title version bug tarname url) st = initialised_holds R a.steps title version bug tarname url st _ (a.steps.goes (initialised title version bug tarname url st))
 effect_holds R a (Assign name value) st = sets_holds R a.steps name (word_value value st.vars) st
-effect_holds R a (SubstValue name value) st = sets_holds R a.steps name (word_value value st.vars) st
 effect_holds R a (Define name value) st = defines_holds R a.steps name value st
-effect_holds R a (DefineUnquoted name value) st = defines_holds R a.steps name (word_value value st.vars) st
-effect_holds R a (Error message status) st =
-    let now = told Err (error_line (word_value message st.vars)) st in
-    a.steps.tells Err (error_line (word_value message st.vars)) st (Ends (Stopped status) now) (a.steps.stops status now)
-effect_holds R a (Message kind message) st = said_holds R a.steps kind (word_value message st.vars) st
-effect_holds R a (CheckProg variable program found otherwise) st = kind_holds R a.steps (Program _ _) st
-effect_holds R a (CheckProgs variable programs otherwise) st =
+effect_holds R a (DefineText name value) st = defines_holds R a.steps name (word_value value st.vars) st
+effect_holds R a (Print message text) st = prints_holds R a.steps message (word_value text st.vars) st
+effect_holds R a (Stop text status) st = said_holds R a.steps Error (word_value text st.vars) st _ (a.steps.stops status (said Error (word_value text st.vars) st))
+effect_holds R a (Package title version bug tarname url) st = initialised_holds R a.steps title version bug tarname url st _ (a.steps.goes (initialised title version bug tarname url st))
+effect_holds R a (Search variable program (Text found) otherwise) st = kind_holds R a.steps (Program _ _) st
+effect_holds R a (Search variable program FullName otherwise) st = kind_holds R a.steps (Program _ _) st
+effect_holds R a (Searches variable programs otherwise) st =
     a.steps.joins st (looks_all variable programs true st) _ (looks_holds R a.steps variable programs true st) (λ now. defaulted_holds R a.steps variable (option_map (λ t. word_value t now.vars) otherwise) now)
-effect_holds R a (PathProg variable program otherwise) st = kind_holds R a.steps (Program _ _) st
-effect_holds R a (ProgCc programs) st = looks_holds R a.steps (codes "CC") programs true st
-effect_holds R a (plain_is.Batch listed entries includes) st = a.batches (record { listed = listed; entries = entries; includes = includes }) st
-effect_holds R a Output st =
+effect_holds R a (effects.Batch listed entries includes) st = a.batches (record { listed = listed; entries = entries; includes = includes }) st
+effect_holds R a Complete st =
     let first = settled (codes "prefix") (codes "/usr/local") st in
     let last = settled (codes "exec_prefix") (codes "${prefix}") first in
     settled_holds R a.steps (codes "prefix") (codes "/usr/local") st (Ends Completed last) (settled_holds R a.steps (codes "exec_prefix") (codes "${prefix}") first (Ends Completed last) (a.steps.completes last))
@@ -236,7 +230,7 @@ first_found_holds R c sought [] includes st go k = k (answered false) st
 first_found_holds R c sought (entry ∷ more) includes st go k = found_holds R c (kind_for sought entry includes true) st go k
 
 pub asked_holds : (R : State → Run → Type 0) → Steps R → (question : asks.Question) (st : State) (go : Scope → State → Run) → ((scope : Scope) (now : State) → R now (go scope now)) → R st (asked as_is question st go)
-asked_holds R c (Given kind variable help) st go k = given_holds R c (value_of st.vars variable) kind st go k
+asked_holds R c (Given kind variable) st go k = given_holds R c (value_of st.vars variable) kind st go k
 asked_holds R c (Tries kind program) st go k =
     compiled_holds R c (job_of (first_probe kind (text_of program st.vars)) 0 st.vars st.defs) st _ (first_holds R c.children kind (λ b. go (answered b)) (λ b now. k (answered b) now))
 asked_holds R c (Checks sought entry includes) st go k = found_holds R c (kind_for sought entry includes false) st go k
@@ -259,8 +253,8 @@ mutual
 
   pub meaning_holds : (R : State → Run → Type 0) → AllSteps R → (script : Script) (st : State) → R st (meaning script st)
   meaning_holds R a Done st = a.steps.goes st
-  meaning_holds R a (Then s rest) st = a.steps.joins st (effect s st) (meaning rest) (effect_holds R a s st) (λ now. meaning_holds R a rest now)
-  meaning_holds R a (Choice subject cases rest) st =
+  meaning_holds R a (Then declares e rest) st = a.steps.joins st (effect e st) (meaning rest) (effect_holds R a e st) (λ now. meaning_holds R a rest now)
+  meaning_holds R a (Choice declares subject cases rest) st =
       a.steps.joins st (in_turn (rounds_of subject) (chosen cases) st) (meaning rest) (turns_hold R a.steps (rounds_of subject) st (chosen cases) (λ scope now. chosen_holds R a cases scope now))
       (λ now. meaning_holds R a rest now)
   meaning_holds R a (Check message name commands rest) st =

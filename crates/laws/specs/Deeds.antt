@@ -7,8 +7,9 @@ use Rattle.shellword.specs.Value.{word_value}
 use Rattle.syntax.specs.declared.feature.OptionKind.{OptionKind}
 use Rattle.syntax.specs.declared.listed.Listed.{Listed}
 use Rattle.syntax.specs.declared.listed.Sought.{Sought}
-use Rattle.syntax.specs.declared.statement.Plain as plain
-use Rattle.syntax.specs.declared.statement.Plain.TheVariants.{Init, Assign, SubstValue, CheckProg, CheckProgs, PathProg, ProgCc, Batch, Output}
+use Rattle.syntax.specs.declared.statement.Effect.{Effect}
+use Rattle.syntax.specs.declared.statement.Effect.TheVariants.{Assign, Package, Search, Searches, Batch, Complete}
+use Rattle.syntax.specs.declared.statement.ProgramValue.TheVariants.{Text, FullName}
 use Rattle.syntax.specs.declared.statement.Question as asks
 use Rattle.syntax.specs.declared.statement.Question.TheVariants as questions
 use Rattle.syntax.specs.declared.statement.Question.TheVariants.{Given, Tries, Checks, ChecksEach}
@@ -18,7 +19,8 @@ use Rattle.syntax.specs.Commands.{AreCommands}
 use Rattle.syntax.specs.Script.{Script, Done, Then, Choice, Check, Cases, No_case, Case}
 use Rattle.meaning.specs.State.{State, Scope, no_choice, about, answered, Goes_on, Completed, Stopped, Cut, Run, Ends, Asks, as_is}
 use Rattle.meaning.specs.Tests.{checking, cached_test, tested}
-use Rattle.meaning.specs.Rows.{Kind, Program, Single, Sized, Library, Libraries, Search, kind_for, entry_name, name_of, is_yes, is_linked, value_or_empty, value_if, row_of}
+use Rattle.meaning.specs.Rows as rows
+use Rattle.meaning.specs.Rows.{Kind, Program, Single, Sized, Library, Libraries, kind_for, entry_name, name_of, is_yes, is_linked, value_or_empty, value_if, row_of}
 use Rattle.meaning.specs.Batches.{is_known, batched}
 use Rattle.meaning.specs.Play.{play, whole}
 use Rattle.meaning.specs.Meaning.{settled, is_unsettled, check_prog, path_prog, has_value, is_full_name, looks, looks_all, effect, value_name, asked, begun, rounds_of, in_turn, is_taken, check, meaning, chosen}
@@ -73,7 +75,7 @@ kind_deeds kind st replies =
     ++ assigned_by kind (value_of now.vars (name_of kind)))
 
 -- The deeds of the test of a program; `counts` says whether the variable's own value counts. (own)
-abbrev pub program_deeds : Search → Bool → State → List Reply → List Deed
+abbrev pub program_deeds : rows.Search → Bool → State → List Reply → List Deed
 program_deeds s counts st replies = kind_deeds (Program s (value_if counts (value_or_empty st s.variable))) st replies
 
 -- The deeds of one program of several. (own)
@@ -109,30 +111,28 @@ batch_deeds listed earlier (entry ∷ more) st now =
     else left_set (entry_name listed entry) None (value_of now.vars (entry_name listed entry)))
     ++ batch_deeds listed (entry_name listed entry ∷ earlier) more st now
 
--- The deeds of a statement. (own)
-unfoldable pub effect_deeds : plain.Plain → State → List Reply → List Deed
-effect_deeds (Init title version bug tarname url) st replies =
+-- The deeds of what a statement does. (own)
+unfoldable pub effect_deeds : Effect → State → List Reply → List Deed
+effect_deeds (Assign name value) st replies = Assigned name ∷ []
+effect_deeds (Package title version bug tarname url) st replies =
     Assigned (codes "PACKAGE_NAME") ∷ Assigned (codes "PACKAGE_TARNAME") ∷ Assigned (codes "PACKAGE_VERSION")
     ∷ Assigned (codes "PACKAGE_STRING") ∷ Assigned (codes "PACKAGE_BUGREPORT") ∷ Assigned (codes "PACKAGE_URL") ∷ []
-effect_deeds (Assign name value) st replies = Assigned name ∷ []
-effect_deeds (SubstValue name value) st replies = Assigned name ∷ []
-effect_deeds (CheckProg variable program found otherwise) st replies =
+effect_deeds (Search variable program (Text found) otherwise) st replies =
     program_deeds (check_prog variable program (word_value found st.vars) (option_map (λ t. word_value t st.vars) otherwise))
     (has_value st variable) st replies
-effect_deeds (CheckProgs variable programs otherwise) st replies =
-    looks_deeds variable programs true st replies
-    ++ deeds_after (looks_all variable programs true st) replies (λ now left. default_deeds variable otherwise now)
-effect_deeds (PathProg variable program otherwise) st replies =
+effect_deeds (Search variable program FullName otherwise) st replies =
     program_deeds (path_prog variable program (option_map (λ t. word_value t st.vars) otherwise))
     (is_full_name (value_or_empty st variable)) st replies
-effect_deeds (ProgCc programs) st replies = looks_deeds (codes "CC") programs true st replies
+effect_deeds (Searches variable programs otherwise) st replies =
+    looks_deeds variable programs true st replies
+    ++ deeds_after (looks_all variable programs true st) replies (λ now left. default_deeds variable otherwise now)
 effect_deeds (Batch listed entries includes) st replies =
     batch_deeds listed [] entries st
     (play (batched (record { listed = listed; entries = entries; includes = includes }) st) replies).state
-effect_deeds Output st replies =
+effect_deeds Complete st replies =
     prefix_deeds (codes "prefix") st
     ++ prefix_deeds (codes "exec_prefix") (settled (codes "prefix") (codes "/usr/local") st)
-effect_deeds statement st replies = []
+effect_deeds e st replies = []
 
 -- An option that is given assigns its variable. (own)
 abbrev pub given_deeds : Option (List ℕ) → OptionKind → List Deed
@@ -146,7 +146,7 @@ first_deeds sought (entry ∷ more) includes st replies = kind_deeds (kind_for s
 
 -- The deeds of a question itself: an option that is given, or a test. (own)
 abbrev pub question_deeds : asks.Question → State → List Reply → List Deed
-question_deeds (Given kind variable help) st replies = given_deeds (value_of st.vars variable) kind
+question_deeds (Given kind variable) st replies = given_deeds (value_of st.vars variable) kind
 question_deeds (Tries kind program) st replies = []
 question_deeds (Checks sought entry includes) st replies = kind_deeds (kind_for sought entry includes false) st replies
 question_deeds (ChecksEach sought entries includes) st replies = first_deeds sought entries includes st replies
@@ -197,8 +197,8 @@ unfoldable mutual
   -- What statements did to names under replies, in order. (own)
   pub deeds : Script → State → List Reply → List Deed
   deeds Done st replies = []
-  deeds (Then s rest) st replies = effect_deeds s st replies ++ deeds_after (effect s st) replies (deeds rest)
-  deeds (Choice subject cases rest) st replies =
+  deeds (Then declares e rest) st replies = effect_deeds e st replies ++ deeds_after (effect e st) replies (deeds rest)
+  deeds (Choice declares subject cases rest) st replies =
       turn_deeds (rounds_of subject) (chosen cases) (case_deeds cases) st replies
       ++ deeds_after (in_turn (rounds_of subject) (chosen cases) st) replies (deeds rest)
   deeds (Check message name commands rest) st replies =

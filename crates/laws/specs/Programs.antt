@@ -1,5 +1,6 @@
--- Laws of AC_CHECK_PROGS and AC_PROG_CC: where they look for programs, and what they leave.
-use Rattle.std.specs.Prelude.{◌≡◌, ℕ, Bool, true, false, List, [], ◌∷◌, ◌++◌, ◌⊎◌, Option, Some, None, option_map, codes, drop, map}
+-- Laws of AC_CHECK_PROGS and AC_PROG_CC: where they look for programs, and what they leave. The variable of AC_PROG_CC is CC,
+-- and it has no default.
+use Rattle.std.specs.Prelude.{◌≡◌, ℕ, Bool, true, false, List, [], ◌∷◌, ◌++◌, Option, Some, None, option_map, codes, drop, map}
 use Rattle.std.specs.List.{AllByRecursion}
 use Rattle.jobs.specs.declared.job.Job.{Job}
 use Rattle.jobs.specs.Probe.{path_of}
@@ -7,8 +8,7 @@ use Rattle.crew_trait.specs.declared.reply.Reply.{Reply}
 use Rattle.deftable.specs.Table.{value_of, with_entry}
 use Rattle.shellword.specs.declared.part.Part.{Part}
 use Rattle.shellword.specs.Value.{word_value}
-use Rattle.syntax.specs.declared.statement.Plain as plain
-use Rattle.syntax.specs.declared.statement.Plain.TheVariants.{CheckProgs, ProgCc}
+use Rattle.syntax.specs.declared.statement.Effect.TheVariants as effects
 use Rattle.syntax.specs.TestNames.{program_name}
 use Rattle.meaning.specs.State.{State, Goes_on, Run, Ends}
 use Rattle.meaning.specs.Asking.{success, only_reply}
@@ -73,12 +73,6 @@ pub record IsSought (variable : List ℕ) (st : State) : Type 0 where
   pub empty : has_value st variable ≡ false
   pub unset : value_of st.vars (program_name variable) ≡ None
 
--- The statement looks for these programs, and the variable gets the one that is found: AC_CHECK_PROGS, or AC_PROG_CC, whose
--- variable is CC and which has no default. (Autoconf's manual, "Generic Programs" and "C Compiler")
-abbrev pub IsSearch : plain.Plain → List ℕ → List (List ℕ) → Option (List Part) → Type 0
-IsSearch s variable programs otherwise =
-    (s ≡ CheckProgs variable programs otherwise) ⊎ ((s ≡ ProgCc programs) × ((variable ≡ codes "CC") × (otherwise ≡ None)))
-
 -- Where these programs are looked for: in the directories of PATH. (Autoconf's manual, "Generic Programs")
 abbrev pub places_in : List (List ℕ) → State → List (List ℕ × List ℕ)
 places_in programs st = places programs (directories_of (value_or_empty st (codes "PATH")))
@@ -89,12 +83,13 @@ pub record Searches (variable : List ℕ) (sought : List (List ℕ × List ℕ))
   pub ends : SearchEnds variable (searched sought replies) (found_or (found_at sought replies) default) (found_at sought replies) st f.state
 
 -- If neither the variable nor the cache name has a value, and no reply is refused, the programs are looked for so. (Autoconf's
--- manual, "Generic Programs")
+-- manual, "Generic Programs" and "C Compiler")
 abbrev pub ProgramsAreSought : Type 0
-ProgramsAreSought = (s : plain.Plain) (variable : List ℕ) (programs : List (List ℕ)) (otherwise : Option (List Part)) (st : State) (replies : List Reply)
-    → IsSearch s variable programs otherwise → AreNamed programs → IsSought variable st
-    → Enough (effect s st) replies → first_refused replies ≡ None
-    → Searches variable (places_in programs st) (default_of variable otherwise st) replies st (finish (effect s st) replies)
+ProgramsAreSought = (variable : List ℕ) (programs : List (List ℕ)) (otherwise : Option (List Part)) (st : State) (replies : List Reply)
+    → AreNamed programs → IsSought variable st
+    → Enough (effect (effects.Searches variable programs otherwise) st) replies → first_refused replies ≡ None
+    → Searches variable (places_in programs st) (default_of variable otherwise st) replies st
+    (finish (effect (effects.Searches variable programs otherwise) st) replies)
 
 -- The program that a value names, if it isn't empty. (own)
 abbrev pub named_by : List ℕ → Option (List ℕ)
@@ -110,14 +105,15 @@ pub record SearchesNothing (variable text cached : List ℕ) (st : State) (run :
 -- If the cache name is set, its value counts, whatever that of the variable. If it is empty, no program was found. (Autoconf's
 -- manual, "Generic Programs" and "Caching Results")
 abbrev pub CachedIsNotSought : Type 0
-CachedIsNotSought = (s : plain.Plain) (variable : List ℕ) (programs : List (List ℕ)) (otherwise : Option (List Part)) (st : State) (value : List ℕ)
-    → IsSearch s variable programs otherwise → AreNamed programs → value_of st.vars (program_name variable) ≡ Some value
-    → SearchesNothing variable (found_or (named_by value) (default_of variable otherwise st)) value st (effect s st)
+CachedIsNotSought = (variable : List ℕ) (programs : List (List ℕ)) (otherwise : Option (List Part)) (st : State) (value : List ℕ)
+    → AreNamed programs → value_of st.vars (program_name variable) ≡ Some value
+    → SearchesNothing variable (found_or (named_by value) (default_of variable otherwise st)) value st
+    (effect (effects.Searches variable programs otherwise) st)
 
 -- If the cache name is unset, and the variable has a value that isn't empty, the variable keeps it, and the cache name gets
 -- it. (Autoconf's manual, "Generic Programs")
 abbrev pub OwnIsNotSought : Type 0
-OwnIsNotSought = (s : plain.Plain) (variable : List ℕ) (programs : List (List ℕ)) (otherwise : Option (List Part)) (st : State) (value : List ℕ)
-    → IsSearch s variable programs otherwise → AreNamed programs → value_of st.vars (program_name variable) ≡ None
+OwnIsNotSought = (variable : List ℕ) (programs : List (List ℕ)) (otherwise : Option (List Part)) (st : State) (value : List ℕ)
+    → AreNamed programs → value_of st.vars (program_name variable) ≡ None
     → value_of st.vars variable ≡ Some value → (value ≡ [] → ⊥)
-    → SearchesNothing variable value value st (effect s st)
+    → SearchesNothing variable value value st (effect (effects.Searches variable programs otherwise) st)
