@@ -116,7 +116,7 @@ fn put_declared(page: &mut Page, declares: &Declares) {
 fn is_declared(declares: &Declares, variable: &Name) -> bool {
     match declares {
         Declares::Variable { name } => name.as_slice() == variable.as_slice(),
-        Declares::Compiler => variable.as_slice() == b"CC",
+        Declares::Compiler => variable.as_slice() == b"CC".as_slice(),
         _ => false,
     }
 }
