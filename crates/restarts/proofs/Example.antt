@@ -26,7 +26,7 @@ use Rattle.framing.specs.declared.inputs.Start.{Start}
 use Rattle.framing.specs.declared.fault.Fault.TheVariants.{Plan}
 use Rattle.jobs.specs.Probe.{out_name, file_name, words_of, compile_words, link_words_with, conftest_text, run_of, job_of}
 use Rattle.meaning.specs.Directories.{directories_of}
-use Rattle.meaning.specs.Meaning.{said, effect, begun, is_taken, meaning, chosen}
+use Rattle.meaning.specs.Meaning.{effect, begun, is_taken, meaning, chosen}
 use Rattle.meaning.specs.Package.{escaped, initialised}
 use Rattle.meaning.specs.Play.{Played, play, whole}
 use Rattle.meaning.specs.State.{State, How, opened, Goes_on, Completed, Cut, Run}
@@ -45,11 +45,12 @@ use Rattle.shellword.specs.Value.{word_value}
 use Rattle.shellword.specs.declared.part.Part.{Part}
 use Rattle.std.proofs.Common.{false, ◌≡◌, ℕ, List, [], ◌∷◌, map, Some, None, Ok, inl, refl, ap, ◌<◌, length, arith, Bool, true}
 use Rattle.std.specs.Prelude.{codes, nat_le}
-use Rattle.syntax.specs.Lists.{after, after_question}
+use Rattle.syntax.specs.Lists.{after}
 use Rattle.syntax.specs.Script.{Script, Done, Then, Choice, No_case, Case}
 use Rattle.syntax.specs.declared.listed.Listed.TheVariants.{Header, Function}
 use Rattle.syntax.specs.declared.listed.Sought.TheVariants.{Entry}
-use Rattle.syntax.specs.declared.statement.Plain.TheVariants.{Init, ArgVar, Assign, Output}
+use Rattle.syntax.specs.declared.statement.Declares.TheVariants as declares
+use Rattle.syntax.specs.declared.statement.Effect.TheVariants.{Nothing, Assign, Package, Complete}
 use Rattle.syntax.specs.declared.statement.Question.TheVariants.{Checks}
 use Rattle.syntax.specs.declared.tree.Subject.TheVariants.{Asked}
 use Rattle.syntax.specs.declared.tree.When.TheVariants.{Yes}
@@ -141,21 +142,21 @@ abbrev text : List ℕ → List Part
 text t = map parts.Plain t
 
 abbrev sets : List ℕ → Script
-sets name = Then (Assign name (text (codes "1"))) Done
+sets name = Then declares.Nothing (Assign name (text (codes "1"))) Done
 
 -- AC_INIT([a],[1]), AC_ARG_VAR([V],[help]), AC_CHECK_HEADER([a.h],[x=1]), AC_CHECK_FUNC([f],[y=1])
 -- and AC_OUTPUT.
 abbrev example : Script
 example =
-    Then (Init (codes "a") (codes "1") [] (codes "a") [])
-    (Then (ArgVar (codes "V") (codes "help"))
-    (Choice (Asked (Checks (Entry Header) (codes "a.h") None)) (Case Yes (sets (codes "x")) No_case)
-    (Choice (Asked (Checks (Entry Function) (codes "f") None)) (Case Yes (sets (codes "y")) No_case) (Then Output Done))))
+    Then declares.Begin (Package (codes "a") (codes "1") [] (codes "a") [])
+    (Then (declares.Precious (codes "V") (codes "help")) Nothing
+    (Choice declares.Nothing (Asked (Checks (Entry Header) (codes "a.h") None)) (Case Yes (sets (codes "x")) No_case)
+    (Choice declares.Nothing (Asked (Checks (Entry Function) (codes "f") None)) (Case Yes (sets (codes "y")) No_case) (Then declares.End Complete Done))))
 
 form : CanResume example
-unfolding after after_question with_name has_name has_cv is_cache_name is_mark
+unfolding after with_name has_name has_cv is_cache_name is_mark
 form = record {
-  resumable = (tt, (tt, (tt, ((tt, (((inl refl, tt), tt), tt)), (tt, ((tt, (((inl refl, tt), tt), tt)), (tt, tt)))))));
+  resumable = ((tt, (tt, tt)), ((tt, (tt, tt)), ((tt, (tt, tt)), ((tt, (((tt, (inl refl, (tt, tt))), tt), tt)), ((tt, (tt, tt)), ((tt, (((tt, (inl refl, (tt, tt))), tt), tt)), ((tt, (tt, tt)), tt)))))));
   commands = ((tt, tt), ((tt, tt), tt));
   names = (tt, (tt, (((tt, tt), tt), (((tt, tt), tt), (tt, tt)))));
   precious = (refl, tt);
@@ -178,12 +179,12 @@ abbrev start : Start
 start = record { cache_name = Some (codes "config.cache"); srcdir = codes "."; no_create = false; args = codes "-C" ∷ []; vars = begin_vars; notes = [] }
 
 first_accepted : (source : List ℕ) → source_of source ≡ Ok example → follows (call source) None ≡ Ok (Starts example start)
-unfolding judged present started accept cache_named source_directory setters set_by with_unslashed with_marks finished is_declared run_settings opened_by opening old_value blanks_note restored restored_variable restored_from checked after_comma listed warning notes_of value_in rest_of switch_of switches install_directory_of target_of package_of choice_of said_with_value dashed_of read_argument given key_of directories variable_of default_of directory_named kept_from unslashed without_slashes after after_question value_of with_entry without_entry with_name has_name parts_by parts fields
+unfolding judged present started accept cache_named source_directory setters set_by with_unslashed with_marks finished is_declared run_settings opened_by opening old_value blanks_note restored restored_variable restored_from checked after_comma listed warning notes_of value_in rest_of switch_of switches install_directory_of target_of package_of choice_of said_with_value dashed_of read_argument given key_of directories variable_of default_of directory_named kept_from unslashed without_slashes after value_of with_entry without_entry with_name has_name parts_by parts fields
 first_accepted source read = ap (λ r. named of_parse r >>= λ script. wants (nat_le (weight script) heaviest) (Plan TooLong) >>= λ _. accept (call source).arguments (call source).environment None [] script) read
 
 -- What runs compute with.
 on_values : Unit {0}
-unfolding cache_named source_directory setters set_by with_unslashed with_marks finished is_declared run_settings opened_by opening directories variable_of default_of directory_named value_of with_entry without_entry said effect begun is_taken meaning chosen directories_of out_name file_name words_of compile_words link_words_with conftest_text run_of job_of ended default_includes header_source function_source truth word_value parts_by parts fields escaped initialised is_mark has_cv is_cache_name line_for word_of
+unfolding cache_named source_directory setters set_by with_unslashed with_marks finished is_declared run_settings opened_by opening directories variable_of default_of directory_named value_of with_entry without_entry effect begun is_taken meaning chosen directories_of out_name file_name words_of compile_words link_words_with conftest_text run_of job_of ended default_includes header_source function_source truth word_value parts_by parts fields escaped initialised is_mark has_cv is_cache_name line_for word_of
 on_values = tt
 
 -- ---- the first call
@@ -225,7 +226,7 @@ abbrev was_cut : (source : List ℕ) → source_of source ≡ Ok example → Was
 was_cut source read = record {
   saved = saved source read;
   cut = tt;
-  alone = (tt, (tt, ((((tt, tt), tt), tt), ((((tt, tt), tt), tt), (tt, tt)))));
+  alone = (tt, (tt, (((tt, ((tt, tt), tt)), tt), (((tt, ((tt, tt), tt)), tt), (tt, tt)))));
 }
 
 -- ---- the second call
@@ -234,7 +235,7 @@ abbrev second : Start
 second = record start { vars = vars_after (map setting_of (saved_entries first_run.state.vars)) begin_vars }
 
 second_accepted : (source : List ℕ) → source_of source ≡ Ok example → follows (call source) (Some (cache_text_of first_run.state.vars)) ≡ Ok (Starts example second)
-unfolding on_values judged present started accept old_value blanks_note restored restored_variable restored_from checked after_comma listed warning notes_of value_in rest_of switch_of switches install_directory_of target_of package_of choice_of said_with_value dashed_of read_argument given key_of kept_from unslashed without_slashes after after_question with_name has_name entry_of lines_from cache_of rest_after before_brace sets_nothing front_word default_setting assigned_setting assignment guarded_setting setting_in line_of step value_from
+unfolding on_values judged present started accept old_value blanks_note restored restored_variable restored_from checked after_comma listed warning notes_of value_in rest_of switch_of switches install_directory_of target_of package_of choice_of said_with_value dashed_of read_argument given key_of kept_from unslashed without_slashes after with_name has_name entry_of lines_from cache_of rest_after before_brace sets_nothing front_word default_setting assigned_setting assignment guarded_setting setting_in line_of step value_from
 second_accepted source read = ap (λ r. named of_parse r >>= λ script. wants (nat_le (weight script) heaviest) (Plan TooLong) >>= λ _. accept (call source).arguments (call source).environment (Some (cache_text_of first_run.state.vars)) [] script) read
 
 abbrev second_run : Played

@@ -65,7 +65,7 @@ pub record CanResume (script : Script) : Type 0 where
   pub resumable : IsResumable script
   -- What `parse` promises of each source.
   pub commands : HasCommands script
-  -- The variables of AC_CHECK_PROG, AC_CHECK_PROGS and AC_PATH_PROG are shell names.
+  -- The variable of each program that is looked for is a shell name.
   pub names : HasTestNames script
   -- What AC_ARG_VAR and AC_PROG_CC declare.
   pub precious : HasPlainPrecious script

@@ -1,6 +1,6 @@
 -- Batches: in states that are alike, under replies, and with all names set.
 use Rattle.std.proofs.Common.{◌≡◌, ℕ, suc, ◌≤◌, List, [], ◌∷◌, Bool, true, false, cond, length, take, drop, map, Option, Some, None, ◌⊎◌, inl, inr, refl, sym, ap, ◌∙◌, subst, ⊎_elim, arith}
-use Rattle.std.specs.Prelude.{◌||◌, bytes_eq, option_map, is_some}
+use Rattle.std.specs.Prelude.{◌||◌, bytes_eq, option_map, option_to_list, is_some}
 use Rattle.std.specs.List.{list_any}
 use Rattle.std.proofs.lemmas.Bool.{cases_Bool}
 use Rattle.std.proofs.lemmas.List.{append-nil, length-take-le}
@@ -9,7 +9,7 @@ use Rattle.crew_trait.specs.declared.reply.Reply.{Reply}
 use Rattle.crew_trait.specs.declared.reply.Reply.TheVariants.{StartRefused}
 use Rattle.deftable.specs.Table.{value_of}
 use Rattle.syntax.specs.declared.listed.Listed.{Listed}
-use Rattle.syntax.specs.Resumable.{Among, ReadsIfGiven}
+use Rattle.syntax.specs.Resumable.{Among, ReadsAll}
 use Rattle.syntax.specs.TestNames.{entry_name}
 use Rattle.meaning.specs.State.{State, with_child, with_variable, How, Goes_on, Completed, Stopped, Cut, Run, Ends, Asks, as_is}
 use Rattle.meaning.specs.Asking.{success, only_reply, heard}
@@ -56,7 +56,7 @@ entry_by batch entry job reply first false s t h = (refl, record { defs = h.defs
 
 -- What the programs of a batch include may be read.
 abbrev pub ReadsBatch : List (List ℕ) → Batch → Type 0
-ReadsBatch names batch = ReadsIfGiven names batch.includes
+ReadsBatch names batch = ReadsAll names (option_to_list batch.includes)
 
 entry_like : (names : List (List ℕ)) (batch : Batch) (entry : List ℕ) (job : Option Job) (reply : Reply) (u v s t : State) → ReadsBatch names batch → Alike Every u v → Alike Every s t → Like Every (tested (row_at batch entry job reply u) s) (tested (row_at batch entry job reply v) t)
 entry_like names batch entry job reply u v s t r uv h =

@@ -15,7 +15,9 @@ use Rattle.syntax.specs.declared.listed.Listed.TheVariants.{Function}
 use Rattle.syntax.specs.declared.listed.Sought.TheVariants.{Entry}
 use Rattle.syntax.specs.declared.program.Program.TheVariants.{Source}
 use Rattle.syntax.specs.declared.program.Try.TheVariants.{Compile}
-use Rattle.syntax.specs.declared.statement.Plain.TheVariants.{Assign, Define, CheckProg}
+use Rattle.syntax.specs.declared.statement.Declares.TheVariants as declares
+use Rattle.syntax.specs.declared.statement.Effect.TheVariants.{Assign, Define, Search}
+use Rattle.syntax.specs.declared.statement.ProgramValue.TheVariants.{Text}
 use Rattle.syntax.specs.declared.statement.Question.TheVariants.{Tries, Checks, ChecksEach}
 use Rattle.syntax.specs.declared.tree.Subject.TheVariants.{Nothing, Asked}
 use Rattle.syntax.specs.declared.tree.When.TheVariants.{Holds, Yes, Always}
@@ -42,18 +44,18 @@ abbrev pub value : List ℕ → List Part
 value name = parts.Variable name ∷ []
 
 abbrev pub sets : List ℕ → List ℕ → Script
-sets name t = Then (Assign name (text t)) Done
+sets name t = Then declares.Nothing (Assign name (text t)) Done
 
 -- AC_CHECK_FUNC
 abbrev pub checks : List ℕ → Cases → Script → Script
-checks name cases rest = Choice (Asked (Checks (Entry Function) name None)) cases rest
+checks name cases rest = Choice declares.Nothing (Asked (Checks (Entry Function) name None)) cases rest
 
 abbrev pub cut_here : Script
 cut_here = checks (codes "g") No_case Done
 
 -- AS_IF([test -n "$NAME"],[x=1])
 abbrev pub if_set : List ℕ → Script → Script
-if_set name rest = Choice Nothing (Case (Holds (single (record { negated = false; condition = Nonempty (value name) }))) (sets (codes "x") (codes "1")) No_case) rest
+if_set name rest = Choice declares.Nothing Nothing (Case (Holds (single (record { negated = false; condition = Nonempty (value name) }))) (sets (codes "x") (codes "1")) No_case) rest
 
 abbrev pub f_is : List (List ℕ × List ℕ)
 f_is = (codes "ac_cv_func_f", codes "yes") ∷ []
@@ -69,7 +71,7 @@ set_v = sets (codes "v_cv_x") (codes "1")
 
 -- A choice about whether a program is compiled.
 abbrev pub tries : Cases → Script → Script
-tries cases rest = Choice (Asked (Tries Compile (Source (text (codes "p"))))) cases rest
+tries cases rest = Choice declares.Nothing (Asked (Tries Compile (Source (text (codes "p"))))) cases rest
 
 -- AC_CACHE_CHECK that sets its name if a program is compiled.
 abbrev pub maybe : Script → Script
@@ -102,37 +104,37 @@ unfolding on_values
 read_early = (refl, refl)
 
 -- A test inside a case does not count after it.
-read_after_case : Differ (Choice Nothing (Case (Holds (single (record { negated = false; condition = Nonempty (value (codes "v")) }))) (checks (codes "f") No_case Done) No_case) (if_set (codes "ac_cv_func_f") (checks (codes "f") No_case cut_here)))
+read_after_case : Differ (Choice declares.Nothing Nothing (Case (Holds (single (record { negated = false; condition = Nonempty (value (codes "v")) }))) (checks (codes "f") No_case Done) No_case) (if_set (codes "ac_cv_func_f") (checks (codes "f") No_case cut_here)))
     (good ∷ StartRefused ∷ []) f_is (good ∷ []) (variable (codes "x")) None (Some (codes "1"))
 unfolding on_values
 read_after_case = (refl, refl)
 
 -- In the actions of a list the name of a later entry is read.
-read_later_entry : Differ (Choice (Asked (ChecksEach (Entry Function) (codes "f" ∷ codes "h" ∷ []) None)) (Case Yes (if_set (codes "ac_cv_func_h") Done) No_case) cut_here)
+read_later_entry : Differ (Choice declares.Nothing (Asked (ChecksEach (Entry Function) (codes "f" ∷ codes "h" ∷ []) None)) (Case Yes (if_set (codes "ac_cv_func_h") Done) No_case) cut_here)
     (good ∷ bad ∷ StartRefused ∷ []) ((codes "ac_cv_func_f", codes "yes") ∷ (codes "ac_cv_func_h", codes "no") ∷ []) (good ∷ []) (variable (codes "x")) None (Some (codes "1"))
 unfolding on_values
 read_later_entry = (refl, refl)
 
 -- A test's name is assigned.
-assigned_late : Differ (checks (codes "f") No_case (Then (Assign (codes "x") (value (codes "ac_cv_func_f"))) (Then (Assign (codes "ac_cv_func_f") (text (codes "q"))) cut_here)))
+assigned_late : Differ (checks (codes "f") No_case (Then declares.Nothing (Assign (codes "x") (value (codes "ac_cv_func_f"))) (Then declares.Nothing (Assign (codes "ac_cv_func_f") (text (codes "q"))) cut_here)))
     (good ∷ StartRefused ∷ []) ((codes "ac_cv_func_f", codes "q") ∷ []) (good ∷ []) (variable (codes "x")) (Some (codes "yes")) (Some (codes "q"))
 unfolding on_values
 assigned_late = (refl, refl)
 
 -- Commands set another variable.
-sets_more : Differ (Check (text (codes "x")) (codes "v_cv_x") (Then (Assign (codes "x") (text (codes "1"))) set_v) cut_here)
+sets_more : Differ (Check (text (codes "x")) (codes "v_cv_x") (Then declares.Nothing (Assign (codes "x") (text (codes "1"))) set_v) cut_here)
     (StartRefused ∷ []) v_is (good ∷ []) (variable (codes "x")) (Some (codes "1")) None
 unfolding on_values
 sets_more = (refl, refl)
 
 -- Commands define a name.
-defines_inside : Differ (Check (text (codes "x")) (codes "v_cv_x") (Then (Define (codes "D") (codes "1")) set_v) cut_here)
+defines_inside : Differ (Check (text (codes "x")) (codes "v_cv_x") (Then declares.Nothing (Define (codes "D") (codes "1")) set_v) cut_here)
     (StartRefused ∷ []) v_is (good ∷ []) (definition (codes "D")) (Some (codes "1")) None
 unfolding on_values
 defines_inside = (refl, refl)
 
 -- Commands make a test.
-tests_inside : Differ (Check (text (codes "x")) (codes "v_cv_x") (Choice (Asked (ChecksEach (Entry Function) (codes "f" ∷ []) None)) No_case set_v) cut_here)
+tests_inside : Differ (Check (text (codes "x")) (codes "v_cv_x") (Choice declares.Nothing (Asked (ChecksEach (Entry Function) (codes "f" ∷ []) None)) No_case set_v) cut_here)
     (good ∷ StartRefused ∷ []) ((codes "v_cv_x", codes "1") ∷ f_is) (good ∷ []) (definition (codes "HAVE_F")) (Some (codes "1")) None
 unfolding on_values
 tests_inside = (refl, refl)
@@ -150,7 +152,7 @@ unfolding on_values
 tests_twice = (refl, refl)
 
 -- Such a test in the actions of a list with two entries.
-tests_in_rounds : Differ (Choice (Asked (ChecksEach (Entry Function) (codes "f" ∷ codes "h" ∷ []) None)) (Case Always (maybe (Choice Nothing (Case (Holds (single (record { negated = false; condition = Nonempty (value (codes "v_cv_x")) }))) Done (Case Always set_x No_case)) Done)) No_case) cut_here)
+tests_in_rounds : Differ (Choice declares.Nothing (Asked (ChecksEach (Entry Function) (codes "f" ∷ codes "h" ∷ []) None)) (Case Always (maybe (Choice declares.Nothing Nothing (Case (Holds (single (record { negated = false; condition = Nonempty (value (codes "v_cv_x")) }))) Done (Case Always set_x No_case)) Done)) No_case) cut_here)
     (good ∷ bad ∷ good ∷ good ∷ StartRefused ∷ []) ((codes "ac_cv_func_f", codes "yes") ∷ (codes "ac_cv_func_h", codes "yes") ∷ v_is) (good ∷ []) (variable (codes "x")) (Some (codes "1")) None
 unfolding on_values
 tests_in_rounds = (refl, refl)
@@ -168,7 +170,7 @@ unfolding on_values
 other_value = (refl, refl)
 
 -- The variable of a program is no shell name, so the name of its test is no cache name.
-no_name : Differ (Then (CheckProg (codes "a-b") (codes "p") (text (codes "1")) None) cut_here)
+no_name : Differ (Then (declares.Variable (codes "a-b")) (Search (codes "a-b") (codes "p") (Text (text (codes "1"))) None) cut_here)
     (good ∷ StartRefused ∷ []) [] (bad ∷ good ∷ []) (variable (codes "a-b")) (Some (codes "1")) (Some [])
 unfolding on_values
 no_name = (refl, refl)

@@ -9,7 +9,8 @@ use Rattle.deftable.specs.CacheName.{is_cache_name, has_cv}
 use Rattle.deftable.specs.Table.{value_of}
 use Rattle.syntax.specs.declared.listed.Listed.TheVariants.{Header, Function}
 use Rattle.syntax.specs.declared.listed.Sought.TheVariants.{Entry}
-use Rattle.syntax.specs.declared.statement.Plain.TheVariants.{Batch, DefineUnquoted}
+use Rattle.syntax.specs.declared.statement.Declares.TheVariants as declares
+use Rattle.syntax.specs.declared.statement.Effect.TheVariants.{Batch, DefineText}
 use Rattle.syntax.specs.declared.statement.Question.TheVariants.{Checks, ChecksEach}
 use Rattle.syntax.specs.declared.tree.Subject.TheVariants.{Asked}
 use Rattle.syntax.specs.declared.tree.When.TheVariants.{Yes}
@@ -28,9 +29,9 @@ use Rattle.resuming.specs.Asked.{tests_made, tests_made_in}
 use Rattle.resuming.proofs.Counter.{on_values, vars_with, good, bad, value, sets, if_set, maybe, f_is}
 
 abbrev example : Script
-example = Then (Batch Function (codes "f" ∷ codes "g" ∷ codes "f" ∷ []) None)
-    (Choice (Asked (ChecksEach (Entry Function) (codes "h" ∷ codes "k" ∷ []) None)) (Case Yes (if_set (codes "ac_cv_func_h") Done) No_case)
-    (maybe (Then (DefineUnquoted (codes "A") (value (codes "v_cv_x"))) Done)))
+example = Then declares.Nothing (Batch Function (codes "f" ∷ codes "g" ∷ codes "f" ∷ []) None)
+    (Choice declares.Nothing (Asked (ChecksEach (Entry Function) (codes "h" ∷ codes "k" ∷ []) None)) (Case Yes (if_set (codes "ac_cv_func_h") Done) No_case)
+    (maybe (Then declares.Nothing (DefineText (codes "A") (value (codes "v_cv_x"))) Done)))
 
 abbrev replies : List Reply
 replies = good ∷ StartRefused ∷ []
@@ -67,18 +68,18 @@ premises : Begun example (vars_with []) (vars_with f_is) replies again
 unfolding on_values SameAgain SameCases is_cache_name has_cv
 premises = record {
   resumable = (
-    tt,
+    (tt, (tt, tt)),
     (
-      tt,
+      (tt, (tt, tt)),
       (
-        (tt, ((tt, (((inr (inl refl), tt), (((inl refl, tt), tt), tt)), tt)), tt)),
-        (tt, (((tt, tt), ((tt, (((inr refl, tt), tt), tt)), tt)), ((inr (inl refl), tt), tt))),
+        (tt, ((tt, (((inr (inl refl), tt), (((tt, (inl refl, (tt, tt))), tt), tt)), tt)), tt)),
+        (tt, (((tt, (tt, (tt, tt))), ((tt, (((tt, (inr refl, (tt, tt))), tt), tt)), tt)), ((tt, (tt, ((inr (inl refl), tt), tt))), tt))),
       ),
     ),
   );
-  commands = ((((tt, tt), tt), tt), (refl, ((tt, (((refl, tt), tt), tt)), tt)));
+  commands = ((((tt, tt), tt), tt), (refl, ((tt, (tt, (((tt, (refl, tt)), tt), tt))), tt)));
   names = (tt, (((((tt, tt), tt), tt), tt), ((((tt, tt), tt), tt), (tt, tt))));
-  alone = (tt, (((((((tt, tt), tt), tt), tt), tt), ((((((tt, tt), tt), tt), tt), tt), tt)), ((λ h. h), (tt, tt))));
+  alone = (tt, (((tt, ((((tt, ((tt, tt), tt)), tt), tt), tt)), ((tt, ((((tt, ((tt, tt), tt)), tt), tt), tt)), tt)), ((λ h. h), (tt, tt))));
   cut = refl;
   enough = (omega arith, tt);
   poured = record {
@@ -114,8 +115,8 @@ whole_premises = record {
 -- AC_CHECK_HEADER([a.h],[x=1]) and AC_CHECK_FUNC([f],[y=1]): the first run is cut at the function.
 abbrev two_tests : Script
 two_tests =
-    Choice (Asked (Checks (Entry Header) (codes "a.h") None)) (Case Yes (sets (codes "x") (codes "1")) No_case)
-    (Choice (Asked (Checks (Entry Function) (codes "f") None)) (Case Yes (sets (codes "y") (codes "1")) No_case) Done)
+    Choice declares.Nothing (Asked (Checks (Entry Header) (codes "a.h") None)) (Case Yes (sets (codes "x") (codes "1")) No_case)
+    (Choice declares.Nothing (Asked (Checks (Entry Function) (codes "f") None)) (Case Yes (sets (codes "y") (codes "1")) No_case) Done)
 
 abbrev header_is : List (List ℕ × List ℕ)
 header_is = (codes "ac_cv_header_a_h", codes "yes") ∷ []

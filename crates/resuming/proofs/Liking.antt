@@ -1,6 +1,6 @@
 -- States that are alike have runs that are alike: attempts, tests, and the commands of AC_CACHE_CHECK.
 use Rattle.std.proofs.Common.{◌≡◌, ℕ, List, [], ◌∷◌, ◌++◌, codes, Bool, true, false, cond, length, take, drop, Option, Some, None, inl, inr, refl, sym, ap, ◌∙◌, subst, ⊎_elim}
-use Rattle.std.specs.Prelude.{is_some, unwrap_or, not, ◌&&◌, bytes_eq, ◌==◌}
+use Rattle.std.specs.Prelude.{is_some, unwrap_or, not, ◌&&◌, bytes_eq, ◌==◌, option_to_list}
 use Rattle.jobs.specs.declared.job.Job.{Job}
 use Rattle.jobs.specs.Probe as probe
 use Rattle.jobs.specs.Probe.{words_of, compile_words, link_words, link_words_with, preprocessor, preprocess_words, job_if, run_of, job_of}
@@ -22,7 +22,8 @@ use Rattle.syntax.specs.declared.program.Try as kinds
 use Rattle.syntax.specs.declared.program.Try.TheVariants as kinds_are
 use Rattle.syntax.specs.declared.tree.When.{When}
 use Rattle.syntax.specs.declared.tree.When.TheVariants.{Holds, Matches, Yes, No, Always}
-use Rattle.syntax.specs.Resumable.{IsOrdinary, MayRead, ReadsText, ReadsIfGiven, ReadsCondition, ReadsTest, ReadsProgram, ReadsWhen}
+use Rattle.syntax.specs.Resumable.{IsOrdinary, MayRead, ReadsText, ReadsAll, ReadsCondition, ReadsTest, ReadsWhen}
+use Rattle.syntax.specs.Uses.{program_texts}
 use Rattle.meaning.specs.State.{State, with_child, with_variable, with_definition, without_variable, Scope, How, Goes_on, Completed, Stopped, Cut, Run, Ends, Asks, then_run, as_is}
 use Rattle.meaning.specs.Asking.{success, only_reply, heard, child, compiled, same, Attempt, attempted}
 use Rattle.meaning.specs.Tests.{Test, broken, guarded, checking, with_result, cached_test, Row, tested_by, may_begin, tested, with_value, by_attempts}
@@ -180,18 +181,18 @@ text_same at names (parts.Quoted b ∷ more) s t reads r h = ap (λ l. b ∷ l) 
 text_same at names (parts.Variable name ∷ more) s t reads r h =
     ap (λ o. or_empty o ++ word_value more s.vars) (h.value name (reads name r.0)) ∙ ap (λ l. or_empty (value_of t.vars name) ++ l) (text_same at names more s t reads r.1 h)
 
-pub includes_same : (at : List ℕ → Type 0) (names : List (List ℕ)) (text : Option (List Part)) (s t : State) → Reads at names → ReadsIfGiven names text → Alike at s t → includes_text text s.vars ≡ includes_text text t.vars
+pub includes_same : (at : List ℕ → Type 0) (names : List (List ℕ)) (text : Option (List Part)) (s t : State) → Reads at names → ReadsAll names (option_to_list text) → Alike at s t → includes_text text s.vars ≡ includes_text text t.vars
 includes_same at names None s t reads r h = refl
-includes_same at names (Some text) s t reads r h = text_same at names text s t reads r h
+includes_same at names (Some text) s t reads r h = text_same at names text s t reads r.0 h
 
-others_same : (at : List ℕ → Type 0) (names : List (List ℕ)) (text : Option (List Part)) (s t : State) → Reads at names → ReadsIfGiven names text → Alike at s t → others_text text s.vars ≡ others_text text t.vars
+others_same : (at : List ℕ → Type 0) (names : List (List ℕ)) (text : Option (List Part)) (s t : State) → Reads at names → ReadsAll names (option_to_list text) → Alike at s t → others_text text s.vars ≡ others_text text t.vars
 others_same at names None s t reads r h = refl
-others_same at names (Some text) s t reads r h = text_same at names text s t reads r h
+others_same at names (Some text) s t reads r h = text_same at names text s t reads r.0 h
 
-program_same : (at : List ℕ → Type 0) (names : List (List ℕ)) (program : programs.Program) (s t : State) → Reads at names → ReadsProgram names program → Alike at s t → text_of program s.vars ≡ text_of program t.vars
+program_same : (at : List ℕ → Type 0) (names : List (List ℕ)) (program : programs.Program) (s t : State) → Reads at names → ReadsAll names (program_texts program) → Alike at s t → text_of program s.vars ≡ text_of program t.vars
 program_same at names (texts.Program prologue body) s t reads r h =
-    ap (λ l. program_source l (word_value body s.vars)) (text_same at names prologue s t reads r.0 h) ∙ ap (program_source (word_value prologue t.vars)) (text_same at names body s t reads r.1 h)
-program_same at names (texts.Source text) s t reads r h = text_same at names text s t reads r h
+    ap (λ l. program_source l (word_value body s.vars)) (text_same at names prologue s t reads r.0 h) ∙ ap (program_source (word_value prologue t.vars)) (text_same at names body s t reads r.1.0 h)
+program_same at names (texts.Source text) s t reads r h = text_same at names text s t reads r.0 h
 
 condition_same : (at : List ℕ → Type 0) (names : List (List ℕ)) (c : Condition) (s t : State) → Reads at names → ReadsCondition names c → Alike at s t → condition_truth c s.vars ≡ condition_truth c t.vars
 condition_same at names conditions.True s t reads r h = refl
@@ -296,25 +297,25 @@ job_same (probe.Find file) number s t d d2 h e = refl
 -- Each variable of the texts of a kind may be read.
 abbrev pub ReadsKind : List (List ℕ) → Kind → Type 0
 ReadsKind names (Program s own) = Unit {0}
-ReadsKind names (Single listed entry includes defines) = ReadsIfGiven names includes
-ReadsKind names (Sized name includes defines) = ReadsIfGiven names includes
-ReadsKind names (Library library function others adds) = ReadsIfGiven names others
-ReadsKind names (Libraries function libraries others) = ReadsIfGiven names others
+ReadsKind names (Single listed entry includes defines) = ReadsAll names (option_to_list includes)
+ReadsKind names (Sized name includes defines) = ReadsAll names (option_to_list includes)
+ReadsKind names (Library library function others adds) = ReadsAll names (option_to_list others)
+ReadsKind names (Libraries function libraries others) = ReadsAll names (option_to_list others)
 
 ordinary_of : (at : List ℕ → Type 0) (names : List (List ℕ)) → Reads at names → (n : List ℕ) → IsOrdinary n → at n
 ordinary_of at names reads n p = reads n (inl p)
 
-pub entry_same : (at : List ℕ → Type 0) (names : List (List ℕ)) (listed : Listed) (entry : List ℕ) (includes : Option (List Part)) (number : ℕ) (s t : State) → Reads at names → ReadsIfGiven names includes → Alike at s t → entry_job listed entry includes number s ≡ entry_job listed entry includes number t
+pub entry_same : (at : List ℕ → Type 0) (names : List (List ℕ)) (listed : Listed) (entry : List ℕ) (includes : Option (List Part)) (number : ℕ) (s t : State) → Reads at names → ReadsAll names (option_to_list includes) → Alike at s t → entry_job listed entry includes number s ≡ entry_job listed entry includes number t
 entry_same at names listed entry includes number s t reads r h =
     ap (λ x. job_of (entry_probe listed entry x) number s.vars s.defs) (includes_same at names includes s t reads r h)
     ∙ job_same (entry_probe listed entry (includes_text includes t.vars)) number s.vars t.vars s.defs t.defs (tools_same at s t (ordinary_of at names reads) h) h.defs
 
-type_same : (at : List ℕ → Type 0) (names : List (List ℕ)) (program : List ℕ → List ℕ → List ℕ) (name : List ℕ) (includes : Option (List Part)) (s t : State) → Reads at names → ReadsIfGiven names includes → Alike at s t → type_job program name includes s ≡ type_job program name includes t
+type_same : (at : List ℕ → Type 0) (names : List (List ℕ)) (program : List ℕ → List ℕ → List ℕ) (name : List ℕ) (includes : Option (List Part)) (s t : State) → Reads at names → ReadsAll names (option_to_list includes) → Alike at s t → type_job program name includes s ≡ type_job program name includes t
 type_same at names program name includes s t reads r h =
     ap (λ x. job_of (probe.Compile (program x name)) 0 s.vars s.defs) (includes_same at names includes s t reads r h)
     ∙ job_same (probe.Compile (program (includes_text includes t.vars) name)) 0 s.vars t.vars s.defs t.defs (tools_same at s t (ordinary_of at names reads) h) h.defs
 
-linked_same : (at : List ℕ → Type 0) (names : List (List ℕ)) (others : Option (List Part)) (s t : State) → Reads at names → ReadsIfGiven names others → Alike at s t → libraries_after others s ≡ libraries_after others t
+linked_same : (at : List ℕ → Type 0) (names : List (List ℕ)) (others : Option (List Part)) (s t : State) → Reads at names → ReadsAll names (option_to_list others) → Alike at s t → libraries_after others s ≡ libraries_after others t
 linked_same at names others s t reads r h =
     ap (λ x. x ++ codes " " ++ value_or_empty s (codes "LIBS")) (others_same at names others s t reads r h)
     ∙ ap (λ o. others_text others t.vars ++ codes " " ++ unwrap_or o []) (h.value (codes "LIBS") (reads (codes "LIBS") (inl libs_plain)))
@@ -444,7 +445,7 @@ first_like at kinds_are.Compile go goes k b s t h = k b s t h
 first_like at kinds_are.Link go goes k b s t h = k b s t h
 first_like at kinds_are.Preproc go goes k b s t h = k b s t h
 
-pub tried_like : (at : List ℕ → Type 0) (names : List (List ℕ)) (kind : kinds.Try) (program : programs.Program) (s t : State) (go goes : Bool → State → Run) → Reads at names → ReadsProgram names program → Alike at s t → ((b : Bool) (x y : State) → Alike at x y → Like at (go b x) (goes b y))
+pub tried_like : (at : List ℕ → Type 0) (names : List (List ℕ)) (kind : kinds.Try) (program : programs.Program) (s t : State) (go goes : Bool → State → Run) → Reads at names → ReadsAll names (program_texts program) → Alike at s t → ((b : Bool) (x y : State) → Alike at x y → Like at (go b x) (goes b y))
     → Like at (tried as_is kind (text_of program s.vars) s go) (tried as_is kind (text_of program t.vars) t goes)
 tried_like at names kind program s t go goes reads r h k =
     let job = job_of (first_probe kind (text_of program s.vars)) 0 s.vars s.defs in

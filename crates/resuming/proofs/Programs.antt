@@ -1,10 +1,10 @@
 -- Tests of programs: AC_CHECK_PROG and AC_PATH_PROG, and the looks of AC_CHECK_PROGS and AC_PROG_CC, which are one test.
 use Rattle.std.proofs.Common.{◌≡◌, ℕ, List, [], ◌∷◌, Bool, true, false, cond, length, Option, Some, None, inl, inr, refl, sym, ap, ◌∙◌, subst, ⊎_elim}
-use Rattle.std.specs.Prelude.{◌||◌, ◌==◌, not, option_map, unwrap_or}
+use Rattle.std.specs.Prelude.{◌||◌, ◌==◌, not, option_map, option_to_list, unwrap_or}
 use Rattle.deftable.specs.Table.{value_of}
 use Rattle.shellword.specs.declared.part.Part.{Part}
 use Rattle.shellword.specs.Value.{word_value}
-use Rattle.syntax.specs.Resumable.{IsOrdinary, MayRead, ReadsIfGiven}
+use Rattle.syntax.specs.Resumable.{IsOrdinary, MayRead, ReadsAll}
 use Rattle.meaning.specs.State.{State, with_variable, How, Goes_on, Run, Ends, then_run}
 use Rattle.meaning.specs.Tests.{tested, with_value}
 use Rattle.meaning.specs.Rows.{Kind, Program, value_or_empty, value_if, name_of, row_of}
@@ -57,11 +57,12 @@ prog_test known name variable program found otherwise own c p every twin = recor
 abbrev look_kind : (name variable program : List ℕ) → State → Kind
 look_kind name variable program st = prog_kind name variable program (Some program) None (value_if (has_value st variable) (value_or_empty st variable))
 
-own_value_same : (at : List ℕ → Type 0) (variable : List ℕ) (s t : State) → at variable → Alike at s t → value_if (has_value s variable) (value_or_empty s variable) ≡ value_if (has_value t variable) (value_or_empty t variable)
-own_value_same at variable s t a h = ap (λ o. value_if (not (length (unwrap_or o []) == 0)) (unwrap_or o [])) (h.value variable a)
+-- A variable's own value, if it counts.
+pub own_same : (at : List ℕ → Type 0) (counts : List ℕ → Bool) (variable : List ℕ) (s t : State) → at variable → Alike at s t → value_if (counts (value_or_empty s variable)) (value_or_empty s variable) ≡ value_if (counts (value_or_empty t variable)) (value_or_empty t variable)
+own_same at counts variable s t a h = ap (λ o. value_if (counts (unwrap_or o [])) (unwrap_or o [])) (h.value variable a)
 
 look_same : (at : List ℕ → Type 0) (name variable program : List ℕ) → at variable → SameKind at (look_kind name variable program)
-look_same at name variable program a s t h = ap (prog_kind name variable program (Some program) None) (own_value_same at variable s t a h)
+look_same at name variable program a s t h = ap (prog_kind name variable program (Some program) None) (own_same at (λ value. not (length value == 0)) variable s t a h)
 
 abbrev look : (name variable program : List ℕ) → Bool → State → Run
 look name variable program always st =
@@ -305,9 +306,9 @@ test_then known name after part g every twin values test = record {
 abbrev pub default_of : List ℕ → Option (List Part) → State → State
 default_of variable otherwise now = defaulted variable (option_map (λ t. word_value t now.vars) otherwise) now
 
-pub given_same : (at : List ℕ → Type 0) (names : List (List ℕ)) (text : Option (List Part)) (s t : State) → Reads at names → ReadsIfGiven names text → Alike at s t → option_map (λ x. word_value x s.vars) text ≡ option_map (λ x. word_value x t.vars) text
+pub given_same : (at : List ℕ → Type 0) (names : List (List ℕ)) (text : Option (List Part)) (s t : State) → Reads at names → ReadsAll names (option_to_list text) → Alike at s t → option_map (λ x. word_value x s.vars) text ≡ option_map (λ x. word_value x t.vars) text
 given_same at names None s t reads r h = refl
-given_same at names (Some text) s t reads r h = ap Some (text_same at names text s t reads r h)
+given_same at names (Some text) s t reads r h = ap Some (text_same at names text s t reads r.0 h)
 
 defaulted_alike : (at : List ℕ → Type 0) (variable : List ℕ) (o : Option (List ℕ)) (s t : State) → at variable → Alike at s t → Alike at (defaulted variable o s) (defaulted variable o t)
 defaulted_alike at variable None s t a h = h
@@ -315,7 +316,7 @@ defaulted_alike at variable (Some value) s t a h =
     subst (λ b. Alike at (cond (has_value s variable) s (with_variable variable value s)) (cond b t (with_variable variable value t))) (ap (λ o. not (length (unwrap_or o []) == 0)) (h.value variable a))
     (cond_alike at (has_value s variable) s t (with_variable variable value s) (with_variable variable value t) h (variable_alike at variable value s t h))
 
-pub default_alike : (at : List ℕ → Type 0) (names : List (List ℕ)) (variable : List ℕ) (otherwise : Option (List Part)) (s t : State) → at variable → Reads at names → ReadsIfGiven names otherwise → Alike at s t → Alike at (default_of variable otherwise s) (default_of variable otherwise t)
+pub default_alike : (at : List ℕ → Type 0) (names : List (List ℕ)) (variable : List ℕ) (otherwise : Option (List Part)) (s t : State) → at variable → Reads at names → ReadsAll names (option_to_list otherwise) → Alike at s t → Alike at (default_of variable otherwise s) (default_of variable otherwise t)
 default_alike at names variable otherwise s t a reads r h =
     subst (λ o. Alike at (default_of variable otherwise s) (defaulted variable o t)) (given_same at names otherwise s t reads r h)
     (defaulted_alike at variable (option_map (λ x. word_value x s.vars) otherwise) s t a h)

@@ -1,6 +1,6 @@
 -- Choices as parts: their beginnings, and their rounds.
 use Rattle.std.proofs.Common.{◌≡◌, ℕ, List, [], ◌∷◌, ◌++◌, Bool, true, false, Option, Some, None, ◌⊎◌, inl, inr, refl, sym, ap, ◌∙◌, subst, ⊎_elim, map}
-use Rattle.std.specs.Prelude.{is_some}
+use Rattle.std.specs.Prelude.{is_some, option_to_list}
 use Rattle.deftable.specs.CacheName.{is_cache_name, has_cv}
 use Rattle.deftable.specs.Table.{value_of}
 use Rattle.shellword.specs.declared.part.Part.{Part}
@@ -12,7 +12,7 @@ use Rattle.syntax.specs.declared.statement.Question.TheVariants as questions
 use Rattle.syntax.specs.declared.statement.Question.TheVariants.{Given, Tries, Checks, ChecksEach}
 use Rattle.syntax.specs.declared.tree.Subject.{Subject}
 use Rattle.syntax.specs.declared.tree.Subject.TheVariants.{Nothing, Word, Asked}
-use Rattle.syntax.specs.Resumable.{Among, IsOrdinary, MayRead, ReadsIfGiven, tests_at, first_alone, ResumableSubject}
+use Rattle.syntax.specs.Resumable.{Among, IsOrdinary, MayRead, ReadsAll, tests_at, first_alone, ResumableSubject}
 use Rattle.syntax.specs.TestNames.{sought_name}
 use Rattle.meaning.specs.State.{State, Scope, answered, about, with_variable, Run, then_run, ended, as_is}
 use Rattle.meaning.specs.Tests.{tested}
@@ -20,14 +20,14 @@ use Rattle.meaning.specs.Rows.{Kind, Program, Single, Sized, Library, Libraries,
 use Rattle.meaning.specs.Meaning.{value_name, given, begun, rounds_of, in_turn}
 use Rattle.laws.proofs.Values.{value_here}
 use Rattle.laws.proofs.Statements.{ended_as_is}
-use Rattle.resuming.specs.Alone.{tested_rounds, AloneRounds}
+use Rattle.resuming.specs.Alone.{tested_rounds, AloneAt, AloneRounds}
 use Rattle.resuming.specs.Joint.{Joint, Pair, joint_then, joint_one, given_then, begins_test, begins, scope_at, joint_rounds}
 use Rattle.resuming.specs.Same.{AndThen, SameOne, SameAt, SameRounds}
 use Rattle.resuming.proofs.Near.{Within, IsCached, Alike, Every, IsPart}
 use Rattle.resuming.proofs.Names.{same_or_not, among_left, among_right, among_wider, value_else, sought_cached, library_cached, libraries_cached}
 use Rattle.resuming.proofs.Liking.{Reads, wider_reads, ReadsKind, variable_alike, text_same}
 use Rattle.resuming.proofs.Forms.{PlainKind, IsAsked, asked_settles, row_test}
-use Rattle.resuming.proofs.Parts.{part_then, part_less, part_is, part_scope}
+use Rattle.resuming.proofs.Parts.{part_then, part_is, part_scope}
 use Rattle.resuming.proofs.Single.{all_readable, still_part, test_part}
 use Rattle.resuming.proofs.Statements.{id_part, write_values, may_assign}
 
@@ -67,7 +67,7 @@ kind_part tested_before known kind fits w a c r =
     plain_of (Library library function others adds) a = tt
     plain_of (Libraries function libraries others) a = tt
 
-sought_part : (tested_before known : List (List ℕ)) (sought : Sought) (entry : List ℕ) (includes : Option (List Part)) (defines : Bool) (fits : List (List ℕ) → Type 0) → Within tested_before known → ReadsIfGiven tested_before includes
+sought_part : (tested_before known : List (List ℕ)) (sought : Sought) (entry : List ℕ) (includes : Option (List Part)) (defines : Bool) (fits : List (List ℕ) → Type 0) → Within tested_before known → ReadsAll tested_before (option_to_list includes)
     → IsPart known (sought_name sought entry ∷ known) (sought_name sought entry ∷ []) (begins_test (Some (kind_for sought entry includes defines))) (joint_one (begins_test (Some (kind_for sought entry includes defines))))
     (SameOne (name_of (kind_for sought entry includes defines)) (begins_test (Some (kind_for sought entry includes defines)))) fits
 sought_part tested_before known (seeks.Entry listed) entry includes defines fits w r = kind_part tested_before known (Single listed entry includes defines) fits w tt (sought_cached (seeks.Entry listed) entry) r
@@ -78,19 +78,19 @@ begin_part : (tested_before known : List (List ℕ)) (r : Subject) (fits : List 
 unfolding begins
 begin_part tested_before known Nothing fits w one h = id_part known fits
 begin_part tested_before known (Word word) fits w one h = id_part known fits
-begin_part tested_before known (Asked (Given kind variable help)) fits w one h =
+begin_part tested_before known (Asked (Given kind variable)) fits w one h =
     still_part tested_before known (λ st. given_then kind (value_of st.vars variable) st) fits w
-    (λ at reads s t a. given_same at kind variable s t (reads variable (inl (may_assign variable h))) a)
+    (λ at reads s t a. given_same at kind variable s t (reads variable (inl (may_assign variable h.1.0))) a)
     (λ n st c. given_values kind (value_of st.vars variable) n st c)
 begin_part tested_before known (Asked (Tries kind program)) fits w one h = absurd h.0
-begin_part tested_before known (Asked (Checks sought entry includes)) fits w one h = sought_part tested_before known sought entry includes false fits w h
+begin_part tested_before known (Asked (Checks sought entry includes)) fits w one h = sought_part tested_before known sought entry includes false fits w h.1.1
 begin_part tested_before known (Asked (ChecksEach sought [] includes)) fits w one h = id_part known fits
-begin_part tested_before known (Asked (ChecksEach sought (entry ∷ []) includes)) fits w one h = sought_part tested_before known sought entry includes true fits w h
+begin_part tested_before known (Asked (ChecksEach sought (entry ∷ []) includes)) fits w one h = sought_part tested_before known sought entry includes true fits w h.1.1
 begin_part tested_before known (Asked (ChecksEach sought (a ∷ b ∷ more) includes)) fits w one h = absurd one
 begin_part tested_before known (Asked (questions.Library library function others adds)) fits w one h =
-    kind_part tested_before known (Library library function others adds) fits w tt (library_cached library function) h
+    kind_part tested_before known (Library library function others adds) fits w tt (library_cached library function) h.1.1
 begin_part tested_before known (Asked (questions.Libraries function libraries others)) fits w one h =
-    kind_part tested_before known (Libraries function libraries others) fits w tt (libraries_cached function) h
+    kind_part tested_before known (Libraries function libraries others) fits w tt (libraries_cached function) h.1.1
 
 -- ---- what a choice is about
 
@@ -103,7 +103,7 @@ scope_same : (at : List ℕ → Type 0) (names : List (List ℕ)) (r : Subject) 
 unfolding scope_at
 scope_same at names Nothing x y reads own one h a = refl
 scope_same at names (Word word) x y reads own one h a = ap about (text_same at names word x y reads h a)
-scope_same at names (Asked (Given kind variable help)) x y reads own one h a = ap (λ o. answered (is_some o)) (a.value variable (reads variable (inl (may_assign variable h))))
+scope_same at names (Asked (Given kind variable)) x y reads own one h a = ap (λ o. answered (is_some o)) (a.value variable (reads variable (inl (may_assign variable h.1.0))))
 scope_same at names (Asked (Tries kind program)) x y reads own one h a = refl
 scope_same at names (Asked (Checks sought entry includes)) x y reads own one h a = ap answered (sought_same at sought entry includes false x y (own (sought_name sought entry) (inl refl)) a)
 scope_same at names (Asked (ChecksEach sought [] includes)) x y reads own one h a = refl
@@ -127,7 +127,7 @@ begun_is : (names : List (List ℕ)) (r : Subject) (st : State) (go : Scope → 
 unfolding begins scope_at begun
 begun_is names Nothing st go h = refl
 begun_is names (Word word) st go h = refl
-begun_is names (Asked (Given kind variable help)) st go h = sym (given_begun kind variable (value_of st.vars variable) st go refl)
+begun_is names (Asked (Given kind variable)) st go h = sym (given_begun kind variable (value_of st.vars variable) st go refl)
 begun_is names (Asked (Tries kind program)) st go h = absurd h.0
 begun_is names (Asked (Checks sought entry includes)) st go h = test_begun (kind_for sought entry includes false) st go
 begun_is names (Asked (ChecksEach sought [] includes)) st go h = refl
@@ -139,12 +139,12 @@ begun_is names (Asked (questions.Libraries function libraries others)) st go h =
 
 round_part : (tested_before known inside : List (List ℕ)) (r : Subject) (go : Scope → State → Run) (jgo : Scope → Pair → Joint) (sgo : Scope → Pair → Type 0) (fgo : List (List ℕ) → Type 0) → Within tested_before known → IsRound r → ResumableSubject None tested_before r
     → ((c : Scope) → IsPart (tests_at r ++ known) (tests_at r ++ known) inside (go c) (jgo c) (sgo c) fgo)
-    → IsPart known (tests_at r ++ known) (tests_at r ++ inside) (λ st. begun as_is r st go) (λ p. joint_then (joint_one (begins r) p) (λ q. jgo (scope_at r q.first) q)) (λ p. SameAt r p × AndThen (joint_one (begins r) p) (λ q. sgo (scope_at r q.first) q)) (λ later. Unit {0} × fgo later)
+    → IsPart known (tests_at r ++ known) (tests_at r ++ inside) (λ st. begun as_is r st go) (λ p. joint_then (joint_one (begins r) p) (λ q. jgo (scope_at r q.first) q)) (λ p. SameAt r p × AndThen (joint_one (begins r) p) (λ q. sgo (scope_at r q.first) q)) (λ later. AloneAt r (inside ++ later) × fgo later)
 round_part tested_before known inside r go jgo sgo fgo w one h inner =
     let more = tests_at r ++ known in
     part_is known more (tests_at r ++ inside) (λ st. then_run (begins r st) (λ now. go (scope_at r now) now)) (λ st. begun as_is r st go) _ _ _ (λ st. begun_is tested_before r st go h)
-    (part_then known more more (tests_at r) inside (begins r) (λ now. go (scope_at r now) now) (joint_one (begins r)) (λ q. jgo (scope_at r q.first) q) (SameAt r) (λ q. sgo (scope_at r q.first) q) (λ later. Unit {0}) fgo
-    (begin_part tested_before known r (λ later. Unit {0}) w one h)
+    (part_then known more more (tests_at r) inside (begins r) (λ now. go (scope_at r now) now) (joint_one (begins r)) (λ q. jgo (scope_at r q.first) q) (SameAt r) (λ q. sgo (scope_at r q.first) q) (AloneAt r) fgo
+    (begin_part tested_before known r (AloneAt r) w one h)
     (part_scope more more inside (scope_at r) go jgo sgo fgo
     (λ x y a. scope_same Every tested_before r x y (λ n k. tt) (λ n k. tt) one h a)
     (λ E p near. scope_same (MayRead more) tested_before r p.first p.second (λ n k. wider_reads tested_before more (λ m a. among_right m (tests_at r) known (w m a)) n k) (λ n a. inr (among_left n (tests_at r) known a)) one h (all_readable more p.first p.second E near))
@@ -170,12 +170,11 @@ one_turn : (tested_before known inside : List (List ℕ)) (r : Subject) (rs : Li
     → IsPart known (after_rounds (r ∷ rs) known) (tested_rounds (r ∷ rs) inside) (in_turn (r ∷ rs) go) (joint_rounds (r ∷ rs) jgo) (SameRounds (r ∷ rs) jgo sgo) (AloneRounds (r ∷ rs) inside fgo)
 one_turn tested_before known inside r rs go jgo sgo fgo w one h inner rest =
     let more = tests_at r ++ known in
-    part_less known (after_rounds rs more) (after_rounds rs more) (tested_rounds (r ∷ rs) inside) (tested_rounds (r ∷ rs) inside) _ _ _ _ _ _ (λ n a. a) (λ n a. a) (λ p x. x) (λ later x. ((tt, x.0), x.1))
-    (part_then known more (after_rounds rs more) (tests_at r ++ inside) (tested_rounds rs inside) (λ st. begun as_is r st go) (in_turn rs go)
+    part_then known more (after_rounds rs more) (tests_at r ++ inside) (tested_rounds rs inside) (λ st. begun as_is r st go) (in_turn rs go)
     (λ p. joint_then (joint_one (begins r) p) (λ q. jgo (scope_at r q.first) q)) (joint_rounds rs jgo)
     (λ p. SameAt r p × AndThen (joint_one (begins r) p) (λ q. sgo (scope_at r q.first) q)) (SameRounds rs jgo sgo)
-    (λ later. Unit {0} × fgo later) (AloneRounds rs inside fgo)
-    (round_part tested_before known inside r go jgo sgo fgo w one h inner) rest)
+    (λ later. AloneAt r (inside ++ later) × fgo later) (AloneRounds rs inside fgo)
+    (round_part tested_before known inside r go jgo sgo fgo w one h inner) rest
 
 later_turns : (tested_before needs known inside : List (List ℕ)) (rs : List Subject) (go : Scope → State → Run) (jgo : Scope → Pair → Joint) (sgo : Scope → Pair → Type 0) (fgo : List (List ℕ) → Type 0) → Within tested_before known → Within needs known → AllRounds tested_before rs
     → ((more : List (List ℕ)) → Within needs more → (c : Scope) → IsPart more more inside (go c) (jgo c) (sgo c) fgo)
@@ -200,17 +199,17 @@ after_more (r ∷ rs) a n h = after_more rs (tests_at r ++ a) n (among_right n (
 
 -- ---- the rounds of a choice
 
-each_rounds : (names : List (List ℕ)) (sought : Sought) (entries : List (List ℕ)) (includes : Option (List Part)) → ReadsIfGiven names includes → AllRounds names (map (λ entry. Asked (ChecksEach sought (entry ∷ []) includes)) entries)
+each_rounds : (names : List (List ℕ)) (sought : Sought) (entries : List (List ℕ)) (includes : Option (List Part)) → ReadsAll names (option_to_list includes) → AllRounds names (map (λ entry. Asked (ChecksEach sought (entry ∷ []) includes)) entries)
 each_rounds names sought [] includes r = tt
-each_rounds names sought (entry ∷ more) includes r = ((tt, r), each_rounds names sought more includes r)
+each_rounds names sought (entry ∷ more) includes r = ((tt, (tt, (tt, r))), each_rounds names sought more includes r)
 
 pub rounds_keep : (names : List (List ℕ)) (subject : Subject) → ResumableSubject None names subject → AllRounds names (rounds_of subject)
 rounds_keep names Nothing h = ((tt, h), tt)
 rounds_keep names (Word word) h = ((tt, h), tt)
-rounds_keep names (Asked (Given kind variable help)) h = ((tt, h), tt)
+rounds_keep names (Asked (Given kind variable)) h = ((tt, h), tt)
 rounds_keep names (Asked (Tries kind program)) h = ((tt, h), tt)
 rounds_keep names (Asked (Checks sought entry includes)) h = ((tt, h), tt)
-rounds_keep names (Asked (ChecksEach sought entries includes)) h = each_rounds names sought entries includes h
+rounds_keep names (Asked (ChecksEach sought entries includes)) h = each_rounds names sought entries includes h.1.1
 rounds_keep names (Asked (questions.Library library function others adds)) h = ((tt, h), tt)
 rounds_keep names (Asked (questions.Libraries function libraries others)) h = ((tt, h), tt)
 
@@ -222,7 +221,7 @@ each_first sought (entry ∷ more) includes = refl
 pub rounds_first : (subject : Subject) → first_alone (tests_at subject) ≡ first_at (rounds_of subject)
 rounds_first Nothing = refl
 rounds_first (Word word) = refl
-rounds_first (Asked (Given kind variable help)) = refl
+rounds_first (Asked (Given kind variable)) = refl
 rounds_first (Asked (Tries kind program)) = refl
 rounds_first (Asked (Checks sought entry includes)) = refl
 rounds_first (Asked (ChecksEach sought entries includes)) = each_first sought entries includes
@@ -239,7 +238,7 @@ each_after sought (entry ∷ more) includes a b w n h =
 pub rounds_after : (subject : Subject) (a b : List (List ℕ)) → Within a b → (n : List ℕ) → Among n (tests_at subject ++ a) → Among n (after_rounds (rounds_of subject) b)
 rounds_after Nothing a b w n h = w n h
 rounds_after (Word word) a b w n h = w n h
-rounds_after (Asked (Given kind variable help)) a b w n h = w n h
+rounds_after (Asked (Given kind variable)) a b w n h = w n h
 rounds_after (Asked (Tries kind program)) a b w n h = w n h
 rounds_after (Asked (Checks sought entry includes)) a b w n h = ⊎_elim (λ e. inl e) (λ k. inr (w n k)) h
 rounds_after (Asked (ChecksEach sought entries includes)) a b w n h = each_after sought entries includes a b w n h

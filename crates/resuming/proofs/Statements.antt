@@ -1,29 +1,35 @@
 -- Statements without statements in them, as parts.
 use Rattle.std.proofs.Common.{◌≡◌, ℕ, List, [], ◌∷◌, ◌++◌, codes, Bool, cond, length, Option, Some, None, inl, refl, sym, ap, ◌∙◌, subst, ⊎_elim}
-use Rattle.std.specs.Prelude.{◌==◌, not, option_map, unwrap_or}
+use Rattle.std.specs.Prelude.{◌==◌, not, option_map, option_to_list}
 use Rattle.deftable.specs.CacheName.{is_cache_name, has_cv}
 use Rattle.deftable.specs.Table.{value_of}
-use Rattle.deftable.specs.declared.note.Stream.TheVariants as streams
 use Rattle.shellword.specs.declared.part.Part.{Part}
 use Rattle.shellword.specs.Value.{word_value}
-use Rattle.syntax.specs.declared.statement.MessageKind.{MessageKind}
-use Rattle.syntax.specs.declared.statement.MessageKind.TheVariants as messages
-use Rattle.syntax.specs.declared.statement.Plain as plain
-use Rattle.syntax.specs.declared.statement.Plain.TheVariants.{Init, Assign, SubstValue, Define, DefineUnquoted, Error, Message, CheckProg, CheckProgs, PathProg, ProgCc, Batch, Output}
-use Rattle.syntax.specs.Resumable.{IsOrdinary, MayRead, ReadsText, ReadsIfGiven, tests_of, MayAssign, ResumablePlain}
+use Rattle.syntax.specs.declared.statement.Declares.{Declares}
+use Rattle.syntax.specs.declared.statement.Declares.TheVariants.{Variable}
+use Rattle.syntax.specs.declared.statement.Effect.{Effect}
+use Rattle.syntax.specs.declared.statement.Effect.TheVariants.{Nothing, Assign, Define, DefineText, Print, Stop, Package, Search, Searches, Batch, Complete}
+use Rattle.syntax.specs.declared.statement.Message.{Message}
+use Rattle.syntax.specs.declared.statement.Message.TheVariants.{Error}
+use Rattle.syntax.specs.declared.statement.ProgramValue.TheVariants.{Text, FullName}
+use Rattle.syntax.specs.Resumable.{IsOrdinary, MayRead, ReadsText, ReadsAll, MayAssign, MayUse}
 use Rattle.syntax.specs.TestNames.{program_name, path_name, NamesVariable}
-use Rattle.meaning.specs.State.{State, told, with_variable, with_definition, Goes_on, Completed, Stopped, Ends}
-use Rattle.meaning.specs.Rows.{value_or_empty, value_if}
+use Rattle.syntax.specs.Uses.{uses_of}
+use Rattle.meaning.specs.State.{State, with_variable, with_definition, Goes_on, Completed, Stopped, Run, Ends}
+use Rattle.meaning.specs.Messages.{said}
+use Rattle.meaning.specs.Tests.{tested}
+use Rattle.meaning.specs.Rows.{value_or_empty, value_if, row_of}
 use Rattle.meaning.specs.Package.{literal, package_string, with_package, initialised}
-use Rattle.meaning.specs.Meaning.{is_unsettled, settled, with_prefixes, has_value, is_full_name, error_line, said, effect}
-use Rattle.resuming.specs.Alone.{AlonePlain}
+use Rattle.meaning.specs.Meaning.{is_unsettled, settled, with_prefixes, is_full_name, effect}
+use Rattle.resuming.specs.Alone.{AreNone, AloneUse}
 use Rattle.resuming.specs.Joint.{joint_plain, joint_one}
-use Rattle.resuming.specs.Same.{SamePlain}
+use Rattle.resuming.specs.Same.{SameEach, SameUse}
 use Rattle.resuming.proofs.Near.{Within, IsCached, Alike, Every, IsPart}
-use Rattle.resuming.proofs.Names.{value_else, cached_apart, program_cached, path_cached, cc_plain}
+use Rattle.resuming.proofs.Names.{value_else, cached_apart, program_cached, path_cached}
 use Rattle.resuming.proofs.Liking.{Reads, variable_alike, written_alike, definition_alike, cond_alike, text_same}
-use Rattle.resuming.proofs.Forms.{cond_values, reads_more}
-use Rattle.resuming.proofs.Programs.{SameKind, prog_kind, prog_test, looks_test, test_then, default_of, default_alike, default_values, given_same}
+use Rattle.resuming.proofs.Forms.{IsTest, cond_values, reads_more}
+use Rattle.resuming.proofs.Parts.{part_less}
+use Rattle.resuming.proofs.Programs.{SameKind, prog_kind, prog_test, own_same, looks_test, test_then, default_of, default_alike, default_values, given_same}
 use Rattle.resuming.proofs.Single.{still_part, ends_part, test_part}
 use Rattle.resuming.proofs.BatchPart.{batch_part}
 
@@ -56,15 +62,8 @@ init_values title version bug tarname url n st c =
     write_values (codes "PACKAGE_URL") url n f refl c ∙ write_values (codes "PACKAGE_BUGREPORT") bug n e refl c ∙ write_values (codes "PACKAGE_STRING") (package_string title version) n d refl c
     ∙ write_values (codes "PACKAGE_VERSION") version n b refl c ∙ write_values (codes "PACKAGE_TARNAME") tarname n a refl c ∙ write_values (codes "PACKAGE_NAME") title n st refl c
 
-said_alike : (at : List ℕ → Type 0) (kind : MessageKind) (v w : List ℕ) (s t : State) → Alike at s t → Alike at (said kind v s) (said kind w t)
-unfolding said
-said_alike at messages.Checking v w s t h = record { defs = h.defs; value = h.value }
-said_alike at _ v w s t h = record { defs = h.defs; value = h.value }
-
-said_values : (kind : MessageKind) (v : List ℕ) (n : List ℕ) (st : State) → value_of (said kind v st).vars n ≡ value_of st.vars n
-unfolding said
-said_values messages.Checking v n st = refl
-said_values _ v n st = refl
+said_alike : (at : List ℕ → Type 0) (message : Message) (v w : List ℕ) (s t : State) → Alike at s t → Alike at (said message v s) (said message w t)
+said_alike at message v w s t h = record { defs = h.defs; value = h.value }
 
 settled_alike : (name value : List ℕ) (s t : State) → Alike Every s t → Alike Every (settled name value s) (settled name value t)
 settled_alike name value s t h =
@@ -84,23 +83,31 @@ prefixes_values n st c =
 pub may_assign : (variable : List ℕ) → MayAssign None variable → IsOrdinary variable
 may_assign variable m = ⊎_elim (λ p. p) (λ h. absurd h) m
 
-own_same : (at : List ℕ → Type 0) (counts : List ℕ → Bool) (variable : List ℕ) (s t : State) → at variable → Alike at s t → value_if (counts (value_or_empty s variable)) (value_or_empty s variable) ≡ value_if (counts (value_or_empty t variable)) (value_or_empty t variable)
-own_same at counts variable s t a h = ap (λ o. value_if (counts (unwrap_or o [])) (unwrap_or o [])) (h.value variable a)
-
 same_three : (name variable program : List ℕ) (a b c d e f : Option (List ℕ)) → a ≡ b → c ≡ d → e ≡ f → prog_kind name variable program a c e ≡ prog_kind name variable program b d f
 same_three name variable program a b c d e f p q r =
     ap (λ x. prog_kind name variable program x c e) p ∙ ap (λ x. prog_kind name variable program b x e) q ∙ ap (prog_kind name variable program b d) r
 
-check_same : (at : List ℕ → Type 0) (names : List (List ℕ)) (name variable program : List ℕ) (found : List Part) (otherwise : Option (List Part)) → at variable → Reads at names → ReadsText names found → ReadsIfGiven names otherwise
-    → SameKind at (λ st. prog_kind name variable program (Some (word_value found st.vars)) (option_map (λ t. word_value t st.vars) otherwise) (value_if (has_value st variable) (value_or_empty st variable)))
-check_same at names name variable program found otherwise a reads r q s t h =
-    same_three name variable program _ _ _ _ _ _ (ap Some (text_same at names found s t reads r h)) (given_same at names otherwise s t reads q h)
-    (ap (λ o. value_if (not (length (unwrap_or o []) == 0)) (unwrap_or o [])) (h.value variable a))
+search_same : (at : List ℕ → Type 0) (names : List (List ℕ)) (counts : List ℕ → Bool) (name variable program : List ℕ) (found otherwise : Option (List Part)) → at variable → Reads at names → ReadsAll names (option_to_list found) → ReadsAll names (option_to_list otherwise)
+    → SameKind at (λ st. prog_kind name variable program (option_map (λ t. word_value t st.vars) found) (option_map (λ t. word_value t st.vars) otherwise) (value_if (counts (value_or_empty st variable)) (value_or_empty st variable)))
+search_same at names counts name variable program found otherwise a reads r q s t h =
+    same_three name variable program _ _ _ _ _ _ (given_same at names found s t reads r h) (given_same at names otherwise s t reads q h) (own_same at counts variable s t a h)
 
-path_same : (at : List ℕ → Type 0) (names : List (List ℕ)) (name variable program : List ℕ) (otherwise : Option (List Part)) → at variable → Reads at names → ReadsIfGiven names otherwise
-    → SameKind at (λ st. prog_kind name variable program None (option_map (λ t. word_value t st.vars) otherwise) (value_if (is_full_name (value_or_empty st variable)) (value_or_empty st variable)))
-path_same at names name variable program otherwise a reads q s t h =
-    same_three name variable program _ _ _ _ _ _ refl (given_same at names otherwise s t reads q h) (own_same at is_full_name variable s t a h)
+-- A test that may leave its name unset.
+search_part : (known : List (List ℕ)) (name : List ℕ) (after : Option (List ℕ) → State → State) (part : State → Run) → IsTest known name after part
+    → IsPart known (name ∷ known) (name ∷ []) part (joint_one part) (SameEach (name ∷ []) part) (AreNone (name ∷ []))
+search_part known name after part test =
+    part_less known (name ∷ known) (name ∷ known) (name ∷ []) (name ∷ []) part (joint_one part) _ _ _ _ (λ n k. k) (λ n k. k) (λ p x. x.0) (λ later x. x)
+    (test_part known name after part (AreNone (name ∷ [])) test (λ later f. inl f.0))
+
+-- AC_CHECK_PROG and AC_PATH_PROG; `counts` says whether the variable's own value counts.
+program_part : (tested_before known : List (List ℕ)) (counts : List ℕ → Bool) (name variable program : List ℕ) (found otherwise : Option (List Part)) → Within tested_before known → IsCached name → MayAssign None variable → ReadsAll tested_before (option_to_list found) → ReadsAll tested_before (option_to_list otherwise)
+    → (let part : State → Run = λ st. tested (row_of (prog_kind name variable program (option_map (λ t. word_value t st.vars) found) (option_map (λ t. word_value t st.vars) otherwise) (value_if (counts (value_or_empty st variable)) (value_or_empty st variable))) st) st in
+    IsPart known (name ∷ known) (name ∷ []) part (joint_one part) (SameEach (name ∷ []) part) (AreNone (name ∷ [])))
+program_part tested_before known counts name variable program found otherwise w c m r q =
+    let p = may_assign variable m in
+    search_part known name _ _
+    (prog_test known name variable program _ _ _ c p (search_same Every tested_before counts name variable program found otherwise tt (λ n k. tt) r q)
+    (search_same (MayRead (name ∷ known)) tested_before counts name variable program found otherwise (inl p) (reads_more tested_before known name w) r q))
 
 -- ---- statements
 
@@ -114,55 +121,39 @@ set_part tested known name value fits w m r =
 defined_alike : (at : List ℕ → Type 0) (name v w : List ℕ) (s t : State) → v ≡ w → Alike at s t → Alike at (with_definition name v s) (with_definition name w t)
 defined_alike at name v w s t e h = subst (λ x. Alike at (with_definition name v s) (with_definition name x t)) e (definition_alike at name v s t h)
 
-pub plain_part : (tested known : List (List ℕ)) (s : plain.Plain) → Within tested known → NamesVariable s → ResumablePlain None tested s
-    → IsPart known (tests_of s ++ known) (tests_of s) (effect s) (joint_plain s) (SamePlain s) (AlonePlain s)
+pub plain_part : (tested known : List (List ℕ)) (d : Declares) (e : Effect) → Within tested known → NamesVariable e → MayUse None tested (uses_of d e)
+    → IsPart known ((uses_of d e).tests ++ known) (uses_of d e).tests (effect e) (joint_plain e) (SameUse (uses_of d e) (effect e)) (AloneUse (uses_of d e))
 unfolding effect joint_plain
-plain_part tested known (Init title version bug tarname url) w v r =
-    still_part tested known (initialised title version bug tarname url) (AlonePlain (Init title version bug tarname url)) w (λ at reads s t a. init_alike at title version bug tarname url s t a)
+plain_part tested known (Variable name) Nothing w v r = id_part known _
+plain_part tested known d Nothing w v r = id_part known _
+plain_part tested known d (Assign name value) w v r = set_part tested known name value _ w r.1.0 r.1.1.0
+plain_part tested known d (Define name value) w v r =
+    still_part tested known (with_definition name value) _ w (λ at reads s t a. definition_alike at name value s t a) (λ n st c. refl)
+plain_part tested known d (DefineText name value) w v r =
+    still_part tested known (λ st. with_definition name (word_value value st.vars) st) _ w
+    (λ at reads s t a. defined_alike at name _ _ s t (text_same at tested value s t reads r.1.1.0 a) a) (λ n st c. refl)
+plain_part tested known d (Print message text) w v r =
+    still_part tested known (λ st. said message (word_value text st.vars) st) _ w (λ at reads s t a. said_alike at message _ _ s t a) (λ n st c. refl)
+plain_part tested known d (Stop text status) w v r =
+    ends_part known (Stopped status) (λ st. said Error (word_value text st.vars) st) _ (λ later now E h. h) (λ s t a. said_alike Every Error _ _ s t a) (λ n st c. refl)
+plain_part tested known d (Package title version bug tarname url) w v r =
+    still_part tested known (initialised title version bug tarname url) _ w (λ at reads s t a. init_alike at title version bug tarname url s t a)
     (λ n st c. init_values title version bug tarname url n st c)
-plain_part tested known (Assign name value) w v r = set_part tested known name value (AlonePlain (Assign name value)) w r.0 r.1
-plain_part tested known (SubstValue name value) w v r = set_part tested known name value (AlonePlain (SubstValue name value)) w r.0 r.1
-plain_part tested known (Define name value) w v r =
-    still_part tested known (with_definition name value) (AlonePlain (Define name value)) w (λ at reads s t a. definition_alike at name value s t a) (λ n st c. refl)
-plain_part tested known (DefineUnquoted name value) w v r =
-    still_part tested known (λ st. with_definition name (word_value value st.vars) st) (AlonePlain (DefineUnquoted name value)) w
-    (λ at reads s t a. defined_alike at name _ _ s t (text_same at tested value s t reads r a) a) (λ n st c. refl)
-plain_part tested known (Error message status) w v r =
-    ends_part known (Stopped status) (λ st. told streams.Err (error_line (word_value message st.vars)) st) (AlonePlain (Error message status)) (λ later now E h. h) (λ s t a. record { defs = a.defs; value = a.value }) (λ n st c. refl)
-plain_part tested known (Message kind message) w v r =
-    still_part tested known (λ st. said kind (word_value message st.vars) st) (AlonePlain (Message kind message)) w (λ at reads s t a. said_alike at kind _ _ s t a) (λ n st c. said_values kind (word_value message st.vars) n st)
-plain_part tested known (CheckProg variable program found otherwise) w v r =
+plain_part tested known d (Search variable program (Text found) otherwise) w v r =
+    program_part tested known (λ value. not (length value == 0)) (program_name variable) variable program (Some found) otherwise w (program_cached variable v) r.1.0 (r.1.1.0, tt) r.1.1.1
+plain_part tested known d (Search variable program FullName otherwise) w v r =
+    program_part tested known is_full_name (path_name variable) variable program None otherwise w (path_cached variable v) r.1.0 tt r.1.1
+plain_part tested known d (Searches variable programs otherwise) w v r =
     let name = program_name variable in
-    let p = may_assign variable r.0 in
-    test_part known name _ _ (AlonePlain (CheckProg variable program found otherwise))
-    (prog_test known name variable program (λ st. Some (word_value found st.vars)) (λ st. option_map (λ t. word_value t st.vars) otherwise) (λ st. value_if (has_value st variable) (value_or_empty st variable))
-    (program_cached variable v) p (check_same Every tested name variable program found otherwise tt (λ n k. tt) r.1.0 r.1.1)
-    (check_same (MayRead (name ∷ known)) tested name variable program found otherwise (inl p) (reads_more tested known name w) r.1.0 r.1.1))
-    (λ later f. inl f)
-plain_part tested known (CheckProgs variable programs otherwise) w v r =
-    let name = program_name variable in
-    let p = may_assign variable r.0 in
-    test_part known name _ _ (AlonePlain (CheckProgs variable programs otherwise))
+    let p = may_assign variable r.1.0 in
+    search_part known name _ _
     (test_then known name _ _ (default_of variable otherwise)
-    (λ s t a. default_alike Every tested variable otherwise s t tt (λ n k. tt) r.1 a)
-    (λ s t a. default_alike (MayRead (name ∷ known)) tested variable otherwise s t (inl p) (reads_more tested known name w) r.1 a)
+    (λ s t a. default_alike Every tested variable otherwise s t tt (λ n k. tt) r.1.1 a)
+    (λ s t a. default_alike (MayRead (name ∷ known)) tested variable otherwise s t (inl p) (reads_more tested known name w) r.1.1 a)
     (λ n st c. default_values variable (option_map (λ t. word_value t st.vars) otherwise) n st p c)
     (looks_test known name variable programs (program_cached variable v) p))
-    (λ later f. inl f)
-plain_part tested known (PathProg variable program otherwise) w v r =
-    let name = path_name variable in
-    let p = may_assign variable r.0 in
-    test_part known name _ _ (AlonePlain (PathProg variable program otherwise))
-    (prog_test known name variable program (λ st. None) (λ st. option_map (λ t. word_value t st.vars) otherwise) (λ st. value_if (is_full_name (value_or_empty st variable)) (value_or_empty st variable))
-    (path_cached variable v) p (path_same Every tested name variable program otherwise tt (λ n k. tt) r.1)
-    (path_same (MayRead (name ∷ known)) tested name variable program otherwise (inl p) (reads_more tested known name w) r.1))
-    (λ later f. inl f)
-plain_part tested known (ProgCc programs) w v r =
-    let name = program_name (codes "CC") in
-    test_part known name _ _ (AlonePlain (ProgCc programs)) (looks_test known name (codes "CC") programs (program_cached (codes "CC") refl) cc_plain) (λ later f. inl f)
-plain_part tested known (Batch listed entries includes) w v r =
-    batch_part tested known (record { listed = listed; entries = entries; includes = includes }) (AlonePlain (Batch listed entries includes)) r
-plain_part tested known Output w v r =
-    ends_part known Completed with_prefixes (AlonePlain Output) (λ later now E h. h)
+plain_part tested known d (Batch listed entries includes) w v r =
+    batch_part tested known (record { listed = listed; entries = entries; includes = includes }) _ r.1.1
+plain_part tested known d Complete w v r =
+    ends_part known Completed with_prefixes _ (λ later now E h. h)
     (λ s t a. settled_alike (codes "exec_prefix") (codes "${prefix}") _ _ (settled_alike (codes "prefix") (codes "/usr/local") s t a)) prefixes_values
-plain_part tested known s w v r = id_part known (AlonePlain s)

@@ -1,18 +1,19 @@
 -- A name that is set is not tested.
-use Rattle.std.proofs.Common.{◌≡◌, ℕ, suc, List, [], ◌∷◌, codes, Bool, true, false, cond, Option, Some, None, refl, sym, ap, ◌∙◌, subst, ⊎_elim}
+use Rattle.std.proofs.Common.{◌≡◌, ℕ, suc, List, [], ◌∷◌, Bool, true, false, cond, Option, Some, None, refl, sym, ap, ◌∙◌, subst, ⊎_elim}
 use Rattle.std.specs.Prelude.{is_some}
 use Rattle.jobs.specs.declared.job.Job.{Job}
 use Rattle.crew_trait.specs.declared.reply.Reply.{Reply}
 use Rattle.deftable.specs.Table.{value_of}
 use Rattle.shellword.specs.Value.{word_value}
-use Rattle.syntax.specs.declared.statement.Plain as plain
-use Rattle.syntax.specs.declared.statement.Plain.TheVariants as statements
-use Rattle.syntax.specs.declared.statement.Plain.TheVariants.{CheckProg, CheckProgs, PathProg, ProgCc}
+use Rattle.syntax.specs.declared.statement.Declares.{Declares}
+use Rattle.syntax.specs.declared.statement.Effect.{Effect}
+use Rattle.syntax.specs.declared.statement.Effect.TheVariants as effects
 use Rattle.syntax.specs.declared.tree.Subject.{Subject}
 use Rattle.syntax.specs.declared.tree.Subject.TheVariants.{Nothing, Word, Asked}
 use Rattle.syntax.specs.Resumable.{Among}
 use Rattle.syntax.specs.Script.{Script, Done, Then, Choice, Check, Cases, No_case, Case}
-use Rattle.syntax.specs.TestNames.{entry_name, program_name, path_name}
+use Rattle.syntax.specs.TestNames.{entry_name}
+use Rattle.syntax.specs.Uses.{uses_of}
 use Rattle.meaning.specs.State.{State, Scope, no_choice, about, answered, How, Goes_on, Completed, Stopped, Cut, Run, as_is}
 use Rattle.meaning.specs.Tests.{checking}
 use Rattle.meaning.specs.Rows.{Kind, name_of}
@@ -26,7 +27,7 @@ use Rattle.laws.proofs.Kept.{Keeps, KeepsFrom, all_keep, stays_set}
 use Rattle.resuming.specs.Finished.{Finished, finish}
 use Rattle.resuming.specs.Poured.{poured}
 use Rattle.resuming.specs.Joint.{test_in, checks}
-use Rattle.resuming.specs.Asked.{tested_after, tested_if, tested_one, tested_entries, tested_plain, tested_kind, tested_at, tested_answered, tested_inside, tested_turns, tests_made, tests_made_in, AsksNoSaved}
+use Rattle.resuming.specs.Asked.{tested_after, tested_if, tested_one, tested_each, tested_entries, tested_plain, tested_kind, tested_at, tested_answered, tested_inside, tested_turns, tests_made, tests_made_in, AsksNoSaved}
 use Rattle.resuming.proofs.Names.{same_or_not, among_either}
 use Rattle.resuming.proofs.Runs.{at_end}
 
@@ -62,6 +63,10 @@ not_if n name st (Some v) inner e s never h = h
 not_one : (n name : List ℕ) (st : State) → Set n st → Among n (tested_one name st) → ⊥
 not_one n name st s h = not_if n name st (value_of st.vars name) [] refl s (λ z. z) h
 
+not_each : (n : List ℕ) (names : List (List ℕ)) (st : State) → Set n st → Among n (tested_each names st) → ⊥
+not_each n [] st s h = h
+not_each n (name ∷ more) st s h = ⊎_elim (not_one n name st s) (not_each n more st s) (among_either n (tested_one name st) (tested_each more st) h)
+
 one_entry : (n : List ℕ) (batch : Batch) (entry : List ℕ) (job : Option Job) (tail : List (List ℕ × Option Job)) → (entry_name batch.listed entry ≡ n → ⊥) → (Among n (tested_entries batch tail) → ⊥) → Among n (tested_entries batch ((entry, job) ∷ tail)) → ⊥
 one_entry n batch entry None tail apart rest h = rest h
 one_entry n batch entry (Some job) tail apart rest h = ⊎_elim apart rest h
@@ -76,13 +81,9 @@ not_entries n batch (entry ∷ more) place earlier st s h =
     (λ other. one_entry n batch entry (job_for batch place earlier entry st) tail other rest h)
     (same_or_not (entry_name batch.listed entry) n)
 
-not_plain : (n : List ℕ) (s : plain.Plain) (st : State) → Set n st → Among n (tested_plain s st) → ⊥
-not_plain n (CheckProg variable program found otherwise) st s h = not_one n (program_name variable) st s h
-not_plain n (CheckProgs variable programs otherwise) st s h = not_one n (program_name variable) st s h
-not_plain n (PathProg variable program otherwise) st s h = not_one n (path_name variable) st s h
-not_plain n (ProgCc programs) st s h = not_one n (program_name (codes "CC")) st s h
-not_plain n (statements.Batch listed entries includes) st s h = not_entries n (record { listed = listed; entries = entries; includes = includes }) entries 1 [] st s h
-not_plain n _ st s h = h
+not_plain : (n : List ℕ) (d : Declares) (e : Effect) (st : State) → Set n st → Among n (tested_plain d e st) → ⊥
+not_plain n d (effects.Batch listed entries includes) st s h = not_entries n (record { listed = listed; entries = entries; includes = includes }) entries 1 [] st s h
+not_plain n d e st s h = not_each n (uses_of d e).tests st s h
 
 not_kind : (n : List ℕ) (kind : Option Kind) (st : State) → Set n st → Among n (tested_kind kind st) → ⊥
 not_kind n None st s h = h
@@ -119,11 +120,11 @@ mutual
 
   not_tested : (script : Script) (n : List ℕ) (st : State) (rs : List Reply) → Set n st → Among n (tests_made script st rs) → ⊥
   not_tested Done n st rs s h = h
-  not_tested (Then p rest) n st rs s h =
-      ⊎_elim (not_plain n p st s)
-      (not_after n (finish (effect p st) rs).how (finish (effect p st) rs) (tests_made rest) (still_set n (effect p st) rs (effect_holds (Stays n) (steps n) p st s)) (λ now left k. not_tested rest n now left k))
-      (among_either n (tested_plain p st) _ h)
-  not_tested (Choice subject cases rest) n st rs s h =
+  not_tested (Then d e rest) n st rs s h =
+      ⊎_elim (not_plain n d e st s)
+      (not_after n (finish (effect e st) rs).how (finish (effect e st) rs) (tests_made rest) (still_set n (effect e st) rs (effect_holds (Stays n) (steps n) e st s)) (λ now left k. not_tested rest n now left k))
+      (among_either n (tested_plain d e st) _ h)
+  not_tested (Choice d subject cases rest) n st rs s h =
       let keep : (c : Scope) (now : State) → Set n now → Keeps (Set n) (chosen cases c now) = λ c now k. chosen_holds (Stays n) (steps n) cases c now k in
       ⊎_elim
       (not_turns n (rounds_of subject) (chosen cases) (tests_made_in cases) keep (λ c now left k. not_tested_in cases n c now left k) st rs s)

@@ -4,17 +4,18 @@ use Rattle.cachefile.specs.Text.{saved_value}
 use Rattle.crew_trait.specs.declared.reply.Reply.{Reply}
 use Rattle.deftable.specs.Table.{value_of}
 use Rattle.syntax.specs.Commands.{HasCommands, HasCommandsIn}
-use Rattle.syntax.specs.Resumable.{Among, MayRead, tests_of, tests_at, first_alone, Resumable, ResumableIn}
+use Rattle.syntax.specs.Resumable.{Among, MayRead, tests_at, first_alone, Resumable, ResumableIn}
 use Rattle.syntax.specs.Script.{Script, Done, Then, Choice, Check, Cases, No_case, Case}
 use Rattle.syntax.specs.TestNames.{HasTestNames, HasTestNamesIn}
+use Rattle.syntax.specs.Uses.{uses_of}
 use Rattle.meaning.specs.State.{State, Scope, How, Cut, Run}
 use Rattle.meaning.specs.Meaning.{effect, rounds_of, is_taken, in_turn, meaning, chosen}
 use Rattle.laws.proofs.Values.{cases_value}
 use Rattle.resuming.specs.Finished.{Finished, finish, Enough}
 use Rattle.resuming.specs.Poured.{poured}
-use Rattle.resuming.specs.Alone.{tested_rounds, tested_in, tested_cases, IsNone, AlonePlain, AloneRounds, Alone, AloneIn}
+use Rattle.resuming.specs.Alone.{tested_rounds, tested_in, tested_cases, IsNone, AloneUse, AloneRounds, Alone, AloneIn}
 use Rattle.resuming.specs.Joint.{Joint, Past, Whole, Pair, joint_one, joint_plain, joint_rounds, checks, joint, joint_cases, joint_replies}
-use Rattle.resuming.specs.Same.{SameOne, SamePlain, SameRounds, SameAgain, SameCases}
+use Rattle.resuming.specs.Same.{SameOne, SameUse, SameRounds, SameAgain, SameCases}
 use Rattle.resuming.specs.Law.{Begun, EndsAgain, Resumes}
 use Rattle.resuming.proofs.Near.{Within, Every, Saved, Near, leads_by, Leads, EndsAlike, Ready, Comes, IsPart}
 use Rattle.resuming.proofs.Names.{among_right, among_wider, saved_or_not, ordinary_unsaved}
@@ -31,13 +32,14 @@ mutual
   pub script_part : (script : Script) (tested known : List (List ℕ)) → Within tested known → HasCommands script → HasTestNames script → Resumable None tested script
       → IsPart known known (tested_in script) (meaning script) (joint script) (SameAgain script) (Alone script)
   script_part Done tested known w a v r = id_part known (Alone Done)
-  script_part (Then s rest) tested known w a v r =
-      let more = tests_of s ++ known in
-      part_less known more known (tests_of s ++ tested_in rest) (tests_of s ++ tested_in rest) _ _ _ _ _ _ (λ n k. among_right n (tests_of s) known k) (λ n k. k) (λ p x. x) (λ later x. x)
-      (part_then known more more (tests_of s) (tested_in rest) (effect s) (meaning rest) (joint_plain s) (joint rest) (SamePlain s) (SameAgain rest) (AlonePlain s) (Alone rest)
-      (plain_part tested known s w v.0 r.0)
-      (script_part rest (tests_of s ++ tested) more (λ n k. among_wider n (tests_of s) tested known (w n) k) a v.1 r.1))
-  script_part (Choice subject cases rest) tested known w a v r =
+  script_part (Then d e rest) tested known w a v r =
+      let uses = uses_of d e in
+      let more = uses.tests ++ known in
+      part_less known more known (uses.tests ++ tested_in rest) (uses.tests ++ tested_in rest) _ _ _ _ _ _ (λ n k. among_right n uses.tests known k) (λ n k. k) (λ p x. x) (λ later x. x)
+      (part_then known more more uses.tests (tested_in rest) (effect e) (meaning rest) (joint_plain e) (joint rest) (SameUse uses (effect e)) (SameAgain rest) (AloneUse uses) (Alone rest)
+      (plain_part tested known d e w v.0 r.0)
+      (script_part rest (uses.tests ++ tested) more (λ n k. among_wider n uses.tests tested known (w n) k) a v.1 r.1))
+  script_part (Choice d subject cases rest) tested known w a v r =
       let rs = rounds_of subject in
       let more = after_rounds rs known in
       let inside = tested_cases cases in

@@ -1,18 +1,19 @@
 -- Which tests a run makes. All of this is own.
-use Rattle.std.specs.Prelude.{◌≡◌, ℕ, List, [], ◌∷◌, ◌++◌, true, false, Option, Some, None, codes, if◌then◌else◌}
+use Rattle.std.specs.Prelude.{◌≡◌, ℕ, List, [], ◌∷◌, ◌++◌, true, false, Option, Some, None, flat_map, if◌then◌else◌}
 use Rattle.cachefile.specs.Text.{saved_value}
 use Rattle.jobs.specs.declared.job.Job.{Job}
 use Rattle.crew_trait.specs.declared.reply.Reply.{Reply}
 use Rattle.deftable.specs.Table.{value_of}
 use Rattle.shellword.specs.Value.{word_value}
-use Rattle.syntax.specs.declared.statement.Plain as plain
-use Rattle.syntax.specs.declared.statement.Plain.TheVariants as statements
-use Rattle.syntax.specs.declared.statement.Plain.TheVariants.{CheckProg, CheckProgs, PathProg, ProgCc}
+use Rattle.syntax.specs.declared.statement.Declares.{Declares}
+use Rattle.syntax.specs.declared.statement.Effect.{Effect}
+use Rattle.syntax.specs.declared.statement.Effect.TheVariants as effects
 use Rattle.syntax.specs.declared.tree.Subject.{Subject}
 use Rattle.syntax.specs.declared.tree.Subject.TheVariants.{Nothing, Word, Asked}
 use Rattle.syntax.specs.Resumable.{Among}
 use Rattle.syntax.specs.Script.{Script, Done, Then, Choice, Check, Cases, No_case, Case}
-use Rattle.syntax.specs.TestNames.{entry_name, program_name, path_name}
+use Rattle.syntax.specs.TestNames.{entry_name}
+use Rattle.syntax.specs.Uses.{uses_of}
 use Rattle.meaning.specs.State.{State, Scope, no_choice, about, answered, How, Goes_on, Completed, Stopped, Cut, Run, as_is}
 use Rattle.meaning.specs.Tests.{checking}
 use Rattle.meaning.specs.Rows.{Kind, name_of}
@@ -39,22 +40,22 @@ tested_if (Some value) name inner = []
 abbrev pub tested_one : List ℕ → State → List (List ℕ)
 tested_one name st = tested_if (value_of st.vars name) name []
 
+-- The tests of these names.
+abbrev pub tested_each : List (List ℕ) → State → List (List ℕ)
+tested_each names st = flat_map (λ name. tested_one name st) names
+
 -- The entries that ask for a child.
 abbrev pub tested_entries : Batch → List (List ℕ × Option Job) → List (List ℕ)
 tested_entries batch [] = []
 tested_entries batch ((entry, None) ∷ more) = tested_entries batch more
 tested_entries batch ((entry, Some job) ∷ more) = entry_name batch.listed entry ∷ tested_entries batch more
 
--- The tests of a statement.
-abbrev pub tested_plain : plain.Plain → State → List (List ℕ)
-tested_plain (CheckProg variable program found otherwise) st = tested_one (program_name variable) st
-tested_plain (CheckProgs variable programs otherwise) st = tested_one (program_name variable) st
-tested_plain (PathProg variable program otherwise) st = tested_one (path_name variable) st
-tested_plain (ProgCc programs) st = tested_one (program_name (codes "CC")) st
-tested_plain (statements.Batch listed entries includes) st =
+-- The tests of a statement: of a batch those of the entries that ask for a child.
+abbrev pub tested_plain : Declares → Effect → State → List (List ℕ)
+tested_plain declares (effects.Batch listed entries includes) st =
     let batch : Batch = record { listed = listed; entries = entries; includes = includes } in
     tested_entries batch (asking batch 1 [] entries st)
-tested_plain s st = []
+tested_plain declares e st = tested_each (uses_of declares e).tests st
 
 -- A test, if there is one.
 abbrev pub tested_kind : Option Kind → State → List (List ℕ)
@@ -92,9 +93,9 @@ unfoldable mutual
   -- The names of the tests that statements make under replies. A test is made if its name is unset when its turn comes.
   pub tests_made : Script → State → List Reply → List (List ℕ)
   tests_made Done st replies = []
-  tests_made (Then s rest) st replies =
-      tested_plain s st ++ tested_after (finish (effect s st) replies).how (finish (effect s st) replies) (tests_made rest)
-  tests_made (Choice subject cases rest) st replies =
+  tests_made (Then declares e rest) st replies =
+      tested_plain declares e st ++ tested_after (finish (effect e st) replies).how (finish (effect e st) replies) (tests_made rest)
+  tests_made (Choice declares subject cases rest) st replies =
       tested_turns (rounds_of subject) (chosen cases) (tests_made_in cases) st replies
       ++ tested_after (finish (in_turn (rounds_of subject) (chosen cases) st) replies).how (finish (in_turn (rounds_of subject) (chosen cases) st) replies) (tests_made rest)
   tests_made (Check message name commands rest) st replies =

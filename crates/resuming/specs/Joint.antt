@@ -7,8 +7,8 @@ use Rattle.deftable.specs.Table.{value_of}
 use Rattle.shellword.specs.declared.part.Part.{Part}
 use Rattle.shellword.specs.Value.{word_value}
 use Rattle.syntax.specs.declared.feature.OptionKind.{OptionKind}
-use Rattle.syntax.specs.declared.statement.Plain as plain
-use Rattle.syntax.specs.declared.statement.Plain.TheVariants as statements
+use Rattle.syntax.specs.declared.statement.Effect.{Effect}
+use Rattle.syntax.specs.declared.statement.Effect.TheVariants as effects
 use Rattle.syntax.specs.declared.statement.Question as question
 use Rattle.syntax.specs.declared.statement.Question.TheVariants as questions
 use Rattle.syntax.specs.declared.statement.Question.TheVariants.{Given, Tries, Checks, ChecksEach}
@@ -88,15 +88,15 @@ joint_batch batch p =
     ++ (finish (batched batch p.second) p.again).left)
 
 -- A statement. AC_CHECK_PROGS and AC_PROG_CC are one test.
-unfoldable pub joint_plain : plain.Plain → Pair → Joint
-joint_plain (statements.Batch listed entries includes) p = joint_batch (record { listed = listed; entries = entries; includes = includes }) p
-joint_plain s p = joint_one (effect s) p
+unfoldable pub joint_plain : Effect → Pair → Joint
+joint_plain (effects.Batch listed entries includes) p = joint_batch (record { listed = listed; entries = entries; includes = includes }) p
+joint_plain e p = joint_one (effect e) p
 
 -- ---- choices
 
 -- The test that a question makes; of a list, that of its first entry.
 abbrev pub test_in : question.Question → Option Kind
-test_in (Given kind variable help) = None
+test_in (Given kind variable) = None
 test_in (Tries kind program) = None
 test_in (Checks sought entry includes) = Some (kind_for sought entry includes false)
 test_in (ChecksEach sought [] includes) = None
@@ -118,7 +118,7 @@ begins_test (Some kind) st = tested (row_of kind st) st
 unfoldable pub begins : Subject → State → Run
 begins Nothing st = Ends Goes_on st
 begins (Word word) st = Ends Goes_on st
-begins (Asked (Given kind variable help)) st = Ends Goes_on (given_then kind (value_of st.vars variable) st)
+begins (Asked (Given kind variable)) st = Ends Goes_on (given_then kind (value_of st.vars variable) st)
 begins (Asked q) st = begins_test (test_in q) st
 
 -- The answer to the question of a test after it, by the value of its name.
@@ -130,7 +130,7 @@ answer_by (Some kind) now = is_found kind (value_of now.vars (name_of kind))
 unfoldable pub scope_at : Subject → State → Scope
 scope_at Nothing now = no_choice
 scope_at (Word word) now = about (word_value word now.vars)
-scope_at (Asked (Given kind variable help)) now = answered (is_some (value_of now.vars variable))
+scope_at (Asked (Given kind variable)) now = answered (is_some (value_of now.vars variable))
 scope_at (Asked q) now = answered (answer_by (test_in q) now)
 
 -- Rounds, each with its cases.
@@ -149,8 +149,8 @@ unfoldable mutual
   -- The joint replies of statements, one after the other.
   pub joint : Script → Pair → Joint
   joint Done p = Past [] p
-  joint (Then s rest) p = joint_then (joint_plain s p) (joint rest)
-  joint (Choice subject cases rest) p = joint_then (joint_rounds (rounds_of subject) (joint_cases cases) p) (joint rest)
+  joint (Then declares e rest) p = joint_then (joint_plain e p) (joint rest)
+  joint (Choice declares subject cases rest) p = joint_then (joint_rounds (rounds_of subject) (joint_cases cases) p) (joint rest)
   joint (Check message name commands rest) p = joint_then (joint_one (checks message name (meaning commands)) p) (joint rest)
 
   -- Those of the first case that is taken, if any.

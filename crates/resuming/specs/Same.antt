@@ -1,17 +1,16 @@
 -- Tests that have no value to be saved, and get the same replies again. All of this is own.
-use Rattle.std.specs.Prelude.{◌≡◌, ℕ, Bool, true, false, List, [], ◌∷◌, Option, Some, None, codes}
+use Rattle.std.specs.Prelude.{◌≡◌, ℕ, Bool, true, false, List, [], ◌∷◌, Option, Some, None}
 use Rattle.cachefile.specs.Text.{saved_value}
 use Rattle.deftable.specs.Table.{value_of}
-use Rattle.syntax.specs.declared.statement.Plain as plain
-use Rattle.syntax.specs.declared.statement.Plain.TheVariants.{CheckProg, CheckProgs, PathProg, ProgCc}
 use Rattle.syntax.specs.declared.tree.Subject.{Subject}
 use Rattle.syntax.specs.declared.tree.Subject.TheVariants.{Nothing, Word, Asked}
 use Rattle.syntax.specs.Script.{Script, Done, Then, Choice, Check, Cases, No_case, Case}
-use Rattle.syntax.specs.TestNames.{program_name, path_name}
+use Rattle.syntax.specs.Uses.{Uses, uses_of}
 use Rattle.meaning.specs.State.{State, Scope, Goes_on, Run}
 use Rattle.meaning.specs.Rows.{Kind, name_of}
 use Rattle.meaning.specs.Meaning.{effect, rounds_of, is_taken, meaning}
 use Rattle.resuming.specs.Finished.{finish}
+use Rattle.resuming.specs.Alone.{left_unset}
 use Rattle.resuming.specs.Joint.{Pair, Joint, Past, Whole, joint_then, joint_one, joint_plain, test_in, begins_test, begins, scope_at, joint_rounds, checks, joint_cases}
 
 -- One of two facts.
@@ -30,13 +29,14 @@ SameOne name part p =
     (finish (part p.first) p.replies).how ≡ Goes_on → saved_value name (value_of (finish (part p.first) p.replies).state.vars name) ≡ None
     → (finish (part p.second) p.again).taken ≡ (finish (part p.first) p.replies).taken
 
--- This holds of the test of a statement.
-abbrev pub SamePlain : plain.Plain → Pair → Type 0
-SamePlain (CheckProg variable program found otherwise) p = SameOne (program_name variable) (effect (CheckProg variable program found otherwise)) p
-SamePlain (CheckProgs variable programs otherwise) p = SameOne (program_name variable) (effect (CheckProgs variable programs otherwise)) p
-SamePlain (PathProg variable program otherwise) p = SameOne (path_name variable) (effect (PathProg variable program otherwise)) p
-SamePlain (ProgCc programs) p = SameOne (program_name (codes "CC")) (effect (ProgCc programs)) p
-SamePlain s p = Unit {0}
+-- This holds of the tests of these names, which a part makes.
+abbrev pub SameEach : List (List ℕ) → (State → Run) → Pair → Type 0
+SameEach [] part p = Unit {0}
+SameEach (name ∷ more) part p = SameOne name part p × SameEach more part p
+
+-- This holds of the tests of a statement that may leave their names unset.
+abbrev pub SameUse : Uses → (State → Run) → Pair → Type 0
+SameUse uses part p = SameEach (left_unset uses) part p
 
 -- This holds of a test, if there is one.
 abbrev pub SameTest : Option Kind → Pair → Type 0
@@ -60,8 +60,8 @@ unfoldable mutual
   -- A test that the first run completed, and whose value isn't saved, gets the same replies in the second run.
   pub SameAgain : Script → Pair → Type 0
   SameAgain Done p = Unit {0}
-  SameAgain (Then s rest) p = SamePlain s p × AndThen (joint_plain s p) (SameAgain rest)
-  SameAgain (Choice subject cases rest) p =
+  SameAgain (Then declares e rest) p = SameUse (uses_of declares e) (effect e) p × AndThen (joint_plain e p) (SameAgain rest)
+  SameAgain (Choice declares subject cases rest) p =
       SameRounds (rounds_of subject) (joint_cases cases) (SameCases cases) p
       × AndThen (joint_rounds (rounds_of subject) (joint_cases cases) p) (SameAgain rest)
   SameAgain (Check message name commands rest) p =
