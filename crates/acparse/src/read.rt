@@ -255,7 +255,7 @@ fn read_cases(
 
 /// Reads AS_IF or AS_CASE.
 #[cycle(list)]
-#[tactic(auto, unfolding(crate::specs::Profile::choice_of))]
+#[tactic(auto, unfolding(crate::specs::Profile::choice_of, syntax::specs::Lists::after))]
 fn read_choice(
     alloc: Global,
     room: u8,
