@@ -31,7 +31,9 @@ use deftable::Name;
 use m4quote::{Arg, Item, read_items_at};
 use std::alloc::{AllocError, Global};
 use syntax::declarations::declare;
-use syntax::{Case, Declarations, Declares, Question, Stage, Stmt, Subject, When, cache_check, choose};
+use syntax::{
+    Case, Declarations, Declares, Question, Stage, Stmt, Subject, When, cache_check, choose,
+};
 
 /// Returns the macro of a call, if the call is a statement between what precedes it (`line_start`) and the items after it
 /// (`following`), and the list may hold it.
@@ -253,7 +255,7 @@ fn read_cases(
 
 /// Reads AS_IF or AS_CASE.
 #[cycle(list)]
-#[tactic(auto, unfolding(crate::specs::Profile::choice_of))]
+#[tactic(auto, unfolding(crate::specs::Profile::choice_of, syntax::specs::Lists::after))]
 fn read_choice(
     alloc: Global,
     room: u8,
