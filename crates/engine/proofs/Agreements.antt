@@ -35,8 +35,7 @@ configures_agree law script start window other_window before now other_before ot
     let same = law (whole (meaning script (opened start.vars))) window other_window before now other_before other_now one.end other.end one.ran other.ran g in
     let counted : Report → Report = λ r. record r { handed = other_report.handed } in
     let reports : counted report ≡ other_report =
-    ap counted one.told ∙ ap (λ e. report_of start e other_report.handed) same.1 ∙ sym other.told in
-    (
+    ap counted one.told ∙ ap (λ e. report_of start e other_report.handed) same.1 ∙ sym other.told in (
       same.0,
       reports,
       λ templates. ap (artifacts script start templates) reports,
