@@ -25,7 +25,7 @@ use Rattle.resuming.specs.Joint.{joint, joint_replies}
 use Rattle.resuming.specs.Same.{SameAgain, SameCases}
 use Rattle.resuming.specs.Law.{Begun}
 use Rattle.resuming.specs.Plays.{played, StartedAgain}
-use Rattle.resuming.specs.Asked.{tests_made, tests_made_in}
+use Rattle.resuming.specs.Asked.{tests_made, shares, case_shares}
 use Rattle.resuming.proofs.Counter.{on_values, vars_with, good, bad, value, sets, if_set, maybe, f_is}
 
 abbrev example : Script
@@ -134,5 +134,5 @@ two_again = (refl, (refl, refl))
 
 -- The second run makes the test of the function alone.
 two_made : tests_made two_tests (vars_with header_is) (good ∷ []) ≡ codes "ac_cv_func_f" ∷ []
-unfolding on_values tests_made tests_made_in
+unfolding on_values shares case_shares
 two_made = refl

@@ -12,6 +12,7 @@ mod BatchPart
 mod Statements
 mod Rounds
 pub mod Whole
+mod Shares
 mod Unasked
 mod Counter
 mod Example
