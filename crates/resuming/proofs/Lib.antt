@@ -13,6 +13,9 @@ mod Statements
 mod Rounds
 pub mod Whole
 mod Shares
+mod EachShare
+mod OfTests
+mod TheirJobs
 mod Unasked
 mod Counter
 mod Example

@@ -1,6 +1,6 @@
 -- The jobs of the shares of a run are those that it asks for.
 use Rattle.std.proofs.Common.{◌≡◌, ℕ, List, [], ◌∷◌, ◌++◌, length, take, drop, Bool, true, false, cond, Option, Some, None, refl, sym, ap, ◌∙◌, subst, append_assoc}
-use Rattle.std.specs.Prelude.{◌||◌, not, unwrap_or}
+use Rattle.std.specs.Prelude.{◌||◌, not, is_some}
 use Rattle.std.proofs.lemmas.List.{append-nil}
 use Rattle.jobs.specs.declared.job.Job.{Job}
 use Rattle.jobs.specs.Probe.{run_of, job_of}
@@ -41,15 +41,21 @@ use Rattle.laws.proofs.CachedTests.{set_row}
 use Rattle.laws.proofs.TestDeeds.{IsOpen, tested_open}
 use Rattle.laws.proofs.Values.{set_write}
 use Rattle.resuming.specs.Joint.{checks}
-use Rattle.resuming.specs.Asked.{Share, jobs_asked, made, use_shares, entry_shares, effect_shares, shares_after, shares_answered, subject_shares, turn_shares, owned, check_shares, shares, case_shares, shared_jobs, SharesAreJobs}
+use Rattle.resuming.specs.Asked.{Share, jobs_asked, made, use_shares, entry_shares, effect_shares, shares_after, shares_answered, subject_shares, turn_shares, owned, shares, case_shares, shared_jobs, SharesAreJobs}
 
 shared_both : (a b : List Share) → shared_jobs (a ++ b) ≡ shared_jobs a ++ shared_jobs b
 shared_both [] b = refl
 shared_both (share ∷ a) b = ap (λ l. share.jobs ++ l) (shared_both a b) ∙ sym (append_assoc share.jobs (shared_jobs a) (shared_jobs b))
 
-shared_owned : (name : List ℕ) (l : List Share) → shared_jobs (owned name l) ≡ shared_jobs l
-shared_owned name [] = refl
-shared_owned name (share ∷ l) = ap (λ rest. share.jobs ++ rest) (shared_owned name l)
+pub shared_owned : (name : List ℕ) (jobs : List Job) (l : List Share) → shared_jobs (owned name jobs l) ≡ jobs ++ shared_jobs l
+shared_owned name jobs [] = refl
+shared_owned name jobs (share ∷ l) =
+    by_test (is_some share.name) (ap (λ rest. jobs ++ (share.jobs ++ rest)) (shared_owned name [] l)) (shared_owned name (jobs ++ share.jobs) l ∙ append_assoc jobs share.jobs (shared_jobs l))
+  where
+    by_test : (b : Bool) → jobs ++ (share.jobs ++ shared_jobs (owned name [] l)) ≡ jobs ++ (share.jobs ++ shared_jobs l) → shared_jobs (owned name (jobs ++ share.jobs) l) ≡ jobs ++ (share.jobs ++ shared_jobs l)
+        → shared_jobs (cond b (record { name = Some name; jobs = jobs } ∷ share ∷ owned name [] l) (owned name (jobs ++ share.jobs) l)) ≡ jobs ++ (share.jobs ++ shared_jobs l)
+    by_test true h k = h
+    by_test false h k = k
 
 -- What is said to be asked for is asked for.
 abbrev Covers : (State → List Reply → List Share) → (State → Run) → Type 0
@@ -72,7 +78,7 @@ covered_then part run rest said rs e h =
 -- ---- runs that ask for nothing
 
 -- The run is at its end.
-abbrev IsEnd : Run → Type 0
+abbrev pub IsEnd : Run → Type 0
 IsEnd (Ends how st) = Unit {0}
 IsEnd (Asks jobs next) = ⊥
 
@@ -98,11 +104,11 @@ end_commits (Asks jobs next) refused rest h k = absurd h
 -- ---- tests
 
 -- What follows a test asks for nothing, and what is done at its end changes nothing of that.
-asked_ended : (change : How → State → State) (run : Run) (rs : List Reply) → jobs_asked (ended change run) rs ≡ jobs_asked run rs
+pub asked_ended : (change : How → State → State) (run : Run) (rs : List Reply) → jobs_asked (ended change run) rs ≡ jobs_asked run rs
 asked_ended change (Ends how st) rs = refl
 asked_ended change (Asks jobs next) rs = ap (λ l. jobs ++ l) (asked_ended change (next (take (length jobs) rs)) (drop (length jobs) rs))
 
-asked_until : (run : Run) (rest : State → Run) (rs : List Reply) → ((st : State) → IsEnd (rest st)) → jobs_asked (then_run run rest) rs ≡ jobs_asked run rs
+pub asked_until : (run : Run) (rest : State → Run) (rs : List Reply) → ((st : State) → IsEnd (rest st)) → jobs_asked (then_run run rest) rs ≡ jobs_asked run rs
 asked_until (Ends Goes_on st) rest rs h = asks_nothing (rest st) rs (h st)
 asked_until (Ends _ st) rest rs h = refl
 asked_until (Asks jobs next) rest rs h = ap (λ l. jobs ++ l) (asked_until (next (take (length jobs) rs)) rest (drop (length jobs) rs) h)
@@ -296,17 +302,17 @@ turns_covered (round ∷ more) go said h st rs =
 
 -- ---- all statements
 
-check_covered : (message : List Part) (name : List ℕ) (body : State → Run) (inner : List Share) (st : State) (rs : List Reply) → shared_jobs inner ≡ jobs_asked (body (checking (word_value message st.vars) st)) rs
-    → shared_jobs (check_shares name st inner) ≡ jobs_asked (checks message name body st) rs
+pub check_covered : (message : List Part) (name : List ℕ) (body : State → Run) (inner : List Share) (st : State) (rs : List Reply) → shared_jobs inner ≡ jobs_asked (body (checking (word_value message st.vars) st)) rs
+    → shared_jobs (made (value_of st.vars name) (owned name [] inner)) ≡ jobs_asked (checks message name body st) rs
 check_covered message name body inner st rs h = by_value (value_of st.vars name)
   where
     t : Test
     t = check message name body st
 
-    by_value : (o : Option (List ℕ)) → shared_jobs (made o (record { name = Some name; jobs = [] } ∷ owned name inner)) ≡ jobs_asked (test_by o t (checking t.message st)) rs
+    by_value : (o : Option (List ℕ)) → shared_jobs (made o (owned name [] inner)) ≡ jobs_asked (test_by o t (checking t.message st)) rs
     by_value None =
         let run = body (checking t.message st) in
-        shared_owned name inner ∙ h ∙ sym (asked_until (guarded name run) _ rs (λ now. tt) ∙ asked_ended (broken name) run rs)
+        shared_owned name [] inner ∙ h ∙ sym (asked_until (guarded name run) _ rs (λ now. tt) ∙ asked_ended (broken name) run rs)
     by_value (Some value) = refl
 
 either_covered : (b : Bool) (p q : List Share) (x y : Run) (rs : List Reply) → shared_jobs p ≡ jobs_asked x rs → shared_jobs q ≡ jobs_asked y rs → shared_jobs (cond b p q) ≡ jobs_asked (cond b x y) rs
@@ -325,7 +331,7 @@ mutual
       (turns_covered (rounds_of subject) (chosen cases) (case_shares cases) (λ scope now left. cases_covered cases scope now left) st rs)
       (λ now left. shares_are_jobs rest now left)
   shares_are_jobs (Check message name commands rest) st rs =
-      covered_then (check_shares name st (shares commands (checking (word_value message st.vars) st) rs)) (checks message name (meaning commands) st) (meaning rest) (shares rest) rs
+      covered_then (made (value_of st.vars name) (owned name [] (shares commands (checking (word_value message st.vars) st) rs))) (checks message name (meaning commands) st) (meaning rest) (shares rest) rs
       (check_covered message name (meaning commands) (shares commands (checking (word_value message st.vars) st) rs) st rs (shares_are_jobs commands (checking (word_value message st.vars) st) rs))
       (λ now left. shares_are_jobs rest now left)
 

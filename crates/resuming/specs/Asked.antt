@@ -1,28 +1,35 @@
 -- Which jobs a run asks for, and in which tests. All of this is own.
-use Rattle.std.specs.Prelude.{◌≡◌, ℕ, List, [], ◌∷◌, ◌++◌, true, false, Option, Some, None, is_some, option_to_list, unwrap_or, flat_map, length, take, drop, if◌then◌else◌}
+use Rattle.std.specs.Prelude.{◌≡◌, ℕ, List, [], ◌∷◌, ◌++◌, true, false, Option, Some, None, is_some, option_to_list, flat_map, length, take, drop, if◌then◌else◌}
 use Rattle.std.specs.List.{AllByRecursion}
 use Rattle.cachefile.specs.Text.{saved_value}
 use Rattle.jobs.specs.declared.job.Job.{Job}
 use Rattle.crew_trait.specs.declared.reply.Reply.{Reply}
 use Rattle.deftable.specs.Table.{value_of}
+use Rattle.shellword.specs.declared.part.Part.{Part}
 use Rattle.shellword.specs.Value.{word_value}
+use Rattle.syntax.specs.declared.program.Program.{Program}
+use Rattle.syntax.specs.declared.program.Try.{Try}
 use Rattle.syntax.specs.declared.statement.Declares.{Declares}
 use Rattle.syntax.specs.declared.statement.Effect.{Effect}
 use Rattle.syntax.specs.declared.statement.Effect.TheVariants as effects
+use Rattle.syntax.specs.declared.statement.Question.{Question}
+use Rattle.syntax.specs.declared.statement.Question.TheVariants.{Tries}
 use Rattle.syntax.specs.declared.tree.Subject.{Subject}
 use Rattle.syntax.specs.declared.tree.Subject.TheVariants.{Nothing, Word, Asked}
+use Rattle.syntax.specs.Commands.{HasCommands}
 use Rattle.syntax.specs.Resumable.{Among, IsResumable}
 use Rattle.syntax.specs.Script.{Script, Done, Then, Choice, Check, Cases, No_case, Case}
 use Rattle.syntax.specs.TestNames.{entry_name}
 use Rattle.syntax.specs.Uses.{Uses, uses_of, uses_asked}
 use Rattle.meaning.specs.State.{State, Scope, no_choice, about, answered, Goes_on, Completed, Stopped, Cut, Run, Ends, Asks, as_is}
-use Rattle.meaning.specs.Tests.{checking}
-use Rattle.meaning.specs.Batches.{Batch, asking}
+use Rattle.meaning.specs.Tests.{checking, tested}
+use Rattle.meaning.specs.Rows.{Kind, name_of, row_of}
+use Rattle.meaning.specs.Batches.{Batch, job_for, asking}
 use Rattle.meaning.specs.Meaning.{effect, asked, begun, rounds_of, in_turn, is_taken, meaning, chosen}
 use Rattle.meaning.specs.Play.{play, all_jobs}
 use Rattle.laws.specs.Questions.{yes_or_no}
 use Rattle.resuming.specs.Poured.{Poured}
-use Rattle.resuming.specs.Joint.{checks}
+use Rattle.resuming.specs.Joint.{test_in, checks}
 
 -- A part of what a run asks for: some of its jobs, and the name of the test that asks for them, if there is one.
 pub record Share : Type 0 where
@@ -91,14 +98,12 @@ turn_shares [] go inside st replies = []
 turn_shares (round ∷ more) go inside st replies =
     subject_shares round st replies inside ++ shares_after (begun as_is round st go) replies (turn_shares more go inside)
 
--- A program that is tried by commands of AC_CACHE_CHECK belongs to the test of this name.
-abbrev pub owned : List ℕ → List Share → List Share
-owned name [] = []
-owned name (share ∷ more) = record { name = Some (unwrap_or share.name name); jobs = share.jobs } ∷ owned name more
-
--- AC_CACHE_CHECK, with the shares of its commands.
-abbrev pub check_shares : List ℕ → State → List Share → List Share
-check_shares name st inner = made (value_of st.vars name) (record { name = Some name; jobs = [] } ∷ owned name inner)
+-- What commands of AC_CACHE_CHECK ask for outside of tests is asked for in its test, of this name. These of its jobs come
+-- before. (Commands that the parser gives have no tests among them.)
+abbrev pub owned : List ℕ → List Job → List Share → List Share
+owned name jobs [] = record { name = Some name; jobs = jobs } ∷ []
+owned name jobs (share ∷ more) =
+    if is_some share.name then record { name = Some name; jobs = jobs } ∷ share ∷ owned name [] more else owned name (jobs ++ share.jobs) more
 
 unfoldable mutual
   -- What statements ask for under replies, in order.
@@ -109,7 +114,7 @@ unfoldable mutual
       turn_shares (rounds_of subject) (chosen cases) (case_shares cases) st replies
       ++ shares_after (in_turn (rounds_of subject) (chosen cases) st) replies (shares rest)
   shares (Check message name commands rest) st replies =
-      check_shares name st (shares commands (checking (word_value message st.vars) st) replies)
+      made (value_of st.vars name) (owned name [] (shares commands (checking (word_value message st.vars) st) replies))
       ++ shares_after (checks message name (meaning commands) st) replies (shares rest)
 
   -- The first case that is taken, if any.
@@ -132,6 +137,24 @@ shared_jobs (share ∷ more) = share.jobs ++ shared_jobs more
 -- Each job that a run asks for is in one share, and the shares have no other jobs.
 abbrev pub SharesAreJobs : Type 0
 SharesAreJobs = (script : Script) (st : State) (replies : List Reply) → shared_jobs (shares script st replies) ≡ jobs_asked (meaning script st) replies
+
+-- A share has the jobs that the meaning's own test of its name asks for: that of a statement, of a question, of an entry, or
+-- AC_CACHE_CHECK. One without a name has those of a program that is tried.
+pub data HasItsJobs : Share → Type 0 where
+  of_statement : (declares : Declares) (e : Effect) (st : State) (replies : List Reply) (name : List ℕ) → (uses_of declares e).tests ≡ name ∷ []
+      → HasItsJobs (record { name = Some name; jobs = jobs_asked (effect e st) replies })
+  of_question : (q : Question) (kind : Kind) (st : State) (replies : List Reply) → test_in q ≡ Some kind
+      → HasItsJobs (record { name = Some (name_of kind); jobs = jobs_asked (tested (row_of kind st) st) replies })
+  of_entry : (batch : Batch) (place : ℕ) (earlier : List (List ℕ)) (entry : List ℕ) (st : State) (job : Job) → job_for batch place earlier entry st ≡ Some job
+      → HasItsJobs (record { name = Some (entry_name batch.listed entry); jobs = job ∷ [] })
+  of_check : (message : List Part) (name : List ℕ) (commands : Script) (st : State) (replies : List Reply)
+      → HasItsJobs (record { name = Some name; jobs = jobs_asked (checks message name (meaning commands) st) replies })
+  of_try : (kind : Try) (program : Program) (st : State) (replies : List Reply)
+      → HasItsJobs (record { name = None; jobs = jobs_asked (asked as_is (Tries kind program) st yes_or_no) replies })
+
+-- So has each, if the source has the form that the parser gives it.
+abbrev pub SharesHaveTheirJobs : Type 0
+SharesHaveTheirJobs = (script : Script) (st : State) (replies : List Reply) → HasCommands script → AllByRecursion HasItsJobs (shares script st replies)
 
 -- A share is of a test.
 abbrev pub IsOfTest : Share → Type 0

@@ -12,7 +12,7 @@
 //! child answers 0, asks for one child, and ends as one run would under the first answer and then 0.
 #![tactic(auto)]
 
-ghost use Rattle.resuming.specs.Asked.{AsksNoSaved, SharesAreJobs, SharesAreTests};
+ghost use Rattle.resuming.specs.Asked.{AsksNoSaved, SharesAreJobs, SharesHaveTheirJobs, SharesAreTests};
 ghost use Rattle.resuming.specs.Law.{Resumes};
 ghost use Rattle.resuming.specs.Opening.{CachePours};
 ghost use Rattle.resuming.specs.Plays.{WholeRunsResume};
@@ -41,9 +41,10 @@ pub fn cache_pours()
 /// What a run asks for is divided into shares, in order: each is of a test, and has its name, or of a program that is tried
 /// outside AC_CACHE_CHECK. Each job is in one share, and a share has no job that the run doesn't ask for. In a source that can
 /// be resumed each share is of a test.
-#[tactic(auto, using(crate::proofs::Shares::shares_are_jobs, crate::proofs::Unasked::shares_are_tests))]
+#[tactic(auto, using(crate::proofs::Shares::shares_are_jobs, crate::proofs::TheirJobs::shares_have_their_jobs, crate::proofs::OfTests::shares_are_tests))]
 pub fn tests_ask()
     ensures jobs { SharesAreJobs }
+    ensures theirs { SharesHaveTheirJobs }
     ensures tests { SharesAreTests }
 {}
 
