@@ -1,5 +1,5 @@
 -- The jobs of the shares of a run are those that it asks for.
-use Rattle.std.proofs.Common.{◌≡◌, ℕ, List, [], ◌∷◌, ◌++◌, length, take, drop, Bool, true, false, cond, Option, Some, None, refl, sym, ap, ◌∙◌, subst, append_assoc}
+use Rattle.std.proofs.Common.{◌≡◌, ℕ, ◌+◌, List, [], ◌∷◌, ◌++◌, length, take, drop, Bool, true, false, cond, Option, Some, None, refl, sym, ap, ◌∙◌, subst, append_assoc}
 use Rattle.std.specs.Prelude.{◌||◌, not, is_some}
 use Rattle.std.proofs.lemmas.List.{append-nil}
 use Rattle.jobs.specs.declared.job.Job.{Job}
@@ -32,6 +32,7 @@ use Rattle.meaning.specs.Asking.{success, only_reply, heard, child, compiled}
 use Rattle.meaning.specs.Tests.{Row, Test, checking, cached_test, test_by, guarded, broken, tested, tested_by, may_begin, with_result}
 use Rattle.meaning.specs.Rows.{Kind, Program, Library, Libraries, Single, kind_for, is_found, name_of, value_or_empty, value_if, row_of}
 use Rattle.meaning.specs.Batches.{Batch, jobs_in, asking, asks_all, yes_or_no as yes_or_no_text, with_body, replied, replies_after, commits, committed, batched}
+use Rattle.meaning.specs.Play.{first_number, refused_after, last_words}
 use Rattle.meaning.specs.Tries.{first_probe, after_first, text_of}
 use Rattle.meaning.specs.Meaning.{has_value, check_prog, program_test, looks_all, effect, value_name, given, found_by, asked, begun, rounds_of, in_turn, is_taken, check, meaning, chosen}
 use Rattle.laws.specs.Ends.{AtEnds}
@@ -41,7 +42,7 @@ use Rattle.laws.proofs.CachedTests.{set_row}
 use Rattle.laws.proofs.TestDeeds.{IsOpen, tested_open}
 use Rattle.laws.proofs.Values.{set_write}
 use Rattle.resuming.specs.Joint.{checks}
-use Rattle.resuming.specs.Asked.{Share, jobs_asked, made, use_shares, entry_shares, effect_shares, shares_after, shares_answered, subject_shares, turn_shares, owned, shares, case_shares, shared_jobs, SharesAreJobs}
+use Rattle.resuming.specs.Asked.{Share, jobs_asked, made, use_shares, entry_shares, effect_shares, shares_after, shares_answered, subject_shares, turn_shares, owned, shares, case_shares, shared_jobs, SharesAreJobs, SharesArePlayed}
 
 shared_both : (a b : List Share) → shared_jobs (a ++ b) ≡ shared_jobs a ++ shared_jobs b
 shared_both [] b = refl
@@ -339,3 +340,14 @@ mutual
   cases_covered No_case scope st rs = refl
   cases_covered (Case when body more) scope st rs =
       either_covered (is_taken when scope st.vars) (shares body st rs) (case_shares more scope st rs) (meaning body st) (chosen more scope st) rs (shares_are_jobs body st rs) (cases_covered more scope st rs)
+
+-- The last words of a run ask for nothing.
+asked_last : (run : Run) (before : ℕ) (refused : Option ℕ) (rs : List Reply) → jobs_asked (last_words before refused run) rs ≡ jobs_asked run rs
+asked_last (Ends Cut st) before refused rs = refl
+asked_last (Ends _ st) before refused rs = refl
+asked_last (Asks jobs next) before refused rs =
+    let t = take (length jobs) rs in
+    ap (λ l. jobs ++ l) (asked_last (next t) (before + length jobs) (first_number refused (refused_after before t)) (drop (length jobs) rs))
+
+pub shares_are_played : SharesArePlayed
+shares_are_played script st rs = shares_are_jobs script st rs ∙ sym (asked_last (meaning script st) 0 None rs)

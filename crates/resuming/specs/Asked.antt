@@ -28,6 +28,7 @@ use Rattle.meaning.specs.Batches.{Batch, job_for, asking}
 use Rattle.meaning.specs.Meaning.{effect, asked, begun, rounds_of, in_turn, is_taken, meaning, chosen}
 use Rattle.meaning.specs.Play.{play, all_jobs}
 use Rattle.laws.specs.Questions.{yes_or_no}
+use Rattle.laws.specs.Refusals.{played}
 use Rattle.resuming.specs.Poured.{Poured}
 use Rattle.resuming.specs.Joint.{test_in, checks}
 
@@ -98,8 +99,8 @@ turn_shares [] go inside st replies = []
 turn_shares (round ∷ more) go inside st replies =
     subject_shares round st replies inside ++ shares_after (begun as_is round st go) replies (turn_shares more go inside)
 
--- What commands of AC_CACHE_CHECK ask for outside of tests is asked for in its test, of this name. These of its jobs come
--- before. (Commands that the parser gives have no tests among them.)
+-- AC_CACHE_CHECK of this name, with the shares of its commands: a program that they try belongs to it. It has asked for these
+-- jobs before. (Commands that the parser gives hold no tests, so it is one share.)
 abbrev pub owned : List ℕ → List Job → List Share → List Share
 owned name jobs [] = record { name = Some name; jobs = jobs } ∷ []
 owned name jobs (share ∷ more) =
@@ -137,6 +138,10 @@ shared_jobs (share ∷ more) = share.jobs ++ shared_jobs more
 -- Each job that a run asks for is in one share, and the shares have no other jobs.
 abbrev pub SharesAreJobs : Type 0
 SharesAreJobs = (script : Script) (st : State) (replies : List Reply) → shared_jobs (shares script st replies) ≡ jobs_asked (meaning script st) replies
+
+-- So it is if the run is played as a whole.
+abbrev pub SharesArePlayed : Type 0
+SharesArePlayed = (script : Script) (st : State) (replies : List Reply) → shared_jobs (shares script st replies) ≡ all_jobs (played script st replies).groups
 
 -- A share has the jobs that the meaning's own test of its name asks for: that of a statement, of a question, of an entry, or
 -- AC_CACHE_CHECK. One without a name has those of a program that is tried.

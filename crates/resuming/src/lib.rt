@@ -12,7 +12,7 @@
 //! child answers 0, asks for one child, and ends as one run would under the first answer and then 0.
 #![tactic(auto)]
 
-ghost use Rattle.resuming.specs.Asked.{AsksNoSaved, SharesAreJobs, SharesHaveTheirJobs, SharesAreTests};
+ghost use Rattle.resuming.specs.Asked.{AsksNoSaved, SharesAreJobs, SharesArePlayed, SharesHaveTheirJobs, SharesAreTests};
 ghost use Rattle.resuming.specs.Law.{Resumes};
 ghost use Rattle.resuming.specs.Opening.{CachePours};
 ghost use Rattle.resuming.specs.Plays.{WholeRunsResume};
@@ -38,12 +38,14 @@ pub fn cache_pours()
     ensures law { CachePours }
 {}
 
-/// What a run asks for is divided into shares, in order: each is of a test, and has its name, or of a program that is tried
-/// outside AC_CACHE_CHECK. Each job is in one share, and a share has no job that the run doesn't ask for. In a source that can
-/// be resumed each share is of a test.
-#[tactic(auto, using(crate::proofs::Shares::shares_are_jobs, crate::proofs::TheirJobs::shares_have_their_jobs, crate::proofs::OfTests::shares_are_tests))]
+/// Each job that a run asks for belongs to a test that the run makes, or to a program that is tried outside AC_CACHE_CHECK: these
+/// jobs, in their order, are those of the run. The jobs of a test are those that its own statement, question or entry asks
+/// for, whose name it has. If the name is set, the test is not made. In a source that can be resumed no program is tried
+/// outside AC_CACHE_CHECK, so each job belongs to a test.
+#[tactic(auto, using(crate::proofs::Shares::shares_are_jobs, crate::proofs::Shares::shares_are_played, crate::proofs::TheirJobs::shares_have_their_jobs, crate::proofs::OfTests::shares_are_tests))]
 pub fn tests_ask()
     ensures jobs { SharesAreJobs }
+    ensures played { SharesArePlayed }
     ensures theirs { SharesHaveTheirJobs }
     ensures tests { SharesAreTests }
 {}
