@@ -8,7 +8,8 @@
 Whoever adds a message changes the files that name the message that was added last. So the list for
 a kind of change has each file that uses an identifier of the nearest one of that kind, outside
 imports and comments, or has its name in a text. Documents and examples are listed by hand, since
-many of them only use what there is.
+many of them only use what there is. With those of a macro stands what `lint`, `why` and `port` say of
+it, since a macro is read and run without it.
 """
 import functools
 import pathlib
@@ -21,6 +22,8 @@ WIDTH = 116
 CASES = ["crates/case_tests/data"]
 PAGE = ["docs/language.md", "CHANGELOG.md"]
 MACRO = [*CASES, *PAGE, "docs/guide.md", "README.md", "crates/macrotable/macros.txt"]
+# The crates in which `lint`, `why` and `port` say something of a macro.
+SAYING = ("sourcewords", "sourcewarnings", "templatewarnings", "whycommand", "porting")
 # In rows of tests a newline is `^J`.
 LINES = "J?(?:start refused|failed program was)"
 CODES = ["docs/running.md", "share/acrun.1"]
@@ -30,14 +33,17 @@ LINT = ["examples/lint/sources.txt", "examples/lint/expected.txt"]
 # search (all of them if there is none), and the documents, data and examples.
 KINDS = [
     ("A message", "AC_MSG_NOTICE", r"Notice", "AC_MSG_NOTICE", (), MACRO),
-    ("A plain macro", "AC_DEFINE_UNQUOTED", r"DefineUnquoted", "AC_DEFINE_UNQUOTED", (), MACRO),
-    ("A program test", "AC_PATH_PROG", r"PathProg", "AC_PATH_PROG", (), [*MACRO, "docs/running.md"]),
+    ("A plain macro", "AC_DEFINE_UNQUOTED", r"DefineUnquoted|define_unquoted", "AC_DEFINE_UNQUOTED",
+     (), MACRO),
+    ("A program test", "AC_PATH_PROG", r"PathProg|path_prog", "AC_PATH_PROG", (),
+     [*MACRO, "docs/running.md"]),
     ("A cached test", "AC_CHECK_LIB", r"\w*[Ll]ibrary\w*", "AC_CHECK_LIB", (),
      [*MACRO, "docs/formats.md"]),
     ("An option", "`--no-create`", r"NoCreate|no_create", "--no-create", (),
      [*CASES, "docs/running.md", "share/completions", "share/configure"]),
     ("An output kind", "the headers",
-     r"headers|ConfigHeaders|\w*fill_header\w*|Kind::Header|made_header\w*", "AC_CONFIG_HEADERS", (),
+     r"headers|OutputKind|ConfigOutputs|\w*fill_header\w*|Kind::Header|made_header\w*",
+     "AC_CONFIG_HEADERS", (),
      [*CASES, *PAGE, "docs/formats.md", "docs/running.md"]),
     ("A fault of a source", "`CacheBody`", r"CacheBody", "", (),
      [*CASES, "docs/formats.md", *LINT, *CODES]),
@@ -132,10 +138,13 @@ def lists():
     paragraphs = []
     for change, nearest, words, name, crates, others in KINDS:
         files = uses(words, name, crates)
+        is_macro = others[:len(MACRO)] == MACRO
+        said = [file for file in files if is_macro and file.parts[1] in SAYING]
+        files = [file for file in files if file not in said]
         count = f"{counted(len(files), 'file')} in {counted(len({file.parts[1] for file in files}), 'crate')}"
-        named = ", ".join(f"`{it}`" for it in others)
+        besides = ", ".join([*(f"`{it}`" for it in others), *grouped(said)])
         paragraphs.append(filled(f"**{change}**, as {nearest}, {count}: "
-                                 + ", ".join(grouped(files)) + f". Besides: {named}."))
+                                 + ", ".join(grouped(files)) + f". Besides: {besides}."))
         for it in others:
             assert pathlib.Path(it).exists(), it
     return "\n\n".join(paragraphs)

@@ -1,2 +1,1 @@
 pub mod LimitLemmas
-pub mod CheckLemmas

@@ -15,48 +15,41 @@ use Rattle.acstatement.specs.declared.fault.ParseFault.TheVariants.{BadName}
 use Rattle.outputlist.specs.declared.output.Output.{Output}
 use Rattle.syntax.specs.declared.feature.OptionKind.{OptionKind}
 use Rattle.syntax.specs.declared.feature.OptionKind.TheVariants.{Feature, Package}
-use Rattle.acargs.specs.Arguments.{is_given, line, name, text, title}
+use Rattle.acargs.specs.Arguments.{name, text, title}
 use Rattle.acstatement.specs.Texts.{arg_at}
 use Rattle.acargs.specs.Feature.{feature_variable}
 use Rattle.acargs.specs.Help.{help}
-use Rattle.acargs.specs.Numbers.{language, status, version}
 use Rattle.outputlist.specs.Output.{has_output}
 use Rattle.outputlist.specs.Path.{is_path}
 use Rattle.outputlist.specs.Output.{IsOutput, AreOutputs}
 use Rattle.outputlist.proofs.Adding.{AreOutputs-none, AreOutputs-more_files, AreOutputs-more_headers}
 use Rattle.acargs.specs.Path.{output_in}
 use Rattle.acargs.specs.Programs.{program, programs}
-use Rattle.acstatement.specs.Reading.{◌>>=◌, wants}
-use Rattle.acargs.specs.Shell.{word, here_text}
-use Rattle.syntax.specs.Texts.{is_empty}
+use Rattle.acstatement.specs.Reading.{wants}
+use Rattle.acargs.specs.Shell.{here_text}
 use Rattle.acargs.specs.Outputs.{outputs, with_fields, one_more, wanted}
 use Rattle.acstatement.proofs.Binds.{bind_ok, ok_is, wants_ok}
 use Rattle.shellword.specs.declared.part.Part.{Part}
+use Rattle.acmacros.specs.declared.macros.DeclaringMacro.{DeclaringMacro}
+use Rattle.acmacros.specs.declared.macros.DeclaringMacro.TheVariants as macro
 use Rattle.acmacros.specs.declared.macros.PlainMacro.{PlainMacro}
-use Rattle.acmacros.specs.declared.macros.PlainMacro.TheVariants as macro
+use Rattle.acmacros.specs.declared.macros.PlainMacro.TheVariants as plain
 use Rattle.acmacros.specs.declared.macros.QuestionMacro.{QuestionMacro}
 use Rattle.acmacros.specs.declared.macros.QuestionMacro.TheVariants as questions
 use Rattle.syntax.specs.declared.help.Help.{Help}
-use Rattle.syntax.specs.declared.program.Try.{Try}
 use Rattle.syntax.specs.declared.declarations.Declarations as declarations
-use Rattle.syntax.specs.declared.statement.MessageKind.{MessageKind}
-use Rattle.syntax.specs.declared.statement.Plain.{Plain}
-use Rattle.syntax.specs.declared.statement.Plain.TheVariants.{Subst, SubstValue, Define, DefineUnquoted, CheckProgs, PathProg}
+use Rattle.syntax.specs.declared.statement.Declares.{Declares}
+use Rattle.syntax.specs.declared.statement.Effect.{Effect}
+use Rattle.syntax.specs.declared.statement.Effect.TheVariants.{Search, Searches}
+use Rattle.syntax.specs.declared.statement.OutputKind.{OutputKind}
+use Rattle.syntax.specs.declared.statement.OutputKind.TheVariants.{File, Header}
+use Rattle.syntax.specs.declared.statement.ProgramValue.TheVariants.{FullName}
 use Rattle.syntax.specs.declared.statement.Question.{Question}
-use Rattle.syntax.specs.declared.statement.Question.TheVariants.{Given}
 use Rattle.syntax.specs.Limits.{IsWithinLimits}
 use Rattle.acmacros.specs.Room.{has_room}
-use Rattle.acmacros.specs.Rows.{plain_of, init, tarname, prereq, lang, config_files, config_headers, subst as subst_row, subst_of, defined, define, unquoted_of, unquoted, define_unquoted, msg_error, message_of, arg_var, question_of, given, options_of}
-use Rattle.syntax.specs.Lists.{start, after, after_question, with_tool}
+use Rattle.acmacros.specs.Rows.{plain_of, act_of, declaring_of, undeclared, init, tarname, outputs_of, config_outputs, subst as subst_row, assigned, arg_var, question_of, given, options_of}
+use Rattle.syntax.specs.Lists.{start, after, with_outputs, with_option, with_tool}
 use Rattle.acmacros.specs.Searches.{growth, output_variable, optional_text, searched, compilers, check_prog, check_progs, path_prog, prog_cc}
-use Rattle.acmacros.specs.Tries.{tried_program, tries}
-use Rattle.acmacros.specs.Checks.{checks, checks_each}
-use Rattle.acmacros.specs.Libraries.{check_lib, search_libs}
-use Rattle.acargs.specs.Libraries.{library, libraries}
-use Rattle.acentries.specs.Readers.{entry_of, entries_of}
-use Rattle.syntax.specs.declared.listed.Listed.TheVariants.{Function}
-use Rattle.syntax.specs.declared.listed.Sought.{Sought}
-use Rattle.syntax.specs.declared.listed.Sought.TheVariants.{Entry}
 
 -- ---- lists of names
 
@@ -177,10 +170,16 @@ IsShort own outs = length own + length outs ≤ 1024
 short_kept : (own other : List Output) → KeptBy own other (IsShort own)
 short_kept own other outs o is a b c room h = rw length-append (omega (arith, room))
 
--- ---- statements
+-- ---- what macros declare
 
-abbrev Keeps : declarations.Declarations → Plain → Type 0
-Keeps c s = IsWithinLimits (after c s)
+-- What is read declares something that leaves the lists within their limits.
+abbrev Keeps : {A : Type 0} → declarations.Declarations → Declares × A → Type 0
+Keeps c s = IsWithinLimits (after c s.0)
+
+-- A macro that declares nothing adds nothing.
+undeclared_keeps : {A : Type 0} (c : declarations.Declarations) (r : Result A ParseFault) (s : Declares × A) → undeclared r ≡ Ok s → IsWithinLimits c → Keeps c s
+unfolding undeclared after
+undeclared_keeps c r s e h = let x = bind_ok r _ _ e in subst (Keeps c) (ok_is _ s x.2) h
 
 -- One output variable is appended.
 variable_fits : (c : declarations.Declarations) (n : List ℕ) → has_room c.substituted n ≡ true → IsWithinLimits c → IsWithinLimits (record c { substituted = with_name c.substituted n })
@@ -195,7 +194,7 @@ variable_fits c n room h = record {
   outputs = h.outputs;
 }
 
-init_keeps : (c : declarations.Declarations) (args : List Span) (s : Plain) → init args ≡ Ok s → IsWithinLimits c → Keeps c s
+init_keeps : (c : declarations.Declarations) (args : List Span) (s : Declares × Effect) → init args ≡ Ok s → IsWithinLimits c → Keeps c s
 unfolding init after
 init_keeps c args s e h =
     let a = bind_ok (title (arg_at args 0)) _ _ e in
@@ -206,33 +205,23 @@ init_keeps c args s e h =
     subst (Keeps c) (ok_is _ s g.2)
     (record { substituted = h.substituted; distinct = h.distinct; precious = h.precious; features = h.features; packages = h.packages; files = h.files; headers = h.headers; outputs = h.outputs })
 
-prereq_keeps : (c : declarations.Declarations) (args : List Span) (s : Plain) → prereq args ≡ Ok s → IsWithinLimits c → Keeps c s
-unfolding prereq after
-prereq_keeps c args s e h = let a = bind_ok (version (arg_at args 0)) _ _ e in subst (Keeps c) (ok_is _ s a.2) h
+outputs_within : (c : declarations.Declarations) (kind : OutputKind) (arg : Span) (o : List Output) → outputs_of c kind arg ≡ Ok o → IsWithinLimits c → IsWithinLimits (with_outputs c kind o)
+outputs_within c File arg o e h =
+    let fit : IsShort c.files o = outputs_keep (IsShort c.files) c.files c.headers o arg (short_kept c.files c.headers) e (omega (arith, h.files)) in
+    let are = outputs_keep (λ outs. AreOutputs (c.files ++ outs) c.headers) c.files c.headers o arg
+    (λ outs o is own other new room k. AreOutputs-more_files c.files outs c.headers o is own new other k) e (AreOutputs-none c.files c.headers h.outputs).0 in
+    record { substituted = h.substituted; distinct = h.distinct; precious = h.precious; features = h.features; packages = h.packages; files = rw (length-append c.files o) fit; headers = h.headers; outputs = are }
+outputs_within c Header arg o e h =
+    let fit : IsShort c.headers o = outputs_keep (IsShort c.headers) c.headers c.files o arg (short_kept c.headers c.files) e (omega (arith, h.headers)) in
+    let are = outputs_keep (λ outs. AreOutputs c.files (c.headers ++ outs)) c.headers c.files o arg
+    (λ outs o is own other new room k. AreOutputs-more_headers c.files c.headers outs o is other own new k) e (AreOutputs-none c.files c.headers h.outputs).1 in
+    record { substituted = h.substituted; distinct = h.distinct; precious = h.precious; features = h.features; packages = h.packages; files = h.files; headers = rw (length-append c.headers o) fit; outputs = are }
 
-lang_keeps : (c : declarations.Declarations) (args : List Span) (s : Plain) → lang args ≡ Ok s → IsWithinLimits c → Keeps c s
-unfolding lang after
-lang_keeps c args s e h = let a = bind_ok (language (arg_at args 0)) _ _ e in subst (Keeps c) (ok_is _ s a.2) h
-
-files_keep : (c : declarations.Declarations) (args : List Span) (s : Plain) → config_files c args ≡ Ok s → IsWithinLimits c → Keeps c s
-unfolding config_files after
-files_keep c args s e h =
-    let a = bind_ok (outputs c.files c.headers (arg_at args 0)) _ _ e in
-    let fit : IsShort c.files a.0 = outputs_keep (IsShort c.files) c.files c.headers a.0 (arg_at args 0) (short_kept c.files c.headers) a.1 (omega (arith, h.files)) in
-    let are = outputs_keep (λ outs. AreOutputs (c.files ++ outs) c.headers) c.files c.headers a.0 (arg_at args 0)
-    (λ outs o is own other new room k. AreOutputs-more_files c.files outs c.headers o is own new other k) a.1 (AreOutputs-none c.files c.headers h.outputs).0 in
-    subst (Keeps c) (ok_is _ s a.2)
-    (record { substituted = h.substituted; distinct = h.distinct; precious = h.precious; features = h.features; packages = h.packages; files = rw (length-append c.files a.0) fit; headers = h.headers; outputs = are })
-
-headers_keep : (c : declarations.Declarations) (args : List Span) (s : Plain) → config_headers c args ≡ Ok s → IsWithinLimits c → Keeps c s
-unfolding config_headers after
-headers_keep c args s e h =
-    let a = bind_ok (outputs c.headers c.files (arg_at args 0)) _ _ e in
-    let fit : IsShort c.headers a.0 = outputs_keep (IsShort c.headers) c.headers c.files a.0 (arg_at args 0) (short_kept c.headers c.files) a.1 (omega (arith, h.headers)) in
-    let are = outputs_keep (λ outs. AreOutputs c.files (c.headers ++ outs)) c.headers c.files a.0 (arg_at args 0)
-    (λ outs o is own other new room k. AreOutputs-more_headers c.files c.headers outs o is other own new k) a.1 (AreOutputs-none c.files c.headers h.outputs).1 in
-    subst (Keeps c) (ok_is _ s a.2)
-    (record { substituted = h.substituted; distinct = h.distinct; precious = h.precious; features = h.features; packages = h.packages; files = h.files; headers = rw (length-append c.headers a.0) fit; outputs = are })
+config_outputs_keep : (c : declarations.Declarations) (kind : OutputKind) (args : List Span) (s : Declares × Effect) → config_outputs c kind args ≡ Ok s → IsWithinLimits c → Keeps c s
+unfolding config_outputs after
+config_outputs_keep c kind args s e h =
+    let o = bind_ok (outputs_of c kind (arg_at args 0)) _ _ e in
+    subst (Keeps c) (ok_is _ s o.2) (outputs_within c kind (arg_at args 0) o.0 o.1 h)
 
 -- The output variable that a call names.
 variable_room : (c : declarations.Declarations) (arg : Span) (v : List ℕ) → output_variable c arg ≡ Ok v → has_room c.substituted v ≡ true
@@ -242,59 +231,14 @@ variable_room c arg v e =
     let w = bind_ok _ _ _ n.2 in
     subst (λ (v : List ℕ). has_room c.substituted v ≡ true) (ok_is _ v w.2) (wants_ok _ _ _ w.1)
 
-subst_of_keeps : (c : declarations.Declarations) (n : List ℕ) (arg : Span) (s : Plain) → has_room c.substituted n ≡ true → subst_of n arg ≡ Ok s → IsWithinLimits c → Keeps c s
-unfolding subst_of after
-subst_of_keeps c n arg s room e h =
-    elim (is_given arg) as (λ b. cond b (word arg >>= λ w. Ok (SubstValue n w)) (Ok (Subst n)) ≡ Ok s → Keeps c s) [
-      | true ↦ λ e. let w = bind_ok (word arg) _ _ e in subst (Keeps c) (ok_is _ s w.2) (variable_fits c n room h)
-      | false ↦ λ e. subst (Keeps c) (ok_is _ s e) (variable_fits c n room h)
-    ] e
-
-subst_keeps : (c : declarations.Declarations) (args : List Span) (s : Plain) → subst_row c args ≡ Ok s → IsWithinLimits c → Keeps c s
-unfolding subst_row
+subst_keeps : (c : declarations.Declarations) (args : List Span) (s : Declares × Effect) → subst_row c args ≡ Ok s → IsWithinLimits c → Keeps c s
+unfolding subst_row after
 subst_keeps c args s e h =
     let n = bind_ok (output_variable c (arg_at args 0)) _ _ e in
-    subst_of_keeps c n.0 (arg_at args 1) s (variable_room c (arg_at args 0) n.0 n.1) n.2 h
+    let a = bind_ok (assigned n.0 (arg_at args 1)) _ _ n.2 in
+    subst (Keeps c) (ok_is _ s a.2) (variable_fits c n.0 (variable_room c (arg_at args 0) n.0 n.1) h)
 
-define_keeps : (c : declarations.Declarations) (args : List Span) (s : Plain) → define args ≡ Ok s → IsWithinLimits c → Keeps c s
-unfolding define after
-define_keeps c args s e h =
-    let n = bind_ok (name (arg_at args 0)) _ _ e in
-    let v = bind_ok (defined args) _ _ n.2 in
-    subst (Keeps c) (ok_is _ s v.2) h
-
-unquoted_of_keeps : (c : declarations.Declarations) (n t : List ℕ) (arg : Span) (s : Plain) → unquoted_of n t arg ≡ Ok s → IsWithinLimits c → Keeps c s
-unfolding unquoted_of after
-unquoted_of_keeps c n t arg s e h =
-    elim (is_empty t) as (λ b. cond b (Ok (Define n (codes "/**/"))) (here_text arg >>= λ h. Ok (DefineUnquoted n h)) ≡ Ok s → Keeps c s) [
-      | true ↦ λ e. subst (Keeps c) (ok_is _ s e) h
-      | false ↦ λ e. let w = bind_ok (here_text arg) _ _ e in subst (Keeps c) (ok_is _ s w.2) h
-    ] e
-
-unquoted_keeps : (c : declarations.Declarations) (n : List ℕ) (args : List Span) (s : Plain) → unquoted n args ≡ Ok s → IsWithinLimits c → Keeps c s
-unfolding unquoted after
-unquoted_keeps c n args s e h =
-    elim (nat_lt (length args) 2) as (λ b. cond b (Ok (Define n (codes "1"))) (line (arg_at args 1) >>= λ t. unquoted_of n t (arg_at args 1)) ≡ Ok s → Keeps c s) [
-      | true ↦ λ e. subst (Keeps c) (ok_is _ s e) h
-      | false ↦ λ e. let w = bind_ok (line (arg_at args 1)) _ _ e in unquoted_of_keeps c n w.0 (arg_at args 1) s w.2 h
-    ] e
-
-define_unquoted_keeps : (c : declarations.Declarations) (args : List Span) (s : Plain) → define_unquoted args ≡ Ok s → IsWithinLimits c → Keeps c s
-unfolding define_unquoted
-define_unquoted_keeps c args s e h = let n = bind_ok (name (arg_at args 0)) _ _ e in unquoted_keeps c n.0 args s n.2 h
-
-error_keeps : (c : declarations.Declarations) (args : List Span) (s : Plain) → msg_error args ≡ Ok s → IsWithinLimits c → Keeps c s
-unfolding msg_error after
-error_keeps c args s e h =
-    let n = bind_ok (here_text (arg_at args 0)) _ _ e in
-    let v = bind_ok (status (arg_at args 1)) _ _ n.2 in
-    subst (Keeps c) (ok_is _ s v.2) h
-
-message_keeps : (c : declarations.Declarations) (kind : MessageKind) (args : List Span) (s : Plain) → message_of kind args ≡ Ok s → IsWithinLimits c → Keeps c s
-unfolding message_of after
-message_keeps c kind args s e h = let n = bind_ok (here_text (arg_at args 0)) _ _ e in subst (Keeps c) (ok_is _ s n.2) h
-
-arg_var_keeps : (c : declarations.Declarations) (args : List Span) (s : Plain) → arg_var c args ≡ Ok s → IsWithinLimits c → Keeps c s
+arg_var_keeps : (c : declarations.Declarations) (args : List Span) (s : Declares × Effect) → arg_var c args ≡ Ok s → IsWithinLimits c → Keeps c s
 unfolding arg_var after
 arg_var_keeps c args s e h =
     let n = bind_ok (output_variable c (arg_at args 0)) _ _ e in
@@ -311,7 +255,7 @@ arg_var_keeps c args s e h =
       outputs = h.outputs;
     })
 
-check_prog_keeps : (c : declarations.Declarations) (args : List Span) (s : Plain) → check_prog c args ≡ Ok s → IsWithinLimits c → Keeps c s
+check_prog_keeps : (c : declarations.Declarations) (args : List Span) (s : Declares × Effect) → check_prog c args ≡ Ok s → IsWithinLimits c → Keeps c s
 unfolding check_prog after
 check_prog_keeps c args s e h =
     let v = bind_ok (output_variable c (arg_at args 0)) _ _ e in
@@ -320,27 +264,16 @@ check_prog_keeps c args s e h =
     let o = bind_ok (optional_text (arg_at args 3)) _ _ f.2 in
     subst (Keeps c) (ok_is _ s o.2) (variable_fits c v.0 (variable_room c (arg_at args 0) v.0 v.1) h)
 
-searched_keeps : {A : Type 0} (reader : Span → Result A ParseFault) (statement : List ℕ → A → Option (List Part) → Plain)
-    (c : declarations.Declarations) (args : List Span) (s : Plain)
-    → ((v : List ℕ) (sought : A) (other : Option (List Part)) → has_room c.substituted v ≡ true → Keeps c (statement v sought other))
-    → searched reader statement c args ≡ Ok s → Keeps c s
-searched_keeps reader statement c args s keeps e =
+searched_keeps : {A : Type 0} (reader : Span → Result A ParseFault) (effect : List ℕ → A → Option (List Part) → Effect)
+    (c : declarations.Declarations) (args : List Span) (s : Declares × Effect) → searched reader effect c args ≡ Ok s → IsWithinLimits c → Keeps c s
+unfolding after
+searched_keeps reader effect c args s e h =
     let v = bind_ok (output_variable c (arg_at args 0)) _ _ e in
     let p = bind_ok (reader (arg_at args 1)) _ _ v.2 in
     let o = bind_ok (optional_text (arg_at args 2)) _ _ p.2 in
-    subst (Keeps c) (ok_is _ s o.2) (keeps v.0 p.0 o.0 (variable_room c (arg_at args 0) v.0 v.1))
+    subst (Keeps c) (ok_is _ s o.2) (variable_fits c v.0 (variable_room c (arg_at args 0) v.0 v.1) h)
 
-check_progs_keeps : (c : declarations.Declarations) (args : List Span) (s : Plain) → check_progs c args ≡ Ok s → IsWithinLimits c → Keeps c s
-unfolding check_progs after
-check_progs_keeps c args s e h =
-    searched_keeps programs (λ v list other. CheckProgs v list other) c args s (λ v sought other room. variable_fits c v room h) e
-
-path_prog_keeps : (c : declarations.Declarations) (args : List Span) (s : Plain) → path_prog c args ≡ Ok s → IsWithinLimits c → Keeps c s
-unfolding path_prog after
-path_prog_keeps c args s e h =
-    searched_keeps program (λ v p other. PathProg v p other) c args s (λ v sought other room. variable_fits c v room h) e
-
-prog_cc_keeps : (c : declarations.Declarations) (at : ℕ) (args : List Span) (s : Plain) → prog_cc c at args ≡ Ok s → IsWithinLimits c → Keeps c s
+prog_cc_keeps : (c : declarations.Declarations) (at : ℕ) (args : List Span) (s : Declares × Effect) → prog_cc c at args ≡ Ok s → IsWithinLimits c → Keeps c s
 unfolding prog_cc after
 prog_cc_keeps c at args s e h =
     let w = bind_ok _ _ _ e in
@@ -361,78 +294,41 @@ prog_cc_keeps c at args s e h =
       outputs = h.outputs;
     }
 
-pub plain_keeps : (c : declarations.Declarations) (m : PlainMacro) (at : ℕ) (args : List Span) (s : Plain) → plain_of c m at args ≡ Ok s → IsWithinLimits c → Keeps c s
-unfolding plain_of after
-plain_keeps c macro.Init at args s e h = init_keeps c args s e h
-plain_keeps c macro.Prereq at args s e h = prereq_keeps c args s e h
-plain_keeps c macro.Ignored at args s e h = subst (Keeps c) (ok_is _ s e) h
-plain_keeps c macro.Lang at args s e h = lang_keeps c args s e h
-plain_keeps c macro.ConfigFiles at args s e h = files_keep c args s e h
-plain_keeps c macro.ConfigHeaders at args s e h = headers_keep c args s e h
-plain_keeps c macro.Subst at args s e h = subst_keeps c args s e h
-plain_keeps c macro.Define at args s e h = define_keeps c args s e h
-plain_keeps c macro.DefineUnquoted at args s e h = define_unquoted_keeps c args s e h
-plain_keeps c macro.MsgError at args s e h = error_keeps c args s e h
-plain_keeps c (macro.Message kind) at args s e h = message_keeps c kind args s e h
-plain_keeps c macro.ArgVar at args s e h = arg_var_keeps c args s e h
-plain_keeps c macro.ProgCc at args s e h = prog_cc_keeps c at args s e h
-plain_keeps c macro.CheckProg at args s e h = check_prog_keeps c args s e h
-plain_keeps c macro.CheckProgs at args s e h = check_progs_keeps c args s e h
-plain_keeps c macro.PathProg at args s e h = path_prog_keeps c args s e h
-plain_keeps c macro.Output at args s e h =
+declaring_keeps : (c : declarations.Declarations) (m : DeclaringMacro) (at : ℕ) (args : List Span) (s : Declares × Effect) → declaring_of c m at args ≡ Ok s → IsWithinLimits c → Keeps c s
+unfolding after check_progs path_prog
+declaring_keeps c macro.Init at args s e h = init_keeps c args s e h
+declaring_keeps c (macro.ConfigOutputs kind) at args s e h = config_outputs_keep c kind args s e h
+declaring_keeps c macro.Subst at args s e h = subst_keeps c args s e h
+declaring_keeps c macro.ArgVar at args s e h = arg_var_keeps c args s e h
+declaring_keeps c macro.ProgCc at args s e h = prog_cc_keeps c at args s e h
+declaring_keeps c macro.CheckProg at args s e h = check_prog_keeps c args s e h
+declaring_keeps c macro.CheckProgs at args s e h = searched_keeps programs (λ v list other. Searches v list other) c args s e h
+declaring_keeps c macro.PathProg at args s e h = searched_keeps program (λ v p other. Search v p FullName other) c args s e h
+declaring_keeps c macro.Output at args s e h =
     subst (Keeps c) (ok_is _ s e)
     (record { substituted = h.substituted; distinct = h.distinct; precious = h.precious; features = h.features; packages = h.packages; files = h.files; headers = h.headers; outputs = h.outputs })
 
+pub plain_keeps : (c : declarations.Declarations) (m : PlainMacro) (at : ℕ) (args : List Span) (s : Declares × Effect) → plain_of c m at args ≡ Ok s → IsWithinLimits c → Keeps c s
+plain_keeps c (plain.Acts m) at args s e h = undeclared_keeps c (act_of m args) s e h
+plain_keeps c (plain.Declares m) at args s e h = declaring_keeps c m at args s e h
+
 -- ---- questions
 
-abbrev KeepsAsked : declarations.Declarations → Question → Type 0
-KeepsAsked c q = IsWithinLimits (after_question c q)
-
-given_keeps : (c : declarations.Declarations) (kind : OptionKind) (args : List Span) (q : Question) → given c kind args ≡ Ok q → IsWithinLimits c → KeepsAsked c q
-unfolding given after_question
-given_keeps c kind args q e h =
+given_keeps : (c : declarations.Declarations) (kind : OptionKind) (args : List Span) (s : Declares × Question) → given c kind args ≡ Ok s → IsWithinLimits c → Keeps c s
+unfolding given after
+given_keeps c kind args s e h =
     let v = bind_ok (feature_variable kind (arg_at args 0)) _ _ e in
     let w = bind_ok _ _ _ v.2 in
     let p = bind_ok (help (arg_at args 1)) _ _ w.2 in
-    subst (KeepsAsked c) (ok_is _ q p.2) (by kind v.0 p.0 (wants_ok _ _ _ w.1))
+    subst (Keeps c) (ok_is _ s p.2) (by kind v.0 p.0 (wants_ok _ _ _ w.1))
   where
-    by : (kind : OptionKind) (v : List ℕ) (p : Help) → has_room (options_of c kind) v ≡ true → KeepsAsked c (Given kind v p)
+    by : (kind : OptionKind) (v : List ℕ) (p : Help) → has_room (options_of c kind) v ≡ true → IsWithinLimits (with_option c kind v p)
     by Feature v p room = record { substituted = h.substituted; distinct = h.distinct; precious = h.precious; features = room_for c.features v room h.features; packages = h.packages; files = h.files; headers = h.headers; outputs = h.outputs }
     by Package v p room = record { substituted = h.substituted; distinct = h.distinct; precious = h.precious; features = h.features; packages = room_for c.packages v room h.packages; files = h.files; headers = h.headers; outputs = h.outputs }
 
-tries_keep : (c : declarations.Declarations) (kind : Try) (args : List Span) (q : Question) → tries kind args ≡ Ok q → IsWithinLimits c → KeepsAsked c q
-unfolding tries after_question
-tries_keep c kind args q e h = let p = bind_ok (tried_program (arg_at args 0)) _ _ e in subst (KeepsAsked c) (ok_is _ q p.2) h
-
-checks_keep : (c : declarations.Declarations) (sought : Sought) (args : List Span) (q : Question) → checks sought args ≡ Ok q → IsWithinLimits c → KeepsAsked c q
-unfolding checks after_question
-checks_keep c sought args q e h = let p = bind_ok (entry_of sought (arg_at args 0)) _ _ e in subst (KeepsAsked c) (ok_is _ q p.2) h
-
-checks_each_keep : (c : declarations.Declarations) (sought : Sought) (args : List Span) (q : Question) → checks_each sought args ≡ Ok q → IsWithinLimits c → KeepsAsked c q
-unfolding checks_each after_question
-checks_each_keep c sought args q e h = let p = bind_ok (entries_of sought (arg_at args 0)) _ _ e in subst (KeepsAsked c) (ok_is _ q p.2) h
-
-check_lib_keeps : (c : declarations.Declarations) (args : List Span) (q : Question) → check_lib args ≡ Ok q → IsWithinLimits c → KeepsAsked c q
-unfolding check_lib after_question
-check_lib_keeps c args q e h =
-    let l = bind_ok (library (arg_at args 0)) _ _ e in
-    let f = bind_ok (entry_of (Entry Function) (arg_at args 1)) _ _ l.2 in
-    subst (KeepsAsked c) (ok_is _ q f.2) h
-
-search_libs_keeps : (c : declarations.Declarations) (args : List Span) (q : Question) → search_libs args ≡ Ok q → IsWithinLimits c → KeepsAsked c q
-unfolding search_libs after_question
-search_libs_keeps c args q e h =
-    let f = bind_ok (entry_of (Entry Function) (arg_at args 0)) _ _ e in
-    let l = bind_ok (libraries (arg_at args 1)) _ _ f.2 in
-    subst (KeepsAsked c) (ok_is _ q l.2) h
-
-pub question_keeps : (c : declarations.Declarations) (m : QuestionMacro) (args : List Span) (q : Question) → question_of c m args ≡ Ok q → IsWithinLimits c → KeepsAsked c q
-question_keeps c (questions.Given kind) args q e h = given_keeps c kind args q e h
-question_keeps c (questions.Tries kind) args q e h = tries_keep c kind args q e h
-question_keeps c (questions.Checks sought) args q e h = checks_keep c sought args q e h
-question_keeps c (questions.ChecksEach sought) args q e h = checks_each_keep c sought args q e h
-question_keeps c questions.Library args q e h = check_lib_keeps c args q e h
-question_keeps c questions.Libraries args q e h = search_libs_keeps c args q e h
+pub question_keeps : (c : declarations.Declarations) (m : QuestionMacro) (args : List Span) (s : Declares × Question) → question_of c m args ≡ Ok s → IsWithinLimits c → Keeps c s
+question_keeps c (questions.Given kind) args s e h = given_keeps c kind args s e h
+question_keeps c m args s e h = undeclared_keeps c _ s e h
 
 pub start_fits : IsWithinLimits start
 start_fits = record { substituted = omega arith; distinct = AreDistinct-[]; precious = λ n e. e; features = omega arith; packages = omega arith; files = omega arith; headers = omega arith; outputs = record { file_paths = tt; header_paths = tt; names = AreDistinct-[] } }

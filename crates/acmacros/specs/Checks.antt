@@ -34,7 +34,7 @@ checks_each sought args = do
 -- argument, and so have no includes.
 -- (Autoconf's manual, the sections of the macros)
 unfoldable pub completed_of : Question → List Span → Result Question ParseFault
-completed_of (Given kind variable help) args = Ok (Given kind variable help)
+completed_of (Given kind variable) args = Ok (Given kind variable)
 completed_of (Tries kind program) args = Ok (Tries kind program)
 completed_of (Checks sought entry earlier) args = includes (arg_at args 3) >>= λ i. Ok (Checks sought entry i)
 completed_of (ChecksEach sought entries earlier) args = includes (arg_at args 3) >>= λ i. Ok (ChecksEach sought entries i)

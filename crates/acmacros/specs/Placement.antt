@@ -6,21 +6,23 @@ use Rattle.syntax.specs.declared.declarations.Stage.TheVariants.{Before, Open, E
 use Rattle.acstatement.specs.declared.fault.ParseFault.{ParseFault}
 use Rattle.acstatement.specs.declared.fault.ParseFault.TheVariants.{NoInit, AfterOutput, NotAtTop, UnknownStatement}
 use Rattle.acstatement.specs.Reading.{wants}
+use Rattle.acmacros.specs.declared.macros.ActMacro.TheVariants.{Prereq}
+use Rattle.acmacros.specs.declared.macros.DeclaringMacro.TheVariants.{Init}
 use Rattle.acmacros.specs.declared.macros.Macro as macro
 use Rattle.acmacros.specs.declared.macros.Macro.TheVariants.{Plain}
 use Rattle.acmacros.specs.declared.macros.Named.{Named}
 use Rattle.acmacros.specs.declared.macros.Named.TheVariants.{Statement, Argument}
-use Rattle.acmacros.specs.declared.macros.PlainMacro.TheVariants as plain_macro
+use Rattle.acmacros.specs.declared.macros.PlainMacro.TheVariants.{Acts, Declares}
 
 -- The macro is AC_INIT. (own)
 abbrev pub is_init : macro.Macro → Bool
-is_init (Plain plain_macro.Init) = true
+is_init (Plain (Declares Init)) = true
 is_init _ = false
 
 -- AC_INIT, or AC_PREREQ, which is allowed before it. (own)
 abbrev pub may_begin : macro.Macro → Bool
-may_begin (Plain plain_macro.Init) = true
-may_begin (Plain plain_macro.Prereq) = true
+may_begin (Plain (Declares Init)) = true
+may_begin (Plain (Acts Prereq)) = true
 may_begin _ = false
 
 -- A call is allowed in the file's own list or in another: the first call is AC_INIT or AC_PREREQ, AC_INIT comes once,

@@ -11,8 +11,11 @@ use Rattle.acargs.specs.Programs.{program, programs}
 use Rattle.acstatement.specs.Reading.{◌>>=◌, wants}
 use Rattle.acargs.specs.Shell.{here_text}
 use Rattle.syntax.specs.declared.declarations.Declarations as declarations
-use Rattle.syntax.specs.declared.statement.Plain.{Plain}
-use Rattle.syntax.specs.declared.statement.Plain.TheVariants.{CheckProg, CheckProgs, PathProg, ProgCc}
+use Rattle.syntax.specs.declared.statement.Declares.{Declares}
+use Rattle.syntax.specs.declared.statement.Declares.TheVariants.{Variable, Compiler}
+use Rattle.syntax.specs.declared.statement.Effect.{Effect}
+use Rattle.syntax.specs.declared.statement.Effect.TheVariants.{Search, Searches}
+use Rattle.syntax.specs.declared.statement.ProgramValue.TheVariants.{Text, FullName}
 use Rattle.acmacros.specs.Room.{has_room}
 
 -- The name of an output variable, given the earlier ones of the source. (own)
@@ -27,30 +30,30 @@ unfoldable pub optional_text : Span → Result (Option (List Part)) ParseFault
 optional_text arg = if is_given arg then (here_text arg >>= λ h. Ok (Some h)) else Ok None
 
 -- AC_CHECK_PROG(variable, program, value if found, [value if not found]). (Autoconf's manual, "Generic Programs")
-unfoldable pub check_prog : declarations.Declarations → List Span → Result Plain ParseFault
+unfoldable pub check_prog : declarations.Declarations → List Span → Result (Declares × Effect) ParseFault
 check_prog c args = do
   v ← output_variable c (arg_at args 0)
   p ← program (arg_at args 1)
   found ← here_text (arg_at args 2)
   other ← optional_text (arg_at args 3)
-  Ok (CheckProg v p found other)
+  Ok (Variable v, Search v p (Text found) other)
 
 -- The statement of three arguments: a variable, what is looked for, and optionally the value if it is not found. (own)
-abbrev pub searched : {A : Type 0} → (Span → Result A ParseFault) → (List ℕ → A → Option (List Part) → Plain)
-    → declarations.Declarations → List Span → Result Plain ParseFault
-searched reader statement c args = do
+abbrev pub searched : {A : Type 0} → (Span → Result A ParseFault) → (List ℕ → A → Option (List Part) → Effect)
+    → declarations.Declarations → List Span → Result (Declares × Effect) ParseFault
+searched reader effect c args = do
   v ← output_variable c (arg_at args 0)
   sought ← reader (arg_at args 1)
   other ← optional_text (arg_at args 2)
-  Ok (statement v sought other)
+  Ok (Variable v, effect v sought other)
 
 -- AC_CHECK_PROGS(variable, programs, [value if none is found]). (Autoconf's manual, "Generic Programs")
-unfoldable pub check_progs : declarations.Declarations → List Span → Result Plain ParseFault
-check_progs = searched programs (λ v list other. CheckProgs v list other)
+unfoldable pub check_progs : declarations.Declarations → List Span → Result (Declares × Effect) ParseFault
+check_progs = searched programs (λ v list other. Searches v list other)
 
 -- AC_PATH_PROG(variable, program, [value if not found]). (Autoconf's manual, "Generic Programs")
-unfoldable pub path_prog : declarations.Declarations → List Span → Result Plain ParseFault
-path_prog = searched program (λ v p other. PathProg v p other)
+unfoldable pub path_prog : declarations.Declarations → List Span → Result (Declares × Effect) ParseFault
+path_prog = searched program (λ v p other. Search v p FullName other)
 
 -- ---- compilers
 
@@ -73,8 +76,8 @@ unfoldable pub compilers : Span → Result (List (List ℕ)) ParseFault
 compilers arg = if is_given arg then programs arg else Ok usual_compilers
 
 -- AC_PROG_CC([compilers]), with its name at this offset. (Autoconf's manual, "C Compiler")
-unfoldable pub prog_cc : declarations.Declarations → ℕ → List Span → Result Plain ParseFault
+unfoldable pub prog_cc : declarations.Declarations → ℕ → List Span → Result (Declares × Effect) ParseFault
 prog_cc c at args = do
   _ ← wants (has_tool_room c.substituted) (TooMany at)
   list ← compilers (arg_at args 0)
-  Ok (ProgCc list)
+  Ok (Compiler, Searches (codes "CC") list None)

@@ -5,18 +5,21 @@ use Rattle.std.specs.Str.{bytes_eq}
 use Rattle.m4quote.specs.Entry.{Span}
 use Rattle.acargs.specs.Arguments.{is_given}
 use Rattle.acstatement.specs.Texts.{arg_at}
+use Rattle.acmacros.specs.declared.macros.ActMacro.TheVariants.{Prereq, Ignored, Lang, Define, DefineUnquoted, MsgError, Message}
 use Rattle.acmacros.specs.declared.macros.ArgumentMacro.TheVariants.{HelpString, LangProgram, LangSource}
 use Rattle.acmacros.specs.declared.macros.ChoiceMacro.TheVariants.{If, Case}
+use Rattle.acmacros.specs.declared.macros.DeclaringMacro.TheVariants.{Init, ConfigOutputs, Subst, ArgVar, ProgCc, CheckProg, CheckProgs, PathProg, Output}
 use Rattle.acmacros.specs.declared.macros.Macro.TheVariants.{Plain, Choice, Question, Check}
 use Rattle.acmacros.specs.declared.macros.Named.{Named}
 use Rattle.acmacros.specs.declared.macros.Named.TheVariants.{Statement, Argument}
-use Rattle.acmacros.specs.declared.macros.PlainMacro.TheVariants.{Init, Prereq, Ignored, Lang, ConfigFiles, ConfigHeaders, Subst, Define, DefineUnquoted, MsgError, Message, ArgVar, ProgCc, CheckProg, CheckProgs, PathProg, Output}
+use Rattle.acmacros.specs.declared.macros.PlainMacro.TheVariants.{Acts, Declares}
 use Rattle.acmacros.specs.declared.macros.QuestionMacro.TheVariants.{Given, Tries, Checks, ChecksEach, Library, Libraries}
 use Rattle.acmacros.specs.declared.table.Row.{Row}
 use Rattle.syntax.specs.declared.feature.OptionKind.TheVariants.{Feature, Package}
 use Rattle.syntax.specs.declared.listed.Listed.TheVariants.{Header, Function, Declaration}
 use Rattle.syntax.specs.declared.listed.Sought.TheVariants.{Entry, «Type»}
-use Rattle.syntax.specs.declared.statement.MessageKind.TheVariants.{Checking, Results, Notice, Warning}
+use Rattle.syntax.specs.declared.statement.Message.TheVariants.{Checking, Results, Notice, Warning}
+use Rattle.syntax.specs.declared.statement.OutputKind.TheVariants as outputs
 use Rattle.syntax.specs.declared.program.Try.TheVariants.{Compile, Link, Preproc, Run}
 
 -- Any number of arguments: the size in bytes of the largest source, so more than any call has. (own)
@@ -27,34 +30,34 @@ any = 1048576
 -- file's own list. (Autoconf's manual, the sections of the macros)
 unfoldable pub rows : List (List ℕ × Named × ℕ × ℕ × Bool)
 rows =
-    (codes "AC_INIT", Statement (Plain Init), 2, 5, true)
-    ∷ (codes "AC_PREREQ", Statement (Plain Prereq), 1, 1, true)
-    ∷ (codes "AC_CONFIG_SRCDIR", Statement (Plain Ignored), 1, 1, true)
-    ∷ (codes "AC_CONFIG_AUX_DIR", Statement (Plain Ignored), 1, 1, true)
-    ∷ (codes "AC_CONFIG_MACRO_DIR", Statement (Plain Ignored), 1, 1, true)
-    ∷ (codes "AC_CONFIG_MACRO_DIRS", Statement (Plain Ignored), 1, 1, true)
-    ∷ (codes "AC_LANG", Statement (Plain Lang), 1, 1, false)
-    ∷ (codes "AC_CONFIG_FILES", Statement (Plain ConfigFiles), 1, 1, true)
-    ∷ (codes "AC_CONFIG_HEADERS", Statement (Plain ConfigHeaders), 1, 1, true)
-    ∷ (codes "AC_OUTPUT", Statement (Plain Output), 0, 1, true)
+    (codes "AC_INIT", Statement (Plain (Declares Init)), 2, 5, true)
+    ∷ (codes "AC_PREREQ", Statement (Plain (Acts Prereq)), 1, 1, true)
+    ∷ (codes "AC_CONFIG_SRCDIR", Statement (Plain (Acts Ignored)), 1, 1, true)
+    ∷ (codes "AC_CONFIG_AUX_DIR", Statement (Plain (Acts Ignored)), 1, 1, true)
+    ∷ (codes "AC_CONFIG_MACRO_DIR", Statement (Plain (Acts Ignored)), 1, 1, true)
+    ∷ (codes "AC_CONFIG_MACRO_DIRS", Statement (Plain (Acts Ignored)), 1, 1, true)
+    ∷ (codes "AC_LANG", Statement (Plain (Acts Lang)), 1, 1, false)
+    ∷ (codes "AC_CONFIG_FILES", Statement (Plain (Declares (ConfigOutputs outputs.File))), 1, 1, true)
+    ∷ (codes "AC_CONFIG_HEADERS", Statement (Plain (Declares (ConfigOutputs outputs.Header))), 1, 1, true)
+    ∷ (codes "AC_OUTPUT", Statement (Plain (Declares Output)), 0, 1, true)
     ∷ (codes "AC_ARG_ENABLE", Statement (Question (Given Feature)), 1, 4, false)
     ∷ (codes "AC_ARG_WITH", Statement (Question (Given Package)), 1, 4, false)
-    ∷ (codes "AC_ARG_VAR", Statement (Plain ArgVar), 2, 2, false)
-    ∷ (codes "AC_SUBST", Statement (Plain Subst), 1, 2, false)
-    ∷ (codes "AC_DEFINE", Statement (Plain Define), 1, 3, false)
-    ∷ (codes "AC_DEFINE_UNQUOTED", Statement (Plain DefineUnquoted), 1, 3, false)
-    ∷ (codes "AC_MSG_ERROR", Statement (Plain MsgError), 1, 2, false)
-    ∷ (codes "AC_MSG_CHECKING", Statement (Plain (Message Checking)), 1, 1, false)
-    ∷ (codes "AC_MSG_RESULT", Statement (Plain (Message Results)), 1, 1, false)
-    ∷ (codes "AC_MSG_NOTICE", Statement (Plain (Message Notice)), 1, 1, false)
-    ∷ (codes "AC_MSG_WARN", Statement (Plain (Message Warning)), 1, 1, false)
+    ∷ (codes "AC_ARG_VAR", Statement (Plain (Declares ArgVar)), 2, 2, false)
+    ∷ (codes "AC_SUBST", Statement (Plain (Declares Subst)), 1, 2, false)
+    ∷ (codes "AC_DEFINE", Statement (Plain (Acts Define)), 1, 3, false)
+    ∷ (codes "AC_DEFINE_UNQUOTED", Statement (Plain (Acts DefineUnquoted)), 1, 3, false)
+    ∷ (codes "AC_MSG_ERROR", Statement (Plain (Acts MsgError)), 1, 2, false)
+    ∷ (codes "AC_MSG_CHECKING", Statement (Plain (Acts (Message Checking))), 1, 1, false)
+    ∷ (codes "AC_MSG_RESULT", Statement (Plain (Acts (Message Results))), 1, 1, false)
+    ∷ (codes "AC_MSG_NOTICE", Statement (Plain (Acts (Message Notice))), 1, 1, false)
+    ∷ (codes "AC_MSG_WARN", Statement (Plain (Acts (Message Warning))), 1, 1, false)
     ∷ (codes "AS_IF", Statement (Choice If), 2, any, false)
     ∷ (codes "AS_CASE", Statement (Choice Case), 2, any, false)
     ∷ (codes "AC_CACHE_CHECK", Statement Check, 3, 3, false)
-    ∷ (codes "AC_PROG_CC", Statement (Plain ProgCc), 0, 1, false)
-    ∷ (codes "AC_CHECK_PROG", Statement (Plain CheckProg), 3, 4, false)
-    ∷ (codes "AC_CHECK_PROGS", Statement (Plain CheckProgs), 2, 3, false)
-    ∷ (codes "AC_PATH_PROG", Statement (Plain PathProg), 2, 3, false)
+    ∷ (codes "AC_PROG_CC", Statement (Plain (Declares ProgCc)), 0, 1, false)
+    ∷ (codes "AC_CHECK_PROG", Statement (Plain (Declares CheckProg)), 3, 4, false)
+    ∷ (codes "AC_CHECK_PROGS", Statement (Plain (Declares CheckProgs)), 2, 3, false)
+    ∷ (codes "AC_PATH_PROG", Statement (Plain (Declares PathProg)), 2, 3, false)
     ∷ (codes "AC_CHECK_HEADER", Statement (Question (Checks (Entry Header))), 1, 4, false)
     ∷ (codes "AC_CHECK_FUNC", Statement (Question (Checks (Entry Function))), 1, 3, false)
     ∷ (codes "AC_CHECK_DECL", Statement (Question (Checks (Entry Declaration))), 1, 4, false)
@@ -90,7 +93,7 @@ allows r n = nat_le r.least n && nat_le n r.most
 
 -- AC_OUTPUT with an argument that is given; one with an error in its quotes is given. (own)
 abbrev pub is_output_of_text : Named → List Span → Bool
-is_output_of_text (Statement (Plain Output)) args = is_given (arg_at args 0)
+is_output_of_text (Statement (Plain (Declares Output))) args = is_given (arg_at args 0)
 is_output_of_text m args = false
 
 -- The row's macro takes these arguments: the row allows their number, and the one of AC_OUTPUT is empty. (own)

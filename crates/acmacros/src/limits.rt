@@ -5,18 +5,19 @@ ghost use Rattle.m4quote.specs.Entry.{Span};
 ghost use Rattle.acmacros.specs.declared.macros.PlainMacro.{PlainMacro};
 ghost use Rattle.acmacros.specs.declared.macros.QuestionMacro.{QuestionMacro};
 ghost use Rattle.syntax.specs.declared.declarations.Declarations.{Declarations};
-ghost use Rattle.syntax.specs.declared.statement.Plain.{Plain};
+ghost use Rattle.syntax.specs.declared.statement.Declares.{Declares};
+ghost use Rattle.syntax.specs.declared.statement.Effect.{Effect};
 ghost use Rattle.syntax.specs.declared.statement.Question.{Question};
 ghost use Rattle.syntax.specs.Limits.{IsWithinLimits};
 ghost use Rattle.acmacros.specs.Rows.{plain_of, question_of};
-ghost use Rattle.syntax.specs.Lists.{start, after, after_question};
+ghost use Rattle.syntax.specs.Lists.{start, after};
 
 /// Every statement that is read leaves the lists of the source within their limits. The list of precious variables
 /// needs no check of its own, since each precious variable is an output variable.
 #[tactic(auto, using(crate::proofs::LimitLemmas::start_fits, crate::proofs::LimitLemmas::precious_count))]
 pub fn lists_are_within_limits()
     ensures start { IsWithinLimits start }
-    ensures statement { (c : Declarations) (m : PlainMacro) (at : ℕ) (args : List Span) (s : Plain) → plain_of c m at args ≡ Ok s → IsWithinLimits c → IsWithinLimits (after c s) }
-    ensures question { (c : Declarations) (m : QuestionMacro) (args : List Span) (q : Question) → question_of c m args ≡ Ok q → IsWithinLimits c → IsWithinLimits (after_question c q) }
+    ensures statement { (c : Declarations) (m : PlainMacro) (at : ℕ) (args : List Span) (d : Declares) (e : Effect) → plain_of c m at args ≡ Ok (d, e) → IsWithinLimits c → IsWithinLimits (after c d) }
+    ensures question { (c : Declarations) (m : QuestionMacro) (args : List Span) (d : Declares) (q : Question) → question_of c m args ≡ Ok (d, q) → IsWithinLimits c → IsWithinLimits (after c d) }
     ensures precious { (c : Declarations) → IsWithinLimits c → length c.precious ≤ 1024 }
 {}

@@ -1,24 +1,16 @@
 //! What the name of a macro means.
 
-use syntax::{MessageKind, OptionKind, Sought, Try};
+use syntax::{Message, OptionKind, OutputKind, Sought, Try};
 
-/// A macro with no statements in its arguments.
+/// A macro with no statements in its arguments that declares nothing.
 #[derive(Clone, Copy)]
-pub enum PlainMacro {
-    /// AC_INIT.
-    Init,
+pub enum ActMacro {
     /// AC_PREREQ.
     Prereq,
     /// AC_CONFIG_SRCDIR, AC_CONFIG_AUX_DIR, AC_CONFIG_MACRO_DIR and AC_CONFIG_MACRO_DIRS, whose arguments are not read.
     Ignored,
     /// AC_LANG.
     Lang,
-    /// AC_CONFIG_FILES.
-    ConfigFiles,
-    /// AC_CONFIG_HEADERS.
-    ConfigHeaders,
-    /// AC_SUBST.
-    Subst,
     /// AC_DEFINE.
     Define,
     /// AC_DEFINE_UNQUOTED.
@@ -26,7 +18,18 @@ pub enum PlainMacro {
     /// AC_MSG_ERROR.
     MsgError,
     /// AC_MSG_CHECKING, AC_MSG_RESULT, AC_MSG_NOTICE and AC_MSG_WARN.
-    Message(MessageKind),
+    Message(Message),
+}
+
+/// A macro with no statements in its arguments that declares something.
+#[derive(Clone, Copy)]
+pub enum DeclaringMacro {
+    /// AC_INIT.
+    Init,
+    /// AC_CONFIG_FILES and AC_CONFIG_HEADERS.
+    ConfigOutputs(OutputKind),
+    /// AC_SUBST.
+    Subst,
     /// AC_ARG_VAR.
     ArgVar,
     /// AC_PROG_CC.
@@ -39,6 +42,15 @@ pub enum PlainMacro {
     PathProg,
     /// AC_OUTPUT.
     Output,
+}
+
+/// A macro with no statements in its arguments.
+#[derive(Clone, Copy)]
+pub enum PlainMacro {
+    /// It declares nothing: its call is what it does.
+    Acts(ActMacro),
+    /// Its call is what it declares and what it does.
+    Declares(DeclaringMacro),
 }
 
 /// A macro of cases, each with statements (Autoconf's manual, "Common Shell Constructs").

@@ -4,21 +4,22 @@ ghost use Rattle.std.specs.Prelude.{◌≡◌};
 ghost use Rattle.acstatement.specs.Reading.{Gives};
 ghost use Rattle.acmacros.specs.Placement as places;
 
-use crate::macros::{Macro, Named, PlainMacro};
+use crate::macros::PlainMacro::{Acts, Declares};
+use crate::macros::{ActMacro, DeclaringMacro, Macro, Named};
 use acargs::ParseFault;
 use syntax::Stage;
 
 fn is_init(m: Macro) -> bool
     ensures { result ≡ places.is_init m }
 {
-    matches!(m, Macro::Plain(PlainMacro::Init))
+    matches!(m, Macro::Plain(Declares(DeclaringMacro::Init)))
 }
 
 /// Returns whether the macro is AC_INIT, or AC_PREREQ, which is allowed before it.
 fn may_begin(m: Macro) -> bool
     ensures { result ≡ places.may_begin m }
 {
-    is_init(m) || matches!(m, Macro::Plain(PlainMacro::Prereq))
+    is_init(m) || matches!(m, Macro::Plain(Acts(ActMacro::Prereq)))
 }
 
 /// Checks that a call is allowed here. `top` is true if the call is in the file's own list of statements, `own_list` if

@@ -4,6 +4,7 @@ ghost use Rattle.std.specs.Prelude.{◌≡◌, map, IfOk};
 ghost use Rattle.m4quote.specs.Entry.{span};
 ghost use Rattle.acstatement.specs.Reading.{Gives};
 ghost use Rattle.acmacros.specs.Searches as rows;
+ghost use Rattle.syntax.specs.declared.statement.Declares.TheVariants.{Variable};
 
 use crate::room::{MAX_NAMES, has_room};
 use acargs::ParseFault;
@@ -15,7 +16,7 @@ use deftable::{Bytes, Name, SubstList, Texts};
 use m4quote::Arg;
 use shellword::HereText;
 use std::alloc::{AllocError, Global};
-use syntax::{Declarations, Plain};
+use syntax::{Declarations, Declares, Effect, ProgramValue};
 
 /// Reads the name of an output variable.
 #[tactic(auto, unfolding(crate::specs::Searches::output_variable))]
@@ -46,25 +47,35 @@ pub(crate) fn optional_text(alloc: Global, arg: Arg<'_>) -> Result<Option<HereTe
     }
 }
 
+/// Returns the declaration of an output variable.
+fn declared(alloc: Global, variable: &Name) -> Result<Declares, AllocError>
+    ensures { IfOk result (λ d. d ≡ Variable variable.now) }
+{
+    let name = variable.copy(alloc)?;
+    Ok(Declares::Variable { name })
+}
+
 /// AC_CHECK_PROG(variable, program, value if found, [value if not found])
 #[tactic(auto, unfolding(crate::specs::Searches::check_prog))]
 pub(crate) fn check_prog(
     alloc: Global,
     known: &Declarations,
     args: &[Arg<'_>],
-) -> Result<Plain, ParseFault>
+) -> Result<(Declares, Effect), ParseFault>
     ensures { Gives (λ s. s) result (rows.check_prog known.now (map span args.now)) }
 {
     let variable = output_variable(alloc, known, arg_at(args, 0))?;
     let program = program(alloc, arg_at(args, 1))?;
     let found = here_text(alloc, arg_at(args, 2))?;
     let otherwise = optional_text(alloc, arg_at(args, 3))?;
-    Ok(Plain::CheckProg {
+    let declares = declared(alloc, &variable)?;
+    let effect = Effect::Search {
         variable,
         program,
-        found,
+        value: ProgramValue::Text(found),
         otherwise,
-    })
+    };
+    Ok((declares, effect))
 }
 
 /// AC_CHECK_PROGS(variable, programs, [value if none is found])
@@ -73,17 +84,19 @@ pub(crate) fn check_progs(
     alloc: Global,
     known: &Declarations,
     args: &[Arg<'_>],
-) -> Result<Plain, ParseFault>
+) -> Result<(Declares, Effect), ParseFault>
     ensures { Gives (λ s. s) result (rows.check_progs known.now (map span args.now)) }
 {
     let variable = output_variable(alloc, known, arg_at(args, 0))?;
     let names = programs(alloc, arg_at(args, 1))?;
     let otherwise = optional_text(alloc, arg_at(args, 2))?;
-    Ok(Plain::CheckProgs {
+    let declares = declared(alloc, &variable)?;
+    let effect = Effect::Searches {
         variable,
         programs: Texts::from_vec(names),
         otherwise,
-    })
+    };
+    Ok((declares, effect))
 }
 
 /// AC_PATH_PROG(variable, program, [value if not found])
@@ -92,17 +105,20 @@ pub(crate) fn path_prog(
     alloc: Global,
     known: &Declarations,
     args: &[Arg<'_>],
-) -> Result<Plain, ParseFault>
+) -> Result<(Declares, Effect), ParseFault>
     ensures { Gives (λ s. s) result (rows.path_prog known.now (map span args.now)) }
 {
     let variable = output_variable(alloc, known, arg_at(args, 0))?;
     let program = program(alloc, arg_at(args, 1))?;
     let otherwise = optional_text(alloc, arg_at(args, 2))?;
-    Ok(Plain::PathProg {
+    let declares = declared(alloc, &variable)?;
+    let effect = Effect::Search {
         variable,
         program,
+        value: ProgramValue::FullName,
         otherwise,
-    })
+    };
+    Ok((declares, effect))
 }
 
 /// Returns 1 if the name is new to the list, else 0.
@@ -158,14 +174,18 @@ pub(crate) fn prog_cc(
     known: &Declarations,
     at: usize,
     args: &[Arg<'_>],
-) -> Result<Plain, ParseFault>
+) -> Result<(Declares, Effect), ParseFault>
     ensures { Gives (λ s. s) result (rows.prog_cc known.now at (map span args.now)) }
 {
     if !has_tool_room(&known.substituted) {
         return Err(ParseFault::TooMany(at));
     }
     let names = compilers(alloc, arg_at(args, 0))?;
-    Ok(Plain::ProgCc {
+    let variable = Name::from_slice(alloc, b"CC")?;
+    let effect = Effect::Searches {
+        variable,
         programs: Texts::from_vec(names),
-    })
+        otherwise: None,
+    };
+    Ok((Declares::Compiler, effect))
 }

@@ -6,12 +6,15 @@ ghost use Rattle.acmacros.specs.Table as table;
 
 use crate::macros::Macro::{Check, Choice, Plain, Question};
 use crate::macros::Named::{Argument, Statement};
-use crate::macros::{ArgumentMacro, ChoiceMacro, Macro, Named, PlainMacro, QuestionMacro};
+use crate::macros::PlainMacro::{Acts, Declares};
+use crate::macros::{
+    ActMacro, ArgumentMacro, ChoiceMacro, DeclaringMacro, Macro, Named, QuestionMacro,
+};
 use acargs::arguments::is_given;
 use acstatement::texts::arg_at;
 use m4quote::Arg;
 use std::alloc::{AllocError, Global};
-use syntax::{Listed, MessageKind, OptionKind, Sought, Try};
+use syntax::{Listed, Message, OptionKind, OutputKind, Sought, Try};
 
 /// A row of the table, without the name.
 #[derive(Clone, Copy)]
@@ -33,34 +36,34 @@ const ANY: usize = 1_048_576;
 /// level.
 #[rattlefmt::skip]
 const TABLE: [(&[u8], Named, usize, usize, bool); 45] = [
-    (b"AC_INIT", Statement(Plain(PlainMacro::Init)), 2, 5, true),
-    (b"AC_PREREQ", Statement(Plain(PlainMacro::Prereq)), 1, 1, true),
-    (b"AC_CONFIG_SRCDIR", Statement(Plain(PlainMacro::Ignored)), 1, 1, true),
-    (b"AC_CONFIG_AUX_DIR", Statement(Plain(PlainMacro::Ignored)), 1, 1, true),
-    (b"AC_CONFIG_MACRO_DIR", Statement(Plain(PlainMacro::Ignored)), 1, 1, true),
-    (b"AC_CONFIG_MACRO_DIRS", Statement(Plain(PlainMacro::Ignored)), 1, 1, true),
-    (b"AC_LANG", Statement(Plain(PlainMacro::Lang)), 1, 1, false),
-    (b"AC_CONFIG_FILES", Statement(Plain(PlainMacro::ConfigFiles)), 1, 1, true),
-    (b"AC_CONFIG_HEADERS", Statement(Plain(PlainMacro::ConfigHeaders)), 1, 1, true),
-    (b"AC_OUTPUT", Statement(Plain(PlainMacro::Output)), 0, 1, true),
+    (b"AC_INIT", Statement(Plain(Declares(DeclaringMacro::Init))), 2, 5, true),
+    (b"AC_PREREQ", Statement(Plain(Acts(ActMacro::Prereq))), 1, 1, true),
+    (b"AC_CONFIG_SRCDIR", Statement(Plain(Acts(ActMacro::Ignored))), 1, 1, true),
+    (b"AC_CONFIG_AUX_DIR", Statement(Plain(Acts(ActMacro::Ignored))), 1, 1, true),
+    (b"AC_CONFIG_MACRO_DIR", Statement(Plain(Acts(ActMacro::Ignored))), 1, 1, true),
+    (b"AC_CONFIG_MACRO_DIRS", Statement(Plain(Acts(ActMacro::Ignored))), 1, 1, true),
+    (b"AC_LANG", Statement(Plain(Acts(ActMacro::Lang))), 1, 1, false),
+    (b"AC_CONFIG_FILES", Statement(Plain(Declares(DeclaringMacro::ConfigOutputs(OutputKind::File)))), 1, 1, true),
+    (b"AC_CONFIG_HEADERS", Statement(Plain(Declares(DeclaringMacro::ConfigOutputs(OutputKind::Header)))), 1, 1, true),
+    (b"AC_OUTPUT", Statement(Plain(Declares(DeclaringMacro::Output))), 0, 1, true),
     (b"AC_ARG_ENABLE", Statement(Question(QuestionMacro::Given(OptionKind::Feature))), 1, 4, false),
     (b"AC_ARG_WITH", Statement(Question(QuestionMacro::Given(OptionKind::Package))), 1, 4, false),
-    (b"AC_ARG_VAR", Statement(Plain(PlainMacro::ArgVar)), 2, 2, false),
-    (b"AC_SUBST", Statement(Plain(PlainMacro::Subst)), 1, 2, false),
-    (b"AC_DEFINE", Statement(Plain(PlainMacro::Define)), 1, 3, false),
-    (b"AC_DEFINE_UNQUOTED", Statement(Plain(PlainMacro::DefineUnquoted)), 1, 3, false),
-    (b"AC_MSG_ERROR", Statement(Plain(PlainMacro::MsgError)), 1, 2, false),
-    (b"AC_MSG_CHECKING", Statement(Plain(PlainMacro::Message(MessageKind::Checking))), 1, 1, false),
-    (b"AC_MSG_RESULT", Statement(Plain(PlainMacro::Message(MessageKind::Results))), 1, 1, false),
-    (b"AC_MSG_NOTICE", Statement(Plain(PlainMacro::Message(MessageKind::Notice))), 1, 1, false),
-    (b"AC_MSG_WARN", Statement(Plain(PlainMacro::Message(MessageKind::Warning))), 1, 1, false),
+    (b"AC_ARG_VAR", Statement(Plain(Declares(DeclaringMacro::ArgVar))), 2, 2, false),
+    (b"AC_SUBST", Statement(Plain(Declares(DeclaringMacro::Subst))), 1, 2, false),
+    (b"AC_DEFINE", Statement(Plain(Acts(ActMacro::Define))), 1, 3, false),
+    (b"AC_DEFINE_UNQUOTED", Statement(Plain(Acts(ActMacro::DefineUnquoted))), 1, 3, false),
+    (b"AC_MSG_ERROR", Statement(Plain(Acts(ActMacro::MsgError))), 1, 2, false),
+    (b"AC_MSG_CHECKING", Statement(Plain(Acts(ActMacro::Message(Message::Checking)))), 1, 1, false),
+    (b"AC_MSG_RESULT", Statement(Plain(Acts(ActMacro::Message(Message::Results)))), 1, 1, false),
+    (b"AC_MSG_NOTICE", Statement(Plain(Acts(ActMacro::Message(Message::Notice)))), 1, 1, false),
+    (b"AC_MSG_WARN", Statement(Plain(Acts(ActMacro::Message(Message::Warning)))), 1, 1, false),
     (b"AS_IF", Statement(Choice(ChoiceMacro::If)), 2, ANY, false),
     (b"AS_CASE", Statement(Choice(ChoiceMacro::Case)), 2, ANY, false),
     (b"AC_CACHE_CHECK", Statement(Check), 3, 3, false),
-    (b"AC_PROG_CC", Statement(Plain(PlainMacro::ProgCc)), 0, 1, false),
-    (b"AC_CHECK_PROG", Statement(Plain(PlainMacro::CheckProg)), 3, 4, false),
-    (b"AC_CHECK_PROGS", Statement(Plain(PlainMacro::CheckProgs)), 2, 3, false),
-    (b"AC_PATH_PROG", Statement(Plain(PlainMacro::PathProg)), 2, 3, false),
+    (b"AC_PROG_CC", Statement(Plain(Declares(DeclaringMacro::ProgCc))), 0, 1, false),
+    (b"AC_CHECK_PROG", Statement(Plain(Declares(DeclaringMacro::CheckProg))), 3, 4, false),
+    (b"AC_CHECK_PROGS", Statement(Plain(Declares(DeclaringMacro::CheckProgs))), 2, 3, false),
+    (b"AC_PATH_PROG", Statement(Plain(Declares(DeclaringMacro::PathProg))), 2, 3, false),
     (b"AC_CHECK_HEADER", Statement(Question(QuestionMacro::Checks(Sought::Entry(Listed::Header)))), 1, 4, false),
     (b"AC_CHECK_FUNC", Statement(Question(QuestionMacro::Checks(Sought::Entry(Listed::Function)))), 1, 3, false),
     (b"AC_CHECK_DECL", Statement(Question(QuestionMacro::Checks(Sought::Entry(Listed::Declaration)))), 1, 4, false),
@@ -126,7 +129,10 @@ fn is_output_of_text(alloc: Global, m: Named, args: &[Arg<'_>]) -> Result<bool, 
     ensures { IfOk result (λ b. b ≡ table.is_output_of_text m (map span args.now)) }
 {
     match m {
-        Named::Statement(Macro::Plain(PlainMacro::Output)) => is_given(alloc, arg_at(args, 0)),
+        Named::Statement(Macro::Plain(Declares(DeclaringMacro::Output))) => is_given(
+            alloc,
+            arg_at(args, 0),
+        ),
         _ => Ok(false),
     }
 }

@@ -18,7 +18,6 @@ use Rattle.acmacros.specs.declared.macros.Macro.TheVariants.{Plain, Choice as A_
 use Rattle.acmacros.specs.declared.macros.Named.{Named}
 use Rattle.acmacros.specs.declared.macros.Named.TheVariants.{Statement, Argument}
 use Rattle.acmacros.specs.declared.macros.QuestionMacro.{QuestionMacro}
-use Rattle.syntax.specs.Lists.{after_question}
 use Rattle.acmacros.specs.Checks.{completed_of}
 use Rattle.acmacros.specs.Placement.{as_statement, bare_fault}
 use Rattle.syntax.specs.declared.tree.When.{When}
@@ -30,7 +29,7 @@ use Rattle.acmacros.specs.Table.{row_named}
 use Rattle.acmacros.specs.declared.table.Row.{Row}
 use Rattle.m4quote.proofs.Laws.{outcome_is_spelling, outcome_is_fault}
 use Rattle.m4quote.specs.Scan.{outcome}
-use Rattle.syntax.specs.Lists.{after_all, after_cases}
+use Rattle.syntax.specs.Lists.{after, after_all, after_cases}
 use Rattle.syntax.specs.Script.{Script, Cases}
 use Rattle.acparse.specs.Breaks.{WithinBreaks, MayNotStand, unknown, other_arguments, in_arguments_alone, not_here, in_text, not_held, CasesBreak, in_condition, in_body, after_case, in_default, ActionBreaks, in_action, ItemBreaks, other_text, may_not_stand, argument, in_subject, in_cases, in_question, in_yes, in_no, in_includes, in_message, in_name, in_commands, Breaks, here, following, TextBreaks, no_items, in_items, IsBroken}
 use Rattle.acparse.specs.Asked.{asked_with}
@@ -146,15 +145,15 @@ item_breaks list_kind bodies Inside Broken ok bad c line_start (call name args a
         elim (bind_err _ _ _ e) [
           | inl h ↦ in_question stands h
           | inr x ↦ elim (bind_err _ _ _ x.2) [
-            | inl h ↦ in_yes stands x.1 (action_breaks (bodies (of_case list_kind)) (Broken (of_case list_kind)) (bad (of_case list_kind)) Yes (action_args m args) (after_question c x.0) f h)
+            | inl h ↦ in_yes stands x.1 (action_breaks (bodies (of_case list_kind)) (Broken (of_case list_kind)) (bad (of_case list_kind)) Yes (action_args m args) (after c x.0.0) f h)
             | inr y ↦ elim (bind_err _ _ _ y.2) [
               | inl h ↦
-                  in_no stands x.1 (action_found (bodies (of_case list_kind)) (Inside (of_case list_kind)) (ok (of_case list_kind)) Yes (action_args m args) (after_question c x.0) y.0 y.1)
-                  (action_breaks (bodies (of_case list_kind)) (Broken (of_case list_kind)) (bad (of_case list_kind)) No (drop 1 (action_args m args)) (after_cases (after_question c x.0) y.0) f h)
-              | inr z ↦ elim (bind_err (completed_of x.0 args) _ _ z.2) [
+                  in_no stands x.1 (action_found (bodies (of_case list_kind)) (Inside (of_case list_kind)) (ok (of_case list_kind)) Yes (action_args m args) (after c x.0.0) y.0 y.1)
+                  (action_breaks (bodies (of_case list_kind)) (Broken (of_case list_kind)) (bad (of_case list_kind)) No (drop 1 (action_args m args)) (after_cases (after c x.0.0) y.0) f h)
+              | inr z ↦ elim (bind_err (completed_of x.0.1 args) _ _ z.2) [
                 | inl h ↦
-                    in_includes stands x.1 (action_found (bodies (of_case list_kind)) (Inside (of_case list_kind)) (ok (of_case list_kind)) Yes (action_args m args) (after_question c x.0) y.0 y.1)
-                    (action_found (bodies (of_case list_kind)) (Inside (of_case list_kind)) (ok (of_case list_kind)) No (drop 1 (action_args m args)) (after_cases (after_question c x.0) y.0) z.0 z.1) h
+                    in_includes stands x.1 (action_found (bodies (of_case list_kind)) (Inside (of_case list_kind)) (ok (of_case list_kind)) Yes (action_args m args) (after c x.0.0) y.0 y.1)
+                    (action_found (bodies (of_case list_kind)) (Inside (of_case list_kind)) (ok (of_case list_kind)) No (drop 1 (action_args m args)) (after_cases (after c x.0.0) y.0) z.0 z.1) h
                 | inr w ↦ absurd (no_end _ f w.2)
               ]
             ]

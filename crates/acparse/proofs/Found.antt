@@ -13,7 +13,6 @@ use Rattle.acmacros.specs.declared.macros.Macro.TheVariants.{Plain, Choice as A_
 use Rattle.acmacros.specs.declared.macros.Named.{Named}
 use Rattle.acmacros.specs.declared.macros.Named.TheVariants.{Statement, Argument}
 use Rattle.acmacros.specs.declared.macros.QuestionMacro.{QuestionMacro}
-use Rattle.syntax.specs.Lists.{after_question}
 use Rattle.acmacros.specs.Checks.{completed_of}
 use Rattle.acmacros.specs.Placement.{as_statement}
 use Rattle.acmacros.specs.ListKind.{ListKind, Commands, of_case}
@@ -34,7 +33,7 @@ use Rattle.acargs.specs.Arguments.{cache_name, is_given}
 use Rattle.acargs.specs.Shell.{here_text}
 use Rattle.acstatement.specs.Texts.{arg_at}
 use Rattle.baretext.specs.declared.assignments.Assignment.{Assignment}
-use Rattle.syntax.specs.Lists.{after_all, after_cases}
+use Rattle.syntax.specs.Lists.{after, after_all, after_cases}
 use Rattle.syntax.specs.Script.{Script, Done, Cases, No_case}
 use Rattle.acparse.specs.Asked.{asked_with}
 use Rattle.acparse.specs.Bare.{bare_at, assigned, may_assign, of_value, assigned_in, idle_or, bare_of}
@@ -141,10 +140,10 @@ item_found list_kind bodies Inside ok c line_start (call name args at) next s e 
         let x = bind_ok _ _ _ e in
         let y = bind_ok _ _ _ x.2 in
         let z = bind_ok _ _ _ y.2 in
-        let w = bind_ok (completed_of x.0 args) _ _ z.2 in
+        let w = bind_ok (completed_of x.0.1 args) _ _ z.2 in
         subst (IsItem list_kind Inside c line_start (call name args at) next) (ok_is _ s w.2)
-        (question stands x.1 (action_found (bodies (of_case list_kind)) (Inside (of_case list_kind)) (ok (of_case list_kind)) Yes (action_args m args) (after_question c x.0) y.0 y.1)
-        (action_found (bodies (of_case list_kind)) (Inside (of_case list_kind)) (ok (of_case list_kind)) No (drop 1 (action_args m args)) (after_cases (after_question c x.0) y.0) z.0 z.1) w.1)
+        (question stands x.1 (action_found (bodies (of_case list_kind)) (Inside (of_case list_kind)) (ok (of_case list_kind)) Yes (action_args m args) (after c x.0.0) y.0 y.1)
+        (action_found (bodies (of_case list_kind)) (Inside (of_case list_kind)) (ok (of_case list_kind)) No (drop 1 (action_args m args)) (after_cases (after c x.0.0) y.0) z.0 z.1) w.1)
 
     check_found : MayStand list_kind c.stage line_start name args at next A_check → check_of bodies c args ≡ Ok s → IsItem list_kind Inside c line_start (call name args at) next s
     check_found stands e =

@@ -1,33 +1,26 @@
 -- Statements leave the lists of a source within their limits.
-use Rattle.std.proofs.Common.{◌≡◌, ℕ, zero, suc, Bool, true, false, List, Result, Ok, Err, refl, ap, sym, ◌∙◌, subst}
+use Rattle.std.proofs.Common.{ℕ, zero, suc, Bool, true, false, List, Result, Ok, Err, sym, ◌∙◌, subst}
 use Rattle.std.specs.Prelude.{IfOk}
 use Rattle.m4quote.specs.Entry.{Span, Entry}
 use Rattle.acstatement.specs.declared.fault.ParseFault.{ParseFault}
 use Rattle.acstatement.specs.declared.placement.LineStart.{LineStart}
 use Rattle.acargs.specs.Arguments.{is_given}
-use Rattle.acstatement.specs.Texts.{arg_at}
 use Rattle.acstatement.specs.Reading.{Gives}
-use Rattle.acargs.specs.Shell.{word}
-use Rattle.acstatement.proofs.Binds.{bind_ok, ok_is}
 use Rattle.acmacros.specs.declared.macros.ChoiceMacro.{ChoiceMacro}
-use Rattle.acmacros.specs.declared.macros.ChoiceMacro.TheVariants.{If, Case as As_case}
 use Rattle.syntax.specs.declared.declarations.Declarations as declarations
 use Rattle.syntax.specs.declared.declarations.Stage.{Stage}
 use Rattle.syntax.specs.Limits.{IsWithinLimits, HasShortLists}
-use Rattle.syntax.specs.Lists.{start, after_question}
+use Rattle.syntax.specs.Lists.{start, after}
 use Rattle.outputlist.specs.Output.{AreOutputs}
 use Rattle.acmacros.specs.ListKind.{ListKind, Top, of_case}
-use Rattle.acmacros.proofs.CheckLemmas.{completed_known}
 use Rattle.acmacros.proofs.LimitLemmas.{plain_keeps, question_keeps, precious_count, start_fits}
-use Rattle.syntax.specs.declared.tree.Subject.{Subject}
-use Rattle.syntax.specs.declared.tree.Subject.TheVariants.{Nothing, Word}
 use Rattle.syntax.specs.declared.tree.When.{When}
 use Rattle.syntax.specs.declared.tree.When.TheVariants.{Always}
-use Rattle.syntax.specs.Lists.{after_all, after_cases, after_subject, lists_of}
+use Rattle.syntax.specs.Lists.{after_all, after_cases, lists_of}
 use Rattle.syntax.specs.declared.tree.Stmt.{Stmt}
 use Rattle.syntax.specs.Script.{Script, Done, Then, Choice, Check, Cases, followed, script_of}
 use Rattle.syntax.proofs.ScriptLemmas.{after_joined, after_followed}
-use Rattle.acparse.specs.Profile.{source_of, subject_of, case_if}
+use Rattle.acparse.specs.Profile.{source_of, case_if}
 use Rattle.acparse.specs.Source.{IsSource}
 use Rattle.acparse.specs.Statements.{Within, IsBare, before, ended, assignments, AreCases, no_more, default, pair, IsAction, absent, there, IsItem, bare_text, plain_call, choice, question, check, AreStatements, none, one, IsBody}
 use Rattle.acparse.proofs.Questions.{asked_known}
@@ -46,8 +39,8 @@ bare_keeps c (assignments {list = list} v l may) h = subst IsWithinLimits (sym (
 case_keeps : (when : When) (given : Bool) (body : Script) (c : declarations.Declarations) → IsWithinLimits (after_all c body) → IsWithinLimits (after_cases c (case_if when given body))
 case_keeps when true body c h = h
 case_keeps when false Done c h = h
-case_keeps when false (Then s rest) c h = h
-case_keeps when false (Choice subject cases rest) c h = h
+case_keeps when false (Then d e rest) c h = h
+case_keeps when false (Choice d subject cases rest) c h = h
 case_keeps when false (Check message name commands rest) c h = h
 
 cases_keep : (Inside : Within) (keeps : Keeps Inside) (m : ChoiceMacro) {c : declarations.Declarations} {args : List Span} {cases : Cases} → AreCases Inside m c args cases → IsWithinLimits c → IsWithinLimits (after_cases c cases)
@@ -59,23 +52,16 @@ action_keeps : (Inside : Within) (keeps : Keeps Inside) (when : When) {c : decla
 action_keeps Inside keeps when absent h = h
 action_keeps Inside keeps when (there {c = c} {arg = arg} {body = body} i) h = case_keeps when (is_given arg) body c (keeps c arg body i h)
 
-subject_known : (m : ChoiceMacro) (args : List Span) (subject : Subject) (c : declarations.Declarations) → subject_of m args ≡ Ok subject → after_subject c subject ≡ c
-unfolding subject_of
-subject_known If args subject c e = subst (λ (s : Subject). after_subject c s ≡ c) (ok_is Nothing subject e) refl
-subject_known As_case args subject c e =
-    let w = bind_ok (word (arg_at args 0)) _ _ e in
-    subst (λ (s : Subject). after_subject c s ≡ c) (ok_is (Word w.0) subject w.2) refl
-
 item_keeps : (list_kind : ListKind) (Inside : ListKind → Within) (keeps : (x : ListKind) → Keeps (Inside x)) (c : declarations.Declarations) (line_start : LineStart) {item : Entry} {next : List Entry} {s : Script}
     → IsItem list_kind Inside c line_start item next s → IsWithinLimits c → IsWithinLimits (after_all c s)
+unfolding after
 item_keeps list_kind Inside keeps c line_start (bare_text i) h = bare_keeps c i h
-item_keeps list_kind Inside keeps c line_start (plain_call stands p) h = plain_keeps c _ _ _ _ p h
-item_keeps list_kind Inside keeps c line_start (choice {m = m} {subject = subject} {cases = cases} stands p i) h =
-    subst (λ (d : declarations.Declarations). IsWithinLimits (after_cases d cases)) (sym (subject_known m _ subject c p)) (cases_keep (Inside (of_case list_kind)) (keeps (of_case list_kind)) m i h)
-item_keeps list_kind Inside keeps c line_start (question {args = args} {q = q} {whole = whole} {first = first} {other = other} stands p f o w) h =
+item_keeps list_kind Inside keeps c line_start (plain_call {declares = d} {effect = e} stands p) h = plain_keeps c _ _ _ (d, e) p h
+item_keeps list_kind Inside keeps c line_start (choice {m = m} stands p i) h = cases_keep (Inside (of_case list_kind)) (keeps (of_case list_kind)) m i h
+item_keeps list_kind Inside keeps c line_start (question {declares = d} {q = q} {whole = whole} {first = first} {other = other} stands p f o w) h =
     let both = followed first other in
-    subst IsWithinLimits (sym (asked_known c whole both ∙ ap (λ d. after_cases d both) (completed_known c q whole args w) ∙ after_followed first other (after_question c q)))
-    (action_keeps (Inside (of_case list_kind)) (keeps (of_case list_kind)) _ o (action_keeps (Inside (of_case list_kind)) (keeps (of_case list_kind)) _ f (question_keeps c _ _ q p h)))
+    subst IsWithinLimits (sym (asked_known c d whole both ∙ after_followed first other (after c d)))
+    (action_keeps (Inside (of_case list_kind)) (keeps (of_case list_kind)) _ o (action_keeps (Inside (of_case list_kind)) (keeps (of_case list_kind)) _ f (question_keeps c _ _ (d, q) p h)))
 item_keeps list_kind Inside keeps c line_start (check stands m n i) h = keeps _ c _ _ i h
 
 items_keep : (list_kind : ListKind) (Inside : ListKind → Within) (keeps : (x : ListKind) → Keeps (Inside x)) {c : declarations.Declarations} {line_start : LineStart} {items : List Entry} {s : Script}

@@ -20,15 +20,16 @@ use Rattle.acmacros.specs.declared.macros.ChoiceMacro.TheVariants.{If, Case as A
 use Rattle.acmacros.specs.declared.macros.Macro.TheVariants.{Plain as A_plain, Question as A_question, Check as A_check}
 use Rattle.acmacros.specs.declared.macros.PlainMacro.{PlainMacro}
 use Rattle.acmacros.specs.declared.macros.QuestionMacro.{QuestionMacro}
-use Rattle.acmacros.specs.declared.macros.QuestionMacro.TheVariants.{Given, Tries, Checks, ChecksEach, Library, Libraries}
+use Rattle.acmacros.specs.declared.macros.QuestionMacro.TheVariants.{Tries}
 use Rattle.acmacros.specs.Checks.{completed_of}
-use Rattle.acmacros.specs.Rows.{question_of}
+use Rattle.acmacros.specs.Rows.{question_of, undeclared}
 use Rattle.acmacros.specs.ListKind.{ListKind, Top, Nested, Commands, of_case, may_hold}
 use Rattle.acmacros.specs.Tries.{tries, tried_program}
 use Rattle.syntax.specs.declared.declarations.Declarations as declarations
 use Rattle.syntax.specs.declared.declarations.Stage.{Stage}
-use Rattle.syntax.specs.declared.statement.Plain as plain
-use Rattle.syntax.specs.declared.listed.Sought.TheVariants.{Entry, «Type»}
+use Rattle.syntax.specs.declared.statement.Declares.{Declares}
+use Rattle.syntax.specs.declared.statement.Declares.TheVariants as declares
+use Rattle.syntax.specs.declared.statement.Effect.{Effect}
 use Rattle.syntax.specs.declared.statement.Question as question_of_tree
 use Rattle.syntax.specs.declared.statement.Question.TheVariants as asks
 use Rattle.syntax.specs.declared.tree.Stmt.{Stmt}
@@ -36,13 +37,14 @@ use Rattle.syntax.specs.declared.tree.Subject.{Subject}
 use Rattle.syntax.specs.declared.tree.Subject.TheVariants.{Nothing, Word, Asked}
 use Rattle.syntax.specs.declared.tree.When.{When}
 use Rattle.syntax.specs.declared.tree.When.TheVariants.{Always}
-use Rattle.syntax.specs.Commands.{TriesAlone, AreCommands, AreCommandsIn, HasCommands, HasCommandsIn}
+use Rattle.syntax.specs.Commands.{DeclaresNothing, TriesAlone, AreCommands, AreCommandsIn, HasCommands, HasCommandsIn}
 use Rattle.syntax.specs.Script.{Script, Done, Then, Choice, Check, Cases, No_case, Case, joined, followed, script_of}
 use Rattle.acparse.specs.Asked.{asked_by}
 use Rattle.acparse.specs.Bare.{assigned, may_assign, set_alone}
 use Rattle.acparse.specs.Profile.{source_of, subject_of, case_if}
 use Rattle.acparse.specs.Source.{IsSource}
 use Rattle.acparse.specs.Statements.{Within, IsBare, before, ended, assignments, AreCases, no_more, default, pair, IsAction, absent, there, IsItem, bare_text, plain_call, choice, question, check, AreStatements, none, one, IsBody}
+use Rattle.acparse.proofs.Questions.{asked_one}
 use Rattle.acparse.proofs.Whole.{source_found}
 
 -- The statements of the list: commands, or statements with commands in them.
@@ -64,14 +66,14 @@ Holds list_kind Inside = (c : declarations.Declarations) (arg : Span) (s : Scrip
 
 commands_joined : (n : List ℕ) (a b : Script) → AreCommands n a → AreCommands n b → AreCommands n (joined a b)
 commands_joined n Done b h k = k
-commands_joined n (Then s rest) b h k = (h.0, commands_joined n rest b h.1 k)
-commands_joined n (Choice subject cases rest) b h k = (h.0, (h.1.0, commands_joined n rest b h.1.1 k))
+commands_joined n (Then d e rest) b h k = (h.0, (h.1.0, commands_joined n rest b h.1.1 k))
+commands_joined n (Choice d subject cases rest) b h k = (h.0, (h.1.0, (h.1.1.0, commands_joined n rest b h.1.1.1 k)))
 commands_joined n (Check message other commands rest) b h k = absurd h
 
 has_joined : (a b : Script) → HasCommands a → HasCommands b → HasCommands (joined a b)
 has_joined Done b h k = k
-has_joined (Then s rest) b h k = has_joined rest b h k
-has_joined (Choice subject cases rest) b h k = (h.0, has_joined rest b h.1 k)
+has_joined (Then d e rest) b h k = has_joined rest b h k
+has_joined (Choice d subject cases rest) b h k = (h.0, has_joined rest b h.1 k)
 has_joined (Check message n commands rest) b h k = (h.0, (h.1.0, has_joined rest b h.1.1 k))
 
 held_joined : (list_kind : ListKind) (a b : Script) → Held list_kind a → Held list_kind b → Held list_kind (joined a b)
@@ -101,7 +103,7 @@ both_true false b e = absurd cc
 commands_assigned : (n : List ℕ) (list : List Assignment) → set_alone n list ≡ true → AreCommands n (assigned list)
 commands_assigned n [] e = tt
 commands_assigned n (a ∷ more) e =
-    let p = both_true (bytes_eq a.name n) (set_alone n more) e in ((bytes_eq-Decides a.name n).0 p.0, commands_assigned n more p.1)
+    let p = both_true (bytes_eq a.name n) (set_alone n more) e in (tt, ((bytes_eq-Decides a.name n).0 p.0, commands_assigned n more p.1))
 
 has_assigned : (list : List Assignment) → HasCommands (assigned list)
 has_assigned [] = tt
@@ -138,8 +140,8 @@ held_no_case (Commands n at) = tt
 held_if : (list_kind : ListKind) (when : When) (given : Bool) (body : Script) → Held list_kind body → HeldIn list_kind (case_if when given body)
 held_if list_kind when true body h = held_case list_kind when body No_case h (held_no_case list_kind)
 held_if list_kind when false Done h = held_no_case list_kind
-held_if list_kind when false (Then s rest) h = held_case list_kind when (Then s rest) No_case h (held_no_case list_kind)
-held_if list_kind when false (Choice subject cases rest) h = held_case list_kind when (Choice subject cases rest) No_case h (held_no_case list_kind)
+held_if list_kind when false (Then d e rest) h = held_case list_kind when (Then d e rest) No_case h (held_no_case list_kind)
+held_if list_kind when false (Choice d subject cases rest) h = held_case list_kind when (Choice d subject cases rest) No_case h (held_no_case list_kind)
 held_if list_kind when false (Check message n commands rest) h = held_case list_kind when (Check message n commands rest) No_case h (held_no_case list_kind)
 
 cases_held : (list_kind : ListKind) (Inside : Within) (holds : Holds list_kind Inside) (m : ChoiceMacro) {c : declarations.Declarations} {args : List Span} {cases : Cases} → AreCases Inside m c args cases → HeldIn list_kind cases
@@ -159,11 +161,11 @@ of_case_held Top s h = h
 of_case_held Nested s h = h
 of_case_held (Commands n at) s h = h
 
-plain_held : (list_kind : ListKind) (m : PlainMacro) (s : plain.Plain) → may_hold list_kind (A_plain m) ≡ Ok tt → Held list_kind (Then s Done)
+plain_held : (list_kind : ListKind) (m : PlainMacro) (d : Declares) (e : Effect) → may_hold list_kind (A_plain m) ≡ Ok tt → Held list_kind (Then d e Done)
 unfolding may_hold
-plain_held Top m s e = tt
-plain_held Nested m s e = tt
-plain_held (Commands n at) m s e = absurd cc
+plain_held Top m d e h = tt
+plain_held Nested m d e h = tt
+plain_held (Commands n at) m d e h = absurd cc
 
 subject_tries : (m : ChoiceMacro) (args : List Span) (subject : Subject) → subject_of m args ≡ Ok subject → TriesAlone subject
 unfolding subject_of
@@ -172,54 +174,38 @@ subject_tries As_case args subject e =
     let w = bind_ok (word (arg_at args 0)) _ _ e in
     subst TriesAlone (ok_is (Word w.0) subject w.2) tt
 
-held_choice : (list_kind : ListKind) (subject : Subject) (cases : Cases) → TriesAlone subject → HeldIn list_kind cases → Held list_kind (Choice subject cases Done)
+held_choice : (list_kind : ListKind) (subject : Subject) (cases : Cases) → TriesAlone subject → HeldIn list_kind cases → Held list_kind (Choice declares.Nothing subject cases Done)
 held_choice Top subject cases t h = (h, tt)
 held_choice Nested subject cases t h = (h, tt)
-held_choice (Commands n at) subject cases t h = (t, (h, tt))
+held_choice (Commands n at) subject cases t h = (tt, (t, (h, tt)))
 
-tried : (c : declarations.Declarations) (m : QuestionMacro) (args : List Span) (q : question_of_tree.Question) (n : List ℕ) (at : ℕ) → may_hold (Commands n at) (A_question m) ≡ Ok tt → question_of c m args ≡ Ok q → TriesAlone (Asked q)
-unfolding may_hold tries
-tried c (Given kind) args q n at e f = absurd cc
-tried c (Tries kind) args q n at e f =
-    let p = bind_ok (tried_program (arg_at args 0)) _ _ f in
-    subst (λ (q : question_of_tree.Question). TriesAlone (Asked q)) (ok_is _ q p.2) tt
-tried c (Checks sought) args q n at e f = absurd cc
-tried c (ChecksEach sought) args q n at e f = absurd cc
-tried c Library args q n at e f = absurd cc
-tried c Libraries args q n at e f = absurd cc
+tried : (c : declarations.Declarations) (m : QuestionMacro) (args : List Span) (d : Declares) (q : question_of_tree.Question) (n : List ℕ) (at : ℕ) → may_hold (Commands n at) (A_question m) ≡ Ok tt → question_of c m args ≡ Ok (d, q)
+    → DeclaresNothing d × TriesAlone (Asked q)
+unfolding may_hold undeclared tries
+tried c (Tries kind) args d q n at e f =
+    let u = bind_ok (tries kind args) _ _ f in
+    let p = bind_ok (tried_program (arg_at args 0)) _ _ u.1 in
+    subst (λ (s : Declares × question_of_tree.Question). DeclaresNothing s.0 × TriesAlone (Asked s.1)) (ok_is _ (d, q) u.2) (tt, subst (λ (q : question_of_tree.Question). TriesAlone (Asked q)) (ok_is _ u.0 p.2) tt)
+tried c m args d q n at e f = absurd cc
 
 tried_whole : (q whole : question_of_tree.Question) (args : List Span) → TriesAlone (Asked q) → completed_of q args ≡ Ok whole → TriesAlone (Asked whole)
 unfolding completed_of
-tried_whole (asks.Given kind variable help) whole args t e = absurd t
 tried_whole (asks.Tries kind program) whole args t e = subst (λ (q : question_of_tree.Question). TriesAlone (Asked q)) (ok_is _ whole e) tt
-tried_whole (asks.Checks sought entry includes) whole args t e = absurd t
-tried_whole (asks.ChecksEach sought entries includes) whole args t e = absurd t
-tried_whole (asks.Library library function others adds) whole args t e = absurd t
-tried_whole (asks.Libraries function libraries others) whole args t e = absurd t
+tried_whole q whole args t e = absurd t
 
-has_asked : (q : question_of_tree.Question) (cases : Cases) → HasCommandsIn cases → HasCommands (asked_by q cases)
-has_asked (asks.Given kind variable help) cases h = (h, tt)
-has_asked (asks.Tries kind program) cases h = (h, tt)
-has_asked (asks.Checks sought entry includes) cases h = (h, tt)
-has_asked (asks.ChecksEach (Entry listed) entries includes) No_case h = tt
-has_asked (asks.ChecksEach (Entry listed) entries includes) (Case when body more) h = (h, tt)
-has_asked (asks.ChecksEach «Type» entries includes) cases h = (h, tt)
-has_asked (asks.Library library function others adds) cases h = (h, tt)
-has_asked (asks.Libraries function libraries others) cases h = (h, tt)
+commands_asked : (n : List ℕ) (d : Declares) (q : question_of_tree.Question) (cases : Cases) → DeclaresNothing d → TriesAlone (Asked q) → AreCommandsIn n cases → AreCommands n (asked_by d q cases)
+commands_asked n d (asks.Tries kind program) cases e t h = (e, (t, (h, tt)))
+commands_asked n d q cases e t h = absurd t
 
-commands_asked : (n : List ℕ) (q : question_of_tree.Question) (cases : Cases) → TriesAlone (Asked q) → AreCommandsIn n cases → AreCommands n (asked_by q cases)
-commands_asked n (asks.Given kind variable help) cases t h = absurd t
-commands_asked n (asks.Tries kind program) cases t h = (t, (h, tt))
-commands_asked n (asks.Checks sought entry includes) cases t h = absurd t
-commands_asked n (asks.ChecksEach sought entries includes) cases t h = absurd t
-commands_asked n (asks.Library library function others adds) cases t h = absurd t
-commands_asked n (asks.Libraries function libraries others) cases t h = absurd t
+has_asked : (d : Declares) (q : question_of_tree.Question) (cases : Cases) → HasCommandsIn cases → HasCommands (asked_by d q cases)
+has_asked d q cases h = asked_one (λ cases s. HasCommandsIn cases → HasCommands s) d q cases (λ listed entries includes h. tt) (λ q h. (h, tt)) h
 
-held_question : (list_kind : ListKind) (c : declarations.Declarations) (m : QuestionMacro) (args : List Span) (q whole : question_of_tree.Question) (cases : Cases) → may_hold list_kind (A_question m) ≡ Ok tt → question_of c m args ≡ Ok q
-    → completed_of q args ≡ Ok whole → HeldIn list_kind cases → Held list_kind (asked_by whole cases)
-held_question Top c m args q whole cases e f w h = has_asked whole cases h
-held_question Nested c m args q whole cases e f w h = has_asked whole cases h
-held_question (Commands n at) c m args q whole cases e f w h = commands_asked n whole cases (tried_whole q whole args (tried c m args q n at e f) w) h
+held_question : (list_kind : ListKind) (c : declarations.Declarations) (m : QuestionMacro) (args : List Span) (d : Declares) (q whole : question_of_tree.Question) (cases : Cases) → may_hold list_kind (A_question m) ≡ Ok tt → question_of c m args ≡ Ok (d, q)
+    → completed_of q args ≡ Ok whole → HeldIn list_kind cases → Held list_kind (asked_by d whole cases)
+held_question Top c m args d q whole cases e f w h = has_asked d whole cases h
+held_question Nested c m args d q whole cases e f w h = has_asked d whole cases h
+held_question (Commands n at) c m args d q whole cases e f w h =
+    let t = tried c m args d q n at e f in commands_asked n d whole cases t.0 (tried_whole q whole args t.1 w) h
 
 named : (arg : Span) (n : List ℕ) → cache_name arg ≡ Ok n → is_cache_name n ≡ true
 unfolding cache_name
@@ -239,12 +225,12 @@ held_check (Commands other to) arg message n at commands e f h = absurd cc
 item_held : (list_kind : ListKind) (Inside : ListKind → Within) (holds : (x : ListKind) → Holds x (Inside x)) (c : declarations.Declarations) (line_start : LineStart) {item : items.Entry} {next : List items.Entry} {s : Script}
     → IsItem list_kind Inside c line_start item next s → Held list_kind s
 item_held list_kind Inside holds c line_start (bare_text i) = bare_held list_kind i
-item_held list_kind Inside holds c line_start (plain_call {m = m} {s = s} stands p) = plain_held list_kind m s stands.held
+item_held list_kind Inside holds c line_start (plain_call {m = m} {declares = d} {effect = e} stands p) = plain_held list_kind m d e stands.held
 item_held list_kind Inside holds c line_start (choice {args = args} {m = m} {subject = subject} {cases = cases} stands p i) =
     held_choice list_kind subject cases (subject_tries m args subject p) (cases_held list_kind (Inside (of_case list_kind)) (λ c arg s x. of_case_held list_kind s (holds (of_case list_kind) c arg s x)) m i)
-item_held list_kind Inside holds c line_start (question {args = args} {m = m} {q = q} {whole = whole} {first = first} {other = other} stands p f o w) =
+item_held list_kind Inside holds c line_start (question {args = args} {m = m} {declares = d} {q = q} {whole = whole} {first = first} {other = other} stands p f o w) =
     let inner : Holds list_kind (Inside (of_case list_kind)) = λ c arg s x. of_case_held list_kind s (holds (of_case list_kind) c arg s x) in
-    held_question list_kind c m args q whole (followed first other) stands.held p w
+    held_question list_kind c m args d q whole (followed first other) stands.held p w
     (held_followed list_kind first other (action_held list_kind (Inside (of_case list_kind)) inner _ f) (action_held list_kind (Inside (of_case list_kind)) inner _ o))
 item_held list_kind Inside holds c line_start (check {args = args} {message = message} {variable = variable} {commands = commands} stands m n i) =
     let at = (arg_at args 2).at in

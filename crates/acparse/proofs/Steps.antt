@@ -16,20 +16,19 @@ use Rattle.acmacros.specs.declared.macros.ChoiceMacro.{ChoiceMacro}
 use Rattle.acmacros.specs.declared.macros.Macro.{Macro}
 use Rattle.acmacros.specs.declared.macros.QuestionMacro.{QuestionMacro}
 use Rattle.syntax.specs.declared.declarations.Declarations as declarations
+use Rattle.syntax.specs.declared.statement.Declares.{Declares}
 use Rattle.syntax.specs.declared.statement.Question.{Question}
-use Rattle.acmacros.proofs.CheckLemmas.{completed_known}
 use Rattle.acmacros.specs.Checks.{completed_of}
 use Rattle.acmacros.specs.Rows.{question_of}
 use Rattle.acmacros.specs.ListKind.{ListKind}
-use Rattle.syntax.specs.Lists.{after_question}
 use Rattle.syntax.specs.declared.tree.Case as case
 use Rattle.syntax.specs.declared.tree.Stmt.{Stmt}
 use Rattle.syntax.specs.declared.tree.When.{When}
 use Rattle.syntax.specs.declared.tree.When.TheVariants.{Yes, No}
-use Rattle.syntax.specs.Lists.{after_all, after_cases}
+use Rattle.syntax.specs.Lists.{after, after_all, after_cases}
 use Rattle.syntax.specs.Script.{Script, Cases, No_case, Case, joined, followed, script_of, cases_of}
 use Rattle.syntax.proofs.ScriptLemmas.{script_push, joined_done, joined_assoc, after_joined, cases_push, followed_assoc, after_followed}
-use Rattle.acparse.specs.Asked.{asked_by, asked_with}
+use Rattle.acparse.specs.Asked.{asked_with}
 use Rattle.acparse.specs.Bare.{bare_of}
 use Rattle.acparse.specs.Profile.{Bodies, Adds, following, when_of, case_of, cases_in, action_in, action_args, answers_in, asked_of, items_of, item_of, call_of, checked}
 use Rattle.acparse.proofs.Questions.{asked_known}
@@ -224,39 +223,35 @@ two_actions next (Ok f) other = one_action next f (other f)
 two_actions next (Err f) other = refl
 
 -- A question is read, then its answers, and then its includes.
-pub asked_is : (bodies : Bodies) (m : QuestionMacro) (c : declarations.Declarations) (args : List Span) (q : Question) → question_of c m args ≡ Ok q
-    → asked_of bodies m c args ≡ (answers_in bodies (after_question c q) (action_args m args) >>= λ cases. asked_with q cases args)
+pub asked_is : (bodies : Bodies) (m : QuestionMacro) (c : declarations.Declarations) (args : List Span) (q : Declares × Question) → question_of c m args ≡ Ok q
+    → asked_of bodies m c args ≡ (answers_in bodies (after c q.0) (action_args m args) >>= λ cases. asked_with q.0 q.1 cases args)
 unfolding asked_of answers_in
 asked_is bodies m c args q is =
-    ap (λ r. r >>= λ q. action_in bodies Yes (after_question c q) (action_args m args) >>= λ first. action_in bodies No (after_cases (after_question c q) first) (drop 1 (action_args m args)) >>= λ other. asked_with q (followed first other) args) is
-    ∙ two_actions (λ cases. asked_with q cases args) (action_in bodies Yes (after_question c q) (action_args m args)) (λ first. action_in bodies No (after_cases (after_question c q) first) (drop 1 (action_args m args)))
+    ap (λ r. r >>= λ q. action_in bodies Yes (after c q.0) (action_args m args) >>= λ first. action_in bodies No (after_cases (after c q.0) first) (drop 1 (action_args m args)) >>= λ other. asked_with q.0 q.1 (followed first other) args) is
+    ∙ two_actions (λ cases. asked_with q.0 q.1 cases args) (action_in bodies Yes (after c q.0) (action_args m args)) (λ first. action_in bodies No (after_cases (after c q.0) first) (drop 1 (action_args m args)))
 
 -- With its answers read, what is left is the includes.
-pub asked_rest : (bodies : Bodies) (m : QuestionMacro) (c d : declarations.Declarations) (args actions : List Span) (q : Question) (cases : Cases) → question_of c m args ≡ Ok q
-    → d ≡ after_question c q → actions ≡ action_args m args → answers_in bodies d actions ≡ Ok cases → asked_of bodies m c args ≡ asked_with q cases args
+pub asked_rest : (bodies : Bodies) (m : QuestionMacro) (c d : declarations.Declarations) (args actions : List Span) (q : Declares × Question) (cases : Cases) → question_of c m args ≡ Ok q
+    → d ≡ after c q.0 → actions ≡ action_args m args → answers_in bodies d actions ≡ Ok cases → asked_of bodies m c args ≡ asked_with q.0 q.1 cases args
 asked_rest bodies m c d args actions q cases is k a read =
-    let here : answers_in bodies (after_question c q) (action_args m args) ≡ Ok cases =
+    let here : answers_in bodies (after c q.0) (action_args m args) ≡ Ok cases =
     ap (λ x. answers_in bodies x (action_args m args)) (sym k) ∙ ap (answers_in bodies d) (sym a) ∙ read in
-    asked_is bodies m c args q is ∙ ap (λ r. r >>= λ cases. asked_with q cases args) here
+    asked_is bodies m c args q is ∙ ap (λ r. r >>= λ cases. asked_with q.0 q.1 cases args) here
 
 -- An error in its answers is one of the whole.
-pub asked_fails : (e : ParseFault) (bodies : Bodies) (m : QuestionMacro) (c d : declarations.Declarations) (args actions : List Span) (q : Question) → question_of c m args ≡ Ok q
-    → d ≡ after_question c q → actions ≡ action_args m args → Fails e (answers_in bodies d actions) → Fails e (asked_of bodies m c args)
+pub asked_fails : (e : ParseFault) (bodies : Bodies) (m : QuestionMacro) (c d : declarations.Declarations) (args actions : List Span) (q : Declares × Question) → question_of c m args ≡ Ok q
+    → d ≡ after c q.0 → actions ≡ action_args m args → Fails e (answers_in bodies d actions) → Fails e (asked_of bodies m c args)
 asked_fails e bodies m c d args actions q is k a h =
-    let here : asked_of bodies m c args ≡ (answers_in bodies d actions >>= λ cases. asked_with q cases args) =
-    asked_is bodies m c args q is ∙ ap (λ x. answers_in bodies x (action_args m args) >>= λ cases. asked_with q cases args) (sym k)
-    ∙ ap (λ x. answers_in bodies d x >>= λ cases. asked_with q cases args) (sym a) in
+    let here : asked_of bodies m c args ≡ (answers_in bodies d actions >>= λ cases. asked_with q.0 q.1 cases args) =
+    asked_is bodies m c args q is ∙ ap (λ x. answers_in bodies x (action_args m args) >>= λ cases. asked_with q.0 q.1 cases args) (sym k)
+    ∙ ap (λ x. answers_in bodies d x >>= λ cases. asked_with q.0 q.1 cases args) (sym a) in
     fails_along e _ _ (sym here) (fails_bind e _ _ h)
 
-asked_after : (c : declarations.Declarations) (q whole : Question) (args : List Span) (cases : Cases) (s : Script) → completed_of q args ≡ Ok whole → asked_by whole cases ≡ s
-    → after_all c s ≡ after_cases (after_question c q) cases
-asked_after c q whole args cases s w e = ap (after_all c) (sym e) ∙ asked_known c whole cases ∙ ap (λ d. after_cases d cases) (completed_known c q whole args w)
-
--- The statement declares what the question and the cases do.
-pub asked_with_known : (c d e : declarations.Declarations) (q : Question) (args : List Span) (cases : Cases) (r : Result Stmt ParseFault)
-    → d ≡ after_question c q → e ≡ after_cases d cases → Gives (λ s. script_of (s ∷ [])) r (asked_with q cases args) → IfOk r (λ s. e ≡ after_all c (script_of (s ∷ [])))
+-- The statement declares what the macro and the cases do.
+pub asked_with_known : (c d e : declarations.Declarations) (declared : Declares) (q : Question) (args : List Span) (cases : Cases) (r : Result Stmt ParseFault)
+    → d ≡ after c declared → e ≡ after_cases d cases → Gives (λ s. script_of (s ∷ [])) r (asked_with declared q cases args) → IfOk r (λ s. e ≡ after_all c (script_of (s ∷ [])))
 unfolding asked_with
-asked_with_known c d e q args cases (Ok s) k l h =
+asked_with_known c d e declared q args cases (Ok s) k l h =
     let w = bind_ok (completed_of q args) _ _ h in
-    l ∙ ap (λ x. after_cases x cases) k ∙ sym (asked_after c q w.0 args cases (script_of (s ∷ [])) w.1 (ok_is _ _ w.2))
-asked_with_known c d e q args cases (Err f) k l h = tt
+    l ∙ ap (λ x. after_cases x cases) k ∙ sym (asked_known c declared w.0 cases) ∙ ap (after_all c) (ok_is _ _ w.2)
+asked_with_known c d e declared q args cases (Err f) k l h = tt

@@ -1,38 +1,39 @@
 -- The variable of each program that is looked for is a shell name.
 use Rattle.std.proofs.Common.{◌≡◌, ℕ, zero, suc, Bool, true, false, cond, List, [], ◌∷◌, length, Result, Ok, Err, refl, subst}
-use Rattle.std.specs.Prelude.{Option, IfOk, nat_lt, codes}
+use Rattle.std.specs.Prelude.{Option, IfOk, nat_lt}
 use Rattle.baretext.specs.declared.assignments.Assignment.{Assignment}
 use Rattle.m4quote.specs.Entry.{Span}
 use Rattle.m4quote.specs.Entry as items
 use Rattle.deftable.specs.ShellName.{is_shell_name_of, IsShellName}
 use Rattle.shellword.specs.declared.part.Part.{Part}
 use Rattle.acstatement.specs.declared.fault.ParseFault.{ParseFault}
-use Rattle.acstatement.specs.declared.fault.ParseFault.TheVariants.{TooMany}
+use Rattle.acstatement.specs.declared.fault.ParseFault.TheVariants.{BadName, TooMany}
 use Rattle.acstatement.specs.declared.placement.LineStart.{LineStart}
 use Rattle.acstatement.specs.Reading.{◌>>=◌, Gives, wants}
 use Rattle.acstatement.specs.Texts.{arg_at}
-use Rattle.acstatement.proofs.Binds.{bind_ok, ok_is, wants_ok}
 use Rattle.acargs.specs.Arguments as arguments
 use Rattle.acargs.specs.Arguments.{is_given, line, name, text, title}
 use Rattle.acargs.specs.Numbers.{language, status, version}
-use Rattle.acargs.specs.Outputs.{outputs}
 use Rattle.acargs.specs.Programs.{program, programs}
 use Rattle.acargs.specs.Shell.{word, here_text}
 use Rattle.acmacros.specs.declared.macros.ChoiceMacro.{ChoiceMacro}
+use Rattle.acmacros.specs.declared.macros.ActMacro.{ActMacro}
+use Rattle.acmacros.specs.declared.macros.ActMacro.TheVariants as acts
+use Rattle.acmacros.specs.declared.macros.DeclaringMacro.{DeclaringMacro}
+use Rattle.acmacros.specs.declared.macros.DeclaringMacro.TheVariants as macro
 use Rattle.acmacros.specs.declared.macros.PlainMacro.{PlainMacro}
-use Rattle.acmacros.specs.declared.macros.PlainMacro.TheVariants as macro
+use Rattle.acmacros.specs.declared.macros.PlainMacro.TheVariants as plain
 use Rattle.acmacros.specs.Room.{has_room}
-use Rattle.acmacros.specs.Rows.{plain_of, init, tarname, prereq, lang, config_files, config_headers, subst as subst_row, subst_of, defined, define, unquoted_of, unquoted, define_unquoted, msg_error, message_of, arg_var}
+use Rattle.acmacros.specs.Rows.{plain_of, act_of, declaring_of, undeclared, init, tarname, prereq, lang, outputs_of, config_outputs, subst as subst_row, assigned, defined, define, unquoted_of, unquoted, define_unquoted, msg_error, message_of, arg_var}
 use Rattle.acmacros.specs.ListKind.{ListKind, Top, of_case}
 use Rattle.acmacros.specs.Searches.{has_tool_room, output_variable, optional_text, searched, compilers, check_prog, check_progs, path_prog, prog_cc}
 use Rattle.syntax.specs.declared.declarations.Declarations as declarations
 use Rattle.syntax.specs.declared.declarations.Stage.{Stage}
-use Rattle.syntax.specs.declared.listed.Sought.TheVariants.{Entry, «Type»}
-use Rattle.syntax.specs.declared.statement.MessageKind.{MessageKind}
-use Rattle.syntax.specs.declared.statement.Plain.{Plain}
-use Rattle.syntax.specs.declared.statement.Plain.TheVariants.{Subst, SubstValue, Define, DefineUnquoted, CheckProgs, PathProg}
-use Rattle.syntax.specs.declared.statement.Question as question_of_tree
-use Rattle.syntax.specs.declared.statement.Question.TheVariants as asks
+use Rattle.syntax.specs.declared.statement.Declares.{Declares}
+use Rattle.syntax.specs.declared.statement.Effect.{Effect}
+use Rattle.syntax.specs.declared.statement.Effect.TheVariants.{Search, Searches}
+use Rattle.syntax.specs.declared.statement.ProgramValue.TheVariants.{FullName}
+use Rattle.syntax.specs.declared.statement.Question.{Question}
 use Rattle.syntax.specs.declared.tree.Stmt.{Stmt}
 use Rattle.syntax.specs.declared.tree.When.{When}
 use Rattle.syntax.specs.declared.tree.When.TheVariants.{Always}
@@ -40,138 +41,104 @@ use Rattle.syntax.specs.Script.{Script, Done, Then, Choice, Check, Cases, No_cas
 use Rattle.syntax.specs.TestNames.{NamesVariable, HasTestNames, HasTestNamesIn}
 use Rattle.syntax.specs.Texts.{is_empty}
 use Rattle.acparse.specs.Asked.{asked_by}
-use Rattle.acparse.specs.Bare.{assigned}
+use Rattle.acparse.specs.Bare as bare_texts
 use Rattle.acparse.specs.Profile.{source_of, case_if}
 use Rattle.acparse.specs.Source.{IsSource}
 use Rattle.acparse.specs.Statements.{Within, IsBare, before, ended, assignments, AreCases, no_more, default, pair, IsAction, absent, there, IsItem, bare_text, plain_call, choice, question, check, AreStatements, none, one, IsBody}
+use Rattle.acparse.proofs.Questions.{asked_one}
 use Rattle.acparse.proofs.Whole.{source_found}
 
 -- ---- statements with no statements in them
 
-name_form : (arg : Span) (n : List ℕ) → name arg ≡ Ok n → IsShellName n
+-- What is read after something has a property, if it has it given what is known of that.
+after_form : {A B : Type 0} (Q : A → Type 0) (P : B → Type 0) (r : Result A ParseFault) (next : A → Result B ParseFault) → IfOk r Q → ((x : A) → Q x → IfOk (next x) P) → IfOk (r >>= next) P
+after_form Q P (Ok x) next q h = h x q
+after_form Q P (Err f) next q h = tt
+
+-- The same, if nothing has to be known.
+after_any : {A B : Type 0} (P : B → Type 0) (r : Result A ParseFault) (next : A → Result B ParseFault) → ((x : A) → IfOk (next x) P) → IfOk (r >>= next) P
+after_any P (Ok x) next h = h x
+after_any P (Err f) next h = tt
+
+one_of_two : {B : Type 0} (P : B → Type 0) (b : Bool) (r q : Result B ParseFault) → IfOk r P → IfOk q P → IfOk (cond b r q) P
+one_of_two P true r q h k = h
+one_of_two P false r q h k = k
+
+name_form : (arg : Span) → IfOk (name arg) IsShellName
 unfolding name
-name_form arg n e =
-    let t = bind_ok (arguments.trimmed_text arg) _ _ e in
-    let w = bind_ok _ _ _ t.2 in
-    subst IsShellName (ok_is t.0 n w.2) (wants_ok (is_shell_name_of t.0) _ _ w.1)
+name_form arg = after_any IsShellName (arguments.trimmed_text arg) _ (λ t. is_form t (is_shell_name_of t) refl)
+  where
+    is_form : (t : List ℕ) (b : Bool) → is_shell_name_of t ≡ b → IfOk (wants b (BadName arg.at) >>= λ _. Ok t) IsShellName
+    is_form t true e = e
+    is_form t false e = tt
 
-variable_form : (c : declarations.Declarations) (arg : Span) (n : List ℕ) → output_variable c arg ≡ Ok n → IsShellName n
+variable_form : (c : declarations.Declarations) (arg : Span) → IfOk (output_variable c arg) IsShellName
 unfolding output_variable
-variable_form c arg n e =
-    let t = bind_ok (name arg) _ _ e in
-    let w = bind_ok (wants (has_room c.substituted t.0) (TooMany arg.at)) _ _ t.2 in
-    subst IsShellName (ok_is t.0 n w.2) (name_form arg t.0 t.1)
+variable_form c arg = after_form IsShellName IsShellName (name arg) _ (name_form arg) (λ n form. after_any IsShellName (wants (has_room c.substituted n) (TooMany arg.at)) _ (λ _. form))
 
-unquoted_of_named : (n t : List ℕ) (arg : Span) (s : Plain) → unquoted_of n t arg ≡ Ok s → NamesVariable s
-unfolding unquoted_of
-unquoted_of_named n t arg s e =
-    elim (is_empty t) as (λ b. cond b (Ok (Define n (codes "/**/"))) (here_text arg >>= λ h. Ok (DefineUnquoted n h)) ≡ Ok s → NamesVariable s) [
-      | true ↦ λ e. subst NamesVariable (ok_is _ s e) tt
-      | false ↦ λ e. let w = bind_ok (here_text arg) _ _ e in subst NamesVariable (ok_is _ s w.2) tt
-    ] e
+unquoted_named : (n : List ℕ) (args : List Span) → IfOk (unquoted n args) NamesVariable
+unfolding unquoted unquoted_of
+unquoted_named n args =
+    one_of_two NamesVariable (nat_lt (length args) 2) _ _ tt
+    (after_any NamesVariable (line (arg_at args 1)) _ (λ t. one_of_two NamesVariable (is_empty t) _ _ tt (after_any NamesVariable (here_text (arg_at args 1)) _ (λ h. tt))))
 
-unquoted_named : (n : List ℕ) (args : List Span) (s : Plain) → unquoted n args ≡ Ok s → NamesVariable s
-unfolding unquoted
-unquoted_named n args s e =
-    elim (nat_lt (length args) 2) as (λ b. cond b (Ok (Define n (codes "1"))) (line (arg_at args 1) >>= λ t. unquoted_of n t (arg_at args 1)) ≡ Ok s → NamesVariable s) [
-      | true ↦ λ e. subst NamesVariable (ok_is _ s e) tt
-      | false ↦ λ e. let w = bind_ok (line (arg_at args 1)) _ _ e in unquoted_of_named n w.0 (arg_at args 1) s w.2
-    ] e
+-- A macro that declares nothing looks for no program.
+act_named : (m : ActMacro) (args : List Span) → IfOk (act_of m args) NamesVariable
+unfolding prereq lang define define_unquoted msg_error message_of
+act_named acts.Prereq args = after_any NamesVariable (version (arg_at args 0)) _ (λ v. tt)
+act_named acts.Ignored args = tt
+act_named acts.Lang args = after_any NamesVariable (language (arg_at args 0)) _ (λ l. tt)
+act_named acts.Define args = after_any NamesVariable (name (arg_at args 0)) _ (λ n. after_any NamesVariable (defined args) _ (λ v. tt))
+act_named acts.DefineUnquoted args = after_any NamesVariable (name (arg_at args 0)) _ (λ n. unquoted_named n args)
+act_named acts.MsgError args = after_any NamesVariable (here_text (arg_at args 0)) _ (λ t. after_any NamesVariable (status (arg_at args 1)) _ (λ s. tt))
+act_named (acts.Message message) args = after_any NamesVariable (here_text (arg_at args 0)) _ (λ t. tt)
 
-subst_of_named : (n : List ℕ) (arg : Span) (s : Plain) → subst_of n arg ≡ Ok s → NamesVariable s
-unfolding subst_of
-subst_of_named n arg s e =
-    elim (is_given arg) as (λ b. cond b (word arg >>= λ w. Ok (SubstValue n w)) (Ok (Subst n)) ≡ Ok s → NamesVariable s) [
-      | true ↦ λ e. let w = bind_ok (word arg) _ _ e in subst NamesVariable (ok_is _ s w.2) tt
-      | false ↦ λ e. subst NamesVariable (ok_is _ s e) tt
-    ] e
+-- What a macro does that declares something.
+abbrev Named : Declares × Effect → Type 0
+Named s = NamesVariable s.1
 
-init_named : (args : List Span) (s : Plain) → init args ≡ Ok s → NamesVariable s
-unfolding init
-init_named args s e =
-    let a = bind_ok (title (arg_at args 0)) _ _ e in
-    let b = bind_ok (title (arg_at args 1)) _ _ a.2 in
-    let d = bind_ok (title (arg_at args 2)) _ _ b.2 in
-    let f = bind_ok (tarname (arg_at args 3) a.0) _ _ d.2 in
-    let g = bind_ok (title (arg_at args 4)) _ _ f.2 in
-    subst NamesVariable (ok_is _ s g.2) tt
+searched_named : {A : Type 0} (reader : Span → Result A ParseFault) (effect : List ℕ → A → Option (List Part) → Effect) (c : declarations.Declarations) (args : List Span)
+    → ((v : List ℕ) (sought : A) (other : Option (List Part)) → IsShellName v → NamesVariable (effect v sought other)) → IfOk (searched reader effect c args) Named
+searched_named reader effect c args names =
+    after_form IsShellName Named (output_variable c (arg_at args 0)) _ (variable_form c (arg_at args 0))
+    (λ v form. after_any Named (reader (arg_at args 1)) _ (λ p. after_any Named (optional_text (arg_at args 2)) _ (λ o. names v p o form)))
 
-check_prog_named : (c : declarations.Declarations) (args : List Span) (s : Plain) → check_prog c args ≡ Ok s → NamesVariable s
-unfolding check_prog
-check_prog_named c args s e =
-    let v = bind_ok (output_variable c (arg_at args 0)) _ _ e in
-    let p = bind_ok (program (arg_at args 1)) _ _ v.2 in
-    let f = bind_ok (here_text (arg_at args 2)) _ _ p.2 in
-    let o = bind_ok (optional_text (arg_at args 3)) _ _ f.2 in
-    subst NamesVariable (ok_is _ s o.2) (variable_form c (arg_at args 0) v.0 v.1)
+declaring_named : (c : declarations.Declarations) (m : DeclaringMacro) (at : ℕ) (args : List Span) → IfOk (declaring_of c m at args) Named
+unfolding init config_outputs subst_row assigned arg_var prog_cc check_prog check_progs path_prog
+declaring_named c macro.Init at args =
+    after_any Named (title (arg_at args 0)) _ (λ n. after_any Named (title (arg_at args 1)) _ (λ v. after_any Named (title (arg_at args 2)) _
+    (λ b. after_any Named (tarname (arg_at args 3) n) _ (λ t. after_any Named (title (arg_at args 4)) _ (λ u. tt)))))
+declaring_named c (macro.ConfigOutputs kind) at args = after_any Named (outputs_of c kind (arg_at args 0)) _ (λ o. tt)
+declaring_named c macro.Subst at args =
+    after_any Named (output_variable c (arg_at args 0)) _ (λ n. after_form NamesVariable Named (assigned n (arg_at args 1)) _
+    (one_of_two NamesVariable (is_given (arg_at args 1)) _ _ (after_any NamesVariable (word (arg_at args 1)) _ (λ w. tt)) tt) (λ e names. names))
+declaring_named c macro.ArgVar at args = after_any Named (output_variable c (arg_at args 0)) _ (λ n. after_any Named (text (arg_at args 1)) _ (λ h. tt))
+declaring_named c macro.ProgCc at args = after_any Named (wants (has_tool_room c.substituted) (TooMany at)) _ (λ _. after_any Named (compilers (arg_at args 0)) _ (λ l. refl))
+declaring_named c macro.CheckProg at args =
+    after_form IsShellName Named (output_variable c (arg_at args 0)) _ (variable_form c (arg_at args 0))
+    (λ v form. after_any Named (program (arg_at args 1)) _ (λ p. after_any Named (here_text (arg_at args 2)) _ (λ f. after_any Named (optional_text (arg_at args 3)) _ (λ o. form))))
+declaring_named c macro.CheckProgs at args = searched_named programs (λ v list other. Searches v list other) c args (λ v list other form. form)
+declaring_named c macro.PathProg at args = searched_named program (λ v p other. Search v p FullName other) c args (λ v p other form. form)
+declaring_named c macro.Output at args = tt
 
-searched_named : {A : Type 0} (reader : Span → Result A ParseFault) (statement : List ℕ → A → Option (List Part) → Plain)
-    (c : declarations.Declarations) (args : List Span) (s : Plain)
-    → ((v : List ℕ) (sought : A) (other : Option (List Part)) → IsShellName v → NamesVariable (statement v sought other))
-    → searched reader statement c args ≡ Ok s → NamesVariable s
-searched_named reader statement c args s names e =
-    let v = bind_ok (output_variable c (arg_at args 0)) _ _ e in
-    let p = bind_ok (reader (arg_at args 1)) _ _ v.2 in
-    let o = bind_ok (optional_text (arg_at args 2)) _ _ p.2 in
-    subst NamesVariable (ok_is _ s o.2) (names v.0 p.0 o.0 (variable_form c (arg_at args 0) v.0 v.1))
-
-check_progs_named : (c : declarations.Declarations) (args : List Span) (s : Plain) → check_progs c args ≡ Ok s → NamesVariable s
-unfolding check_progs
-check_progs_named c args s e =
-    searched_named programs (λ v list other. CheckProgs v list other) c args s (λ v sought other form. form) e
-
-path_prog_named : (c : declarations.Declarations) (args : List Span) (s : Plain) → path_prog c args ≡ Ok s → NamesVariable s
-unfolding path_prog
-path_prog_named c args s e =
-    searched_named program (λ v p other. PathProg v p other) c args s (λ v sought other form. form) e
-
-plain_named : (c : declarations.Declarations) (m : PlainMacro) (at : ℕ) (args : List Span) (s : Plain) → plain_of c m at args ≡ Ok s → NamesVariable s
-unfolding plain_of prereq lang config_files config_headers subst_row define define_unquoted msg_error message_of arg_var prog_cc
-plain_named c macro.Init at args s e = init_named args s e
-plain_named c macro.Prereq at args s e = let a = bind_ok (version (arg_at args 0)) _ _ e in subst NamesVariable (ok_is _ s a.2) tt
-plain_named c macro.Ignored at args s e = subst NamesVariable (ok_is _ s e) tt
-plain_named c macro.Lang at args s e = let a = bind_ok (language (arg_at args 0)) _ _ e in subst NamesVariable (ok_is _ s a.2) tt
-plain_named c macro.ConfigFiles at args s e = let a = bind_ok (outputs c.files c.headers (arg_at args 0)) _ _ e in subst NamesVariable (ok_is _ s a.2) tt
-plain_named c macro.ConfigHeaders at args s e = let a = bind_ok (outputs c.headers c.files (arg_at args 0)) _ _ e in subst NamesVariable (ok_is _ s a.2) tt
-plain_named c macro.Subst at args s e =
-    let n = bind_ok (output_variable c (arg_at args 0)) _ _ e in
-    subst_of_named n.0 (arg_at args 1) s n.2
-plain_named c macro.Define at args s e =
-    let n = bind_ok (name (arg_at args 0)) _ _ e in
-    let v = bind_ok (defined args) _ _ n.2 in
-    subst NamesVariable (ok_is _ s v.2) tt
-plain_named c macro.DefineUnquoted at args s e = let n = bind_ok (name (arg_at args 0)) _ _ e in unquoted_named n.0 args s n.2
-plain_named c macro.MsgError at args s e =
-    let n = bind_ok (here_text (arg_at args 0)) _ _ e in
-    let v = bind_ok (status (arg_at args 1)) _ _ n.2 in
-    subst NamesVariable (ok_is _ s v.2) tt
-plain_named c (macro.Message kind) at args s e = let n = bind_ok (here_text (arg_at args 0)) _ _ e in subst NamesVariable (ok_is _ s n.2) tt
-plain_named c macro.ArgVar at args s e =
-    let n = bind_ok (output_variable c (arg_at args 0)) _ _ e in
-    let v = bind_ok (text (arg_at args 1)) _ _ n.2 in
-    subst NamesVariable (ok_is _ s v.2) tt
-plain_named c macro.ProgCc at args s e =
-    let w = bind_ok (wants (has_tool_room c.substituted) (TooMany at)) _ _ e in
-    let l = bind_ok (compilers (arg_at args 0)) _ _ w.2 in
-    subst NamesVariable (ok_is _ s l.2) tt
-plain_named c macro.CheckProg at args s e = check_prog_named c args s e
-plain_named c macro.CheckProgs at args s e = check_progs_named c args s e
-plain_named c macro.PathProg at args s e = path_prog_named c args s e
-plain_named c macro.Output at args s e = subst NamesVariable (ok_is _ s e) tt
+plain_named : (c : declarations.Declarations) (m : PlainMacro) (at : ℕ) (args : List Span) → IfOk (plain_of c m at args) Named
+unfolding undeclared
+plain_named c (plain.Acts m) at args = after_form NamesVariable Named (act_of m args) _ (act_named m args) (λ e names. names)
+plain_named c (plain.Declares m) at args = declaring_named c m at args
 
 -- ---- lists
 
 joined_named : (a b : Script) → HasTestNames a → HasTestNames b → HasTestNames (joined a b)
 joined_named Done b h k = k
-joined_named (Then s rest) b h k = (h.0, joined_named rest b h.1 k)
-joined_named (Choice subject cases rest) b h k = (h.0, joined_named rest b h.1 k)
+joined_named (Then d e rest) b h k = (h.0, joined_named rest b h.1 k)
+joined_named (Choice d subject cases rest) b h k = (h.0, joined_named rest b h.1 k)
 joined_named (Check message n commands rest) b h k = (h.0, joined_named rest b h.1 k)
 
 followed_named : (a b : Cases) → HasTestNamesIn a → HasTestNamesIn b → HasTestNamesIn (followed a b)
 followed_named No_case b h k = k
 followed_named (Case when body more) b h k = (h.0, followed_named more b h.1 k)
 
-assigned_named : (list : List Assignment) → HasTestNames (assigned list)
+assigned_named : (list : List Assignment) → HasTestNames (bare_texts.assigned list)
 assigned_named [] = tt
 assigned_named (a ∷ more) = (tt, assigned_named more)
 
@@ -189,8 +156,8 @@ Holds Inside = (c : declarations.Declarations) (arg : Span) (s : Script) → Ins
 case_named : (when : When) (given : Bool) (body : Script) → HasTestNames body → HasTestNamesIn (case_if when given body)
 case_named when true body h = (h, tt)
 case_named when false Done h = tt
-case_named when false (Then s rest) h = (h, tt)
-case_named when false (Choice subject cases rest) h = (h, tt)
+case_named when false (Then d e rest) h = (h, tt)
+case_named when false (Choice d subject cases rest) h = (h, tt)
 case_named when false (Check message n commands rest) h = (h, tt)
 
 cases_named : (Inside : Within) (holds : Holds Inside) (m : ChoiceMacro) {c : declarations.Declarations} {args : List Span} {cases : Cases} → AreCases Inside m c args cases → HasTestNamesIn cases
@@ -202,26 +169,19 @@ action_named : (Inside : Within) (holds : Holds Inside) (when : When) {c : decla
 action_named Inside holds when absent = tt
 action_named Inside holds when (there {c = c} {arg = arg} {body = body} i) = case_named when (is_given arg) body (holds c arg body i)
 
-asked_named : (q : question_of_tree.Question) (cases : Cases) → HasTestNamesIn cases → HasTestNames (asked_by q cases)
-asked_named (asks.Given kind variable help) cases h = (h, tt)
-asked_named (asks.Tries kind program) cases h = (h, tt)
-asked_named (asks.Checks sought entry includes) cases h = (h, tt)
-asked_named (asks.ChecksEach (Entry listed) entries includes) No_case h = (tt, tt)
-asked_named (asks.ChecksEach (Entry listed) entries includes) (Case when body more) h = (h, tt)
-asked_named (asks.ChecksEach «Type» entries includes) cases h = (h, tt)
-asked_named (asks.Library library function others adds) cases h = (h, tt)
-asked_named (asks.Libraries function libraries others) cases h = (h, tt)
+asked_named : (d : Declares) (q : Question) (cases : Cases) → HasTestNamesIn cases → HasTestNames (asked_by d q cases)
+asked_named d q cases h = asked_one (λ cases s. HasTestNamesIn cases → HasTestNames s) d q cases (λ listed entries includes h. (tt, tt)) (λ q h. (h, tt)) h
 
 -- ---- items
 
 item_named : (list_kind : ListKind) (Inside : ListKind → Within) (holds : (x : ListKind) → Holds (Inside x)) (c : declarations.Declarations) (line_start : LineStart) {item : items.Entry} {next : List items.Entry} {s : Script}
     → IsItem list_kind Inside c line_start item next s → HasTestNames s
 item_named list_kind Inside holds c line_start (bare_text i) = bare_named list_kind i
-item_named list_kind Inside holds c line_start (plain_call {m = m} {s = s} stands p) = (plain_named c m _ _ s p, tt)
+item_named list_kind Inside holds c line_start (plain_call {args = args} {at = at} {m = m} stands p) = (subst (λ r. IfOk r Named) p (plain_named c m at args), tt)
 item_named list_kind Inside holds c line_start (choice {m = m} stands p i) = (cases_named (Inside (of_case list_kind)) (holds (of_case list_kind)) m i, tt)
-item_named list_kind Inside holds c line_start (question {whole = whole} {first = first} {other = other} stands p f o w) =
+item_named list_kind Inside holds c line_start (question {declares = d} {whole = whole} {first = first} {other = other} stands p f o w) =
     let inner = holds (of_case list_kind) in
-    asked_named whole (followed first other) (followed_named first other (action_named (Inside (of_case list_kind)) inner _ f) (action_named (Inside (of_case list_kind)) inner _ o))
+    asked_named d whole (followed first other) (followed_named first other (action_named (Inside (of_case list_kind)) inner _ f) (action_named (Inside (of_case list_kind)) inner _ o))
 item_named list_kind Inside holds c line_start (check stands m n i) = (holds _ _ _ _ i, tt)
 
 items_named : (list_kind : ListKind) (Inside : ListKind → Within) (holds : (x : ListKind) → Holds (Inside x)) {c : declarations.Declarations} {line_start : LineStart} {items : List items.Entry} {s : Script}

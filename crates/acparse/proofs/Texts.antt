@@ -10,13 +10,14 @@ use Rattle.acstatement.proofs.Binds.{bind_ok, ok_is, fails_bind}
 use Rattle.syntax.specs.declared.declarations.Declarations as declarations
 use Rattle.syntax.specs.declared.declarations.Stage.{Stage}
 use Rattle.syntax.specs.declared.declarations.Stage.TheVariants.{Before, Open, Ended}
-use Rattle.syntax.specs.declared.statement.Plain.TheVariants.{Assign}
+use Rattle.syntax.specs.declared.statement.Declares.TheVariants.{Nothing}
+use Rattle.syntax.specs.declared.statement.Effect.TheVariants.{Assign}
 use Rattle.syntax.specs.Lists.{after}
 use Rattle.acmacros.specs.Placement.{bare_fault}
 use Rattle.acmacros.specs.ListKind.{ListKind}
 use Rattle.m4quote.specs.Scan.{bare_value_of}
 use Rattle.syntax.specs.declared.tree.Stmt.{Stmt}
-use Rattle.syntax.specs.declared.tree.Stmt.TheVariants.{Plain, Choose', CacheCheck'}
+use Rattle.syntax.specs.declared.tree.Stmt.TheVariants.{Do, Choose', CacheCheck'}
 use Rattle.syntax.specs.declared.tree.When.{When}
 use Rattle.syntax.specs.Lists.{after_all}
 use Rattle.syntax.specs.Script.{Script, Done, Then, Cases, No_case, Case, joined, stmt_then, script_of}
@@ -24,17 +25,17 @@ use Rattle.syntax.proofs.ScriptLemmas.{script_push, joined_assoc, joined_done}
 use Rattle.acparse.specs.Bare.{assigned, may_assign, of_value, assigned_in, idle_or, bare_of}
 use Rattle.acparse.specs.Profile.{following, is_done, case_if}
 
-assigned_push : (list : List Assignment) (a : Assignment) → assigned (list ++ a ∷ []) ≡ joined (assigned list) (Then (Assign a.name a.value) Done)
+assigned_push : (list : List Assignment) (a : Assignment) → assigned (list ++ a ∷ []) ≡ joined (assigned list) (Then Nothing (Assign a.name a.value) Done)
 assigned_push [] a = refl
-assigned_push (b ∷ list) a = ap (Then (Assign b.name b.value)) (assigned_push list a)
+assigned_push (b ∷ list) a = ap (Then Nothing (Assign b.name b.value)) (assigned_push list a)
 
 -- One assignment is appended.
-pub assign_more : (before : Script) (out out' : List Stmt) (seen : List Assignment) (a : Assignment) → out' ≡ out ++ Plain (Assign a.name a.value) ∷ [] → script_of out ≡ joined before (assigned seen)
+pub assign_more : (before : Script) (out out' : List Stmt) (seen : List Assignment) (a : Assignment) → out' ≡ out ++ Do Nothing (Assign a.name a.value) ∷ [] → script_of out ≡ joined before (assigned seen)
     → script_of out' ≡ joined before (assigned (seen ++ a ∷ []))
 assign_more before out out' seen a e h =
-    ap script_of e ∙ script_push out (Plain (Assign a.name a.value))
-    ∙ ap (λ s. joined s (Then (Assign a.name a.value) Done)) h
-    ∙ joined_assoc before (assigned seen) (Then (Assign a.name a.value) Done)
+    ap script_of e ∙ script_push out (Do Nothing (Assign a.name a.value))
+    ∙ ap (λ s. joined s (Then Nothing (Assign a.name a.value) Done)) h
+    ∙ joined_assoc before (assigned seen) (Then Nothing (Assign a.name a.value) Done)
     ∙ ap (joined before) (sym (assigned_push seen a))
 
 -- Text without effect, if no statement is allowed.
@@ -90,8 +91,8 @@ fails_inside x out r h = failed out r x h
 -- ---- defaults
 
 not_done : (s : Stmt) (rest : Script) → is_done (stmt_then s rest) ≡ false
-not_done (Plain s) rest = refl
-not_done (Choose' subject m cases) rest = refl
+not_done (Do d e) rest = refl
+not_done (Choose' d subject m cases) rest = refl
 not_done (CacheCheck' message name m commands) rest = refl
 
 pub some_case : (when : When) (given : Bool) (body : List Stmt) → (length body == 0) ≡ false → case_if when given (script_of body) ≡ Case when (script_of body) No_case

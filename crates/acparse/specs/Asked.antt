@@ -1,11 +1,12 @@
--- The statement of a macro that asks a question, by its question and the cases for the answers.
+-- The statement of a macro that asks a question, by what it declares, its question and the cases for the answers.
 use Rattle.std.specs.Prelude.{Bool, true, false, not, ◌||◌, List, Result, Ok}
 use Rattle.m4quote.specs.Entry.{Span}
 use Rattle.acstatement.specs.declared.fault.ParseFault.{ParseFault}
 use Rattle.acstatement.specs.Reading.{◌>>=◌}
 use Rattle.acmacros.specs.Checks.{completed_of}
 use Rattle.syntax.specs.declared.listed.Sought.TheVariants.{Entry}
-use Rattle.syntax.specs.declared.statement.Plain.TheVariants.{Batch}
+use Rattle.syntax.specs.declared.statement.Declares.{Declares}
+use Rattle.syntax.specs.declared.statement.Effect.TheVariants.{Batch}
 use Rattle.syntax.specs.declared.statement.Question.{Question}
 use Rattle.syntax.specs.declared.statement.Question.TheVariants.{ChecksEach, Library}
 use Rattle.syntax.specs.declared.tree.Subject.TheVariants.{Asked}
@@ -27,11 +28,11 @@ has_yes (Case when body more) = is_yes when || has_yes more
 -- list of headers, functions or declarations without cases is a batch, whose children are asked at once. A list of types is
 -- not, since a type may need a second child. AC_CHECK_LIB adds the library if no case is for yes. (Autoconf's manual,
 -- "Library Files" and the sections of the macros; the batches are own)
-abbrev pub asked_by : Question → Cases → Script
-asked_by (ChecksEach (Entry listed) entries includes) No_case = Then (Batch listed entries includes) Done
-asked_by (Library library function others adds) cases = Choice (Asked (Library library function others (not (has_yes cases)))) cases Done
-asked_by question cases = Choice (Asked question) cases Done
+abbrev pub asked_by : Declares → Question → Cases → Script
+asked_by declares (ChecksEach (Entry listed) entries includes) No_case = Then declares (Batch listed entries includes) Done
+asked_by declares (Library library function others adds) cases = Choice declares (Asked (Library library function others (not (has_yes cases)))) cases Done
+asked_by declares question cases = Choice declares (Asked question) cases Done
 
 -- The same, with the question's includes or other libraries, which come after the statements for the answers. (own)
-unfoldable pub asked_with : Question → Cases → List Span → Result Script ParseFault
-asked_with q cases args = completed_of q args >>= λ whole. Ok (asked_by whole cases)
+unfoldable pub asked_with : Declares → Question → Cases → List Span → Result Script ParseFault
+asked_with declares q cases args = completed_of q args >>= λ whole. Ok (asked_by declares whole cases)

@@ -14,7 +14,8 @@ use Rattle.acstatement.specs.Idle.{is_idle}
 use Rattle.acstatement.specs.Reading.{◌>>=◌, wants, shell_fault}
 use Rattle.syntax.specs.declared.declarations.Stage.{Stage}
 use Rattle.syntax.specs.declared.declarations.Stage.TheVariants.{Before, Open, Ended}
-use Rattle.syntax.specs.declared.statement.Plain.TheVariants.{Assign}
+use Rattle.syntax.specs.declared.statement.Declares.TheVariants.{Nothing}
+use Rattle.syntax.specs.declared.statement.Effect.TheVariants.{Assign}
 use Rattle.acmacros.specs.Placement.{bare_fault}
 use Rattle.acmacros.specs.ListKind.{ListKind, Top, Nested, Commands}
 use Rattle.syntax.specs.Script.{Script, Done, Then}
@@ -33,7 +34,7 @@ bare_at at (Err f) = Err (text_fault at f)
 -- Assignments as statements. (own)
 abbrev pub assigned : List Assignment → Script
 assigned [] = Done
-assigned (a ∷ more) = Then (Assign a.name a.value) (assigned more)
+assigned (a ∷ more) = Then Nothing (Assign a.name a.value) (assigned more)
 
 -- All assignments are to this variable. (own)
 abbrev pub set_alone : List ℕ → List Assignment → Bool

@@ -25,17 +25,17 @@ use Rattle.acmacros.specs.declared.macros.QuestionMacro.{QuestionMacro}
 use Rattle.acmacros.specs.declared.macros.PlainMacro.{PlainMacro}
 use Rattle.syntax.specs.declared.declarations.Declarations as declarations
 use Rattle.syntax.specs.declared.declarations.Stage.{Stage}
+use Rattle.syntax.specs.declared.statement.Declares.{Declares}
 use Rattle.syntax.specs.declared.statement.Question.{Question}
 use Rattle.acmacros.specs.Checks.{completed_of}
 use Rattle.acmacros.specs.Rows.{plain_of, question_of}
-use Rattle.syntax.specs.Lists.{after_question}
 use Rattle.acmacros.specs.Placement.{bare_fault, placed}
 use Rattle.acmacros.specs.ListKind.{ListKind, Commands, is_top, of_case, may_hold}
 use Rattle.acmacros.specs.Table.{row_named, takes}
 use Rattle.syntax.specs.declared.tree.Subject.{Subject}
 use Rattle.syntax.specs.declared.tree.When.{When}
 use Rattle.syntax.specs.declared.tree.When.TheVariants.{Yes, No}
-use Rattle.syntax.specs.Lists.{after_all, after_cases}
+use Rattle.syntax.specs.Lists.{after, after_all, after_cases}
 use Rattle.syntax.specs.Script.{Script, Cases}
 use Rattle.acparse.specs.Bare.{bare_of}
 use Rattle.acparse.specs.Profile.{when_of, subject_of, case_args, action_args}
@@ -85,18 +85,18 @@ pub data ItemBreaks (list_kind : ListKind) (Inside : ListKind → Within) (Broke
       → ItemBreaks list_kind Inside Broken c line_start (call name args at) following f
   in_question : {name : List ℕ} {args : List Span} {at : ℕ} {following : List Entry} {m : QuestionMacro} {f : ParseFault}
       → MayStand list_kind c.stage line_start name args at following (A_question m) → question_of c m args ≡ Err f → ItemBreaks list_kind Inside Broken c line_start (call name args at) following f
-  in_yes : {name : List ℕ} {args : List Span} {at : ℕ} {following : List Entry} {m : QuestionMacro} {q : Question} {f : ParseFault}
-      → MayStand list_kind c.stage line_start name args at following (A_question m) → question_of c m args ≡ Ok q → ActionBreaks (Broken (of_case list_kind)) (after_question c q) (action_args m args) f
+  in_yes : {name : List ℕ} {args : List Span} {at : ℕ} {following : List Entry} {m : QuestionMacro} {declares : Declares} {q : Question} {f : ParseFault}
+      → MayStand list_kind c.stage line_start name args at following (A_question m) → question_of c m args ≡ Ok (declares, q) → ActionBreaks (Broken (of_case list_kind)) (after c declares) (action_args m args) f
       → ItemBreaks list_kind Inside Broken c line_start (call name args at) following f
-  in_no : {name : List ℕ} {args : List Span} {at : ℕ} {following : List Entry} {m : QuestionMacro} {q : Question} {first : Cases} {f : ParseFault}
-      → MayStand list_kind c.stage line_start name args at following (A_question m) → question_of c m args ≡ Ok q
-      → IsAction (Inside (of_case list_kind)) Yes (after_question c q) (action_args m args) first
-      → ActionBreaks (Broken (of_case list_kind)) (after_cases (after_question c q) first) (drop 1 (action_args m args)) f
+  in_no : {name : List ℕ} {args : List Span} {at : ℕ} {following : List Entry} {m : QuestionMacro} {declares : Declares} {q : Question} {first : Cases} {f : ParseFault}
+      → MayStand list_kind c.stage line_start name args at following (A_question m) → question_of c m args ≡ Ok (declares, q)
+      → IsAction (Inside (of_case list_kind)) Yes (after c declares) (action_args m args) first
+      → ActionBreaks (Broken (of_case list_kind)) (after_cases (after c declares) first) (drop 1 (action_args m args)) f
       → ItemBreaks list_kind Inside Broken c line_start (call name args at) following f
-  in_includes : {name : List ℕ} {args : List Span} {at : ℕ} {following : List Entry} {m : QuestionMacro} {q : Question} {first other : Cases} {f : ParseFault}
-      → MayStand list_kind c.stage line_start name args at following (A_question m) → question_of c m args ≡ Ok q
-      → IsAction (Inside (of_case list_kind)) Yes (after_question c q) (action_args m args) first
-      → IsAction (Inside (of_case list_kind)) No (after_cases (after_question c q) first) (drop 1 (action_args m args)) other
+  in_includes : {name : List ℕ} {args : List Span} {at : ℕ} {following : List Entry} {m : QuestionMacro} {declares : Declares} {q : Question} {first other : Cases} {f : ParseFault}
+      → MayStand list_kind c.stage line_start name args at following (A_question m) → question_of c m args ≡ Ok (declares, q)
+      → IsAction (Inside (of_case list_kind)) Yes (after c declares) (action_args m args) first
+      → IsAction (Inside (of_case list_kind)) No (after_cases (after c declares) first) (drop 1 (action_args m args)) other
       → completed_of q args ≡ Err f
       → ItemBreaks list_kind Inside Broken c line_start (call name args at) following f
   in_message : {name : List ℕ} {args : List Span} {at : ℕ} {following : List Entry} {f : ParseFault}

@@ -23,10 +23,11 @@ use Rattle.syntax.specs.declared.declarations.Stage.{Stage}
 use Rattle.syntax.specs.declared.declarations.Stage.TheVariants.{Before, Open, Ended}
 use Rattle.syntax.specs.declared.declarations.Declarations as declarations
 use Rattle.acmacros.specs.Rows.{plain_of, question_of}
-use Rattle.syntax.specs.Lists.{start, after_question}
+use Rattle.syntax.specs.Lists.{start, after}
 use Rattle.acmacros.specs.Placement.{as_statement, placed}
 use Rattle.acmacros.specs.ListKind.{ListKind, Top, Commands, is_top, of_case, may_hold}
 use Rattle.acmacros.specs.Table.{row_named, takes}
+use Rattle.syntax.specs.declared.statement.Declares.TheVariants as declares
 use Rattle.syntax.specs.declared.tree.Subject.{Subject}
 use Rattle.syntax.specs.declared.tree.Subject.TheVariants.{Nothing, Word}
 use Rattle.syntax.specs.declared.tree.When.{When}
@@ -71,8 +72,8 @@ case_args As_case args = drop 1 args
 -- No statement. (own)
 abbrev pub is_done : Script → Bool
 is_done Done = true
-is_done (Then s rest) = false
-is_done (Choice subject cases rest) = false
+is_done (Then declares effect rest) = false
+is_done (Choice declares subject cases rest) = false
 is_done (Check message name commands rest) = false
 
 -- A case with these statements, unless its argument is absent or empty and has no statement. (own)
@@ -103,7 +104,7 @@ unfoldable pub choice_of : Bodies → ChoiceMacro → declarations.Declarations 
 choice_of bodies m c args = do
   subject ← subject_of m args
   cases ← cases_in bodies m c (case_args m args)
-  Ok (Choice subject cases Done)
+  Ok (Choice declares.Nothing subject cases Done)
 
 -- ---- questions
 
@@ -139,10 +140,10 @@ answers_in bodies c args = do
 -- AC_SEARCH_LIBS. (Autoconf's manual, "Choosing Package Options", "Running the Compiler" and "Existing Tests")
 unfoldable pub asked_of : Bodies → QuestionMacro → declarations.Declarations → List Span → Result Script ParseFault
 asked_of bodies m c args = do
-  q ← question_of c m args
-  first ← action_in bodies Yes (after_question c q) (action_args m args)
-  other ← action_in bodies No (after_cases (after_question c q) first) (drop 1 (action_args m args))
-  asked_with q (followed first other) args
+  asked ← question_of c m args
+  first ← action_in bodies Yes (after c asked.0) (action_args m args)
+  other ← action_in bodies No (after_cases (after c asked.0) first) (drop 1 (action_args m args))
+  asked_with asked.0 asked.1 (followed first other) args
 
 -- ---- checks
 
@@ -178,7 +179,7 @@ checked list_kind stage line_start name args at following = do
 abbrev pub call_of : ListKind → (ListKind → Bodies) → declarations.Declarations → Macro → ℕ → List Span → Result Script ParseFault
 call_of list_kind bodies c (Plain m) at args = do
   s ← plain_of c m at args
-  Ok (Then s Done)
+  Ok (Then s.0 s.1 Done)
 call_of list_kind bodies c (A_choice m) at args = choice_of (bodies (of_case list_kind)) m c args
 call_of list_kind bodies c (A_question m) at args = asked_of (bodies (of_case list_kind)) m c args
 call_of list_kind bodies c A_check at args = check_of bodies c args

@@ -23,18 +23,19 @@ use Rattle.syntax.specs.declared.declarations.Declarations as declarations
 use Rattle.syntax.specs.declared.declarations.Stage.{Stage}
 use Rattle.syntax.specs.declared.declarations.Stage.TheVariants.{Before, Open, Ended}
 use Rattle.shellword.specs.declared.part.Part.{Part}
-use Rattle.syntax.specs.declared.statement.Plain as plain
+use Rattle.syntax.specs.declared.statement.Declares.{Declares}
+use Rattle.syntax.specs.declared.statement.Declares.TheVariants.{Nothing}
+use Rattle.syntax.specs.declared.statement.Effect.{Effect}
 use Rattle.syntax.specs.declared.statement.Question.{Question}
 use Rattle.acmacros.specs.Checks.{completed_of}
 use Rattle.acmacros.specs.Rows.{plain_of, question_of}
-use Rattle.syntax.specs.Lists.{after_question}
 use Rattle.acmacros.specs.Placement.{placed}
 use Rattle.acmacros.specs.ListKind.{ListKind, Commands, is_top, of_case, may_hold}
 use Rattle.acmacros.specs.Table.{row_named, takes}
 use Rattle.syntax.specs.declared.tree.Subject.{Subject}
 use Rattle.syntax.specs.declared.tree.When.{When}
 use Rattle.syntax.specs.declared.tree.When.TheVariants.{Yes, No, Always}
-use Rattle.syntax.specs.Lists.{after_all, after_cases}
+use Rattle.syntax.specs.Lists.{after, after_all, after_cases}
 use Rattle.syntax.specs.Script.{Script, Done, Then, Choice, Check, Cases, No_case, Case, joined, followed}
 use Rattle.acparse.specs.Asked.{asked_by}
 use Rattle.acparse.specs.Bare.{assigned, may_assign}
@@ -79,18 +80,18 @@ pub data IsAction (Inside : Within) (when : When) : declarations.Declarations �
 -- An item has these statements. (own)
 pub data IsItem (list_kind : ListKind) (Inside : ListKind → Within) (c : declarations.Declarations) (line_start : LineStart) : Entry → List Entry → Script → Type 0 where
   bare_text : {text : List ℕ} {at : ℕ} {following : List Entry} {s : Script} → IsBare list_kind c.stage text s → IsItem list_kind Inside c line_start (bare text at) following s
-  plain_call : {name : List ℕ} {args : List Span} {at : ℕ} {following : List Entry} {m : PlainMacro} {s : plain.Plain}
-      → MayStand list_kind c.stage line_start name args at following (Plain m) → plain_of c m at args ≡ Ok s
-      → IsItem list_kind Inside c line_start (call name args at) following (Then s Done)
+  plain_call : {name : List ℕ} {args : List Span} {at : ℕ} {following : List Entry} {m : PlainMacro} {declares : Declares} {effect : Effect}
+      → MayStand list_kind c.stage line_start name args at following (Plain m) → plain_of c m at args ≡ Ok (declares, effect)
+      → IsItem list_kind Inside c line_start (call name args at) following (Then declares effect Done)
   choice : {name : List ℕ} {args : List Span} {at : ℕ} {following : List Entry} {m : ChoiceMacro} {subject : Subject} {cases : Cases}
       → MayStand list_kind c.stage line_start name args at following (A_choice m) → subject_of m args ≡ Ok subject → AreCases (Inside (of_case list_kind)) m c (case_args m args) cases
-      → IsItem list_kind Inside c line_start (call name args at) following (Choice subject cases Done)
-  question : {name : List ℕ} {args : List Span} {at : ℕ} {following : List Entry} {m : QuestionMacro} {q whole : Question} {first other : Cases}
-      → MayStand list_kind c.stage line_start name args at following (A_question m) → question_of c m args ≡ Ok q
-      → IsAction (Inside (of_case list_kind)) Yes (after_question c q) (action_args m args) first
-      → IsAction (Inside (of_case list_kind)) No (after_cases (after_question c q) first) (drop 1 (action_args m args)) other
+      → IsItem list_kind Inside c line_start (call name args at) following (Choice Nothing subject cases Done)
+  question : {name : List ℕ} {args : List Span} {at : ℕ} {following : List Entry} {m : QuestionMacro} {declares : Declares} {q whole : Question} {first other : Cases}
+      → MayStand list_kind c.stage line_start name args at following (A_question m) → question_of c m args ≡ Ok (declares, q)
+      → IsAction (Inside (of_case list_kind)) Yes (after c declares) (action_args m args) first
+      → IsAction (Inside (of_case list_kind)) No (after_cases (after c declares) first) (drop 1 (action_args m args)) other
       → completed_of q args ≡ Ok whole
-      → IsItem list_kind Inside c line_start (call name args at) following (asked_by whole (followed first other))
+      → IsItem list_kind Inside c line_start (call name args at) following (asked_by declares whole (followed first other))
   check : {name : List ℕ} {args : List Span} {at : ℕ} {following : List Entry} {message : List Part} {variable : List ℕ} {commands : Script}
       → MayStand list_kind c.stage line_start name args at following A_check → here_text (arg_at args 0) ≡ Ok message → cache_name (arg_at args 1) ≡ Ok variable
       → Inside (Commands variable (arg_at args 2).at) c (arg_at args 2) commands

@@ -14,48 +14,51 @@ use deftable::Bytes;
 use m4quote::Arg;
 use shellword::HereText;
 use std::alloc::Global;
-use syntax::{Case, Entries, Plain, Question, Sought, Stmt, Subject, When, choose};
+use syntax::{Case, Declares, Effect, Entries, Question, Sought, Stmt, Subject, When, choose};
 
 /// Returns the statement of a question about each entry of a list: a batch, if there are no cases and one child decides an
 /// entry.
 fn asked_each(
+    declares: Declares,
     sought: Sought,
     entries: Entries,
     includes: Option<HereText>,
     cases: Vec<Case>,
 ) -> Stmt
-    ensures { script_of (result ∷ []) ≡ asked.asked_by (ChecksEach sought entries includes) (cases_of cases.items) }
+    ensures { script_of (result ∷ []) ≡ asked.asked_by declares (ChecksEach sought entries includes) (cases_of cases.items) }
 {
     match sought {
         Sought::Entry(listed) => {
             if cases.is_empty() {
-                return Stmt::Plain(Plain::Batch {
+                let effect = Effect::Batch {
                     listed,
                     entries,
                     includes,
-                });
+                };
+                return Stmt::Do { declares, effect };
             }
-            choose_each(sought, entries, includes, cases)
+            choose_each(declares, sought, entries, includes, cases)
         }
-        Sought::Type => choose_each(sought, entries, includes, cases),
+        Sought::Type => choose_each(declares, sought, entries, includes, cases),
     }
 }
 
 /// Returns the choice of a question about each entry of a list.
 fn choose_each(
+    declares: Declares,
     sought: Sought,
     entries: Entries,
     includes: Option<HereText>,
     cases: Vec<Case>,
 ) -> Stmt
-    ensures { script_of (result ∷ []) ≡ Choice (Asked (ChecksEach sought entries includes)) (cases_of cases.items) Done }
+    ensures { script_of (result ∷ []) ≡ Choice declares (Asked (ChecksEach sought entries includes)) (cases_of cases.items) Done }
 {
     let question = Question::ChecksEach {
         sought,
         entries,
         includes,
     };
-    choose(Subject::Asked(question), cases)
+    choose(declares, Subject::Asked(question), cases)
 }
 
 /// Returns whether the condition is the answer yes.
@@ -79,12 +82,13 @@ fn has_yes(cases: &[Case]) -> bool
 
 /// Returns the choice of AC_CHECK_LIB, which adds the library if no case is for yes.
 fn asked_library(
+    declares: Declares,
     library: Bytes,
     function: Bytes,
     others: Option<HereText>,
     cases: Vec<Case>,
 ) -> Stmt
-    ensures { script_of (result ∷ []) ≡ asked.asked_by (Library library function others true) (cases_of cases.items) }
+    ensures { script_of (result ∷ []) ≡ asked.asked_by declares (Library library function others true) (cases_of cases.items) }
 {
     let adds = !has_yes(cases.as_slice());
     let question = Question::Library {
@@ -93,29 +97,29 @@ fn asked_library(
         others,
         adds,
     };
-    choose(Subject::Asked(question), cases)
+    choose(declares, Subject::Asked(question), cases)
 }
 
-/// Returns the statement of a question and its cases.
-fn asked_by(question: Question, cases: Vec<Case>) -> Stmt
-    ensures { script_of (result ∷ []) ≡ asked.asked_by question (cases_of cases.items) }
+/// Returns the statement of what a macro declares, its question and its cases.
+fn asked_by(declares: Declares, question: Question, cases: Vec<Case>) -> Stmt
+    ensures { script_of (result ∷ []) ≡ asked.asked_by declares question (cases_of cases.items) }
 {
     match question {
         Question::ChecksEach {
             sought,
             entries,
             includes,
-        } => asked_each(sought, entries, includes, cases),
-        Question::Given { .. } => choose(Subject::Asked(question), cases),
-        Question::Tries { .. } => choose(Subject::Asked(question), cases),
-        Question::Checks { .. } => choose(Subject::Asked(question), cases),
+        } => asked_each(declares, sought, entries, includes, cases),
+        Question::Given { .. } => choose(declares, Subject::Asked(question), cases),
+        Question::Tries { .. } => choose(declares, Subject::Asked(question), cases),
+        Question::Checks { .. } => choose(declares, Subject::Asked(question), cases),
         Question::Library {
             library,
             function,
             others,
             ..
-        } => asked_library(library, function, others, cases),
-        Question::Libraries { .. } => choose(Subject::Asked(question), cases),
+        } => asked_library(declares, library, function, others, cases),
+        Question::Libraries { .. } => choose(declares, Subject::Asked(question), cases),
     }
 }
 
@@ -123,11 +127,12 @@ fn asked_by(question: Question, cases: Vec<Case>) -> Stmt
 #[tactic(auto, unfolding(crate::specs::Asked::asked_with))]
 pub(crate) fn asked_with(
     alloc: Global,
+    declares: Declares,
     question: Question,
     cases: Vec<Case>,
     args: &[Arg<'_>],
 ) -> Result<Stmt, ParseFault>
-    ensures { Gives (λ s. script_of (s ∷ [])) result (asked.asked_with question (cases_of cases.items) (map span args.now)) }
+    ensures { Gives (λ s. script_of (s ∷ [])) result (asked.asked_with declares question (cases_of cases.items) (map span args.now)) }
 {
-    complete(alloc, question, args).map(|question| asked_by(question, cases))
+    complete(alloc, question, args).map(|question| asked_by(declares, question, cases))
 }

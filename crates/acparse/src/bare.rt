@@ -18,7 +18,7 @@ use acstatement::idle::is_idle;
 use baretext::{Assignment, Assignments, BareFault, read_statements};
 use m4quote::{QuoteFault, bare_value};
 use std::alloc::{AllocError, Global};
-use syntax::{Plain, Stage, Stmt};
+use syntax::{Declares, Effect, Stage, Stmt};
 
 /// Returns an error of bare text that begins at `at` as an error of the source.
 fn text_fault(at: usize, fault: BareFault) -> ParseFault
@@ -90,7 +90,11 @@ fn push_all(assignments: Vec<Assignment>, out: &mut Vec<Stmt>) -> Result<(), All
 {
     for assignment in assignments {
         let Assignment { name, value } = assignment;
-        out.push(Stmt::Plain(Plain::Assign { name, value }))?;
+        let effect = Effect::Assign { name, value };
+        out.push(Stmt::Do {
+            declares: Declares::Nothing,
+            effect,
+        })?;
     }
     Ok(())
 }

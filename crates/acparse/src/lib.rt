@@ -25,4 +25,4 @@ pub mod source;
 pub use acargs::ParseFault;
 pub use outputlist::{Output, OutputList};
 pub use source::{is_resumable, parse};
-pub use syntax::{Case, Help, HelpList, Plain, Question, Source, Stmt, Subject, When};
+pub use syntax::{Case, Declares, Effect, Help, HelpList, Question, Source, Stmt, Subject, When};

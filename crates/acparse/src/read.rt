@@ -7,12 +7,10 @@ ghost use Rattle.acstatement.specs.Stand.{no_line_start};
 ghost use Rattle.acparse.specs.Profile as profile;
 ghost use Rattle.acparse.specs.Profile.{Adds};
 ghost use Rattle.acmacros.specs.declared.macros.Macro.TheVariants.{Plain};
-ghost use Rattle.syntax.specs.declared.declarations.Declarations as declarations;
 ghost use Rattle.acmacros.specs.Rows.{question_of};
 ghost use Rattle.acmacros.specs.ListKind as list_kinds;
 ghost use Rattle.acmacros.specs.ListKind.{list_kind_of};
-ghost use Rattle.syntax.specs.Lists.{after_question};
-ghost use Rattle.syntax.specs.Lists.{after_all, after_cases, after_subject};
+ghost use Rattle.syntax.specs.Lists.{after, after_all, after_cases};
 ghost use Rattle.syntax.specs.Script.{script_of, cases_of, followed, Done};
 
 use crate::asked::asked_with;
@@ -32,8 +30,10 @@ use acstatement::texts::arg_at;
 use deftable::Name;
 use m4quote::{Arg, Item, read_items_at};
 use std::alloc::{AllocError, Global};
-use syntax::declarations::{declare, declare_question};
-use syntax::{Case, Declarations, Question, Stage, Stmt, Subject, When, cache_check, choose};
+use syntax::declarations::declare;
+use syntax::{
+    Case, Declarations, Declares, Question, Stage, Stmt, Subject, When, cache_check, choose,
+};
 
 /// Returns the macro of a call, if the call is a statement between what precedes it (`line_start`) and the items after it
 /// (`following`), and the list may hold it.
@@ -85,9 +85,7 @@ fn when(alloc: Global, m: ChoiceMacro, arg: Arg<'_>) -> Result<When, ParseFault>
 /// Reads the subject of a choice: the word of AS_CASE, or nothing for AS_IF.
 #[tactic(auto, unfolding(crate::specs::Profile::subject_of))]
 fn subject(alloc: Global, m: ChoiceMacro, args: &[Arg<'_>]) -> Result<Subject, ParseFault>
-    ensures value { Gives (λ s. s) result (profile.subject_of m (map span args.now)) }
-    // The subject declares nothing.
-    ensures known { IfOk result (λ s. (c : declarations.Declarations) → after_subject c s ≡ c) }
+    ensures { Gives (λ s. s) result (profile.subject_of m (map span args.now)) }
 {
     match m {
         ChoiceMacro::If => Ok(Subject::Nothing),
@@ -257,7 +255,7 @@ fn read_cases(
 
 /// Reads AS_IF or AS_CASE.
 #[cycle(list)]
-#[tactic(auto, unfolding(crate::specs::Profile::choice_of))]
+#[tactic(auto, unfolding(crate::specs::Profile::choice_of, syntax::specs::Lists::after))]
 fn read_choice(
     alloc: Global,
     room: u8,
@@ -271,7 +269,9 @@ fn read_choice(
 {
     let subject = subject(alloc, m, args)?;
     read_cases(alloc, room, list_kind, known, m, case_args(m, args)).map(|cases| choose(
-        subject, cases,
+        Declares::Nothing,
+        subject,
+        cases,
     ))
 }
 
@@ -327,18 +327,18 @@ fn read_answers(
     read.and_then(|other| Ok(both(alloc, first, other)?))
 }
 
-/// Reads the question of a macro, and adds what it declares.
+/// Reads the question of a macro and what it declares, and adds that.
 fn ask(
     alloc: Global,
     known: &mut Declarations,
     m: QuestionMacro,
     args: &[Arg<'_>],
-) -> Result<Question, ParseFault>
+) -> Result<(Declares, Question), ParseFault>
     ensures value { Gives (λ q. q) result (question_of known.old m (map span args.now)) }
-    ensures after { IfOk result (λ q. known.new ≡ after_question known.old q) }
+    ensures after { IfOk result (λ q. known.new ≡ after known.old q.0) }
 {
-    let question = question(alloc, known, m, args)?;
-    Ok(declare_question(alloc, known, &question).map(|()| question)?)
+    let asked = question(alloc, known, m, args)?;
+    Ok(declare(alloc, known, &asked.0).map(|()| asked)?)
 }
 
 /// Reads AC_ARG_ENABLE, AC_CHECK_HEADER, AC_COMPILE_IFELSE, or another macro that asks a question.
@@ -355,9 +355,9 @@ fn read_question(
     ensures value { Gives (λ s. script_of (s ∷ [])) result (profile.asked_of (profile.body_of room (list_kind_of list_kind.entry)) m known.old (map span args.now)) }
     ensures after { IfOk result (λ s. known.new ≡ after_all known.old (script_of (s ∷ []))) }
 {
-    let question = ask(alloc, known, m, args)?;
+    let (declares, question) = ask(alloc, known, m, args)?;
     let cases = read_answers(alloc, room, list_kind, known, action_args(m, args))?;
-    asked_with(alloc, question, cases, args)
+    asked_with(alloc, declares, question, cases, args)
 }
 
 /// Returns the list of the commands in an argument, which set this name.
@@ -400,8 +400,8 @@ fn read_plain(
     ensures value { Gives (λ s. script_of (s ∷ [])) result (profile.call_of list_kinds.Top (profile.body_of 0) known.old (Plain m) at (map span args.now)) }
     ensures after { IfOk result (λ s. known.new ≡ after_all known.old (script_of (s ∷ []))) }
 {
-    let s = plain(alloc, known, m, at, args)?;
-    Ok(declare(alloc, known, &s).map(|()| Stmt::Plain(s))?)
+    let (declares, effect) = plain(alloc, known, m, at, args)?;
+    Ok(declare(alloc, known, &declares).map(|()| Stmt::Do { declares, effect })?)
 }
 
 /// Reads the call of a macro whose name is at `at`.

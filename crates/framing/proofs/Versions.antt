@@ -4,13 +4,13 @@ use Rattle.std.specs.Prelude.{unwrap_or}
 use Rattle.std.proofs.lemmas.List.{drop_more}
 use Rattle.std.proofs.Math.ListN.{drop_of_length-le}
 use Rattle.syntax.specs.declared.tree.Stmt.{Stmt}
-use Rattle.syntax.specs.declared.tree.Stmt.TheVariants.{Plain, Choose', CacheCheck'}
+use Rattle.syntax.specs.declared.tree.Stmt.TheVariants.{Do, Choose', CacheCheck'}
 use Rattle.syntax.specs.Script.{Script, script_of, stmt_then}
 use Rattle.framing.specs.Shown.{line_of, statement_line, version_line}
 
 then_line : (s : Stmt) (rest : Script) → version_line (stmt_then s rest) ≡ unwrap_or (statement_line s) (version_line rest)
-then_line (Plain p) rest = refl
-then_line (Choose' subject m cases) rest = refl
+then_line (Do declares effect) rest = refl
+then_line (Choose' declares subject m cases) rest = refl
 then_line (CacheCheck' message name m commands) rest = refl
 
 at_line : (xs : List Stmt) (i : ℕ) (s : Stmt) → i < length xs → s ≡ get_or xs i s → version_line (script_of (drop i xs)) ≡ unwrap_or (statement_line s) (version_line (script_of (drop (i + 1) xs)))

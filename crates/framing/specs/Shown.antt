@@ -4,10 +4,10 @@ use Rattle.deftable.specs.declared.note.Note.{Note}
 use Rattle.deftable.specs.declared.note.Stream.TheVariants.{Out}
 use Rattle.options.specs.HelpText.{help_text}
 use Rattle.options.specs.declared.settings.Settings.{Settings}
-use Rattle.syntax.specs.declared.statement.Plain as plain
-use Rattle.syntax.specs.declared.statement.Plain.TheVariants.{Init}
+use Rattle.syntax.specs.declared.statement.Effect.{Effect}
+use Rattle.syntax.specs.declared.statement.Effect.TheVariants.{Package}
 use Rattle.syntax.specs.declared.tree.Stmt.{Stmt}
-use Rattle.syntax.specs.declared.tree.Stmt.TheVariants.{Plain, Choose', CacheCheck'}
+use Rattle.syntax.specs.declared.tree.Stmt.TheVariants.{Do, Choose', CacheCheck'}
 use Rattle.syntax.specs.Lists.{lists_of}
 use Rattle.syntax.specs.Script.{Script, Done, Then, Choice, Check}
 use Rattle.framing.specs.declared.report.Report.{Report}
@@ -17,22 +17,22 @@ use Rattle.framing.specs.declared.report.Outcome.TheVariants.{Shown}
 abbrev pub line_of : List ℕ → List ℕ → List ℕ
 line_of title version = title ++ codes " configure " ++ version ++ codes "\n"
 
--- The line of the version, if the statement is AC_INIT. (own)
-abbrev pub plain_line : plain.Plain → Option (List ℕ)
-plain_line (Init title version bug tarname url) = Some (line_of title version)
-plain_line statement = None
+-- The line of the version, if the effect is that of AC_INIT. (own)
+abbrev pub package_line : Effect → Option (List ℕ)
+package_line (Package title version bug tarname url) = Some (line_of title version)
+package_line effect = None
 
 -- The same of a statement of the code. (own)
 abbrev pub statement_line : Stmt → Option (List ℕ)
-statement_line (Plain statement) = plain_line statement
-statement_line (Choose' subject m cases) = None
+statement_line (Do declares effect) = package_line effect
+statement_line (Choose' declares subject m cases) = None
 statement_line (CacheCheck' message name m commands) = None
 
 -- The line of the version: the package and its version, by the first AC_INIT. (Autoconf's manual, "configure Invocation")
 abbrev pub version_line : Script → List ℕ
 version_line Done = line_of [] []
-version_line (Then statement rest) = unwrap_or (plain_line statement) (version_line rest)
-version_line (Choice subject cases rest) = version_line rest
+version_line (Then declares effect rest) = unwrap_or (package_line effect) (version_line rest)
+version_line (Choice declares subject cases rest) = version_line rest
 version_line (Check message name commands rest) = version_line rest
 
 -- The text that is shown: the help text if it is wanted, and otherwise the line of the version. (own)

@@ -10,7 +10,7 @@ use crew_trait::Log;
 use deftable::{Bytes, Defs, Note, Notes, Stream};
 use options::{Settings, help_text};
 use std::alloc::{AllocError, Global};
-use syntax::{Plain, Source, Stmt};
+use syntax::{Effect, Source, Stmt};
 
 /// Returns the line of a version.
 fn line_of(alloc: Global, title: &[u8], version: &[u8]) -> Result<Bytes, AllocError>
@@ -23,21 +23,21 @@ fn line_of(alloc: Global, title: &[u8], version: &[u8]) -> Result<Bytes, AllocEr
     Ok(Bytes::from_vec(line))
 }
 
-/// Returns the title and the version, if the statement is AC_INIT.
-fn named_package(statement: &Plain) -> Option<(&[u8], &[u8])>
-    ensures { option_map (λ p. words.line_of p.0.now p.1.now) result ≡ words.plain_line statement.now }
+/// Returns the title and the version, if the effect is that of AC_INIT.
+fn named_package(effect: &Effect) -> Option<(&[u8], &[u8])>
+    ensures { option_map (λ p. words.line_of p.0.now p.1.now) result ≡ words.package_line effect.now }
 {
-    match statement {
-        Plain::Init { title, version, .. } => Some((title.as_slice(), version.as_slice())),
+    match effect {
+        Effect::Package { title, version, .. } => Some((title.as_slice(), version.as_slice())),
         _ => None,
     }
 }
 
-/// Returns the line of the version, if the statement is AC_INIT.
-fn plain_line(alloc: Global, statement: &Plain) -> Result<Option<Bytes>, AllocError>
-    ensures { IfOk result (λ line. line ≡ words.plain_line statement.now) }
+/// Returns the line of the version, if the effect is that of AC_INIT.
+fn package_line(alloc: Global, effect: &Effect) -> Result<Option<Bytes>, AllocError>
+    ensures { IfOk result (λ line. line ≡ words.package_line effect.now) }
 {
-    let Some((title, version)) = named_package(statement) else {
+    let Some((title, version)) = named_package(effect) else {
         return Ok(None);
     };
     let line = line_of(alloc, title, version)?;
@@ -49,7 +49,7 @@ fn statement_line(alloc: Global, statement: &Stmt) -> Result<Option<Bytes>, Allo
     ensures { IfOk result (λ line. line ≡ words.statement_line statement.now) }
 {
     match statement {
-        Stmt::Plain(plain) => plain_line(alloc, plain),
+        Stmt::Do { effect, .. } => package_line(alloc, effect),
         Stmt::Choose { .. } => Ok(None),
         Stmt::CacheCheck { .. } => Ok(None),
     }

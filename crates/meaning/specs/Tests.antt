@@ -1,5 +1,5 @@
 -- Cached tests.
-use Rattle.std.specs.Prelude.{ℕ, Bool, true, false, List, [], ◌∷◌, ◌++◌, Option, Some, None, codes}
+use Rattle.std.specs.Prelude.{ℕ, Bool, true, false, List, ◌++◌, Option, Some, None, codes}
 use Rattle.deftable.specs.declared.note.Stream.TheVariants as streams
 use Rattle.deftable.specs.Table.{value_of}
 use Rattle.syntax.specs.declared.statement.Message.TheVariants.{Checking, Results}

@@ -9,7 +9,8 @@ use Rattle.syntax.specs.declared.tree.Case as case
 use Rattle.syntax.specs.declared.tree.Stmt.{Stmt, Choose, CacheCheck}
 use Rattle.syntax.specs.declared.tree.Subject as what
 use Rattle.syntax.specs.declared.tree.Subject.TheVariants.{Asked}
-use Rattle.syntax.specs.declared.tree.Stmt.TheVariants.{Plain, Choose', CacheCheck'}
+use Rattle.syntax.specs.declared.statement.Declares.{Declares}
+use Rattle.syntax.specs.declared.tree.Stmt.TheVariants.{Do, Choose', CacheCheck'}
 use Rattle.syntax.specs.Script.{Script, Done, stmt_then, row_script, row_cases, script_of, cases_of}
 use Rattle.syntax.proofs.ScriptLemmas.{choice_is, check_is}
 use Rattle.meaning.specs.Meaning.{rounds_asked, rounds_of}
@@ -17,8 +18,8 @@ use Rattle.plan.specs.Walk.{Instruction, Does, Looks, Begins}
 use Rattle.plan.specs.Code.{case_code, check_code, code_after, code_each, code_of, code_of_cases, code_of_programs}
 
 code_more : (s : Stmt) (rest : Script) → code_of (stmt_then s rest) ≡ code_of (stmt_then s Done) ++ code_of rest
-code_more (Plain s) rest = ap (λ l. Does s ∷ (l ++ code_of rest)) (sym (append-nil (code_after s)))
-code_more (Choose' subject m cases) rest = ap (λ l. l ++ code_of rest) (sym (append-nil (code_each (rounds_of subject) (code_of_cases (row_cases cases)))))
+code_more (Do declares effect) rest = ap (λ l. Does effect ∷ (l ++ code_of rest)) (sym (append-nil (code_after effect)))
+code_more (Choose' declares subject m cases) rest = ap (λ l. l ++ code_of rest) (sym (append-nil (code_each (rounds_of subject) (code_of_cases (row_cases cases)))))
 code_more (CacheCheck' message name m commands) rest = ap (λ l. l ++ code_of rest) (sym (append-nil (check_code message name (code_of (row_script commands)))))
 
 -- One more statement at the front.
@@ -48,10 +49,10 @@ code_at_case old new base list i d after lt far is h =
     ∙ ap (λ l. code_of_cases (cases_of l) ++ base) (sym (drop_more list i d lt))
 
 -- A choice.
-pub code_choice : (s : Stmt) (subject : what.Subject) (cases : Vec case.Case Global) → s ≡ Choose subject cases
+pub code_choice : (s : Stmt) (declares : Declares) (subject : what.Subject) (cases : Vec case.Case Global) → s ≡ Choose declares subject cases
     → code_of (stmt_then s Done) ≡ code_each (rounds_of subject) (code_of_cases (cases_of cases.items))
-code_choice s subject cases is =
-    ap (λ x. code_of (stmt_then x Done)) is ∙ ap code_of (choice_is subject cases Done)
+code_choice s declares subject cases is =
+    ap (λ x. code_of (stmt_then x Done)) is ∙ ap code_of (choice_is declares subject cases Done)
     ∙ append-nil (code_each (rounds_of subject) (code_of_cases (cases_of cases.items)))
 
 -- A check.

@@ -135,7 +135,7 @@ first_found_carried f early other c sought (entry ∷ more) includes st go = fou
 
 asked_carried : (f : Run → Run) (early other : How → State → State) → Carries f early other → (question : asks.Question) (st : State) (go : Scope → State → Run)
     → f (asked early question st go) ≡ asked other question st (λ scope now. f (go scope now))
-asked_carried f early other c (Given kind variable help) st go = given_carried f (value_of st.vars variable) kind st go
+asked_carried f early other c (Given kind variable) st go = given_carried f (value_of st.vars variable) kind st go
 asked_carried f early other c (Tries kind program) st go =
     let job = job_of (first_probe kind (text_of program st.vars)) 0 st.vars st.defs in
     compiled_carried f early other c job st _ ∙ ap (compiled other job st) (fun_ext (λ b. fun_ext (λ now. first_carried f early other c kind (λ passed. go (answered passed)) b now)))

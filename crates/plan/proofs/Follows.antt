@@ -5,8 +5,8 @@ use Rattle.std.proofs.Math.Path.{fun_ext}
 use Rattle.deftable.specs.Table.{value_of}
 use Rattle.shellword.specs.declared.part.Part.{Part}
 use Rattle.shellword.specs.Value.{word_value}
-use Rattle.syntax.specs.declared.statement.Plain as plain
-use Rattle.syntax.specs.declared.statement.Plain.TheVariants.{CheckProgs, ProgCc}
+use Rattle.syntax.specs.declared.statement.Effect.{Effect}
+use Rattle.syntax.specs.declared.statement.Effect.TheVariants.{Searches}
 use Rattle.syntax.specs.declared.tree.Subject as what
 use Rattle.syntax.specs.declared.tree.When.{When}
 use Rattle.syntax.specs.Script.{Script, Done, Then, Choice, Check, Cases, No_case, Case}
@@ -14,8 +14,8 @@ use Rattle.meaning.specs.State.{State, Scope, no_choice, as_is, Goes_on, Run, En
 use Rattle.meaning.specs.Tests.{guarded, checking, with_result, test_by, cached_test}
 use Rattle.plan.specs.Broken.{broken_all, guarded_all}
 use Rattle.meaning.specs.Meaning.{effect, looks, looks_all, defaulted, begun, is_taken, check, rounds_of, in_turn, meaning, chosen}
-use Rattle.plan.specs.Walk.{Instruction, Does, Defaults, Skips_unless, Skips, Opens, Closes, Mind, minded, empty_mind, opened, own_effect, walk, DoesWhat}
-use Rattle.plan.specs.Code.{case_code, check_code, code_after, code_each, code_of, code_of_cases, code_of_programs}
+use Rattle.plan.specs.Walk.{Instruction, Does, Skips_unless, Skips, Opens, Closes, Mind, minded, empty_mind, opened, own_effect, walk, DoesWhat}
+use Rattle.plan.specs.Code.{case_code, check_code, code_after, code_each, code_of, code_of_cases, code_of_programs, default_code}
 use Rattle.plan.proofs.Endings.{then_then, then_ends, guarded_then, guarded_inner, guarded_none, then_carries, ended_carries, begun_carried}
 
 -- The steps of one part of the code are passed.
@@ -75,25 +75,29 @@ programs_follow variable (p ∷ programs) always rest tests next h scope st =
     ap (then_run (guarded_all tests (looks variable p always st))) (fun_ext (programs_follow variable programs false rest tests next h scope))
     ∙ in_order tests (looks variable p always st) (looks_all variable programs false) next
 
--- A statement with no steps after its own.
-ordinary : (s : plain.Plain) (rest : List Instruction) (tests : List (List ℕ)) (next : State → Run) → own_effect s ≡ effect s → code_after s ≡ [] → GoesOn rest tests next
+-- The default of programs, if there is one.
+default_follows : (variable : List ℕ) (value : Option (List Part)) (rest : List Instruction) (tests : List (List ℕ)) (next : State → Run) → GoesOn rest tests next
+    → GoesOn (default_code variable value ++ rest) tests (λ st. next (defaulted variable (option_map (λ t. word_value t st.vars) value) st))
+default_follows variable None rest tests next h scope st = h scope st
+default_follows variable (Some value) rest tests next h scope st = h scope (defaulted variable (Some (word_value value st.vars)) st)
+
+-- An effect with no steps after its own.
+ordinary : (s : Effect) (rest : List Instruction) (tests : List (List ℕ)) (next : State → Run) → own_effect s ≡ effect s → code_after s ≡ [] → GoesOn rest tests next
     → GoesOn (Does s ∷ (code_after s ++ rest)) tests (λ st. then_run (guarded_all tests (effect s st)) next)
 ordinary s rest tests next own none h scope st =
     ap (λ e. then_run (guarded_all tests (e st)) (walk (code_after s ++ rest) 0 (minded scope tests))) own
     ∙ ap (λ l. then_run (guarded_all tests (effect s st)) (walk (l ++ rest) 0 (minded scope tests))) none
     ∙ ap (then_run (guarded_all tests (effect s st))) (fun_ext (h scope))
 
--- A statement.
-does_follow : (s : plain.Plain) (rest : List Instruction) (tests : List (List ℕ)) (next : State → Run) → GoesOn rest tests next
+-- An effect.
+does_follow : (s : Effect) (rest : List Instruction) (tests : List (List ℕ)) (next : State → Run) → GoesOn rest tests next
     → GoesOn (Does s ∷ (code_after s ++ rest)) tests (λ st. then_run (guarded_all tests (effect s st)) next)
 unfolding effect
-does_follow (CheckProgs variable programs otherwise) rest tests next h scope st =
+does_follow (Searches variable programs otherwise) rest tests next h scope st =
     let last = λ (now : State). defaulted variable (option_map (λ t. word_value t now.vars) otherwise) now in
-    ap (λ l. walk l 0 (minded scope tests) st) (append_assoc (code_of_programs variable programs true) (Defaults variable otherwise ∷ []) rest)
-    ∙ programs_follow variable programs true (Defaults variable otherwise ∷ rest) tests (λ now. next (last now)) (λ c now. h c (last now)) scope st
+    ap (λ l. walk l 0 (minded scope tests) st) (append_assoc (code_of_programs variable programs true) (default_code variable otherwise) rest)
+    ∙ programs_follow variable programs true (default_code variable otherwise ++ rest) tests (λ now. next (last now)) (default_follows variable otherwise rest tests next h) scope st
     ∙ in_order tests (looks_all variable programs true st) (λ now. Ends Goes_on (last now)) next
-does_follow (ProgCc programs) rest tests next h scope st =
-    programs_follow (codes "CC") programs true rest tests next h scope st
 does_follow other rest tests next h scope st = ordinary other rest tests next refl refl h scope st
 
 -- A check, given the effect of its commands.
@@ -135,11 +139,11 @@ mutual
   pub follows : (script : Script) (rest : List Instruction) (tests : List (List ℕ)) (next : State → Run) → GoesOn rest tests next
       → GoesOn (code_of script ++ rest) tests (λ st. then_run (guarded_all tests (meaning script st)) next)
   follows Done rest tests next h scope st = h scope st
-  follows (Then s script) rest tests next h scope st =
+  follows (Then declares s script) rest tests next h scope st =
       ap (λ l. walk (Does s ∷ l) 0 (minded scope tests) st) (append_assoc (code_after s) (code_of script) rest)
       ∙ does_follow s (code_of script ++ rest) tests (λ now. then_run (guarded_all tests (meaning script now)) next) (follows script rest tests next h) scope st
       ∙ in_order tests (effect s st) (meaning script) next
-  follows (Choice subject cases script) rest tests next h scope st =
+  follows (Choice declares subject cases script) rest tests next h scope st =
       let c = code_of_cases cases in let r = code_of script in
       ap (λ l. walk l 0 (minded scope tests) st) (append_assoc (code_each (rounds_of subject) c) r rest)
       ∙ rounds_follow (rounds_of subject) c (r ++ rest) tests (chosen cases) (λ s. then_run (guarded_all tests (meaning script s)) next)

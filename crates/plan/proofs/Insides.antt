@@ -1,19 +1,19 @@
 -- Every jump of a plan stays inside, and how many jobs a plan asks for.
-use Rattle.std.proofs.Common.{◌≡◌, codes, ◌*◌, ◌+◌, ℕ, ◌≤◌, List, [], ◌∷◌, ◌++◌, length, map, Option, Bool, true, false, sym, arith, append_assoc, length-append, subst}
+use Rattle.std.proofs.Common.{◌≡◌, ◌*◌, ◌+◌, ℕ, ◌≤◌, List, [], ◌∷◌, ◌++◌, length, map, Option, Some, None, Bool, true, false, refl, sym, arith, append_assoc, length-append, subst}
 use Rattle.std.proofs.lemmas.List.{append-nil, length-map}
 use Rattle.shellword.specs.declared.part.Part.{Part}
 use Rattle.syntax.specs.declared.listed.Sought.{Sought}
 use Rattle.syntax.specs.declared.listed.Sought.TheVariants.{Entry, «Type»}
 use Rattle.syntax.specs.declared.statement.Question.TheVariants.{Tries, Checks, ChecksEach}
 use Rattle.syntax.specs.declared.program.Try.TheVariants as kinds_are
-use Rattle.syntax.specs.declared.statement.Plain as plain
-use Rattle.syntax.specs.declared.statement.Plain.TheVariants.{CheckProgs, ProgCc}
+use Rattle.syntax.specs.declared.statement.Effect.{Effect}
+use Rattle.syntax.specs.declared.statement.Effect.TheVariants.{Searches}
 use Rattle.syntax.specs.declared.tree.Subject as what
 use Rattle.syntax.specs.declared.tree.Subject.TheVariants.{Asked}
 use Rattle.syntax.specs.Script.{Script, Done, Then, Choice, Check, Cases, No_case, Case}
 use Rattle.meaning.specs.Meaning.{rounds_of}
-use Rattle.plan.specs.Walk.{Instruction, Defaults, Begins, Skips, Closes}
-use Rattle.plan.specs.Code.{case_code, check_code, code_after, code_each, code_of, code_of_cases, code_of_programs}
+use Rattle.plan.specs.Walk.{Instruction, Begins, Skips, Closes}
+use Rattle.plan.specs.Code.{case_code, check_code, code_after, code_each, code_of, code_of_cases, code_of_programs, default_code}
 use Rattle.plan.specs.Inside.{StaysInside, AskFew, asks_by, asks_to_find, asks_about, asks_after}
 use Rattle.plan.specs.Weight.{entries_of, entries_asked, times, weight, weight_of_cases, heaviest}
 use Rattle.plan.proofs.Follows.{flat, flat_check}
@@ -22,11 +22,14 @@ programs_inside : (variable : List ℕ) (programs : List (List ℕ)) (always : B
 programs_inside variable [] always rest h = h
 programs_inside variable (p ∷ programs) always rest h = (omega arith, programs_inside variable programs false rest h)
 
-after_inside : (s : plain.Plain) (rest : List Instruction) → StaysInside rest → StaysInside (code_after s ++ rest)
-after_inside (CheckProgs variable programs otherwise) rest h =
-    subst StaysInside (sym (append_assoc (code_of_programs variable programs true) (Defaults variable otherwise ∷ []) rest))
-    (programs_inside variable programs true (Defaults variable otherwise ∷ rest) (omega arith, h))
-after_inside (ProgCc programs) rest h = programs_inside (codes "CC") programs true rest h
+default_inside : (variable : List ℕ) (value : Option (List Part)) (rest : List Instruction) → StaysInside rest → StaysInside (default_code variable value ++ rest)
+default_inside variable None rest h = h
+default_inside variable (Some value) rest h = (omega arith, h)
+
+after_inside : (s : Effect) (rest : List Instruction) → StaysInside rest → StaysInside (code_after s ++ rest)
+after_inside (Searches variable programs otherwise) rest h =
+    subst StaysInside (sym (append_assoc (code_of_programs variable programs true) (default_code variable otherwise) rest))
+    (programs_inside variable programs true (default_code variable otherwise ++ rest) (default_inside variable otherwise rest h))
 after_inside other rest h = h
 
 each_inside : (rounds : List what.Subject) (cases rest : List Instruction) → ((more : List Instruction) → StaysInside more → StaysInside (cases ++ more)) → StaysInside rest → StaysInside (code_each rounds cases ++ rest)
@@ -38,9 +41,9 @@ mutual
   -- The jumps of code stay inside, whatever follows it.
   code_inside : (script : Script) (rest : List Instruction) → StaysInside rest → StaysInside (code_of script ++ rest)
   code_inside Done rest h = h
-  code_inside (Then s script) rest h =
+  code_inside (Then declares s script) rest h =
       (omega arith, subst StaysInside (sym (append_assoc (code_after s) (code_of script) rest)) (after_inside s (code_of script ++ rest) (code_inside script rest h)))
-  code_inside (Choice subject cases script) rest h =
+  code_inside (Choice declares subject cases script) rest h =
       let c = code_of_cases cases in let r = code_of script in
       subst StaysInside (sym (append_assoc (code_each (rounds_of subject) c) r rest))
       (each_inside (rounds_of subject) c (r ++ rest) (λ more inside. cases_inside cases more inside) (code_inside script rest h))
@@ -85,12 +88,15 @@ programs_ask : (variable : List ℕ) (programs : List (List ℕ)) (always : Bool
 programs_ask variable [] always = omega arith
 programs_ask variable (p ∷ programs) always = omega (arith, programs_ask variable programs false)
 
--- A statement, with the steps after its own.
-statement_asks : (s : plain.Plain) → asks_by s + asks_after (code_after s) 0 ≤ 65536 * (1 + entries_of s)
-statement_asks (CheckProgs variable programs otherwise) =
-    omega (arith, asks_both (code_of_programs variable programs true) (Defaults variable otherwise ∷ []), programs_ask variable programs true)
-statement_asks (ProgCc programs) = omega (arith, programs_ask (codes "CC") programs true)
-statement_asks other = omega arith
+default_asks : (variable : List ℕ) (value : Option (List Part)) → asks_after (default_code variable value) 0 ≡ 0
+default_asks variable None = refl
+default_asks variable (Some value) = refl
+
+-- An effect, with the steps after its own.
+effect_asks : (s : Effect) → asks_by s + asks_after (code_after s) 0 ≤ 65536 * (1 + entries_of s)
+effect_asks (Searches variable programs otherwise) =
+    omega (arith, asks_both (code_of_programs variable programs true) (default_code variable otherwise), programs_ask variable programs true, default_asks variable otherwise)
+effect_asks other = omega arith
 
 each_ask : (rounds : List what.Subject) (cases : List Instruction) (w : ℕ) → asks_after cases 0 ≤ 65536 * w
     → asks_after (code_each rounds cases) 0 ≤ asks_after (map Begins rounds) 0 + 65536 * times (length rounds) w
@@ -120,8 +126,8 @@ mutual
   -- Code asks for 65,536 jobs at most for each unit of weight.
   pub code_asks : (script : Script) → asks_after (code_of script) 0 ≤ 65536 * weight script
   code_asks Done = omega arith
-  code_asks (Then s script) = omega (arith, statement_asks s, asks_both (code_after s) (code_of script), code_asks script)
-  code_asks (Choice subject cases script) =
+  code_asks (Then declares s script) = omega (arith, effect_asks s, asks_both (code_after s) (code_of script), code_asks script)
+  code_asks (Choice declares subject cases script) =
       let rounds = rounds_of subject in let c = code_of_cases cases in
       omega (arith, asks_both (code_each rounds c) (code_of script), each_ask rounds c (weight_of_cases cases) (cases_ask cases), rounds_ask subject, code_asks script)
   code_asks (Check message name commands script) =
@@ -142,15 +148,18 @@ programs_few : (variable : List ℕ) (programs : List (List ℕ)) (always : Bool
 programs_few variable [] always = tt
 programs_few variable (p ∷ programs) always = (omega arith, programs_few variable programs false)
 
-after_few : (s : plain.Plain) → AskFew (code_after s)
-after_few (CheckProgs variable programs otherwise) =
-    few_both (code_of_programs variable programs true) (Defaults variable otherwise ∷ []) (programs_few variable programs true) (omega arith, tt)
-after_few (ProgCc programs) = programs_few (codes "CC") programs true
+default_few : (variable : List ℕ) (value : Option (List Part)) → AskFew (default_code variable value)
+default_few variable None = tt
+default_few variable (Some value) = (omega arith, tt)
+
+after_few : (s : Effect) → AskFew (code_after s)
+after_few (Searches variable programs otherwise) =
+    few_both (code_of_programs variable programs true) (default_code variable otherwise) (programs_few variable programs true) (default_few variable otherwise)
 after_few other = tt
 
--- A statement asks for no more jobs than there are directories, or than it weighs.
-does_few : (s : plain.Plain) → 1 + entries_of s ≤ heaviest → asks_by s ≤ 65536
-does_few (CheckProgs variable programs otherwise) fits = omega arith
+-- An effect asks for no more jobs than there are directories, or than it weighs.
+does_few : (s : Effect) → 1 + entries_of s ≤ heaviest → asks_by s ≤ 65536
+does_few (Searches variable programs otherwise) fits = omega arith
 does_few other fits = omega arith
 
 entries_few : (sought : Sought) (entries : List (List ℕ)) (includes : Option (List Part)) → AskFew (map Begins (rounds_of (Asked (ChecksEach sought entries includes))))
@@ -175,9 +184,9 @@ mutual
   -- Each step of code that is not too heavy asks for at most 65,536 jobs.
   pub code_few : (script : Script) → weight script ≤ heaviest → AskFew (code_of script)
   code_few Done fits = tt
-  code_few (Then s script) fits =
+  code_few (Then declares s script) fits =
       (does_few s (omega arith), few_both (code_after s) (code_of script) (after_few s) (code_few script (omega arith)))
-  code_few (Choice subject cases script) fits =
+  code_few (Choice declares subject cases script) fits =
       let rounds = rounds_of subject in let c = code_of_cases cases in
       few_both (code_each rounds c) (code_of script)
       (each_few rounds c (weight_of_cases cases) (rounds_few subject (omega arith)) (cases_few cases) (omega arith))

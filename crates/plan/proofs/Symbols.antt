@@ -9,7 +9,7 @@ use Rattle.m4quote.specs.Names.{cpp_byte}
 use Rattle.m4quote.specs.Text.{is_word_byte}
 use Rattle.syntax.specs.declared.listed.Listed.{Listed}
 use Rattle.syntax.specs.declared.listed.Listed.TheVariants.{Header, Function, Declaration}
-use Rattle.syntax.specs.declared.statement.Plain.TheVariants.{Batch}
+use Rattle.syntax.specs.declared.statement.Effect.TheVariants.{Batch}
 use Rattle.syntax.specs.declared.statement.Question.TheVariants as questions
 use Rattle.syntax.specs.declared.statement.Question.TheVariants.{Given, Tries, Checks, ChecksEach}
 use Rattle.syntax.specs.declared.tree.Subject as subject
@@ -82,7 +82,7 @@ pub step_begins : (about : subject.Subject) → DefinesAbout about
 unfolding DefinesAbout
 step_begins Nothing = tt
 step_begins (Word word) = tt
-step_begins (Asked (Given kind variable help)) = tt
+step_begins (Asked (Given kind variable)) = tt
 step_begins (Asked (Tries kind program)) = tt
 step_begins (Asked (Checks sought entry includes)) = kind_defines (kind_for sought entry includes false)
 step_begins (Asked (ChecksEach sought entries includes)) = λ k d lt. kind_defines (kind_for sought (get_or entries k d) includes true)

@@ -1,11 +1,12 @@
 -- The weight of a list, statement after statement and case after case, and how long its code is.
-use Rattle.std.proofs.Common.{◌≡◌, codes, ℕ, zero, suc, ◌+◌, ◌-◌, ◌*◌, ◌<◌, ◌≤◌, Option, Some, None, IfSome, IfNone, SomeIff, is_some, Bool, true, false, refl, List, [], ◌∷◌, Vec, Global, length, drop, get_or, ap, ◌∙◌, arith, length-append}
+use Rattle.std.proofs.Common.{◌≡◌, ℕ, zero, suc, ◌+◌, ◌-◌, ◌*◌, ◌<◌, ◌≤◌, Option, Some, None, IfSome, IfNone, SomeIff, is_some, Bool, true, false, refl, List, [], ◌∷◌, Vec, Global, length, drop, get_or, ap, ◌∙◌, arith, length-append}
 use Rattle.std.proofs.Math.Nat.{mul-zero, mul-suc}
 use Rattle.std.proofs.lemmas.List.{drop_more}
 use Rattle.std.proofs.lemmas.Bool.{true≢false}
 use Rattle.shellword.specs.declared.part.Part.{Part}
-use Rattle.syntax.specs.declared.statement.Plain as plain
-use Rattle.syntax.specs.declared.statement.Plain.TheVariants.{CheckProgs, ProgCc}
+use Rattle.syntax.specs.declared.statement.Declares.{Declares}
+use Rattle.syntax.specs.declared.statement.Effect.{Effect}
+use Rattle.syntax.specs.declared.statement.Effect.TheVariants.{Searches}
 use Rattle.syntax.specs.declared.tree.Case as case
 use Rattle.syntax.specs.declared.tree.Stmt.{Stmt, Choose, CacheCheck}
 use Rattle.syntax.specs.declared.tree.Subject as what
@@ -13,14 +14,14 @@ use Rattle.syntax.specs.declared.tree.Stmt.TheVariants as stmt
 use Rattle.syntax.specs.Script.{Script, Done, Then, Choice, Check, Cases, No_case, Case, stmt_then, script_of, cases_of}
 use Rattle.syntax.proofs.ScriptLemmas.{choice_is, check_is}
 use Rattle.meaning.specs.Meaning.{rounds_of}
-use Rattle.plan.specs.Walk.{Instruction, Defaults, Skips, Closes}
+use Rattle.plan.specs.Walk.{Instruction, Skips, Closes}
 use Rattle.plan.specs.Weight.{entries_of, entries_asked, times, weight, weight_of_cases}
-use Rattle.plan.specs.Code.{case_code, check_code, code_after, code_each, code_of, code_of_cases, code_of_programs}
+use Rattle.plan.specs.Code.{case_code, check_code, code_after, code_each, code_of, code_of_cases, code_of_programs, default_code}
 use Rattle.plan.proofs.Insides.{rounds_bound}
 
 weight_more : (s : Stmt) (rest : Script) → weight (stmt_then s rest) ≡ weight (stmt_then s Done) + weight rest
-weight_more (stmt.Plain s) rest = omega arith
-weight_more (stmt.Choose' subject m cases) rest = omega arith
+weight_more (stmt.Do declares effect) rest = omega arith
+weight_more (stmt.Choose' declares subject m cases) rest = omega arith
 weight_more (stmt.CacheCheck' message name m commands) rest = omega arith
 
 -- One statement of a list, and those after it.
@@ -34,13 +35,13 @@ pub weight_at_case : (list : List case.Case) (i : ℕ) (d : case.Case) → i < l
 weight_at_case list i d lt = ap (λ l. weight_of_cases (cases_of l)) (drop_more list i d lt) ∙ omega arith
 
 -- A choice.
-pub weight_choice : (s : Stmt) (subject : what.Subject) (cases : Vec case.Case Global) → s ≡ Choose subject cases
+pub weight_choice : (s : Stmt) (declares : Declares) (subject : what.Subject) (cases : Vec case.Case Global) → s ≡ Choose declares subject cases
     → weight (stmt_then s Done) ≡ 1 + (entries_asked subject + times (length (rounds_of subject)) (weight_of_cases (cases_of cases.items)))
-weight_choice s subject cases is = ap (λ x. weight (stmt_then x Done)) is ∙ ap weight (choice_is subject cases Done) ∙ omega arith
+weight_choice s declares subject cases is = ap (λ x. weight (stmt_then x Done)) is ∙ ap weight (choice_is declares subject cases Done) ∙ omega arith
 
 pub weighs_something : (s : Stmt) → 1 ≤ weight (stmt_then s Done)
-weighs_something (stmt.Plain s) = omega arith
-weighs_something (stmt.Choose' subject m cases) = omega arith
+weighs_something (stmt.Do declares effect) = omega arith
+weighs_something (stmt.Choose' declares subject m cases) = omega arith
 weighs_something (stmt.CacheCheck' message name m commands) = omega arith
 
 -- A check.
@@ -63,19 +64,19 @@ pub weigh_over : (list : List Stmt) (i : ℕ) (s : Stmt) (left room : ℕ) → i
 weigh_over list i s left room lt is e h =
     omega (arith, weight_at list i s lt, ap (λ x. weight (stmt_then x Done)) is)
 
-pub choose_some : (r : Option ℕ) (s : Stmt) (subject : what.Subject) (cases : Vec case.Case Global) (seen : List case.Case) (left room : ℕ) → s ≡ Choose subject cases
+pub choose_some : (r : Option ℕ) (s : Stmt) (declares : Declares) (subject : what.Subject) (cases : Vec case.Case Global) (seen : List case.Case) (left room : ℕ) → s ≡ Choose declares subject cases
     → seen ≡ cases.items → left + 1 ≡ room → IfSome r (λ l. l + (entries_asked subject + times (length (rounds_of subject)) (weight_of_cases (cases_of seen))) ≡ left)
     → IfSome r (λ l. l + weight (stmt_then s Done) ≡ room)
-choose_some None s subject cases seen left room is same one h = h
-choose_some (Some l) s subject cases seen left room is same one h =
-    omega (arith, weight_choice s subject cases is, ap (λ x. times (length (rounds_of subject)) (weight_of_cases (cases_of x))) same)
+choose_some None s declares subject cases seen left room is same one h = h
+choose_some (Some l) s declares subject cases seen left room is same one h =
+    omega (arith, weight_choice s declares subject cases is, ap (λ x. times (length (rounds_of subject)) (weight_of_cases (cases_of x))) same)
 
-pub choose_none : (r : Option ℕ) (s : Stmt) (subject : what.Subject) (cases : Vec case.Case Global) (seen : List case.Case) (left room : ℕ) → s ≡ Choose subject cases
+pub choose_none : (r : Option ℕ) (s : Stmt) (declares : Declares) (subject : what.Subject) (cases : Vec case.Case Global) (seen : List case.Case) (left room : ℕ) → s ≡ Choose declares subject cases
     → seen ≡ cases.items → left + 1 ≡ room → IfNone r (left < entries_asked subject + times (length (rounds_of subject)) (weight_of_cases (cases_of seen)))
     → IfNone r (room < weight (stmt_then s Done))
-choose_none None s subject cases seen left room is same one h =
-    omega (arith, weight_choice s subject cases is, ap (λ x. times (length (rounds_of subject)) (weight_of_cases (cases_of x))) same)
-choose_none (Some l) s subject cases seen left room is same one h = h
+choose_none None s declares subject cases seen left room is same one h =
+    omega (arith, weight_choice s declares subject cases is, ap (λ x. times (length (rounds_of subject)) (weight_of_cases (cases_of x))) same)
+choose_none (Some l) s declares subject cases seen left room is same one h = h
 
 pub check_some : (r : Option ℕ) (s : Stmt) (message : List Part) (name : List ℕ) (commands : Vec Stmt Global) (seen : List Stmt) (left room : ℕ) → s ≡ CacheCheck message name commands
     → seen ≡ commands.items → left + 1 ≡ room → IfSome r (λ l. l + weight (script_of seen) ≡ left)
@@ -95,10 +96,13 @@ programs_bound : (variable : List ℕ) (programs : List (List ℕ)) (always : Bo
 programs_bound variable [] always = refl
 programs_bound variable (p ∷ programs) always = omega (arith, programs_bound variable programs false)
 
-after_bound : (s : plain.Plain) → length (code_after s) ≤ entries_of s + 1
-after_bound (CheckProgs variable programs otherwise) =
-    omega (arith, length-append (code_of_programs variable programs true) (Defaults variable otherwise ∷ []), programs_bound variable programs true)
-after_bound (ProgCc programs) = omega (arith, programs_bound (codes "CC") programs true)
+default_bound : (variable : List ℕ) (value : Option (List Part)) → length (default_code variable value) ≤ 1
+default_bound variable None = omega arith
+default_bound variable (Some value) = omega arith
+
+after_bound : (s : Effect) → length (code_after s) ≤ entries_of s + 1
+after_bound (Searches variable programs otherwise) =
+    omega (arith, length-append (code_of_programs variable programs true) (default_code variable otherwise), programs_bound variable programs true, default_bound variable otherwise)
 after_bound other = omega arith
 
 each_bound : (rounds : List what.Subject) (cases : List Instruction) (w : ℕ) → length cases ≤ 2 * w
@@ -110,8 +114,8 @@ mutual
   -- Code has two steps at most for each unit of weight.
   pub code_bound : (script : Script) → length (code_of script) ≤ 2 * weight script
   code_bound Done = omega arith
-  code_bound (Then s rest) = omega (arith, after_bound s, length-append (code_after s) (code_of rest), code_bound rest)
-  code_bound (Choice subject cases rest) =
+  code_bound (Then declares s rest) = omega (arith, after_bound s, length-append (code_after s) (code_of rest), code_bound rest)
+  code_bound (Choice declares subject cases rest) =
       let rounds = rounds_of subject in let c = code_of_cases cases in
       omega (arith, length-append (code_each rounds c) (code_of rest), each_bound rounds c (weight_of_cases cases) (cases_bound cases), rounds_bound subject, code_bound rest)
   code_bound (Check message name commands rest) =

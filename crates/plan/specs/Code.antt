@@ -1,8 +1,8 @@
 -- The plan of a list of statements.
-use Rattle.std.specs.Prelude.{ℕ, ◌+◌, Bool, true, false, List, [], ◌∷◌, ◌++◌, length, codes}
+use Rattle.std.specs.Prelude.{ℕ, ◌+◌, Bool, true, false, List, [], ◌∷◌, ◌++◌, length, Option, Some, None}
 use Rattle.shellword.specs.declared.part.Part.{Part}
-use Rattle.syntax.specs.declared.statement.Plain as plain
-use Rattle.syntax.specs.declared.statement.Plain.TheVariants.{CheckProgs, ProgCc}
+use Rattle.syntax.specs.declared.statement.Effect.{Effect}
+use Rattle.syntax.specs.declared.statement.Effect.TheVariants.{Searches}
 use Rattle.syntax.specs.declared.tree.When.{When}
 use Rattle.syntax.specs.declared.tree.Subject as subject
 use Rattle.syntax.specs.Script.{Script, Done, Then, Choice, Check, Cases, No_case, Case}
@@ -22,11 +22,15 @@ abbrev pub code_of_programs : List ℕ → List (List ℕ) → Bool → List Ins
 code_of_programs variable [] always = []
 code_of_programs variable (program ∷ more) always = Looks variable program always ∷ code_of_programs variable more false
 
--- The steps that follow the own step of a statement. (own)
-abbrev pub code_after : plain.Plain → List Instruction
-code_after (CheckProgs variable programs otherwise) = code_of_programs variable programs true ++ Defaults variable otherwise ∷ []
-code_after (ProgCc programs) = code_of_programs (codes "CC") programs true
-code_after statement = []
+-- The step of a default, if there is one. (own)
+abbrev pub default_code : List ℕ → Option (List Part) → List Instruction
+default_code variable None = []
+default_code variable (Some value) = Defaults variable value ∷ []
+
+-- The steps that follow the own step of an effect. (own)
+abbrev pub code_after : Effect → List Instruction
+code_after (Searches variable programs otherwise) = code_of_programs variable programs true ++ default_code variable otherwise
+code_after effect = []
 
 -- Rounds, one after the other: each begins with its subject, and has the steps of the cases. (own)
 abbrev pub code_each : List subject.Subject → List Instruction → List Instruction
@@ -37,8 +41,8 @@ abbrev mutual
   -- The steps of a list of statements. (own)
   pub code_of : Script → List Instruction
   code_of Done = []
-  code_of (Then s rest) = Does s ∷ (code_after s ++ code_of rest)
-  code_of (Choice subject cases rest) = code_each (rounds_of subject) (code_of_cases cases) ++ code_of rest
+  code_of (Then declares effect rest) = Does effect ∷ (code_after effect ++ code_of rest)
+  code_of (Choice declares subject cases rest) = code_each (rounds_of subject) (code_of_cases cases) ++ code_of rest
   code_of (Check message name commands rest) = check_code message name (code_of commands) ++ code_of rest
 
   -- The steps of the cases of a choice. (own)

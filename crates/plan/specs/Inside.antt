@@ -2,8 +2,8 @@
 use Rattle.std.specs.Prelude.{ℕ, zero, suc, ◌+◌, ◌≤◌, List, [], ◌∷◌, length}
 use Rattle.syntax.specs.declared.listed.Sought as sought
 use Rattle.syntax.specs.declared.listed.Sought.TheVariants.{Entry, «Type»}
-use Rattle.syntax.specs.declared.statement.Plain as plain
-use Rattle.syntax.specs.declared.statement.Plain.TheVariants.{CheckProg, PathProg, Batch}
+use Rattle.syntax.specs.declared.statement.Effect.{Effect}
+use Rattle.syntax.specs.declared.statement.Effect.TheVariants.{Search, Batch}
 use Rattle.syntax.specs.declared.statement.Question.TheVariants.{Given, Tries, Checks, ChecksEach, Library, Libraries}
 use Rattle.syntax.specs.declared.program.Try as kinds
 use Rattle.syntax.specs.declared.program.Try.TheVariants.{Compile, Link, Preproc, Run}
@@ -13,7 +13,7 @@ use Rattle.plan.specs.Walk.{Instruction, Does, Looks, Defaults, Begins, Skips_un
 
 -- How many steps a step may pass. (own)
 abbrev pub reach : Instruction → ℕ
-reach (Does statement) = 0
+reach (Does effect) = 0
 reach (Looks variable program always) = 0
 reach (Defaults variable value) = 0
 reach (Begins subject) = 0
@@ -31,12 +31,11 @@ StaysInside (i ∷ rest) = (reach i ≤ length rest) × StaysInside rest
 abbrev pub most_directories : ℕ
 most_directories = 65536
 
--- How many jobs a statement may ask for in its own step. (own)
-abbrev pub asks_by : plain.Plain → ℕ
-asks_by (CheckProg variable program found otherwise) = most_directories
-asks_by (PathProg variable program otherwise) = most_directories
+-- How many jobs an effect may ask for in its own step. (own)
+abbrev pub asks_by : Effect → ℕ
+asks_by (Search variable program value otherwise) = most_directories
 asks_by (Batch listed entries includes) = length entries
-asks_by statement = 0
+asks_by effect = 0
 
 -- How many jobs a try may ask for. (own)
 abbrev pub asks_to_try : kinds.Try → ℕ
@@ -55,7 +54,7 @@ asks_to_find «Type» = 2
 abbrev pub asks_about : subject.Subject → ℕ
 asks_about Nothing = 0
 asks_about (Word word) = 0
-asks_about (Asked (Given kind variable help)) = 0
+asks_about (Asked (Given kind variable)) = 0
 asks_about (Asked (Tries kind program)) = asks_to_try kind
 asks_about (Asked (Checks sought entry includes)) = asks_to_find sought
 asks_about (Asked (ChecksEach sought entries includes)) = asks_to_find sought
@@ -64,7 +63,7 @@ asks_about (Asked (Libraries function libraries others)) = 1 + length libraries
 
 -- How many jobs a step may ask for. (own)
 abbrev pub asks_of : Instruction → ℕ
-asks_of (Does statement) = asks_by statement
+asks_of (Does effect) = asks_by effect
 asks_of (Looks variable program always) = most_directories
 asks_of (Defaults variable value) = 0
 asks_of (Begins subject) = asks_about subject

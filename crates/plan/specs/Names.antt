@@ -3,8 +3,8 @@ use Rattle.std.specs.Prelude.{ℕ, true, false, List, [], ◌∷◌, ◌++◌, O
 use Rattle.deftable.specs.ShellName.{IsShellName}
 use Rattle.syntax.specs.declared.listed.Listed.{Listed}
 use Rattle.syntax.specs.declared.listed.Listed.TheVariants.{Header, Function, Declaration}
-use Rattle.syntax.specs.declared.statement.Plain as plain
-use Rattle.syntax.specs.declared.statement.Plain.TheVariants.{Init, Define, DefineUnquoted, Batch}
+use Rattle.syntax.specs.declared.statement.Effect.{Effect}
+use Rattle.syntax.specs.declared.statement.Effect.TheVariants.{Define, DefineText, Package, Batch}
 use Rattle.syntax.specs.declared.statement.Question as asks
 use Rattle.syntax.specs.declared.statement.Question.TheVariants as questions
 use Rattle.syntax.specs.declared.statement.Question.TheVariants.{Given, Tries, Checks, ChecksEach}
@@ -42,17 +42,17 @@ package_names =
     codes "PACKAGE_NAME" ∷ codes "PACKAGE_TARNAME" ∷ codes "PACKAGE_VERSION" ∷ codes "PACKAGE_STRING" ∷ codes "PACKAGE_BUGREPORT"
     ∷ codes "PACKAGE_URL" ∷ []
 
--- Every name that a statement defines in its own step has the form of one. (own)
-unfoldable pub DefinesName : plain.Plain → Type 0
-DefinesName (Init title version bug tarname url) = All IsShellName package_names
+-- Every name that an effect defines in its own step has the form of one. (own)
+unfoldable pub DefinesName : Effect → Type 0
 DefinesName (Define name value) = IsShellName name
-DefinesName (DefineUnquoted name value) = IsShellName name
+DefinesName (DefineText name value) = IsShellName name
+DefinesName (Package title version bug tarname url) = All IsShellName package_names
 DefinesName (Batch listed entries includes) = All (λ entry. DefinesBy (Single listed entry includes true)) entries
 DefinesName _ = Unit {0}
 
 -- Every name that the test of a question defines has the form of one. (own)
 abbrev pub DefinesAsked : asks.Question → Type 0
-DefinesAsked (Given kind variable help) = Unit {0}
+DefinesAsked (Given kind variable) = Unit {0}
 DefinesAsked (Tries kind program) = Unit {0}
 DefinesAsked (Checks sought entry includes) = DefinesBy (kind_for sought entry includes false)
 DefinesAsked (ChecksEach sought entries includes) = All (λ entry. DefinesBy (kind_for sought entry includes true)) entries
@@ -67,7 +67,7 @@ DefinesAbout (Asked question) = DefinesAsked question
 
 -- Every name that a step defines has the form of one. (own)
 abbrev pub DefinesIn : Instruction → Type 0
-DefinesIn (Does statement) = DefinesName statement
+DefinesIn (Does effect) = DefinesName effect
 DefinesIn (Looks variable program always) = Unit {0}
 DefinesIn (Defaults variable value) = Unit {0}
 DefinesIn (Begins subject) = DefinesAbout subject

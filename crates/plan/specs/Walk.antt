@@ -1,10 +1,10 @@
 -- The effect of a plan.
-use Rattle.std.specs.Prelude.{◌≡◌, ℕ, zero, suc, Bool, List, [], ◌∷◌, ◌++◌, Option, Some, None, option_map, codes, unwrap_or, if◌then◌else◌}
+use Rattle.std.specs.Prelude.{◌≡◌, ℕ, zero, suc, Bool, List, [], ◌∷◌, ◌++◌, Option, Some, None, codes, unwrap_or, if◌then◌else◌}
 use Rattle.deftable.specs.Table.{value_of}
 use Rattle.shellword.specs.declared.part.Part.{Part}
 use Rattle.shellword.specs.Value.{word_value}
-use Rattle.syntax.specs.declared.statement.Plain as plain
-use Rattle.syntax.specs.declared.statement.Plain.TheVariants.{CheckProgs, ProgCc}
+use Rattle.syntax.specs.declared.statement.Effect as what
+use Rattle.syntax.specs.declared.statement.Effect.TheVariants.{Searches}
 use Rattle.syntax.specs.declared.statement.Question.TheVariants.{ChecksEach}
 use Rattle.syntax.specs.declared.tree.Subject as subject
 use Rattle.syntax.specs.declared.tree.Subject.TheVariants.{Asked}
@@ -19,9 +19,9 @@ use Rattle.plan.specs.declared.step.Step.TheVariants.{Do, Look, Default, Subject
 
 -- A step, as contracts see it. (own)
 pub data Instruction : Type 0 where
-  Does : (statement : plain.Plain) → Instruction
+  Does : (effect : what.Effect) → Instruction
   Looks : (variable program : List ℕ) (always : Bool) → Instruction
-  Defaults : (variable : List ℕ) (value : Option (List Part)) → Instruction
+  Defaults : (variable : List ℕ) (value : List Part) → Instruction
   Begins : (subject : subject.Subject) → Instruction
   Skips_unless : (when : When) (steps : ℕ) → Instruction
   Skips : (steps : ℕ) → Instruction
@@ -30,7 +30,7 @@ pub data Instruction : Type 0 where
 
 -- A step of the code. A round begins a choice about one entry of a list. (own)
 abbrev pub shown : Step → Instruction
-shown (Do statement) = Does statement.now
+shown (Do effect) = Does effect.now
 shown (Look variable program always) = Looks variable.now program.now always
 shown (Default variable value) = Defaults variable.now value.now
 shown (Subject subject) = Begins subject.now
@@ -40,11 +40,10 @@ shown (Skip steps) = Skips steps
 shown (Open message name steps) = Opens message.now name.now steps
 shown (Close name) = Closes name.now
 
--- The effect of a statement in its own step; the programs of AC_CHECK_PROGS and AC_PROG_CC are steps after it. (own)
-abbrev pub own_effect : plain.Plain → State → Run
-own_effect (CheckProgs variable programs otherwise) st = Ends Goes_on st
-own_effect (ProgCc programs) st = Ends Goes_on st
-own_effect statement st = effect statement st
+-- What an effect does in its own step; the programs of AC_CHECK_PROGS and AC_PROG_CC are steps after it. (own)
+abbrev pub own_effect : what.Effect → State → Run
+own_effect (Searches variable programs otherwise) st = Ends Goes_on st
+own_effect other st = effect other st
 
 -- What a walk keeps beside a state: the subject of the choice that began last, and the names of the tests that are not at
 -- their end, the innermost first. (own)
@@ -73,9 +72,9 @@ outer_tests (name ∷ outer) = outer
 
 -- One step; `next n` passes n steps and continues. (own)
 abbrev pub act : Instruction → (ℕ → Mind → State → Run) → Mind → State → Run
-act (Does statement) next mind st = then_run (guarded_all mind.open_tests (own_effect statement st)) (next 0 mind)
+act (Does does) next mind st = then_run (guarded_all mind.open_tests (own_effect does st)) (next 0 mind)
 act (Looks variable program always) next mind st = then_run (guarded_all mind.open_tests (looks variable program always st)) (next 0 mind)
-act (Defaults variable value) next mind st = next 0 mind (defaulted variable (option_map (λ text. word_value text st.vars) value) st)
+act (Defaults variable value) next mind st = next 0 mind (defaulted variable (Some (word_value value st.vars)) st)
 act (Begins subject) next mind st = begun (broken_all mind.open_tests) subject st (λ scope. next 0 (record mind { scope = scope }))
 act (Skips_unless when steps) next mind st = if is_taken when mind.scope st.vars then next 0 mind st else next steps mind st
 act (Skips steps) next mind st = next steps mind st

@@ -1,25 +1,24 @@
 -- The weight of a list of statements.
 use Rattle.std.specs.Prelude.{ℕ, zero, suc, ◌+◌, length}
-use Rattle.syntax.specs.declared.statement.Plain as plain
-use Rattle.syntax.specs.declared.statement.Plain.TheVariants.{CheckProgs, ProgCc, Batch}
+use Rattle.syntax.specs.declared.statement.Effect.{Effect}
+use Rattle.syntax.specs.declared.statement.Effect.TheVariants.{Searches, Batch}
 use Rattle.syntax.specs.declared.statement.Question.TheVariants.{Given, Tries, Checks, ChecksEach, Library, Libraries}
 use Rattle.syntax.specs.declared.tree.Subject as subject
 use Rattle.syntax.specs.declared.tree.Subject.TheVariants.{Nothing, Word, Asked}
 use Rattle.syntax.specs.Script.{Script, Done, Then, Choice, Check, Cases, No_case, Case}
 use Rattle.meaning.specs.Meaning.{rounds_of}
 
--- The number of entries of a statement's list: programs, or what is tested at once. (own)
-abbrev pub entries_of : plain.Plain → ℕ
-entries_of (CheckProgs variable programs otherwise) = length programs
-entries_of (ProgCc programs) = length programs
+-- The number of entries of an effect's list: programs, or what is tested at once. (own)
+abbrev pub entries_of : Effect → ℕ
+entries_of (Searches variable programs otherwise) = length programs
 entries_of (Batch listed entries includes) = length entries
-entries_of statement = 0
+entries_of effect = 0
 
 -- The number of entries of a choice's list: what is tested in turn, or libraries. (own)
 abbrev pub entries_asked : subject.Subject → ℕ
 entries_asked Nothing = 0
 entries_asked (Word word) = 0
-entries_asked (Asked (Given kind variable help)) = 0
+entries_asked (Asked (Given kind variable)) = 0
 entries_asked (Asked (Tries kind program)) = 0
 entries_asked (Asked (Checks sought entry includes)) = 0
 entries_asked (Asked (ChecksEach sought entries includes)) = length entries
@@ -36,8 +35,8 @@ abbrev mutual
   -- each round. (own)
   pub weight : Script → ℕ
   weight Done = 0
-  weight (Then s rest) = 1 + (entries_of s + weight rest)
-  weight (Choice subject cases rest) = 1 + (entries_asked subject + (times (length (rounds_of subject)) (weight_of_cases cases) + weight rest))
+  weight (Then declares effect rest) = 1 + (entries_of effect + weight rest)
+  weight (Choice declares subject cases rest) = 1 + (entries_asked subject + (times (length (rounds_of subject)) (weight_of_cases cases) + weight rest))
   weight (Check message name commands rest) = 1 + (weight commands + weight rest)
 
   -- Each case of a choice weighs 1 more than its statements, a default too. (own)

@@ -8,7 +8,7 @@ ghost use Rattle.plan.specs.Walk.{Does, shown};
 use crate::step::Step;
 use std::alloc::{AllocError, Global};
 use std::marker::Model;
-use syntax::Plain;
+use syntax::Effect;
 
 /// Steps, with each further one put at the front. Contracts see them from the first on.
 #[derive(Drop)]
@@ -20,7 +20,7 @@ pub(crate) struct Code<'a> {
 impl<'a> Model for Code<'a> {
     ghost use Rattle.std.specs.Prelude.{List, map, reverse};
     ghost use Rattle.std.specs.Coded.{codes};
-    ghost use Rattle.syntax.specs.contracts.statement.Plain as plain;
+    ghost use Rattle.syntax.specs.contracts.statement.Effect as effect;
     ghost use Rattle.syntax.specs.contracts.tree.Subject as subject;
     ghost use Rattle.syntax.specs.contracts.tree.When as when;
     ghost use Rattle.plan.specs.Inside.{AreShort};
@@ -29,7 +29,7 @@ impl<'a> Model for Code<'a> {
 
     ghost Value = { List Instruction };
 
-    ghost coded = { Prim.hlevel (codes, plain.the_row.coded, subject.the_row.coded, when.the_row.coded) };
+    ghost coded = { Prim.hlevel (codes, effect.the_row.coded, subject.the_row.coded, when.the_row.coded) };
 
     ghost view = { λ c. map shown (reverse c.steps.items) };
 
@@ -57,22 +57,22 @@ impl<'a> Code<'a> {
         Ok(())
     }
 
-    /// Puts a statement at the front.
+    /// Puts the own step of an effect at the front.
     #[tactic(auto, using(crate::proofs::Symbols::package_defines), unfolding(crate::specs::Names::DefinesName))]
-    pub(crate) fn put_statement(&mut self, statement: &'a Plain) -> Result<(), AllocError>
-        ensures { OnOk result (self.new ≡ Does statement.now ∷ self.old) }
+    pub(crate) fn put_effect(&mut self, effect: &'a Effect) -> Result<(), AllocError>
+        ensures { OnOk result (self.new ≡ Does effect.now ∷ self.old) }
     {
         // Each `as_slice` is for the proof only: a name has the form of one, and a list is short.
-        match statement {
-            Plain::Define { name, .. } | Plain::DefineUnquoted { name, .. } => {
+        match effect {
+            Effect::Define { name, .. } | Effect::DefineText { name, .. } => {
                 let _ = name.as_slice();
-                self.put(Step::Do(statement))
+                self.put(Step::Do(effect))
             }
-            Plain::Batch { entries, .. } => {
+            Effect::Batch { entries, .. } => {
                 let _ = entries.as_slice();
-                self.put(Step::Do(statement))
+                self.put(Step::Do(effect))
             }
-            _ => self.put(Step::Do(statement)),
+            _ => self.put(Step::Do(effect)),
         }
     }
 

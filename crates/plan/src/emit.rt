@@ -5,7 +5,7 @@ ghost use Rattle.meaning.specs.Meaning.{rounds_asked, rounds_of};
 ghost use Rattle.syntax.specs.declared.statement.Question.TheVariants.{ChecksEach};
 ghost use Rattle.syntax.specs.declared.tree.Subject.TheVariants.{Asked};
 ghost use Rattle.syntax.specs.Script.{Done, script_of, cases_of, stmt_then};
-ghost use Rattle.plan.specs.Code.{case_code, check_code, code_after, code_each, code_of, code_of_cases, code_of_programs};
+ghost use Rattle.plan.specs.Code.{case_code, check_code, code_after, code_each, code_of, code_of_cases, code_of_programs, default_code};
 ghost use Rattle.plan.specs.Inside.{IsShort};
 ghost use Rattle.plan.specs.Names.{DefinesIn};
 ghost use Rattle.plan.specs.Walk.{shown};
@@ -15,7 +15,7 @@ use crate::step::Step;
 use deftable::Bytes;
 use shellword::HereText;
 use std::alloc::{AllocError, Global};
-use syntax::{Case, Plain, Question, Sought, Stmt, Subject};
+use syntax::{Case, Effect, Question, Sought, Stmt, Subject};
 
 /// Puts the steps of the programs that are looked for at the front.
 fn emit_programs<'a>(
@@ -35,23 +35,33 @@ fn emit_programs<'a>(
     Ok(())
 }
 
-/// Puts the steps that follow the own step of a statement at the front.
-fn emit_after<'a>(code: &mut Code<'a>, statement: &'a Plain) -> Result<(), AllocError>
-    ensures { OnOk result (code.new ≡ code_after statement.now ++ code.old) }
+/// Puts the step of a default at the front, if there is one.
+fn emit_default<'a>(
+    code: &mut Code<'a>,
+    variable: &'a [u8],
+    value: &'a Option<HereText>,
+) -> Result<(), AllocError>
+    ensures { OnOk result (code.new ≡ default_code variable.now value.now ++ code.old) }
 {
-    match statement {
-        Plain::CheckProgs {
+    match value {
+        None => Ok(()),
+        Some(value) => code.put(Step::Default { variable, value }),
+    }
+}
+
+/// Puts the steps that follow the own step of an effect at the front.
+fn emit_after<'a>(code: &mut Code<'a>, effect: &'a Effect) -> Result<(), AllocError>
+    ensures { OnOk result (code.new ≡ code_after effect.now ++ code.old) }
+{
+    match effect {
+        Effect::Searches {
             variable,
             programs,
             otherwise,
         } => {
-            code.put(Step::Default {
-                variable: variable.as_slice(),
-                value: otherwise,
-            })?;
+            emit_default(code, variable.as_slice(), otherwise)?;
             emit_programs(code, variable.as_slice(), programs.as_slice())
         }
-        Plain::ProgCc { programs } => emit_programs(code, b"CC", programs.as_slice()),
         _ => Ok(()),
     }
 }
@@ -72,12 +82,12 @@ fn emit_statement<'a>(code: &mut Code<'a>, statement: &'a Stmt) -> Result<(), Al
     ensures { OnOk result (code.new ≡ code_of (stmt_then statement.now Done) ++ code.old) }
 {
     match statement {
-        Stmt::Plain(plain) => {
-            emit_after(code, plain)?;
-            code.put_statement(plain)?;
+        Stmt::Do { effect, .. } => {
+            emit_after(code, effect)?;
+            code.put_effect(effect)?;
             Ok(())
         }
-        Stmt::Choose { subject, cases } => emit_choice(code, subject, cases.as_slice()),
+        Stmt::Choose { subject, cases, .. } => emit_choice(code, subject, cases.as_slice()),
         Stmt::CacheCheck {
             message,
             name,

@@ -4,23 +4,23 @@ use crate::code::Code;
 use deftable::Bytes;
 use shellword::HereText;
 use std::marker::Model;
-use syntax::{Plain, Sought, Subject, When};
+use syntax::{Effect, Sought, Subject, When};
 
 /// A step of a plan. It borrows from the tree, and a jump has the number of steps that it passes.
 #[derive(Clone, Copy)]
 pub enum Step<'a> {
-    /// Runs a statement. If it looks for the programs of a list, they are steps after it.
-    Do(&'a Plain),
+    /// Has the effect of a statement. If it looks for the programs of a list, they are steps after it.
+    Do(&'a Effect),
     /// Looks for a program of a list, always or only if the variable is still empty.
     Look {
         variable: &'a [u8],
         program: &'a Bytes,
         always: bool,
     },
-    /// Gives a variable its default, if it has one and the variable is empty.
+    /// Gives a variable its default, if the variable is empty.
     Default {
         variable: &'a [u8],
-        value: &'a Option<HereText>,
+        value: &'a HereText,
     },
     /// Begins a choice. Its subject is the subject until the next choice begins.
     Subject(&'a Subject),
@@ -68,7 +68,7 @@ impl Drop for Plan<'_> {
 impl<'a> Model for Plan<'a> {
     ghost use Rattle.std.specs.Prelude.{List, map, ◌≤◌, ◌^◌};
     ghost use Rattle.std.specs.Coded.{codes};
-    ghost use Rattle.syntax.specs.contracts.statement.Plain as plain;
+    ghost use Rattle.syntax.specs.contracts.statement.Effect as effect;
     ghost use Rattle.syntax.specs.contracts.tree.Subject as subject;
     ghost use Rattle.syntax.specs.contracts.tree.When as when;
     ghost use Rattle.plan.specs.Walk.{Instruction, shown};
@@ -77,7 +77,7 @@ impl<'a> Model for Plan<'a> {
 
     ghost Value = { List Instruction };
 
-    ghost coded = { Prim.hlevel (codes, plain.the_row.coded, subject.the_row.coded, when.the_row.coded) };
+    ghost coded = { Prim.hlevel (codes, effect.the_row.coded, subject.the_row.coded, when.the_row.coded) };
 
     ghost view = { λ p. map shown p.steps.items };
 

@@ -5,7 +5,7 @@ ghost use Rattle.syntax.specs.Script.{Done, script_of, cases_of, stmt_then};
 ghost use Rattle.meaning.specs.Meaning.{rounds_of};
 ghost use Rattle.plan.specs.Weight.{entries_asked, entries_of, times, weight, weight_of_cases};
 
-use syntax::{Case, Plain, Question, Stmt, Subject};
+use syntax::{Case, Effect, Question, Stmt, Subject};
 
 /// Returns what is left of `room` after the weight of the statements, or `None` if they weigh more.
 #[cycle(weigh)]
@@ -23,15 +23,13 @@ pub(crate) fn weigh(room: usize, statements: &[Stmt]) -> Option<usize>
     Some(left)
 }
 
-/// Returns the number of entries of a statement's list.
-fn entries_of(statement: &Plain) -> usize
-    ensures { result ≡ entries_of statement.now }
+/// Returns the number of entries of an effect's list.
+fn entries_of(effect: &Effect) -> usize
+    ensures { result ≡ entries_of effect.now }
 {
-    match statement {
-        Plain::CheckProgs { programs, .. } | Plain::ProgCc { programs } => {
-            programs.as_slice().len()
-        }
-        Plain::Batch { entries, .. } => entries.as_slice().len(),
+    match effect {
+        Effect::Searches { programs, .. } => programs.as_slice().len(),
+        Effect::Batch { entries, .. } => entries.as_slice().len(),
         _ => 0,
     }
 }
@@ -79,8 +77,8 @@ fn weigh_statement(room: usize, statement: &Stmt) -> Option<usize>
         return None;
     };
     match statement {
-        Stmt::Plain(plain) => left.checked_sub(entries_of(plain)),
-        Stmt::Choose { subject, cases } => weigh_choice(left, subject, cases.as_slice()),
+        Stmt::Do { effect, .. } => left.checked_sub(entries_of(effect)),
+        Stmt::Choose { subject, cases, .. } => weigh_choice(left, subject, cases.as_slice()),
         Stmt::CacheCheck { commands, .. } => weigh(left, commands.as_slice()),
     }
 }

@@ -1,5 +1,5 @@
 -- Steps, as what they are made of continues.
-use Rattle.std.proofs.Common.{◌≡◌, ℕ, ◌<◌, ◌≤◌, Bool, true, false, cond, List, [], ◌∷◌, length, get_or, arith, Option, None, Some, Result, Ok, Err, IfOk, refl, sym, ap, ◌∙◌}
+use Rattle.std.proofs.Common.{◌≡◌, ℕ, ◌<◌, ◌≤◌, Bool, true, false, cond, List, [], ◌∷◌, length, arith, Option, None, Some, Result, Ok, Err, IfOk, refl, sym, ap, ◌∙◌}
 use Rattle.std.specs.Prelude.{not, ◌||◌}
 use Rattle.std.specs.declared.alloc.AllocError.{AllocError}
 use Rattle.shellword.specs.declared.part.Part.{Part}
@@ -10,12 +10,14 @@ use Rattle.jobs.specs.Probe.{run_of}
 use Rattle.syntax.specs.declared.program.Program.{Program}
 use Rattle.syntax.specs.declared.program.Try as kinds
 use Rattle.syntax.specs.declared.program.Try.TheVariants as tries
-use Rattle.syntax.specs.declared.statement.Plain as plain
-use Rattle.syntax.specs.declared.statement.Plain.TheVariants.{CheckProg, PathProg, Batch}
+use Rattle.syntax.specs.declared.statement.Effect.{Effect}
+use Rattle.syntax.specs.declared.statement.Effect.TheVariants.{Search, Batch}
+use Rattle.syntax.specs.declared.statement.ProgramValue.{ProgramValue}
+use Rattle.syntax.specs.declared.statement.ProgramValue.TheVariants.{Text, FullName}
 use Rattle.meaning.specs.State.{State, Scope, answered, Run, Ends, Goes_on, then_run}
 use Rattle.meaning.specs.Asking.{child, compiled}
-use Rattle.meaning.specs.Meaning.{effect, begun, check_prog, has_value, is_full_name, first_found, program_test}
-use Rattle.meaning.specs.Rows.{Kind, kind_for, value_or_empty}
+use Rattle.meaning.specs.Meaning.{effect, begun, check_prog, has_value, first_found, program_test}
+use Rattle.meaning.specs.Rows.{Kind, kind_for}
 use Rattle.plan.specs.Broken.{broken_all, guarded_all}
 use Rattle.plan.specs.Inside.{asks_to_try}
 use Rattle.plan.specs.Walk.{Mind, minded}
@@ -28,7 +30,7 @@ use Rattle.run_test.specs.Starts.{Opens, program_kind}
 use Rattle.run_test.specs.declared.trying.Opening.{Opening}
 use Rattle.run_test.proofs.Flows.{continued, led}
 use Rattle.run_test.proofs.Rows.{entry_asks, question_found}
-use Rattle.run_step.specs.Openings.{check_search, path_search, first_kind}
+use Rattle.run_step.specs.Openings.{search_kind, first_kind}
 use Rattle.run_step.specs.Runs.{own_run, looks_run, tries_run, first_job, found_run, round}
 
 -- A test that is opened and started continues what its kind is.
@@ -36,20 +38,12 @@ pub opened : (f : Flow) (kind : Kind) (o : Opening) (scope about : Scope) (st no
     → Opens kind st o → ((k : Kind) → Opens k st o → Leads f (kind_run k scope st) about now) → Leads f run about now
 opened f kind o scope about st now run e h leads = led f about now _ _ e (leads kind h)
 
--- The tests of programs.
-pub check_leads : (statement : plain.Plain) (variable program : List ℕ) (found : List Part) (otherwise : Option (List Part)) (seen : List ℕ) (scope : Scope) (st : State) (tests : List (List ℕ)) (next : ℕ → Scope → State → Run)
-    → statement ≡ CheckProg variable program found otherwise → seen ≡ variable
-    → kind_run (program_kind (check_search seen program found otherwise st) (has_value st seen) st) scope st tests next ≡ own_run statement scope st tests next
+-- The test of a program, by the value that its variable gets.
+pub search_leads : (does : Effect) (variable program : List ℕ) (value : ProgramValue) (otherwise : Option (List Part)) (scope : Scope) (st : State) (tests : List (List ℕ)) (next : ℕ → Scope → State → Run)
+    → does ≡ Search variable program value otherwise → kind_run (search_kind variable program value otherwise st) scope st tests next ≡ own_run does scope st tests next
 unfolding effect
-check_leads statement variable program found otherwise seen scope st tests next is s =
-    ap (λ v. kind_run (program_kind (check_search v program found otherwise st) (has_value st v) st) scope st tests next) s ∙ sym (ap (λ x. own_run x scope st tests next) is)
-
-pub path_leads : (statement : plain.Plain) (variable program : List ℕ) (otherwise : Option (List Part)) (seen : List ℕ) (scope : Scope) (st : State) (tests : List (List ℕ)) (next : ℕ → Scope → State → Run)
-    → statement ≡ PathProg variable program otherwise → seen ≡ variable
-    → kind_run (program_kind (path_search seen program otherwise st) (is_full_name (value_or_empty st seen)) st) scope st tests next ≡ own_run statement scope st tests next
-unfolding effect
-path_leads statement variable program otherwise seen scope st tests next is s =
-    ap (λ v. kind_run (program_kind (path_search v program otherwise st) (is_full_name (value_or_empty st v)) st) scope st tests next) s ∙ sym (ap (λ x. own_run x scope st tests next) is)
+search_leads does variable program (Text text) otherwise scope st tests next is = sym (ap (λ x. own_run x scope st tests next) is)
+search_leads does variable program FullName otherwise scope st tests next is = sym (ap (λ x. own_run x scope st tests next) is)
 
 -- A program of a list that is looked for.
 pub looks_leads : (variable program : List ℕ) (always own wanted : Bool) (scope : Scope) (st : State) (tests : List (List ℕ)) (next : ℕ → Scope → State → Run)
@@ -60,10 +54,10 @@ looks_leads variable program always own wanted scope st tests next is has yes_wa
     sym (ap (λ b. then_run (guarded_all tests (cond b (program_test (check_prog variable program program None) (has_value st variable) st) (Ends Goes_on st))) (next 0 scope)) e)
 
 -- A batch.
-pub batch_leads : (statement : plain.Plain) (listed : Listed) (entries : List (List ℕ)) (includes : Option (List Part)) (scope : Scope) (st : State) (tests : List (List ℕ)) (next : ℕ → Scope → State → Run)
-    → statement ≡ Batch listed entries includes → list_run listed entries includes scope st tests next ≡ own_run statement scope st tests next
+pub batch_leads : (does : Effect) (listed : Listed) (entries : List (List ℕ)) (includes : Option (List Part)) (scope : Scope) (st : State) (tests : List (List ℕ)) (next : ℕ → Scope → State → Run)
+    → does ≡ Batch listed entries includes → list_run listed entries includes scope st tests next ≡ own_run does scope st tests next
 unfolding effect
-batch_leads statement listed entries includes scope st tests next is = sym (ap (λ x. own_run x scope st tests next) is)
+batch_leads does listed entries includes scope st tests next is = sym (ap (λ x. own_run x scope st tests next) is)
 
 -- A test of an entry as a question.
 pub entry_leads : (what : Sought) (entry : List ℕ) (includes : Option (List Part)) (defines : Bool) (scope : Scope) (st : State) (tests : List (List ℕ)) (next : ℕ → Scope → State → Run)

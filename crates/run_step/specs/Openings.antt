@@ -1,32 +1,37 @@
 -- Which tests the steps of a plan open.
-use Rattle.std.specs.Prelude.{ℕ, true, List, [], ◌∷◌, Option, None}
+use Rattle.std.specs.Prelude.{ℕ, Bool, true, List, [], ◌∷◌, Option, Some, None}
 use Rattle.shellword.specs.declared.part.Part.{Part}
 use Rattle.shellword.specs.Value.{word_value}
 use Rattle.syntax.specs.declared.listed.Sought.{Sought}
-use Rattle.meaning.specs.Meaning.{check_prog, path_prog, has_value, is_full_name}
+use Rattle.syntax.specs.declared.statement.ProgramValue.{ProgramValue}
+use Rattle.syntax.specs.declared.statement.ProgramValue.TheVariants.{Text, FullName}
+use Rattle.syntax.specs.TestNames.{search_name}
+use Rattle.meaning.specs.Meaning.{check_prog, has_value, is_full_name}
 use Rattle.meaning.specs.Rows.{Kind, Search, kind_for, value_or_empty}
 use Rattle.meaning.specs.State.{State}
 use Rattle.run_test.specs.declared.trying.Opening.{Opening}
 use Rattle.run_test.specs.Courses.{value_in}
 use Rattle.run_test.specs.Starts.{Opens, program_kind}
 
--- The search of AC_CHECK_PROG. (Autoconf's manual, "Generic Programs")
-abbrev pub check_search : List ℕ → List ℕ → List Part → Option (List Part) → State → Search
-check_search variable program found otherwise st = check_prog variable program (word_value found st.vars) (value_in otherwise st)
+-- The value that a variable gets if its program is found; none stands for the full name of the program. (Autoconf's
+-- manual, "Generic Programs")
+abbrev pub found_in : ProgramValue → State → Option (List ℕ)
+found_in (Text text) st = Some (word_value text st.vars)
+found_in FullName st = None
 
--- The search of AC_PATH_PROG. (Autoconf's manual, "Generic Programs")
-abbrev pub path_search : List ℕ → List ℕ → Option (List Part) → State → Search
-path_search variable program otherwise st = path_prog variable program (value_in otherwise st)
+-- The variable's own value counts if it isn't empty, or if it is a full name. (Autoconf's manual, "Generic Programs")
+abbrev pub counts_for : ProgramValue → List ℕ → State → Bool
+counts_for (Text text) variable st = has_value st variable
+counts_for FullName variable st = is_full_name (value_or_empty st variable)
 
--- The test of AC_CHECK_PROG: the variable counts if it has a value. (Autoconf's manual, "Generic Programs")
-abbrev pub OpensCheck : List ℕ → List ℕ → List Part → Option (List Part) → State → Opening → Type 0
-OpensCheck variable program found otherwise st o =
-    Opens (program_kind (check_search variable program found otherwise st) (has_value st variable) st) st o
+-- The search of AC_CHECK_PROG and AC_PATH_PROG. (Autoconf's manual, "Generic Programs")
+abbrev pub search_for : List ℕ → List ℕ → ProgramValue → Option (List Part) → State → Search
+search_for variable program value otherwise st =
+    record { variable = variable; name = search_name value variable; program = program; found = found_in value st; otherwise = value_in otherwise st }
 
--- The test of AC_PATH_PROG: the variable counts if it is a full name. (Autoconf's manual, "Generic Programs")
-abbrev pub OpensPath : List ℕ → List ℕ → Option (List Part) → State → Opening → Type 0
-OpensPath variable program otherwise st o =
-    Opens (program_kind (path_search variable program otherwise st) (is_full_name (value_or_empty st variable)) st) st o
+-- The kind of test of AC_CHECK_PROG and AC_PATH_PROG. (Autoconf's manual, "Generic Programs")
+abbrev pub search_kind : List ℕ → List ℕ → ProgramValue → Option (List Part) → State → Kind
+search_kind variable program value otherwise st = program_kind (search_for variable program value otherwise st) (counts_for value variable st) st
 
 -- The test of a program of a list. (Autoconf's manual, "Generic Programs")
 abbrev pub OpensListed : List ℕ → List ℕ → State → Opening → Type 0

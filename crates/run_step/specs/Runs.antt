@@ -8,7 +8,7 @@ use Rattle.syntax.specs.declared.listed.Sought.{Sought}
 use Rattle.syntax.specs.declared.feature.OptionKind.{OptionKind}
 use Rattle.syntax.specs.declared.program.Program.{Program}
 use Rattle.syntax.specs.declared.program.Try.{Try}
-use Rattle.syntax.specs.declared.statement.Plain.{Plain}
+use Rattle.syntax.specs.declared.statement.Effect.{Effect}
 use Rattle.syntax.specs.declared.statement.Question.{Question}
 use Rattle.syntax.specs.declared.statement.Question.TheVariants.{ChecksEach}
 use Rattle.syntax.specs.declared.tree.Subject.{Subject}
@@ -25,9 +25,9 @@ use Rattle.run_test.specs.declared.flow.Flow.{Flow}
 use Rattle.run_test.specs.Attempts.{tried_job}
 use Rattle.run_test.specs.Flows.{Continues, Inside}
 
--- A statement in its own step. (own)
-abbrev pub own_run : Plain → Scope → State → Inside
-own_run statement scope st tests next = then_run (guarded_all tests (own_effect statement st)) (next 0 scope)
+-- An effect in its own step. (own)
+abbrev pub own_run : Effect → Scope → State → Inside
+own_run effect scope st tests next = then_run (guarded_all tests (own_effect effect st)) (next 0 scope)
 
 -- A program of a list, which is looked for always, or if the variable is empty. (own)
 abbrev pub looks_run : List ℕ → List ℕ → Bool → Scope → State → Inside

@@ -1,12 +1,11 @@
 -- What statements do to a state.
-use Rattle.std.specs.Prelude.{ℕ, List, Option}
-use Rattle.deftable.specs.declared.note.Stream.TheVariants as streams
+use Rattle.std.specs.Prelude.{ℕ, List, Some}
 use Rattle.shellword.specs.declared.part.Part.{Part}
 use Rattle.shellword.specs.Value.{word_value}
-use Rattle.syntax.specs.declared.statement.MessageKind.{MessageKind}
-use Rattle.meaning.specs.Meaning.{defaulted, error_line, said}
-use Rattle.meaning.specs.State.{State, told, with_definition, with_variable}
-use Rattle.run_test.specs.Courses.{value_in}
+use Rattle.syntax.specs.declared.statement.Message.{Message}
+use Rattle.meaning.specs.Meaning.{defaulted}
+use Rattle.meaning.specs.Messages.{said}
+use Rattle.meaning.specs.State.{State, with_definition, with_variable}
 
 -- A variable gets the value of a word. (POSIX shell, "Variable Assignment")
 abbrev pub assigned : List ℕ → List Part → State → State
@@ -16,14 +15,10 @@ assigned name value st = with_variable name (word_value value st.vars) st
 abbrev pub defined : List ℕ → List Part → State → State
 defined name value st = with_definition name (word_value value st.vars) st
 
--- The line of an error is printed. (Autoconf's manual, AC_MSG_ERROR in "Printing Messages")
-abbrev pub failed : List Part → State → State
-failed message st = told streams.Err (error_line (word_value message st.vars)) st
-
 -- A message is printed. (Autoconf's manual, "Printing Messages")
-abbrev pub printed : MessageKind → List Part → State → State
-printed kind message st = said kind (word_value message st.vars) st
+abbrev pub printed : Message → List Part → State → State
+printed message text st = said message (word_value text st.vars) st
 
--- A variable that is empty gets its default, if it has one. (Autoconf's manual, "Generic Programs")
-abbrev pub with_default : List ℕ → Option (List Part) → State → State
-with_default variable value st = defaulted variable (value_in value st) st
+-- A variable that is empty gets its default. (Autoconf's manual, "Generic Programs")
+abbrev pub with_default : List ℕ → List Part → State → State
+with_default variable value st = defaulted variable (Some (word_value value st.vars)) st

@@ -109,7 +109,7 @@ fn ask(
     ensures leads { Led result (asked_run question.now store.old) about.new store.new }
 {
     match question {
-        Question::Given { kind, variable, .. } => {
+        Question::Given { kind, variable } => {
             ask_given(alloc, store, about, *kind, variable.as_slice())
         }
         Question::Tries { kind, program } => {

@@ -1,90 +1,78 @@
 //! The tests of programs: how a step of a plan opens them (Autoconf's manual, "Generic Programs").
 
 ghost use Rattle.std.specs.Prelude.{◌≡◌, IfOk};
-ghost use Rattle.meaning.specs.Meaning.{check_prog, path_prog};
-ghost use Rattle.run_step.specs.Openings.{OpensCheck, OpensListed, OpensPath};
+ghost use Rattle.run_step.specs.Openings.{OpensListed, counts_for, found_in, search_kind};
+ghost use Rattle.run_test.specs.Starts.{Opens};
 
-use deftable::Bytes;
+use deftable::{Bytes, Name};
 use run_test::entries::value_of;
 use run_test::{Opening, Search, open_program};
 use runstate::Store;
 use shellword::HereText;
 use std::alloc::{AllocError, Global};
-use syntax::test_names::{path_name, program_name};
+use syntax::ProgramValue;
+use syntax::test_names::{program_name, search_name};
 
-/// Returns the search of AC_CHECK_PROG.
-fn check_prog(
+/// Returns the value that a variable gets if its program is found, or `None` for the full name of the program.
+fn found_in(alloc: Global, store: &Store, value: &ProgramValue) -> Result<Option<Bytes>, AllocError>
+    ensures { IfOk result (λ v. v ≡ found_in value.now store.now) }
+{
+    let ProgramValue::Text(text) = value else {
+        return Ok(None);
+    };
+    let text = store.here_text(alloc, text)?;
+    Ok(Some(text))
+}
+
+/// Returns whether the variable's own value counts.
+fn counts_for(store: &Store, value: &ProgramValue, variable: &[u8]) -> bool
+    ensures { result ≡ counts_for value.now variable.now store.now }
+{
+    match value {
+        ProgramValue::Text(_) => store.has_value(variable),
+        ProgramValue::FullName => store.has_full_name(variable),
+    }
+}
+
+/// Returns a search for a program.
+fn search(
     alloc: Global,
     variable: &[u8],
+    name: Bytes,
     program: &Bytes,
-    found: Bytes,
+    found: Option<Bytes>,
     otherwise: Option<Bytes>,
 ) -> Result<Search, AllocError>
-    ensures { IfOk result (λ s. s ≡ check_prog variable.now program.now found otherwise) }
+    ensures { IfOk result (λ s. s ≡ record { variable = variable.now; name = name; program = program.now; found = found; otherwise = otherwise }) }
 {
-    let name = program_name(alloc, variable)?;
     let variable = Bytes::from_slice(alloc, variable)?;
     let program = program.copy(alloc)?;
     Ok(Search {
         variable,
         name,
         program,
-        found: Some(found),
+        found,
         otherwise,
     })
 }
 
-/// Returns the search of AC_PATH_PROG.
-fn path_prog(
-    alloc: Global,
-    variable: &[u8],
-    program: &Bytes,
-    otherwise: Option<Bytes>,
-) -> Result<Search, AllocError>
-    ensures { IfOk result (λ s. s ≡ path_prog variable.now program.now otherwise) }
-{
-    let name = path_name(alloc, variable)?;
-    let variable = Bytes::from_slice(alloc, variable)?;
-    let program = program.copy(alloc)?;
-    Ok(Search {
-        variable,
-        name,
-        program,
-        found: None,
-        otherwise,
-    })
-}
-
-/// Opens the test of AC_CHECK_PROG.
-pub(crate) fn open_check_prog(
+/// Opens the test of AC_CHECK_PROG or AC_PATH_PROG.
+pub(crate) fn open_search(
     alloc: Global,
     store: &Store,
-    variable: &[u8],
+    variable: &Name,
     program: &Bytes,
-    found: &HereText,
+    value: &ProgramValue,
     otherwise: &Option<HereText>,
 ) -> Result<Opening, AllocError>
-    ensures { IfOk result (OpensCheck variable.now program.now found.now otherwise.now store.now) }
+    ensures { IfOk result (Opens (search_kind variable.now program.now value.now otherwise.now store.now) store.now) }
 {
-    let found = store.here_text(alloc, found)?;
+    let variable = variable.as_slice();
+    let name = search_name(alloc, value, variable)?;
+    let found = found_in(alloc, store, value)?;
     let otherwise = value_of(alloc, store, otherwise)?;
-    let search = check_prog(alloc, variable, program, found, otherwise)?;
-    open_program(alloc, store, search, store.has_value(variable))
-}
-
-/// Opens the test of AC_PATH_PROG.
-pub(crate) fn open_path_prog(
-    alloc: Global,
-    store: &Store,
-    variable: &[u8],
-    program: &Bytes,
-    otherwise: &Option<HereText>,
-) -> Result<Opening, AllocError>
-    ensures { IfOk result (OpensPath variable.now program.now otherwise.now store.now) }
-{
-    let otherwise = value_of(alloc, store, otherwise)?;
-    let search = path_prog(alloc, variable, program, otherwise)?;
-    open_program(alloc, store, search, store.has_full_name(variable))
+    let search = search(alloc, variable, name, program, found, otherwise)?;
+    open_program(alloc, store, search, counts_for(store, value, variable))
 }
 
 /// Opens the test of a program of a list.
@@ -96,7 +84,8 @@ pub(crate) fn open_listed_prog(
 ) -> Result<Opening, AllocError>
     ensures { IfOk result (OpensListed variable.now program.now store.now) }
 {
+    let name = program_name(alloc, variable)?;
     let found = program.copy(alloc)?;
-    let search = check_prog(alloc, variable, program, found, None)?;
+    let search = search(alloc, variable, name, program, Some(found), None)?;
     open_program(alloc, store, search, store.has_value(variable))
 }

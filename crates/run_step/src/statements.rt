@@ -1,23 +1,23 @@
-//! Statements, each in its own step.
+//! What statements do, each in its own step.
 
 ghost use Rattle.std.specs.Prelude.{◌≡◌, ◌||◌, not, IfOk, IsOk, OnOk, None};
 ghost use Rattle.deftable.specs.ShellName.{IsShellName};
 ghost use Rattle.meaning.specs.Meaning.{with_prefixes};
 ghost use Rattle.plan.specs.Inside.{asks_by};
 ghost use Rattle.run_step.specs.Runs.{own_run};
-ghost use Rattle.run_step.specs.Statements.{assigned, defined, failed, printed, with_default};
+ghost use Rattle.run_step.specs.Statements.{assigned, defined, printed, with_default};
 ghost use Rattle.run_test.specs.Flows.{IsStep, Led};
 ghost use Rattle.run_test.specs.declared.flow.Flow.TheVariants.{Complete, Pass, Stop};
+ghost use Rattle.syntax.specs.declared.statement.Message.TheVariants.{Error};
 
-use crate::programs::{open_check_prog, open_path_prog};
+use crate::programs::open_search;
 use batching::begin_batch;
-use deftable::Bytes;
 use run_test::{Flow, start};
-use runstate::pieces::{report_error, say};
+use runstate::pieces::say;
 use runstate::{About, Store, initialise};
 use shellword::{HereText, Word};
 use std::alloc::{AllocError, Global};
-use syntax::{MessageKind, Plain};
+use syntax::{Effect, Message};
 
 /// Sets a variable to the value of a word.
 fn assign(alloc: Global, store: &mut Store, name: &[u8], value: &Word) -> Result<(), AllocError>
@@ -50,32 +50,26 @@ fn complete(store: &mut Store) -> Result<Flow, AllocError>
     Ok(Flow::Complete)
 }
 
-/// Stops the run with an exit status, after the line of the error is printed.
-fn stop(
-    alloc: Global,
-    store: &mut Store,
-    message: &HereText,
-    status: u8,
-) -> Result<Flow, AllocError>
-    ensures stops { IfOk result (λ flow. flow ≡ Stop status) }
-    ensures prints { OnOk result (store.new ≡ failed message.now store.old) }
-{
-    let text = store.here_text(alloc, message)?;
-    report_error(alloc, store, text.as_slice())?;
-    Ok(Flow::Stop { status })
-}
-
 /// Prints a message.
 fn print(
     alloc: Global,
     store: &mut Store,
-    kind: MessageKind,
-    message: &HereText,
+    message: Message,
+    text: &HereText,
 ) -> Result<(), AllocError>
-    ensures { OnOk result (store.new ≡ printed kind message.now store.old) }
+    ensures { OnOk result (store.new ≡ printed message text.now store.old) }
 {
-    let text = store.here_text(alloc, message)?;
-    say(alloc, store, kind, text.as_slice())
+    let text = store.here_text(alloc, text)?;
+    say(alloc, store, message, text.as_slice())
+}
+
+/// Stops the run with an exit status, after the line of the error is printed.
+fn stop(alloc: Global, store: &mut Store, text: &HereText, status: u8) -> Result<Flow, AllocError>
+    ensures stops { IfOk result (λ flow. flow ≡ Stop status) }
+    ensures prints { OnOk result (store.new ≡ printed Error text.now store.old) }
+{
+    print(alloc, store, Message::Error, text)?;
+    Ok(Flow::Stop { status })
 }
 
 /// Continues with the next step, if `done` is no error.
@@ -87,19 +81,27 @@ pub(crate) fn pass(done: Result<(), AllocError>) -> Result<Flow, AllocError>
     Ok(Flow::Pass { more: 0 })
 }
 
-/// Runs a statement in its own step.
+/// Does what a statement does in its own step.
 #[tactic(auto, unfolding(meaning::specs::Meaning::effect))]
 pub(crate) fn execute(
     alloc: Global,
     store: &mut Store,
     about: &mut About,
-    statement: &Plain,
+    effect: &Effect,
 ) -> Result<Flow, AllocError>
-    ensures step { IfOk result (IsStep (asks_by statement.now) None) }
-    ensures leads { Led result (own_run statement.now about.old store.old) about.new store.new }
+    ensures step { IfOk result (IsStep (asks_by effect.now) None) }
+    ensures leads { Led result (own_run effect.now about.old store.old) about.new store.new }
 {
-    match statement {
-        Plain::Init {
+    match effect {
+        Effect::Nothing | Effect::Searches { .. } => Ok(Flow::Pass { more: 0 }),
+        Effect::Assign { name, value } => pass(assign(alloc, store, name.as_slice(), value)),
+        Effect::Define { name, value } => pass(store.define(name.as_slice(), value.as_slice())),
+        Effect::DefineText { name, value } => {
+            pass(define_value(alloc, store, name.as_slice(), value))
+        }
+        Effect::Print { message, text } => pass(print(alloc, store, *message, text)),
+        Effect::Stop { text, status } => stop(alloc, store, text, *status),
+        Effect::Package {
             title,
             version,
             bug,
@@ -114,44 +116,17 @@ pub(crate) fn execute(
             tarname.as_slice(),
             url.as_slice(),
         )),
-        Plain::Accepted
-        | Plain::ConfigFiles { .. }
-        | Plain::ConfigHeaders { .. }
-        | Plain::Subst { .. }
-        | Plain::ArgVar { .. }
-        | Plain::CheckProgs { .. }
-        | Plain::ProgCc { .. } => Ok(Flow::Pass { more: 0 }),
-        Plain::Assign { name, value } | Plain::SubstValue { name, value } => {
-            pass(assign(alloc, store, name.as_slice(), value))
-        }
-        Plain::Define { name, value } => pass(store.define(name.as_slice(), value.as_slice())),
-        Plain::DefineUnquoted { name, value } => {
-            pass(define_value(alloc, store, name.as_slice(), value))
-        }
-        Plain::Error { message, status } => stop(alloc, store, message, *status),
-        Plain::Message { kind, message } => pass(print(alloc, store, *kind, message)),
-        Plain::CheckProg {
+        Effect::Search {
             variable,
             program,
-            found,
+            value,
             otherwise,
         } => {
-            let variable = variable.as_slice();
-            let opening = open_check_prog(alloc, store, variable, program, found, otherwise)?;
+            let opening = open_search(alloc, store, variable, program, value, otherwise)?;
             let flow = start(alloc, store, about, opening)?;
             Ok(flow)
         }
-        Plain::PathProg {
-            variable,
-            program,
-            otherwise,
-        } => {
-            let variable = variable.as_slice();
-            let opening = open_path_prog(alloc, store, variable, program, otherwise)?;
-            let flow = start(alloc, store, about, opening)?;
-            Ok(flow)
-        }
-        Plain::Batch {
+        Effect::Batch {
             listed,
             entries,
             includes,
@@ -160,7 +135,7 @@ pub(crate) fn execute(
             let flow = begin_batch(alloc, store, *listed, entries, includes)?;
             Ok(flow)
         }
-        Plain::Output => complete(store),
+        Effect::Complete => complete(store),
     }
 }
 
@@ -171,20 +146,18 @@ pub(crate) fn is_wanted(always: bool, own: bool) -> bool
     always || !own
 }
 
-/// Gives a variable its default, if it has one and the variable is empty.
+/// Gives a variable its default, if the variable is empty.
 pub(crate) fn set_default(
     alloc: Global,
     store: &mut Store,
     variable: &[u8],
-    value: &Option<HereText>,
+    value: &HereText,
 ) -> Result<(), AllocError>
     ensures { OnOk result (store.new ≡ with_default variable.now value.now store.old) }
 {
-    if let Some(text) = value {
-        if !store.has_value(variable) {
-            let value = store.here_text(alloc, text)?;
-            store.set(variable, value.as_slice())?;
-        }
+    if !store.has_value(variable) {
+        let value = store.here_text(alloc, value)?;
+        store.set(variable, value.as_slice())?;
     }
     Ok(())
 }

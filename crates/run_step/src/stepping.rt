@@ -64,7 +64,7 @@ pub fn do_step(
     ensures acts { Act step.now result about.old about.new tests.old tests.new store.old store.new }
 {
     match step {
-        Step::Do(statement) => execute(alloc, store, about, statement),
+        Step::Do(effect) => execute(alloc, store, about, effect),
         Step::Look {
             variable,
             program,

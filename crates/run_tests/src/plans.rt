@@ -1,18 +1,26 @@
 //! What a source weighs, and the steps of a small one.
 
 use acparse::Stmt;
-use deftable::Texts;
+use deftable::{Name, Texts};
 use plan::{PlanFault, Step, compile_statements};
 use shellword::Patterns;
 use std::test::Fail;
-use syntax::{Case, Plain, Subject, When, choose};
+use syntax::{Case, Declares, Effect, Subject, When, choose};
 use testchildren::replies::{add, bytes_of};
 use testrows::{Call, Page, cut, number_of, try_rows};
+
+/// Returns a statement that declares nothing.
+fn act(effect: Effect) -> Stmt {
+    Stmt::Do {
+        declares: Declares::Nothing,
+        effect,
+    }
+}
 
 /// Adds so many statements.
 fn add_outputs(page: &mut Page, statements: &mut Vec<Stmt>, count: usize) {
     for _ in 0..count {
-        add(page, statements, Stmt::Plain(Plain::Output));
+        add(page, statements, act(Effect::Complete));
     }
 }
 
@@ -43,19 +51,28 @@ fn choice(page: &mut Page, has_default: bool) -> Stmt {
         let case = default_case(page);
         add(page, &mut cases, case);
     }
-    choose(Subject::Nothing, cases)
+    choose(Declares::Nothing, Subject::Nothing, cases)
 }
 
-/// Returns AC_PROG_CC of two compilers.
+/// Returns AC_PROG_CC of two compilers, or nothing if memory runs out.
 fn compilers(page: &mut Page) -> Stmt {
     let mut names = Vec::new(page.alloc());
     let name = bytes_of(page, b"gcc");
     add(page, &mut names, name);
     let name = bytes_of(page, b"cc");
     add(page, &mut names, name);
-    Stmt::Plain(Plain::ProgCc {
-        programs: Texts::from_vec(names),
-    })
+    let alloc = page.alloc();
+    let Some(variable) = page.given(Name::from_slice(alloc, b"CC")) else {
+        return act(Effect::Nothing);
+    };
+    Stmt::Do {
+        declares: Declares::Compiler,
+        effect: Effect::Searches {
+            variable,
+            programs: Texts::from_vec(names),
+            otherwise: None,
+        },
+    }
 }
 
 /// Returns a statement by its name.
@@ -64,7 +81,7 @@ fn named(page: &mut Page, name: &[u8]) -> Stmt {
         b"choice" => choice(page, false),
         b"default" => choice(page, true),
         b"compilers" => compilers(page),
-        _ => Stmt::Plain(Plain::Accepted),
+        _ => act(Effect::Nothing),
     }
 }
 

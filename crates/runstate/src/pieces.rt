@@ -3,7 +3,7 @@
 ghost use Rattle.std.specs.Prelude.{◌≡◌, ◌++◌, IfOk, OnOk, codes, decimal};
 ghost use Rattle.deftable.specs.declared.note.Stream.TheVariants.{Err};
 ghost use Rattle.meaning.specs.Asking.{no_compiler};
-ghost use Rattle.meaning.specs.Meaning.{error_line, said};
+ghost use Rattle.meaning.specs.Messages.{form_of, said};
 ghost use Rattle.meaning.specs.Play.{cut_line};
 ghost use Rattle.meaning.specs.Rows.{text_or_no};
 ghost use Rattle.meaning.specs.State.{Cut, told};
@@ -12,7 +12,61 @@ ghost use Rattle.meaning.specs.Tests.{broken, checking, with_result};
 use crate::store::Store;
 use deftable::{Bytes, Stream};
 use std::alloc::{AllocError, Global};
-use syntax::MessageKind;
+use syntax::Message;
+
+/// The stream to which a message is printed, and the texts before and after its own.
+#[derive(Drop)]
+struct Form {
+    stream: Stream,
+    before: &'static [u8],
+    after: &'static [u8],
+}
+
+/// Returns the form of a message.
+fn form_of(message: Message) -> Form
+    ensures { record { stream = result.stream; before = result.before.now; after = result.after.now } ≡ form_of message }
+{
+    match message {
+        Message::Checking => Form {
+            stream: Stream::Out,
+            before: b"checking ",
+            after: b"... ",
+        },
+        Message::Results => Form {
+            stream: Stream::Out,
+            before: b"",
+            after: b"\n",
+        },
+        Message::Notice => Form {
+            stream: Stream::Out,
+            before: b"configure: ",
+            after: b"\n",
+        },
+        Message::Warning => Form {
+            stream: Stream::Err,
+            before: b"configure: WARNING: ",
+            after: b"\n",
+        },
+        Message::Error => Form {
+            stream: Stream::Err,
+            before: b"configure: error: ",
+            after: b"\n",
+        },
+    }
+}
+
+/// Prints a message.
+pub fn say(
+    alloc: Global,
+    store: &mut Store,
+    message: Message,
+    text: &[u8],
+) -> Result<(), AllocError>
+    ensures { OnOk result (store.new ≡ said message text.now store.old) }
+{
+    let form = form_of(message);
+    store.tell(alloc, form.stream, form.before, text, form.after)
+}
 
 /// Prints that a program is looked for.
 pub fn begin_search(alloc: Global, store: &mut Store, program: &[u8]) -> Result<(), AllocError>
@@ -25,7 +79,7 @@ pub fn begin_search(alloc: Global, store: &mut Store, program: &[u8]) -> Result<
 pub fn begin_check(alloc: Global, store: &mut Store, message: &[u8]) -> Result<(), AllocError>
     ensures { OnOk result (store.new ≡ checking message.now store.old) }
 {
-    store.tell(alloc, Stream::Out, b"checking ", message, b"... ")
+    say(alloc, store, Message::Checking, message)
 }
 
 /// Prints that a declaration is looked for.
@@ -45,7 +99,7 @@ pub fn begin_declaration(alloc: Global, store: &mut Store, name: &[u8]) -> Resul
 pub fn end_check(alloc: Global, store: &mut Store, value: &[u8]) -> Result<(), AllocError>
     ensures { OnOk result (store.new ≡ with_result value.now store.old) }
 {
-    store.tell(alloc, Stream::Out, b"", value, b"\n")
+    say(alloc, store, Message::Results, value)
 }
 
 /// Prints the value of a check whose name is set.
@@ -87,38 +141,16 @@ pub fn break_test(alloc: Global, store: &mut Store, name: &[u8]) -> Result<(), A
     store.tell(alloc, Stream::Out, b"refused", b"", b"\n")
 }
 
-/// Prints an error of the source.
-pub fn report_error(alloc: Global, store: &mut Store, message: &[u8]) -> Result<(), AllocError>
-    ensures { OnOk result (store.new ≡ told Err (error_line message.now) store.old) }
-{
-    store.tell(alloc, Stream::Err, b"configure: error: ", message, b"\n")
-}
-
-/// Prints a message of the source.
-#[tactic(auto, unfolding(meaning::specs::Meaning::said))]
-pub fn say(
-    alloc: Global,
-    store: &mut Store,
-    kind: MessageKind,
-    message: &[u8],
-) -> Result<(), AllocError>
-    ensures { OnOk result (store.new ≡ said kind message.now store.old) }
-{
-    match kind {
-        MessageKind::Checking => begin_check(alloc, store, message),
-        MessageKind::Results => end_check(alloc, store, message),
-        MessageKind::Notice => store.tell(alloc, Stream::Out, b"configure: ", message, b"\n"),
-        MessageKind::Warning => {
-            store.tell(alloc, Stream::Err, b"configure: WARNING: ", message, b"\n")
-        }
-    }
-}
-
 /// Prints that there is no compiler.
 pub fn report_no_compiler(alloc: Global, store: &mut Store) -> Result<(), AllocError>
     ensures { OnOk result (store.new ≡ told Err no_compiler store.old) }
 {
-    report_error(alloc, store, b"no acceptable C compiler found in $PATH")
+    say(
+        alloc,
+        store,
+        Message::Error,
+        b"no acceptable C compiler found in $PATH",
+    )
 }
 
 fn digits(alloc: Global, number: u64) -> Result<Bytes, AllocError>

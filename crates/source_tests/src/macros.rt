@@ -1,19 +1,22 @@
-//! The table of macros and their readers. What statements declare, `declare` and `declare_question`, shows in the lists
-//! of a source (`sources`): their contracts would make each function that calls them slow to prove.
+//! The table of macros, their readers, and what statements and questions use. What `declare` makes of declarations shows in
+//! the lists of a source (`sources`): its contract would make each function that calls it slow to prove.
 
-use crate::told::{Next, Told, add, put_each, put_if, put_made, put_next, put_of};
+use crate::told::{Next, Told, add, put_each, put_if, put_made, put_next, put_of, put_parts};
 use acargs::ParseFault;
 use acmacros::checks::complete;
 use acmacros::list_kind::{ListKind, check_list_kind};
 use acmacros::placement::{as_statement, bare_fault, check_place};
 use acmacros::rows::{plain, question};
 use acmacros::table::{row_named, takes};
-use acmacros::{ArgumentMacro, ChoiceMacro, Macro, Named, PlainMacro, QuestionMacro};
+use acmacros::{
+    ArgumentMacro, ChoiceMacro, DeclaringMacro, Macro, Named, PlainMacro, QuestionMacro,
+};
 use deftable::Texts;
 use m4quote::{Arg, Item, read_items};
-use std::alloc::Global;
+use std::alloc::{AllocError, Global};
 use std::test::Fail;
-use syntax::{Declarations, OptionKind, Plain, Question, Stage, Try};
+use syntax::uses::{Reads, Uses, uses_asked, uses_of};
+use syntax::{Declarations, Declares, Effect, OptionKind, OutputKind, Question, Stage, Try};
 use testrows::{Call, Page, try_rows};
 use testtrees::{put_plain, put_question, put_sought};
 
@@ -22,12 +25,20 @@ use testtrees::{put_plain, put_question, put_sought};
 /// The most bytes of a source: so many arguments are any number of them.
 const LONGEST_SOURCE: usize = 1_048_576;
 
+/// Returns the word for a macro that declares something.
+fn declaring(m: DeclaringMacro) -> &'static [u8] {
+    match m {
+        DeclaringMacro::Subst => b"statement Subst ",
+        DeclaringMacro::ConfigOutputs(OutputKind::File) => b"statement ConfigFiles ",
+        DeclaringMacro::Init => b"statement Init ",
+        _ => b"another ",
+    }
+}
+
 /// Returns the word for what a name names.
 fn meaning(named: Named) -> &'static [u8] {
     match named {
-        Named::Statement(Macro::Plain(PlainMacro::Subst)) => b"statement Subst ",
-        Named::Statement(Macro::Plain(PlainMacro::ConfigFiles)) => b"statement ConfigFiles ",
-        Named::Statement(Macro::Plain(PlainMacro::Init)) => b"statement Init ",
+        Named::Statement(Macro::Plain(PlainMacro::Declares(m))) => declaring(m),
         Named::Statement(Macro::Choice(ChoiceMacro::Case)) => b"choice Case ",
         Named::Statement(Macro::Question(QuestionMacro::Given(OptionKind::Package))) => {
             b"question Package "
@@ -101,21 +112,58 @@ fn allowed_in_commands(name: &[u8]) -> Result<(), ParseFault> {
 
 // ---- readers
 
-/// The statement, in words.
-impl Told for Plain {
-    fn tell(&self, page: &mut Page) {
-        put_plain(page, self);
+/// Puts each text that is read.
+fn put_reads(page: &mut Page, reads: &Reads<'_>) {
+    match reads {
+        Reads::Nothing => {}
+        Reads::Variable(name) => {
+            page.put(b" reads variable ");
+            page.put(name.as_slice());
+        }
+        Reads::Text(text) => {
+            page.put(b" reads ");
+            put_parts(page, *text);
+        }
+        Reads::Texts(first, second) => {
+            page.put(b" reads ");
+            put_parts(page, *first);
+            page.put(b" and ");
+            put_parts(page, *second);
+        }
     }
 }
 
-/// The question, in words.
-impl Told for Question {
+/// What is used: what is assigned, read, tested and tried.
+impl Told for Uses<'_> {
     fn tell(&self, page: &mut Page) {
-        put_question(page, self);
+        page.put(b"uses");
+        if let Some(name) = self.assigns {
+            page.put(b" assigns ");
+            page.put(name.as_slice());
+        }
+        put_reads(page, &self.reads);
+        for name in self.tests.as_slice() {
+            page.put(b" tests ");
+            page.put(name.as_slice());
+        }
+        put_if(page, self.alone, b" alone");
+        put_if(page, self.tries, b" tries");
     }
 }
 
 // The calls, in functions without their clauses.
+
+fn used<'a>(
+    alloc: Global,
+    declares: &'a Declares,
+    effect: &'a Effect,
+) -> Result<Uses<'a>, AllocError> {
+    uses_of(alloc, declares, effect)
+}
+
+fn used_by<'a>(alloc: Global, question: &'a Question) -> Result<Uses<'a>, AllocError> {
+    uses_asked(alloc, question)
+}
 
 fn read_plain(
     alloc: Global,
@@ -123,7 +171,7 @@ fn read_plain(
     m: PlainMacro,
     at: usize,
     args: &[Arg<'_>],
-) -> Result<Plain, ParseFault> {
+) -> Result<(Declares, Effect), ParseFault> {
     plain(alloc, known, m, at, args)
 }
 
@@ -132,8 +180,10 @@ fn read_question(
     known: &Declarations,
     m: QuestionMacro,
     args: &[Arg<'_>],
-) -> Result<Question, ParseFault> {
-    complete(alloc, question(alloc, known, m, args)?, args)
+) -> Result<(Declares, Question), ParseFault> {
+    let (declares, question) = question(alloc, known, m, args)?;
+    let question = complete(alloc, question, args)?;
+    Ok((declares, question))
 }
 
 /// A call of a macro.
@@ -142,18 +192,44 @@ struct Called<'a> {
     named: Named,
     at: usize,
     args: &'a [Arg<'a>],
+    /// Whether what it uses is wanted, and not what it is read as.
+    uses: bool,
 }
 
-/// What the call is read as, if it is a statement.
+/// What the statement declares and does, or what it uses.
+impl Next<(Declares, Effect)> for Called<'_> {
+    fn put_of(&self, page: &mut Page, made: &(Declares, Effect)) {
+        if self.uses {
+            return put_made(page, used(page.alloc(), &made.0, &made.1));
+        }
+        put_plain(page, &made.0, &made.1);
+    }
+}
+
+/// The question with what is declared, or what it uses.
+impl Next<(Declares, Question)> for Called<'_> {
+    fn put_of(&self, page: &mut Page, made: &(Declares, Question)) {
+        if self.uses {
+            return put_made(page, used_by(page.alloc(), &made.1));
+        }
+        put_question(page, &made.0, &made.1);
+    }
+}
+
+/// What the call is read as, or what it uses, if it is a statement.
 impl Next<Declarations> for Called<'_> {
     fn put_of(&self, page: &mut Page, known: &Declarations) {
         let alloc = page.alloc();
         match self.named {
             Named::Statement(Macro::Plain(m)) => {
-                put_made(page, read_plain(alloc, known, m, self.at, self.args));
+                put_next(
+                    page,
+                    read_plain(alloc, known, m, self.at, self.args),
+                    self,
+                );
             }
             Named::Statement(Macro::Question(m)) => {
-                put_made(page, read_question(alloc, known, m, self.args));
+                put_next(page, read_question(alloc, known, m, self.args), self);
             }
             _ => page.put(b"another macro"),
         }
@@ -187,6 +263,8 @@ enum Reader {
     Takes,
     /// What a call is read as.
     Reads,
+    /// What it uses.
+    Uses,
     /// Whether a call may stand in the file's own list, in another, before AC_INIT, or after AC_OUTPUT.
     Top,
     Inside,
@@ -198,10 +276,11 @@ enum Reader {
     Programs,
 }
 
-const READERS: [(&[u8], Reader); 10] = [
+const READERS: [(&[u8], Reader); 11] = [
     (b"row", Reader::Row),
     (b"takes", Reader::Takes),
     (b"reads", Reader::Reads),
+    (b"uses", Reader::Uses),
     (b"top", Reader::Top),
     (b"inside", Reader::Inside),
     (b"commands", Reader::Commands),
@@ -234,6 +313,7 @@ impl Next<Vec<Item<'_>>> for Reader {
                     named: row.named,
                     at: *at,
                     args: args.as_slice(),
+                    uses: matches!(self, Reader::Uses),
                 };
                 put_of(page, Declarations::new(page.alloc()), &called);
             }
@@ -246,7 +326,9 @@ impl Call for Reader {
         let alloc = page.alloc();
         match self {
             Reader::Row => put_row_named(page, text),
-            Reader::Takes | Reader::Reads => put_next(page, read_items(alloc, text), self),
+            Reader::Takes | Reader::Reads | Reader::Uses => {
+                put_next(page, read_items(alloc, text), self);
+            }
             Reader::Top => put_made(page, allowed(true, Stage::Open, text)),
             Reader::Inside => put_made(page, allowed(false, Stage::Open, text)),
             Reader::Commands => put_made(page, allowed_in_commands(text)),
@@ -429,6 +511,20 @@ reads AC_SEARCH_LIBS([sin],[m],,,[`]) => 6.1 at 27
 // calls with errors
 reads AC_SUBST([a-b]) => 5 at 9
 reads AC_ARG_WITH([]) => 5 at 12
+// what is used: AC_SUBST without a value reads its variable, with a value it assigns it
+uses AC_SUBST([a]) => uses reads variable a
+uses AC_SUBST([a],[$b]) => uses assigns a reads $[b]
+uses AC_ARG_VAR([a],[b]) => uses
+uses AC_MSG_NOTICE([$a]) => uses reads $[a]
+uses AC_CHECK_PROG([P],[p],[$a],[$b]) => uses assigns P reads $[a] and $[b] tests ac_cv_prog_P alone
+uses AC_PATH_PROG([P],[p],[$b]) => uses assigns P reads $[b] tests ac_cv_path_P alone
+uses AC_PROG_CC => uses assigns CC tests ac_cv_prog_CC alone
+uses AC_ARG_WITH([x]) => uses assigns with_x
+uses AC_RUN_IFELSE([AC_LANG_PROGRAM([$a],[$b])]) => uses reads $[a] and $[b] tries
+uses AC_CHECK_DECL([d],,,[$a]) => uses reads $[a] tests ac_cv_have_decl_d
+uses AC_CHECK_TYPES([a, b]) => uses tests ac_cv_type_a tests ac_cv_type_b
+uses AC_CHECK_LIB([m],[f],,,[$a]) => uses reads $[a] tests ac_cv_lib_m_f
+uses AC_SEARCH_LIBS([f],[m c]) => uses tests ac_cv_search_f
 // nothing is declared at first
 first => yes
 // a list of programs

@@ -1,7 +1,7 @@
 //! Whole sources. The crate `case_tests` has them macro by macro and error by error.
 
 use crate::told::{Told, put_each, put_made};
-use acparse::{ParseFault, Plain, Question, Source, Stmt, Subject, parse};
+use acparse::{Declares, Effect, ParseFault, Question, Source, Stmt, Subject, parse};
 use std::alloc::Global;
 use std::test::Fail;
 use testrows::{Call, Page, try_rows};
@@ -32,10 +32,10 @@ fn is_listed(question: &Question) -> bool {
 }
 
 /// Puts a question about entries or libraries, and how many cases it has.
-fn put_asked(page: &mut Page, question: &Question, cases: usize) {
+fn put_asked(page: &mut Page, declares: &Declares, question: &Question, cases: usize) {
     if is_listed(question) {
         page.put(b";");
-        put_question(page, question);
+        put_question(page, declares, question);
         page.put(b" ");
         page.put_number(cases);
     }
@@ -44,14 +44,18 @@ fn put_asked(page: &mut Page, question: &Question, cases: usize) {
 /// Puts a statement that looks for entries or libraries.
 fn put_entries(page: &mut Page, statement: &Stmt) {
     match statement {
-        Stmt::Plain(plain @ Plain::Batch { .. }) => {
+        Stmt::Do {
+            declares,
+            effect: effect @ Effect::Batch { .. },
+        } => {
             page.put(b";");
-            put_plain(page, plain);
+            put_plain(page, declares, effect);
         }
         Stmt::Choose {
+            declares,
             subject: Subject::Asked(question),
             cases,
-        } => put_asked(page, question, cases.len()),
+        } => put_asked(page, declares, question, cases.len()),
         _ => {}
     }
 }

@@ -90,7 +90,7 @@ impl Told for Arg<'_> {
 }
 
 /// Puts each part: a byte, a quoted byte after a backslash, or the name of a variable in brackets after a dollar sign.
-fn put_parts(page: &mut Page, parts: &[Part]) {
+pub fn put_parts(page: &mut Page, parts: &[Part]) {
     for part in parts {
         match part {
             Part::Plain(byte) => page.put_byte(*byte),

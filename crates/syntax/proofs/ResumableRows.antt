@@ -15,7 +15,7 @@ use Rattle.syntax.specs.declared.program.Try.TheVariants.{Compile}
 use Rattle.syntax.specs.declared.statement.Declares.TheVariants as declares
 use Rattle.syntax.specs.declared.statement.Effect.TheVariants as effects
 use Rattle.syntax.specs.declared.statement.Effect.TheVariants.{Assign, Search, Searches, Batch, Stop}
-use Rattle.syntax.specs.declared.statement.ProgramValue.TheVariants.{Text, FullName}
+use Rattle.syntax.specs.declared.statement.ProgramValue.TheVariants.{Text}
 use Rattle.syntax.specs.declared.statement.Question.TheVariants.{Given, Tries, Checks, ChecksEach, Library, Libraries}
 use Rattle.syntax.specs.declared.tree.Subject.TheVariants.{Nothing, Asked}
 use Rattle.syntax.specs.declared.tree.When.TheVariants.{Holds, Yes}

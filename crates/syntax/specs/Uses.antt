@@ -1,5 +1,5 @@
 -- What statements and questions use: the view of them by which a source can be resumed or not.
-use Rattle.std.specs.Prelude.{ℕ, Bool, true, false, List, [], ◌∷◌, ◌++◌, Option, Some, None, codes, map, option_map, option_to_list}
+use Rattle.std.specs.Prelude.{ℕ, Bool, true, false, List, [], ◌∷◌, ◌++◌, Option, Some, None, map, option_map, option_to_list}
 use Rattle.shellword.specs.declared.part.Part.{Part}
 use Rattle.shellword.specs.declared.part.Part.TheVariants as parts
 use Rattle.syntax.specs.declared.program.Program.{Program}

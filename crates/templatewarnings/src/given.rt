@@ -5,7 +5,7 @@ use deftable::{Bytes, SubstList, is_shell_name};
 use m4quote::cpp_name;
 use outputlist::OutputList;
 use std::alloc::{AllocError, Global};
-use syntax::{Case, Listed, Plain, Question, Sought, Source, Stmt, Subject};
+use syntax::{Case, Effect, Listed, Question, Sought, Source, Stmt, Subject};
 
 /// The names that a source gives its templates. Statements in cases that a run does not take count too.
 #[derive(Drop)]
@@ -107,13 +107,13 @@ fn add_entries(
     Ok(())
 }
 
-/// Adds what a statement with no statements in it may define.
-fn add_plain(alloc: Global, list: &mut SubstList, statement: &Plain) -> Result<(), AllocError> {
-    match statement {
-        Plain::Define { name, .. } | Plain::DefineUnquoted { name, .. } => {
+/// Adds what an effect may define.
+fn add_effect(alloc: Global, list: &mut SubstList, effect: &Effect) -> Result<(), AllocError> {
+    match effect {
+        Effect::Define { name, .. } | Effect::DefineText { name, .. } => {
             add_name(list, name.as_slice())
         }
-        Plain::Batch {
+        Effect::Batch {
             listed,
             entries,
             ..
@@ -155,8 +155,8 @@ fn add_subject(alloc: Global, list: &mut SubstList, subject: &Subject) -> Result
 #[cycle(list)]
 fn add_statement(alloc: Global, list: &mut SubstList, statement: &Stmt) -> Result<(), AllocError> {
     match statement {
-        Stmt::Plain(plain) => add_plain(alloc, list, plain),
-        Stmt::Choose { subject, cases } => {
+        Stmt::Do { effect, .. } => add_effect(alloc, list, effect),
+        Stmt::Choose { subject, cases, .. } => {
             add_subject(alloc, list, subject)?;
             add_cases(alloc, list, cases.as_slice())
         }

@@ -1,5 +1,5 @@
 -- How the table of names changes.
-use Rattle.std.proofs.Common.{◌≡◌, ℕ, zero, suc, ◌≤◌, List, [], ◌∷◌, ◌++◌, Bool, true, false, cond, ◌||◌, refl, sym, ap, ◌∙◌, length, take, get_or, min, map, ◌<◌, ◌+◌, append_assoc, subst, arith, Result, Ok, Err}
+use Rattle.std.proofs.Common.{◌≡◌, ℕ, zero, suc, List, [], ◌∷◌, ◌++◌, Bool, true, false, ◌||◌, refl, sym, ap, ◌∙◌, length, take, get_or, min, ◌<◌, ◌+◌, append_assoc, subst, arith, Result, Ok, Err}
 use Rattle.std.specs.Prelude.{bytes_eq, if◌then◌else◌, OnOk}
 use Rattle.std.specs.Global.{Vec}
 use Rattle.std.specs.List.{list_any}

@@ -1,5 +1,5 @@
 -- What texts and tests read, as their parts and elements.
-use Rattle.std.proofs.Common.{◌≡◌, ℕ, List, [], ◌∷◌, Bool, true, false, refl, sym, ap, ◌∙◌}
+use Rattle.std.proofs.Common.{◌≡◌, ℕ, List, [], ◌∷◌, Bool, true, false, refl, ap, ◌∙◌}
 use Rattle.std.specs.Prelude.{◌&&◌}
 use Rattle.std.specs.List.{list_all}
 use Rattle.shellword.specs.declared.element.Element.{Element}
@@ -7,7 +7,7 @@ use Rattle.shellword.specs.declared.part.Part.{Part}
 use Rattle.shellword.specs.declared.part.Part.TheVariants.{Plain, Quoted, Variable}
 use Rattle.shellword.specs.declared.token.Joint.{Joint}
 use Rattle.shellword.specs.Nested.{nested}
-use Rattle.shellword.specs.Truth.{Joined, single, joined}
+use Rattle.shellword.specs.Truth.{Joined, joined}
 use Rattle.syntax.specs.Decide.{may_read, reads_text, reads_condition, reads_test}
 use Rattle.testorder.specs.Tested.{reads_part}
 

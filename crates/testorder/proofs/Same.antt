@@ -1,6 +1,6 @@
 -- Lists that have the same names decide the same.
-use Rattle.std.proofs.Common.{◌≡◌, ℕ, List, [], ◌∷◌, ◌++◌, Bool, true, false, Option, Some, None, refl, sym, ap, ◌∙◌}
-use Rattle.std.specs.Prelude.{◌&&◌, ◌||◌, not, is_some, bytes_eq}
+use Rattle.std.proofs.Common.{◌≡◌, ℕ, List, [], ◌∷◌, ◌++◌, Bool, Option, Some, refl, sym, ap, ◌∙◌}
+use Rattle.std.specs.Prelude.{◌&&◌, ◌||◌, not}
 use Rattle.deftable.specs.CacheName.{is_cache_name}
 use Rattle.deftable.specs.NameList.{has_name}
 use Rattle.shellword.specs.declared.element.Condition.{Condition}
@@ -8,19 +8,14 @@ use Rattle.shellword.specs.declared.element.Condition.TheVariants as conditions
 use Rattle.shellword.specs.declared.part.Part.{Part}
 use Rattle.shellword.specs.declared.part.Part.TheVariants as parts
 use Rattle.shellword.specs.Truth.{Joined, single, joined}
-use Rattle.syntax.specs.declared.program.Program as programs
-use Rattle.syntax.specs.declared.program.Program.TheVariants as texts
-use Rattle.syntax.specs.declared.statement.Plain as plain
-use Rattle.syntax.specs.declared.statement.Plain.TheVariants.{Init, Accepted, ConfigFiles, ConfigHeaders, Assign, Subst, SubstValue, Define, DefineUnquoted, Error, Message, ArgVar, CheckProg, CheckProgs, PathProg, ProgCc, Batch, Output}
-use Rattle.syntax.specs.declared.statement.Question as question
-use Rattle.syntax.specs.declared.statement.Question.TheVariants.{Given, Tries, Checks, ChecksEach, Library, Libraries}
 use Rattle.syntax.specs.declared.tree.Subject.{Subject}
 use Rattle.syntax.specs.declared.tree.Subject.TheVariants.{Nothing, Word, Asked}
 use Rattle.syntax.specs.declared.tree.When.{When}
 use Rattle.syntax.specs.declared.tree.When.TheVariants.{Holds, Matches, Yes, No, Always}
 use Rattle.syntax.specs.Script.{Script, Done, Then, Choice, Check, Cases, No_case, Case}
-use Rattle.syntax.specs.Resumable.{tests_of, tests_at, first_alone}
-use Rattle.syntax.specs.Decide.{may_read, reads_text, reads_if_given, reads_condition, reads_test, reads_program, reads_when, is_command_of, may_assign, resumable_plain, resumable_question, resumable_subject, resumable, resumable_in}
+use Rattle.syntax.specs.Resumable.{tests_at, first_alone}
+use Rattle.syntax.specs.Decide.{may_read, reads_text, reads_all, reads_condition, reads_test, reads_when, may_assign_if_any, may_try, may_use, resumable_subject, resumable, resumable_in}
+use Rattle.syntax.specs.Uses.{Uses, uses_of, uses_asked}
 use Rattle.testorder.specs.Tested.{HasSameNames}
 use Rattle.testorder.proofs.NameLists.{has_joined}
 
@@ -41,9 +36,9 @@ module _ (a b : List (List ℕ)) (h : HasSameNames a b) where
   text (parts.Quoted x ∷ more) = text more
   text (parts.Variable name ∷ more) = both _ _ _ _ (read name) (text more)
 
-  given : (t : Option (List Part)) → reads_if_given a t ≡ reads_if_given b t
-  given None = refl
-  given (Some t) = text t
+  texts : (ts : List (List Part)) → reads_all a ts ≡ reads_all b ts
+  texts [] = refl
+  texts (t ∷ more) = both _ _ _ _ (text t) (texts more)
 
   condition : (c : Condition) → reads_condition a c ≡ reads_condition b c
   condition conditions.True = refl
@@ -57,10 +52,6 @@ module _ (a b : List (List ℕ)) (h : HasSameNames a b) where
   test (single element) = condition element.condition
   test (joined left joint element) = both _ _ _ _ (test left) (condition element.condition)
 
-  program : (p : programs.Program) → reads_program a p ≡ reads_program b p
-  program (texts.Program prologue body) = both _ _ _ _ (text prologue) (text body)
-  program (texts.Source t) = text t
-
   when_same : (w : When) → reads_when a w ≡ reads_when b w
   when_same (Holds t) = test t
   when_same (Matches patterns) = refl
@@ -71,45 +62,21 @@ module _ (a b : List (List ℕ)) (h : HasSameNames a b) where
   after : (c x y : Bool) → x ≡ y → c && x ≡ c && y
   after c x y e = ap (λ z. c && z) e
 
-  plain_same : (own : Option (List ℕ)) (s : plain.Plain) → resumable_plain own a s ≡ resumable_plain own b s
-  plain_same own (Init title version bug tarname url) = refl
-  plain_same own Accepted = refl
-  plain_same own (ConfigFiles outputs) = refl
-  plain_same own (ConfigHeaders outputs) = refl
-  plain_same own (Assign name value) = after (may_assign own name) _ _ (text value)
-  plain_same own (Subst name) = read name
-  plain_same own (SubstValue name value) = after (may_assign own name) _ _ (text value)
-  plain_same own (Define name value) = refl
-  plain_same own (DefineUnquoted name value) = text value
-  plain_same own (Error message status) = text message
-  plain_same own (Message kind message) = text message
-  plain_same own (ArgVar name help) = refl
-  plain_same own (CheckProg variable program found otherwise) = after (may_assign own variable) _ _ (both _ _ _ _ (text found) (given otherwise))
-  plain_same own (CheckProgs variable programs otherwise) = after (may_assign own variable) _ _ (given otherwise)
-  plain_same own (PathProg variable program otherwise) = after (may_assign own variable) _ _ (given otherwise)
-  plain_same own (ProgCc programs) = refl
-  plain_same own (Batch listed entries includes) = given includes
-  plain_same own Output = refl
-
-  question_same : (own : Option (List ℕ)) (q : question.Question) → resumable_question own a q ≡ resumable_question own b q
-  question_same own (Given kind variable help) = refl
-  question_same own (Tries kind p) = after (is_some own) _ _ (program p)
-  question_same own (Checks sought entry includes) = given includes
-  question_same own (ChecksEach sought entries includes) = given includes
-  question_same own (Library library function others adds) = given others
-  question_same own (Libraries function libraries others) = given others
+  pub use_same : (own : Option (List ℕ)) (u : Uses) → may_use own a u ≡ may_use own b u
+  use_same own u = after (may_try own u.tries) _ _ (after (may_assign_if_any own u.assigns) _ _ (texts u.reads))
 
   subject_same : (own : Option (List ℕ)) (s : Subject) → resumable_subject own a s ≡ resumable_subject own b s
   subject_same own Nothing = refl
   subject_same own (Word word) = text word
-  subject_same own (Asked q) = question_same own q
+  subject_same own (Asked q) = use_same own (uses_asked q)
 
 mutual
   pub script_same : (own : Option (List ℕ)) (a b : List (List ℕ)) → HasSameNames a b → (s : Script) → resumable own a s ≡ resumable own b s
   script_same own a b h Done = refl
-  script_same own a b h (Then s rest) =
-      both _ _ _ _ (plain_same a b h own s) (script_same own (tests_of s ++ a) (tests_of s ++ b) (same_after (tests_of s) a b h) rest)
-  script_same own a b h (Choice subject cases rest) =
+  script_same own a b h (Then d e rest) =
+      let u = uses_of d e in
+      both _ _ _ _ (use_same a b h own u) (script_same own (u.tests ++ a) (u.tests ++ b) (same_after u.tests a b h) rest)
+  script_same own a b h (Choice d subject cases rest) =
       let first = first_alone (tests_at subject) in
       let all = tests_at subject in
       both _ _ _ _ (subject_same a b h own subject)

@@ -7,9 +7,10 @@ use Rattle.shellword.specs.declared.part.Part.{Part}
 use Rattle.syntax.specs.declared.tree.Case as case
 use Rattle.syntax.specs.declared.tree.Stmt.{Stmt, Choose, CacheCheck}
 use Rattle.syntax.specs.declared.tree.Subject.{Subject}
-use Rattle.syntax.specs.declared.statement.Plain as plain
-use Rattle.syntax.specs.Decide.{reads_text, resumable, resumable_in, resumable_plain}
-use Rattle.syntax.specs.Resumable.{first_alone, tests_of}
+use Rattle.syntax.specs.declared.statement.Declares.{Declares}
+use Rattle.syntax.specs.Decide.{reads_text, may_use, resumable, resumable_in}
+use Rattle.syntax.specs.Resumable.{first_alone}
+use Rattle.syntax.specs.Uses.{Uses}
 use Rattle.syntax.specs.Script.{Script, Choice, Check, Cases, stmt_then, script_of, cases_of}
 use Rattle.syntax.proofs.ScriptLemmas.{choice_is, check_is}
 use Rattle.testorder.specs.Tested.{HasSameNames}
@@ -20,11 +21,11 @@ use Rattle.testorder.proofs.Same.{script_same, cases_same}
 abbrev pub Found : Option (List ℕ) → List (List ℕ) → List (List ℕ) → (Script → Script) → Bool → Type 0
 Found own old new whole b = (rest : Script) → resumable own old (whole rest) ≡ b && resumable own new rest
 
-pub choice_found : (own : Option (List ℕ)) (old new : List (List ℕ)) (r : Result Bool AllocError) (s : Stmt) (subject : Subject) (cases : Vec case.Case Global) (seen : List case.Case)
-    → s ≡ Choose subject cases → seen ≡ cases.items → IfOk r (Found own old new (Choice subject (cases_of seen))) → IfOk r (Found own old new (stmt_then s))
-choice_found own old new (Ok b) s subject cases seen is same h =
-    λ rest. ap (resumable own old) (ap (λ x. stmt_then x rest) is ∙ choice_is subject cases rest ∙ ap (λ l. Choice subject (cases_of l) rest) (sym same)) ∙ h rest
-choice_found own old new (Err e) s subject cases seen is same h = h
+pub choice_found : (own : Option (List ℕ)) (old new : List (List ℕ)) (r : Result Bool AllocError) (s : Stmt) (d : Declares) (subject : Subject) (cases : Vec case.Case Global) (seen : List case.Case)
+    → s ≡ Choose d subject cases → seen ≡ cases.items → IfOk r (Found own old new (Choice d subject (cases_of seen))) → IfOk r (Found own old new (stmt_then s))
+choice_found own old new (Ok b) s d subject cases seen is same h =
+    λ rest. ap (resumable own old) (ap (λ x. stmt_then x rest) is ∙ choice_is d subject cases rest ∙ ap (λ l. Choice d subject (cases_of l) rest) (sym same)) ∙ h rest
+choice_found own old new (Err e) s d subject cases seen is same h = h
 
 pub check_found : (own : Option (List ℕ)) (old new : List (List ℕ)) (r : Result Bool AllocError) (s : Stmt) (message : List Part) (name : List ℕ) (commands : Vec Stmt Global) (called : List ℕ) (seen : List Stmt)
     → s ≡ CacheCheck message name commands → called ≡ name → seen ≡ commands.items → IfOk r (Found own old new (Check message called (script_of seen))) → IfOk r (Found own old new (stmt_then s))
@@ -66,12 +67,12 @@ asked_yes own names firsts old mid later new cases b at found is e same added re
 
 -- ---- a statement, and a check
 
-pub simple_yes : (own : Option (List ℕ)) (names old new : List (List ℕ)) (s : plain.Plain) (listed : List (List ℕ)) (b : Bool) → b ≡ resumable_plain own old s → b ≡ true → listed ≡ names → names ≡ tests_of s
+pub simple_yes : (own : Option (List ℕ)) (old new : List (List ℕ)) (u said : Uses) (listed : List (List ℕ)) (b : Bool) → b ≡ may_use own old said → b ≡ true → listed ≡ said.tests → said ≡ u
     → HasSameNames (listed ++ old) new
-    → (rest : Script) → resumable_plain own old s && resumable own (tests_of s ++ old) rest ≡ resumable own new rest
-simple_yes own names old new s listed b is e seen same added rest =
-    ap (λ x. x && resumable own (tests_of s ++ old) rest) (sym is ∙ e)
-    ∙ ap (λ l. resumable own (l ++ old) rest) (sym (seen ∙ same)) ∙ script_same own (listed ++ old) new added rest
+    → (rest : Script) → may_use own old u && resumable own (u.tests ++ old) rest ≡ resumable own new rest
+simple_yes own old new u said listed b is e seen same added rest =
+    ap (λ x. x && resumable own (u.tests ++ old) rest) (sym (ap (may_use own old) same) ∙ sym is ∙ e)
+    ∙ ap (λ l. resumable own (l ++ old) rest) (sym (seen ∙ ap (λ x. x.tests) same)) ∙ script_same own (listed ++ old) new added rest
 
 pub check_yes : (own : Option (List ℕ)) (old mid new : List (List ℕ)) (message parts : List Part) (name : List ℕ) (commands : Script) (b kept : Bool) → b ≡ reads_text old parts → parts ≡ message → b ≡ true
     → kept ≡ resumable (Some name) old commands → kept ≡ true → mid ≡ old → HasSameNames (name ∷ mid) new

@@ -4,16 +4,16 @@ ghost use Rattle.std.specs.Prelude.{◌≡◌, ◌&&◌, ◌++◌, IfOk, OnOk, o
 ghost use Rattle.syntax.specs.Decide as decide;
 ghost use Rattle.syntax.specs.Resumable.{first_alone};
 ghost use Rattle.syntax.specs.Script.{Script, Then, Choice, Check, cases_of, script_of, stmt_then};
+ghost use Rattle.syntax.specs.declared.tree.Subject.TheVariants.{Asked};
 ghost use Rattle.testorder.specs.Tested.{Extends};
 
-use crate::names::{tests_at, tests_of};
 use crate::reads::{reads_text, reads_when};
-use crate::rules::{keeps_plain, keeps_subject};
+use crate::rules::may_use;
 use crate::tested::Tested;
 use deftable::Bytes;
 use shellword::HereText;
 use std::alloc::{AllocError, Global};
-use syntax::{Case, Plain, Stmt, Subject};
+use syntax::{Case, Declares, Effect, Question, Stmt, Subject, uses_asked, uses_of};
 
 /// Returns whether the statements keep the rules, and adds what they test.
 #[cycle(list)]
@@ -74,7 +74,7 @@ fn first_of(names: &[Bytes]) -> &[Bytes]
     &names[..names.len().min(1)]
 }
 
-/// Returns whether the cases of a choice keep the rules, whose subject tests these names, and adds the names.
+/// Returns whether the cases of a choice keep the rules, whose question tests these names, and adds the names.
 #[cycle(list)]
 fn keeps_asked(
     own: Option<&[u8]>,
@@ -96,24 +96,51 @@ fn keeps_asked(
     Ok(true)
 }
 
+/// Returns whether a choice of a question keeps the rules, and adds what the question tests.
+#[cycle(list)]
+fn keeps_question(
+    own: Option<&[u8]>,
+    tested: &mut Tested,
+    declares: &Declares,
+    question: &Question,
+    cases: &[Case],
+) -> Result<bool, AllocError>
+    ensures value { IfOk result (λ b. (rest : Script)
+        → decide.resumable (option_map (λ x. x.now) own.entry) tested.old (Choice declares.now (Asked question.now) (cases_of cases.now) rest)
+        ≡ b && decide.resumable (option_map (λ x. x.now) own.entry) tested.new rest) }
+    ensures grown { OnOk result (Extends tested.old tested.new) }
+{
+    let uses = uses_asked(tested.alloc(), question)?;
+    if !may_use(own, tested, &uses) {
+        return Ok(false);
+    }
+    keeps_asked(own, tested, uses.tests.as_slice(), cases)
+}
+
 /// Returns whether a choice keeps the rules, and adds what its subject tests.
 #[cycle(list)]
 fn keeps_choice(
     own: Option<&[u8]>,
     tested: &mut Tested,
+    declares: &Declares,
     subject: &Subject,
     cases: &[Case],
 ) -> Result<bool, AllocError>
     ensures value { IfOk result (λ b. (rest : Script)
-        → decide.resumable (option_map (λ x. x.now) own.entry) tested.old (Choice subject.now (cases_of cases.now) rest)
+        → decide.resumable (option_map (λ x. x.now) own.entry) tested.old (Choice declares.now subject.now (cases_of cases.now) rest)
         ≡ b && decide.resumable (option_map (λ x. x.now) own.entry) tested.new rest) }
     ensures grown { OnOk result (Extends tested.old tested.new) }
 {
-    if !keeps_subject(own, tested, subject) {
-        return Ok(false);
+    match subject {
+        Subject::Nothing => keeps_cases(own, tested, cases),
+        Subject::Word(word) => {
+            if !reads_text(tested, word.parts()) {
+                return Ok(false);
+            }
+            keeps_cases(own, tested, cases)
+        }
+        Subject::Asked(question) => keeps_question(own, tested, declares, question, cases),
     }
-    let names = tests_at(tested.alloc(), subject)?;
-    keeps_asked(own, tested, names.as_slice(), cases)
 }
 
 /// Returns whether AC_CACHE_CHECK keeps the rules, and adds its name.
@@ -141,17 +168,22 @@ fn keeps_check(
 }
 
 /// Returns whether a statement with no statements in it keeps the rules, and adds what it tests.
-fn keeps_simple(own: Option<&[u8]>, tested: &mut Tested, plain: &Plain) -> Result<bool, AllocError>
+fn keeps_simple(
+    own: Option<&[u8]>,
+    tested: &mut Tested,
+    declares: &Declares,
+    effect: &Effect,
+) -> Result<bool, AllocError>
     ensures value { IfOk result (λ b. (rest : Script)
-        → decide.resumable (option_map (λ x. x.now) own.entry) tested.old (Then plain.now rest)
+        → decide.resumable (option_map (λ x. x.now) own.entry) tested.old (Then declares.now effect.now rest)
         ≡ b && decide.resumable (option_map (λ x. x.now) own.entry) tested.new rest) }
     ensures grown { OnOk result (Extends tested.old tested.new) }
 {
-    if !keeps_plain(own, tested, plain) {
+    let uses = uses_of(tested.alloc(), declares, effect)?;
+    if !may_use(own, tested, &uses) {
         return Ok(false);
     }
-    let names = tests_of(tested.alloc(), plain)?;
-    tested.add_all(names.as_slice())?;
+    tested.add_all(uses.tests.as_slice())?;
     Ok(true)
 }
 
@@ -164,8 +196,12 @@ fn keeps(own: Option<&[u8]>, tested: &mut Tested, statement: &Stmt) -> Result<bo
     ensures grown { OnOk result (Extends tested.old tested.new) }
 {
     match statement {
-        Stmt::Plain(plain) => keeps_simple(own, tested, plain),
-        Stmt::Choose { subject, cases } => keeps_choice(own, tested, subject, cases.as_slice()),
+        Stmt::Do { declares, effect } => keeps_simple(own, tested, declares, effect),
+        Stmt::Choose {
+            declares,
+            subject,
+            cases,
+        } => keeps_choice(own, tested, declares, subject, cases.as_slice()),
         Stmt::CacheCheck {
             message,
             name,

@@ -7,14 +7,13 @@
 //!
 //! `AC_CHECK_FUNCS([f])` and then `AS_IF([test "$ac_cv_func_f" = yes], ..)` keeps them. In the other order it doesn't.
 //!
-//! Read `tested` (the table), `reads` (what is read), `names` (what is tested), `rules` (one statement), and `deciding` (lists
-//! of statements), which has the answer.
+//! Read `tested` (the table), `reads` (what is read), `rules` (what one statement or question uses, as `syntax::Uses` says it),
+//! and `deciding` (lists of statements), which has the answer.
 //!
 //! Every function that returns a `Result` fails only if memory runs out.
 #![tactic(auto)]
 
 mod deciding;
-pub mod names;
 mod reads;
 mod rules;
 mod tested;

@@ -3,15 +3,16 @@
 ghost use Rattle.std.specs.Prelude.{◌≡◌, ◌&&◌};
 ghost use Rattle.std.specs.List.{list_all};
 ghost use Rattle.syntax.specs.Decide as decide;
+ghost use Rattle.syntax.specs.Uses.{texts_read};
 ghost use Rattle.testorder.specs.Tested as rules;
 
 use crate::tested::Tested;
 use deftable::is_cache_name;
-use shellword::{Condition, Element, HereText, Joint, Part, Test};
-use syntax::{Program, When};
+use shellword::{Condition, Element, Joint, Part, Test};
+use syntax::{Reads, When};
 
 /// Returns whether the name may be read: it is no cache name, or it was tested.
-pub(crate) fn may_read(tested: &Tested, name: &[u8]) -> bool
+fn may_read(tested: &Tested, name: &[u8]) -> bool
     ensures { result ≡ decide.may_read tested.now name.now }
 {
     !is_cache_name(name) || tested.has(name)
@@ -39,13 +40,15 @@ pub(crate) fn reads_text(tested: &Tested, text: &[Part]) -> bool
     reads_parts(tested, text)
 }
 
-/// Returns whether each variable of a text may be read, if there is a text.
-pub(crate) fn reads_if_given(tested: &Tested, text: &Option<HereText>) -> bool
-    ensures { result ≡ decide.reads_if_given tested.now text.now }
+/// Returns whether each variable of each text may be read.
+pub(crate) fn reads_all(tested: &Tested, reads: Reads<'_>) -> bool
+    ensures { result ≡ decide.reads_all tested.now (texts_read reads.entry) }
 {
-    match text {
-        None => true,
-        Some(text) => reads_text(tested, text.parts()),
+    match reads {
+        Reads::Nothing => true,
+        Reads::Variable(name) => may_read(tested, name.as_slice()),
+        Reads::Text(text) => reads_text(tested, text),
+        Reads::Texts(first, second) => reads_text(tested, first) && reads_text(tested, second),
     }
 }
 
@@ -82,18 +85,6 @@ fn reads_test(tested: &Tested, test: &Test) -> bool
 {
     let (first, rest) = test.elements();
     reads_first(tested, first, rest)
-}
-
-/// Returns whether each variable of a program's text may be read.
-pub(crate) fn reads_program(tested: &Tested, program: &Program) -> bool
-    ensures { result ≡ decide.reads_program tested.now program.now }
-{
-    match program {
-        Program::Program { prologue, body } => {
-            reads_text(tested, prologue.parts()) && reads_text(tested, body.parts())
-        }
-        Program::Source { text } => reads_text(tested, text.parts()),
-    }
 }
 
 /// Returns whether each variable that decides about a case may be read.

@@ -2,9 +2,9 @@
 
 use crate::shell_words::{put_here, put_word};
 use acparse::{Help, OutputList};
-use deftable::Texts;
+use deftable::{Name, Texts};
 use shellword::HereText;
-use syntax::{Entries, Listed, MessageKind, Plain};
+use syntax::{Declares, Effect, Entries, Listed, Message, OptionKind, OutputKind, ProgramValue};
 use testrows::Page;
 use testrows::escaped::{put_bracketed, put_text};
 
@@ -69,101 +69,155 @@ fn put_otherwise(page: &mut Page, otherwise: &Option<HereText>) {
     }
 }
 
-/// Puts a statement that looks for programs.
-fn put_search(page: &mut Page, statement: &Plain) {
-    match statement {
-        Plain::ProgCc { programs } => {
-            page.put(b"compiler");
-            put_each(page, programs);
-        }
-        Plain::CheckProg {
-            variable,
-            program,
-            found,
-            otherwise,
-        } => {
-            page.put(b"program ");
-            page.put(variable.as_slice());
-            put_bracketed(page, program.as_slice());
-            page.put(b" found");
-            put_here(page, found);
-            put_otherwise(page, otherwise);
-        }
-        Plain::CheckProgs {
-            variable,
-            programs,
-            otherwise,
-        } => {
-            page.put(b"programs ");
-            page.put(variable.as_slice());
-            put_each(page, programs);
-            put_otherwise(page, otherwise);
-        }
-        Plain::PathProg {
-            variable,
-            program,
-            otherwise,
-        } => {
-            page.put(b"path ");
-            page.put(variable.as_slice());
-            put_bracketed(page, program.as_slice());
-            put_otherwise(page, otherwise);
-        }
-        _ => {}
+/// Returns the word for a kind of option.
+pub fn option_word(kind: OptionKind) -> &'static [u8] {
+    match kind {
+        OptionKind::Feature => b"feature ",
+        OptionKind::Package => b"package ",
     }
 }
 
-/// Puts a statement that sets something.
-fn put_setting(page: &mut Page, statement: &Plain) {
-    match statement {
-        Plain::Assign { name, value } => {
-            page.put(name.as_slice());
-            page.put(b"=");
-            put_word(page, value);
+/// Puts what a statement declares.
+fn put_declared(page: &mut Page, declares: &Declares) {
+    match declares {
+        Declares::Nothing => page.put(b"accepted"),
+        Declares::Begin => page.put(b"begin"),
+        Declares::End => page.put(b"end"),
+        Declares::Outputs { kind, outputs } => {
+            page.put(match kind {
+                OutputKind::File => b"files",
+                OutputKind::Header => b"config headers",
+            });
+            put_files(page, outputs);
         }
-        Plain::Subst { name } => {
+        Declares::Variable { name } => {
             page.put(b"subst ");
             page.put(name.as_slice());
         }
-        Plain::SubstValue { name, value } => {
-            page.put(b"subst ");
-            page.put(name.as_slice());
-            page.put(b"=");
-            put_word(page, value);
-        }
-        Plain::Define { name, value } => {
-            page.put(b"define ");
-            page.put(name.as_slice());
-            put_bracketed(page, value.as_slice());
-        }
-        Plain::DefineUnquoted { name, value } => {
-            page.put(b"define unquoted ");
-            page.put(name.as_slice());
-            put_here(page, value);
-        }
-        Plain::ArgVar { name, help } => {
+        Declares::Precious { name, help } => {
             page.put(b"precious ");
             page.put(name.as_slice());
             put_bracketed(page, help.as_slice());
         }
-        _ => {}
+        Declares::Compiler => page.put(b"tools"),
+        Declares::Option {
+            kind,
+            variable,
+            help,
+        } => {
+            page.put(option_word(*kind));
+            page.put(variable.as_slice());
+            put_help(page, help);
+        }
     }
 }
 
-/// Returns the word for a kind of message.
-fn word_of(kind: MessageKind) -> &'static [u8] {
-    match kind {
-        MessageKind::Checking => b"checking",
-        MessageKind::Results => b"results",
-        MessageKind::Notice => b"notice",
-        MessageKind::Warning => b"warning",
+/// Returns whether this variable is declared.
+fn is_declared(declares: &Declares, variable: &Name) -> bool {
+    match declares {
+        Declares::Variable { name } => name.as_slice() == variable.as_slice(),
+        Declares::Compiler => variable.as_slice() == b"CC".as_slice(),
+        _ => false,
     }
 }
 
-/// Puts a statement on one line, without its newline.
-pub fn put_plain(page: &mut Page, statement: &Plain) {
-    match statement {
-        Plain::Init {
+/// Returns whether the words of an effect say what is declared.
+fn is_said(declares: &Declares, effect: &Effect) -> bool {
+    match effect {
+        Effect::Package { .. } => matches!(declares, Declares::Begin),
+        Effect::Complete => matches!(declares, Declares::End),
+        Effect::Search { variable, .. } | Effect::Searches { variable, .. } => {
+            is_declared(declares, variable)
+        }
+        Effect::Assign { name, .. } => {
+            matches!(declares, Declares::Nothing) || is_declared(declares, name)
+        }
+        _ => matches!(declares, Declares::Nothing),
+    }
+}
+
+/// Puts a search of one program.
+fn put_search(
+    page: &mut Page,
+    variable: &Name,
+    program: &[u8],
+    value: &ProgramValue,
+    otherwise: &Option<HereText>,
+) {
+    page.put(match value {
+        ProgramValue::Text(_) => b"program ",
+        ProgramValue::FullName => b"path ",
+    });
+    page.put(variable.as_slice());
+    put_bracketed(page, program);
+    if let ProgramValue::Text(text) = value {
+        page.put(b" found");
+        put_here(page, text);
+    }
+    put_otherwise(page, otherwise);
+}
+
+/// Puts a search of several programs.
+fn put_searches(
+    page: &mut Page,
+    declares: &Declares,
+    variable: &Name,
+    programs: &Texts,
+    otherwise: &Option<HereText>,
+) {
+    if let Declares::Compiler = declares {
+        page.put(b"compiler");
+    } else {
+        page.put(b"programs ");
+        page.put(variable.as_slice());
+    }
+    put_each(page, programs);
+    put_otherwise(page, otherwise);
+}
+
+/// Returns the word for a message.
+fn word_of(message: Message) -> &'static [u8] {
+    match message {
+        Message::Checking => b"checking",
+        Message::Results => b"results",
+        Message::Notice => b"notice",
+        Message::Warning => b"warning",
+        Message::Error => b"error",
+    }
+}
+
+/// Puts what a statement does, and its declaration if it has the same words.
+fn put_effect(page: &mut Page, declares: &Declares, effect: &Effect) {
+    match effect {
+        Effect::Nothing => {}
+        Effect::Assign { name, value } => {
+            if is_declared(declares, name) {
+                page.put(b"subst ");
+            }
+            page.put(name.as_slice());
+            page.put(b"=");
+            put_word(page, value);
+        }
+        Effect::Define { name, value } => {
+            page.put(b"define ");
+            page.put(name.as_slice());
+            put_bracketed(page, value.as_slice());
+        }
+        Effect::DefineText { name, value } => {
+            page.put(b"define unquoted ");
+            page.put(name.as_slice());
+            put_here(page, value);
+        }
+        Effect::Print { message, text } => {
+            page.put(word_of(*message));
+            put_here(page, text);
+        }
+        Effect::Stop { text, status } => {
+            page.put(b"error ");
+            page.put_shown(status);
+            put_here(page, text);
+        }
+        Effect::Package {
             title,
             version,
             bug,
@@ -177,39 +231,35 @@ pub fn put_plain(page: &mut Page, statement: &Plain) {
             put_bracketed(page, tarname.as_slice());
             put_bracketed(page, url.as_slice());
         }
-        Plain::Accepted => page.put(b"accepted"),
-        Plain::Output => page.put(b"output"),
-        Plain::ConfigFiles { outputs } => {
-            page.put(b"files");
-            put_files(page, outputs);
-        }
-        Plain::ConfigHeaders { outputs } => {
-            page.put(b"config headers");
-            put_files(page, outputs);
-        }
-        Plain::Message { kind, message } => {
-            page.put(word_of(*kind));
-            put_here(page, message);
-        }
-        Plain::Error { message, status } => {
-            page.put(b"error ");
-            page.put_shown(status);
-            put_here(page, message);
-        }
-        Plain::Assign { .. }
-        | Plain::Subst { .. }
-        | Plain::SubstValue { .. }
-        | Plain::Define { .. }
-        | Plain::DefineUnquoted { .. }
-        | Plain::ArgVar { .. } => put_setting(page, statement),
-        Plain::ProgCc { .. }
-        | Plain::CheckProg { .. }
-        | Plain::CheckProgs { .. }
-        | Plain::PathProg { .. } => put_search(page, statement),
-        Plain::Batch {
+        Effect::Search {
+            variable,
+            program,
+            value,
+            otherwise,
+        } => put_search(page, variable, program.as_slice(), value, otherwise),
+        Effect::Searches {
+            variable,
+            programs,
+            otherwise,
+        } => put_searches(page, declares, variable, programs, otherwise),
+        Effect::Batch {
             listed,
             entries,
             includes,
         } => put_batch(page, *listed, entries, includes),
+        Effect::Complete => page.put(b"output"),
     }
+}
+
+/// Puts what a statement declares and what it does on one line, without its newline. What is declared has no words of its
+/// own if those of the effect say it.
+pub fn put_plain(page: &mut Page, declares: &Declares, effect: &Effect) {
+    if let Effect::Nothing = effect {
+        return put_declared(page, declares);
+    }
+    if !is_said(declares, effect) {
+        put_declared(page, declares);
+        page.put(b" and ");
+    }
+    put_effect(page, declares, effect);
 }

@@ -1,11 +1,13 @@
 //! A source in words: a line for each statement, with those in it indented, and then its lists that are not empty.
 
-use crate::plain_words::{put_each, put_entries, put_files, put_help, put_includes, put_plain};
+use crate::plain_words::{
+    option_word, put_each, put_entries, put_files, put_help, put_includes, put_plain,
+};
 use crate::shell_words::{put_here, put_patterns, put_test, put_word};
 use acparse::{Case, Help, Source, Stmt, Subject, When};
 use deftable::SubstList;
 use shellword::HereText;
-use syntax::{Listed, OptionKind, Program, Question, Sought, Try};
+use syntax::{Declares, Listed, Program, Question, Sought, Try};
 use testrows::Page;
 use testrows::escaped::{put_bracketed, put_count, put_indent};
 
@@ -72,20 +74,15 @@ fn put_linked(page: &mut Page, question: &Question) {
     }
 }
 
-/// Puts a question on one line, without its newline.
-pub fn put_question(page: &mut Page, question: &Question) {
+/// Puts a question on one line, without its newline. The help of an option is declared.
+pub fn put_question(page: &mut Page, declares: &Declares, question: &Question) {
     match question {
-        Question::Given {
-            kind,
-            variable,
-            help,
-        } => {
-            page.put(match kind {
-                OptionKind::Feature => b"feature ",
-                OptionKind::Package => b"package ",
-            });
+        Question::Given { kind, variable } => {
+            page.put(option_word(*kind));
             page.put(variable.as_slice());
-            put_help(page, help);
+            if let Declares::Option { help, .. } = declares {
+                put_help(page, help);
+            }
         }
         Question::Tries { kind, program } => {
             page.put(match kind {
@@ -120,14 +117,14 @@ pub fn put_question(page: &mut Page, question: &Question) {
     }
 }
 
-fn put_subject(page: &mut Page, subject: &Subject) {
+fn put_subject(page: &mut Page, declares: &Declares, subject: &Subject) {
     match subject {
         Subject::Nothing => page.put(b"if"),
         Subject::Word(word) => {
             page.put(b"case ");
             put_word(page, word);
         }
-        Subject::Asked(question) => put_question(page, question),
+        Subject::Asked(question) => put_question(page, declares, question),
     }
 }
 
@@ -170,12 +167,16 @@ pub fn put_statements(page: &mut Page, depth: usize, statements: &[Stmt]) {
     for statement in statements {
         put_indent(page, depth);
         match statement {
-            Stmt::Plain(plain) => {
-                put_plain(page, plain);
+            Stmt::Do { declares, effect } => {
+                put_plain(page, declares, effect);
                 page.put(b"\n");
             }
-            Stmt::Choose { subject, cases } => {
-                put_subject(page, subject);
+            Stmt::Choose {
+                declares,
+                subject,
+                cases,
+            } => {
+                put_subject(page, declares, subject);
                 page.put(b"\n");
                 put_cases(page, depth.saturating_add(1), cases.as_slice());
             }

@@ -8,7 +8,7 @@ use std::test::Fail;
 use testrows::{Call, Page, cut, try_rows};
 
 /// `text` and two texts with a comma between them: the length of the first and whether it is empty, a copy of it, and how the
-/// copy compares with the second. `name` and a text: whether it has the form of a name, and the name that it becomes.
+/// copy compares with the second. `name` and a text: whether it has the form of a name, and a copy of the name that it becomes.
 const TEXTS: &[u8] = b"
 text a\0\xff,a\0\xff => 3 no [a\0\xff] same
 text a,a\0\xff => 1 no [a] before
@@ -70,12 +70,20 @@ pub fn text_of(page: &mut Page, text: &[u8]) -> Bytes {
         .unwrap_or(Bytes::new(alloc))
 }
 
+fn copied_name(alloc: Global, name: &Name) -> Result<Name, AllocError> {
+    let copy = name.copy(alloc)?;
+    Name::from_slice(alloc, copy.as_slice())
+}
+
 fn put_name(page: &mut Page, text: &[u8]) {
     page.put_yes(is_shell_name(text));
     page.put(b" ");
-    match Name::new(text_of(page, text)) {
-        Some(name) => page.put_text(name.as_slice()),
-        None => page.put(b"none"),
+    let Some(name) = Name::new(text_of(page, text)) else {
+        return page.put(b"none");
+    };
+    let alloc = page.alloc();
+    if let Some(copy) = page.given(copied_name(alloc, &name)) {
+        page.put_text(copy.as_slice());
     }
 }
 

@@ -67,15 +67,15 @@ pub read_question-returns-in_err-cases : goal.read_question-returns-in_err-cases
 read_question-returns-in_err-cases t c =
     let p = err_from_is_err_and c.from_residual-in_err-cases.result c.from_residual-in_err-cases.ensures.1 in
     record {
-      value = rw (p.1, p.2) (asked_fails c.in_err-cases.field-0.0 (body_of c.args.room (list_kind_of c.args.list_kind)) c.args.m _ _ _ _ _ c.in_ok-question.ensures.value c.in_ok-question.ensures.after c.action_args.ensures c.in_err-cases.ensures.value);
+      value = rw (p.1, p.2) (asked_fails c.in_err-cases.field-0.0 (body_of c.args.room (list_kind_of c.args.list_kind)) c.args.m _ _ _ _ _ c.in_ok-declares.ensures.value c.in_ok-declares.ensures.after c.action_args.ensures c.in_err-cases.ensures.value);
       after = rw p.1 tt;
     }
 
 pub read_question-returns-clause-value : goal.read_question-returns-clause-value
 read_question-returns-clause-value t c =
     subst (Gives (λ s. script_of (s ∷ [])) c.asked_with.result)
-    (sym (asked_rest (body_of c.args.room (list_kind_of c.args.list_kind)) c.args.m _ _ _ _ _ _ c.in_ok-question.ensures.value c.in_ok-question.ensures.after c.action_args.ensures c.in_ok-cases.ensures.value))
+    (sym (asked_rest (body_of c.args.room (list_kind_of c.args.list_kind)) c.args.m _ _ _ _ _ _ c.in_ok-declares.ensures.value c.in_ok-declares.ensures.after c.action_args.ensures c.in_ok-cases.ensures.value))
     c.asked_with.ensures
 
 pub read_question-returns-clause-after : goal.read_question-returns-clause-after
-read_question-returns-clause-after t c = asked_with_known _ _ _ _ _ _ c.asked_with.result c.in_ok-question.ensures.after c.in_ok-cases.ensures.after c.asked_with.ensures
+read_question-returns-clause-after t c = asked_with_known _ _ _ _ _ _ _ c.asked_with.result c.in_ok-declares.ensures.after c.in_ok-cases.ensures.after c.asked_with.ensures

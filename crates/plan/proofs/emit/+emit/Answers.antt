@@ -14,7 +14,7 @@ emit_statement-returns-in-Choose t c =
     let s = c.in-Choose in
     subst (λ l. OnOk c.emit_choice.result (c.emit_choice.new.code ≡ l ++ c.args.code.now))
     (ap (λ l. code_each (rounds_of s.subject) (code_of_cases (cases_of l))) c.as_slice.ensures.value
-    ∙ sym (code_choice c.args.statement.now s.subject s.cases s.is))
+    ∙ sym (code_choice c.args.statement.now s.declares s.subject s.cases s.is))
     c.emit_choice.ensures
 
 pub emit_statement-returns-in-CacheCheck : goal.emit_statement-returns-in-CacheCheck

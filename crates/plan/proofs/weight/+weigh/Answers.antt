@@ -16,11 +16,11 @@ weigh_statement-returns-in_default-clause-exceeds t c =
 
 pub weigh_statement-returns-in-Choose-clause-fits : goal.weigh_statement-returns-in-Choose-clause-fits
 weigh_statement-returns-in-Choose-clause-fits t c =
-    choose_some _ _ _ _ _ _ _ c.in-Choose.is c.as_slice.ensures.value (omega (arith, c.in-Some.ensures)) c.weigh_choice.ensures.fits
+    choose_some _ _ _ _ _ _ _ _ c.in-Choose.is c.as_slice.ensures.value (omega (arith, c.in-Some.ensures)) c.weigh_choice.ensures.fits
 
 pub weigh_statement-returns-in-Choose-clause-exceeds : goal.weigh_statement-returns-in-Choose-clause-exceeds
 weigh_statement-returns-in-Choose-clause-exceeds t c =
-    choose_none _ _ _ _ _ _ _ c.in-Choose.is c.as_slice.ensures.value (omega (arith, c.in-Some.ensures)) c.weigh_choice.ensures.exceeds
+    choose_none _ _ _ _ _ _ _ _ c.in-Choose.is c.as_slice.ensures.value (omega (arith, c.in-Some.ensures)) c.weigh_choice.ensures.exceeds
 
 pub weigh_statement-returns-in-CacheCheck-clause-fits : goal.weigh_statement-returns-in-CacheCheck-clause-fits
 weigh_statement-returns-in-CacheCheck-clause-fits t c =

@@ -10,7 +10,7 @@ pub returns-in-Do-clause-acts : goal.returns-in-Do-clause-acts
 returns-in-Do-clause-acts c =
     let about = c.args.about.now in let tests = c.args.tests.now in let st = c.args.store.now in let now = c.execute.new in
     subst (λ s. Act s c.execute.result about now.about tests tests st now.store) (sym c.in-Do.is)
-    (continued_ok c.execute.result now.about tests now.store (own_run c.in-Do.statement.now about st) _ (λ next. refl) c.execute.ensures.leads)
+    (continued_ok c.execute.result now.about tests now.store (own_run c.in-Do.effect.now about st) _ (λ next. refl) c.execute.ensures.leads)
 
 pub returns-in-Subject-clause-acts : goal.returns-in-Subject-clause-acts
 returns-in-Subject-clause-acts c =

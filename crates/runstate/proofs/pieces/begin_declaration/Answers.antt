@@ -1,4 +1,4 @@
-use Rattle.std.proofs.Common.{ap, sym, ◌++◌, ◌∙◌, codes, append_assoc, subst, ◌≡◌, OnOk}
+use Rattle.std.proofs.Common.{sym, ◌++◌, codes, append_assoc, subst, ◌≡◌, OnOk}
 use Rattle.deftable.specs.declared.note.Stream.TheVariants.{Out}
 use Rattle.meaning.specs.State.{told}
 use Rattle.runstate.proofs.pieces.begin_declaration.Goals as goal

@@ -5,7 +5,7 @@ use Rattle.testorder.proofs.deciding.+list.Goals as goal
 
 pub keeps-returns-in-Choose-clause-value : goal.keeps-returns-in-Choose-clause-value
 keeps-returns-in-Choose-clause-value t c =
-    choice_found _ _ _ c.keeps_choice.result _ _ _ _ c.in-Choose.is c.as_slice.ensures.value c.keeps_choice.ensures.value
+    choice_found _ _ _ c.keeps_choice.result _ _ _ _ _ c.in-Choose.is c.as_slice.ensures.value c.keeps_choice.ensures.value
 
 pub keeps-returns-in-CacheCheck-clause-value : goal.keeps-returns-in-CacheCheck-clause-value
 keeps-returns-in-CacheCheck-clause-value t c =
