@@ -18,8 +18,10 @@ use Rattle.options.specs.Precious.{checked}
 use Rattle.options.specs.declared.settings.Settings.{Settings}
 use Rattle.plan.specs.Weight.{heaviest, weight}
 use Rattle.plan.specs.declared.fault.PlanFault.TheVariants.{TooLong}
+use Rattle.syntax.specs.Commands.{HasCommands}
 use Rattle.syntax.specs.Lists.{lists_of}
 use Rattle.syntax.specs.Script.{Script}
+use Rattle.syntax.specs.TestNames.{HasTestNames}
 use Rattle.restarts.specs.Calls.{Given, follows}
 
 pub bind_ok : {A B F : Type 0} (r : Result A F) (f : A → Result B F) (y : B) → (r >>= f) ≡ Ok y → (x : A) × ((r ≡ Ok x) × (f x ≡ Ok y))
@@ -52,9 +54,15 @@ start_of given settings old left = record {
   notes = settings.notes ++ left.1;
 }
 
+-- What each source that can be read keeps.
+pub record HaveForms : Type 0 where
+  pub commands : (text : List ℕ) (script : Script) → source_of text ≡ Ok script → HasCommands script
+  pub names : (text : List ℕ) (script : Script) → source_of text ≡ Ok script → HasTestNames script
+
 -- How the call was accepted; with another cache it is accepted if that one is read, and the check
 -- leaves the same.
 pub record Way (given : Given) (cache : Option (List ℕ)) (script : Script) (start : Start) : Type 0 where
+  pub source : source_of given.source ≡ Ok script
   pub settings : Settings
   pub old : List Setting
   pub left : Entries × List Note
@@ -153,6 +161,7 @@ way_by : (given : Given) (cache : Option (List ℕ)) (script final : Script) (st
 way_by given cache script final start same read u light settings settles shows starts =
     let s = start_steps given cache script settings start starts in
     record {
+      source = named_ok of_parse (source_of given.source) script read;
       settings = settings;
       old = s.old;
       left = s.left;

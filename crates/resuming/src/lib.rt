@@ -5,7 +5,8 @@
 //! `specs/Joint.antt` (the joint replies of a run that was cut and of a second one), `specs/Alone.antt` and
 //! `specs/Same.antt` (what is asked of tests that may leave their names unset), and then `specs/Law.antt`.
 //! `specs/Plays.antt` has the same law for whole runs. `specs/Opening.antt` is about the cache text that leads from the first
-//! to the second, and `specs/Asked.antt` about the tests that a run makes. Which replies cut a run is a law of `laws`.
+//! to the second, and `specs/Asked.antt` about the tests that a run makes, each with its jobs. Which replies cut a run is a
+//! law of `laws`.
 //!
 //! For example, say that a source checks the header `a.h` and then the function `f`, and that the first child answers and
 //! the second can't be started. The cache then has `ac_cv_header_a_h`. A second run that begins with it, and whose first
