@@ -1,21 +1,20 @@
 -- Why no precious variable may be a mark of another one: with AC_ARG_VAR([ac_cv_env_CC_value]) and
 -- then AC_ARG_VAR([CC]), a second call with the saved cache begins with another value of CC than the
 -- first one did.
-use Rattle.std.proofs.Common.{◌≡◌, ℕ, ◌<◌, ◌≤◌, true, false, List, [], ◌∷◌, length, map, Option, Some, None, Result, Ok, Err, refl, sym, ap, ◌∙◌, subst, arith}
-use Rattle.std.specs.Prelude.{codes, is_some, nat_le}
+use Rattle.std.proofs.Common.{◌≡◌, ℕ, ◌<◌, ◌≤◌, Bool, true, false, List, [], ◌∷◌, length, map, Option, Some, None, Result, Ok, Err, refl, sym, ap, ◌∙◌, arith}
+use Rattle.std.specs.Prelude.{◌||◌, codes, is_some, nat_le}
 use Rattle.std.proofs.lemmas.Bool.Decides.{Decides-ltb}
 use Rattle.acparse.specs.Profile.{source_of}
 use Rattle.cachefile.proofs.Orders.{Entries}
 use Rattle.cachefile.proofs.Texts.{setting_of}
-use Rattle.cachefile.specs.Cache.{entry_of, lines_from, cache_of, vars_after, limit}
-use Rattle.cachefile.specs.Line.{rest_after, before_brace, sets_nothing, front_word, default_setting, assigned_setting, assignment, guarded_setting, setting_of as setting_in, line_of}
+use Rattle.cachefile.specs.Cache.{limit}
+use Rattle.cachefile.specs.Line.{Setting}
 use Rattle.cachefile.specs.Name.{is_mark}
 use Rattle.cachefile.specs.Text.{line_for, saved_value, saved_entries, cache_text_of}
-use Rattle.cachefile.specs.Word.{step, value_from, word_of}
+use Rattle.cachefile.specs.Word.{word_of}
 use Rattle.commandline.specs.Arguments.{value_in, rest_after as rest_of, switch_of, switches, install_directory_of, target_of, package_of, choice_of, said_with_value, dashed_of, read_argument, given}
 use Rattle.commandline.specs.CommandLine.{key_of, Switched}
 use Rattle.commandline.specs.Directories.{directories, variable_of, default_of, directory_named}
-use Rattle.commandline.specs.Kept.{kept_from}
 use Rattle.commandline.specs.Slashes.{unslashed, without_slashes}
 use Rattle.commandline.specs.declared.argument.Switch.TheVariants.{ConfigCache}
 use Rattle.crew_trait.specs.Events.{Account}
@@ -24,9 +23,8 @@ use Rattle.deftable.specs.NameList.{with_name, has_name}
 use Rattle.deftable.specs.Table.{value_of, with_entry, without_entry}
 use Rattle.deftable.specs.declared.note.Note.{Note}
 use Rattle.engine.specs.Configured.{IsMeant, report_of}
-use Rattle.engine.specs.Judged.{judged}
-use Rattle.framing.specs.Faults.{of_parse, named, ◌>>=◌, wants}
-use Rattle.framing.specs.Given.{Accepted, Starts, present, started, accepted as accept}
+use Rattle.framing.specs.Faults.{of_precious, named, wants}
+use Rattle.framing.specs.Given.{Accepted, Starts, old_of, present}
 use Rattle.framing.specs.declared.fault.Fault.{Fault}
 use Rattle.framing.specs.declared.fault.Fault.TheVariants.{Plan}
 use Rattle.framing.specs.declared.inputs.Start.{Start}
@@ -39,6 +37,7 @@ use Rattle.options.specs.Opening.{cache_named, source_directory, setters, set_by
 use Rattle.options.specs.Precious.{old_value, blanks_note, restored, restored_variable, restored_from, checked}
 use Rattle.options.specs.Unrecognized.{after_comma, listed, warning, notes_of}
 use Rattle.options.specs.declared.fault.PreciousFault.{PreciousFault}
+use Rattle.options.specs.declared.settings.Settings.{Settings}
 use Rattle.plan.specs.Weight.{heaviest, weight}
 use Rattle.plan.specs.declared.fault.PlanFault.TheVariants.{TooLong}
 use Rattle.proberun.specs.Outcomes as run
@@ -51,9 +50,11 @@ use Rattle.syntax.specs.Script.{Script, Done, Then}
 use Rattle.syntax.specs.declared.statement.Declares.TheVariants as declares
 use Rattle.syntax.specs.declared.statement.Effect.TheVariants.{Nothing, Package, Complete}
 use Rattle.textcut.specs.Cuts.{parts_by, parts, fields}
-use Rattle.restarts.specs.Calls.{Given, follows, IsOwnCache, no_cache}
+use Rattle.restarts.specs.Calls.{Given, follows, IsOwnCache, no_cache, HasPlainPrecious, Saved}
 use Rattle.restarts.specs.Second.{StartsAgain}
 use Rattle.restarts.proofs.Example.{none_yet, end_at}
+use Rattle.restarts.proofs.Judging.{settled, comparison, start_of, AreThere, follows_so}
+use Rattle.restarts.proofs.Starting.{old_again}
 
 -- AC_INIT([a],[1]), AC_ARG_VAR([ac_cv_env_CC_value],[help]), AC_ARG_VAR([CC],[help]) and AC_OUTPUT.
 abbrev script : Script
@@ -72,29 +73,66 @@ environment = (codes "ac_cv_env_CC_value", codes "cc  -O") ∷ (codes "CC", code
 abbrev call : List ℕ → Given
 call source = record { source = source; arguments = codes "-C" ∷ []; environment = environment; templates = [] }
 
--- ---- the first call, without a cache
+abbrev settings : Settings
+settings = run_settings precious (set_by (setters environment (Switched ConfigCache ∷ []))) (Switched ConfigCache ∷ []) []
 
-abbrev begin_vars : Entries
-begin_vars = finished precious (set_by (setters environment (Switched ConfigCache ∷ [])))
+settles : (source : List ℕ) → settled script (call source) ≡ Ok settings
+unfolding cache_named source_directory setters set_by is_declared opened_by opening after_comma listed warning notes_of value_in rest_of switch_of switches install_directory_of target_of package_of choice_of said_with_value dashed_of read_argument given key_of directories variable_of default_of directory_named unslashed without_slashes after value_of with_entry with_name has_name parts_by parts fields
+settles source = refl
+
+-- What calls compute with.
+on_values : Unit {0}
+unfolding cache_named source_directory setters set_by with_unslashed with_marks finished run_settings directories variable_of default_of directory_named unslashed without_slashes value_of with_entry without_entry effect meaning parts_by parts fields escaped initialised is_mark has_cv is_cache_name line_for word_of old_value blanks_note restored restored_variable restored_from checked present after with_name has_name
+on_values = tt
+
+light : wants (nat_le (weight script) heaviest) (Plan TooLong) ≡ Ok tt
+light = refl
+
+shows : settings.help || settings.version ≡ false
+unfolding on_values
+shows = refl
+
+there : AreThere (call []) script settings
+unfolding on_values
+there = refl
+
+-- ---- the check of precious variables
+
+abbrev is_ok : Result (Entries × List Note) PreciousFault → Bool
+is_ok (Ok after) = true
+is_ok (Err fault) = false
 
 abbrev left : Result (Entries × List Note) PreciousFault → Entries × List Note
 left (Ok after) = after
 left (Err fault) = ([], [])
 
-abbrev start_with : Entries → List Note → Start
-start_with vars notes = record { cache_name = Some (codes "config.cache"); srcdir = codes "."; no_create = false; args = codes "-C" ∷ []; vars = vars; notes = notes }
+left_is : (r : Result (Entries × List Note) PreciousFault) → is_ok r ≡ true → named of_precious r ≡ Ok (left r)
+left_is (Ok after) e = refl
+left_is (Err fault) e = cc
+
+-- What it leaves, with these settings of a cache.
+abbrev found : List Setting → Result (Entries × List Note) PreciousFault
+found cache = checked precious settings.vars cache
+
+compares : (cache : List Setting) → is_ok (found cache) ≡ true → comparison script settings cache ≡ Ok (left (found cache))
+unfolding after with_name has_name
+compares cache e = left_is (found cache) e
+
+-- ---- the first call, without a cache
 
 abbrev start : Start
-start = start_with (left (checked precious begin_vars [])).0 (left (checked precious begin_vars [])).1
+start = start_of (call []) settings [] (left (found []))
+
+first_found : is_ok (found []) ≡ true
+unfolding on_values
+first_found = refl
+
+first_read : old_of settings.cache_name None ≡ Ok []
+unfolding on_values
+first_read = refl
 
 first_accepted : (source : List ℕ) → source_of source ≡ Ok script → follows (call source) None ≡ Ok (Starts script start)
-unfolding judged present started accept cache_named source_directory setters set_by with_unslashed with_marks finished is_declared run_settings opened_by opening old_value blanks_note restored restored_variable restored_from checked after_comma listed warning notes_of value_in rest_of switch_of switches install_directory_of target_of package_of choice_of said_with_value dashed_of read_argument given key_of directories variable_of default_of directory_named kept_from unslashed without_slashes after value_of with_entry without_entry with_name has_name parts_by parts fields
-first_accepted source read = ap (λ r. named of_parse r >>= λ s. wants (nat_le (weight s) heaviest) (Plan TooLong) >>= λ _. accept (call source).arguments (call source).environment None [] s) read
-
--- What the run and the check compute with.
-on_values : Unit {0}
-unfolding cache_named source_directory setters set_by with_unslashed with_marks finished is_declared run_settings opened_by opening directories variable_of default_of directory_named value_of with_entry without_entry effect meaning parts_by parts fields escaped initialised is_mark has_cv is_cache_name line_for word_of old_value blanks_note restored restored_variable restored_from checked
-on_values = tt
+first_accepted source read = follows_so (call source) None script settings [] (left (found [])) read light (settles source) shows there first_read (compares [] first_found)
 
 abbrev first_run : Played
 first_run = played script (opened start.vars) []
@@ -122,13 +160,17 @@ ran = record {
   failures = refl;
 }
 
+is_named : is_some start.cache_name ≡ true
+unfolding on_values
+is_named = refl
+
 small : length (cache_text_of first_run.state.vars) < limit
 unfolding on_values
 small = (Decides-ltb (length (cache_text_of first_run.state.vars)) limit).0 refl
 
 -- ---- the law without the premise
 
--- All that `Saved` says of a call, but for the precious variables.
+-- All that `Saved` says of a call, but for its precious variables.
 record SavedBut (given : Given) (cache : Option (List ℕ)) (window : ℕ) (script : Script) (start : Start) (before now : Account) (report : Report) : Type 0 where
   pub accepted : follows given cache ≡ Ok (Starts script start)
   pub meant : IsMeant window script start before now report
@@ -136,6 +178,17 @@ record SavedBut (given : Given) (cache : Option (List ℕ)) (window : ℕ) (scri
   pub named : is_some start.cache_name ≡ true
   pub own : IsOwnCache cache
   pub small : length (cache_text_of report.vars) ≤ limit
+
+with_premise : (given : Given) (cache : Option (List ℕ)) (window : ℕ) (script : Script) (start : Start) (before now : Account) (report : Report) → SavedBut given cache window script start before now report → HasPlainPrecious script
+    → Saved given cache window script start before now report
+with_premise given cache window script start before now report s plain = record {
+  accepted = s.accepted;
+  meant = s.meant;
+  form = record { resumable = s.resumable; precious = plain };
+  named = s.named;
+  own = s.own;
+  small = s.small;
+}
 
 abbrev SecondCallStartsAnyway : Type 0
 SecondCallStartsAnyway = (given : Given) (cache : Option (List ℕ)) (window : ℕ) (script : Script) (start : Start) (before now : Account) (report : Report)
@@ -146,22 +199,28 @@ saved source read = record {
   accepted = first_accepted source read;
   meant = record { end = end; ran = ran; told = refl };
   resumable = ((tt, (tt, tt)), ((tt, (tt, tt)), ((tt, (tt, tt)), ((tt, (tt, tt)), tt))));
-  named = refl;
+  named = is_named;
   own = no_cache;
   small = (let few = small in omega (arith, few));
 }
 
 -- ---- the second call
 
+abbrev cache : List Setting
+cache = map setting_of (saved_entries first_run.state.vars)
+
 abbrev second : Start
-second =
-    let cache = map setting_of (saved_entries first_run.state.vars) in
-    let after = left (checked precious begin_vars cache) in
-    start_with (vars_after cache after.0) after.1
+second = start_of (call []) settings cache (left (found cache))
+
+second_found : is_ok (found cache) ≡ true
+unfolding on_values
+second_found = refl
 
 second_accepted : (source : List ℕ) → source_of source ≡ Ok script → follows (call source) (Some (cache_text_of first_run.state.vars)) ≡ Ok (Starts script second)
-unfolding on_values judged present started accept after_comma listed warning notes_of value_in rest_of switch_of switches install_directory_of target_of package_of choice_of said_with_value dashed_of read_argument given key_of kept_from unslashed without_slashes after with_name has_name entry_of lines_from cache_of rest_after before_brace sets_nothing front_word default_setting assigned_setting assignment guarded_setting setting_in line_of step value_from
-second_accepted source read = ap (λ r. named of_parse r >>= λ s. wants (nat_le (weight s) heaviest) (Plan TooLong) >>= λ _. accept (call source).arguments (call source).environment (Some (cache_text_of first_run.state.vars)) [] s) read
+second_accepted source read =
+    let few = small in
+    follows_so (call source) (Some (cache_text_of first_run.state.vars)) script settings cache (left (found cache)) read light (settles source) shows there
+    (old_again settings.cache_name first_run.state.vars is_named (omega (arith, few))) (compares cache second_found)
 
 -- CC is not saved, and has another value at each start.
 value_first : poured (saved_value (codes "CC") (value_of report.vars (codes "CC"))) (value_of start.vars (codes "CC")) ≡ Some (codes "cc -O")

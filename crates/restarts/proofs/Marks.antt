@@ -1,13 +1,12 @@
 -- Precious variables, by their marks: if these are as before, so is what the check of precious
 -- variables finds.
-use Rattle.std.proofs.Common.{◌≡◌, ℕ, ◌+◌, Bool, true, false, cond, ◌||◌, List, [], ◌∷◌, ◌++◌, map, Option, Some, None, Result, Ok, Err, inl, inr, refl, sym, ap, ◌∙◌, subst}
-use Rattle.std.specs.Prelude.{bytes_eq, codes, fold, is_some, option_map, option_to_list, unwrap_or, if◌then◌else◌}
+use Rattle.std.proofs.Common.{◌≡◌, ℕ, ◌+◌, Bool, true, false, cond, List, [], ◌∷◌, ◌++◌, map, Option, Some, None, Result, Ok, Err, inl, refl, sym, ap, ◌∙◌, subst}
+use Rattle.std.specs.Prelude.{bytes_eq, fold, is_some, option_map, option_to_list, unwrap_or, if◌then◌else◌}
 use Rattle.std.specs.List.{AllByRecursion}
-use Rattle.std.proofs.lemmas.Slice.Eq.{bytes_eq-Decides}
 use Rattle.cachefile.specs.Cache.{vars_after}
 use Rattle.cachefile.specs.Line.{Setting}
 use Rattle.cachefile.specs.Name.{is_mark}
-use Rattle.cachefile.proofs.Orders.{Entries, decided}
+use Rattle.cachefile.proofs.Orders.{Entries}
 use Rattle.commandline.specs.Directories.{directories}
 use Rattle.deftable.specs.NameList.{has_name}
 use Rattle.deftable.specs.Table.{value_of, with_entry, HasDistinctNames}

@@ -12,7 +12,7 @@ use Rattle.framing.specs.declared.fault.Fault.{Fault}
 use Rattle.framing.specs.declared.report.Outcome.{Outcome}
 use Rattle.framing.specs.declared.report.Report.{Report}
 use Rattle.meaning.specs.Play.{first_refused}
-use Rattle.meaning.specs.State.{How, Completed, Stopped, Cut, opened}
+use Rattle.meaning.specs.State.{How, Stopped, Cut, opened}
 use Rattle.outputs.specs.declared.artifact.Artifact.{Artifact}
 use Rattle.proberun.specs.Outcomes as run
 use Rattle.proberun.specs.Ran.{outcome_from}

@@ -68,7 +68,7 @@ old_entries (Some name) (Some text) old (saved_cache vars) e =
     let same = sym (text_read vars (read_within (cache_text_of vars) old read)) ∙ read in
     record { entries = saved_entries vars; distinct = saved_distinct vars; saved = all_saved_entries vars; are = (let h : map setting_of (saved_entries vars) ≡ old = cc in sym h) }
 
-old_again : (name : Option (List ℕ)) (vars : Entries) → is_some name ≡ true → length (cache_text_of vars) ≤ limit → old_of name (Some (cache_text_of vars)) ≡ Ok (map setting_of (saved_entries vars))
+pub old_again : (name : Option (List ℕ)) (vars : Entries) → is_some name ≡ true → length (cache_text_of vars) ≤ limit → old_of name (Some (cache_text_of vars)) ≡ Ok (map setting_of (saved_entries vars))
 old_again None vars is_named small = cc
 old_again (Some name) vars is_named small = ap (λ r. named of_cache r) (text_read vars small)
 
@@ -153,7 +153,7 @@ second_call_starts forms given cache window script start before now report h =
     let with_vars : Start → Start = λ s. record second { vars = s.vars } in
     record {
       second = second;
-      accepted = w.again (Some (cache_text_of report.vars)) more reads checks;
+      accepted = w.again (Some (cache_text_of report.vars)) more w.left reads checks;
       same = ap with_vars w.is ∙ sym w.is;
       poured = record {
         defs = refl;

@@ -1,6 +1,6 @@
 -- In a source that can be resumed, each share is of a test.
-use Rattle.std.proofs.Common.{◌≡◌, ℕ, suc, List, [], ◌∷◌, ◌++◌, length, take, drop, Bool, true, false, cond, Option, Some, None, refl, sym, ap, ◌∙◌, subst, ⊎_elim, map}
-use Rattle.std.specs.Prelude.{is_some, flat_map, option_to_list}
+use Rattle.std.proofs.Common.{◌≡◌, ℕ, List, [], ◌∷◌, Bool, true, false, cond, Option, Some, None, refl, map}
+use Rattle.std.specs.Prelude.{is_some}
 use Rattle.std.specs.List.{AllByRecursion}
 use Rattle.jobs.specs.declared.job.Job.{Job}
 use Rattle.crew_trait.specs.declared.reply.Reply.{Reply}
@@ -11,28 +11,21 @@ use Rattle.syntax.specs.declared.listed.Sought.{Sought}
 use Rattle.syntax.specs.declared.statement.Declares.{Declares}
 use Rattle.syntax.specs.declared.statement.Effect.{Effect}
 use Rattle.syntax.specs.declared.statement.Effect.TheVariants as effects
-use Rattle.syntax.specs.declared.statement.Question.{Question}
 use Rattle.syntax.specs.declared.statement.Question.TheVariants as questions
 use Rattle.syntax.specs.declared.statement.Question.TheVariants.{Given, Tries, Checks, ChecksEach}
 use Rattle.syntax.specs.declared.tree.Subject.{Subject}
 use Rattle.syntax.specs.declared.tree.Subject.TheVariants.{Nothing, Word, Asked}
-use Rattle.syntax.specs.Resumable.{Among, MayTry, MayUse, Resumable, ResumableIn, ResumableSubject}
+use Rattle.syntax.specs.Resumable.{MayTry, Resumable, ResumableIn, ResumableSubject}
 use Rattle.syntax.specs.Script.{Script, Done, Then, Choice, Check, Cases, No_case, Case}
-use Rattle.syntax.specs.TestNames.{entry_name}
 use Rattle.syntax.specs.Uses.{Uses, uses_of, uses_asked}
-use Rattle.meaning.specs.State.{State, Scope, no_choice, about, answered, Goes_on, Completed, Run, Ends, Asks, as_is}
+use Rattle.meaning.specs.State.{State, Scope, no_choice, about, Run, as_is}
 use Rattle.meaning.specs.Tests.{checking}
-use Rattle.meaning.specs.Batches.{Batch, job_for, asking}
-use Rattle.meaning.specs.Meaning.{effect, asked, begun, rounds_of, in_turn, is_taken, check, meaning, chosen}
-use Rattle.laws.specs.Cached.{IsSet}
+use Rattle.meaning.specs.Batches.{Batch, asking}
+use Rattle.meaning.specs.Meaning.{effect, asked, begun, rounds_of, in_turn, is_taken, meaning, chosen}
 use Rattle.laws.specs.Questions.{yes_or_no}
-use Rattle.laws.proofs.BatchLemmas.{no_job_set}
-use Rattle.laws.proofs.Statements.{AllSteps, cached_holds, effect_holds, asked_holds, begun_holds, turns_hold, meaning_holds, chosen_holds}
-use Rattle.laws.proofs.Kept.{Keeps, KeepsFrom, all_keep, stays_set}
-use Rattle.resuming.specs.Poured.{poured}
 use Rattle.resuming.specs.Joint.{checks}
-use Rattle.resuming.specs.Asked.{Share, jobs_asked, made, first_share, use_shares, entry_shares, effect_shares, shares_after, shares_answered, subject_shares, turn_shares, owned, shares, case_shares, IsOfTest, SharesAreTests, AsksNoSaved}
-use Rattle.resuming.proofs.EachShare.{Each, each_both, each_either, each_after, each_answered, each_owned, each_test, Always, always}
+use Rattle.resuming.specs.Asked.{Share, jobs_asked, made, first_share, use_shares, entry_shares, effect_shares, shares_answered, subject_shares, turn_shares, owned, shares, case_shares, IsOfTest, SharesAreTests}
+use Rattle.resuming.proofs.EachShare.{Each, each_both, each_either, each_after, each_answered, each_owned, Always, always}
 
 tests_made_of : (o : Option (List ℕ)) (l : List Share) → Each IsOfTest l → Each IsOfTest (made o l)
 tests_made_of None l h = h

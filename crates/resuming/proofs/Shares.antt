@@ -9,7 +9,6 @@ use Rattle.deftable.specs.Table.{value_of}
 use Rattle.shellword.specs.declared.part.Part.{Part}
 use Rattle.shellword.specs.Value.{word_value}
 use Rattle.syntax.specs.declared.feature.OptionKind.{OptionKind}
-use Rattle.syntax.specs.declared.listed.Sought.{Sought}
 use Rattle.syntax.specs.declared.listed.Sought.TheVariants as seeks
 use Rattle.syntax.specs.declared.program.Try as kinds
 use Rattle.syntax.specs.declared.program.Try.TheVariants as kinds_are
@@ -24,14 +23,14 @@ use Rattle.syntax.specs.declared.statement.Question.TheVariants as questions
 use Rattle.syntax.specs.declared.statement.Question.TheVariants.{Given, Tries, Checks, ChecksEach}
 use Rattle.syntax.specs.declared.tree.Subject.{Subject}
 use Rattle.syntax.specs.declared.tree.Subject.TheVariants as subjects
-use Rattle.syntax.specs.Script.{Script, Done, Then, Choice, Check, Cases, No_case, Case}
+use Rattle.syntax.specs.Script.{Done, Then, Choice, Check, Cases, No_case, Case}
 use Rattle.syntax.specs.TestNames.{program_name}
 use Rattle.syntax.specs.Uses.{uses_of, uses_asked}
 use Rattle.meaning.specs.State.{State, Scope, no_choice, about, answered, with_child, with_variable, How, Goes_on, Completed, Cut, Run, Ends, Asks, then_run, ended, as_is}
 use Rattle.meaning.specs.Asking.{success, only_reply, heard, child, compiled}
-use Rattle.meaning.specs.Tests.{Row, Test, checking, cached_test, test_by, guarded, broken, tested, tested_by, may_begin, with_result}
+use Rattle.meaning.specs.Tests.{Row, Test, checking, cached_test, test_by, guarded, broken, tested, tested_by, may_begin}
 use Rattle.meaning.specs.Rows.{Kind, Program, Library, Libraries, Single, kind_for, is_found, name_of, value_or_empty, value_if, row_of}
-use Rattle.meaning.specs.Batches.{Batch, jobs_in, asking, asks_all, yes_or_no as yes_or_no_text, with_body, replied, replies_after, commits, committed, batched}
+use Rattle.meaning.specs.Batches.{Batch, jobs_in, asking, asks_all, with_body, replied, replies_after, commits, committed, batched}
 use Rattle.meaning.specs.Play.{first_number, refused_after, last_words}
 use Rattle.meaning.specs.Tries.{first_probe, after_first, text_of}
 use Rattle.meaning.specs.Meaning.{has_value, check_prog, program_test, looks_all, effect, value_name, given, found_by, asked, begun, rounds_of, in_turn, is_taken, check, meaning, chosen}

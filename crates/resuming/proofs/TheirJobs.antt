@@ -1,5 +1,5 @@
 -- Each share has the jobs of its own test.
-use Rattle.std.proofs.Common.{◌≡◌, ℕ, suc, List, [], ◌∷◌, ◌++◌, Bool, true, false, cond, Option, Some, None, refl, sym, ap, ◌∙◌, subst, append_assoc}
+use Rattle.std.proofs.Common.{◌≡◌, ℕ, suc, List, [], ◌∷◌, ◌++◌, true, false, cond, Option, Some, None, refl, sym, ap, ◌∙◌, subst, append_assoc}
 use Rattle.std.specs.Prelude.{is_some}
 use Rattle.std.proofs.lemmas.List.{append-nil}
 use Rattle.jobs.specs.declared.job.Job.{Job}
@@ -21,7 +21,7 @@ use Rattle.syntax.specs.declared.tree.Subject.TheVariants as subjects
 use Rattle.syntax.specs.Commands.{AssignsAlone, TriesAlone, AreCommands, AreCommandsIn, HasCommands, HasCommandsIn}
 use Rattle.syntax.specs.Script.{Script, Done, Then, Choice, Check, Cases, No_case, Case}
 use Rattle.syntax.specs.TestNames.{entry_name, program_name, search_name}
-use Rattle.syntax.specs.Uses.{uses_of, uses_asked}
+use Rattle.syntax.specs.Uses.{uses_asked}
 use Rattle.meaning.specs.State.{State, Scope, no_choice, about, Run, ended, as_is}
 use Rattle.meaning.specs.Tests.{checking, tested}
 use Rattle.meaning.specs.Rows.{Kind, Library, Libraries, kind_for, name_of, row_of}

@@ -1,26 +1,20 @@
 -- A name that is set is not tested.
-use Rattle.std.proofs.Common.{◌≡◌, ℕ, suc, List, [], ◌∷◌, ◌++◌, length, take, drop, Bool, true, false, cond, Option, Some, None, refl, sym, ap, ◌∙◌, subst, ⊎_elim, map}
+use Rattle.std.proofs.Common.{◌≡◌, ℕ, suc, List, [], ◌∷◌, ◌++◌, Option, Some, None, refl, sym, ap, ◌∙◌, subst, ⊎_elim}
 use Rattle.std.specs.Prelude.{is_some, flat_map, option_to_list}
-use Rattle.std.specs.List.{AllByRecursion}
 use Rattle.jobs.specs.declared.job.Job.{Job}
 use Rattle.crew_trait.specs.declared.reply.Reply.{Reply}
 use Rattle.deftable.specs.Table.{value_of}
-use Rattle.shellword.specs.declared.part.Part.{Part}
 use Rattle.shellword.specs.Value.{word_value}
-use Rattle.syntax.specs.declared.listed.Sought.{Sought}
 use Rattle.syntax.specs.declared.statement.Declares.{Declares}
 use Rattle.syntax.specs.declared.statement.Effect.{Effect}
 use Rattle.syntax.specs.declared.statement.Effect.TheVariants as effects
-use Rattle.syntax.specs.declared.statement.Question.{Question}
-use Rattle.syntax.specs.declared.statement.Question.TheVariants as questions
-use Rattle.syntax.specs.declared.statement.Question.TheVariants.{Given, Tries, Checks, ChecksEach}
 use Rattle.syntax.specs.declared.tree.Subject.{Subject}
 use Rattle.syntax.specs.declared.tree.Subject.TheVariants.{Nothing, Word, Asked}
-use Rattle.syntax.specs.Resumable.{Among, MayTry, MayUse, Resumable, ResumableIn, ResumableSubject}
+use Rattle.syntax.specs.Resumable.{Among}
 use Rattle.syntax.specs.Script.{Script, Done, Then, Choice, Check, Cases, No_case, Case}
 use Rattle.syntax.specs.TestNames.{entry_name}
 use Rattle.syntax.specs.Uses.{Uses, uses_of, uses_asked}
-use Rattle.meaning.specs.State.{State, Scope, no_choice, about, answered, Goes_on, Completed, Run, Ends, Asks, as_is}
+use Rattle.meaning.specs.State.{State, Scope, no_choice, about, Run, as_is}
 use Rattle.meaning.specs.Tests.{checking}
 use Rattle.meaning.specs.Batches.{Batch, job_for, asking}
 use Rattle.meaning.specs.Meaning.{effect, asked, begun, rounds_of, in_turn, is_taken, check, meaning, chosen}
@@ -31,8 +25,8 @@ use Rattle.laws.proofs.Statements.{AllSteps, cached_holds, effect_holds, asked_h
 use Rattle.laws.proofs.Kept.{Keeps, KeepsFrom, all_keep, stays_set}
 use Rattle.resuming.specs.Poured.{poured}
 use Rattle.resuming.specs.Joint.{checks}
-use Rattle.resuming.specs.Asked.{Share, jobs_asked, made, first_share, use_shares, entry_shares, effect_shares, shares_after, shares_answered, subject_shares, turn_shares, owned, shares, case_shares, IsOfTest, SharesAreTests, AsksNoSaved}
-use Rattle.resuming.proofs.EachShare.{Each, each_both, each_either, each_after, each_answered, each_owned, each_test, Always, always}
+use Rattle.resuming.specs.Asked.{Share, jobs_asked, made, first_share, use_shares, entry_shares, effect_shares, shares_answered, subject_shares, turn_shares, owned, shares, case_shares, AsksNoSaved}
+use Rattle.resuming.proofs.EachShare.{Each, each_both, each_either, each_after, each_answered, each_owned, each_test}
 use Rattle.resuming.proofs.Names.{same_or_not}
 
 -- ---- names that are set
