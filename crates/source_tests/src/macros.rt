@@ -222,11 +222,7 @@ impl Next<Declarations> for Called<'_> {
         let alloc = page.alloc();
         match self.named {
             Named::Statement(Macro::Plain(m)) => {
-                put_next(
-                    page,
-                    read_plain(alloc, known, m, self.at, self.args),
-                    self,
-                );
+                put_next(page, read_plain(alloc, known, m, self.at, self.args), self);
             }
             Named::Statement(Macro::Question(m)) => {
                 put_next(page, read_question(alloc, known, m, self.args), self);
