@@ -15,8 +15,10 @@ use deftable::Texts;
 use m4quote::{Arg, Item, read_items};
 use std::alloc::{AllocError, Global};
 use std::test::Fail;
-use syntax::uses::{Reads, Uses, uses_asked, uses_of};
-use syntax::{Declarations, Declares, Effect, OptionKind, OutputKind, Question, Stage, Try};
+use syntax::{
+    Declarations, Declares, Effect, OptionKind, OutputKind, Question, Reads, Stage, Try, Uses,
+    uses_asked, uses_of,
+};
 use testrows::{Call, Page, try_rows};
 use testtrees::{put_plain, put_question, put_sought};
 
@@ -222,11 +224,7 @@ impl Next<Declarations> for Called<'_> {
         let alloc = page.alloc();
         match self.named {
             Named::Statement(Macro::Plain(m)) => {
-                put_next(
-                    page,
-                    read_plain(alloc, known, m, self.at, self.args),
-                    self,
-                );
+                put_next(page, read_plain(alloc, known, m, self.at, self.args), self);
             }
             Named::Statement(Macro::Question(m)) => {
                 put_next(page, read_question(alloc, known, m, self.args), self);
