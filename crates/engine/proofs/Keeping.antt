@@ -1,20 +1,23 @@
 -- What the cache of a run holds.
-use Rattle.std.proofs.Common.{◌≡◌, ℕ, Bool, true, false, cond, List, Option, Some, None, refl, sym, ap, subst, ◌∙◌}
+use Rattle.std.proofs.Common.{◌≡◌, ℕ, Bool, true, false, cond, List, Option, Some, None, inr, refl, sym, ap, subst, ◌∙◌}
 use Rattle.std.specs.Prelude.{◌&&◌}
 use Rattle.crew_trait.specs.Events.{Account}
 use Rattle.deftable.specs.CacheName.{is_cache_name}
 use Rattle.deftable.specs.Table.{value_of}
 use Rattle.laws.specs.Deeds.{deeds, Accounts}
 use Rattle.laws.proofs.Accounting.{deeds_account}
+use Rattle.laws.proofs.TestedNames.{tested_names_are_cached}
 use Rattle.meaning.specs.Meaning.{meaning}
 use Rattle.meaning.specs.Play.{Played, play, whole}
 use Rattle.meaning.specs.State.{opened}
+use Rattle.syntax.specs.Commands.{HasCommands}
 use Rattle.syntax.specs.Script.{Script}
+use Rattle.syntax.specs.TestNames.{HasTestNames}
 use Rattle.framing.specs.Handing.{IfNamed, IsCacheOf, is_one_line, saved_value}
 use Rattle.framing.specs.declared.inputs.Start.{Start}
 use Rattle.framing.specs.declared.report.Report.{Report}
 use Rattle.engine.specs.Configured.{IsMeant}
-use Rattle.engine.specs.Kept.{replies_of, IsKept}
+use Rattle.engine.specs.Kept.{replies_of, WasSet, IsThere, IsKept}
 
 some_is : (a b : List ℕ) → Some a ≡ Some b → a ≡ b
 some_is a b e = cc
@@ -38,18 +41,22 @@ is_saved_value name value named one_line =
 
 -- The deeds of a run account for the variables of its report.
 accounted : {window : ℕ} {script : Script} {start : Start} {before now : Account} {report : Report} (meant : IsMeant window script start before now report)
-    → Accounts start.vars (deeds script (opened start.vars) (replies_of meant)) report.vars
-accounted {window} {script} {start} {before} {now} {report} meant =
+    → HasCommands script → Accounts start.vars (deeds script (opened start.vars) (replies_of meant)) report.vars
+accounted {window} {script} {start} {before} {now} {report} meant commands =
     let played : Played = play (whole (meaning script (opened start.vars))) (replies_of meant) in
     let at_end : played.state.vars ≡ report.vars = ap (λ p. p.state.vars) meant.ran.meaning ∙ sym (ap (λ r. r.vars) meant.told) in
     subst (λ vars. Accounts start.vars (deeds script (opened start.vars) (replies_of meant)) vars) at_end
-    (deeds_account script (opened start.vars) (replies_of meant))
+    (deeds_account script (opened start.vars) (replies_of meant) commands)
 
 pub is_kept : {window : ℕ} {script : Script} {start : Start} {before now : Account} {report : Report} (meant : IsMeant window script start before now report)
-    → IsCacheOf report.vars → IsKept window script start before now report
-is_kept {window} {script} {start} {before} {now} {report} meant cache =
-    let accounts = accounted meant in
+    → HasCommands script → HasTestNames script → IsCacheOf report.vars → IsKept window script start before now report
+is_kept {window} {script} {start} {before} {now} {report} meant commands names cache =
+    let accounts = accounted meant commands in
     let text = cache.is_text in
+    let all : (name : List ℕ) → WasSet script start (replies_of meant) name → is_cache_name name ≡ true → IsThere report.vars text.entries name =
+    λ name was_set named.
+    let at_end = accounts.all name was_set in
+    (at_end.0, at_end.1, λ one_line. text.values name ∙ ap (saved_value name) at_end.1 ∙ is_saved_value name at_end.0 named one_line) in
     record {
       meant = meant;
       holds = record {
@@ -59,14 +66,16 @@ is_kept {window} {script} {start} {before} {now} {report} meant cache =
         only = λ name value e.
             let saved = saved_is name value (value_of report.vars name) (sym (text.values name) ∙ e) in
             (accounts.only name (value, saved.1), saved.0, saved.1, saved.2);
-        all = λ name was_set named.
-            let at_end = accounts.all name was_set in
-            (at_end.0, at_end.1, λ one_line. text.values name ∙ ap (saved_value name) at_end.1 ∙ is_saved_value name at_end.0 named one_line);
+        all = all;
+        tested = λ name was_tested.
+            let named = tested_names_are_cached script (opened start.vars) (replies_of meant) name commands names was_tested in
+            (named, all name (inr (inr was_tested)) named);
       };
     }
 
 -- The same, if a cache is named.
 pub kept_if_named : {window : ℕ} {script : Script} {start : Start} {before now : Account} {report : Report} (name : Option (List ℕ))
-    → IsMeant window script start before now report → IfNamed name (IsCacheOf report.vars) → IfNamed name (IsKept window script start before now report)
-kept_if_named None meant cache = tt
-kept_if_named (Some name) meant cache = is_kept meant cache
+    → IsMeant window script start before now report → HasCommands script → HasTestNames script → IfNamed name (IsCacheOf report.vars)
+    → IfNamed name (IsKept window script start before now report)
+kept_if_named None meant commands names cache = tt
+kept_if_named (Some name) meant commands names cache = is_kept meant commands names cache

@@ -1,16 +1,20 @@
 -- What follows from all of a call, clause by clause.
-use Rattle.std.proofs.Common.{◌≡◌, ℕ, List, Option, Some, None, length, Result, Ok, Err, refl, sym, subst, ap, ◌∙◌}
-use Rattle.std.specs.Prelude.{IfOk, IsErrAnd, nat_le}
+use Rattle.std.proofs.Common.{◌≡◌, ℕ, Bool, true, false, List, Option, Some, None, length, Result, Ok, Err, refl, sym, subst, ap, ◌∙◌}
+use Rattle.std.specs.Prelude.{IfOk, IsErrAnd, nat_le, ◌||◌, if◌then◌else◌}
 use Rattle.outputs.specs.Receipt.{Receipt, with_artifacts}
 use Rattle.acparse.specs.Profile.{source_of}
 use Rattle.crew_trait.specs.Events.{Account}
+use Rattle.options.specs.Opening.{opening}
 use Rattle.options.specs.declared.settings.Settings.{Settings}
 use Rattle.plan.specs.Weight.{heaviest, weight}
 use Rattle.plan.specs.declared.fault.PlanFault.TheVariants.{TooLong}
+use Rattle.syntax.specs.Commands.{HasCommands}
+use Rattle.syntax.specs.Lists.{lists_of}
 use Rattle.syntax.specs.Script.{Script}
-use Rattle.framing.specs.Faults.{Fails, ◌>>=◌, named, wants, of_parse}
+use Rattle.syntax.specs.TestNames.{HasTestNames}
+use Rattle.framing.specs.Faults.{Fails, ◌>>=◌, named, wants, of_parse, of_option}
 use Rattle.engine.specs.Judged.{judged}
-use Rattle.framing.specs.Given.{Accepted, Shows, Starts, accepted, seen}
+use Rattle.framing.specs.Given.{Accepted, Shows, Starts, started, accepted, seen}
 use Rattle.engine.specs.Configured.{IsWhole, refused, memory, shown, ran, IsAnswer, IsNotRun, IfStarts, IfReport, IfPutRefused, IsMeant, IsDone, IsCut, HasRunPart, not_begun, artifacts, record_after}
 use Rattle.engine.specs.Kept.{IsKept}
 use Rattle.engine.specs.Remaking.{Remakes}
@@ -41,6 +45,41 @@ judged_second s a e c t script is = judged_first s a e c t ∙ ap (λ r. r >>= a
 pub judged_third : (s : List ℕ) (a : List (List ℕ)) (e : List (List ℕ × List ℕ)) (c : Option (List ℕ)) (t : List (List ℕ × List ℕ)) (script : Script) → named of_parse (source_of s) ≡ Ok script
     → wants (nat_le (weight script) heaviest) (Plan TooLong) ≡ Ok tt → judged s a e c t ≡ accepted a e c t script
 judged_third s a e c t script is fits = judged_second s a e c t script is ∙ ap (λ r. r >>= λ _. accepted a e c t script) fits
+
+bind_ok : {A B F : Type 0} (r : Result A F) (f : A → Result B F) (y : B) → (r >>= f) ≡ Ok y → (x : A) × ((r ≡ Ok x) × (f x ≡ Ok y))
+bind_ok (Ok x) f y e = (x, (refl, e))
+bind_ok (Err g) f y e = absurd cc
+
+named_ok : {A E F : Type 0} (fault : E → F) (r : Result A E) (x : A) → named fault r ≡ Ok x → r ≡ Ok x
+named_ok fault (Ok y) x e = let same : y ≡ x = cc in ap Ok same
+named_ok fault (Err f) x e = absurd cc
+
+abbrev chosen : List (List ℕ) → Option (List ℕ) → List (List ℕ × List ℕ) → Script → Settings → Bool → Result Accepted Fault
+chosen a c t script settings b = if b then Ok (Shows script settings) else (started a c t script settings >>= λ start. Ok (Starts script start))
+
+same_chosen : (a : List (List ℕ)) (c : Option (List ℕ)) (t : List (List ℕ × List ℕ)) (read script : Script) (settings : Settings) (start : Start) (b : Bool) → chosen a c t read settings b ≡ Ok (Starts script start) → read ≡ script
+same_chosen a c t read script settings start true is = absurd cc
+same_chosen a c t read script settings start false is =
+    let begins = bind_ok (started a c t read settings) (λ at. Ok (Starts read at)) (Starts script start) is in
+    let same : Ok (Starts read begins.0) ≡ Ok (Starts script start) = begins.1.1 in cc
+
+is_accepted : (a : List (List ℕ)) (e : List (List ℕ × List ℕ)) (c : Option (List ℕ)) (t : List (List ℕ × List ℕ)) (script : Script)
+    → accepted a e c t script ≡ (named of_option (opening (lists_of script).features (lists_of script).packages (lists_of script).precious a e) >>= λ settings. chosen a c t script settings (settings.help || settings.version))
+unfolding accepted
+is_accepted a e c t script = refl
+
+same_script : (a : List (List ℕ)) (e : List (List ℕ × List ℕ)) (c : Option (List ℕ)) (t : List (List ℕ × List ℕ)) (read script : Script) (start : Start) → accepted a e c t read ≡ Ok (Starts script start) → read ≡ script
+same_script a e c t read script start is =
+    let settles = bind_ok (named of_option (opening (lists_of read).features (lists_of read).packages (lists_of read).precious a e)) (λ settings. chosen a c t read settings (settings.help || settings.version)) (Starts script start)
+    (sym (is_accepted a e c t read) ∙ is) in
+    same_chosen a c t read script settles.0 start (settles.0.help || settles.0.version) settles.1.1
+
+-- The statements of a run are those of the source.
+pub source_is : (s : List ℕ) (a : List (List ℕ)) (e : List (List ℕ × List ℕ)) (c : Option (List ℕ)) (t : List (List ℕ × List ℕ)) (script : Script) (start : Start) → judged s a e c t ≡ Ok (Starts script start) → source_of s ≡ Ok script
+source_is s a e c t script start is =
+    let read = bind_ok (named of_parse (source_of s)) (after_source a e c t) (Starts script start) (sym (judged_first s a e c t) ∙ is) in
+    let light = bind_ok (wants (nat_le (weight read.0) heaviest) (Plan TooLong)) (λ _. accepted a e c t read.0) (Starts script start) read.1.1 in
+    named_ok of_parse (source_of s) read.0 read.1.0 ∙ ap Ok (same_script a e c t read.0 script start light.1.1)
 
 -- ---- the exits
 
@@ -162,10 +201,10 @@ if_named None more p = tt
 if_named (Some name) more p = more p
 
 kept_done : (window : ℕ) (script : Script) (start : Start) (templates : List (List ℕ × List ℕ)) (before now : Account) (old new : Receipt) (result : Result Report Fault)
-    → IsDone window script start templates before now old new result → IfReport result (λ report. IfNamed start.cache_name (IsKept window script start before now report))
-kept_done window script start templates before now old new (Ok report) done = kept_if_named start.cache_name done.0 done.4
-kept_done window script start templates before now old new (Err (PutRefused k report)) done = kept_if_named start.cache_name done.0 done.3
-kept_done window script start templates before now old new (Err f) done = tt
+    → HasCommands script → HasTestNames script → IsDone window script start templates before now old new result → IfReport result (λ report. IfNamed start.cache_name (IsKept window script start before now report))
+kept_done window script start templates before now old new (Ok report) commands names done = kept_if_named start.cache_name done.0 commands names done.4
+kept_done window script start templates before now old new (Err (PutRefused k report)) commands names done = kept_if_named start.cache_name done.0 commands names done.3
+kept_done window script start templates before now old new (Err f) commands names done = tt
 
 read_done : (window : ℕ) (script : Script) (start : Start) (templates : List (List ℕ × List ℕ)) (before now : Account) (old new : Receipt) (result : Result Report Fault)
     → IsDone window script start templates before now old new result → IfReport result (λ report. IfNamed start.cache_name (CacheReadsBack report.vars))
@@ -220,12 +259,20 @@ is_cut same window j templates before now old new result whole =
     (λ script start d. cut_done window script start templates before now old new result d)
     (λ e script start. subst (λ (r : Result Report Fault). IfPutRefused r (λ number report. IsCut (artifacts script start templates report) old new number report)) (sym e) tt)
 
-pub holds_set : (same : Type 0) (window : ℕ) (j : Result Accepted Fault) (templates : List (List ℕ × List ℕ)) (before now : Account) (old new : Receipt) (result : Result Report Fault)
-    → IsWhole same window j templates before now old new result → IfStarts j (λ script start. IfReport result (λ report. IfNamed start.cache_name (IsKept window script start before now report)))
-holds_set same window j templates before now old new result whole =
-    when_starts (λ script start. IfReport result (λ report. IfNamed start.cache_name (IsKept window script start before now report))) same window j templates before now old new result whole
-    (λ script start d. kept_done window script start templates before now old new result d)
-    (λ e script start. subst (λ (r : Result Report Fault). IfReport r (λ report. IfNamed start.cache_name (IsKept window script start before now report))) (sym e) tt)
+-- The cache of a run, if a cache is named.
+abbrev kept_by : ℕ → Account → Account → Result Report Fault → Script → Start → Type 0
+kept_by window before now result script start = IfReport result (λ report. IfNamed start.cache_name (IsKept window script start before now report))
+
+-- It holds what was set, since each source that is read has its forms.
+pub holds_set : (same : Type 0) (window : ℕ) (s : List ℕ) (a : List (List ℕ)) (e : List (List ℕ × List ℕ)) (c : Option (List ℕ)) (t templates : List (List ℕ × List ℕ)) (before now : Account) (old new : Receipt) (result : Result Report Fault)
+    → ((script : Script) → source_of s ≡ Ok script → HasCommands script) → ((script : Script) → source_of s ≡ Ok script → HasTestNames script)
+    → IsWhole same window (judged s a e c t) templates before now old new result → IfStarts (judged s a e c t) (kept_by window before now result)
+holds_set same window s a e c t templates before now old new result commands names (refused is u) = subst (λ j. IfStarts j (kept_by window before now result)) (sym is) tt
+holds_set same window s a e c t templates before now old new result commands names (memory u) = all_starts (kept_by window before now result) (judged s a e c t) (λ script start. tt)
+holds_set same window s a e c t templates before now old new result commands names (shown is u) = subst (λ j. IfStarts j (kept_by window before now result)) (sym is) tt
+holds_set same window s a e c t templates before now old new result commands names (ran {script} {start} is done) =
+    let source = source_is s a e c t script start is in
+    subst (λ j. IfStarts j (kept_by window before now result)) (sym is) (kept_done window script start templates before now old new result (commands script source) (names script source) done)
 
 pub reads_back : (same : Type 0) (window : ℕ) (j : Result Accepted Fault) (templates : List (List ℕ × List ℕ)) (before now : Account) (old new : Receipt) (result : Result Report Fault)
     → IsWhole same window j templates before now old new result → IfStarts j (λ script start. IfReport result (λ report. IfNamed start.cache_name (CacheReadsBack report.vars)))

@@ -1,6 +1,9 @@
 -- Two runs of one source, over crews with the same replies.
-use Rattle.std.specs.Prelude.{◌≡◌, ℕ, List, length}
+use Rattle.std.specs.Prelude.{◌≡◌, ℕ, ◌+◌, ◌-◌, List, [], ◌∷◌, ◌⊎◌, length}
+use Rattle.crew_trait.specs.declared.event.CrewEvent.{CrewEvent}
+use Rattle.crew_trait.specs.declared.event.CrewEvent.TheVariants.{Started, Ended}
 use Rattle.crew_trait.specs.Events.{Account, replies_in}
+use Rattle.jobs.specs.declared.job.Job.{Job}
 use Rattle.meaning.specs.Play.{all_jobs}
 use Rattle.proberun.specs.Agreeing.{Agree}
 use Rattle.syntax.specs.Script.{Script}
@@ -8,9 +11,20 @@ use Rattle.engine.specs.Configured.{IsMeant, artifacts}
 use Rattle.framing.specs.declared.inputs.Start.{Start}
 use Rattle.framing.specs.declared.report.Report.{Report}
 
+-- Of the starts after the first `base`, the n-th one was taken, and has this job. (own)
+abbrev pub HasStart : ℕ → Job → ℕ → List CrewEvent → Type 0
+HasStart n job base [] = ⊥
+HasStart n job base (Started slot its number ∷ events) = ((number ≡ base + n) × (its ≡ job)) ⊎ HasStart n job base events
+HasStart n job base (Ended slot reply number ∷ events) = HasStart n job base events
+
+-- Starts of one number have the same job, if both were taken. (own)
+abbrev pub SameJobs : ℕ → List CrewEvent → ℕ → List CrewEvent → Type 0
+SameJobs base events other_base other_events =
+    (n : ℕ) (job other : Job) → HasStart n job base events → HasStart n other other_base other_events → job ≡ other
+
 -- Two runs of one source from one opening, whose n-th replies are the same for every n that both have, ask for the same groups of
 -- jobs, have the same report but for how much was handed over, and hand over the same, whatever their windows and the orders in
--- which their children end. (own)
+-- which their children end. They attempt as many starts, and starts of one number have the same job. (own)
 abbrev pub ConfiguresAgree : Type 0
 ConfiguresAgree = (script : Script) (start : Start) (window other_window : ℕ) (before now other_before other_now : Account) (report other_report : Report)
     → (one : IsMeant window script start before now report) (other : IsMeant other_window script start other_before other_now other_report)
@@ -18,3 +32,5 @@ ConfiguresAgree = (script : Script) (start : Start) (window other_window : ℕ) 
     → (one.ran.groups ≡ other.ran.groups)
     × (record report { handed = other_report.handed } ≡ other_report)
     × ((templates : List (List ℕ × List ℕ)) → artifacts script start templates report ≡ artifacts script start templates other_report)
+    × (now.attempts - before.attempts ≡ other_now.attempts - other_before.attempts)
+    × SameJobs before.attempts one.ran.since other_before.attempts other.ran.since

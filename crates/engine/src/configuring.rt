@@ -17,6 +17,7 @@ ghost use Rattle.framing.specs.declared.fault.Fault.TheVariants.{OutOfMemory};
 
 use crate::outcome::outcome_of;
 use crate::reading::parsed;
+use acparse::forms::sources_have_forms;
 use crew_trait::Crew;
 use deftable::Bytes;
 use framing::{
@@ -218,9 +219,9 @@ pub fn configure<C: Crew, O: Outputs>(
     // If a put was refused, the artifacts before it were handed over, each whole, and nothing after them.
     ensures cut { IfStarts (judged source.now args.now env.now (option_map (λ c. c.now) cache.entry) templates.now) (λ script start.
         IfPutRefused result (λ number report. IsCut (artifacts script start templates.now report) (O.receipt outputs.old) (O.receipt outputs.new) number report)) }
-    // If a cache is named, its text holds each cache name that was set when the run began, that a
-    // statement assigned, or that a test which came to its end left set, with its value at the end,
-    // unless that has a newline. It holds nothing else.
+    // If a cache is named, its text holds the name of each test that came to its end and left it set,
+    // which is a cache name, and each cache name that was set when the run began or that a statement
+    // assigned, with its value at the end, unless that has a newline. It holds nothing else.
     ensures kept { IfStarts (judged source.now args.now env.now (option_map (λ c. c.now) cache.entry) templates.now) (λ script start.
         IfReport result (λ report. IfNamed start.cache_name (IsKept window script start (C.account crew.old) (C.account crew.new) report))) }
     // That text is read, if it isn't too large, and sets these names again.
@@ -237,6 +238,7 @@ pub fn configure<C: Crew, O: Outputs>(
     ensures idle { IsIdle (C.account crew.new).events }
     ensures landed { in_flight (C.account crew.new).events ≡ in_flight (C.account crew.old).events }
 {
+    sources_have_forms();
     whole(
         alloc, source, args, env, cache, templates, crew, outputs, window,
     )

@@ -19,6 +19,7 @@ use Rattle.syntax.specs.declared.statement.Question.TheVariants as questions
 use Rattle.syntax.specs.declared.statement.Question.TheVariants.{Given, Tries, Checks, ChecksEach}
 use Rattle.syntax.specs.declared.tree.Subject.{Subject}
 use Rattle.syntax.specs.declared.tree.Subject.TheVariants.{Nothing, Word, Asked}
+use Rattle.syntax.specs.Commands.{AreCommands, HasCommands, HasCommandsIn}
 use Rattle.syntax.specs.Script.{Script, Done, Then, Choice, Check, Cases, No_case, Case}
 use Rattle.meaning.specs.State.{State, Scope, no_choice, about, answered, Goes_on, Completed, Cut, Run, Ends, Asks, then_run, ended, as_is, with_child, with_variable}
 use Rattle.meaning.specs.Asking.{success, only_reply, heard, child, compiled}
@@ -29,11 +30,13 @@ use Rattle.meaning.specs.Play.{play, first_number, refused_after, last_words}
 use Rattle.meaning.specs.Tries.{first_probe, after_first, text_of}
 use Rattle.meaning.specs.Meaning.{settled, is_unsettled, has_value, check_prog, looks, looks_all, defaulted, effect, value_name, given, found_by, first_found, begun, rounds_of, in_turn, is_taken, check, meaning, chosen}
 use Rattle.laws.specs.Ends.{AtEnds}
+use Rattle.laws.specs.Commands.{WritesOwn}
 use Rattle.laws.specs.Questions.{yes_or_no}
-use Rattle.laws.specs.Deeds.{Deed, Assigned, kind_deeds, look_deeds, looks_deeds, default_deeds, prefix_deeds, effect_deeds, given_deeds, first_deeds, deeds_answered, subject_deeds, turn_deeds, deeds, case_deeds, Accounts, DeedsAccount}
-use Rattle.laws.proofs.DeedLemmas.{Variables, joined, nothing, ended_there, writes, writes_more, Follow, then_accounts}
-use Rattle.laws.proofs.TestDeeds.{kind_accounts, IsOpen, tested_open}
-use Rattle.laws.proofs.CheckDeeds.{check_accounts}
+use Rattle.laws.specs.Deeds.{Deed, Assigned, kind_deeds, look_deeds, looks_deeds, default_deeds, prefix_deeds, effect_deeds, given_deeds, first_deeds, deeds_answered, subject_deeds, turn_deeds, left_set, check_deeds, deeds, case_deeds, Accounts, DeedsAccount}
+use Rattle.laws.proofs.Endings.{ends_map}
+use Rattle.laws.proofs.CommandLemmas.{OwnOnly, commands_write_alone}
+use Rattle.laws.proofs.DeedLemmas.{Variables, joined, nothing, unchanged, ended_there, writes, writes_more, ends_account, Follow, then_accounts}
+use Rattle.laws.proofs.TestDeeds.{set_deeds, CachedEnds, cached_ends, kind_accounts, IsOpen, tested_open}
 use Rattle.laws.proofs.BatchDeeds.{batch_accounts}
 use Rattle.laws.proofs.Plays.{line_vars}
 
@@ -172,27 +175,38 @@ turns_account [] go did y st rs = nothing st.vars
 turns_account (subject ∷ more) go did y st rs =
     then_accounts (begun as_is subject st go) rs st.vars (subject_deeds subject st rs did) (in_turn more go) (turn_deeds more go did) (subject_accounts subject st rs go did y) (turns_account more go did y)
 
+-- AC_CACHE_CHECK.
+check_accounts : (message : List Part) (name : List ℕ) (commands : Script) (st : State) (rs : List Reply) → AreCommands name commands
+    → Accounts st.vars (check_deeds name st (cached_test (check message name (meaning commands) st) st) rs) (play (cached_test (check message name (meaning commands) st) st) rs).state.vars
+check_accounts message name commands st rs a =
+    let t = check message name (meaning commands) st in
+    let begins = checking t.message st in
+    ends_account (λ how now. CachedEnds name st.vars how now.vars) (cached_test t st) rs st.vars (λ now. left_set name (value_of st.vars name) (value_of now.vars name))
+    (cached_ends t st (ends_map (λ how now. OwnOnly name st now) (λ how now. WritesOwn name st.vars now.vars) (meaning commands begins) (commands_write_alone commands name a begins) (λ how now h. h.0)))
+    (λ now c. set_deeds name st.vars now.vars c.own)
+    (λ how now breaks c. unchanged st.vars now.vars (c.breaks breaks))
+
 -- All statements.
 mutual
   unfolding meaning chosen deeds case_deeds
 
-  meaning_accounts : (script : Script) (st : State) (rs : List Reply) → Accounts st.vars (deeds script st rs) (play (meaning script st) rs).state.vars
-  meaning_accounts Done st rs = nothing st.vars
-  meaning_accounts (Then declares e rest) st rs =
-      then_accounts (effect e st) rs st.vars (effect_deeds e st rs) (meaning rest) (deeds rest) (effect_accounts e st rs) (λ now left. meaning_accounts rest now left)
-  meaning_accounts (Choice declares subject cases rest) st rs =
+  meaning_accounts : (script : Script) (st : State) (rs : List Reply) → HasCommands script → Accounts st.vars (deeds script st rs) (play (meaning script st) rs).state.vars
+  meaning_accounts Done st rs c = nothing st.vars
+  meaning_accounts (Then declares e rest) st rs c =
+      then_accounts (effect e st) rs st.vars (effect_deeds e st rs) (meaning rest) (deeds rest) (effect_accounts e st rs) (λ now left. meaning_accounts rest now left c)
+  meaning_accounts (Choice declares subject cases rest) st rs c =
       then_accounts (in_turn (rounds_of subject) (chosen cases) st) rs st.vars (turn_deeds (rounds_of subject) (chosen cases) (case_deeds cases) st rs) (meaning rest) (deeds rest)
-      (turns_account (rounds_of subject) (chosen cases) (case_deeds cases) (λ scope now left. case_accounts cases scope now left) st rs)
-      (λ now left. meaning_accounts rest now left)
-  meaning_accounts (Check message name commands rest) st rs =
+      (turns_account (rounds_of subject) (chosen cases) (case_deeds cases) (λ scope now left. case_accounts cases scope now left c.0) st rs)
+      (λ now left. meaning_accounts rest now left c.1)
+  meaning_accounts (Check message name commands rest) st rs c =
       then_accounts (cached_test (check message name (meaning commands) st) st) rs st.vars _ (meaning rest) (deeds rest)
-      (check_accounts message name commands st rs (meaning_accounts commands (checking (word_value message st.vars) st) rs))
-      (λ now left. meaning_accounts rest now left)
+      (check_accounts message name commands st rs c.1.0)
+      (λ now left. meaning_accounts rest now left c.1.1)
 
-  case_accounts : (cases : Cases) (scope : Scope) (st : State) (rs : List Reply) → Accounts st.vars (case_deeds cases scope st rs) (play (chosen cases scope st) rs).state.vars
-  case_accounts No_case scope st rs = nothing st.vars
-  case_accounts (Case when body more) scope st rs =
-      either_run (is_taken when scope st.vars) st.vars (deeds body st rs) (case_deeds more scope st rs) (meaning body st) (chosen more scope st) rs (meaning_accounts body st rs) (case_accounts more scope st rs)
+  case_accounts : (cases : Cases) (scope : Scope) (st : State) (rs : List Reply) → HasCommandsIn cases → Accounts st.vars (case_deeds cases scope st rs) (play (chosen cases scope st) rs).state.vars
+  case_accounts No_case scope st rs c = nothing st.vars
+  case_accounts (Case when body more) scope st rs c =
+      either_run (is_taken when scope st.vars) st.vars (deeds body st rs) (case_deeds more scope st rs) (meaning body st) (chosen more scope st) rs (meaning_accounts body st rs c.0) (case_accounts more scope st rs c.1)
 
 last_vars : (before : ℕ) (refused : Option ℕ) (r : Run) (rs : List Reply) → (play (last_words before refused r) rs).state.vars ≡ (play r rs).state.vars
 last_vars before refused (Ends Cut st) rs = line_vars refused st
@@ -201,4 +215,4 @@ last_vars before refused (Asks jobs ask) rs =
     last_vars (before + length jobs) (first_number refused (refused_after before (take (length jobs) rs))) (ask (take (length jobs) rs)) (drop (length jobs) rs)
 
 pub deeds_account : DeedsAccount
-deeds_account script st rs = subst (Accounts st.vars (deeds script st rs)) (sym (last_vars 0 None (meaning script st) rs)) (meaning_accounts script st rs)
+deeds_account script st rs c = subst (Accounts st.vars (deeds script st rs)) (sym (last_vars 0 None (meaning script st) rs)) (meaning_accounts script st rs c)

@@ -1,163 +1,165 @@
 -- What the deeds of a batch account for.
-use Rattle.std.proofs.Common.{◌≡◌, ℕ, suc, Option, Some, None, List, [], ◌∷◌, Bool, true, false, cond, ◌⊎◌, inl, inr, refl, sym, ap, ◌∙◌, subst, ⊎_elim}
-use Rattle.std.specs.Prelude.{bytes_eq, ◌||◌, is_some}
+use Rattle.std.proofs.Common.{◌≡◌, ℕ, suc, Option, Some, None, List, [], ◌∷◌, length, take, drop, Bool, true, false, cond, inl, inr, refl, sym, ap, ◌∙◌, subst, ⊎_elim}
+use Rattle.std.proofs.Math.Path.{fun_ext}
+use Rattle.std.specs.Prelude.{bytes_eq, flat_map, is_some, ◌||◌}
 use Rattle.std.proofs.lemmas.Bool.{cases_Bool}
 use Rattle.jobs.specs.declared.job.Job.{Job}
 use Rattle.crew_trait.specs.declared.reply.Reply.{Reply}
+use Rattle.crew_trait.specs.declared.reply.Reply.TheVariants.{Answer, StartRefused, EndRefused}
 use Rattle.deftable.specs.Table.{value_of}
-use Rattle.syntax.specs.declared.listed.Listed.{Listed}
-use Rattle.meaning.specs.State.{State, Goes_on, Ends, as_is, with_child, with_variable}
-use Rattle.meaning.specs.Asking.{success, only_reply, heard}
-use Rattle.meaning.specs.Tests.{checking, cached_test, tested_by, may_begin, tested}
-use Rattle.meaning.specs.Rows.{entry_name, is_yes}
-use Rattle.meaning.specs.Batches.{Batch, is_known, job_for, asking, jobs_in, yes_or_no, replied, replies_after, committed, batched}
-use Rattle.meaning.specs.Play.{play}
-use Rattle.laws.specs.Ends.{AtEnds}
+use Rattle.meaning.specs.State.{State, How, Run, Ends}
+use Rattle.meaning.specs.Asking.{only_reply}
+use Rattle.meaning.specs.Rows.{entry_name}
+use Rattle.meaning.specs.Batches.{Batch, asking, jobs_in, asks_all, commits, committed, batched}
+use Rattle.meaning.specs.Tests.{tested}
+use Rattle.meaning.specs.Play.{play, first_refused}
 use Rattle.laws.specs.Cached.{IsSet, IsUnset}
-use Rattle.laws.specs.Commands.{WritesOwn}
-use Rattle.laws.specs.Batched.{IsEntry}
-use Rattle.laws.specs.Deeds.{Deed, Assigned, Tested, left_set, batch_deeds, name_in, Among, Accounts}
-use Rattle.laws.proofs.Values.{same_text, apart, cases_value, value_there}
-use Rattle.laws.proofs.Endings.{ends_then, ends_map, ends_commits, ends_asks_all}
-use Rattle.laws.proofs.BatchEntries.{row_at, entry_alone, or_false}
-use Rattle.laws.proofs.DeedLemmas.{Variables, among_left, among_right, among_either, at_play, written_or}
-use Rattle.laws.proofs.BatchLemmas.{none_value}
-use Rattle.laws.proofs.TestDeeds.{TestWrites, CachedEnds, cached_ends}
-use Rattle.std.specs.List.{list_any}
+use Rattle.laws.specs.Batched.{lacks_compiler, answer_to, value_by, cut_by, names_asked}
+use Rattle.laws.specs.Deeds.{Deed, Assigned, Tested, replied_deeds, batch_deeds, Among, Accounts, AnswersAreLeft}
+use Rattle.laws.proofs.Values.{same_text, cond_false, cases_value}
+use Rattle.laws.proofs.BatchEntries.{row_at, by_none}
+use Rattle.laws.proofs.BatchLemmas.{unasked, no_jobs, batch_commits, batch_stops}
+use Rattle.laws.proofs.DeedLemmas.{name_in, among_left, among_right, among_either}
 
--- An entry sets its name alone, which was unset.
-heard_alone : (name : List ℕ) (answer : Option Bool) (st : State) → AtEnds (λ how now. WritesOwn name st.vars now.vars) (heard as_is answer st (λ found now. Ends Goes_on (with_variable name (yes_or_no found) now)))
-heard_alone name None st = inl refl
-heard_alone name (Some b) st = inr (yes_or_no b, refl)
+-- ---- the values that a batch leaves, under any replies
 
-replied_alone : (name : List ℕ) (job : Option Job) (reply : Reply) (st : State) → AtEnds (λ how now. WritesOwn name st.vars now.vars) (replied name job reply st)
-replied_alone name None reply st = inl refl
-replied_alone name (Some job) reply st = heard_alone name (success reply) (with_child job reply st)
+-- The reply to each job; one that is missing is a refused start.
+abbrev heard_of : List (List ℕ × Option Job) → List Reply → List Reply
+heard_of [] rs = []
+heard_of ((entry, None) ∷ more) rs = heard_of more rs
+heard_of ((entry, Some job) ∷ more) rs = only_reply rs ∷ heard_of more (drop 1 rs)
 
-entry_writes : (batch : Batch) (entry : List ℕ) (job : Option Job) (reply : Reply) (first st : State) (b : Bool)
-    → AtEnds (λ how now. TestWrites (entry_name batch.listed entry) st.vars now.vars) (tested_by b (row_at batch entry job reply first) st)
-entry_writes batch entry job reply first st true =
-    let name = entry_name batch.listed entry in
-    let t = (row_at batch entry job reply first).test in
-    ends_then (λ how now. CachedEnds name st.vars how now.vars) (λ how now. TestWrites name st.vars now.vars) (cached_test t st) _
-    (cached_ends t st (replied_alone name job reply (checking t.message st)))
-    (λ now c. subst (TestWrites name st.vars) (sym (entry_alone batch.listed entry (is_yes (value_of now.vars name)) now).vars) c.own)
-    (λ how now breaks c. c.own)
-entry_writes batch entry job reply first st false = inl refl
+as_many : (asks : List (List ℕ × Option Job)) (rs : List Reply) → length (heard_of asks rs) ≡ length (jobs_in asks)
+as_many [] rs = refl
+as_many ((entry, None) ∷ more) rs = as_many more rs
+as_many ((entry, Some job) ∷ more) rs = ap suc (as_many more (drop 1 rs))
 
--- Entries keep what was set, and set no name but theirs.
-record Grown (batch : Batch) (entries : List (List ℕ)) (before now : Variables) : Type 0 where
-  pub keeps : (n v : List ℕ) → value_of before n ≡ Some v → value_of now n ≡ Some v
-  pub only : (n : List ℕ) → IsSet n now → IsSet n before ⊎ IsEntry batch n entries
+same_taken : (asks : List (List ℕ × Option Job)) (rs : List Reply) → heard_of asks (take (length (jobs_in asks)) rs) ≡ heard_of asks rs
+same_taken [] rs = refl
+same_taken ((entry, None) ∷ more) rs = same_taken more rs
+same_taken ((entry, Some job) ∷ more) [] = refl
+same_taken ((entry, Some job) ∷ more) (r ∷ rs) = ap (λ l. r ∷ l) (same_taken more rs)
 
-grown_same : (batch : Batch) (entries : List (List ℕ)) (vars : Variables) → Grown batch entries vars vars
-grown_same batch entries vars = record { keeps = λ n v e. e; only = λ n h. inl h }
+same_answer : (n : List ℕ) (batch : Batch) (asks : List (List ℕ × Option Job)) (rs : List Reply) → answer_to n batch asks (heard_of asks rs) ≡ answer_to n batch asks rs
+same_answer n batch [] rs = refl
+same_answer n batch ((entry, None) ∷ more) rs = same_answer n batch more rs
+same_answer n batch ((entry, Some job) ∷ more) rs =
+    ap (cond (bytes_eq n (entry_name batch.listed entry)) (Some (only_reply rs))) (same_answer n batch more (drop 1 rs))
 
-write_keeps : (name : List ℕ) (before mid : Variables) → TestWrites name before mid → (n v : List ℕ) → value_of before n ≡ Some v → value_of mid n ≡ Some v
-write_keeps name before mid w n v e =
-    ⊎_elim
-    (λ same. ap (λ l. value_of l n) same ∙ e)
-    (λ set. ap (λ l. value_of l n) set.1.1
-    ∙ ⊎_elim
-    (λ t. let z : None ≡ Some v = sym set.1.0 ∙ ap (value_of before) (sym (same_text n name t)) ∙ e in cc)
-    (λ f. value_there before name set.0 n f ∙ e)
-    (cases_Bool (bytes_eq n name)))
-    w
+same_commits : (batch : Batch) (first : State) (asks : List (List ℕ × Option Job)) (rs : List Reply) (refused : Bool) (st : State)
+    → committed batch first asks (heard_of asks rs) refused st ≡ committed batch first asks rs refused st
+same_commits batch first [] rs true st = refl
+same_commits batch first [] rs false st = refl
+same_commits batch first ((entry, None) ∷ more) rs refused st =
+    ap (commits (tested (row_at batch entry None (only_reply rs) first) st) refused) (fun_ext (λ b. fun_ext (λ now. same_commits batch first more rs b now)))
+same_commits batch first ((entry, Some job) ∷ more) rs refused st =
+    ap (commits (tested (row_at batch entry (Some job) (only_reply rs) first) st) refused) (fun_ext (λ b. fun_ext (λ now. same_commits batch first more (drop 1 rs) b now)))
 
-write_only : (name : List ℕ) (before mid : Variables) → TestWrites name before mid → (n : List ℕ) → IsSet n mid → IsSet n before ⊎ (name ≡ n)
-write_only name before mid w n h =
-    ⊎_elim
-    (λ same. inl (h.0, sym (ap (λ l. value_of l n) same) ∙ h.1))
-    (λ set. ⊎_elim (λ e. inr e) (λ k. inl k) (written_or before name set.0 n (h.0, sym (ap (λ l. value_of l n) set.1.1) ∙ h.1)))
-    w
+played_all : (jobs : List Job) (next : List Reply → Run) (rs : List Reply) (how : How) (now : State) → next (take (length jobs) rs) ≡ Ends how now → (play (asks_all jobs next) rs).state ≡ now
+played_all [] next rs how now e = ap (λ run. (play run rs).state) e
+played_all (job ∷ jobs) next rs how now e = ap (λ run. (play run (drop (length (job ∷ jobs)) rs)).state) e
 
-grown_more : (batch : Batch) (entry : List ℕ) (more : List (List ℕ)) (before mid now : Variables) → TestWrites (entry_name batch.listed entry) before mid → Grown batch more mid now → Grown batch (entry ∷ more) before now
-grown_more batch entry more before mid now w g =
-    let name = entry_name batch.listed entry in
-    record {
-      keeps = λ n v e. g.keeps n v (write_keeps name before mid w n v e);
-      only = λ n h. ⊎_elim (λ k. ⊎_elim (λ b. inl b) (λ same. inr (inl same)) (write_only name before mid w n k)) (λ l. inr (inr l)) (g.only n h);
-    }
+unanswered : (n : List ℕ) (batch : Batch) (asks : List (List ℕ × Option Job)) (rs : List Reply) → jobs_in asks ≡ [] → answer_to n batch asks rs ≡ None
+unanswered n batch [] rs e = refl
+unanswered n batch ((entry, None) ∷ more) rs e = unanswered n batch more rs e
+unanswered n batch ((entry, Some job) ∷ more) rs e = cc
 
-committed_grows : (batch : Batch) (first : State) (entries : List (List ℕ)) (place : ℕ) (earlier : List (List ℕ)) (replies : List Reply) (refused : Bool) (st : State)
-    → AtEnds (λ how now. Grown batch entries st.vars now.vars) (committed batch first (asking batch place earlier entries first) replies refused st)
-committed_grows batch first [] place earlier replies true st = grown_same batch [] st.vars
-committed_grows batch first [] place earlier replies false st = grown_same batch [] st.vars
-committed_grows batch first (entry ∷ more) place earlier replies refused st =
-    let name = entry_name batch.listed entry in
-    let job = job_for batch place earlier entry first in
-    let row = row_at batch entry job (only_reply replies) first in
-    let rest = committed batch first (asking batch (suc place) (name ∷ earlier) more first) (replies_after job replies) in
-    ends_commits (λ how now. TestWrites name st.vars now.vars) (λ how now. Grown batch (entry ∷ more) st.vars now.vars) (tested row st) refused rest
-    (entry_writes batch entry job (only_reply replies) first st (may_begin (value_of st.vars name) row.ready))
-    (λ how b mid w. ends_map (λ how now. Grown batch more mid.vars now.vars) (λ how now. Grown batch (entry ∷ more) st.vars now.vars) (rest b mid)
-    (committed_grows batch first more (suc place) (name ∷ earlier) (replies_after job replies) b mid) (λ how now g. grown_more batch entry more st.vars mid.vars now.vars w g))
-    (λ how now w. grown_more batch entry more st.vars now.vars now.vars w (grown_same batch more now.vars))
+abbrev reply_to : List ℕ → Batch → State → List Reply → Option Reply
+reply_to n batch st rs = answer_to n batch (asking batch 1 [] batch.entries st) rs
 
-batched_grows : (batch : Batch) (st : State) → AtEnds (λ how now. Grown batch batch.entries st.vars now.vars) (batched batch st)
-batched_grows batch st =
+value_left : (batch : Batch) (st : State) (rs : List Reply) (n : List ℕ) → value_of (play (batched batch st) rs).state.vars n ≡ value_by (value_of st.vars n) (reply_to n batch st rs)
+value_left batch st rs n =
     let asks = asking batch 1 [] batch.entries st in
-    ends_asks_all (λ how now. Grown batch batch.entries st.vars now.vars) (jobs_in asks) (λ replies. committed batch st asks replies false st)
-    (λ replies. committed_grows batch st batch.entries 1 [] replies false st)
-
--- The deeds are those of names that were unset, and are set.
-in_batch : (listed : Listed) (entries earlier : List (List ℕ)) (st now : State) (d : Deed) → Among d (batch_deeds listed earlier entries st now) → (n : List ℕ) × ((Tested n ≡ d) × (IsUnset n st.vars × IsSet n now.vars))
-in_batch listed [] earlier st now d h = absurd h
-in_batch listed (entry ∷ more) earlier st now d h =
-    let name = entry_name listed entry in
     ⊎_elim
-    (λ l. here name (is_known name earlier st) refl (value_of now.vars name) refl l)
-    (λ r. in_batch listed more (name ∷ earlier) st now d r)
-    (among_either d (cond (is_known name earlier st) [] (left_set name None (value_of now.vars name))) (batch_deeds listed (name ∷ earlier) more st now) h)
-  where
-    here : (name : List ℕ) (known : Bool) → is_known name earlier st ≡ known → (o : Option (List ℕ)) → value_of now.vars name ≡ o → Among d (cond known [] (left_set name None o))
-        → (n : List ℕ) × ((Tested n ≡ d) × (IsUnset n st.vars × IsSet n now.vars))
-    here name true k o e h = absurd h
-    here name false k None e h = absurd h
-    here name false k (Some v) e h =
-        ⊎_elim
-        (λ same. (name, (same, (none_value (value_of st.vars name) (or_false (is_some (value_of st.vars name)) (list_any (bytes_eq name) earlier) k).0, (v, e)))))
-        (λ z. absurd z)
-        h
+    (λ c.
+    let s = batch_stops batch st c in
+    ap (λ run. value_of (play run rs).state.vars n) s.is ∙ ap (λ l. value_of l n) s.vars ∙ by_none (value_of st.vars n)
+    ∙ ap (value_by (value_of st.vars n)) (sym (unanswered n batch asks rs (no_jobs batch batch.entries 1 [] st c))))
+    (λ c.
+    let heard = heard_of asks rs in
+    let end = batch_commits batch st heard c (as_many asks rs) in
+    let taken = take (length (jobs_in asks)) rs in
+    let is : committed batch st asks taken false st ≡ Ends (cut_by (first_refused heard)) end.now =
+    sym (same_commits batch st asks taken false st) ∙ ap (λ l. committed batch st asks l false st) (same_taken asks rs) ∙ end.is in
+    ap (λ now. value_of now.vars n) (played_all (jobs_in asks) (λ replies. committed batch st asks replies false st) rs (cut_by (first_refused heard)) end.now is)
+    ∙ end.value n ∙ ap (value_by (value_of st.vars n)) (same_answer n batch asks rs))
+    (cases_Bool (lacks_compiler st))
 
-batch_has : (batch : Batch) (entries earlier : List (List ℕ)) (st now : State) (n : List ℕ) → IsUnset n st.vars → IsSet n now.vars → list_any (bytes_eq n) earlier ≡ false → IsEntry batch n entries
-    → Among (Tested n) (batch_deeds batch.listed earlier entries st now)
-batch_has batch [] earlier st now n u set new h = absurd h
-batch_has batch (entry ∷ more) earlier st now n u set new h =
+-- ---- the deeds, by the replies
+
+in_some : (d : Deed) (f : List ℕ → List Deed) (names : List (List ℕ)) → Among d (flat_map f names) → (n : List ℕ) × Among d (f n)
+in_some d f [] h = absurd h
+in_some d f (n ∷ names) h = ⊎_elim (λ k. (n, k)) (λ k. in_some d f names k) (among_either d (f n) (flat_map f names) h)
+
+of_asked : (n : List ℕ) (batch : Batch) (asks : List (List ℕ × Option Job)) (rs : List Reply) (reply : Reply) (d : Deed) (f : List ℕ → List Deed) → answer_to n batch asks rs ≡ Some reply → Among d (f n) → Among d (flat_map f (names_asked batch.listed asks))
+of_asked n batch [] rs reply d f e h = cc
+of_asked n batch ((entry, None) ∷ more) rs reply d f e h = of_asked n batch more rs reply d f e h
+of_asked n batch ((entry, Some job) ∷ more) rs reply d f e h =
     let name = entry_name batch.listed entry in
-    let own = cond (is_known name earlier st) [] (left_set name None (value_of now.vars name)) in
-    let later = batch_deeds batch.listed (name ∷ earlier) more st now in
     ⊎_elim
-    (λ t.
-    let same = same_text n name t in
-    let unknown : is_known n earlier st ≡ false = ap (λ o. is_some o || list_any (bytes_eq n) earlier) u ∙ new in
-    let is : own ≡ Tested name ∷ [] =
-    ap (λ b. cond b [] (left_set name None (value_of now.vars name))) (subst (λ q. is_known q earlier st ≡ false) same unknown)
-    ∙ ap (left_set name None) (ap (value_of now.vars) (sym same) ∙ set.1) in
-    among_left (Tested n) own later (subst (Among (Tested n)) (sym is) (inl (ap Tested (sym same)))))
-    (λ f.
-    among_right (Tested n) own later
-    (batch_has batch more (name ∷ earlier) st now n u set (ap (λ b. b || list_any (bytes_eq n) earlier) f ∙ new)
-    (⊎_elim (λ e. absurd (apart n name f (sym e))) (λ k. k) h)))
+    (λ t. among_left d (f name) (flat_map f (names_asked batch.listed more)) (subst (λ q. Among d (f q)) (same_text n name t) h))
+    (λ ne. among_right d (f name) (flat_map f (names_asked batch.listed more))
+    (of_asked n batch more (drop 1 rs) reply d f (sym (cond_false (bytes_eq n name) (Some (only_reply rs)) (answer_to n batch more (drop 1 rs)) ne) ∙ e) h))
     (cases_Bool (bytes_eq n name))
 
-pub batch_accounts : (batch : Batch) (st : State) (rs : List Reply) → Accounts st.vars (batch_deeds batch.listed [] batch.entries st (play (batched batch st) rs).state) (play (batched batch st) rs).state.vars
+-- A deed by a reply is that of a test that got its value.
+record Got (n : List ℕ) (d : Deed) (reply : Option Reply) : Type 0 where
+  is : Tested n ≡ d
+  value : List ℕ
+  by : value_by None reply ≡ Some value
+
+got : (n : List ℕ) (d : Deed) (reply : Option Reply) → Among d (replied_deeds n reply) → Got n d reply
+got n d None h = absurd h
+got n d (Some (Answer status text)) h = record { is = ⊎_elim (λ e. e) (λ z. absurd z) h; value = _; by = refl }
+got n d (Some StartRefused) h = absurd h
+got n d (Some EndRefused) h = absurd h
+
+gets : (n v : List ℕ) (reply : Option Reply) → value_by None reply ≡ Some v → (r : Reply) × ((reply ≡ Some r) × Among (Tested n) (replied_deeds n reply))
+gets n v None e = cc
+gets n v (Some (Answer status text)) e = (Answer status text, (refl, inl refl))
+gets n v (Some StartRefused) e = cc
+gets n v (Some EndRefused) e = cc
+
+abbrev found_in : Batch → State → List Reply → Deed → Type 0
+found_in batch st rs d = (n : List ℕ) × ((Tested n ≡ d) × (IsUnset n st.vars × IsSet n (play (batched batch st) rs).state.vars))
+
+found : (batch : Batch) (st : State) (rs : List Reply) (d : Deed) → Among d (batch_deeds batch st rs) → found_in batch st rs d
+found batch st rs d h =
+    let asks = asking batch 1 [] batch.entries st in
+    let some = in_some d (λ name. replied_deeds name (answer_to name batch asks rs)) (names_asked batch.listed asks) h in
+    let n = some.0 in
+    let own = got n d (reply_to n batch st rs) some.1 in
+    let unset : IsUnset n st.vars =
+    ⊎_elim
+    (λ e. e)
+    (λ v.
+    let none : reply_to n batch st rs ≡ None = unasked batch batch.entries 1 [] st n rs (ap (λ o. is_some o || false) v.1) in
+    let z : None ≡ Some own.value = ap (value_by None) (sym none) ∙ own.by in cc)
+    (cases_value (value_of st.vars n)) in
+    (n, (own.is, (unset, (own.value, value_left batch st rs n ∙ ap (λ o. value_by o (reply_to n batch st rs)) unset ∙ own.by))))
+
+has : (batch : Batch) (st : State) (rs : List Reply) (n : List ℕ) → IsUnset n st.vars → IsSet n (play (batched batch st) rs).state.vars → Among (Tested n) (batch_deeds batch st rs)
+has batch st rs n u set =
+    let asks = asking batch 1 [] batch.entries st in
+    let own = gets n set.0 (reply_to n batch st rs) (ap (λ o. value_by o (reply_to n batch st rs)) (sym u) ∙ sym (value_left batch st rs n) ∙ set.1) in
+    of_asked n batch asks rs own.0 (Tested n) (λ name. replied_deeds name (answer_to name batch asks rs)) own.1.0 own.1.1
+
+pub answers_are_left : AnswersAreLeft
+answers_are_left batch st rs n = (
+  λ h. let d = found batch st rs (Tested n) h in subst (λ q. IsUnset q st.vars × IsSet q (play (batched batch st) rs).state.vars) (ap name_in d.1.0) d.1.1,
+  λ h. has batch st rs n h.0 h.1,
+)
+
+pub batch_accounts : (batch : Batch) (st : State) (rs : List Reply) → Accounts st.vars (batch_deeds batch st rs) (play (batched batch st) rs).state.vars
 batch_accounts batch st rs =
-    let now = (play (batched batch st) rs).state in
-    let g = at_play (λ how now. Grown batch batch.entries st.vars now.vars) (batched batch st) rs (batched_grows batch st) in
-    let found = in_batch batch.listed batch.entries [] st now in
+    let stays : (n v : List ℕ) → value_of st.vars n ≡ Some v → value_of (play (batched batch st) rs).state.vars n ≡ Some v =
+    λ n v e. value_left batch st rs n ∙ ap (λ o. value_by o (reply_to n batch st rs)) e in
     record {
-      only = λ n h. ⊎_elim
-          (λ k. inl k)
-          (λ entry. ⊎_elim (λ u. inr (inr (batch_has batch batch.entries [] st now n u h refl entry))) (λ some. inl some) (cases_value (value_of st.vars n)))
-          (g.only n h);
+      only = λ n h. ⊎_elim (λ u. inr (inr (has batch st rs n u h))) (λ some. inl some) (cases_value (value_of st.vars n));
       all = λ n h. ⊎_elim
-          (λ k. (k.0, g.keeps n k.0 k.1))
-          (λ k. ⊎_elim
-          (λ a. let z = (found (Assigned n) a).1.0 in cc)
-          (λ a. let d = found (Tested n) a in subst (λ q. IsSet q now.vars) (ap name_in d.1.0) d.1.1.1)
-          k)
+          (λ k. (k.0, stays n k.0 k.1))
+          (λ k. ⊎_elim (λ a. let z = (found batch st rs (Assigned n) a).1.0 in cc) (λ a. ((answers_are_left batch st rs n).0 a).1) k)
           h;
-      tested = λ n h. let d = found (Tested n) h in subst (λ q. IsUnset q st.vars) (ap name_in d.1.0) d.1.1.0;
-      keeps = λ n v e no. g.keeps n v e;
+      tested = λ n h. ((answers_are_left batch st rs n).0 h).0;
+      keeps = λ n v e no. stays n v e;
     }

@@ -249,7 +249,7 @@ job_none batch entry place earlier st c =
     either true = refl
     either false = refl
 
-no_jobs : (batch : Batch) (entries : List (List ℕ)) (place : ℕ) (earlier : List (List ℕ)) (st : State) → lacks_compiler st ≡ true → jobs_in (asking batch place earlier entries st) ≡ []
+pub no_jobs : (batch : Batch) (entries : List (List ℕ)) (place : ℕ) (earlier : List (List ℕ)) (st : State) → lacks_compiler st ≡ true → jobs_in (asking batch place earlier entries st) ≡ []
 no_jobs batch [] place earlier st c = refl
 no_jobs batch (entry ∷ more) place earlier st c =
     ap (λ j. jobs_in ((entry, j) ∷ asking batch (suc place) (entry_name batch.listed entry ∷ earlier) more st)) (job_none batch entry place earlier st c)

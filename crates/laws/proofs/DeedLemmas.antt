@@ -9,11 +9,16 @@ use Rattle.meaning.specs.State.{State, How, Goes_on, Run, Ends, Asks, then_run}
 use Rattle.meaning.specs.Play.{play}
 use Rattle.laws.specs.Ends.{AtEnds, Breaks}
 use Rattle.laws.specs.Cached.{IsSet, IsUnset}
-use Rattle.laws.specs.Deeds.{Deed, Assigned, Tested, deeds_after, name_in, Among, ComesFrom, Accounts}
+use Rattle.laws.specs.Deeds.{Deed, Assigned, Tested, deeds_after, Among, ComesFrom, Accounts}
 use Rattle.laws.proofs.Values.{same_text, cases_value, value_here, value_there, set_write}
 
 abbrev pub Variables : Type 0
 Variables = List (List ℕ × List ℕ)
+
+-- The name of a deed.
+abbrev pub name_in : Deed → List ℕ
+name_in (Assigned name) = name
+name_in (Tested name) = name
 
 -- A deed among those of two parts.
 pub among_left : (d : Deed) (a b : List Deed) → Among d a → Among d (a ++ b)
@@ -29,14 +34,14 @@ among_either d [] b h = inr h
 among_either d (e ∷ a) b h = ⊎_elim (λ x. inl (inl x)) (λ k. ⊎_elim (λ l. inl (inr l)) (λ r. inr r) (among_either d a b k)) h
 
 -- Where a name comes from, by both ways.
-pub from_left : (n : List ℕ) (before : Variables) (a b : List Deed) → ComesFrom n before a → ComesFrom n before (a ++ b)
+from_left : (n : List ℕ) (before : Variables) (a b : List Deed) → ComesFrom n before a → ComesFrom n before (a ++ b)
 from_left n before a b h = ⊎_elim (λ k. inl k) (λ k. inr (⊎_elim (λ l. inl (among_left (Assigned n) a b l)) (λ l. inr (among_left (Tested n) a b l)) k)) h
 
 from_right : (n : List ℕ) (before mid : Variables) (a b : List Deed) → (IsSet n mid → ComesFrom n before a) → ComesFrom n mid b → ComesFrom n before (a ++ b)
 from_right n before mid a b first h =
     ⊎_elim (λ k. from_left n before a b (first k)) (λ k. inr (⊎_elim (λ l. inl (among_right (Assigned n) a b l)) (λ l. inr (among_right (Tested n) a b l)) k)) h
 
-pub from_both : (n : List ℕ) (before mid : Variables) (a b : List Deed) → (ComesFrom n before a → IsSet n mid) → ComesFrom n before (a ++ b) → ComesFrom n mid b
+from_both : (n : List ℕ) (before mid : Variables) (a b : List Deed) → (ComesFrom n before a → IsSet n mid) → ComesFrom n before (a ++ b) → ComesFrom n mid b
 from_both n before mid a b first h =
     ⊎_elim
     (λ k. inl (first (inl k)))
@@ -104,10 +109,6 @@ pub writes_more : (before mid : Variables) (a : List Deed) (name value : List �
 writes_more before mid a name value x = joined before mid (with_entry mid name value) a (Assigned name ∷ []) x (writes mid name value)
 
 -- A run, by what holds at its ends.
-pub at_play : (P : How → State → Type 0) (r : Run) (rs : List Reply) → AtEnds P r → P (play r rs).how (play r rs).state
-at_play P (Ends how st) rs h = h
-at_play P (Asks jobs ask) rs h = at_play P (ask (take (length jobs) rs)) (drop (length jobs) rs) (h (take (length jobs) rs))
-
 pub ends_account : (P : How → State → Type 0) (r : Run) (rs : List Reply) (before : Variables) (own : State → List Deed) → AtEnds P r
     → ((st : State) → P Goes_on st → Accounts before (own st) st.vars) → ((how : How) (st : State) → Breaks how → P how st → Accounts before [] st.vars)
     → Accounts before (deeds_after r rs (λ now left. own now)) (play r rs).state.vars

@@ -9,12 +9,12 @@ pub mod LinkLemmas
 pub mod Linking
 pub mod DeedLemmas
 pub mod TestDeeds
-pub mod BatchDeeds
-pub mod CheckDeeds
-pub mod Accounting
-pub mod OtherDeeds
 pub mod BatchEntries
 pub mod BatchLemmas
+pub mod BatchDeeds
+pub mod Accounting
+pub mod Names
+pub mod TestedNames
 pub mod Logged
 pub mod Plays
 pub mod Refusals

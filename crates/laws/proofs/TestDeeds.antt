@@ -12,14 +12,14 @@ use Rattle.meaning.specs.Play.{play}
 use Rattle.laws.specs.Ends.{AtEnds, Breaks}
 use Rattle.laws.specs.Cached.{IsSet, IsUnset}
 use Rattle.laws.specs.Commands.{WritesOwn}
-use Rattle.laws.specs.Deeds.{Deed, Assigned, Tested, left_set, is_added, libs_if, assigned_by, kind_deeds, name_in, Accounts}
+use Rattle.laws.specs.Deeds.{Deed, Assigned, Tested, left_set, is_added, libs_if, assigned_by, kind_deeds, Accounts}
 use Rattle.laws.proofs.Values.{same_text, cases_value, value_here, value_there, set_write, rewritten}
 use Rattle.laws.proofs.Endings.{ends_then, ends_map, ends_attempted}
 use Rattle.laws.proofs.CachedTests.{set_cached, broken_ends, broken_vars}
 use Rattle.laws.proofs.CommandLemmas.{own_unset, row_alone}
 use Rattle.laws.proofs.BatchEntries.{if_alone, entry_alone}
 use Rattle.laws.proofs.LinkLemmas.{put_if, put_other, checked_vars, searched_vars, checked_apart, searched_apart}
-use Rattle.laws.proofs.DeedLemmas.{Variables, nothing, unchanged, from_test, written_or, written_here, writes, writes_more, ends_account}
+use Rattle.laws.proofs.DeedLemmas.{Variables, name_in, nothing, unchanged, from_test, written_or, written_here, writes, writes_more, ends_account}
 
 -- One test.
 tested_more : (before now : Variables) (ds : List Deed) (name : List ℕ) → IsUnset name before → IsSet name now → Accounts before ds now → Accounts before (Tested name ∷ ds) now
@@ -58,7 +58,7 @@ no_deed : (name : List ℕ) (before : Variables) (o : Option (List ℕ)) → Acc
 no_deed name before None = nothing before
 no_deed name before (Some v) = nothing before
 
-set_deeds : (name : List ℕ) (before mid : Variables) → TestWrites name before mid → Accounts before (left_set name (value_of before name) (value_of mid name)) mid
+pub set_deeds : (name : List ℕ) (before mid : Variables) → TestWrites name before mid → Accounts before (left_set name (value_of before name) (value_of mid name)) mid
 set_deeds name before mid own =
     ⊎_elim
     (λ same. subst (λ l. Accounts before (left_set name (value_of before name) (value_of l name)) l) (sym same) (no_deed name before (value_of before name)))

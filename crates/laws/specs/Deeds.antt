@@ -1,30 +1,35 @@
 -- A law of names: what each name that is set at the end of a run comes from.
-use Rattle.std.specs.Prelude.{◌≡◌, ◌||◌, ◌&&◌, ℕ, Bool, true, false, not, List, [], ◌∷◌, ◌++◌, ◌⊎◌, Option, Some, None, bytes_eq, codes, length, take, drop, if◌then◌else◌, option_map}
+use Rattle.std.specs.Prelude.{◌≡◌, ◌↔◌, ◌||◌, ◌&&◌, ℕ, Bool, true, false, not, List, [], ◌∷◌, ◌++◌, ◌⊎◌, Option, Some, None, bytes_eq, codes, length, take, drop, flat_map, if◌then◌else◌, option_map}
+use Rattle.jobs.specs.declared.job.Job.{Job}
 use Rattle.crew_trait.specs.declared.reply.Reply.{Reply}
+use Rattle.crew_trait.specs.declared.reply.Reply.TheVariants.{Answer, StartRefused, EndRefused}
+use Rattle.deftable.specs.CacheName.{is_cache_name}
 use Rattle.deftable.specs.Table.{value_of}
 use Rattle.shellword.specs.declared.part.Part.{Part}
 use Rattle.shellword.specs.Value.{word_value}
 use Rattle.syntax.specs.declared.feature.OptionKind.{OptionKind}
-use Rattle.syntax.specs.declared.listed.Listed.{Listed}
 use Rattle.syntax.specs.declared.listed.Sought.{Sought}
 use Rattle.syntax.specs.declared.statement.Effect.{Effect}
-use Rattle.syntax.specs.declared.statement.Effect.TheVariants.{Assign, Package, Search, Searches, Batch, Complete}
+use Rattle.syntax.specs.declared.statement.Effect.TheVariants as effects
+use Rattle.syntax.specs.declared.statement.Effect.TheVariants.{Assign, Package, Search, Searches, Complete}
 use Rattle.syntax.specs.declared.statement.ProgramValue.TheVariants.{Text, FullName}
 use Rattle.syntax.specs.declared.statement.Question as asks
 use Rattle.syntax.specs.declared.statement.Question.TheVariants as questions
 use Rattle.syntax.specs.declared.statement.Question.TheVariants.{Given, Tries, Checks, ChecksEach}
 use Rattle.syntax.specs.declared.tree.Subject.{Subject}
 use Rattle.syntax.specs.declared.tree.Subject.TheVariants.{Nothing, Word, Asked}
-use Rattle.syntax.specs.Commands.{AreCommands}
+use Rattle.syntax.specs.Commands.{HasCommands}
 use Rattle.syntax.specs.Script.{Script, Done, Then, Choice, Check, Cases, No_case, Case}
+use Rattle.syntax.specs.TestNames.{HasTestNames}
 use Rattle.meaning.specs.State.{State, Scope, no_choice, about, answered, Goes_on, Completed, Stopped, Cut, Run, Ends, Asks, as_is}
-use Rattle.meaning.specs.Tests.{checking, cached_test, tested}
+use Rattle.meaning.specs.Tests.{cached_test, tested}
 use Rattle.meaning.specs.Rows as rows
-use Rattle.meaning.specs.Rows.{Kind, Program, Single, Sized, Library, Libraries, kind_for, entry_name, name_of, is_yes, is_linked, value_or_empty, value_if, row_of}
-use Rattle.meaning.specs.Batches.{is_known, batched}
+use Rattle.meaning.specs.Rows.{Kind, Program, Single, Sized, Library, Libraries, kind_for, name_of, is_yes, is_linked, value_or_empty, value_if, row_of}
+use Rattle.meaning.specs.Batches.{Batch, asking, batched}
 use Rattle.meaning.specs.Play.{play, whole}
 use Rattle.meaning.specs.Meaning.{settled, is_unsettled, check_prog, path_prog, has_value, is_full_name, looks, looks_all, effect, value_name, asked, begun, rounds_of, in_turn, is_taken, check, meaning, chosen}
 use Rattle.laws.specs.Cached.{IsSet, IsUnset}
+use Rattle.laws.specs.Batched.{answer_to, names_asked}
 use Rattle.laws.specs.Questions.{yes_or_no}
 
 -- What a run did to a name: a statement assigned it, or a test that was run to its end left it set. (own)
@@ -101,15 +106,18 @@ default_deeds variable (Some word) st = if has_value st variable then [] else As
 abbrev pub prefix_deeds : List ℕ → State → List Deed
 prefix_deeds name st = if is_unsettled (value_of st.vars name) then Assigned name ∷ [] else []
 
--- The deeds of a batch, by the states before and after it: the names that were unset and are set, each at its first entry.
--- A batch that is cut has them too. (own)
-abbrev pub batch_deeds : Listed → List (List ℕ) → List (List ℕ) → State → State → List Deed
-batch_deeds listed earlier [] st now = []
-batch_deeds listed earlier (entry ∷ more) st now =
-    (if is_known (entry_name listed entry) earlier st
-    then []
-    else left_set (entry_name listed entry) None (value_of now.vars (entry_name listed entry)))
-    ++ batch_deeds listed (entry_name listed entry ∷ earlier) more st now
+-- The deed of a name that asked for a child: an answer completes its test. A refusal, or no reply, is no deed. (own)
+abbrev pub replied_deeds : List ℕ → Option Reply → List Deed
+replied_deeds name None = []
+replied_deeds name (Some (Answer status text)) = Tested name ∷ []
+replied_deeds name (Some StartRefused) = []
+replied_deeds name (Some EndRefused) = []
+
+-- The deeds of a batch, by the reply to each name that asks for a child. A batch that is cut has them too. (own)
+abbrev pub batch_deeds : Batch → State → List Reply → List Deed
+batch_deeds batch st replies =
+    let asks : List (List ℕ × Option Job) = asking batch 1 [] batch.entries st in
+    flat_map (λ name. replied_deeds name (answer_to name batch asks replies)) (names_asked batch.listed asks)
 
 -- The deeds of what a statement does. (own)
 unfoldable pub effect_deeds : Effect → State → List Reply → List Deed
@@ -126,9 +134,8 @@ effect_deeds (Search variable program FullName otherwise) st replies =
 effect_deeds (Searches variable programs otherwise) st replies =
     looks_deeds variable programs true st replies
     ++ deeds_after (looks_all variable programs true st) replies (λ now left. default_deeds variable otherwise now)
-effect_deeds (Batch listed entries includes) st replies =
-    batch_deeds listed [] entries st
-    (play (batched (record { listed = listed; entries = entries; includes = includes }) st) replies).state
+effect_deeds (effects.Batch listed entries includes) st replies =
+    batch_deeds (record { listed = listed; entries = entries; includes = includes }) st replies
 effect_deeds Complete st replies =
     prefix_deeds (codes "prefix") st
     ++ prefix_deeds (codes "exec_prefix") (settled (codes "prefix") (codes "/usr/local") st)
@@ -175,23 +182,11 @@ turn_deeds [] go did st replies = []
 turn_deeds (subject ∷ more) go did st replies =
     subject_deeds subject st replies did ++ deeds_after (begun as_is subject st go) replies (turn_deeds more go did)
 
--- The name of a deed. (own)
-abbrev pub name_in : Deed → List ℕ
-name_in (Assigned name) = name
-name_in (Tested name) = name
-
--- The deeds about other names. (own)
-abbrev pub others_than : List ℕ → List Deed → List Deed
-others_than name [] = []
-others_than name (deed ∷ more) =
-    if bytes_eq name (name_in deed) then others_than name more else deed ∷ others_than name more
-
--- The deeds of AC_CACHE_CHECK, given the value of its name and the deeds of its commands: what these do to its own name
--- is no deed. (own)
-abbrev pub check_deeds : Option (List ℕ) → List ℕ → List Deed → Run → List Reply → List Deed
-check_deeds (Some value) name inner run replies = []
-check_deeds None name inner run replies =
-    others_than name inner ++ deeds_after run replies (λ now left. left_set name None (value_of now.vars name))
+-- The deed of AC_CACHE_CHECK is that of its test: its name was unset, and the commands came to their end and left it set.
+-- They set no other name. (Autoconf's manual, "Caching Results")
+abbrev pub check_deeds : List ℕ → State → Run → List Reply → List Deed
+check_deeds name st run replies =
+    deeds_after run replies (λ now left. left_set name (value_of st.vars name) (value_of now.vars name))
 
 unfoldable mutual
   -- What statements did to names under replies, in order. (own)
@@ -202,8 +197,7 @@ unfoldable mutual
       turn_deeds (rounds_of subject) (chosen cases) (case_deeds cases) st replies
       ++ deeds_after (in_turn (rounds_of subject) (chosen cases) st) replies (deeds rest)
   deeds (Check message name commands rest) st replies =
-      check_deeds (value_of st.vars name) name (deeds commands (checking (word_value message st.vars) st) replies)
-      (cached_test (check message name (meaning commands) st) st) replies
+      check_deeds name st (cached_test (check message name (meaning commands) st) st) replies
       ++ deeds_after (cached_test (check message name (meaning commands) st) st) replies (deeds rest)
 
   -- The deeds of the first case that is taken, if any. (own)
@@ -230,13 +224,20 @@ pub record Accounts (before : List (List ℕ × List ℕ)) (ds : List Deed) (now
   pub keeps : (name value : List ℕ) → value_of before name ≡ Some value → (Among (Assigned name) ds → ⊥)
       → value_of now name ≡ Some value
 
--- The deeds of a run account for the names that are set at its end, whatever the replies. (own)
+-- The deeds of a run account for the names that are set at its end, whatever the replies, if the commands of AC_CACHE_CHECK
+-- set its name alone. (own)
 abbrev pub DeedsAccount : Type 0
-DeedsAccount = (script : Script) (st : State) (replies : List Reply)
+DeedsAccount = (script : Script) (st : State) (replies : List Reply) → HasCommands script
     → Accounts st.vars (deeds script st replies) (play (whole (meaning script st)) replies).state.vars
 
--- Commands of AC_CACHE_CHECK do nothing to other names: its deeds are those of its test alone. (own)
-abbrev pub CommandsHaveNoDeeds : Type 0
-CommandsHaveNoDeeds = (commands : Script) (name : List ℕ) (st : State) (replies : List Reply)
-    → AreCommands name commands
-    → others_than name (deeds commands st replies) ≡ []
+-- The names whose tests a batch completes, by the replies, are exactly those that were unset when it began and that it leaves
+-- set, also if there are fewer replies than jobs, and if there is no compiler. (own)
+abbrev pub AnswersAreLeft : Type 0
+AnswersAreLeft = (batch : Batch) (st : State) (replies : List Reply) (name : List ℕ)
+    → Among (Tested name) (batch_deeds batch st replies)
+    ↔ (IsUnset name st.vars × IsSet name (play (batched batch st) replies).state.vars)
+
+-- Each name that a completed test left set is a cache name. (Autoconf's manual, "Cache Variable Names")
+abbrev pub TestedAreCached : Type 0
+TestedAreCached = (script : Script) (st : State) (replies : List Reply) (name : List ℕ)
+    → HasCommands script → HasTestNames script → Among (Tested name) (deeds script st replies) → is_cache_name name ≡ true

@@ -17,7 +17,7 @@
 ghost use Rattle.laws.specs.Batched.{BatchCommits, BatchAsksUnset, BatchStops, BatchKeepsSet, BatchAsksFew, BatchAsksOnce};
 ghost use Rattle.laws.specs.Cached.{NamesStandOnce, BrokenIsUnset, BrokenRowIsUnset, BrokenCheckIsUnset, SetStaysSet, SetTestsAskNothing, SetRowAsksNothing};
 ghost use Rattle.laws.specs.Commands.{BrokenLeavesVariables, BrokenRowLeavesVariables, CommandsWriteAlone, BrokenCheckLeavesVariables};
-ghost use Rattle.laws.specs.Deeds.{DeedsAccount, CommandsHaveNoDeeds};
+ghost use Rattle.laws.specs.Deeds.{DeedsAccount, AnswersAreLeft, TestedAreCached};
 ghost use Rattle.laws.specs.Linking.{LibsChecked, LibsSearched};
 ghost use Rattle.laws.specs.Logged.{ChildrenAreLogged};
 ghost use Rattle.laws.specs.Programs.{ProgramsAreSought, CachedIsNotSought, OwnIsNotSought};
@@ -84,14 +84,20 @@ pub fn broken_check_leaves_variables()
 /// The names that are set at the end of a run are exactly those that were set at its beginning, those that a statement
 /// assigned, and those that a completed test left set: a test of a statement, of an entry of a batch, or of a question in one
 /// of its rounds. Such a test was of a name that was unset at the beginning. A name that was set and that no statement
-/// assigned keeps its value. What the commands of AC_CACHE_CHECK do to its own name does not count.
+/// assigned keeps its value. AC_CACHE_CHECK counts for its own name alone, if its commands set that name alone.
 pub fn deeds_account()
     ensures account { DeedsAccount }
 {}
 
-/// The commands that AC_CACHE_CHECK may have do nothing to other names.
-pub fn commands_have_no_deeds()
-    ensures others { CommandsHaveNoDeeds }
+/// A batch leaves a name set that was unset exactly if the child of that name was answered, whatever the number of replies,
+/// and whether or not there is a compiler.
+pub fn answers_are_left()
+    ensures left { AnswersAreLeft }
+{}
+
+/// A test that came to its end and left its name set has a cache name.
+pub fn tested_names_are_cached()
+    ensures cached { TestedAreCached }
 {}
 
 /// A question of a test is answered by the cached value when the test is over: yes if it is `yes`, and no if it isn't. A

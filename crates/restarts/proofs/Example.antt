@@ -1,5 +1,5 @@
 -- The premises of the laws can be met: by a source with a precious variable, whose first call is
--- cut at the test of a function.
+-- cut at the test of a function. The variable has a name like a mark, but of none that is precious.
 use Rattle.acparse.specs.Profile.{source_of}
 use Rattle.cachefile.proofs.Orders.{Entries}
 use Rattle.cachefile.specs.Cache.{entry_of, lines_from, cache_of, vars_after, limit}
@@ -72,7 +72,7 @@ use Rattle.shellword.specs.declared.part.Part.TheVariants as parts
 abbrev good : Reply
 good = Answer 0 []
 
-abbrev none_yet : Account
+abbrev pub none_yet : Account
 none_yet = record { events = []; attempts = 0; failures = 0 }
 
 abbrev events : Job → List CrewEvent
@@ -85,7 +85,7 @@ after_first job = record { events = events job; attempts = 2; failures = 1 }
 abbrev after_second : Job → Account
 after_second job = record { events = events job; attempts = 1; failures = 0 }
 
-abbrev end_at : run.Outcome → Played → RunEnd
+abbrev pub end_at : run.Outcome → Played → RunEnd
 end_at outcome p = record { outcome = outcome; vars = p.state.vars; defs = p.state.defs; messages = p.state.messages; log = p.state.log }
 
 -- Two groups of one job each, and one such group.
@@ -144,12 +144,12 @@ text t = map parts.Plain t
 abbrev sets : List ℕ → Script
 sets name = Then declares.Nothing (Assign name (text (codes "1"))) Done
 
--- AC_INIT([a],[1]), AC_ARG_VAR([V],[help]), AC_CHECK_HEADER([a.h],[x=1]), AC_CHECK_FUNC([f],[y=1])
--- and AC_OUTPUT.
+-- AC_INIT([a],[1]), AC_ARG_VAR([ac_cv_env_X_value],[help]), AC_CHECK_HEADER([a.h],[x=1]),
+-- AC_CHECK_FUNC([f],[y=1]) and AC_OUTPUT.
 abbrev example : Script
 example =
     Then declares.Begin (Package (codes "a") (codes "1") [] (codes "a") [])
-    (Then (declares.Precious (codes "V") (codes "help")) Nothing
+    (Then (declares.Precious (codes "ac_cv_env_X_value") (codes "help")) Nothing
     (Choice declares.Nothing (Asked (Checks (Entry Header) (codes "a.h") None)) (Case Yes (sets (codes "x")) No_case)
     (Choice declares.Nothing (Asked (Checks (Entry Function) (codes "f") None)) (Case Yes (sets (codes "y")) No_case) (Then declares.End Complete Done))))
 
@@ -157,23 +157,24 @@ form : CanResume example
 unfolding after with_name has_name has_cv is_cache_name is_mark
 form = record {
   resumable = ((tt, (tt, tt)), ((tt, (tt, tt)), ((tt, (tt, tt)), ((tt, (((tt, (inl refl, (tt, tt))), tt), tt)), ((tt, (tt, tt)), ((tt, (((tt, (inl refl, (tt, tt))), tt), tt)), ((tt, (tt, tt)), tt)))))));
-  commands = ((tt, tt), ((tt, tt), tt));
-  names = (tt, (tt, (((tt, tt), tt), (((tt, tt), tt), (tt, tt)))));
-  precious = (refl, tt);
+  precious = ((refl, refl), tt);
 }
 
 -- ---- what a call is given; the text is any that is read as the source
+
+abbrev environment : Entries
+environment = (codes "CC", codes "cc") ∷ (codes "PATH", codes "/b") ∷ (codes "ac_cv_env_X_value", codes "p  q") ∷ []
 
 abbrev call : List ℕ → Given
 call source = record {
   source = source;
   arguments = codes "-C" ∷ [];
-  environment = (codes "CC", codes "cc") ∷ (codes "PATH", codes "/b") ∷ (codes "V", codes "p  q") ∷ [];
+  environment = environment;
   templates = [];
 }
 
 abbrev begin_vars : Entries
-begin_vars = finished (codes "V" ∷ []) (set_by (setters ((codes "CC", codes "cc") ∷ (codes "PATH", codes "/b") ∷ (codes "V", codes "p  q") ∷ []) (Switched ConfigCache ∷ [])))
+begin_vars = finished (codes "ac_cv_env_X_value" ∷ []) (set_by (setters environment (Switched ConfigCache ∷ [])))
 
 abbrev start : Start
 start = record { cache_name = Some (codes "config.cache"); srcdir = codes "."; no_create = false; args = codes "-C" ∷ []; vars = begin_vars; notes = [] }

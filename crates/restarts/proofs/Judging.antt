@@ -18,8 +18,10 @@ use Rattle.options.specs.Precious.{checked}
 use Rattle.options.specs.declared.settings.Settings.{Settings}
 use Rattle.plan.specs.Weight.{heaviest, weight}
 use Rattle.plan.specs.declared.fault.PlanFault.TheVariants.{TooLong}
+use Rattle.syntax.specs.Commands.{HasCommands}
 use Rattle.syntax.specs.Lists.{lists_of}
 use Rattle.syntax.specs.Script.{Script}
+use Rattle.syntax.specs.TestNames.{HasTestNames}
 use Rattle.restarts.specs.Calls.{Given, follows}
 
 pub bind_ok : {A B F : Type 0} (r : Result A F) (f : A → Result B F) (y : B) → (r >>= f) ≡ Ok y → (x : A) × ((r ≡ Ok x) × (f x ≡ Ok y))
@@ -52,9 +54,15 @@ start_of given settings old left = record {
   notes = settings.notes ++ left.1;
 }
 
+-- What each source that can be read keeps.
+pub record HaveForms : Type 0 where
+  pub commands : (text : List ℕ) (script : Script) → source_of text ≡ Ok script → HasCommands script
+  pub names : (text : List ℕ) (script : Script) → source_of text ≡ Ok script → HasTestNames script
+
 -- How the call was accepted; with another cache it is accepted if that one is read, and the check
--- leaves the same.
+-- finds no fault.
 pub record Way (given : Given) (cache : Option (List ℕ)) (script : Script) (start : Start) : Type 0 where
+  pub source : source_of given.source ≡ Ok script
   pub settings : Settings
   pub old : List Setting
   pub left : Entries × List Note
@@ -62,8 +70,8 @@ pub record Way (given : Given) (cache : Option (List ℕ)) (script : Script) (st
   pub read : old_of settings.cache_name cache ≡ Ok old
   pub check : comparison script settings old ≡ Ok left
   pub is : start ≡ start_of given settings old left
-  pub again : (other : Option (List ℕ)) (more : List Setting) → old_of settings.cache_name other ≡ Ok more → comparison script settings more ≡ Ok left
-      → follows given other ≡ Ok (Starts script (start_of given settings more left))
+  pub again : (other : Option (List ℕ)) (more : List Setting) (after : Entries × List Note) → old_of settings.cache_name other ≡ Ok more → comparison script settings more ≡ Ok after
+      → follows given other ≡ Ok (Starts script (start_of given settings more after))
 
 -- ---- one step after the other
 
@@ -105,14 +113,36 @@ is_followed given cache = refl
 
 -- ---- all steps
 
+-- The templates are there, unless no file is to be made.
+abbrev pub AreThere : Given → Script → Settings → Type 0
+AreThere given script settings = present settings.no_create given.templates (lists_of script).files (lists_of script).headers ≡ Ok tt
+
+-- A call that is accepted.
+pub follows_so : (given : Given) (cache : Option (List ℕ)) (script : Script) (settings : Settings) (old : List Setting) (left : Entries × List Note)
+    → source_of given.source ≡ Ok script → wants (nat_le (weight script) heaviest) (Plan TooLong) ≡ Ok tt → settled script given ≡ Ok settings → settings.help || settings.version ≡ false → AreThere given script settings
+    → old_of settings.cache_name cache ≡ Ok old → comparison script settings old ≡ Ok left → follows given cache ≡ Ok (Starts script (start_of given settings old left))
+follows_so given cache script settings old left read light settles shows there reads compares =
+    let begins = start_of given settings old left in
+    let answer : Accepted = Starts script begins in
+    let starts : started given.arguments cache given.templates script settings ≡ Ok begins =
+    is_started given cache script settings
+    ∙ ok_bind (old_of settings.cache_name cache) (poured given script settings) old begins reads
+    (ok_bind (comparison script settings old) (compared given script settings old) left begins compares
+    (ok_bind (present settings.no_create given.templates (lists_of script).files (lists_of script).headers) (ended given settings old left) tt begins there refl)) in
+    is_followed given cache
+    ∙ ok_bind (named of_parse (source_of given.source)) (parsed given cache) script answer (ap (named of_parse) read)
+    (ok_bind (wants (nat_le (weight script) heaviest) (Plan TooLong)) (weighed given cache script) tt answer light
+    (is_accepted given cache script
+    ∙ ok_bind (settled script given) (opened given cache script) settings answer settles
+    (ap (chosen given cache script settings) shows ∙ ok_bind (started given.arguments cache given.templates script settings) (begun script) begins answer starts refl)))
+
 record Started (given : Given) (cache : Option (List ℕ)) (script : Script) (settings : Settings) (start : Start) : Type 0 where
   pub old : List Setting
   pub left : Entries × List Note
   pub read : old_of settings.cache_name cache ≡ Ok old
   pub check : comparison script settings old ≡ Ok left
   pub is : start ≡ start_of given settings old left
-  pub again : (other : Option (List ℕ)) (more : List Setting) → old_of settings.cache_name other ≡ Ok more → comparison script settings more ≡ Ok left
-      → started given.arguments other given.templates script settings ≡ Ok (start_of given settings more left)
+  pub there : AreThere given script settings
 
 start_steps : (given : Given) (cache : Option (List ℕ)) (script : Script) (settings : Settings) (start : Start) → started given.arguments cache given.templates script settings ≡ Ok start → Started given cache script settings start
 start_steps given cache script settings start e =
@@ -126,12 +156,7 @@ start_steps given cache script settings start e =
       read = old.1.0;
       check = left.1.0;
       is = sym is;
-      again = λ other more reads compares.
-          let begins = start_of given settings more left.0 in
-          is_started given other script settings
-          ∙ ok_bind (old_of settings.cache_name other) (poured given script settings) more begins reads
-          (ok_bind (comparison script settings more) (compared given script settings more) left.0 begins compares
-          (ok_bind (present settings.no_create given.templates (lists_of script).files (lists_of script).headers) (ended given settings more left.0) there.0 begins there.1.0 refl));
+      there = there.1.0;
     }
 
 -- A choice that is run.
@@ -148,11 +173,12 @@ choice_steps given cache script settings false final start e =
     let is : begins.0 ≡ start = let h = begins.1.1 in cc in
     record { same = same; is = begins.1.0 ∙ ap Ok is; shows = refl }
 
-way_by : (given : Given) (cache : Option (List ℕ)) (script final : Script) (start : Start) → script ≡ final → named of_parse (source_of given.source) ≡ Ok script → (u : Unit {0}) → wants (nat_le (weight script) heaviest) (Plan TooLong) ≡ Ok u
+way_by : (given : Given) (cache : Option (List ℕ)) (script final : Script) (start : Start) → script ≡ final → source_of given.source ≡ Ok script → wants (nat_le (weight script) heaviest) (Plan TooLong) ≡ Ok tt
     → (settings : Settings) → settled script given ≡ Ok settings → settings.help || settings.version ≡ false → started given.arguments cache given.templates script settings ≡ Ok start → Way given cache script start
-way_by given cache script final start same read u light settings settles shows starts =
+way_by given cache script final start same read light settings settles shows starts =
     let s = start_steps given cache script settings start starts in
     record {
+      source = read;
       settings = settings;
       old = s.old;
       left = s.left;
@@ -160,15 +186,7 @@ way_by given cache script final start same read u light settings settles shows s
       read = s.read;
       check = s.check;
       is = s.is;
-      again = λ other more reads compares.
-          let begins = start_of given settings more s.left in
-          let answer : Accepted = Starts script begins in
-          is_followed given other
-          ∙ ok_bind (named of_parse (source_of given.source)) (parsed given other) script answer read
-          (ok_bind (wants (nat_le (weight script) heaviest) (Plan TooLong)) (weighed given other script) u answer light
-          (is_accepted given other script
-          ∙ ok_bind (settled script given) (opened given other script) settings answer settles
-          (ap (chosen given other script settings) shows ∙ ok_bind (started given.arguments other given.templates script settings) (begun script) begins answer (s.again other more reads compares) refl)));
+      again = λ other more after reads compares. follows_so given other script settings more after read light settles shows s.there reads compares;
     }
 
 pub way : (given : Given) (cache : Option (List ℕ)) (script : Script) (start : Start) → follows given cache ≡ Ok (Starts script start) → Way given cache script start
@@ -177,4 +195,4 @@ way given cache script start e =
     let light = bind_ok (wants (nat_le (weight read.0) heaviest) (Plan TooLong)) (weighed given cache read.0) (Starts script start) read.1.1 in
     let settles = bind_ok (settled read.0 given) (opened given cache read.0) (Starts script start) (sym (is_accepted given cache read.0) ∙ light.1.1) in
     let c = choice_steps given cache read.0 settles.0 (settles.0.help || settles.0.version) script start settles.1.1 in
-    subst (λ s. Way given cache s start) c.same (way_by given cache read.0 script start c.same read.1.0 light.0 light.1.0 settles.0 settles.1.0 c.shows c.is)
+    subst (λ s. Way given cache s start) c.same (way_by given cache read.0 script start c.same (named_ok of_parse (source_of given.source) read.0 read.1.0) light.1.0 settles.0 settles.1.0 c.shows c.is)

@@ -1,13 +1,12 @@
 -- Precious variables, by their marks: if these are as before, so is what the check of precious
 -- variables finds.
-use Rattle.std.proofs.Common.{◌≡◌, ℕ, ◌+◌, Bool, true, false, cond, ◌||◌, List, [], ◌∷◌, ◌++◌, map, Option, Some, None, Result, Ok, Err, inl, inr, refl, sym, ap, ◌∙◌, subst}
-use Rattle.std.specs.Prelude.{bytes_eq, codes, fold, is_some, option_map, option_to_list, unwrap_or, if◌then◌else◌}
+use Rattle.std.proofs.Common.{◌≡◌, ℕ, ◌+◌, Bool, true, false, cond, List, [], ◌∷◌, ◌++◌, map, Option, Some, None, Result, Ok, Err, inl, refl, sym, ap, ◌∙◌, subst}
+use Rattle.std.specs.Prelude.{bytes_eq, fold, is_some, option_map, option_to_list, unwrap_or, if◌then◌else◌}
 use Rattle.std.specs.List.{AllByRecursion}
-use Rattle.std.proofs.lemmas.Slice.Eq.{bytes_eq-Decides}
 use Rattle.cachefile.specs.Cache.{vars_after}
 use Rattle.cachefile.specs.Line.{Setting}
 use Rattle.cachefile.specs.Name.{is_mark}
-use Rattle.cachefile.proofs.Orders.{Entries, decided}
+use Rattle.cachefile.proofs.Orders.{Entries}
 use Rattle.commandline.specs.Directories.{directories}
 use Rattle.deftable.specs.NameList.{has_name}
 use Rattle.deftable.specs.Table.{value_of, with_entry, HasDistinctNames}
@@ -18,15 +17,10 @@ use Rattle.options.specs.Precious.{old_value, restored, restored_variable, resto
 use Rattle.options.specs.Reading.{◌>>=◌}
 use Rattle.options.specs.declared.fault.PreciousFault.{PreciousFault}
 use Rattle.options.proofs.Checks.{found, values_after}
+use Rattle.restarts.specs.Calls.{set_name, value_name}
 use Rattle.restarts.proofs.Distinct.{fold_distinct}
 
 -- ---- marks
-
-abbrev pub set_name : List ℕ → List ℕ
-set_name name = codes "ac_cv_env_" ++ name ++ codes "_set"
-
-abbrev pub value_name : List ℕ → List ℕ
-value_name name = codes "ac_cv_env_" ++ name ++ codes "_value"
 
 pub is_mark-set_name : (name : List ℕ) → is_mark (set_name name) ≡ true
 unfolding is_mark
@@ -130,15 +124,3 @@ left_by precious vars cache (Ok changes) after h e =
 pub checked_leaves : (precious : List (List ℕ)) (vars : Entries) (cache : List Setting) (after : Entries × List Note) → checked precious vars cache ≡ Ok after → IsLeft precious vars after.0
 unfolding checked
 checked_leaves precious vars cache after e = left_by precious vars cache (restored_from 1 vars (vars_after cache vars) precious) after refl e
-
-true_is_false : true ≡ false → ⊥
-true_is_false e = absurd cc
-
--- A mark is no precious variable.
-pub mark_stays : (precious : List (List ℕ)) → AllByRecursion (λ name. is_mark name ≡ false) precious → (q : List ℕ) → is_mark q ≡ true → has_name precious q ≡ false
-unfolding has_name
-mark_stays [] all q m = refl
-mark_stays (name ∷ more) all q m = elim (decided (bytes_eq q name)) [
-  | inl h ↦ absurd (true_is_false (sym m ∙ ap is_mark ((bytes_eq-Decides q name).0 h) ∙ all.0))
-  | inr h ↦ ap (λ b. b || has_name more q) h ∙ mark_stays more all.1 q m
-]

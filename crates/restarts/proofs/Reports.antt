@@ -12,7 +12,7 @@ use Rattle.framing.specs.declared.fault.Fault.{Fault}
 use Rattle.framing.specs.declared.report.Outcome.{Outcome}
 use Rattle.framing.specs.declared.report.Report.{Report}
 use Rattle.meaning.specs.Play.{first_refused}
-use Rattle.meaning.specs.State.{How, Completed, Stopped, Cut, opened}
+use Rattle.meaning.specs.State.{How, Stopped, Cut, opened}
 use Rattle.outputs.specs.declared.artifact.Artifact.{Artifact}
 use Rattle.proberun.specs.Outcomes as run
 use Rattle.proberun.specs.Ran.{outcome_from}
@@ -24,6 +24,7 @@ use Rattle.restarts.specs.Calls.{replies_to, IsCutShort, Tells}
 use Rattle.restarts.specs.Second.{end_of}
 use Rattle.restarts.specs.Law.{joined, ReportsSo, ConfiguresResume}
 use Rattle.restarts.proofs.Distinct.{played_distinct}
+use Rattle.restarts.proofs.Judging.{HaveForms, way}
 use Rattle.restarts.proofs.Sorting.{same_text, same_record, same_artifacts}
 use Rattle.restarts.proofs.Starting.{start_distinct, second_call_starts}
 use Rattle.restarts.proofs.Tellings.{tells}
@@ -53,10 +54,11 @@ same_second script one other r e h = cc
 
 -- ---- the law
 
-pub configures_resume : WholeRunsResume → AsksNoSaved → ConfiguresResume
-configures_resume resume asks given cache script start second window other_window before now other_before other_now first report cut again =
+pub configures_resume : HaveForms → WholeRunsResume → AsksNoSaved → ConfiguresResume
+configures_resume forms resume asks given cache script start second window other_window before now other_before other_now first report cut again =
     let saves = cut.saved in
-    let starts = second_call_starts given cache window script start before now first saves in
+    let source = (way given cache script start saves.accepted).source in
+    let starts = second_call_starts forms given cache window script start before now first saves in
     let is : starts.second ≡ second = same_second script starts.second second _ starts.accepted again.accepted in
     let pours : Poured (end_of first) (opened start.vars) (opened second.vars) = subst (λ s. Poured (end_of first) (opened start.vars) (opened s.vars)) is starts.poured in
     let same : record second { vars = start.vars } ≡ start = subst (λ (s : Start). record s { vars = start.vars } ≡ start) is starts.same in
@@ -70,8 +72,8 @@ configures_resume resume asks given cache script start second window other_windo
     let uncut = not_cut q.how (first_refused more) report.outcome two.outcome again.uncut in
     let law = resume script (opened start.vars) (opened second.vars) replies more (record {
       resumable = saves.form.resumable;
-      commands = saves.form.commands;
-      names = saves.form.names;
+      commands = forms.commands given.source script source;
+      names = forms.names given.source script source;
       alone = cut.alone;
       cut = is_cut (played script (opened start.vars) replies).how (first_refused replies) first.outcome one.outcome cut.cut;
       enough = one.enough;

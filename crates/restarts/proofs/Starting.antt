@@ -28,11 +28,11 @@ use Rattle.laws.proofs.Plays.{same_end, whole_enough}
 use Rattle.resuming.proofs.Whole.{script_part}
 use Rattle.syntax.specs.Lists.{lists_of}
 use Rattle.syntax.specs.Script.{Script}
-use Rattle.restarts.specs.Calls.{Given, follows, replies_to, IsOwnCache, no_cache, saved_cache, Saved}
+use Rattle.restarts.specs.Calls.{Given, follows, replies_to, IsOwnCache, no_cache, saved_cache, set_name, value_name, HasPlainMarks, Saved}
 use Rattle.restarts.specs.Second.{SecondCallStarts}
 use Rattle.restarts.proofs.Distinct.{finished_distinct, settings_distinct, played_distinct}
-use Rattle.restarts.proofs.Judging.{Way, way, named_ok, start_of, comparison}
-use Rattle.restarts.proofs.Marks.{set_name, value_name, is_mark-set_name, is_mark-value_name, IsMarked, finished_marked, SameMarks, same_checked, checked_leaves, mark_stays}
+use Rattle.restarts.proofs.Judging.{HaveForms, Way, way, named_ok, start_of, comparison}
+use Rattle.restarts.proofs.Marks.{is_mark-set_name, is_mark-value_name, IsMarked, finished_marked, SameMarks, same_checked, checked_leaves}
 use Rattle.restarts.proofs.Openings.{opening_finished}
 use Rattle.restarts.proofs.Settings.{over, value_over, saved_there, poured_again, mark_again}
 use Rattle.restarts.proofs.Sorting.{saved_distinct}
@@ -68,7 +68,7 @@ old_entries (Some name) (Some text) old (saved_cache vars) e =
     let same = sym (text_read vars (read_within (cache_text_of vars) old read)) ∙ read in
     record { entries = saved_entries vars; distinct = saved_distinct vars; saved = all_saved_entries vars; are = (let h : map setting_of (saved_entries vars) ≡ old = cc in sym h) }
 
-old_again : (name : Option (List ℕ)) (vars : Entries) → is_some name ≡ true → length (cache_text_of vars) ≤ limit → old_of name (Some (cache_text_of vars)) ≡ Ok (map setting_of (saved_entries vars))
+pub old_again : (name : Option (List ℕ)) (vars : Entries) → is_some name ≡ true → length (cache_text_of vars) ≤ limit → old_of name (Some (cache_text_of vars)) ≡ Ok (map setting_of (saved_entries vars))
 old_again None vars is_named small = cc
 old_again (Some name) vars is_named small = ap (λ r. named of_cache r) (text_read vars small)
 
@@ -92,13 +92,13 @@ record First (script : Script) (start : Start) (report : Report) (below : Entrie
   pub distinct : HasDistinctNames report.vars
   pub keeps : (q v : List ℕ) → is_cache_name q ≡ true → value_of start.vars q ≡ Some v → value_of report.vars q ≡ Some v
 
-first_call : (given : Given) (cache : Option (List ℕ)) (window : ℕ) (script : Script) (start : Start) (before now : Account) (report : Report) → Saved given cache window script start before now report
+first_call : HaveForms → (given : Given) (cache : Option (List ℕ)) (window : ℕ) (script : Script) (start : Start) (before now : Account) (report : Report) → Saved given cache window script start before now report
     → (w : Way given cache script start) → First script start report w.left.0 w.old
-first_call given cache window script start before now report h w =
+first_call forms given cache window script start before now report h w =
     let own = old_entries w.settings.cache_name cache w.old h.own w.read in
     let replies = replies_to before h.meant in
     let told = tells window script start before now report h.meant in
-    let sets = (script_part script [] [] (λ n k. k) h.form.commands h.form.names h.form.resumable).sets (opened start.vars) replies (whole_enough (meaning script (opened start.vars)) replies told.enough) in
+    let sets = (script_part script [] [] (λ n k. k) (forms.commands given.source script w.source) (forms.names given.source script w.source) h.form.resumable).sets (opened start.vars) replies (whole_enough (meaning script (opened start.vars)) replies told.enough) in
     record {
       own = own;
       begins = λ q. ap (λ s. value_of s.vars q) w.is ∙ ap (λ ss. value_of (vars_after ss w.left.0) q) own.are ∙ value_over own.entries w.left.0 q own.distinct;
@@ -123,39 +123,37 @@ same_mark script start report vars below old f q m there same =
     ∙ sym (ap (λ b. over b s r) m) ∙ sym (value_over entries vars q f.own.distinct) ∙ sym (ap (λ ss. value_of (vars_after ss vars) q) f.own.are)
 
 same_marks : (script : Script) (start : Start) (report : Report) (vars below : Entries) (old : List Setting) → First script start report below old
-    → (all : List (List ℕ)) → AllByRecursion (λ name. is_mark name ≡ false) all → ((q : List ℕ) → has_name all q ≡ false → value_of below q ≡ value_of vars q)
-    → (precious : List (List ℕ)) → AllByRecursion (IsMarked vars) precious
+    → (all : List (List ℕ)) → ((q : List ℕ) → has_name all q ≡ false → value_of below q ≡ value_of vars q)
+    → (precious : List (List ℕ)) → AllByRecursion (HasPlainMarks all) precious → AllByRecursion (IsMarked vars) precious
     → AllByRecursion (SameMarks (vars_after (map setting_of (saved_entries report.vars)) vars) (vars_after old vars)) precious
-same_marks script start report vars below old f all plain value [] h = tt
-same_marks script start report vars below old f all plain value (name ∷ more) h =
-    let a = is_mark-set_name name in
-    let b = is_mark-value_name name in (
-      (
-        same_mark script start report vars below old f (set_name name) a h.0.0 (value (set_name name) (mark_stays all plain (set_name name) a)),
-        same_mark script start report vars below old f (value_name name) b h.0.1 (value (value_name name) (mark_stays all plain (value_name name) b)),
-      ),
-      same_marks script start report vars below old f all plain value more h.1,
-    )
+same_marks script start report vars below old f all value [] plain h = tt
+same_marks script start report vars below old f all value (name ∷ more) plain h = (
+  (
+    same_mark script start report vars below old f (set_name name) (is_mark-set_name name) h.0.0 (value (set_name name) plain.0.0),
+    same_mark script start report vars below old f (value_name name) (is_mark-value_name name) h.0.1 (value (value_name name) plain.0.1),
+  ),
+  same_marks script start report vars below old f all value more plain.1 h.1,
+)
 
-pub second_call_starts : SecondCallStarts
-second_call_starts given cache window script start before now report h =
+pub second_call_starts : HaveForms → SecondCallStarts
+second_call_starts forms given cache window script start before now report h =
     let w = way given cache script start h.accepted in
     let lists = lists_of script in
     let settings = w.settings in
     let below = w.left.0 in
-    let f = first_call given cache window script start before now report h w in
+    let f = first_call forms given cache window script start before now report h w in
     let ready = opening_finished lists.features lists.packages lists.precious given.arguments given.environment settings (named_ok of_option (opening lists.features lists.packages lists.precious given.arguments given.environment) settings w.settles) in
     let marked : AllByRecursion (IsMarked settings.vars) lists.precious = subst (λ vs. AllByRecursion (IsMarked vs) lists.precious) (sym ready.1) (finished_marked lists.precious (set_by ready.0)) in
     let left = checked_leaves lists.precious settings.vars w.old w.left (named_ok of_precious (checked lists.precious settings.vars w.old) w.left w.check) in
     let more = map setting_of (saved_entries report.vars) in
     let reads = old_again settings.cache_name report.vars (sym (ap (λ s. is_some s.cache_name) w.is) ∙ h.named) h.small in
-    let marks = same_marks script start report settings.vars below w.old f lists.precious h.form.precious left.value lists.precious marked in
+    let marks = same_marks script start report settings.vars below w.old f lists.precious left.value lists.precious h.form.precious marked in
     let checks : comparison script settings more ≡ Ok w.left = ap (named of_precious) (same_checked lists.precious settings.vars more w.old marks) ∙ w.check in
     let second = start_of given settings more w.left in
     let with_vars : Start → Start = λ s. record second { vars = s.vars } in
     record {
       second = second;
-      accepted = w.again (Some (cache_text_of report.vars)) more reads checks;
+      accepted = w.again (Some (cache_text_of report.vars)) more w.left reads checks;
       same = ap with_vars w.is ∙ sym w.is;
       poured = record {
         defs = refl;

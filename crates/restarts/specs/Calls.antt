@@ -1,11 +1,11 @@
 -- Calls of `configure`: what each is given, and what it reports.
-use Rattle.std.specs.Prelude.{◌≡◌, ℕ, true, false, List, length, ◌≤◌, Option, Some, None, is_some, option_map, Result, Ok}
+use Rattle.std.specs.Prelude.{◌≡◌, ℕ, true, false, List, ◌++◌, codes, length, ◌≤◌, Option, Some, None, is_some, option_map, Result, Ok}
 use Rattle.std.specs.List.{AllByRecursion}
 use Rattle.cachefile.specs.Cache.{limit}
-use Rattle.cachefile.specs.Name.{is_mark}
 use Rattle.cachefile.specs.Text.{cache_text_of}
 use Rattle.crew_trait.specs.declared.reply.Reply.{Reply}
 use Rattle.crew_trait.specs.Events.{Account, replies_in}
+use Rattle.deftable.specs.NameList.{has_name}
 use Rattle.engine.specs.Configured.{IsMeant}
 use Rattle.engine.specs.Judged.{judged}
 use Rattle.engine.specs.Told.{outcome_of}
@@ -19,11 +19,9 @@ use Rattle.meaning.specs.Play.{all_jobs, first_refused}
 use Rattle.meaning.specs.State.{opened}
 use Rattle.proberun.specs.Ran.{outcome_from}
 use Rattle.resuming.specs.Plays.{played, HasReplies}
-use Rattle.syntax.specs.Commands.{HasCommands}
 use Rattle.syntax.specs.Lists.{lists_of}
 use Rattle.syntax.specs.Resumable.{IsResumable}
 use Rattle.syntax.specs.Script.{Script}
-use Rattle.syntax.specs.TestNames.{HasTestNames}
 
 -- What a call is given beside a cache: the text of a source, arguments, an environment and
 -- templates. (own)
@@ -53,20 +51,26 @@ pub data IsOwnCache : Option (List ℕ) → Type 0 where
   no_cache : IsOwnCache None
   saved_cache : (vars : List (List ℕ × List ℕ)) → IsOwnCache (Some (cache_text_of vars))
 
--- No precious variable has the name of a mark, under which configure saves the value of another.
+-- The marks of a precious variable, under which configure saves whether it is set, and its value.
 -- (own; Autoconf's manual, "Setting Output Variables", has the precious variables)
-abbrev pub HasPlainPrecious : Script → Type 0
-HasPlainPrecious script = AllByRecursion (λ name. is_mark name ≡ false) (lists_of script).precious
+abbrev pub set_name : List ℕ → List ℕ
+set_name name = codes "ac_cv_env_" ++ name ++ codes "_set"
 
--- The source can be resumed, and has the form that the parser gives it: its commands, and the names
--- of its tests. (own)
+abbrev pub value_name : List ℕ → List ℕ
+value_name name = codes "ac_cv_env_" ++ name ++ codes "_value"
+
+-- Neither mark of the variable is one of these precious variables. (own)
+abbrev pub HasPlainMarks : List (List ℕ) → List ℕ → Type 0
+HasPlainMarks precious name = (has_name precious (set_name name) ≡ false) × (has_name precious (value_name name) ≡ false)
+
+-- No precious variable is a mark of another one. (own)
+abbrev pub HasPlainPrecious : Script → Type 0
+HasPlainPrecious script = AllByRecursion (HasPlainMarks (lists_of script).precious) (lists_of script).precious
+
+-- The source can be resumed. (own)
 pub record CanResume (script : Script) : Type 0 where
   -- What `is_resumable` says of a source.
   pub resumable : IsResumable script
-  -- What `parse` promises of each source.
-  pub commands : HasCommands script
-  -- The variable of each program that is looked for is a shell name.
-  pub names : HasTestNames script
   -- What AC_ARG_VAR and AC_PROG_CC declare.
   pub precious : HasPlainPrecious script
 

@@ -16,6 +16,7 @@ ghost use Rattle.restarts.specs.Calls.{ReportsTell};
 ghost use Rattle.restarts.specs.Law.{ConfiguresResume};
 ghost use Rattle.restarts.specs.Second.{SecondCallStarts};
 
+use acparse::forms::sources_have_forms;
 use resuming::{asks_no_saved, whole_runs_resume};
 
 /// The report of a run tells its outcome, variables and definitions as the meaning of the source
@@ -30,7 +31,9 @@ pub fn reports_tell()
 /// precious variable is at fault: it is compared with the marks that the first call began with.
 pub fn second_call_starts()
     ensures law { SecondCallStarts }
-{}
+{
+    sources_have_forms();
+}
 
 /// A call was cut short, and a second one with the cache that it saved is not. If the source can be
 /// resumed, the second call ends as one call would that begins as the first did, under the joint
@@ -39,6 +42,7 @@ pub fn second_call_starts()
 pub fn configures_resume()
     ensures law { ConfiguresResume }
 {
+    sources_have_forms();
     whole_runs_resume();
     asks_no_saved();
 }

@@ -26,7 +26,8 @@ use Rattle.laws.proofs.BatchLemmas.{job_true, job_false, none_value, how_is, bat
 use Rattle.resuming.specs.Finished.{Finished, finish, with_taken, Enough}
 use Rattle.resuming.specs.Joint.{answer_or, joint_entries}
 use Rattle.resuming.proofs.Near.{IsCached, Alike, Every, Like}
-use Rattle.resuming.proofs.Names.{same_or_not, entry_cached}
+use Rattle.laws.proofs.Names.{entry_cached}
+use Rattle.resuming.proofs.Names.{same_or_not}
 use Rattle.resuming.proofs.Liking.{like_then, cached_like, heard_like, child_alike, variable_alike, after_alike, entry_same, row_same}
 
 -- ---- batches in states that are alike

@@ -1,6 +1,6 @@
 -- The premises of the law can be met. A batch of the functions f, g and f is cut at g; after it are a list with actions,
 -- AC_CACHE_CHECK, and a definition of its value.
-use Rattle.std.proofs.Common.{◌≡◌, ℕ, codes, List, [], ◌∷◌, Bool, true, false, cond, Option, Some, None, inl, inr, length, refl, sym, ap, ◌∙◌, arith}
+use Rattle.std.proofs.Common.{◌≡◌, ℕ, codes, List, [], ◌∷◌, Bool, true, false, cond, Option, Some, None, inl, inr, length, map, refl, sym, ap, ◌∙◌, arith}
 use Rattle.std.specs.Prelude.{bytes_eq, ◌&&◌}
 use Rattle.cachefile.specs.Text.{saved_value}
 use Rattle.crew_trait.specs.declared.reply.Reply.{Reply}
@@ -25,8 +25,8 @@ use Rattle.resuming.specs.Joint.{joint, joint_replies}
 use Rattle.resuming.specs.Same.{SameAgain, SameCases}
 use Rattle.resuming.specs.Law.{Begun}
 use Rattle.resuming.specs.Plays.{played, StartedAgain}
-use Rattle.resuming.specs.Asked.{tests_made, tests_made_in}
-use Rattle.resuming.proofs.Counter.{on_values, vars_with, good, bad, value, sets, if_set, maybe, f_is}
+use Rattle.resuming.specs.Asked.{tests_made, shares, case_shares}
+use Rattle.resuming.proofs.Counter.{on_values, vars_with, good, bad, value, sets, if_set, tries, maybe, f_is}
 
 abbrev example : Script
 example = Then declares.Nothing (Batch Function (codes "f" ∷ codes "g" ∷ codes "f" ∷ []) None)
@@ -134,5 +134,15 @@ two_again = (refl, (refl, refl))
 
 -- The second run makes the test of the function alone.
 two_made : tests_made two_tests (vars_with header_is) (good ∷ []) ≡ codes "ac_cv_func_f" ∷ []
-unfolding on_values tests_made tests_made_in
+unfolding on_values shares case_shares
 two_made = refl
+
+-- A run of the first example makes each test once. Its batch is one group of two jobs, of two tests.
+example_made : tests_made example (vars_with []) (good ∷ good ∷ good ∷ good ∷ good ∷ []) ≡ codes "ac_cv_func_f" ∷ codes "ac_cv_func_g" ∷ codes "ac_cv_func_h" ∷ codes "ac_cv_func_k" ∷ codes "v_cv_x" ∷ []
+unfolding on_values shares case_shares
+example_made = refl
+
+-- A program that is tried outside AC_CACHE_CHECK belongs to no test. Such a source can't be resumed.
+tried_alone : (map (λ share. share.name) (shares (tries No_case Done) (vars_with []) (good ∷ [])) ≡ None ∷ []) × (tests_made (tries No_case Done) (vars_with []) (good ∷ []) ≡ [])
+unfolding on_values shares case_shares
+tried_alone = (refl, refl)

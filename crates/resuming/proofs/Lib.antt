@@ -12,6 +12,10 @@ mod BatchPart
 mod Statements
 mod Rounds
 pub mod Whole
+mod Shares
+mod EachShare
+mod OfTests
+mod TheirJobs
 mod Unasked
 mod Counter
 mod Example

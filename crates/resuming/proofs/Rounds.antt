@@ -24,7 +24,8 @@ use Rattle.resuming.specs.Alone.{tested_rounds, AloneAt, AloneRounds}
 use Rattle.resuming.specs.Joint.{Joint, Pair, joint_then, joint_one, given_then, begins_test, begins, scope_at, joint_rounds}
 use Rattle.resuming.specs.Same.{AndThen, SameOne, SameAt, SameRounds}
 use Rattle.resuming.proofs.Near.{Within, IsCached, Alike, Every, IsPart}
-use Rattle.resuming.proofs.Names.{same_or_not, among_left, among_right, among_wider, value_else, sought_cached, library_cached, libraries_cached}
+use Rattle.laws.proofs.Names.{sought_cached, library_cached, libraries_cached}
+use Rattle.resuming.proofs.Names.{same_or_not, among_left, among_right, among_wider, value_else}
 use Rattle.resuming.proofs.Liking.{Reads, wider_reads, ReadsKind, variable_alike, text_same}
 use Rattle.resuming.proofs.Forms.{PlainKind, IsAsked, asked_settles, row_test}
 use Rattle.resuming.proofs.Parts.{part_then, part_is, part_scope}

@@ -25,7 +25,8 @@ use Rattle.resuming.specs.Alone.{AreNone, AloneUse}
 use Rattle.resuming.specs.Joint.{joint_plain, joint_one}
 use Rattle.resuming.specs.Same.{SameEach, SameUse}
 use Rattle.resuming.proofs.Near.{Within, IsCached, Alike, Every, IsPart}
-use Rattle.resuming.proofs.Names.{value_else, cached_apart, program_cached, path_cached}
+use Rattle.laws.proofs.Names.{program_cached, path_cached}
+use Rattle.resuming.proofs.Names.{value_else, cached_apart}
 use Rattle.resuming.proofs.Liking.{Reads, variable_alike, written_alike, definition_alike, cond_alike, text_same}
 use Rattle.resuming.proofs.Forms.{IsTest, cond_values, reads_more}
 use Rattle.resuming.proofs.Parts.{part_less}

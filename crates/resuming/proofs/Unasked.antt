@@ -1,6 +1,6 @@
 -- A name that is set is not tested.
-use Rattle.std.proofs.Common.{◌≡◌, ℕ, suc, List, [], ◌∷◌, Bool, true, false, cond, Option, Some, None, refl, sym, ap, ◌∙◌, subst, ⊎_elim}
-use Rattle.std.specs.Prelude.{is_some}
+use Rattle.std.proofs.Common.{◌≡◌, ℕ, suc, List, [], ◌∷◌, ◌++◌, Option, Some, None, refl, sym, ap, ◌∙◌, subst, ⊎_elim}
+use Rattle.std.specs.Prelude.{is_some, flat_map, option_to_list}
 use Rattle.jobs.specs.declared.job.Job.{Job}
 use Rattle.crew_trait.specs.declared.reply.Reply.{Reply}
 use Rattle.deftable.specs.Table.{value_of}
@@ -13,10 +13,9 @@ use Rattle.syntax.specs.declared.tree.Subject.TheVariants.{Nothing, Word, Asked}
 use Rattle.syntax.specs.Resumable.{Among}
 use Rattle.syntax.specs.Script.{Script, Done, Then, Choice, Check, Cases, No_case, Case}
 use Rattle.syntax.specs.TestNames.{entry_name}
-use Rattle.syntax.specs.Uses.{uses_of}
-use Rattle.meaning.specs.State.{State, Scope, no_choice, about, answered, How, Goes_on, Completed, Stopped, Cut, Run, as_is}
+use Rattle.syntax.specs.Uses.{Uses, uses_of, uses_asked}
+use Rattle.meaning.specs.State.{State, Scope, no_choice, about, Run, as_is}
 use Rattle.meaning.specs.Tests.{checking}
-use Rattle.meaning.specs.Rows.{Kind, name_of}
 use Rattle.meaning.specs.Batches.{Batch, job_for, asking}
 use Rattle.meaning.specs.Meaning.{effect, asked, begun, rounds_of, in_turn, is_taken, check, meaning, chosen}
 use Rattle.laws.specs.Cached.{IsSet}
@@ -24,12 +23,21 @@ use Rattle.laws.specs.Questions.{yes_or_no}
 use Rattle.laws.proofs.BatchLemmas.{no_job_set}
 use Rattle.laws.proofs.Statements.{AllSteps, cached_holds, effect_holds, asked_holds, begun_holds, turns_hold, meaning_holds, chosen_holds}
 use Rattle.laws.proofs.Kept.{Keeps, KeepsFrom, all_keep, stays_set}
-use Rattle.resuming.specs.Finished.{Finished, finish}
 use Rattle.resuming.specs.Poured.{poured}
-use Rattle.resuming.specs.Joint.{test_in, checks}
-use Rattle.resuming.specs.Asked.{tested_after, tested_if, tested_one, tested_each, tested_entries, tested_plain, tested_kind, tested_at, tested_answered, tested_inside, tested_turns, tests_made, tests_made_in, AsksNoSaved}
-use Rattle.resuming.proofs.Names.{same_or_not, among_either}
-use Rattle.resuming.proofs.Runs.{at_end}
+use Rattle.resuming.specs.Joint.{checks}
+use Rattle.resuming.specs.Asked.{Share, jobs_asked, made, first_share, use_shares, entry_shares, effect_shares, shares_answered, subject_shares, turn_shares, owned, shares, case_shares, AsksNoSaved}
+use Rattle.resuming.proofs.EachShare.{Each, each_both, each_either, each_after, each_answered, each_owned, each_test}
+use Rattle.resuming.proofs.Names.{same_or_not}
+
+-- ---- names that are set
+
+-- The share is not of this name.
+abbrev Other : List ℕ → Option (List ℕ) → Type 0
+Other n None = Unit {0}
+Other n (Some name) = name ≡ n → ⊥
+
+abbrev Spares : List ℕ → List Share → Type 0
+Spares n l = Each (λ share. Other n share.name) l
 
 abbrev Set : List ℕ → State → Type 0
 Set n st = IsSet n st.vars
@@ -41,109 +49,87 @@ Stays n = KeepsFrom (Set n)
 steps : (n : List ℕ) → AllSteps (Stays n)
 steps n = all_keep (Set n) (stays_set n)
 
-still_set : (n : List ℕ) (run : Run) (rs : List Reply) → Keeps (Set n) run → Set n (finish run rs).state
-still_set n run rs h = at_end (λ how now. IsSet n now.vars) run rs h
+spares_made : (n name : List ℕ) (st : State) (l : List Share) → Set n st → ((name ≡ n → ⊥) → Spares n l) → Spares n (made (value_of st.vars name) l)
+spares_made n name st l s h = by_value (value_of st.vars name) refl
+  where
+    by_value : (o : Option (List ℕ)) → value_of st.vars name ≡ o → Spares n (made o l)
+    by_value None e = h (λ same. let z : None ≡ Some s.0 = sym e ∙ ap (value_of st.vars) same ∙ s.1 in cc)
+    by_value (Some value) e = tt
 
-not_after : (n : List ℕ) (how : How) (f : Finished) (rest : State → List Reply → List (List ℕ)) → Set n f.state → ((st : State) (rs : List Reply) → Set n st → Among n (rest st rs) → ⊥) → Among n (tested_after how f rest) → ⊥
-not_after n Goes_on f rest s never h = never f.state f.left s h
-not_after n Completed f rest s never h = h
-not_after n (Stopped status) f rest s never h = h
-not_after n Cut f rest s never h = h
+spares_first : (n : List ℕ) (names : List (List ℕ)) (st : State) (jobs : List Job) → Set n st → Spares n (first_share names st jobs)
+spares_first n [] st jobs s = tt
+spares_first n (name ∷ more) st jobs s = spares_made n name st _ s (λ other. (other, tt))
 
-not_answered : (n : List ℕ) (how : How) (f : Finished) (rest : Scope → State → List Reply → List (List ℕ)) → Set n f.state → ((c : Scope) (st : State) (rs : List Reply) → Set n st → Among n (rest c st rs) → ⊥) → Among n (tested_answered how f rest) → ⊥
-not_answered n Goes_on f rest s never h = never (answered true) f.state f.left s h
-not_answered n Completed f rest s never h = never (answered false) f.state f.left s h
-not_answered n (Stopped status) f rest s never h = h
-not_answered n Cut f rest s never h = h
+spares_use : (n : List ℕ) (uses : Uses) (st : State) (run : Run) (rs : List Reply) → Set n st → Spares n (use_shares uses st run rs)
+spares_use n uses st run rs s = each_either (λ share. Other n share.name) uses.tries _ _ (tt, tt) (spares_first n uses.tests st (jobs_asked run rs) s)
 
-not_if : (n name : List ℕ) (st : State) (o : Option (List ℕ)) (inner : List (List ℕ)) → value_of st.vars name ≡ o → Set n st → (Among n inner → ⊥) → Among n (tested_if o name inner) → ⊥
-not_if n name st None inner e s never h = ⊎_elim (λ same. let z : None ≡ Some s.0 = sym e ∙ ap (value_of st.vars) same ∙ s.1 in cc) never h
-not_if n name st (Some v) inner e s never h = h
+one_entry : (n : List ℕ) (batch : Batch) (entry : List ℕ) (job : Option Job) (tail : List (List ℕ × Option Job)) → (entry_name batch.listed entry ≡ n → ⊥) → Spares n (entry_shares batch tail) → Spares n (entry_shares batch ((entry, job) ∷ tail))
+one_entry n batch entry None tail apart rest = rest
+one_entry n batch entry (Some job) tail apart rest = (apart, rest)
 
-not_one : (n name : List ℕ) (st : State) → Set n st → Among n (tested_one name st) → ⊥
-not_one n name st s h = not_if n name st (value_of st.vars name) [] refl s (λ z. z) h
-
-not_each : (n : List ℕ) (names : List (List ℕ)) (st : State) → Set n st → Among n (tested_each names st) → ⊥
-not_each n [] st s h = h
-not_each n (name ∷ more) st s h = ⊎_elim (not_one n name st s) (not_each n more st s) (among_either n (tested_one name st) (tested_each more st) h)
-
-one_entry : (n : List ℕ) (batch : Batch) (entry : List ℕ) (job : Option Job) (tail : List (List ℕ × Option Job)) → (entry_name batch.listed entry ≡ n → ⊥) → (Among n (tested_entries batch tail) → ⊥) → Among n (tested_entries batch ((entry, job) ∷ tail)) → ⊥
-one_entry n batch entry None tail apart rest h = rest h
-one_entry n batch entry (Some job) tail apart rest h = ⊎_elim apart rest h
-
-not_entries : (n : List ℕ) (batch : Batch) (entries : List (List ℕ)) (place : ℕ) (earlier : List (List ℕ)) (st : State) → Set n st → Among n (tested_entries batch (asking batch place earlier entries st)) → ⊥
-not_entries n batch [] place earlier st s h = h
-not_entries n batch (entry ∷ more) place earlier st s h =
+spares_entries : (n : List ℕ) (batch : Batch) (entries : List (List ℕ)) (place : ℕ) (earlier : List (List ℕ)) (st : State) → Set n st → Spares n (entry_shares batch (asking batch place earlier entries st))
+spares_entries n batch [] place earlier st s = tt
+spares_entries n batch (entry ∷ more) place earlier st s =
     let tail = asking batch (suc place) (entry_name batch.listed entry ∷ earlier) more st in
-    let rest = not_entries n batch more (suc place) (entry_name batch.listed entry ∷ earlier) st s in
+    let rest = spares_entries n batch more (suc place) (entry_name batch.listed entry ∷ earlier) st s in
     ⊎_elim
-    (λ same. rest (subst (λ j. Among n (tested_entries batch ((entry, j) ∷ tail))) (no_job_set batch entry place earlier st (ap is_some (ap (value_of st.vars) same ∙ s.1))) h))
-    (λ other. one_entry n batch entry (job_for batch place earlier entry st) tail other rest h)
+    (λ same. subst (λ j. Spares n (entry_shares batch ((entry, j) ∷ tail))) (sym (no_job_set batch entry place earlier st (ap is_some (ap (value_of st.vars) same ∙ s.1)))) rest)
+    (λ other. one_entry n batch entry (job_for batch place earlier entry st) tail other rest)
     (same_or_not (entry_name batch.listed entry) n)
 
-not_plain : (n : List ℕ) (d : Declares) (e : Effect) (st : State) → Set n st → Among n (tested_plain d e st) → ⊥
-not_plain n d (effects.Batch listed entries includes) st s h = not_entries n (record { listed = listed; entries = entries; includes = includes }) entries 1 [] st s h
-not_plain n d e st s h = not_each n (uses_of d e).tests st s h
+spares_effect : (n : List ℕ) (d : Declares) (e : Effect) (st : State) (rs : List Reply) → Set n st → Spares n (effect_shares d e st rs)
+spares_effect n d (effects.Batch listed entries includes) st rs s = spares_entries n (record { listed = listed; entries = entries; includes = includes }) entries 1 [] st s
+spares_effect n d e st rs s = spares_use n (uses_of d e) st (effect e st) rs s
 
-not_kind : (n : List ℕ) (kind : Option Kind) (st : State) → Set n st → Among n (tested_kind kind st) → ⊥
-not_kind n None st s h = h
-not_kind n (Some kind) st s h = not_one n (name_of kind) st s h
-
-not_at : (n : List ℕ) (r : Subject) (st : State) → Set n st → Among n (tested_at r st) → ⊥
-not_at n Nothing st s h = h
-not_at n (Word word) st s h = h
-not_at n (Asked q) st s h = not_kind n (test_in q) st s h
-
-not_inside : (n : List ℕ) (r : Subject) (st : State) (rs : List Reply) (rest : Scope → State → List Reply → List (List ℕ)) → Set n st → ((c : Scope) (now : State) (qs : List Reply) → Set n now → Among n (rest c now qs) → ⊥) → Among n (tested_inside r st rs rest) → ⊥
-not_inside n Nothing st rs rest s never h = never no_choice st rs s h
-not_inside n (Word word) st rs rest s never h = never (about (word_value word st.vars)) st rs s h
-not_inside n (Asked q) st rs rest s never h =
+spares_subject : (n : List ℕ) (r : Subject) (st : State) (rs : List Reply) (rest : Scope → State → List Reply → List Share) → Set n st → ((c : Scope) (now : State) (left : List Reply) → Set n now → Spares n (rest c now left)) → Spares n (subject_shares r st rs rest)
+spares_subject n Nothing st rs rest s h = h no_choice st rs s
+spares_subject n (Word word) st rs rest s h = h (about (word_value word st.vars)) st rs s
+spares_subject n (Asked q) st rs rest s h =
     let run = asked as_is q st yes_or_no in
-    not_answered n (finish run rs).how (finish run rs) rest (still_set n run rs (asked_holds (Stays n) (steps n).steps q st yes_or_no (λ c now k. k) s)) never h
+    each_both (λ share. Other n share.name) (use_shares (uses_asked q) st run rs) (shares_answered run rs rest) (spares_use n (uses_asked q) st run rs s)
+    (each_answered (λ share. Other n share.name) (Set n) run rs rest (asked_holds (Stays n) (steps n).steps q st yes_or_no (λ c now k. k) s) h)
 
-not_turns : (n : List ℕ) (rounds : List Subject) (go : Scope → State → Run) (inside : Scope → State → List Reply → List (List ℕ)) → ((c : Scope) (now : State) → Set n now → Keeps (Set n) (go c now)) → ((c : Scope) (now : State) (qs : List Reply) → Set n now → Among n (inside c now qs) → ⊥)
-    → (st : State) (rs : List Reply) → Set n st → Among n (tested_turns rounds go inside st rs) → ⊥
-not_turns n [] go inside keep never st rs s h = h
-not_turns n (r ∷ more) go inside keep never st rs s h =
-    ⊎_elim
-    (λ a. ⊎_elim (not_at n r st s) (not_inside n r st rs inside s never) (among_either n (tested_at r st) _ a))
-    (not_after n (finish (begun as_is r st go) rs).how (finish (begun as_is r st go) rs) (tested_turns more go inside)
-    (still_set n (begun as_is r st go) rs (begun_holds (Stays n) (steps n).steps r st go keep s)) (λ now left k. not_turns n more go inside keep never now left k))
-    (among_either n _ _ h)
-
-not_either : (n : List ℕ) (b : Bool) (x y : List (List ℕ)) → (Among n x → ⊥) → (Among n y → ⊥) → Among n (cond b x y) → ⊥
-not_either n true x y p q h = p h
-not_either n false x y p q h = q h
+spares_turns : (n : List ℕ) (rounds : List Subject) (go : Scope → State → Run) (inside : Scope → State → List Reply → List Share) → ((c : Scope) (now : State) → Set n now → Keeps (Set n) (go c now)) → ((c : Scope) (now : State) (left : List Reply) → Set n now → Spares n (inside c now left))
+    → (st : State) (rs : List Reply) → Set n st → Spares n (turn_shares rounds go inside st rs)
+spares_turns n [] go inside keep h st rs s = tt
+spares_turns n (r ∷ more) go inside keep h st rs s =
+    each_both (λ share. Other n share.name) (subject_shares r st rs inside) _ (spares_subject n r st rs inside s h)
+    (each_after (λ share. Other n share.name) (Set n) (begun as_is r st go) rs (turn_shares more go inside) (begun_holds (Stays n) (steps n).steps r st go keep s) (λ now left k. spares_turns n more go inside keep h now left k))
 
 mutual
-  unfolding meaning chosen tests_made tests_made_in
+  unfolding meaning chosen shares case_shares
 
-  not_tested : (script : Script) (n : List ℕ) (st : State) (rs : List Reply) → Set n st → Among n (tests_made script st rs) → ⊥
-  not_tested Done n st rs s h = h
-  not_tested (Then d e rest) n st rs s h =
-      ⊎_elim (not_plain n d e st s)
-      (not_after n (finish (effect e st) rs).how (finish (effect e st) rs) (tests_made rest) (still_set n (effect e st) rs (effect_holds (Stays n) (steps n) e st s)) (λ now left k. not_tested rest n now left k))
-      (among_either n (tested_plain d e st) _ h)
-  not_tested (Choice d subject cases rest) n st rs s h =
+  spares : (script : Script) (n : List ℕ) (st : State) (rs : List Reply) → Set n st → Spares n (shares script st rs)
+  spares Done n st rs s = tt
+  spares (Then d e rest) n st rs s =
+      each_both (λ share. Other n share.name) (effect_shares d e st rs) _ (spares_effect n d e st rs s)
+      (each_after (λ share. Other n share.name) (Set n) (effect e st) rs (shares rest) (effect_holds (Stays n) (steps n) e st s) (λ now left k. spares rest n now left k))
+  spares (Choice d subject cases rest) n st rs s =
       let keep : (c : Scope) (now : State) → Set n now → Keeps (Set n) (chosen cases c now) = λ c now k. chosen_holds (Stays n) (steps n) cases c now k in
-      ⊎_elim
-      (not_turns n (rounds_of subject) (chosen cases) (tests_made_in cases) keep (λ c now left k. not_tested_in cases n c now left k) st rs s)
-      (not_after n (finish (in_turn (rounds_of subject) (chosen cases) st) rs).how (finish (in_turn (rounds_of subject) (chosen cases) st) rs) (tests_made rest)
-      (still_set n (in_turn (rounds_of subject) (chosen cases) st) rs (turns_hold (Stays n) (steps n).steps (rounds_of subject) st (chosen cases) keep s)) (λ now left k. not_tested rest n now left k))
-      (among_either n (tested_turns (rounds_of subject) (chosen cases) (tests_made_in cases) st rs) _ h)
-  not_tested (Check message name commands rest) n st rs s h =
-      ⊎_elim
-      (not_if n name st (value_of st.vars name) (tests_made commands (checking (word_value message st.vars) st) rs) refl s (λ k. not_tested commands n (checking (word_value message st.vars) st) rs s k))
-      (not_after n (finish (checks message name (meaning commands) st) rs).how (finish (checks message name (meaning commands) st) rs) (tests_made rest)
-      (still_set n (checks message name (meaning commands) st) rs (cached_holds (Stays n) (steps n).steps (check message name (meaning commands) st) st (λ now k. meaning_holds (Stays n) (steps n) commands now k) s))
-      (λ now left k. not_tested rest n now left k))
-      (among_either n _ _ h)
+      each_both (λ share. Other n share.name) (turn_shares (rounds_of subject) (chosen cases) (case_shares cases) st rs) _
+      (spares_turns n (rounds_of subject) (chosen cases) (case_shares cases) keep (λ c now left k. spares_in cases n c now left k) st rs s)
+      (each_after (λ share. Other n share.name) (Set n) (in_turn (rounds_of subject) (chosen cases) st) rs (shares rest) (turns_hold (Stays n) (steps n).steps (rounds_of subject) st (chosen cases) keep s) (λ now left k. spares rest n now left k))
+  spares (Check message name commands rest) n st rs s =
+      let begins = checking (word_value message st.vars) st in
+      each_both (λ share. Other n share.name) (made (value_of st.vars name) (owned name [] (shares commands begins rs))) _
+      (spares_made n name st _ s (λ other. each_owned (λ share. Other n share.name) name [] (shares commands begins rs) (λ own. other) (each_test (λ share. Other n share.name) (shares commands begins rs) (spares commands n begins rs s))))
+      (each_after (λ share. Other n share.name) (Set n) (checks message name (meaning commands) st) rs (shares rest)
+      (cached_holds (Stays n) (steps n).steps (check message name (meaning commands) st) st (λ now k. meaning_holds (Stays n) (steps n) commands now k) s)
+      (λ now left k. spares rest n now left k))
 
-  not_tested_in : (cases : Cases) (n : List ℕ) (scope : Scope) (st : State) (rs : List Reply) → Set n st → Among n (tests_made_in cases scope st rs) → ⊥
-  not_tested_in No_case n scope st rs s h = h
-  not_tested_in (Case when body more) n scope st rs s h =
-      not_either n (is_taken when scope st.vars) _ _ (λ k. not_tested body n st rs s k) (λ k. not_tested_in more n scope st rs s k) h
+  spares_in : (cases : Cases) (n : List ℕ) (scope : Scope) (st : State) (rs : List Reply) → Set n st → Spares n (case_shares cases scope st rs)
+  spares_in No_case n scope st rs s = tt
+  spares_in (Case when body more) n scope st rs s =
+      each_either (λ share. Other n share.name) (is_taken when scope st.vars) (shares body st rs) (case_shares more scope st rs) (spares body n st rs s) (spares_in more n scope st rs s)
+
+not_first : (n : List ℕ) (o : Option (List ℕ)) (more : List (List ℕ)) → Other n o → (Among n more → ⊥) → Among n (option_to_list o ++ more) → ⊥
+not_first n None more k rest a = rest a
+not_first n (Some name) more k rest a = ⊎_elim k rest a
+
+not_among : (n : List ℕ) (l : List Share) → Spares n l → Among n (flat_map (λ share. option_to_list share.name) l) → ⊥
+not_among n [] h a = a
+not_among n (share ∷ l) h a = not_first n share.name (flat_map (λ s. option_to_list s.name) l) h.0 (not_among n l h.1) a
 
 pub asks_no_saved : AsksNoSaved
 asks_no_saved script end before second again name value p e h =
-    not_tested script name second again (value, p.value name ∙ ap (λ o. poured o (value_of before.vars name)) e) h
+    not_among name (shares script second again) (spares script name second again (value, p.value name ∙ ap (λ o. poured o (value_of before.vars name)) e)) h

@@ -5,14 +5,15 @@
 //! `specs/Joint.antt` (the joint replies of a run that was cut and of a second one), `specs/Alone.antt` and
 //! `specs/Same.antt` (what is asked of tests that may leave their names unset), and then `specs/Law.antt`.
 //! `specs/Plays.antt` has the same law for whole runs. `specs/Opening.antt` is about the cache text that leads from the first
-//! to the second, and `specs/Asked.antt` about the tests that a run makes. Which replies cut a run is a law of `laws`.
+//! to the second, and `specs/Asked.antt` about the tests that a run makes, each with its jobs. Which replies cut a run is a
+//! law of `laws`.
 //!
 //! For example, say that a source checks the header `a.h` and then the function `f`, and that the first child answers and
 //! the second can't be started. The cache then has `ac_cv_header_a_h`. A second run that begins with it, and whose first
 //! child answers 0, asks for one child, and ends as one run would under the first answer and then 0.
 #![tactic(auto)]
 
-ghost use Rattle.resuming.specs.Asked.{AsksNoSaved};
+ghost use Rattle.resuming.specs.Asked.{AsksNoSaved, SharesAreJobs, SharesArePlayed, SharesHaveTheirJobs, SharesAreTests};
 ghost use Rattle.resuming.specs.Law.{Resumes};
 ghost use Rattle.resuming.specs.Opening.{CachePours};
 ghost use Rattle.resuming.specs.Plays.{WholeRunsResume};
@@ -36,6 +37,18 @@ pub fn whole_runs_resume()
 /// begins with the saved values, as `whole_runs_resume` wants it. The first run may have had a cache of its own.
 pub fn cache_pours()
     ensures law { CachePours }
+{}
+
+/// Each job that a run asks for belongs to a test that the run makes, or to a program that is tried outside AC_CACHE_CHECK: these
+/// jobs, in their order, are those of the run. The jobs of a test are those that its own statement, question or entry asks
+/// for, whose name it has. If the name is set, the test is not made. In a source that can be resumed no program is tried
+/// outside AC_CACHE_CHECK, so each job belongs to a test.
+#[tactic(auto, using(crate::proofs::Shares::shares_are_jobs, crate::proofs::Shares::shares_are_played, crate::proofs::TheirJobs::shares_have_their_jobs, crate::proofs::OfTests::shares_are_tests))]
+pub fn tests_ask()
+    ensures jobs { SharesAreJobs }
+    ensures played { SharesArePlayed }
+    ensures theirs { SharesHaveTheirJobs }
+    ensures tests { SharesAreTests }
 {}
 
 /// A run that begins with the saved values of an end makes no test of a name that was saved, whatever the source.

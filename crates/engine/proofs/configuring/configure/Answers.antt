@@ -24,7 +24,8 @@ pub returns-clause-cut : goal.returns-clause-cut
 returns-clause-cut g c = is_cut _ _ _ _ _ _ _ _ _ c.whole.ensures.whole
 
 pub returns-clause-kept : goal.returns-clause-kept
-returns-clause-kept g c = holds_set _ _ _ _ _ _ _ _ _ c.whole.ensures.whole
+returns-clause-kept g c =
+    holds_set _ _ _ _ _ _ _ _ _ _ _ _ _ (c.sources_have_forms.ensures.commands _) (c.sources_have_forms.ensures.names _) c.whole.ensures.whole
 
 pub returns-clause-reads_back : goal.returns-clause-reads_back
 returns-clause-reads_back g c = reads_back _ _ _ _ _ _ _ _ _ c.whole.ensures.whole
