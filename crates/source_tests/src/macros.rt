@@ -15,10 +15,8 @@ use deftable::Texts;
 use m4quote::{Arg, Item, read_items};
 use std::alloc::{AllocError, Global};
 use std::test::Fail;
-use syntax::{
-    Declarations, Declares, Effect, OptionKind, OutputKind, Question, Reads, Stage, Try, Uses,
-    uses_asked, uses_of,
-};
+use syntax::uses::{Reads, Uses, uses_asked, uses_of};
+use syntax::{Declarations, Declares, Effect, OptionKind, OutputKind, Question, Stage, Try};
 use testrows::{Call, Page, try_rows};
 use testtrees::{put_plain, put_question, put_sought};
 
