@@ -35,21 +35,30 @@ rm -f ./*.seen
 expect 0 '' -c conftest1.c
 wait
 
-# meet WINDOW ANSWER: of two headers that are checked at once, the first has this answer. It is yes only if both children run
-# at one time.
+# meet WINDOW ANSWER STATUS: of two headers that are checked at once, the first has this answer, and its child this status. It is
+# found only if both children run at one time.
 meet() {
     mkdir "run$1" && cd "run$1" || exit 2
     printf 'AC_INIT([demo],[1.0])\nAC_CHECK_HEADERS([a.h b.h])\nAC_OUTPUT\n' > configure.ac
     echo '!meet' > standin.txt
     said=$("$acrun" "$1" configure CC="$acrun standin" 2>&1)
-    if [ "$said" != "checking for a.h... $2
+    found=$?
+    if [ "$found" != 0 ] || [ "$said" != "checking for a.h... $2
 checking for b.h... yes" ]; then
         wrong=1
-        echo "standin: with $1 the run says '$said'"
+        echo "standin: with $1 the run ends with $found, and says '$said'"
+    fi
+    children=$(grep -e '^\$ ' -e '^status ' config.log)
+    if [ "$children" != "\$ $acrun standin -c conftest1.c
+status $3
+\$ $acrun standin -c conftest2.c
+status 0" ]; then
+        wrong=1
+        echo "standin: with $1 the log has the children '$children'"
     fi
     cd .. || exit 2
 }
 
-meet -j2 yes
-meet -j1 no
+meet -j2 yes 0
+meet -j1 no 1
 [ "$wrong" -eq 0 ] && echo "standin: as it should be"

@@ -77,7 +77,7 @@ pub fn status_over<C: Crew + Causes, R: Read, W: Write, E: Write>(
 }
 
 /// Returns the exit status of the whole program over a crew, on the streams of the process.
-fn command_over<C: Crew + Causes + Children>(
+pub fn command_over<C: Crew + Causes + Children>(
     rt: &HostRuntime,
     words: &[Bytes],
     env: &[(Bytes, Bytes)],

@@ -3,7 +3,7 @@
 
 ghost use Rattle.std.specs.Prelude.{◌≡◌, []};
 
-use crate::calling::{status_of_children, status_over};
+use crate::calling::{command_over, status_of_children};
 use causes::Causes;
 use conftest::compile_job;
 use crew::{Crew, FuseKind, Fused, ProcessCrew};
@@ -13,9 +13,9 @@ use runner::words;
 use std::env::Env;
 use std::io;
 use testchildren::children::{Work, put_real_children};
-use testchildren::streams::Sheet;
 use testchildren::texts::{vars_of, words_of};
 use testrows::{Page, number_of};
+use watching::Watched;
 
 // ---- the program that is played
 
@@ -88,17 +88,17 @@ fn word_at(words: &[Bytes], at: usize) -> &[u8] {
     }
 }
 
-// ---- a run of which a call is refused
+// ---- a run of the whole program, of which a call may be refused
 
-/// The call that is refused.
+/// The call that is refused. None is if the number is 0.
 #[derive(Clone, Copy)]
 struct Cut {
     kind: FuseKind,
     k: usize,
 }
 
-/// Puts the exit status of the program over a crew that refuses a call, around one that has started nothing, and what it writes
-/// to both streams.
+/// Puts the exit status of the whole program over a crew that refuses a call, around one that has started nothing. What it
+/// prints goes to the streams of the process.
 fn put_status<C: Crew + Causes + Drop>(
     page: &mut Page,
     rt: &HostRuntime,
@@ -108,28 +108,9 @@ fn put_status<C: Crew + Causes + Drop>(
 )
     requires crew { C.account inner ≡ record { events = []; attempts = 0; failures = 0 } }
 {
-    let mut crew = Fused::new(inner, refused.kind, refused.k as u64);
-    let mut input: &[u8] = b"";
-    let mut output = Sheet {
-        kept: Page::new(page.alloc()),
-        fails: false,
-    };
-    let mut errors = Sheet {
-        kept: Page::new(page.alloc()),
-        fails: false,
-    };
-    let status = status_over(
-        rt,
-        words,
-        &[],
-        &mut crew,
-        &mut input,
-        &mut output,
-        &mut errors,
-    );
-    page.put_shown(&status);
-    page.put_text(output.kept.text());
-    page.put_text(errors.kept.text());
+    let crew = Fused::new(inner, refused.kind, refused.k as u64);
+    let mut crew = Watched::new(crew, Vec::new(page.alloc()), false);
+    page.put_shown(&command_over(rt, words, &[], &mut crew));
 }
 
 /// Puts the same over real children.
@@ -146,7 +127,7 @@ fn put_over_children(page: &mut Page, rt: &HostRuntime, words: &[Bytes], refused
 /// Puts a run with that compiler, of which these words say whether a start or an end is refused, and its number.
 pub fn put_refused(page: &mut Page, rt: &HostRuntime, words: &[Bytes]) {
     let mut command = Page::new(page.alloc());
-    command.put(b"configure,CC=");
+    command.put(b"configure,-C,CC=");
     put_compiler(&mut command, rt);
     let command = words_of(page, command.text());
     let kind = match word_at(words, 1) {
