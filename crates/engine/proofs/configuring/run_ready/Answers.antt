@@ -3,7 +3,7 @@ use Rattle.engine.specs.Configured.{ended}
 use Rattle.engine.proofs.configuring.run_ready.Goals as goal
 
 pub returns-in_err-artifacts-clause-begun : goal.returns-in_err-artifacts-clause-begun
-returns-in_err-artifacts-clause-begun g c = any_err _ c.from_residual.result (ended (c.in_ok-end.ensures.meaning _ c.requires.plan))
+returns-in_err-artifacts-clause-begun g c = any_err _ _ (ended (c.in_ok-end.ensures.meaning _ c.requires.plan))
 
 pub returns-in_err-messages-clause-begun : goal.returns-in_err-messages-clause-begun
 returns-in_err-messages-clause-begun g c = any_err _ _ (ended (c.in_ok-end.ensures.meaning _ c.requires.plan))
