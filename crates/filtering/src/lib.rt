@@ -21,4 +21,4 @@ mod whole;
 
 pub use errors::tell;
 pub use fault::FilterFault;
-pub use whole::{Filtered, filter, filter_text, source_part};
+pub use whole::{Filtered, filter, filter_keeping, source_part};

@@ -117,7 +117,7 @@ pub fn source_part(input: &[u8]) -> &[u8]
 /// # Errors
 ///
 /// Those of [`filter`] but `Read`, in the same order.
-pub fn filter_text<W: Write>(
+fn filter_text<W: Write>(
     alloc: Global,
     input: &[u8],
     writer: &mut W,
@@ -137,6 +137,29 @@ pub fn filter_text<W: Write>(
         status: answer.status,
         errors: answer.errors,
     })
+}
+
+/// Filters, as [`filter`] does, and keeps the text that was read. If the input can't be read, none is kept.
+///
+/// # Errors
+///
+/// Those of [`filter`], in the same order.
+pub fn filter_keeping<R: Read, W: Write>(
+    alloc: Global,
+    reader: &mut R,
+    writer: &mut W,
+    kept: &mut Vec<u8>,
+) -> Result<Filtered, FilterFault>
+    // If it succeeds, what is written, the text for standard error and the status are those of the source's meaning.
+    ensures written { IfOk result (λ f. IfSome (R.remaining reader.old)
+        (λ input. (out : List ℕ) × IsFiltered input out f.errors.items f.status × Appends (W.contents writer.old) (W.contents writer.new) out)) }
+    // If it fails, and not because of the writer, the writer is unchanged.
+    ensures untouched { IfErr result (λ e. e ≢ FilterFault.Write → writer.new ≡ writer.old) }
+    // If it fails, the input has an error, can't be read, or its text can't be written, or memory ran out.
+    ensures refused { IfErr result (λ e. IfSome (R.remaining reader.old) (λ input. IsRefused input e)) }
+{
+    *kept = read_input(alloc, reader)?;
+    filter_text(alloc, kept.as_slice(), writer)
 }
 
 /// Reads a configure.ac, a line that is exactly `%%` and the template of its first file. Runs the source, without
@@ -170,6 +193,6 @@ pub fn filter<R: Read, W: Write>(
     // If it fails, the input has an error, can't be read, or its text can't be written, or memory ran out.
     ensures refused { IfErr result (λ e. IfSome (R.remaining reader.old) (λ input. IsRefused input e)) }
 {
-    let input = read_input(alloc, reader)?;
-    filter_text(alloc, input.as_slice(), writer)
+    let mut kept = Vec::new(alloc);
+    filter_keeping(alloc, reader, writer, &mut kept)
 }

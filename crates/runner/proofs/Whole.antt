@@ -1,8 +1,9 @@
--- What is said of the text that was read is said of the input.
-use Rattle.std.proofs.Common.{◌≡◌, ◌⊎◌, ℕ, List, Option, Some, None, inl, inr, subst, ◌∙◌}
+-- What is told besides is said of the input, too.
+use Rattle.std.proofs.Common.{◌≡◌, ℕ, List, Option, Some, None}
 use Rattle.std.specs.Prelude.{IfSome}
 
-pub whole_or : (o : Option (List ℕ)) (text items : List ℕ) (other : Type 0) (says : List ℕ → Type 0) → text ≡ items → IfSome o (λ input. items ≡ input) → other ⊎ says text → other ⊎ IfSome o says
-whole_or o text items other says whole same (inl h) = inl h
-whole_or None text items other says whole same (inr h) = inr tt
-whole_or (Some input) text items other says whole same (inr h) = inr (subst says (whole ∙ same) h)
+pub said_too : (o : Option (List ℕ)) (said : List ℕ) (Is : List ℕ → List ℕ → List ℕ → Type 0) (Put Quiet Told : List ℕ → Type 0)
+    → IfSome o (λ input. (out : List ℕ) × Is input out said × Put out) → Quiet said → Told said
+    → IfSome o (λ input. (out : List ℕ) × (s : List ℕ) × Is input out s × Put out × Quiet s × Told s)
+said_too None said Is Put Quiet Told h q t = tt
+said_too (Some input) said Is Put Quiet Told h q t = (h.0, said, h.1, h.2, q, t)

@@ -7,8 +7,7 @@ ghost use Rattle.invocation.specs.Errors.{AreTold};
 
 use explaining::Why;
 use faultlines::{explain_source, explain_usage};
-use filter_input::read_input;
-use filtering::{FilterFault, Filtered, filter_text, source_part, tell};
+use filtering::{FilterFault, Filtered, filter_keeping, source_part, tell};
 use invocation::{FAULT, tell_text};
 use std::alloc::Global;
 use std::io::{Read, Write};
@@ -70,32 +69,6 @@ fn tell_said<E: Write>(said: &[u8], errors: &mut E)
     tell_text(said, errors);
 }
 
-/// Filters an input that was read, and returns the exit status.
-fn filter_read<W: Write, E: Write>(
-    alloc: Global,
-    why: bool,
-    input: &[u8],
-    output: &mut W,
-    errors: &mut E,
-) -> u8
-    ensures { (result ≡ 2) ⊎ ((out : List ℕ) × (said : List ℕ) × IsFiltered input.now out said result
-        × Appends (W.contents output.old) (W.contents output.new) out
-        × (said ≡ [] → errors.new ≡ errors.old) × AreTold (E.contents errors.old) (E.contents errors.new) (said ∷ [])) }
-{
-    match filter_text(alloc, input, output) {
-        Ok(
-            Filtered {
-                status,
-                errors: said,
-            },
-        ) => {
-            tell_said(said.as_slice(), errors);
-            status
-        }
-        Err(fault) => tell_filter(alloc, why, input, &fault, errors),
-    }
-}
-
 /// Filters the input, and returns the exit status.
 pub(crate) fn run_filter<R: Read, W: Write, E: Write>(
     alloc: Global,
@@ -108,11 +81,17 @@ pub(crate) fn run_filter<R: Read, W: Write, E: Write>(
         (λ text. (out : List ℕ) × (said : List ℕ) × IsFiltered text out said result × Appends (W.contents output.old) (W.contents output.new) out
         × (said ≡ [] → errors.new ≡ errors.old) × AreTold (E.contents errors.old) (E.contents errors.new) (said ∷ [])) }
 {
-    match read_input(alloc, input) {
-        Ok(text) => filter_read(alloc, why, text.as_slice(), output, errors),
-        Err(fault) => {
-            let fault = FilterFault::from(fault);
-            tell_filter(alloc, why, b"", &fault, errors)
+    let mut text = Vec::new(alloc);
+    match filter_keeping(alloc, input, output, &mut text) {
+        Ok(
+            Filtered {
+                status,
+                errors: said,
+            },
+        ) => {
+            tell_said(said.as_slice(), errors);
+            status
         }
+        Err(fault) => tell_filter(alloc, why, text.as_slice(), &fault, errors),
     }
 }

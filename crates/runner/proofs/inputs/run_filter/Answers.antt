@@ -1,5 +1,6 @@
-use Rattle.runner.proofs.Whole.{whole_or}
+use Rattle.std.proofs.Common.{inr}
+use Rattle.runner.proofs.Whole.{said_too}
 use Rattle.runner.proofs.inputs.run_filter.Goals as goal
 
 pub returns-in-Ok : goal.returns-in-Ok
-returns-in-Ok g c = whole_or _ c.as_slice.result.now _ _ _ c.as_slice.ensures.value c.in-Ok.ensures.ok c.filter_read.ensures
+returns-in-Ok g c = inr (said_too _ _ _ _ _ _ c.in-Ok.ensures.written c.tell_said.ensures.silent c.tell_said.ensures.told)

@@ -1,5 +1,5 @@
 use Rattle.filtering.proofs.Refusals.{read_refused, whole_err, whole_ok}
-use Rattle.filtering.proofs.whole.filter.Goals as goal
+use Rattle.filtering.proofs.whole.filter_keeping.Goals as goal
 
 pub returns-in_err-input-clause-refused : goal.returns-in_err-input-clause-refused
 returns-in_err-input-clause-refused g c = read_refused _ _ _ c.from_residual.ensures.1
