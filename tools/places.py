@@ -19,7 +19,7 @@ import sys
 DOCUMENT = pathlib.Path("docs/architecture.md")
 BEGIN, END = "<!-- tools/places.py writes what follows -->", "<!-- up to here -->"
 WIDTH = 116
-CASES = ["crates/case_tests/data"]
+CASES = ["crates/case_tests/data", "crates/case_tests/stdout"]
 PAGE = ["docs/language.md", "CHANGELOG.md"]
 MACRO = [*CASES, *PAGE, "docs/guide.md", "README.md", "crates/macrotable/macros.txt"]
 # The crates in which `lint`, `why` and `port` say something of a macro.
@@ -32,11 +32,12 @@ LINT = ["examples/lint/sources.txt", "examples/lint/expected.txt"]
 # The change, the nearest one, its identifiers, its name as texts of the code have it, the crates to
 # search (all of them if there is none), and the documents, data and examples.
 KINDS = [
-    ("A message", "AC_MSG_NOTICE", r"Notice", "AC_MSG_NOTICE", (), MACRO),
-    ("A plain macro", "AC_DEFINE_UNQUOTED", r"DefineUnquoted|define_unquoted", "AC_DEFINE_UNQUOTED",
-     (), MACRO),
-    ("A program test", "AC_PATH_PROG", r"PathProg|path_prog", "AC_PATH_PROG", (),
-     [*MACRO, "docs/running.md"]),
+    ("A message", "AC_MSG_NOTICE", r"Notice|reads AC_MSG_NOTICE", "AC_MSG_NOTICE", (), MACRO),
+    ("A plain macro", "AC_DEFINE_UNQUOTED", r"DefineUnquoted|define_unquoted|reads AC_DEFINE_UNQUOTED",
+     "AC_DEFINE_UNQUOTED", (), MACRO),
+    ("A program test", "AC_PATH_PROG",
+     r"PathProg|fn path_prog|path_prog : declarations|reads AC_PATH_PROG", "AC_PATH_PROG", (),
+     [*MACRO, "docs/running.md", "docs/promises.md"]),
     ("A cached test", "AC_CHECK_LIB", r"\w*[Ll]ibrary\w*", "AC_CHECK_LIB", (),
      [*MACRO, "docs/formats.md"]),
     ("An option", "`--no-create`", r"NoCreate|no_create", "--no-create", (),

@@ -2,5 +2,4 @@ pub mod Wholes
 mod Agreements
 mod Keeping
 mod Remakings
-mod Begun
 mod Examples

@@ -1,13 +1,14 @@
 -- The machine and the crew, from group to group.
 use Rattle.std.proofs.Common.{◌≡◌, ℕ, ◌+◌, List, [], ◌∷◌, length, map, Option, Some, None, Result, Ok, Err, OnErr, refl, sym, ap, ◌∙◌, subst, arith}
-use Rattle.std.specs.Prelude.{IsSome}
+use Rattle.std.specs.Prelude.{IsSome, IfOk, IsErr}
 use Rattle.std.proofs.lemmas.List.{append-nil}
 use Rattle.std.proofs.lemmas.List.Sums.{fold-append}
 use Rattle.crew_trait.specs.declared.reply.Reply.{Reply}
 use Rattle.crew_trait.specs.Events.{Account, IsIdle, replies_in, in_flight, flying_after}
+use Rattle.meaning.specs.Meaning.{meaning}
 use Rattle.meaning.specs.State.{State, How, Goes_on, Completed, Stopped, Cut, Run, Ends, Asks}
 use Rattle.meaning.specs.Play.{play, after, all_jobs, first_refused, whole}
-use Rattle.plan.specs.Walk.{empty_mind, Instruction, walk}
+use Rattle.plan.specs.Walk.{DoesWhat, empty_mind, Instruction, walk}
 use Rattle.plan.specs.Inside.{asks_after}
 use Rattle.machine.specs.declared.machine.Phase.{Phase}
 use Rattle.machine.specs.declared.machine.Phase.TheVariants as phase
@@ -21,7 +22,8 @@ use Rattle.run_test.specs.Waits.{given}
 use Rattle.machine.specs.Standing.{Standing, run_under, run_in, run_at, left_in, run_left, Shows, CutsAt, Refusals, Holds, Fits, fits_in, asks_in, asks_left, Turned, outcome_of}
 use Rattle.proberun.specs.Serving.{Served}
 use Rattle.proberun.specs.Ran.{Ran, outcome_from, state_of}
-use Rattle.proberun.specs.Progress.{Progress, Heeded, HasBegun, Moving, Leaves}
+use Rattle.proberun.specs.Progress.{Progress, Heeded, HasBegun, Moving, Leaves, WasRun}
+use Rattle.syntax.specs.Script.{Script}
 use Rattle.proberun.proofs.RunLemmas.{progress_begins, progress_same, progress_heard, progress_group, length-replies, answered_both, refused_later, no_failures}
 
 -- A machine that is ready for its next turn.
@@ -204,3 +206,18 @@ not_started w run now idle = record { left = run; asked = 0; latest = []; progre
 pub any_err : {T E : Type 0} (P : Type 0) (r : Result T E) → P → OnErr r P
 any_err P (Ok x) p = tt
 any_err P (Err e) p = p
+
+-- What was run of a plan, by its result.
+pub was_run : {E : Type 0} (w : ℕ) (run : Run) (before now : Account) (r : Result RunEnd E) → IfOk r (λ end. Ran w run before now end) → OnErr r (HasBegun w run before now) → WasRun w run before now r
+was_run w run before now (Ok end) ran begun = ran
+was_run w run before now (Err e) ran begun = begun
+
+-- A run that failed before its first start.
+pub none_started : {E : Type 0} (w : ℕ) (run : Run) (now : Account) (r : Result RunEnd E) → IsErr r → IsIdle now.events → WasRun w run now now r
+none_started w run now (Ok end) e idle = absurd cc
+none_started w run now (Err f) e idle = not_started w run now idle
+
+-- What was run of a plan is the meaning of the statements that it does.
+pub as_meant : {E : Type 0} (w : ℕ) (plan : List Instruction) (script : Script) (st : State) (before now : Account) (r : Result RunEnd E) → DoesWhat plan script
+    → WasRun w (whole (walk plan 0 empty_mind st)) before now r → WasRun w (whole (meaning script st)) before now r
+as_meant w plan script st before now r does h = subst (λ run. WasRun w (whole run) before now r) (does st) h

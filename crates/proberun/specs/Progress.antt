@@ -1,6 +1,6 @@
 -- How far a run over a crew is, between two groups of jobs.
 use Rattle.plan.specs.Walk.{empty_mind}
-use Rattle.std.specs.Prelude.{◌≡◌, ℕ, ◌+◌, List, [], ◌++◌, length, fold, None, IfSome}
+use Rattle.std.specs.Prelude.{◌≡◌, ℕ, ◌+◌, List, [], ◌++◌, length, fold, None, IfSome, Result, Ok, Err}
 use Rattle.jobs.specs.declared.job.Job.{Job}
 use Rattle.crew_trait.specs.declared.reply.Reply.{Reply}
 use Rattle.crew_trait.specs.declared.event.CrewEvent.{CrewEvent}
@@ -12,6 +12,7 @@ use Rattle.machine.specs.declared.machine.Phase.TheVariants as phase
 use Rattle.machine.specs.declared.machine.RunEnd.{RunEnd}
 use Rattle.run_test.specs.declared.wait.Wait.TheVariants as waits
 use Rattle.machine.specs.Standing.{Standing, outcome_of}
+use Rattle.proberun.specs.Ran.{Ran}
 use Rattle.proberun.specs.Starts.{StartsAre, TakesLeast, Fills, EndsGroup, failures_in}
 
 -- All replies so far are those of the jobs before, of which none is refused, and then the latest ones. (own)
@@ -42,6 +43,11 @@ pub record HasBegun (window : ℕ) (run : Run) (before now : Account) : Type 0 w
   pub asked : ℕ
   pub latest : List Reply
   pub progress : Progress window run left asked latest before now
+
+-- This run was run: to its end, or, if memory ran out, as far as it had come. (own)
+abbrev pub WasRun : {E : Type 0} → ℕ → Run → Account → Account → Result RunEnd E → Type 0
+WasRun window run before now (Ok end) = Ran window run before now end
+WasRun window run before now (Err e) = HasBegun window run before now
 
 -- A machine that is not at an end. (own)
 abbrev pub Moving : Phase → Type 0

@@ -4,13 +4,15 @@ ghost use Rattle.std.specs.Prelude.{◌≡◌, ◌^◌, ◌≤◌, IfOk, IsSome,
 ghost use Rattle.crew_trait.specs.Events.{IsIdle, in_flight};
 ghost use Rattle.machine.specs.Standing.{outcome_of};
 ghost use Rattle.machine.specs.declared.machine.RunEnd.{RunEnd};
+ghost use Rattle.meaning.specs.Meaning.{meaning};
 ghost use Rattle.meaning.specs.Play.{whole};
 ghost use Rattle.meaning.specs.State.{opened};
 ghost use Rattle.plan.specs.Inside.{asks_after};
-ghost use Rattle.plan.specs.Walk.{empty_mind, walk};
-ghost use Rattle.proberun.specs.Progress.{HasBegun, Leaves, before_steps};
+ghost use Rattle.plan.specs.Walk.{DoesWhat, empty_mind, walk};
+ghost use Rattle.proberun.specs.Progress.{HasBegun, Leaves, WasRun, before_steps};
 ghost use Rattle.proberun.specs.Ran.{IsWindow, MayRun, Ran};
 ghost use Rattle.proberun.specs.Serving.{AllFree};
+ghost use Rattle.syntax.specs.Script.{Script};
 
 use crate::queue::Queue;
 use crate::serving::serve;
@@ -102,6 +104,8 @@ pub fn run<C: Crew>(
     ensures ran { IfOk result (λ end. Ran window (whole (walk plan.now 0 empty_mind (opened vars))) (C.account crew.old) (C.account crew.new) end) }
     // If memory runs out, the starts so far, and their replies, are those of the same run.
     ensures begun { OnErr result (HasBegun window (whole (walk plan.now 0 empty_mind (opened vars))) (C.account crew.old) (C.account crew.new)) }
+    // If the plan does what a list of statements does, what was run is the meaning of that list.
+    ensures meaning { (script : Script) → DoesWhat plan.now script → WasRun window (whole (meaning script (opened vars))) (C.account crew.old) (C.account crew.new) result }
 {
     let mut slots = free_slots(alloc, window)?;
     run_in(alloc, plan, vars, crew, slots.as_mut_slice())

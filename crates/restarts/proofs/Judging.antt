@@ -59,8 +59,8 @@ pub record HaveForms : Type 0 where
   pub commands : (text : List ℕ) (script : Script) → source_of text ≡ Ok script → HasCommands script
   pub names : (text : List ℕ) (script : Script) → source_of text ≡ Ok script → HasTestNames script
 
--- How the call was accepted; with another cache it is accepted if that one is read, and nothing is
--- found by the check.
+-- How the call was accepted; with another cache it is accepted if that one is read, and the check
+-- finds no fault.
 pub record Way (given : Given) (cache : Option (List ℕ)) (script : Script) (start : Start) : Type 0 where
   pub source : source_of given.source ≡ Ok script
   pub settings : Settings
