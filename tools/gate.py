@@ -1,6 +1,6 @@
 #!/usr/bin/env python3
 """The gate, `make check`: `rt ci`, then what no proof sees of the repository (`repository.py`), what comes of memory that runs out
-at each allocation (`refuse_each.py`), and whether children of the built program run at one time (`examples/standin/run.sh`).
+at each allocation (`refuse_each.py`), and runs of the built program over children that are it too (`examples/standin/run.sh`).
 
 Its last line is 'N passed, M failed' over all of them, and the exit status is 1 if M is not 0.
 """
@@ -32,15 +32,15 @@ def prove():
     return passed, max(failed, int(gate.returncode != 0))
 
 
-def meet():
-    """Runs the program that `rt ci` built over children that are the program itself, and returns how many checks passed and failed."""
+def stand_in():
+    """Tries the program that `rt ci` built as the compiler of its own runs, and returns how many checks passed and failed."""
     done = subprocess.run(["sh", "examples/standin/run.sh", "crates/acrun/out/acrun"], stdin=subprocess.DEVNULL)
     return int(done.returncode == 0), int(done.returncode != 0)
 
 
 def main():
     passed, failed = prove()
-    for more, wrong in (repository.check(), refuse_each.check(), meet()):
+    for more, wrong in (repository.check(), refuse_each.check(), stand_in()):
         passed, failed = passed + more, failed + wrong
     print(f"{passed} passed, {failed} failed")
     return int(failed > 0)

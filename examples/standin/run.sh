@@ -61,4 +61,24 @@ status 0" ]; then
 
 meet -j2 yes 0
 meet -j1 no 1
+
+# A header that is refused. The log has what the child says, its status, and each line of its conftest after a bar.
+mkdir refused && cd refused || exit 2
+printf 'AC_INIT([demo],[1.0])\nAC_CHECK_HEADERS([sys/stat.h])\nAC_OUTPUT\n' > configure.ac
+echo sys/stat.h > standin.txt
+said=$("$acrun" configure -C CC="$acrun standin" 2>&1)
+found=$?
+{
+    echo 'checking for sys/stat.h... '
+    printf '$ %s standin -c conftest1.c\nsys/stat.h\nstatus 1\nfailed program was:\n' "$acrun"
+    sed 's/^/| /' conftest1.c
+    echo no
+} > wanted
+if [ "$found" != 0 ] || [ "$said" != 'checking for sys/stat.h... no' ] || ! cmp config.log wanted ||
+    ! grep -qx '#include <sys/stat.h>' conftest1.c; then
+    wrong=1
+    echo "standin: the run ends with $found, says '$said', and has this log:"
+    cat config.log
+fi
+
 [ "$wrong" -eq 0 ] && echo "standin: as it should be"
