@@ -70,19 +70,21 @@ fn run_with(
     Ok(written)
 }
 
-/// Runs a source, given its statements too, with this template.
+/// Runs a source, given its statements too, with this template. The statements are dropped before the run, which reads its
+/// own.
 fn run_source(
     alloc: Global,
     text: &[u8],
-    source: &Source,
+    source: Source,
     template: &[u8],
 ) -> Result<Written, FilterFault>
-    requires { source_of text.now ≡ Ok (script_of source.now) }
-    ensures run { IfOk result (λ w. IsRun text.now (script_of source.now) template.now w.text w.errors.items w.status) }
-    ensures refused { IfErr result (IsNotRun (judged_alone text.now (templates_of (script_of source.now) template.now))) }
+    requires { source_of text.now ≡ Ok (script_of source) }
+    ensures run { IfOk result (λ w. IsRun text.now (script_of source) template.now w.text w.errors.items w.status) }
+    ensures refused { IfErr result (IsNotRun (judged_alone text.now (templates_of (script_of source) template.now))) }
 {
     let files = source.files().as_slice();
     let templates = templates_for(alloc, files, template)?;
+    drop(source);
     let given = templates.as_slice();
     run_with(alloc, text, given)
 }
@@ -97,7 +99,7 @@ fn answer(alloc: Global, input: &[u8]) -> Result<Written, FilterFault>
     };
     let text = &input[..at];
     let source = parse(alloc, text)?;
-    run_source(alloc, text, &source, after_marker(input, at))
+    run_source(alloc, text, source, after_marker(input, at))
 }
 
 /// Returns the source that the filter runs: the text before the line `%%`. Without such a line it is the whole text.

@@ -16,4 +16,4 @@ returns-clause-refused c =
 pub returns-clause-run : goal.returns-clause-run
 returns-clause-run c =
     let same = c.as_slice-given.ensures.value ∙ c.in_ok-templates.ensures ∙ ap (λ fs. templates_for fs c.args.template.now) (c.as_slice-files.ensures ∙ c.files.ensures) in
-    run_made c.args.text.now c.args.template.now (script_of c.args.source.now) c.as_slice-given.result.now c.run_with.result (λ a. a.text) (λ a. a.errors.items) (λ a. a.status) c.requires same c.run_with.ensures.run
+    run_made c.args.text.now c.args.template.now (script_of c.args.source) c.as_slice-given.result.now c.run_with.result (λ a. a.text) (λ a. a.errors.items) (λ a. a.status) c.requires same c.run_with.ensures.run
