@@ -158,7 +158,8 @@ pub fn filter_keeping<R: Read, W: Write>(
     // If it fails, the input has an error, can't be read, or its text can't be written, or memory ran out.
     ensures refused { IfErr result (λ e. IfSome (R.remaining reader.old) (λ input. IsRefused input e)) }
 {
-    *kept = read_input(alloc, reader)?;
+    let input = read_input(alloc, reader)?;
+    *kept = input;
     filter_text(alloc, kept.as_slice(), writer)
 }
 
