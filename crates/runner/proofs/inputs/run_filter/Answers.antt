@@ -3,4 +3,5 @@ use Rattle.runner.proofs.Whole.{said_too}
 use Rattle.runner.proofs.inputs.run_filter.Goals as goal
 
 pub returns-in-Ok : goal.returns-in-Ok
-returns-in-Ok g c = inr (said_too _ _ _ _ _ _ c.in-Ok.ensures.written c.tell_said.ensures.silent c.tell_said.ensures.told)
+returns-in-Ok g c =
+    inr (said_too _ _ _ _ _ _ _ c.as_slice.ensures.value c.in-Ok.ensures.written c.tell_said.ensures.silent c.tell_said.ensures.told)
