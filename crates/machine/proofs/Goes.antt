@@ -7,7 +7,7 @@ use Rattle.std.proofs.lemmas.List.{length-map, length-replicate}
 use Rattle.crew_trait.specs.declared.reply.Reply.{Reply}
 use Rattle.meaning.specs.State.{State, Goes_on, Cut, Run, Ends, Asks}
 use Rattle.plan.specs.declared.step.Step.{Step}
-use Rattle.plan.specs.Walk.{Instruction, Mind, minded, act, walk, shown}
+use Rattle.plan.specs.Walk.{DoesWhat, Instruction, Mind, empty_mind, minded, act, walk, shown}
 use Rattle.plan.specs.Inside.{StaysInside, reach, asks_of, asks_after}
 use Rattle.run_test.specs.declared.flow.Flow.{Flow}
 use Rattle.run_test.specs.declared.flow.Flow.TheVariants as flow
@@ -17,8 +17,10 @@ use Rattle.machine.specs.declared.machine.Turn.TheVariants as turn
 use Rattle.run_test.specs.declared.wait.Wait.TheVariants as waits
 use Rattle.run_test.specs.Flows.{Leads, Continues, Heeds, IsGroup, passed, asks_now}
 use Rattle.machine.specs.Moves.{arrived, turn_by}
-use Rattle.machine.specs.Standing.{Standing, walk_inside, with_phase, run_left, left_in, CutsAt, Refusals, asks_in, asks_left, Holds, Rests, Turned}
-use Rattle.meaning.specs.Play.{first_refused, refused_after, last_words}
+use Rattle.machine.specs.Standing.{Standing, walk_inside, with_phase, run_at, run_left, left_in, CutsAt, Refusals, asks_in, asks_left, Holds, Rests, Turned}
+use Rattle.meaning.specs.Meaning.{meaning}
+use Rattle.meaning.specs.Play.{first_refused, refused_after, last_words, whole}
+use Rattle.syntax.specs.Script.{Script}
 use Rattle.plan.specs.Broken.{broken_all}
 use Rattle.run_test.proofs.Flows.{continued}
 use Rattle.run_test.specs.Waits.{given, resumed, waits_for}
@@ -347,3 +349,9 @@ turned_after plan t old mid new h turned = record {
 pub turned_after_ok : (plan : List Instruction) (r : Result Turn AllocError) (old mid new : Standing) → Onward plan old mid → IfOk r (λ t. Turned plan t (with_phase phase.Going mid) new) → IfOk r (λ t. Turned plan t old new)
 turned_after_ok plan (Ok t) old mid new h turned = turned_after plan t old mid new h turned
 turned_after_ok plan (Err e) old mid new h turned = turned
+
+-- Before the first step, the run that remains is the meaning of the statements that the plan does.
+pub meant_at_first : (plan : List Instruction) (m : Standing) (script : Script) (st : State)
+    → m ≡ record { phase = phase.Going; place = 0; mind = empty_mind; state = st; wait = waits.Nothing; before = 0; jobs = []; replies = [] }
+    → DoesWhat plan script → run_at plan m ≡ whole (meaning script st)
+meant_at_first plan m script st is does = ap (run_at plan) is ∙ ap whole (does st)

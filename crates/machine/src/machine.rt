@@ -2,14 +2,16 @@
 
 ghost use Rattle.std.specs.Prelude.{◌≡◌, ◌+◌, ◌<◌, ◌≤◌, ◌^◌, List, [], Some, None, unwrap_or, IfOk, IsOk, IsErr, OnOk, OnErr, IsSome, IfSome, length, map, replicate, slice_get, slice_set};
 ghost use Rattle.crew_trait.specs.declared.reply.Reply.TheVariants.{StartRefused};
-ghost use Rattle.meaning.specs.Play.{refused_after, with_cut_line};
+ghost use Rattle.meaning.specs.Meaning.{meaning};
+ghost use Rattle.meaning.specs.Play.{refused_after, whole, with_cut_line};
 ghost use Rattle.meaning.specs.State.{opened};
 ghost use Rattle.plan.specs.Broken.{refused_all, unset_all};
 ghost use Rattle.plan.specs.Inside.{StaysInside, asks_after, asks_of, reach};
-ghost use Rattle.plan.specs.Walk.{act, empty_mind, minded, shown};
+ghost use Rattle.plan.specs.Walk.{DoesWhat, act, empty_mind, minded, shown};
 ghost use Rattle.run_test.specs.Flows.{Continues, Heeds, IsGroup, IsStep, Leads, asks_now, passed};
 ghost use Rattle.machine.specs.Moves.{arrived, turn_by};
-ghost use Rattle.machine.specs.Standing.{Fits, Holds, Rests, Turned, outcome_of, with_phase};
+ghost use Rattle.machine.specs.Standing.{Fits, Holds, Rests, Turned, outcome_of, run_at, with_phase};
+ghost use Rattle.syntax.specs.Script.{Script};
 ghost use Rattle.run_test.specs.Waits.{Awaits, given, refused_rest, resumed, waits_for};
 ghost use Rattle.run_test.specs.declared.wait.Wait.TheVariants as waits;
 
@@ -133,9 +135,14 @@ impl Model for Machine {
 impl Machine {
     /// Creates a machine before the first step of the plan, with these variables and no definitions. It allocates
     /// nothing.
-    pub fn new(alloc: Global, _plan: &Plan, vars: Vars) -> Machine
-        ensures { result ≡ record { phase = Phase.Going; place = 0; mind = empty_mind; state = opened vars; wait = waits.Nothing; before = 0; jobs = []; replies = [] } }
+    #[tactic(auto, using(crate::proofs::Goes::meant_at_first))]
+    pub fn new(alloc: Global, plan: &Plan, vars: Vars) -> Machine
+        ensures value { result ≡ record { phase = Phase.Going; place = 0; mind = empty_mind; state = opened vars; wait = waits.Nothing; before = 0; jobs = []; replies = [] } }
+        // If the plan does what a list of statements does, the run that remains is the meaning of
+        // that list. Each turn leaves the run that remained before it, once its replies are taken.
+        ensures meaning { (script : Script) → DoesWhat plan.now script → run_at plan.now result ≡ whole (meaning script (opened vars)) }
     {
+        let _plan = plan;
         Machine {
             alloc,
             phase: Phase::Going,

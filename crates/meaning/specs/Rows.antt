@@ -4,13 +4,13 @@ use Rattle.jobs.specs.declared.job.Job.{Job}
 use Rattle.jobs.specs.Probe.{Probe, Compile, Link, path_of, job_of}
 use Rattle.csource.specs.Sources.{default_includes, header_source, function_source, declaration_source, type_source, second_type_source}
 use Rattle.deftable.specs.Table.{value_of, with_entry}
-use Rattle.m4quote.specs.Names.{cpp_byte}
 use Rattle.shellword.specs.declared.part.Part.{Part}
 use Rattle.shellword.specs.Value.{word_value}
 use Rattle.syntax.specs.declared.listed.Listed.{Listed}
 use Rattle.syntax.specs.declared.listed.Listed.TheVariants.{Header, Function, Declaration}
 use Rattle.syntax.specs.declared.listed.Sought.{Sought}
 use Rattle.syntax.specs.declared.listed.Sought.TheVariants.{Entry, «Type»}
+pub use Rattle.syntax.specs.Definitions.{symbol_part}
 use Rattle.syntax.specs.TestNames.{type_name, library_name, libraries_name}
 pub use Rattle.syntax.specs.TestNames.{shell_part, entry_name}
 use Rattle.meaning.specs.State.{State, with_variable, with_definition}
@@ -74,10 +74,6 @@ first_of (Some value) otherwise = Some value
 abbrev pub text_or_no : List ℕ → List ℕ
 text_or_no [] = codes "no"
 text_or_no (b ∷ bs) = b ∷ bs
-
--- The text as the end of a preprocessor symbol. (Autoconf's manual, AS_TR_CPP in "Common Shell Constructs")
-abbrev pub symbol_part : List ℕ → List ℕ
-symbol_part text = map cpp_byte text
 
 -- What is checked of an entry. (Autoconf's manual, "Printing Messages")
 abbrev pub entry_message : Listed → List ℕ → List ℕ

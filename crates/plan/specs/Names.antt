@@ -1,8 +1,8 @@
 -- The names that a plan defines.
-use Rattle.std.specs.Prelude.{ℕ, true, false, List, [], ◌∷◌, ◌++◌, Option, Some, None, All, IfSome, codes}
+use Rattle.std.specs.Prelude.{ℕ, true, false, List, [], ◌∷◌, Option, Some, None, All, IfSome, codes}
 use Rattle.deftable.specs.ShellName.{IsShellName}
-use Rattle.syntax.specs.declared.listed.Listed.{Listed}
-use Rattle.syntax.specs.declared.listed.Listed.TheVariants.{Header, Function, Declaration}
+use Rattle.syntax.specs.declared.listed.Sought.TheVariants as sought
+pub use Rattle.syntax.specs.Definitions.{entry_definition, sought_definition, library_definition}
 use Rattle.syntax.specs.declared.statement.Effect.{Effect}
 use Rattle.syntax.specs.declared.statement.Effect.TheVariants.{Define, DefineText, Package, Batch}
 use Rattle.syntax.specs.declared.statement.Question as asks
@@ -10,15 +10,8 @@ use Rattle.syntax.specs.declared.statement.Question.TheVariants as questions
 use Rattle.syntax.specs.declared.statement.Question.TheVariants.{Given, Tries, Checks, ChecksEach}
 use Rattle.syntax.specs.declared.tree.Subject as subject
 use Rattle.syntax.specs.declared.tree.Subject.TheVariants.{Nothing, Word, Asked}
-use Rattle.meaning.specs.Rows.{Kind, Program, Single, Sized, Library, Libraries, kind_for, symbol_part}
+use Rattle.meaning.specs.Rows.{Kind, Program, Single, Sized, Library, Libraries, kind_for}
 use Rattle.plan.specs.Walk.{Instruction, Does, Looks, Defaults, Begins, Skips_unless, Skips, Opens, Closes}
-
--- The name that the result of an entry defines: `HAVE_` and the entry, and for a declaration `HAVE_DECL_` and the entry.
--- (Autoconf's manual, "Generic Headers", "Generic Functions" and "Generic Declarations")
-abbrev pub entry_definition : Listed → List ℕ → List ℕ
-entry_definition Header entry = codes "HAVE_" ++ symbol_part entry
-entry_definition Function entry = codes "HAVE_" ++ symbol_part entry
-entry_definition Declaration entry = codes "HAVE_DECL_" ++ symbol_part entry
 
 -- The name that a test of this kind defines, if it defines one: that of an entry, `HAVE_` and a type, or `HAVE_LIB` and a
 -- library. (Autoconf's manual, "Generic Headers" to "Generic Types" and "Library Files")
@@ -26,9 +19,9 @@ abbrev pub definition : Kind → Option (List ℕ)
 definition (Program search own) = None
 definition (Single listed entry includes true) = Some (entry_definition listed entry)
 definition (Single listed entry includes false) = None
-definition (Sized name includes true) = Some (codes "HAVE_" ++ symbol_part name)
+definition (Sized name includes true) = Some (sought_definition sought.«Type» name)
 definition (Sized name includes false) = None
-definition (Library library function others true) = Some (codes "HAVE_LIB" ++ symbol_part library)
+definition (Library library function others true) = Some (library_definition library)
 definition (Library library function others false) = None
 definition (Libraries function libraries others) = None
 

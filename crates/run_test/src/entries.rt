@@ -1,9 +1,9 @@
 //! The tests of entries and types: what they print, keep and define (Autoconf's manual, "Generic Headers" to "Generic
 //! Types").
 
-ghost use Rattle.std.specs.Prelude.{◌≡◌, ◌++◌, IfOk, OnOk};
+ghost use Rattle.std.specs.Prelude.{◌≡◌, IfOk, OnOk};
 ghost use Rattle.meaning.specs.Batches.{yes_or_no};
-ghost use Rattle.meaning.specs.Rows.{entry_job, is_yes, symbol_part};
+ghost use Rattle.meaning.specs.Rows.{entry_job, is_yes};
 ghost use Rattle.run_test.specs.Courses.{entry_test, entry_used, value_in};
 ghost use Rattle.run_test.specs.Entries.{begun, decided, digit_of, entry_result, heard_end, known, with_declaration, with_have};
 
@@ -12,11 +12,11 @@ use crate::course::EntryTest;
 use crate::loan::Loan;
 use deftable::Bytes;
 use jobs::Job;
-use m4quote::cpp_name;
 use runstate::Store;
 use runstate::pieces::{begin_declaration, begin_search, break_test, end_check, end_known_check};
 use shellword::HereText;
 use std::alloc::{AllocError, Global};
+use syntax::definitions::sought_definition;
 use syntax::test_names::sought_name;
 use syntax::{Listed, Sought};
 
@@ -84,15 +84,7 @@ pub fn begin_entry(alloc: Global, store: &mut Store, test: &EntryTest) -> Result
     }
 }
 
-/// Returns a symbol to define: a prefix, and a name as part of a symbol.
-pub(crate) fn symbol_name(alloc: Global, prefix: &[u8], name: &[u8]) -> Result<Bytes, AllocError>
-    ensures { IfOk result (λ symbol. symbol ≡ prefix.now ++ symbol_part name.now) }
-{
-    let part = cpp_name(alloc, name)?;
-    Bytes::concat(alloc, &[prefix, part.as_slice()])
-}
-
-/// Defines `HAVE_` and the name of what is found, as 1.
+/// Defines `HAVE_` and the name of what is found, as 1, which is so of all but a declaration.
 #[tactic(auto, using(plan::proofs::Symbols::have_name))]
 fn define_have(
     alloc: Global,
@@ -105,7 +97,7 @@ fn define_have(
     if !found {
         return Ok(());
     }
-    let symbol = symbol_name(alloc, b"HAVE_", entry)?;
+    let symbol = sought_definition(alloc, Sought::Type, entry)?;
     store.define(symbol.as_slice(), b"1")
 }
 
@@ -126,7 +118,7 @@ fn define_declared(
 ) -> Result<(), AllocError>
     ensures { OnOk result (store.new ≡ with_declaration entry.now found store.old) }
 {
-    let symbol = symbol_name(alloc, b"HAVE_DECL_", entry)?;
+    let symbol = sought_definition(alloc, Sought::Entry(Listed::Declaration), entry)?;
     store.define(symbol.as_slice(), one_or_zero(found))
 }
 

@@ -6,13 +6,14 @@ ghost use Rattle.meaning.specs.Tests.{checking};
 ghost use Rattle.run_test.specs.Courses.{begun_libraries, begun_library, entry_otherwise, libraries_message, library_message, message_in, name_in, otherwise_in, scope_in, shown_in, used_in, with_library_defined};
 
 use crate::course::Course;
-use crate::entries::{begin_entry, is_yes, symbol_name, use_entry};
+use crate::entries::{begin_entry, is_yes, use_entry};
 use crate::loan::{Loan, lent};
 use deftable::Bytes;
 use runstate::pieces::{begin_check, begin_search};
 use runstate::{About, Store};
 use std::alloc::{AllocError, Global};
 use syntax::Sought;
+use syntax::definitions::library_definition;
 
 /// Returns the name of a test.
 pub fn name_of(course: &Course) -> &[u8]
@@ -139,7 +140,7 @@ fn add_to_libs(alloc: Global, store: &mut Store, text: &[u8]) -> Result<(), Allo
 fn define_library(alloc: Global, store: &mut Store, library: &[u8]) -> Result<(), AllocError>
     ensures { OnOk result (store.new ≡ with_library_defined library.now store.old) }
 {
-    let symbol = symbol_name(alloc, b"HAVE_LIB", library)?;
+    let symbol = library_definition(alloc, library)?;
     store.define(symbol.as_slice(), b"1")
 }
 

@@ -5,6 +5,7 @@ pub mod Lists
 pub mod Limits
 pub mod Commands
 pub mod TestNames
+pub mod Definitions
 pub mod Uses
 pub mod Resumable
 pub mod Decide

@@ -8,6 +8,7 @@
 //! Contracts see a list of statements as its first statement and what follows: `specs/Script.antt`. `specs/Lists.antt`
 //! says which lists statements declare, also in cases that a run does not take. `specs/Commands.antt` says what the
 //! commands of AC_CACHE_CHECK hold, `specs/TestNames.antt` the names under which tests are cached, which `test_names` makes,
+//! `specs/Definitions.antt` the names that their results define, which `definitions` makes,
 //! `specs/Uses.antt` what a statement or a question assigns, reads, tests and tries, which `uses` has in code, and
 //! `specs/Resumable.antt` which sources can be cut and started again. `resumable` has a law that the crates above use.
 //!
@@ -18,6 +19,7 @@
 #![tactic(auto)]
 
 pub mod declarations;
+pub mod definitions;
 pub mod feature;
 pub mod help;
 pub mod listed;
