@@ -1,2 +1,3 @@
 pub mod ChildLemmas
+mod Explaining
 mod Spoilt
