@@ -1,3 +1,4 @@
 pub mod ChildLemmas
 mod Explaining
+mod Naming
 mod Spoilt
