@@ -7,5 +7,7 @@ cause_of child [] = None
 cause_of child (entry ∷ entries) = if entry.0 == child then entry.1 else cause_of child entries
 
 -- The causes with that of one more child, unless there are 16. (own)
-unfoldable pub with_cause : List (ℕ × Option (List ℕ)) → ℕ → Option (List ℕ) → List (ℕ × Option (List ℕ))
-with_cause entries child cause = if nat_lt (length entries) 16 then entries ++ (child, cause) ∷ [] else entries
+unfoldable pub with_cause : List (ℕ × Option (List ℕ)) → ℕ → Option (List ℕ)
+    → List (ℕ × Option (List ℕ))
+with_cause entries child cause =
+    if nat_lt (length entries) 16 then entries ++ (child, cause) ∷ [] else entries

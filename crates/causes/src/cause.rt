@@ -33,7 +33,8 @@ impl Model for Cause {
 }
 
 impl Cause {
-    /// Returns the cause that is an error of the system about something of this name. If memory runs out, it has no line.
+    /// Returns the cause that is an error of the system about something of this name. If memory runs
+    /// out, it has no line.
     pub fn of_error(alloc: Global, name: &[u8], error: &io::Error) -> Cause
         ensures { IfSome result (IsCauseOf name.now) }
     {
@@ -43,7 +44,8 @@ impl Cause {
         }
     }
 
-    /// Returns the cause that these words say of something of this name. If memory runs out, it has no line.
+    /// Returns the cause that these words say of something of this name. If memory runs out, it has
+    /// no line.
     #[tactic(auto, using(crate::proofs::Lines::of_words))]
     pub fn of_words(alloc: Global, name: &[u8], words: &[u8]) -> Cause
         ensures words { IfSome result (λ line. line ≡ specs.line_of name.now words.now) }

@@ -39,9 +39,10 @@ Answers (Answer status text) (Some s) P = (status ≡ status_number s) × P text
 Answers StartRefused s P = ⊥
 Answers EndRefused s P = Unit {0}
 
--- The cause of an end that is refused: of the wait if it failed, and otherwise that of the read. If nothing is refused,
--- there is none. (own)
-abbrev pub IsCauseOfEnd : {E V : Type 0} → Result ExitStatus E → Result V (Option (List ℕ)) → Option (Option (List ℕ)) → Type 0
+-- The cause of an end that is refused: of the wait if it failed, and otherwise that of the read. If
+-- nothing is refused, there is none. (own)
+abbrev pub IsCauseOfEnd : {E V : Type 0} → Result ExitStatus E → Result V (Option (List ℕ))
+    → Option (Option (List ℕ)) → Type 0
 IsCauseOfEnd (Err e) text (Some cause) = IfSome cause (IsCauseOf (codes "wait"))
 IsCauseOfEnd (Err e) text None = ⊥
 IsCauseOfEnd (Ok status) (Err why) cause = cause ≡ Some why

@@ -17,7 +17,8 @@ use std::process::{ExitStatus, OpenProcess};
 
 /// Reads what the child writes to standard error, and then waits for the child, even if the reads failed.
 ///
-/// The pipe is closed before the wait. Returns its reply, and if that is [`Reply::EndRefused`] the cause.
+/// The pipe is closed before the wait. Returns its reply, and if that is [`Reply::EndRefused`] the
+/// cause.
 pub fn end_child<P: OpenProcess + Drop>(
     alloc: Global,
     child: &mut Started<P>,
@@ -35,8 +36,8 @@ pub fn end_child<P: OpenProcess + Drop>(
     reply_of(alloc, waited, text)
 }
 
-/// Returns the reply after a wait and a read, and if that is [`Reply::EndRefused`] the cause: that of the wait if it failed, and
-/// otherwise that of the read.
+/// Returns the reply after a wait and a read, and if that is [`Reply::EndRefused`] the cause: that
+/// of the wait if it failed, and otherwise that of the read.
 #[tactic(auto, using(crate::proofs::Explaining::explained))]
 fn reply_of(
     alloc: Global,

@@ -70,7 +70,7 @@ impl<P: OpenProcess + Drop> Started<P> {
         }
     }
 
-    /// Waits for the child. Nothing holds its pipe open meanwhile, so that it doesn't wait until its text is read.
+    /// Waits for the child. Its pipe is closed, so that the child doesn't wait until it is read.
     pub(crate) fn wait(&mut self) -> io::Result<ExitStatus>
         requires { self.old.pipe.is_open ≡ false }
         ensures status { IfOk result (λ status. self.new.status ≡ Some status) }

@@ -89,7 +89,7 @@ fn no_text(alloc: Global, text: &[u8]) -> Cause
 }
 
 /// Adds the arguments to a command that has none, writes the conftest, and starts the command.
-#[tactic(auto, using(crate::proofs::Naming::of_words, crate::proofs::Naming::of_file, crate::proofs::Naming::all_words))]
+#[tactic(auto, using(crate::proofs::Naming::of_words, crate::proofs::Naming::of_file, crate::proofs::Naming::all_words,))]
 fn run<L: Launcher>(
     launcher: &mut L,
     alloc: Global,
