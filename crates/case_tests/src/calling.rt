@@ -134,8 +134,12 @@ pub fn put_command(
     let env = entries_of(page, around.env);
     let replies = replies_in(page, around.replies);
     match MemoryCrew::new(page.alloc(), replies, order_of(around)) {
-        Ok(crew) => {
-            let mut crew = Watched::new(crew, Vec::new(page.alloc()), around.is_watched);
+        Ok(mut crew) => {
+            if !around.is_watched {
+                page.put_shown(&command_over(rt, words, env.as_slice(), &mut crew));
+                return;
+            }
+            let mut crew = Watched::new(crew, Vec::new(page.alloc()), true);
             page.put_shown(&command_over(rt, words, env.as_slice(), &mut crew));
             progress.put(crew.stream().as_slice());
         }

@@ -12,10 +12,10 @@ use deftable::{Bytes, Defs, Vars};
 use runner::words;
 use std::env::Env;
 use std::io;
+use summary::Children;
 use testchildren::children::{Work, put_real_children};
 use testchildren::texts::{vars_of, words_of};
 use testrows::{Page, number_of};
-use watching::Watched;
 
 // ---- the program that is played
 
@@ -97,19 +97,22 @@ struct Cut {
     k: usize,
 }
 
-/// Puts the exit status of the whole program over a crew that refuses a call, around one that has started nothing. What it
-/// prints goes to the streams of the process.
-fn put_status<C: Crew + Causes + Drop>(
+/// Puts the exit status of the whole program over a crew that has started nothing, or over one
+/// around it that refuses a call. What it prints goes to the streams of the process.
+fn put_status<C: Crew + Causes + Children + Drop>(
     page: &mut Page,
     rt: &HostRuntime,
     words: &[Bytes],
-    inner: C,
+    mut inner: C,
     refused: Cut,
 )
     requires crew { C.account inner ≡ record { events = []; attempts = 0; failures = 0 } }
 {
-    let crew = Fused::new(inner, refused.kind, refused.k as u64);
-    let mut crew = Watched::new(crew, Vec::new(page.alloc()), false);
+    if refused.k == 0 {
+        page.put_shown(&command_over(rt, words, &[], &mut inner));
+        return;
+    }
+    let mut crew = Fused::new(inner, refused.kind, refused.k as u64);
     page.put_shown(&command_over(rt, words, &[], &mut crew));
 }
 

@@ -5,7 +5,7 @@ use Rattle.std.specs.Str.{is_utf8}
 use Rattle.std.proofs.lemmas.Bool.Decides.{nat_tests}
 use Rattle.std.proofs.lemmas.Grind.{common_steps}
 use Rattle.std.proofs.lemmas.List.Elements.{All-append, All-cons, All-from_get_or}
-use Rattle.causes.specs.Shown.{digit, is_control, shown_byte, shown_with, shown, IsShown, line_of}
+use Rattle.causes.specs.Shown.{digit, is_control, shown_byte, shown_with, shown, IsCauseOf, IsShown, line_of}
 
 plain : (b : ℕ) → 32 ≤ b → b < 127 → is_control b ≡ false
 plain b low high = grind (arith, nat_tests)
@@ -65,3 +65,7 @@ line_shown name words line n w is =
     let colon : IsShown (codes ": ") = more 58 (32 ∷ []) refl (more 32 [] refl none) in
     let front = All-append (λ x. is_control x ≡ false) (shown name) (codes ": ") (text_shown name (bytes_fit name n)) colon in
     subst IsShown (sym is) (All-append (λ x. is_control x ≡ false) (shown name ++ codes ": ") (shown words) front (text_shown words (bytes_fit words w)))
+
+-- words of a name are a cause of it
+pub of_words : (name words line : List ℕ) → line ≡ line_of name words → IsCauseOf name line
+of_words name words line is = record { words = words; is = is }

@@ -1,12 +1,13 @@
 -- What is known of why children were refused.
-use Rattle.std.specs.Prelude.{ℕ, ◌==◌, List, [], ◌∷◌, ◌++◌, Option, Some, None, if◌then◌else◌}
+use Rattle.std.specs.Prelude.{ℕ, ◌==◌, nat_lt, List, [], ◌∷◌, ◌++◌, length, Option, None, if◌then◌else◌}
 
--- The first cause of a child. (own)
-abbrev pub cause_of : ℕ → List (ℕ × List ℕ) → Option (List ℕ)
+-- The first cause of a child of which there is one, unless memory ran out for its line. (own)
+abbrev pub cause_of : ℕ → List (ℕ × Option (List ℕ)) → Option (List ℕ)
 cause_of child [] = None
-cause_of child (entry ∷ entries) = if entry.0 == child then Some entry.1 else cause_of child entries
+cause_of child (entry ∷ entries) = if entry.0 == child then entry.1 else cause_of child entries
 
--- The causes with one more, if it is known. (own)
-abbrev pub with_cause : List (ℕ × List ℕ) → ℕ → Option (List ℕ) → List (ℕ × List ℕ)
-with_cause entries child None = entries
-with_cause entries child (Some line) = entries ++ (child, line) ∷ []
+-- The causes with that of one more child, unless there are 16. (own)
+unfoldable pub with_cause : List (ℕ × Option (List ℕ)) → ℕ → Option (List ℕ)
+    → List (ℕ × Option (List ℕ))
+with_cause entries child cause =
+    if nat_lt (length entries) 16 then entries ++ (child, cause) ∷ [] else entries

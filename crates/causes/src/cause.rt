@@ -1,8 +1,8 @@
 //! Why one child was refused.
 
-ghost use Rattle.std.specs.Prelude.{◌≡◌, None, IfSome, option_map};
+ghost use Rattle.std.specs.Prelude.{◌≡◌, IfSome, option_map};
 ghost use Rattle.causes.specs.Shown as specs;
-ghost use Rattle.causes.specs.Shown.{IsCauseOf};
+ghost use Rattle.causes.specs.Shown.{IsCauseOf, IsShown};
 
 use crate::words::{line_of, words_of};
 use deftable::Bytes;
@@ -10,7 +10,7 @@ use std::alloc::Global;
 use std::io;
 use std::marker::Model;
 
-/// A line that says why a child was refused, if that is known.
+/// A line that says why a child was refused, unless memory ran out for it.
 pub struct Cause {
     line: Option<Bytes>,
 }
@@ -33,39 +33,38 @@ impl Model for Cause {
 }
 
 impl Cause {
-    /// Returns a cause of which nothing is known.
-    pub fn unknown() -> Cause
-        ensures { result ≡ None }
-    {
-        Cause { line: None }
-    }
-
-    /// Returns the cause that is an error of the system about something of this name, or an unknown one if memory runs out.
+    /// Returns the cause that is an error of the system about something of this name. If memory runs
+    /// out, it has no line.
     pub fn of_error(alloc: Global, name: &[u8], error: &io::Error) -> Cause
         ensures { IfSome result (IsCauseOf name.now) }
     {
         match words_of(alloc, name, error) {
             Ok(line) => Cause { line: Some(line) },
-            Err(_) => Cause::unknown(),
+            Err(_) => Cause { line: None },
         }
     }
 
-    /// Returns the cause that these words say of something of this name, or an unknown one if memory runs out.
+    /// Returns the cause that these words say of something of this name. If memory runs out, it has
+    /// no line.
+    #[tactic(auto, using(crate::proofs::Lines::of_words))]
     pub fn of_words(alloc: Global, name: &[u8], words: &[u8]) -> Cause
-        ensures { IfSome result (λ line. line ≡ specs.line_of name.now words.now) }
+        ensures words { IfSome result (λ line. line ≡ specs.line_of name.now words.now) }
+        ensures named { IfSome result (IsCauseOf name.now) }
     {
         match line_of(alloc, name, words) {
             Ok(line) => Cause { line: Some(line) },
-            Err(_) => Cause::unknown(),
+            Err(_) => Cause { line: None },
         }
     }
 
-    /// Returns the line.
-    pub(crate) fn into_line(self) -> Option<Bytes>
-        ensures line { result ≡ self }
-        ensures shown { IfSome result specs.IsShown }
+    /// Returns the line, or `None` if memory ran out for it.
+    pub fn line(&self) -> Option<&[u8]>
+        ensures line { option_map (λ line. line.now) result ≡ self.now }
+        ensures shown { IfSome result (λ line. IsShown line.now) }
     {
-        let Cause { line } = self;
-        line
+        match &self.line {
+            Some(line) => Some(line.as_slice()),
+            None => None,
+        }
     }
 }

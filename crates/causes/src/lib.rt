@@ -10,8 +10,9 @@
 //!
 //! "own" marks a rule that no manual gives.
 //!
-//! Read `specs/Shown.antt` first, and then `showing`, `words` and `known`. [`Cause`], in `cause`, is a line that may not be known, and
-//! [`CauseList`], in `list`, keeps the first ones; `specs/Known.antt` defines which of them is that of a child.
+//! Read `specs/Shown.antt` first, and then `showing`, `words` and `known`. [`Cause`], in `cause`, is
+//! a line, unless memory ran out for it, and [`CauseList`], in `list`, keeps the first ones;
+//! `specs/Known.antt` defines which of them is that of a child.
 #![tactic(auto)]
 
 mod cause;

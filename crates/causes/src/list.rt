@@ -1,12 +1,11 @@
 //! Why some children were refused.
 
-ghost use Rattle.std.specs.Prelude.{◌≡◌, ◌≤◌, ◌⊎◌, [], All, length, option_map, IfSome};
+ghost use Rattle.std.specs.Prelude.{◌≡◌, ◌≤◌, [], length, option_map, IfOk, IfSome};
 ghost use Rattle.causes.specs.Shown.{IsShown};
 ghost use Rattle.causes.specs.Known.{cause_of, with_cause};
 
 use crate::cause::Cause;
-use deftable::Bytes;
-use std::alloc::Global;
+use std::alloc::{AllocError, Global};
 use std::marker::Model;
 
 /// The most causes that a list has.
@@ -14,7 +13,7 @@ const MOST: usize = 16;
 
 /// The causes of the first children that were refused, at most 16, each with the number of its child.
 pub struct CauseList {
-    entries: Vec<(u64, Bytes)>,
+    entries: Vec<(u64, Cause)>,
 }
 
 impl Drop for CauseList {
@@ -24,58 +23,50 @@ impl Drop for CauseList {
 }
 
 impl Model for CauseList {
-    ghost use Rattle.std.specs.Prelude.{ℕ, List, All, length, ◌≤◌};
-    ghost use Rattle.causes.specs.Shown.{IsShown};
+    ghost use Rattle.std.specs.Prelude.{ℕ, List, Option, length, vec_capacity, ◌≤◌};
 
-    ghost Value = { List (ℕ × List ℕ) };
+    ghost Value = { List (ℕ × Option (List ℕ)) };
 
     ghost view = { λ c. c.entries.items };
 
-    ghost invariant = { λ c. All (λ e. IsShown e.1) c.entries.items × (length c.entries.items ≤ 16) };
-}
-
-/// Appends a cause, if it is known and memory doesn't run out.
-fn append(entries: &mut Vec<(u64, Bytes)>, child: u64, cause: Cause)
-    ensures kept { (entries.new.items ≡ entries.old.items) ⊎ (entries.new.items ≡ with_cause entries.old.items child cause) }
-    ensures shown { IfSome cause IsShown }
-{
-    let Some(line) = cause.into_line() else {
-        return;
-    };
-    let _ = entries.push((child, line));
+    ghost invariant = { λ c. (length c.entries.items ≤ 16) × (16 ≤ vec_capacity c.entries) };
 }
 
 /// Returns the first line of a child.
-fn line_at(entries: &[(u64, Bytes)], child: u64) -> Option<&[u8]>
-    requires { All (λ e. IsShown e.1) entries.now }
+fn line_at(entries: &[(u64, Cause)], child: u64) -> Option<&[u8]>
     ensures cause { option_map (λ line. line.now) result ≡ cause_of child entries.now }
     ensures shown { IfSome result (λ line. IsShown line.now) }
 {
     for entry in entries {
         if entry.0 == child {
-            return Some(entry.1.as_slice());
+            return entry.1.line();
         }
     }
     None
 }
 
 impl CauseList {
-    /// Returns a list of no cause.
-    pub fn new(alloc: Global) -> CauseList
-        ensures { result ≡ [] }
+    /// Returns a list of no cause, with room for all that it may have.
+    ///
+    /// # Errors
+    ///
+    /// Fails only if memory runs out.
+    pub fn new(alloc: Global) -> Result<CauseList, AllocError>
+        ensures { IfOk result (λ list. list ≡ []) }
     {
-        CauseList {
-            entries: Vec::new(alloc),
-        }
+        let entries = Vec::with_capacity(alloc, MOST)?;
+        Ok(CauseList { entries })
     }
 
-    /// Appends the cause of a child, if it is known, the list isn't full, and memory doesn't run out.
+    /// Appends the cause of a child, unless the list is full.
+    #[tactic(auto, unfolding(crate::specs::Known::with_cause))]
     pub fn put(&mut self, child: u64, cause: Cause)
-        ensures kept { (self.new ≡ self.old) ⊎ (self.new ≡ with_cause self.old child cause) }
+        ensures put { self.new ≡ with_cause self.old child cause }
         ensures most { length self.new ≤ 16 }
     {
         if self.entries.len() < MOST {
-            append(&mut self.entries, child, cause);
+            let pushed = self.entries.push((child, cause));
+            pushed.unwrap();
         }
     }
 

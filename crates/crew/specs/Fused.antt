@@ -1,5 +1,5 @@
 -- A crew around a crew, which refuses one call.
-use Rattle.std.specs.Prelude.{◌≡◌, ℕ, ◌+◌, ◌-◌, ◌*◌, ◌^◌, ◌≤◌, ◌==◌, Bool, true, false, List, [], ◌∷◌, ◌++◌, length, take, drop, map, Option, None, Some, ⊤, if◌then◌else◌}
+use Rattle.std.specs.Prelude.{◌≡◌, ℕ, ◌+◌, ◌-◌, ◌*◌, ◌^◌, ◌≤◌, ◌==◌, Bool, true, false, List, [], ◌∷◌, ◌++◌, length, take, drop, map, is_some, Option, None, Some, ⊤, if◌then◌else◌}
 use Rattle.crew_trait.specs.declared.reply.Reply.TheVariants.{EndRefused}
 use Rattle.crew_trait.specs.declared.event.CrewEvent.{CrewEvent}
 use Rattle.crew_trait.specs.declared.event.CrewEvent.TheVariants.{Started, Ended}
@@ -89,6 +89,15 @@ is_same End End = true
 -- Whether a call is the one to refuse. (own)
 abbrev pub is_due : FuseKind → FuseKind → ℕ → Bool
 is_due call kind left = if is_same call kind then left == 1 else false
+
+-- Whether the crew inside numbers its children otherwise, because it didn't see a start. (own)
+abbrev pub is_unseen : FuseKind → Option ℕ → Bool
+is_unseen Start later = is_some later
+is_unseen End later = false
+
+-- What is known of why the child of a number was refused, from what the crew inside knows. (own)
+abbrev pub known_of : {C : Type 0} → (C → ℕ → Option (List ℕ)) → WithFuse C → ℕ → Option (List ℕ)
+known_of known f child = if is_unseen f.kind f.later then None else known f.inner child
 
 -- `left` after a call. (own)
 abbrev pub left_after : FuseKind → FuseKind → ℕ → ℕ

@@ -1,4 +1,5 @@
 pub mod Child
+pub mod Counting
 pub mod Fused
 pub mod Holding
 pub mod Runs

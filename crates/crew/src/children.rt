@@ -1,18 +1,23 @@
 //! A crew of real children that a launcher starts.
 
-ghost use Rattle.std.specs.Prelude.{◌≡◌, ◌≢◌, ◌⊎◌, ◌+◌, ◌^◌, ◌<◌, ◌≤◌, [], ◌∷◌, ◌++◌, true, false, IfOk, IsSome, None, Some, OnErr, OnOk, All, get_or, length, remove, slice_set, vec_capacity, vec_len};
+ghost use Rattle.std.specs.Prelude.{◌≡◌, ◌≢◌, ◌⊎◌, ◌+◌, ◌^◌, ◌<◌, ◌≤◌, [], ◌∷◌, ◌++◌, false, true, IfOk, IfSome, None, OnErr, OnOk, All, get_or, length, option_map, remove, vec_capacity};
 ghost use Rattle.std.specs.Bool.{OnTrue};
 ghost use Rattle.std.specs.VecDeque.{deque_capacity};
+ghost use Rattle.causes.specs.Known.{cause_of};
+ghost use Rattle.causes.specs.Shown.{IsShown};
 ghost use Rattle.crew_trait.specs.Events.{IsSomeBusy, busy, failure_of, slots_in_flight};
+ghost use Rattle.crew.specs.Counting as counting;
+ghost use Rattle.crew.specs.Holding.{Ends, RefusesStart, Starts, number_in};
 ghost use Rattle.crew.specs.Runs.{Runs};
-ghost use Rattle.launching.specs.Launch.{Adds, failing, launch};
+ghost use Rattle.launching.specs.Launch.{Adds, IsClearing, failing, launch};
 ghost use Rattle.crew_trait.specs.declared.reply.Reply.TheVariants.{StartRefused};
 ghost use Rattle.crew_trait.specs.declared.event.CrewEvent.TheVariants.{Started, Ended};
 
+use crate::counting::started_in;
 use crate::failures::{failures_after, refusal};
-use crate::numbered::Numbered;
 use crate::room::{put, put_end};
-use causes::{Cause, CauseList, Causes};
+use crate::table::SlotTable;
+use causes::{Cause, Causes};
 use crew_trait::{Crew, CrewEvent, Refused, Reply};
 use jobs::Job;
 use launching::{Launcher, start_child};
@@ -21,267 +26,216 @@ use std::collections::VecDeque;
 use std::marker::Model;
 use std::process::OpenProcess;
 
-const SLOTS: usize = 16;
-
-/// A crew of the children that a launcher starts, whose `next` takes the first child that has ended, or the oldest if none has.
+/// A crew of the children that a launcher starts, whose `next` takes the first child that has
+/// ended, or the oldest if none has.
 #[derive(Drop)]
 pub(crate) struct Children<L: Launcher + Drop> {
     launcher: L,
     alloc: Global,
-    // The child of each slot, if it is in use.
-    children: Vec<Option<Numbered<L::Process>>>,
+    table: SlotTable<L::Process>,
     // The slots in use, in the order in which their children were started.
     slots: VecDeque<usize>,
     events: Vec<CrewEvent>,
     attempts: u64,
     failures: u64,
-    causes: CauseList,
 }
 
 impl<L: Launcher + Drop> Model for Children<L> {
-    ghost use Rattle.std.specs.Prelude.{◌≡◌, ◌+◌, ◌≤◌, ◌<◌, vec_len, vec_capacity, All, length};
-    ghost use Rattle.crew_trait.specs.Events.{Account, slots_in_flight};
-    ghost use Rattle.crew.specs.Holding.{HaveChildren};
+    ghost use Rattle.std.specs.Prelude.{◌≡◌, ◌+◌, ◌≤◌, ◌<◌, vec_capacity, All, length};
+    ghost use Rattle.crew_trait.specs.Events.{slots_in_flight};
+    ghost use Rattle.crew.specs.Holding.{HaveChildren, RealCrew};
     ghost use Rattle.crew.specs.Runs.{Runs};
     ghost use Rattle.crew.specs.Sound.{ListsBusy};
 
-    ghost Value = { Account };
+    ghost Value = { RealCrew };
 
-    ghost view = { λ c. record { events = c.events.items; attempts = c.attempts; failures = c.failures } };
+    ghost view = { λ c. record {
+      account = record { events = c.events.items; attempts = c.attempts; failures = c.failures };
+      table = c.table;
+      stale = L.stale c.launcher;
+    } };
 
-    ghost invariant = { λ c. (vec_len c.children ≡ 16)
+    ghost invariant = { λ c. (length c.table.children ≡ 16)
         × (c.slots.items ≡ slots_in_flight c.events.items)
         × ListsBusy c.slots.items c.events.items
         × All (λ s. s < 16) c.slots.items
         × (length c.events.items + length c.slots.items ≤ vec_capacity c.events)
         × Runs (L.calls c.launcher) c.events.items
-        × HaveChildren c.children.items c.events.items c.slots.items };
+        × HaveChildren c.table.children c.events.items c.slots.items };
 }
 
 impl<L: Launcher + Drop> Children<L> {
     /// Returns a crew that has started nothing.
     pub(crate) fn new(launcher: L, alloc: Global) -> Result<Children<L>, AllocError>
         requires { Runs (L.calls launcher) [] }
-        ensures { IfOk result (λ c. c ≡ record { events = []; attempts = 0; failures = 0 }) }
+        ensures account { IfOk result (λ c. c.account
+            ≡ record { events = []; attempts = 0; failures = 0 }) }
+        ensures causes { IfOk result (λ c. c.table.causes ≡ []) }
+        ensures stale { IfOk result (λ c. c.stale ≡ L.stale launcher) }
     {
-        let children = no_children(alloc)?;
+        let table = SlotTable::new(alloc)?;
         Ok(Children {
             launcher,
             alloc,
-            children,
+            table,
             slots: VecDeque::new(alloc),
             events: Vec::new(alloc),
             attempts: 0,
             failures: 0,
-            causes: CauseList::new(alloc),
         })
+    }
+
+    /// Returns the number of starts that were taken.
+    pub(crate) fn started(&self) -> u64
+        ensures { result ≡ counting.started_in self.now.account.events }
+    {
+        started_in(self.events.as_slice())
     }
 
     /// Returns the place of the first child that has ended, in the order in which they were started, or 0 if none has.
     ///
     /// It looks once at each child, and waits for none.
     pub(crate) fn place_of_ended(&mut self) -> usize
-        requires { IsSomeBusy self.old.events }
-        ensures within { result < length (slots_in_flight self.new.events) }
+        requires { IsSomeBusy self.old.account.events }
+        ensures within { result < length (slots_in_flight self.new.account.events) }
         ensures unchanged { self.new ≡ self.old }
     {
-        place_of_ended(self.children.as_mut_slice(), &self.slots)
+        place_of_ended(&mut self.table, &self.slots)
     }
 
     /// Waits for the end of the child in a place, counted from 0 in the order in which the children in flight were started. Frees its
     /// slot, and returns the slot with the reply.
     pub(crate) fn end_at(&mut self, place: usize) -> (usize, Reply)
-        requires flying { IsSomeBusy self.old.events }
-        requires place { 0 < place → place < length (slots_in_flight self.old.events) }
-        requires failures { self.old.failures < 2 ^ 62 }
-        ensures was_busy { busy result.0 self.old.events ≡ true }
-        ensures ended { self.new.events ≡ self.old.events ++ Ended result.0 result.1 self.old.attempts ∷ [] }
-        ensures number { self.new.attempts ≡ self.old.attempts }
+        requires flying { IsSomeBusy self.old.account.events }
+        requires place { 0 < place → place < length (slots_in_flight self.old.account.events) }
+        requires failures { self.old.account.failures < 2 ^ 62 }
+        ensures was_busy { busy result.0 self.old.account.events ≡ true }
+        ensures ended { self.new.account.events
+            ≡ self.old.account.events ++ Ended result.0 result.1 self.old.account.attempts ∷ [] }
+        ensures number { self.new.account.attempts ≡ self.old.account.attempts }
         ensures reply { result.1 ≢ StartRefused }
-        ensures count { self.new.failures ≡ self.old.failures + failure_of result.1 }
-        ensures slot { result.0 ≡ get_or (slots_in_flight self.old.events) place result.0 }
-        ensures others { slots_in_flight self.new.events ≡ remove (slots_in_flight self.old.events) place }
-        ensures oldest { place ≡ 0 → slots_in_flight self.old.events ≡ result.0 ∷ slots_in_flight self.new.events }
+        ensures count { self.new.account.failures
+            ≡ self.old.account.failures + failure_of result.1 }
+        ensures slot { result.0 ≡ get_or (slots_in_flight self.old.account.events) place result.0 }
+        ensures others { slots_in_flight self.new.account.events
+            ≡ remove (slots_in_flight self.old.account.events) place }
+        ensures oldest { place ≡ 0 → slots_in_flight self.old.account.events
+            ≡ result.0 ∷ slots_in_flight self.new.account.events }
+        // The reply is that of the child of the slot.
+        ensures child { Ends self.old.table self.new.table result.0
+            (number_in result.0 self.old.account.events) result.1 }
+        ensures stale { self.new.stale ≡ self.old.stale }
     {
         let slot = take_slot(&mut self.slots, place);
-        let reply = end_in(
-            self.children.as_mut_slice(),
-            slot,
-            self.alloc,
-            &mut self.causes,
-            &mut self.events,
-            self.attempts,
-        );
+        let (reply, kept) = self.table.end(slot, self.alloc);
+        put_end(&mut self.events, slot, kept, self.attempts);
         self.failures = failures_after(&reply, self.failures);
         (slot, reply)
     }
 }
 
 impl<L: Launcher + Drop> Causes for Children<L> {
+    ghost known = { λ c child. cause_of child c.table.causes };
+
     fn cause(&self, child: u64) -> Option<&[u8]> {
-        self.causes.cause(child)
+        self.table.cause(child)
     }
 }
 
 impl<L: Launcher + Drop> Crew for Children<L> {
-    ghost account = { λ c. c };
+    ghost account = { λ c. c.account };
 
-    fn start(&mut self, slot: usize, job: Job) -> Result<(), Refused> {
+    fn start(&mut self, slot: usize, job: Job) -> Result<(), Refused>
+        requires slot { slot < 16 }
+        requires free { busy slot self.old.account.events ≡ false }
+        requires attempts { self.old.account.attempts < 2 ^ 62 }
+        requires failures { self.old.account.failures < 2 ^ 62 }
+        ensures number { self.new.account.attempts ≡ self.old.account.attempts + 1 }
+        ensures taken { OnOk result (self.new.account.events
+            ≡ self.old.account.events ++ Started slot job (self.old.account.attempts + 1) ∷ []) }
+        ensures taken_count { OnOk result (self.new.account.failures ≡ self.old.account.failures) }
+        ensures refused { OnErr result (self.new.account.events ≡ self.old.account.events) }
+        ensures refused_count { OnErr result
+            (self.new.account.failures ≡ self.old.account.failures + 1) }
+        ensures child { OnOk result
+            (Starts self.old.table self.new.table slot (self.old.account.attempts + 1)) }
+        ensures cause { OnErr result
+            (RefusesStart self.old.table self.new.table (self.old.account.attempts + 1) job) }
+        ensures cleared { OnOk result (self.new.stale ≡ None) }
+        ensures stale { OnErr result (IsClearing self.old.stale self.new.stale) }
+    {
         self.attempts += 1;
         let number = self.attempts;
-        let child = &mut self.children[slot];
-        if let Err(cause) = launched(
+        let Ok(()) = launched(
             &mut self.launcher,
             self.alloc,
             &mut self.events,
             &mut self.slots,
+            &mut self.table,
             &job,
+            slot,
             number,
-            child,
-        ) {
-            self.causes.put(number, cause);
+        ) else {
             return Err(refusal(&mut self.failures));
-        }
+        };
         put(&mut self.events, CrewEvent::Started { slot, job, number });
         put_slot(&mut self.slots, slot);
         Ok(())
     }
 
-    fn next(&mut self) -> (usize, Reply) {
+    fn next(&mut self) -> (usize, Reply)
+        requires flying { IsSomeBusy self.old.account.events }
+        requires failures { self.old.account.failures < 2 ^ 62 }
+        ensures was_busy { busy result.0 self.old.account.events ≡ true }
+        ensures ended { self.new.account.events
+            ≡ self.old.account.events ++ Ended result.0 result.1 self.old.account.attempts ∷ [] }
+        ensures number { self.new.account.attempts ≡ self.old.account.attempts }
+        ensures reply { result.1 ≢ StartRefused }
+        ensures count { self.new.account.failures
+            ≡ self.old.account.failures + failure_of result.1 }
+        ensures child { Ends self.old.table self.new.table result.0
+            (number_in result.0 self.old.account.events) result.1 }
+        ensures stale { self.new.stale ≡ self.old.stale }
+    {
         let place = self.place_of_ended();
         self.end_at(place)
     }
 }
 
-/// Returns a list with one entry per slot, all empty.
-fn no_children<P: OpenProcess + Drop>(alloc: Global) -> Result<Vec<Option<Numbered<P>>>, AllocError>
-    ensures { IfOk result (λ v. vec_len v ≡ 16) }
-{
-    let mut children = Vec::with_capacity(alloc, SLOTS)?;
-    for _ in 0..SLOTS {
-        children.push(None)?;
-    }
-    Ok(children)
-}
-
-/// Waits for the end of the child in a slot, takes it out, and appends its end to the events, of which `attempts` were
-/// starts. Returns the reply.
-fn end_in<P: OpenProcess + Drop>(
-    children: &mut [Option<Numbered<P>>],
-    slot: usize,
-    alloc: Global,
-    causes: &mut CauseList,
-    events: &mut Vec<CrewEvent>,
-    attempts: u64,
-) -> Reply
-    requires slot { slot < length children.old }
-    requires taken { IsSome (get_or children.old slot None) }
-    requires room { length events.old.items < vec_capacity events.old }
-    ensures left { children.new ≡ slice_set children.old slot None }
-    ensures reply { result ≢ StartRefused }
-    ensures items { events.new.items ≡ events.old.items ++ Ended slot result attempts ∷ [] }
-    ensures room { vec_capacity events.old ≤ vec_capacity events.new }
-{
-    let (reply, kept) = end_of(&mut children[slot], alloc, causes);
-    put_end(events, slot, kept, attempts);
-    reply
-}
-
-/// Waits for the end of a child, and takes it out. Returns its reply twice.
-fn end_of<P: OpenProcess + Drop>(
-    child: &mut Option<Numbered<P>>,
-    alloc: Global,
-    causes: &mut CauseList,
-) -> (Reply, Reply)
-    requires { IsSome child.old }
-    ensures left { child.new ≡ None }
-    ensures copy { result.1 ≡ result.0 }
-    ensures answer { result.0 ≢ StartRefused }
-{
-    let child = taken(child);
-    let number = child.number();
-    let (reply, kept, cause) = doubled(alloc, child.end(alloc));
-    causes.put(number, cause);
-    (reply, kept)
-}
-
-/// Takes a child out of its slot.
-fn taken<P: OpenProcess + Drop>(child: &mut Option<Numbered<P>>) -> Numbered<P>
-    requires { IsSome child.old }
-    ensures taken { Some result ≡ child.old }
-    ensures left { child.new ≡ None }
-{
-    child.take().unwrap()
-}
-
-/// Returns a reply twice, and its cause. If memory runs out, both are [`Reply::EndRefused`].
-fn doubled(alloc: Global, end: (Reply, Cause)) -> (Reply, Reply, Cause)
-    requires { end.0 ≢ StartRefused }
-    ensures copy { result.1 ≡ result.0 }
-    ensures answer { result.0 ≢ StartRefused }
-{
-    let (reply, cause) = end;
-    match reply.copy(alloc) {
-        Ok(kept) => (reply, kept, cause),
-        Err(_) => {
-            let cause = Cause::of_words(alloc, b"read", b"out of memory");
-            (Reply::EndRefused, Reply::EndRefused, cause)
-        }
-    }
-}
-
 /// Returns the place of the first child that has ended, or 0 if none has.
-fn place_of_ended<P: OpenProcess + Drop>(
-    children: &mut [Option<Numbered<P>>],
-    slots: &VecDeque<usize>,
-) -> usize
+fn place_of_ended<P: OpenProcess + Drop>(table: &mut SlotTable<P>, slots: &VecDeque<usize>) -> usize
     requires not_empty { 0 < length slots.now.items }
     requires within { All (λ s. s < 16) slots.now.items }
-    requires children { length children.old ≡ 16 }
     ensures within { result < length slots.now.items }
-    ensures kept { children.new ≡ children.old }
+    ensures kept { table.new ≡ table.old }
 {
     for place in 0..slots.len() {
-        if has_ended_at(children, slots[place]) {
+        if table.has_ended(slots[place]) {
             return place;
         }
     }
     0
 }
 
-/// Returns whether the child in a slot has ended, without waiting for it.
-#[tactic(auto, using(crate::proofs::Holding::kept_at))]
-fn has_ended_at<P: OpenProcess + Drop>(children: &mut [Option<Numbered<P>>], slot: usize) -> bool
-    requires { slot < length children.old }
-    ensures { children.new ≡ children.old }
-{
-    has_ended(&mut children[slot])
-}
-
-/// Returns whether a child has ended, without waiting for it.
-fn has_ended<P: OpenProcess + Drop>(child: &mut Option<Numbered<P>>) -> bool
-    ensures { child.new ≡ child.old }
-{
-    match child {
-        Some(child) => child.has_ended(),
-        None => false,
-    }
-}
-
-/// Reserves room for the records of a start, and starts the child of this number.
+/// Reserves room for the records of a start, and starts the child of this number in a slot.
 fn launched<L: Launcher>(
     launcher: &mut L,
     alloc: Global,
     events: &mut Vec<CrewEvent>,
     slots: &mut VecDeque<usize>,
+    table: &mut SlotTable<L::Process>,
     job: &Job,
+    slot: usize,
     number: u64,
-    child: &mut Option<Numbered<L::Process>>,
-) -> Result<(), Cause>
+) -> Result<(), Refused>
+    requires { slot < 16 }
     ensures taken { OnOk result (Adds (L.calls launcher.old) (L.calls launcher.new) (launch job.now)) }
-    ensures child { OnOk result (child.new ≡ Some number) }
+    ensures child { OnOk result (Starts table.old table.new slot number) }
     ensures refused { OnErr result (Adds (L.calls launcher.old) (L.calls launcher.new) []
         ⊎ Adds (L.calls launcher.old) (L.calls launcher.new) (failing job.now)) }
+    ensures cause { OnErr result (RefusesStart table.old table.new number job.now) }
+    ensures cleared { OnOk result (L.stale launcher.new ≡ None) }
+    ensures stale { OnErr result (IsClearing (L.stale launcher.old) (L.stale launcher.new)) }
     ensures events { events.new.items ≡ events.old.items }
     ensures slots { slots.new.items ≡ slots.old.items }
     ensures grown { vec_capacity events.old ≤ vec_capacity events.new }
@@ -289,14 +243,19 @@ fn launched<L: Launcher>(
     ensures slot { OnOk result (length slots.new.items < deque_capacity slots.new) }
 {
     if !make_room(events, slots) {
-        return Err(Cause::of_words(alloc, b"start", b"out of memory"));
+        let cause = Cause::of_words(alloc, b"start", b"out of memory");
+        table.refuse(number, cause);
+        return Err(Refused);
     }
     match start_child(launcher, alloc, job) {
-        Ok(started) => {
-            *child = Some(Numbered::new(number, started));
+        Ok(child) => {
+            table.put(slot, number, child);
             Ok(())
         }
-        Err(cause) => Err(cause),
+        Err(cause) => {
+            table.refuse(number, cause);
+            Err(Refused)
+        }
     }
 }
 

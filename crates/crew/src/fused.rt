@@ -3,7 +3,7 @@
 ghost use Rattle.std.specs.Prelude.{◌≡◌, ◌≢◌, ◌+◌, ◌^◌, ◌<◌, ◌≤◌, [], ◌∷◌, ◌++◌, true, false, None, OnOk, OnErr, is_ok};
 ghost use Rattle.std.specs.Bool.{OnTrue};
 ghost use Rattle.crew_trait.specs.Events.{IsIdle, IsSomeBusy, busy, failure_of};
-ghost use Rattle.crew.specs.Fused.{account_of, counted, is_due, is_same, later_after, later_of, left_after};
+ghost use Rattle.crew.specs.Fused.{account_of, counted, is_due, is_same, is_unseen, known_of, later_after, later_of, left_after};
 ghost use Rattle.crew.specs.declared.fused.FuseKind.TheVariants.{Start, End};
 ghost use Rattle.crew_trait.specs.declared.reply.Reply.TheVariants.{EndRefused, StartRefused};
 ghost use Rattle.crew_trait.specs.declared.event.CrewEvent.TheVariants.{Started, Ended};
@@ -12,6 +12,7 @@ use causes::Causes;
 use crew_trait::{Crew, Refused, Reply};
 use jobs::Job;
 use std::marker::Model;
+use summary::Children;
 
 /// The kind of the call that a [`Fused`] crew refuses.
 #[derive(Clone, Copy)]
@@ -132,12 +133,33 @@ impl<C: Crew + Drop> Crew for Fused<C> {
 }
 
 impl<C: Crew + Causes + Drop> Causes for Fused<C> {
+    ghost known = { known_of C.known };
+
     /// Returns what the crew inside knows. After a start that it didn't see nothing is known, because it counts its children otherwise.
     fn cause(&self, child: u64) -> Option<&[u8]> {
-        match (self.kind, self.later) {
-            (FuseKind::Start, Some(_)) => None,
-            _ => self.inner.cause(child),
+        if is_unseen(self.kind, self.later) {
+            return None;
         }
+        self.inner.cause(child)
+    }
+}
+
+impl<C: Crew + Children + Drop> Children for Fused<C> {
+    // A start that is refused isn't counted, and all others are those of the crew inside.
+    ghost started = { λ f. C.started f.inner };
+
+    fn children(&self) -> u64 {
+        self.inner.children()
+    }
+}
+
+/// Returns whether the crew inside numbers its children otherwise.
+fn is_unseen(kind: FuseKind, later: Option<u64>) -> bool
+    ensures { result ≡ is_unseen kind later }
+{
+    match kind {
+        FuseKind::Start => later.is_some(),
+        FuseKind::End => false,
     }
 }
 

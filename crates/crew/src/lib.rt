@@ -12,16 +12,19 @@
 //!
 //! [`MemoryCrew`], in `memory`, is a crew for tests. It answers from a list of replies, in a given `order`, and lists its
 //! calls (`event`); `specs/Scripted.antt` defines the effect of each call, and `flight` is one of its children.
-//! [`ProcessCrew`], in `process`, and [`ReadyCrew`], in `ready`, start real children by the crate `launching`. They differ in which
-//! child `next` ends. `children` keeps their account, and why calls were refused, and `numbered` is one of their children;
-//! `specs/Runs.antt` defines the jobs that were started, and `specs/Holding.antt` which child is in a slot.
-//! All crews use `failures`, which counts refused calls, and `room`.
+//! [`ProcessCrew`], in `process`, and [`ReadyCrew`], in `ready`, start real children by the crate
+//! `launching`. They differ in which child `next` ends. `children` keeps their account. `table` has
+//! the child of each slot, the child that ended last, and why calls were refused, and `numbered` is
+//! one of these children. `specs/Runs.antt` defines the jobs that were started, and
+//! `specs/Holding.antt` which child is in a slot, and that a reply is that of its child. All crews
+//! use `failures`, which counts refused calls, `counting`, which counts children, and `room`.
 //!
 //! [`Fused`], in `fused`, is a crew around any other crew, for tests: it refuses one start or one end. `specs/Fused.antt`
 //! defines its account by the account of the crew inside.
 #![tactic(auto)]
 
 mod children;
+mod counting;
 mod event;
 mod failures;
 mod flight;
@@ -32,6 +35,7 @@ mod order;
 mod process;
 mod ready;
 mod room;
+mod table;
 
 pub use causes::Causes;
 pub use crew_trait::{Crew, CrewEvent, Entry, Log, Refused, Reply};

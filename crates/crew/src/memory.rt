@@ -1,10 +1,12 @@
 //! A crew that answers from a list of replies.
 
-ghost use Rattle.std.specs.Prelude.{◌≡◌, ◌≢◌, ◌+◌, ◌*◌, ◌^◌, ◌<◌, ◌≤◌, [], ◌∷◌, ◌++◌, true, false, IfOk, IfSome, IfNone, OnOk, OnErr, is_ok, length, reverse, vec_capacity, MatchOption};
+ghost use Rattle.std.specs.Prelude.{◌≡◌, ◌≢◌, ◌+◌, ◌*◌, ◌^◌, ◌<◌, ◌≤◌, [], ◌∷◌, ◌++◌, true, false, None, IfOk, IfSome, IfNone, OnOk, OnErr, is_ok, length, reverse, vec_capacity, MatchOption};
 ghost use Rattle.crew_trait.specs.Events.{busy, IsSomeBusy, failure_of};
 ghost use Rattle.crew_trait.specs.declared.event.CrewEvent.TheVariants.{Started, Ended};
+ghost use Rattle.crew.specs.Counting.{started_in};
 ghost use Rattle.crew.specs.Scripted.{after_start, after_next, ending, is_taken, is_start_refused};
 
+use crate::counting::started_in;
 use crate::event::Event;
 use crate::failures::{failures_after, refusal};
 use crate::flight::Flight;
@@ -15,6 +17,7 @@ use crew_trait::{Crew, CrewEvent, Refused, Reply};
 use jobs::Job;
 use std::alloc::{AllocError, Global};
 use std::marker::Model;
+use summary::Children;
 
 /// A crew for tests: answers the n-th attempted start with the n-th reply of a list, and ends its children in a given order.
 ///
@@ -209,8 +212,18 @@ impl Crew for MemoryCrew {
 }
 
 impl Causes for MemoryCrew {
+    ghost known = { λ m child. None };
+
     /// Returns nothing, because the list of replies has no causes.
     fn cause(&self, _child: u64) -> Option<&[u8]> {
         None
+    }
+}
+
+impl Children for MemoryCrew {
+    ghost started = { λ m. started_in m.account.events };
+
+    fn children(&self) -> u64 {
+        started_in(self.events.as_slice())
     }
 }

@@ -1,6 +1,13 @@
 //! A crew of real children that takes one that has ended.
 
-ghost use Rattle.std.specs.Prelude.{◌≡◌, [], IfOk};
+ghost use Rattle.std.specs.Prelude.{◌≡◌, ◌≢◌, ◌+◌, ◌^◌, ◌<◌, [], ◌∷◌, ◌++◌, false, true, IfOk, None, OnErr, OnOk, Some};
+ghost use Rattle.causes.specs.Known.{cause_of};
+ghost use Rattle.crew_trait.specs.Events.{IsSomeBusy, busy, failure_of};
+ghost use Rattle.crew_trait.specs.declared.reply.Reply.TheVariants.{StartRefused};
+ghost use Rattle.crew_trait.specs.declared.event.CrewEvent.TheVariants.{Ended, Started};
+ghost use Rattle.crew.specs.Counting.{started_in};
+ghost use Rattle.crew.specs.Holding.{Ends, RefusesStart, Starts, number_in};
+ghost use Rattle.launching.specs.Launch.{IsClearing};
 
 use crate::children::Children;
 use causes::Causes;
@@ -22,9 +29,9 @@ pub struct ReadyCrew<R: Files + Processes + Drop> {
 }
 
 impl<R: Files + Processes + Drop> Model for ReadyCrew<R> {
-    ghost use Rattle.crew_trait.specs.Events.{Account};
+    ghost use Rattle.crew.specs.Holding.{RealCrew};
 
-    ghost Value = { Account };
+    ghost Value = { RealCrew };
 
     ghost view = { λ c. c.children };
 }
@@ -36,7 +43,10 @@ impl<R: Files + Processes + Drop> ReadyCrew<R> {
     ///
     /// Fails only if memory runs out.
     pub fn new(rt: R, alloc: Global) -> Result<ReadyCrew<R>, AllocError>
-        ensures { IfOk result (λ c. c ≡ record { events = []; attempts = 0; failures = 0 }) }
+        ensures account { IfOk result (λ c. c.account
+            ≡ record { events = []; attempts = 0; failures = 0 }) }
+        ensures causes { IfOk result (λ c. c.table.causes ≡ []) }
+        ensures stale { IfOk result (λ c. c.stale ≡ None) }
     {
         let children = Children::new(DiskLauncher::new(System::new(rt), None), alloc)?;
         Ok(ReadyCrew { children })
@@ -49,7 +59,10 @@ impl<R: Files + Processes + Drop> ReadyCrew<R> {
     ///
     /// Fails only if memory runs out.
     pub fn removing(rt: R, alloc: Global, stale: &'static str) -> Result<ReadyCrew<R>, AllocError>
-        ensures { IfOk result (λ c. c ≡ record { events = []; attempts = 0; failures = 0 }) }
+        ensures account { IfOk result (λ c. c.account
+            ≡ record { events = []; attempts = 0; failures = 0 }) }
+        ensures causes { IfOk result (λ c. c.table.causes ≡ []) }
+        ensures stale { IfOk result (λ c. c.stale ≡ Some stale.now) }
     {
         let children = Children::new(DiskLauncher::new(System::new(rt), Some(stale)), alloc)?;
         Ok(ReadyCrew { children })
@@ -57,19 +70,62 @@ impl<R: Files + Processes + Drop> ReadyCrew<R> {
 }
 
 impl<R: Files + Processes + Drop> Crew for ReadyCrew<R> {
-    ghost account = { λ c. c };
+    ghost account = { λ c. c.account };
 
-    fn start(&mut self, slot: usize, job: Job) -> Result<(), Refused> {
+    fn start(&mut self, slot: usize, job: Job) -> Result<(), Refused>
+        requires slot { slot < 16 }
+        requires free { busy slot self.old.account.events ≡ false }
+        requires attempts { self.old.account.attempts < 2 ^ 62 }
+        requires failures { self.old.account.failures < 2 ^ 62 }
+        ensures number { self.new.account.attempts ≡ self.old.account.attempts + 1 }
+        ensures taken { OnOk result (self.new.account.events
+            ≡ self.old.account.events ++ Started slot job (self.old.account.attempts + 1) ∷ []) }
+        ensures taken_count { OnOk result (self.new.account.failures ≡ self.old.account.failures) }
+        ensures refused { OnErr result (self.new.account.events ≡ self.old.account.events) }
+        ensures refused_count { OnErr result
+            (self.new.account.failures ≡ self.old.account.failures + 1) }
+        ensures child { OnOk result
+            (Starts self.old.table self.new.table slot (self.old.account.attempts + 1)) }
+        ensures cause { OnErr result
+            (RefusesStart self.old.table self.new.table (self.old.account.attempts + 1) job) }
+        // The file that is to be removed is removed before the first child is started.
+        ensures cleared { OnOk result (self.new.stale ≡ None) }
+        ensures stale { OnErr result (IsClearing self.old.stale self.new.stale) }
+    {
         self.children.start(slot, job)
     }
 
-    fn next(&mut self) -> (usize, Reply) {
+    fn next(&mut self) -> (usize, Reply)
+        requires flying { IsSomeBusy self.old.account.events }
+        requires failures { self.old.account.failures < 2 ^ 62 }
+        ensures was_busy { busy result.0 self.old.account.events ≡ true }
+        ensures ended { self.new.account.events
+            ≡ self.old.account.events ++ Ended result.0 result.1 self.old.account.attempts ∷ [] }
+        ensures number { self.new.account.attempts ≡ self.old.account.attempts }
+        ensures reply { result.1 ≢ StartRefused }
+        ensures count { self.new.account.failures
+            ≡ self.old.account.failures + failure_of result.1 }
+        // The reply is that of the child of the slot.
+        ensures child { Ends self.old.table self.new.table result.0
+            (number_in result.0 self.old.account.events) result.1 }
+        ensures stale { self.new.stale ≡ self.old.stale }
+    {
         self.children.next()
     }
 }
 
 impl<R: Files + Processes + Drop> Causes for ReadyCrew<R> {
+    ghost known = { λ c child. cause_of child c.table.causes };
+
     fn cause(&self, child: u64) -> Option<&[u8]> {
         self.children.cause(child)
+    }
+}
+
+impl<R: Files + Processes + Drop> summary::Children for ReadyCrew<R> {
+    ghost started = { λ c. started_in c.account.events };
+
+    fn children(&self) -> u64 {
+        self.children.started()
     }
 }

@@ -1,2 +1,4 @@
 pub mod ChildLemmas
+mod Explaining
+mod Naming
 mod Spoilt

@@ -1,8 +1,9 @@
--- The reply at the end of a real child.
-use Rattle.std.specs.Prelude.{◌≡◌, ◌⊎◌, ℕ, ℤ, ◌≤◌, List, length, take, unsigned_abs, Option, Some, None, Result, Ok, Err}
+-- The reply at the end of a real child, and its cause if it is refused.
+use Rattle.std.specs.Prelude.{◌≡◌, ◌⊎◌, ℕ, ℤ, ◌≤◌, List, length, take, unsigned_abs, codes, Option, Some, None, IfSome, Result, Ok, Err}
 use Rattle.std.specs.Process.{exit_code}
 use Rattle.std.specs.Io.KnownBytes.{Consumes, IsAtEnd}
 use Rattle.std.specs.declared.process.status.ExitStatus.{ExitStatus}
+use Rattle.causes.specs.Shown.{IsCauseOf}
 use Rattle.crew_trait.specs.declared.reply.Reply.{Reply}
 use Rattle.crew_trait.specs.declared.reply.Reply.TheVariants.{Answer, StartRefused, EndRefused}
 
@@ -37,3 +38,23 @@ Answers (Answer status text) None P = ⊥
 Answers (Answer status text) (Some s) P = (status ≡ status_number s) × P text
 Answers StartRefused s P = ⊥
 Answers EndRefused s P = Unit {0}
+
+-- The cause of an end that is refused: of the wait if it failed, and otherwise that of the read. If
+-- nothing is refused, there is none. (own)
+abbrev pub IsCauseOfEnd : {E V : Type 0} → Result ExitStatus E → Result V (Option (List ℕ))
+    → Option (Option (List ℕ)) → Type 0
+IsCauseOfEnd (Err e) text (Some cause) = IfSome cause (IsCauseOf (codes "wait"))
+IsCauseOfEnd (Err e) text None = ⊥
+IsCauseOfEnd (Ok status) (Err why) cause = cause ≡ Some why
+IsCauseOfEnd (Ok status) (Ok text) cause = cause ≡ None
+
+-- It is of the read or of the wait, unless memory ran out for its line. (own)
+abbrev pub IsOfEnd : Option (List ℕ) → Type 0
+IsOfEnd cause = IfSome cause (λ line. IsCauseOf (codes "read") line ⊎ IsCauseOf (codes "wait") line)
+
+-- An answer has no cause, and a refused end has one. (own)
+abbrev pub IsExplained : Reply → Option (Option (List ℕ)) → Type 0
+IsExplained (Answer status text) cause = cause ≡ None
+IsExplained StartRefused cause = ⊥
+IsExplained EndRefused None = ⊥
+IsExplained EndRefused (Some cause) = IsOfEnd cause

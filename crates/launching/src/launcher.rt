@@ -1,6 +1,6 @@
 //! The launcher, which connects children to the system.
 
-ghost use Rattle.std.specs.Prelude.{◌≡◌, [], ◌∷◌, None, Option, List, OnOk, OnErr, option_map};
+ghost use Rattle.std.specs.Prelude.{◌≡◌, ℕ, [], ◌∷◌, None, Option, List, OnOk, OnErr, option_map};
 ghost use Rattle.std.specs.Process.{command_args, command_program};
 ghost use Rattle.disk.specs.Clearing.{DoesAll};
 ghost use Rattle.launching.specs.Fresh.{DoesFront, after, clearing_stale, replacing, spoiling};
@@ -20,6 +20,9 @@ pub trait Launcher {
     // The files written and the commands started so far, in order, if they are known.
     ghost calls: { Self → Option (List Call) } = { λ _. None };
 
+    // The name of a file that is removed before anything else is done, if that wasn't tried yet.
+    ghost stale: { Self → Option (List ℕ) } = { λ _. None };
+
     /// Creates the file, or replaces it.
     ///
     /// # Errors
@@ -27,7 +30,8 @@ pub trait Launcher {
     /// Fails if the system refuses that, and then the file may be there without its whole text.
     fn write(&mut self, name: &str, text: &[u8]) -> io::Result<()>
         ensures done { OnOk result (Adds (calls self.old) (calls self.new) (Wrote name.now text.now ∷ [])) }
-        ensures refused { OnErr result (Adds (calls self.old) (calls self.new) []) };
+        ensures refused { OnErr result (Adds (calls self.old) (calls self.new) []) }
+        ensures once { stale self.new ≡ None };
 
     /// Starts the command with empty standard input. Its standard output is dropped, and its standard error can be read.
     ///
@@ -37,7 +41,8 @@ pub trait Launcher {
     fn spawn(&mut self, command: &mut Command) -> io::Result<Child<Self::Process>>
         ensures done { OnOk result (Adds (calls self.old) (calls self.new)
             (Spawned (command_program command.old ∷ command_args command.old) ∷ [])) }
-        ensures refused { OnErr result (Adds (calls self.old) (calls self.new) (Failed ∷ [])) };
+        ensures refused { OnErr result (Adds (calls self.old) (calls self.new) (Failed ∷ [])) }
+        ensures once { stale self.new ≡ None };
 }
 
 /// The launcher over a disk that can start programs.
@@ -79,6 +84,8 @@ impl<D: Disk + Processes> DiskLauncher<D> {
 
 impl<D: Disk + Processes> Launcher for DiskLauncher<D> {
     type Process = D::Started;
+
+    ghost stale = { λ h. h.stale };
 
     // The file is new, as `write_fresh` says.
     fn write(&mut self, name: &str, text: &[u8]) -> io::Result<()>

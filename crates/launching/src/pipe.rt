@@ -80,6 +80,7 @@ impl<R: Read + Drop> Pipe<R> {
 
     /// Closes the pipe, so that who writes to it doesn't wait.
     pub(crate) fn close(&mut self)
+        ensures closed { self.new.is_open ≡ false }
         ensures reads { self.new.reads ≡ self.old.reads }
         ensures is_read { self.new.is_read ≡ self.old.is_read }
         ensures has_failed { self.new.has_failed ≡ self.old.has_failed }

@@ -1,6 +1,7 @@
 //! A child that was started.
 
-ghost use Rattle.std.specs.Prelude.{◌≡◌, Some, true, false, IfOk, IsErr};
+ghost use Rattle.std.specs.Prelude.{◌≡◌, Some, true, false, codes, IfErr, IfOk, IfSome, IsErr};
+ghost use Rattle.causes.specs.Shown.{IsCauseOf};
 ghost use Rattle.launching.specs.Ending.{IsKept};
 ghost use Rattle.launching.specs.Piped.{IsReadThrough, IsUnread};
 
@@ -55,9 +56,11 @@ impl<P: OpenProcess + Drop> Started<P> {
         ensures kept { IfOk result (λ text. IsKept self.old.pipe.left text.items) }
         ensures through { IfOk result (λ _. IsReadThrough self.new.pipe) }
         ensures piped { self.old.pipe.is_open ≡ false → IsErr result }
+        ensures closed { self.new.pipe.is_open ≡ false }
+        ensures cause { IfErr result (λ cause. IfSome cause (IsCauseOf (codes "read"))) }
     {
         if !self.pipe.is_open() {
-            return Err(Cause::unknown());
+            return Err(Cause::of_words(alloc, b"read", b"no pipe"));
         }
         let text = diagnostics(alloc, &mut self.pipe);
         self.pipe.close();
@@ -67,8 +70,9 @@ impl<P: OpenProcess + Drop> Started<P> {
         }
     }
 
-    /// Waits for the child.
+    /// Waits for the child. Its pipe is closed, so that the child doesn't wait until it is read.
     pub(crate) fn wait(&mut self) -> io::Result<ExitStatus>
+        requires { self.old.pipe.is_open ≡ false }
         ensures status { IfOk result (λ status. self.new.status ≡ Some status) }
         ensures pipe { self.new.pipe ≡ self.old.pipe }
         ensures awaited { self.new.is_awaited ≡ true }

@@ -1,8 +1,9 @@
 //! The stream whose checks are counted.
 
-ghost use Rattle.std.specs.Prelude.{◌≡◌, OnOk};
+ghost use Rattle.std.specs.Prelude.{◌≡◌, MatchResult, OnErr, OnOk, take};
 ghost use Rattle.std.specs.Io.{WritesAtMost};
 ghost use Rattle.std.specs.Io.KnownBytes.{Appends, Keeps, WriteAppends};
+ghost use Rattle.summary.specs.Tallies.{after_text, none};
 
 use crate::tally::Tally;
 use std::io::{self, Write};
@@ -26,7 +27,8 @@ impl<W: Write + Drop> Model for Counted<W> {
 impl<W: Write + Drop> Counted<W> {
     /// Returns a writer to the stream that has counted nothing.
     pub fn new(stream: W) -> Counted<W>
-        ensures { result.stream ≡ stream }
+        ensures stream { result.stream ≡ stream }
+        ensures tally { result.tally ≡ none }
     {
         Counted {
             stream,
@@ -55,6 +57,10 @@ impl<W: Write + Drop> Write for Counted<W> {
     fn write(&mut self, buf: &[u8]) -> io::Result<usize>
         ensures bound { WritesAtMost result buf.now }
         ensures bytes { WriteAppends (W.contents self.old.stream) (W.contents self.new.stream) result buf.now }
+        // Only what was taken is counted.
+        ensures counted { MatchResult result
+            (λ n. self.new.tally ≡ after_text self.old.tally (take n buf.now))
+            (λ _. self.new.tally ≡ self.old.tally) }
     {
         let taken = self.stream.write(buf)?;
         self.tally.add(&buf[..taken]);
@@ -63,6 +69,8 @@ impl<W: Write + Drop> Write for Counted<W> {
 
     fn write_all(&mut self, buf: &[u8]) -> io::Result<()>
         ensures bytes { OnOk result (Appends (W.contents self.old.stream) (W.contents self.new.stream) buf.now) }
+        ensures counted { OnOk result (self.new.tally ≡ after_text self.old.tally buf.now) }
+        ensures uncounted { OnErr result (self.new.tally ≡ self.old.tally) }
     {
         self.stream.write_all(buf)?;
         self.tally.add(buf);
@@ -71,6 +79,7 @@ impl<W: Write + Drop> Write for Counted<W> {
 
     fn flush(&mut self) -> io::Result<()>
         ensures bytes { Keeps (W.contents self.old.stream) (W.contents self.new.stream) }
+        ensures counted { self.new.tally ≡ self.old.tally }
     {
         self.stream.flush()
     }

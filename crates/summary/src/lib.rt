@@ -12,7 +12,8 @@
 //!
 //! "own" marks a rule that no manual gives.
 //!
-//! Read `tally`, `counted` and then `line`. `children` has the trait of what counts children.
+//! Read `specs/Tallies.antt`, which defines what is counted, `tally`, `counted` and then `line`.
+//! `children` has the trait of what counts children.
 #![tactic(auto)]
 
 mod children;

@@ -10,7 +10,8 @@ use Rattle.crew_trait.specs.declared.event.CrewEvent.TheVariants.{Started, Ended
 use Rattle.crew_trait.specs.Events.{Account, busy, IsIdle}
 use Rattle.crew.specs.Sound.{times}
 use Rattle.crew.proofs.SlotLemmas.{one_if, lists_none, lists_start, lists_left}
-use Rattle.watching.specs.Progress.{started_after, ended_after, subject_after, started_in, ended_in, subject_in, line_of, text_of, text_after, erasure, wrapping_off, wrapping_on}
+use Rattle.crew.specs.Counting.{started_after, started_in}
+use Rattle.watching.specs.Progress.{ended_after, subject_after, ended_in, subject_in, line_of, text_of, text_after, erasure, wrapping_off, wrapping_on}
 use Rattle.watching.specs.Subject.{subject_of}
 use Rattle.watching.specs.Watch.{IsCounted}
 

@@ -2,6 +2,7 @@
 use Rattle.std.specs.Prelude.{ℕ, ◌+◌, ◌==◌, List, [], ◌∷◌, ◌++◌, codes, decimal, fold, if◌then◌else◌}
 use Rattle.crew_trait.specs.declared.event.CrewEvent.{CrewEvent}
 use Rattle.crew_trait.specs.declared.event.CrewEvent.TheVariants.{Started, Ended}
+use Rattle.crew.specs.Counting.{started_in}
 use Rattle.watching.specs.Screen.{shown}
 use Rattle.watching.specs.Subject.{subject_of}
 
@@ -27,11 +28,6 @@ unfoldable pub text_of : ℕ → ℕ → List ℕ → List ℕ
 text_of started ended subject =
     erasure ++ (if ended == started then [] else wrapping_off ++ line_of started ended subject ++ wrapping_on)
 
--- The number of starts that were taken, after an event. (own)
-abbrev pub started_after : ℕ → CrewEvent → ℕ
-started_after n (Started slot job number) = n + 1
-started_after n (Ended slot reply number) = n
-
 -- The number of ends, after an event. (own)
 abbrev pub ended_after : ℕ → CrewEvent → ℕ
 ended_after n (Started slot job number) = n
@@ -41,10 +37,6 @@ ended_after n (Ended slot reply number) = n + 1
 abbrev pub subject_after : List ℕ → CrewEvent → List ℕ
 subject_after subject (Started slot job number) = subject_of job
 subject_after subject (Ended slot reply number) = subject
-
--- The number of starts that were taken. (own)
-abbrev pub started_in : List CrewEvent → ℕ
-started_in events = fold started_after 0 events
 
 -- The number of ends. (own)
 abbrev pub ended_in : List CrewEvent → ℕ

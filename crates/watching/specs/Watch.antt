@@ -2,11 +2,12 @@
 use Rattle.std.specs.Prelude.{◌≡◌, ℕ, ◌+◌, ◌≤◌, Bool, List, length}
 use Rattle.crew_trait.specs.Events.{Account}
 use Rattle.crew.specs.Sound.{ListsBusy}
-use Rattle.watching.specs.Progress.{started_in, ended_in, subject_in}
+use Rattle.crew.specs.Counting.{started_in}
+use Rattle.watching.specs.Progress.{ended_in, subject_in}
 
--- The account of the crew, the stream, and whether progress is shown. (own)
-pub record Watch (W : Type 0) : Type 0 where
-  pub account : Account
+-- The crew inside, the stream, and whether progress is shown. (own)
+pub record Watch (C W : Type 0) : Type 0 where
+  pub crew : C
   pub stream : W
   pub is_on : Bool
 

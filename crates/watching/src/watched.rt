@@ -30,9 +30,9 @@ pub struct Watched<C: Crew + Drop, W: Write + Drop> {
 impl<C: Crew + Drop, W: Write + Drop> Model for Watched<C, W> {
     ghost use Rattle.watching.specs.Watch.{Watch, IsCounted};
 
-    ghost Value = { Watch W };
+    ghost Value = { Watch C W };
 
-    ghost view = { λ w. record { account = C.account w.crew; stream = w.stream; is_on = w.is_on } };
+    ghost view = { λ w. record { crew = w.crew; stream = w.stream; is_on = w.is_on } };
 
     ghost invariant = { λ w. IsCounted (C.account w.crew) w.started w.ended w.command.items };
 }
@@ -49,7 +49,7 @@ impl<C: Crew + Drop, W: Write + Drop> Watched<C, W> {
     /// Returns a crew that shows its progress on the stream if `is_on` is true, and otherwise writes nothing.
     pub fn new(crew: C, stream: W, is_on: bool) -> Watched<C, W>
         requires { (C.account crew).events ≡ [] }
-        ensures { result ≡ record { account = C.account crew; stream = stream; is_on = is_on } }
+        ensures { result ≡ record { crew = crew; stream = stream; is_on = is_on } }
     {
         Watched {
             crew,
@@ -70,25 +70,31 @@ impl<C: Crew + Drop, W: Write + Drop> Watched<C, W> {
 }
 
 impl<C: Crew + Drop, W: Write + Drop> Crew for Watched<C, W> {
-    ghost account = { λ w. w.account };
+    ghost account = { λ w. C.account w.crew };
 
     fn start(&mut self, slot: usize, job: Job) -> Result<(), Refused>
         requires slot { slot < 16 }
-        requires free { busy slot self.old.account.events ≡ false }
-        requires attempts { self.old.account.attempts < 2 ^ 62 }
-        requires failures { self.old.account.failures < 2 ^ 62 }
-        ensures number { self.new.account.attempts ≡ self.old.account.attempts + 1 }
-        ensures taken { OnOk result (self.new.account.events
-            ≡ self.old.account.events ++ Started slot job (self.old.account.attempts + 1) ∷ []) }
-        ensures taken_count { OnOk result (self.new.account.failures ≡ self.old.account.failures) }
-        ensures refused { OnErr result (self.new.account.events ≡ self.old.account.events) }
-        ensures refused_count { OnErr result (self.new.account.failures ≡ self.old.account.failures + 1) }
+        requires free { busy slot (C.account self.old.crew).events ≡ false }
+        requires attempts { (C.account self.old.crew).attempts < 2 ^ 62 }
+        requires failures { (C.account self.old.crew).failures < 2 ^ 62 }
+        ensures number { (C.account self.new.crew).attempts
+            ≡ (C.account self.old.crew).attempts + 1 }
+        ensures taken { OnOk result ((C.account self.new.crew).events
+            ≡ (C.account self.old.crew).events
+            ++ Started slot job ((C.account self.old.crew).attempts + 1) ∷ []) }
+        ensures taken_count { OnOk result
+            ((C.account self.new.crew).failures ≡ (C.account self.old.crew).failures) }
+        ensures refused { OnErr result
+            ((C.account self.new.crew).events ≡ (C.account self.old.crew).events) }
+        ensures refused_count { OnErr result
+            ((C.account self.new.crew).failures ≡ (C.account self.old.crew).failures + 1) }
         // If progress isn't shown, nothing is written, and it never is. Nor is anything written after a start that is refused.
-        ensures off { self.old.is_on ≡ false → self.new ≡ record self.old { account = self.new.account } }
-        ensures untouched { OnErr result (self.new ≡ record self.old { account = self.new.account }) }
+        ensures off { self.old.is_on ≡ false → self.new ≡ record self.old { crew = self.new.crew } }
+        ensures untouched { OnErr result (self.new ≡ record self.old { crew = self.new.crew }) }
         // Otherwise the text for all events so far is written, unless the write fails.
         ensures written { OnOk result (IsTrue self.new.is_on
-            → Appends (W.contents self.old.stream) (W.contents self.new.stream) (text_after self.new.account.events)) }
+            → Appends (W.contents self.old.stream) (W.contents self.new.stream)
+            (text_after (C.account self.new.crew).events)) }
     {
         let command = subject_of(&job);
         self.crew.start(slot, job)?;
@@ -100,21 +106,25 @@ impl<C: Crew + Drop, W: Write + Drop> Crew for Watched<C, W> {
     }
 
     fn next(&mut self) -> (usize, Reply)
-        requires flying { IsSomeBusy self.old.account.events }
-        requires failures { self.old.account.failures < 2 ^ 62 }
-        ensures was_busy { busy result.0 self.old.account.events ≡ true }
-        ensures ended { self.new.account.events
-            ≡ self.old.account.events ++ Ended result.0 result.1 self.old.account.attempts ∷ [] }
-        ensures number { self.new.account.attempts ≡ self.old.account.attempts }
+        requires flying { IsSomeBusy (C.account self.old.crew).events }
+        requires failures { (C.account self.old.crew).failures < 2 ^ 62 }
+        ensures was_busy { busy result.0 (C.account self.old.crew).events ≡ true }
+        ensures ended { (C.account self.new.crew).events
+            ≡ (C.account self.old.crew).events
+            ++ Ended result.0 result.1 (C.account self.old.crew).attempts ∷ [] }
+        ensures number { (C.account self.new.crew).attempts ≡ (C.account self.old.crew).attempts }
         ensures reply { result.1 ≢ Reply.StartRefused }
-        ensures count { self.new.account.failures ≡ self.old.account.failures + failure_of result.1 }
+        ensures count { (C.account self.new.crew).failures
+            ≡ (C.account self.old.crew).failures + failure_of result.1 }
         // If progress isn't shown, nothing is written, and it never is.
-        ensures off { self.old.is_on ≡ false → self.new ≡ record self.old { account = self.new.account } }
+        ensures off { self.old.is_on ≡ false → self.new ≡ record self.old { crew = self.new.crew } }
         // Otherwise the text for all events so far is written, unless the write fails.
         ensures written { IsTrue self.new.is_on
-            → Appends (W.contents self.old.stream) (W.contents self.new.stream) (text_after self.new.account.events) }
+            → Appends (W.contents self.old.stream) (W.contents self.new.stream)
+            (text_after (C.account self.new.crew).events) }
         // If no child is left in flight, that text only erases the line.
-        ensures gone { IsIdle self.new.account.events → text_after self.new.account.events ≡ erasure }
+        ensures gone { IsIdle (C.account self.new.crew).events
+            → text_after (C.account self.new.crew).events ≡ erasure }
     {
         let (slot, reply) = self.crew.next();
         self.ended += 1;

@@ -2,4 +2,4 @@ use Rattle.std.proofs.Common.{◌≡◌}
 use Rattle.crew.proofs.children.place_of_ended.Given as goal
 
 abbrev pub invariant-loop-place : goal.invariant-loop-place
-invariant-loop-place g l = l.children ≡ l.fn.children
+invariant-loop-place g l = l.table ≡ l.fn.table

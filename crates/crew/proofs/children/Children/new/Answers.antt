@@ -7,6 +7,6 @@ use Rattle.crew.proofs.children.Children.new.Goals as goal
 
 pub invariant_of-result : goal.invariant_of-result
 invariant_of-result g c =
-    let slots = c.new.ensures.items in
-    let events = c.new-2.ensures.items in
-    (c.in_ok-children.ensures, slots ∙ sym (ap slots_in_flight events), lists_none _ _ slots events, below_none _ slots, omega (arith, ap length slots, ap length events), runs_none _ _ c.requires events, have_none _ c.new-2.result.items _ slots)
+    let slots = c.new-2.ensures.items in
+    let events = c.new-3.ensures.items in
+    (c.in_ok-table.ensures.slots, slots ∙ sym (ap slots_in_flight events), lists_none _ _ slots events, below_none _ slots, omega (arith, ap length slots, ap length events), runs_none _ _ c.requires events, have_none _ c.new-3.result.items _ slots)
