@@ -1,6 +1,10 @@
+mod Coherence
+mod Guarded
 mod Kept
+mod Leading
 mod Placed
 mod Puts
 mod Readings
+mod Reread
 mod Slashes
 mod Writings
