@@ -65,9 +65,10 @@ keeps_last : (f : Files) → IsCoherent f → (d : List Deed) (t file text : Lis
     → Writable f d t file
     → KeepsDirectories (after f ((d ++ Made t ∷ []) ++ Filled t mode text ∷ [])) (Renamed t file)
 keeps_last f c d t file text mode w =
-    let d1 = d ++ Made t ∷ [] in
-    (c.no_new_link d1 (Filled t mode text) t tt (c.no_new_link d (Made t) t tt (free_plain _ w.free)),
-    c.no_new_link d1 (Filled t mode text) file tt (c.no_new_link d (Made t) file tt w.plain))
+    let d1 = d ++ Made t ∷ [] in (
+      c.no_new_link d1 (Filled t mode text) t tt (c.no_new_link d (Made t) t tt (free_plain _ w.free)),
+      c.no_new_link d1 (Filled t mode text) file tt (c.no_new_link d (Made t) file tt w.plain),
+    )
 
 -- They are elsewhere than a place that is neither the new file's nor the old one's.
 moved : (f : Files) → IsCoherent f → (d : List Deed) (e : Deed) (name : List ℕ) (place : Place)
@@ -180,7 +181,7 @@ pub other_text : (f : Files) → IsCoherent f → (d : List Deed) (keeps : Keeps
     → place_under (after f d) end ≡ Some place → place_under (after f d) file ≢ Some place
     → text_under (after f d) name ≡ Some has → IsWritten (after f d) keeps file text deeds
     → (text_under (after f (d ++ deeds)) name ≡ Some has) × LeadsTo (after f (d ++ deeds)) name end
-        × (place_under (after f (d ++ deeds)) end ≡ Some place)
+    × (place_under (after f (d ++ deeds)) end ≡ Some place)
 other_text f c d keeps file text deeds name end place has plain leads at apart read (written n mode free is_mode) =
     let t = temporary file n in
     let w : Writable f d t file = record { free = free; plain = plain } in
@@ -197,11 +198,11 @@ made_stays : (f : Files) → IsCoherent f → (d : List Deed) (made name : List 
     → place_under (after f (d ++ MadeDirectories made ∷ [])) name ≡ Some place
 made_stays f c d made name place at = in_place name _ _ place (λ x is. c.directories_last d made (home_of name) x is) at
   where
-  in_place : (name : List ℕ) (before now : Option (ℕ × ℕ)) (place : Place)
-      → ((x : ℕ × ℕ) → before ≡ Some x → now ≡ Some x)
-      → option_map (place_at name) before ≡ Some place → option_map (place_at name) now ≡ Some place
-  in_place name None now place keeps is = absurd (none_or_some is)
-  in_place name (Some x) now place keeps is = ap (option_map (place_at name)) (keeps x refl) ∙ is
+    in_place : (name : List ℕ) (before now : Option (ℕ × ℕ)) (place : Place)
+        → ((x : ℕ × ℕ) → before ≡ Some x → now ≡ Some x)
+        → option_map (place_at name) before ≡ Some place → option_map (place_at name) now ≡ Some place
+    in_place name None now place keeps is = absurd (none_or_some is)
+    in_place name (Some x) now place keeps is = ap (option_map (place_at name)) (keeps x refl) ∙ is
 
 made_leads : (f : Files) → IsCoherent f → (d : List Deed) (made name end : List ℕ)
     → is_link (kind_under (after f (d ++ MadeDirectories made ∷ [])) end) ≡ false
@@ -217,8 +218,8 @@ pub made_text : (f : Files) → IsCoherent f → (d : List Deed) (made name end 
     → LeadsTo (after f d) name end → place_under (after f d) end ≡ Some place
     → text_under (after f d) name ≡ Some has
     → (text_under (after f (d ++ MadeDirectories made ∷ [])) name ≡ Some has)
-        × LeadsTo (after f (d ++ MadeDirectories made ∷ [])) name end
-        × (place_under (after f (d ++ MadeDirectories made ∷ [])) end ≡ Some place)
+    × LeadsTo (after f (d ++ MadeDirectories made ∷ [])) name end
+    × (place_under (after f (d ++ MadeDirectories made ∷ [])) end ≡ Some place)
 made_text f c d made name end place has leads at read =
     let at_last = made_stays f c d made end place at in
     let same = c.stays d (MadeDirectories made) end place at at_last tt (end_is_plain _ name end leads) in
@@ -239,7 +240,7 @@ own_last f c d file text cleared =
 leads_on : (f : Files) → IsCoherent f → (d : List Deed) (e : Deed) (name end : List ℕ)
     → KeepsDirectories (after f d) e
     → ((place : Place) (link : List ℕ) → place_under (after f d) link ≡ Some place
-        → is_link (kind_under (after f d) link) ≡ true → IsElsewhere (after f d) place e)
+    → is_link (kind_under (after f d) link) ≡ true → IsElsewhere (after f d) place e)
     → is_link (kind_under (after f (d ++ e ∷ [])) end) ≡ false
     → LeadsTo (after f d) name end → LeadsTo (after f (d ++ e ∷ [])) name end
 leads_on f c d e name end keeps elsewhere plain (itself is) = itself plain
@@ -292,7 +293,7 @@ other_removed : (f : Files) → IsCoherent f → (d : List Deed) (file text name
     → text_under (after f d) name ≡ Some has
     → (let new = d ++ Removed file ∷ Made file ∷ Filled file None text ∷ [] in
     (text_under (after f new) name ≡ Some has) × LeadsTo (after f new) name end
-        × (place_under (after f new) end ≡ Some place))
+    × (place_under (after f new) end ≡ Some place))
 other_removed f c d file text name end place has plain leads at apart read =
     let r0 : Reads f d file name end place has = record { plain = plain; leads = leads; at = at; apart = apart; read = read } in
     let r1 = reads_on f c d (Removed file) file name end place has plain (λ p other. other) (free_plain _ (c.gone d file)) r0 in
@@ -307,7 +308,7 @@ pub other_last : (f : Files) → IsCoherent f → (d : List Deed) (file text nam
     → text_under (after f d) name ≡ Some has
     → (let new = d ++ (clearing file seen ++ Made file ∷ Filled file None text ∷ []) in
     (text_under (after f new) name ≡ Some has) × LeadsTo (after f new) name end
-        × (place_under (after f new) end ≡ Some place))
+    × (place_under (after f new) end ≡ Some place))
 other_last f c d file text name end place has found.Nothing plain leads at apart read =
     let r = reads_filled f c d file text name end place has (record { plain = plain; leads = leads; at = at; apart = apart; read = read }) in (r.read, r.leads, r.at)
 other_last f c d file text name end place has found.Directory plain leads at apart read =

@@ -7,4 +7,5 @@ mod Puts
 mod Readings
 mod Reread
 mod Slashes
+pub mod Unused
 mod Writings

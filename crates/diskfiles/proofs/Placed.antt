@@ -37,13 +37,16 @@ pub stepped_over : (a b : Option Known) (guards : List Guard) (places new_places
 stepped_over None None guards places new_places saying keeps name file text made placed = tt
 stepped_over None (Some b) guards places new_places saying keeps name file text made placed = absurd made
 stepped_over (Some a) None guards places new_places saying keeps name file text made placed = absurd made
-stepped_over (Some a) (Some b) guards places new_places saying keeps name file text made placed =
-    (made_for saying name, made, record {
-      rest = [];
-      parts = sym (append-nil (made_for saying name));
-      placed = subst (λ k. ArePlaced k guards places new_places name file) made placed;
-      fills = refl;
-    })
+stepped_over (Some a) (Some b) guards places new_places saying keeps name file text made placed = (
+  made_for saying name,
+  made,
+  record {
+    rest = [];
+    parts = sym (append-nil (made_for saying name));
+    placed = subst (λ k. ArePlaced k guards places new_places name file) made placed;
+    fills = refl;
+  },
+)
 
 -- The same, whether the file was left as it was or not.
 pub stepped_if_left : (a b : Option Known) (guards : List Guard) (places new_places : List Place) (saying : Saying) (left : Bool) (keeps : Keeps) (name file text : List ℕ)

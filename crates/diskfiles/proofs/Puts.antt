@@ -8,6 +8,7 @@ use Rattle.outputs.specs.declared.artifact.Kind.{Kind}
 use Rattle.outputs.specs.declared.artifact.Kind.TheVariants.{Cache, Record, File, Header}
 use Rattle.diskfiles.specs.Done.{IsOther, IsEnd, IsPut, cache_same, cache_put, record_put, file_put, header_same, header_put, HasPlaces, there, IsTakenSo, IsRefused, AreDone, taken, refused, IsAllDone, IsDoneApart}
 use Rattle.diskfiles.specs.Done as made
+use Rattle.diskfiles.specs.Held.{AreUnguarded}
 use Rattle.diskfiles.specs.Keeping.{IsKept, AreSame, IsLeft, IsStepped, IsUnstepped, before, after, Takes, keeps_of, made_for}
 use Rattle.diskfiles.specs.Lines.{AreLines}
 use Rattle.diskfiles.specs.Sayings.{saying_of, said}
@@ -183,3 +184,9 @@ ends_as (Some k) name kind other is here = subst (λ q. IsEnd k name q name) (sy
 pub same_lines_after : (artifacts : List Artifact) (lines : List ℕ) (new_artifacts : List Artifact) (new_lines : List ℕ) → AreLines artifacts lines
     → AreSame artifacts lines new_artifacts new_lines → AreLines new_artifacts new_lines
 same_lines_after artifacts lines new_artifacts new_lines are same = rw (same.same_artifacts, same.same_lines) are
+
+-- The artifacts after a put that was refused.
+pub same_unguarded : (guards : List Guard) (artifacts : List Artifact) (lines : List ℕ) (new_artifacts : List Artifact) (new_lines : List ℕ)
+    → AreSame artifacts lines new_artifacts new_lines → AreUnguarded guards artifacts
+    → AreUnguarded guards new_artifacts
+same_unguarded guards artifacts lines new_artifacts new_lines same are = rw same.same_artifacts are

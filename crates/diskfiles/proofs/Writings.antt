@@ -67,9 +67,12 @@ done a b c name n mode text other is made free filled =
 pub made_beside : (a b c : Option Known) (n : ℕ) (name other : List ℕ) → other ≡ temporary name n
     → Adds a b [] → IfSome b (λ k. kind_under k other ≡ found.Nothing) → Adds b c (Made other ∷ [])
     → (m : ℕ) × (other ≡ temporary name m) × IfSome a (λ k. kind_under k (temporary name m) ≡ found.Nothing) × Adds a c (Made (temporary name m) ∷ [])
-made_beside a b c n name other is none free made =
-    (n, is, free_before a b other (temporary name n) none is free,
-    subst (λ o. Adds a c (Made o ∷ [])) is (adds_then a b c [] (Made other ∷ []) none made))
+made_beside a b c n name other is none free made = (
+  n,
+  is,
+  free_before a b other (temporary name n) none is free,
+  subst (λ o. Adds a c (Made o ∷ [])) is (adds_then a b c [] (Made other ∷ []) none made),
+)
 
 pub nothing_done : (a b : Option Known) (name : List ℕ) → Adds a b []
     → Does a b (λ _ deeds. IsUndone name deeds)

@@ -72,13 +72,13 @@ pub record IsCoherent (files : Files) : Type 0 where
       → place_under (after files (d ++ deed ∷ [])) name ≡ Some place
       → IsElsewhere (after files d) place deed → is_link (kind_under (after files d) name) ≡ false
       → (is_link (kind_under (after files (d ++ deed ∷ [])) name) ≡ false)
-          × (text_under (after files (d ++ deed ∷ [])) name ≡ text_under (after files d) name)
+      × (text_under (after files (d ++ deed ∷ [])) name ≡ text_under (after files d) name)
   pub links_stay : (d : List Deed) (deed : Deed) (name : List ℕ) (place : Place)
       → place_under (after files d) name ≡ Some place
       → place_under (after files (d ++ deed ∷ [])) name ≡ Some place
       → IsElsewhere (after files d) place deed → is_link (kind_under (after files d) name) ≡ true
       → (is_link (kind_under (after files (d ++ deed ∷ [])) name) ≡ true)
-          × (files.targets (d ++ deed ∷ []) name ≡ files.targets d name)
+      × (files.targets (d ++ deed ∷ []) name ≡ files.targets d name)
   -- A new file is no link, and makes none.
   pub no_new_link : (d : List Deed) (deed : Deed) (name : List ℕ) → IsOfNewFile deed
       → is_link (kind_under (after files d) name) ≡ false

@@ -1,7 +1,7 @@
 -- What contracts see of the receiver that writes to files.
-use Rattle.std.specs.Prelude.{◌≡◌, ℕ, ◌+◌, Bool, true, false, List, [], ◌∷◌, ◌++◌, Option, option_map, IfSome}
+use Rattle.std.specs.Prelude.{◌≡◌, ℕ, ◌+◌, Bool, true, false, List, [], ◌∷◌, ◌++◌, Option, option_map, IfSome, All}
 use Rattle.disk.specs.Known.{Known, Files}
-use Rattle.diskfiles.specs.Places.{place_under}
+use Rattle.diskfiles.specs.Places.{place_under, is_name_guarded}
 use Rattle.diskfiles.specs.declared.places.Guard.{Guard}
 use Rattle.diskfiles.specs.declared.places.Place.{Place}
 use Rattle.outputs.specs.Receipt.{Receipt}
@@ -45,12 +45,24 @@ IsCounted old new = new ≡ record { handed = old.handed; failures = old.failure
 abbrev pub IsClosed : {D : Type 0} → Held D → Held D → Type 0
 IsClosed old new = new ≡ record { handed = old.handed; failures = old.failures; lines = old.lines; guards = old.guards; places = old.places; closed = true; disk = new.disk }
 
+-- The receiver with other guarded names.
+abbrev pub with_guards : {D : Type 0} → Held D → List Guard → Held D
+with_guards o guards = record { handed = o.handed; failures = o.failures; lines = o.lines; guards = guards; places = o.places; closed = o.closed; disk = o.disk }
+
 -- The name is guarded now, with its place, if the directory of the name is there, and nothing else
 -- changed. (own)
 pub record IsGuarded {D : Type 0} (known : D → Option Known) (old new : Held D) (name : List ℕ) : Type 0 where
   pub place : Option Place
   pub at : IfSome (known old.disk) (λ k. place ≡ place_under k name)
-  pub guarded : new ≡ record { handed = old.handed; failures = old.failures; lines = old.lines; guards = old.guards ++ record { name = name; place = place } ∷ []; places = old.places; closed = old.closed; disk = old.disk }
+  pub guarded : new ≡ with_guards old (old.guards ++ record { name = name; place = place } ∷ [])
+
+-- More names may be guarded now, and nothing else changed. (own)
+abbrev pub GuardsMore : {D : Type 0} → Held D → Held D → Type 0
+GuardsMore old new = (more : List Guard) × (new ≡ with_guards old (old.guards ++ more))
+
+-- No artifact that was taken has a guarded name. (own)
+abbrev pub AreUnguarded : List Guard → List Artifact → Type 0
+AreUnguarded guards artifacts = All (λ artifact. is_name_guarded artifact.name guards ≡ false) artifacts
 
 -- What no put changes: the names that are guarded, with their places, and what is under the names of
 -- the disk, if that is known. (own)

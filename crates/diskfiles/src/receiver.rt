@@ -4,7 +4,7 @@ ghost use Rattle.std.specs.Prelude.{◌≡◌, ◌+◌, ◌^◌, ◌<◌, true, 
 ghost use Rattle.disk.specs.Known.{Adds, Does};
 ghost use Rattle.outputs.specs.Receipt.{with_artifact, with_refusal};
 ghost use Rattle.diskfiles.specs.Done.{IsEnd, IsTakenSo, IsRefused, IsAllDone, IsDoneApart};
-ghost use Rattle.diskfiles.specs.Held.{fresh, receipt_of, lasting_of, IsTaken, IsCounted, IsClosed, IsGuarded, IsUnused};
+ghost use Rattle.diskfiles.specs.Held.{fresh, receipt_of, lasting_of, IsTaken, IsCounted, IsClosed, IsGuarded, IsUnused, GuardsMore, AreUnguarded};
 ghost use Rattle.diskfiles.specs.Keeping as meant;
 ghost use Rattle.diskfiles.specs.Keeping.{IsKept, AreSame, IsLeft, IsStepped, IsUnstepped, Takes, keeps_of, made_for};
 ghost use Rattle.diskfiles.specs.Lines.{AreLines};
@@ -69,7 +69,7 @@ impl<D: Disk> Drop for FileOutputs<D> {
 impl<D: Disk> Model for FileOutputs<D> {
     ghost use Rattle.std.specs.Prelude.{◌≡◌, false, IfSome};
     ghost use Rattle.diskfiles.specs.Done.{IsDoneApart};
-    ghost use Rattle.diskfiles.specs.Held.{Held};
+    ghost use Rattle.diskfiles.specs.Held.{Held, AreUnguarded};
     ghost use Rattle.diskfiles.specs.Lines.{AreLines};
 
     ghost Value = { Held D };
@@ -77,6 +77,7 @@ impl<D: Disk> Model for FileOutputs<D> {
     ghost view = { λ o. record { handed = o.artifacts.items; failures = o.failures; lines = o.lines.items; guards = o.guards.items; places = o.places.items; closed = o.is_closed; disk = o.disk } };
 
     ghost invariant = { λ o. AreLines o.artifacts.items o.lines.items
+        × AreUnguarded o.guards.items o.artifacts.items
         × (o.is_closed ≡ false → IfSome (D.known o.disk)
         (λ k. IsDoneApart k o.guards.items o.artifacts.items o.failures o.lines.items o.places.items)) };
 }
@@ -443,6 +444,8 @@ impl<D: Disk> FileOutputs<D> {
         // Unless it is closed, what was done to the disk is what was done for the puts.
         ensures done { self.now.closed ≡ false → IfSome (D.known self.now.disk)
             (λ k. IsAllDone k self.now.handed self.now.failures self.now.lines) }
+        // No artifact has a guarded name, whether anything is known of the files or not.
+        ensures unguarded { AreUnguarded self.now.guards self.now.handed }
         // Each artifact has a file of its own, which is not that of a guarded name.
         ensures apart { self.now.closed ≡ false → IfSome (D.known self.now.disk)
             (λ k. IsDoneApart k self.now.guards self.now.handed self.now.failures self.now.lines self.now.places) }
@@ -456,12 +459,14 @@ impl<D: Disk> FileOutputs<D> {
     /// # Errors
     ///
     /// Fails only if memory runs out, and then the file is not guarded.
+    #[tactic(auto, using(crate::proofs::Unused::guards_none))]
     pub fn keep(&mut self, name: &[u8]) -> Result<(), AllocError>
         requires { IsUnused self.old }
         ensures unnamed { (IsFileName name.now → ⊥) → self.new ≡ self.old }
         ensures guarded { OnOk result (IsFileName name.now → IsGuarded D.known self.old self.new name.now) }
+        ensures named { OnOk result (IsFileName name.now → is_name_guarded name.now self.new.guards ≡ true) }
         ensures err { OnErr result (self.new ≡ self.old) }
-        ensures unused { IsUnused self.new }
+        ensures more { GuardsMore self.old self.new }
     {
         let Some(name) = file_name(name) else {
             return Ok(());
