@@ -3,7 +3,8 @@ use Rattle.std.proofs.Common.{◌≡◌, ℕ, ◌+◌, Bool, true, false, List, 
 use Rattle.std.specs.Prelude.{IfSome, codes}
 use Rattle.disk.specs.Known.{Known}
 use Rattle.diskfiles.specs.Done.{IsAllDone}
-use Rattle.diskfiles.specs.Held.{Held, fresh, receipt_of, closings}
+use Rattle.diskfiles.specs.Held.{Held, IsUnused, receipt_of, closings}
+use Rattle.diskfiles.proofs.Unused.{unused_receipt}
 use Rattle.diskfiles.specs.Lines.{AreLines}
 use Rattle.framing.specs.Remade.{remade, IsRemade, refused, memory, all, cut}
 use Rattle.framing.specs.declared.fault.RemakeFault.{RemakeFault}
@@ -34,14 +35,14 @@ all_done known handed artifacts failures said lines artifacts_are none lines_are
 
 -- What a call of `remake` made, if it returned a number.
 pub made_again : {D : Type 0} (known : D → Option Known) (d : D) (before now : Held D) (text : List ℕ) (templates : List (List ℕ × List ℕ)) (tags : List (List ℕ)) (same : Type 0) (answer : Result ℕ RemakeFault) (n : ℕ) (lines : List ℕ)
-    → before ≡ fresh d → ReadsWhole (known d) (codes "config.status") (Some text) → GivenAgain (known d) (record_in text) templates
+    → IsUnused before → ReadsWhole (known d) (codes "config.status") (Some text) → GivenAgain (known d) (record_in text) templates
     → IsRemade (remade text templates tags) same (receipt_of before) (receipt_of now) answer → answer ≡ Ok n → lines ≡ now.lines → AreLines now.handed lines
     → (now.closed ≡ false → IfSome (known now.disk) (λ k. IsAllDone k now.handed now.failures now.lines)) → IsMadeAgain (known d) (known now.disk) tags lines
 made_again known d before now text templates tags same (Err f) n lines new found given (refused is s) returned shown are done = absurd (cc)
 made_again known d before now text templates tags same (Err f) n lines new found given (memory s) returned shown are done = absurd (cc)
 made_again known d before now text templates tags same (Err f) n lines new found given (cut is at) returned shown are done = absurd (cc)
 made_again known d before now text templates tags same (Ok m) n lines new found given (all {artifacts = made} is handed) returned shown are done =
-    let empty : receipt_of before ≡ record { handed = []; failures = 0 } = ap receipt_of new in
+    let empty : receipt_of before ≡ record { handed = []; failures = 0 } = unused_receipt before new in
     let made_all : now.handed ≡ made = ap (λ (r : Receipt). r.handed) handed ∙ ap (λ (r : Receipt). r.handed ++ made) empty in
     let counted : now.failures + closings now.closed ≡ 0 = ap (λ (r : Receipt). r.failures) handed ∙ ap (λ (r : Receipt). r.failures) empty in
     let none = nothing_refused now.failures now.closed counted in

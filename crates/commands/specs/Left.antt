@@ -2,7 +2,7 @@
 use Rattle.std.specs.Prelude.{◌≡◌, ℕ, List, ◌++◌, Option, codes}
 use Rattle.cfglog.specs.Texts.{log_of}
 use Rattle.disk.specs.Known.{Known, Deed}
-use Rattle.diskfiles.specs.Done.{AreDone}
+use Rattle.diskfiles.specs.Done.{IsDone}
 use Rattle.diskfiles.specs.Held.{Held}
 use Rattle.diskfiles.specs.Steps.{IsReplaced}
 use Rattle.framing.specs.declared.report.Outcome.TheVariants.{Shown}
@@ -16,8 +16,8 @@ pub record IsLeft (k : Known) (artifacts : List Artifact) (lines log : List ℕ)
   pub before : List Deed
   pub logged : List Deed
   pub deeds : k.deeds ≡ before ++ logged
-  pub done : AreDone k.texts k.kinds artifacts 0 lines before
-  pub written : IsReplaced (record { deeds = before; texts = k.texts; kinds = k.kinds }) (codes "config.log") log logged
+  pub done : IsDone k.files artifacts 0 lines before
+  pub written : IsReplaced (record { deeds = before; files = k.files }) (codes "config.log") log logged
 
 -- After a run with this report the log was written, unless a text was shown. (own)
 pub record Logs {D : Type 0} (known : D → Option Known) (old new : Held D) (report : Report) : Type 0 where

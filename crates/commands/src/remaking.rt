@@ -3,7 +3,7 @@
 ghost use Rattle.std.specs.Prelude.{◌≡◌, ◌≢◌, ℕ, List, Some, Ok, IsTrue, codes};
 ghost use Rattle.std.specs.Io.KnownBytes.{Appends};
 ghost use Rattle.commands.specs.MadeAgain.{IsMadeAgain};
-ghost use Rattle.diskfiles.specs.Held.{fresh};
+ghost use Rattle.diskfiles.specs.Held.{fresh, IsUnused, GuardsMore};
 ghost use Rattle.invocation.specs.Supplies.{ReadsWhole, GivenAgain};
 ghost use Rattle.status_record.specs.Reading.{record_in};
 
@@ -58,12 +58,14 @@ fn tell_answer<D: Disk, E: Write>(
 }
 
 /// Has puts to the files refused that the outputs of a record are made of, and to the record.
+#[tactic(auto, using(diskfiles::proofs::Unused::guards_then, diskfiles::proofs::Unused::more_unused))]
 fn keep_all<D: Disk>(
     alloc: Global,
     outputs: &mut FileOutputs<D>,
     supplies: &RecordSupplies,
 ) -> Result<(), AllocError>
-    ensures { outputs.new ≡ outputs.old }
+    requires { IsUnused outputs.old }
+    ensures { GuardsMore outputs.old outputs.new }
 {
     outputs.keep(RECORD)?;
     let templates = supplies.templates.as_slice();
@@ -83,6 +85,7 @@ fn why_of<'a>(is_asked: bool, text: &'a [u8], srcdir: &'a [u8], tags: &'a [Bytes
 }
 
 /// Makes the outputs of a record with these templates, and returns the exit status.
+#[tactic(auto, using(diskfiles::proofs::Unused::fresh_unused))]
 fn make_supplied<'a, D: Disk, W: Write, E: Write>(
     alloc: Global,
     outputs: &mut FileOutputs<D>,

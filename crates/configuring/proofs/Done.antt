@@ -11,7 +11,8 @@ use Rattle.commands.specs.Left.{IsLeft, Logs}
 use Rattle.commands.proofs.Remakes.{nothing_refused, all_done}
 use Rattle.disk.specs.Known.{Known, Does}
 use Rattle.diskfiles.specs.Done.{IsAllDone}
-use Rattle.diskfiles.specs.Held.{Held, fresh, receipt_of, closings}
+use Rattle.diskfiles.specs.Held.{Held, IsUnused, receipt_of, closings}
+use Rattle.diskfiles.proofs.Unused.{unused_receipt}
 use Rattle.diskfiles.specs.Lines.{AreLines}
 use Rattle.diskfiles.specs.Steps.{IsReplaced}
 use Rattle.engine.specs.Told.{outcome_of}
@@ -120,25 +121,25 @@ left_by (Some old) (Some new) artifacts lines log done logged =
 -- What holds after a call of `configure` over a receiver `before`, which is `mid` then, and `fin`
 -- after the log was written.
 end_of : {D : Type 0} (known : D → Option Known) (d : D) (before_puts mid fin : Held D) (j : Result Accepted Fault) (window : ℕ) (source : List ℕ) (a : List (List ℕ)) (e : List (List ℕ × List ℕ)) (c : Option (List ℕ)) (t : List (List ℕ × List ℕ)) (before now : Account) (report : Report)
-    → before_puts ≡ fresh d → ReadsSource (known d) a source → GivenIn (known d) source a e c t
+    → IsUnused before_puts → before_puts.disk ≡ d → ReadsSource (known d) a source → GivenIn (known d) source a e c t
     → judged source a e c t ≡ j → IsAnswer j (Ok report) → (IsNotRun j → (now ≡ before) × (mid ≡ before_puts)) → IfStarts j (λ script start. IsMeant window script start before now report)
     → IfStarts j (λ script start. receipt_of mid ≡ with_artifacts (receipt_of before_puts) (artifacts script start t report)) → Logs known mid fin report
     → IsConfigured window a e before now (known d) (known fin.disk) (printed (quiet_in source a e) report.messages mid.lines) (errors_of report.messages) (status_of report.outcome)
-end_of known d before_puts mid fin (Err OutOfMemory) window source a e c t before now report new read given j answer same meant handed logs = absurd (cc)
-end_of known d before_puts mid fin (Err f) window source a e c t before now report new read given j answer same meant handed logs = absurd (cc)
-end_of known d before_puts mid fin (Ok (Shows script settings)) window source a e c t before now report new read given j answer same meant handed logs =
+end_of known d before_puts mid fin (Err OutOfMemory) window source a e c t before now report new on read given j answer same meant handed logs = absurd (cc)
+end_of known d before_puts mid fin (Err f) window source a e c t before now report new on read given j answer same meant handed logs = absurd (cc)
+end_of known d before_puts mid fin (Ok (Shows script settings)) window source a e c t before now report new on read given j answer same meant handed logs =
     let told : report ≡ shown_report script settings = report_of_answer report (shown_report script settings) answer in
-    let untouched : mid ≡ fresh d = (same tt).1 ∙ new in
-    let empty : mid.lines ≡ [] = ap (λ h. h.lines) untouched in
+    let untouched : mid ≡ before_puts = (same tt).1 in
+    let empty : mid.lines ≡ [] = ap (λ h. h.lines) untouched ∙ new.silent in
     let out : printed (quiet_in source a e) report.messages mid.lines ≡ shown_text script settings =
     ap (λ (r : Report). printed (quiet_in source a e) r.messages mid.lines) told ∙ shown_out script settings (quiet_in source a e) mid.lines (quiet_shows source a e c t script settings j) empty in
     let said : errors_of report.messages ≡ [] = ap (λ (r : Report). errors_of r.messages) told ∙ shown_silent script settings in
     let status : status_of report.outcome ≡ 0 = ap (λ (r : Report). status_of r.outcome) told ∙ shown_status script settings in
     let nothing : fin ≡ mid = logs.nothing (ap (λ (r : Report). r.outcome) told ∙ shown_outcome script settings) in
-    let files : known fin.disk ≡ known d = ap (λ h. known h.disk) (nothing ∙ untouched) in
+    let files : known fin.disk ≡ known d = ap (λ h. known h.disk) (nothing ∙ untouched) ∙ ap known on in
     subst (λ n. IsConfigured window a e before now (known d) (known fin.disk) (printed (quiet_in source a e) report.messages mid.lines) (errors_of report.messages) n) (sym status) (shown source c t script settings read j (same tt).0 files out said)
-end_of known d before_puts mid fin (Ok (Starts script start)) window source a e c t before now report new read given j answer same meant handed logs =
-    let empty : receipt_of before_puts ≡ record { handed = []; failures = 0 } = ap receipt_of new in
+end_of known d before_puts mid fin (Ok (Starts script start)) window source a e c t before now report new on read given j answer same meant handed logs =
+    let empty : receipt_of before_puts ≡ record { handed = []; failures = 0 } = unused_receipt before_puts new in
     let all : mid.handed ≡ artifacts script start t report = ap (λ (r : Receipt). r.handed) handed ∙ ap (λ (r : Receipt). r.handed ++ artifacts script start t report) empty in
     let counted : mid.failures + closings mid.closed ≡ 0 = ap (λ (r : Receipt). r.failures) handed ∙ ap (λ (r : Receipt). r.failures) empty in
     let none = nothing_refused mid.failures mid.closed counted in
@@ -150,13 +151,13 @@ end_of known d before_puts mid fin (Ok (Starts script start)) window source a e 
 
 -- The same after a call of `configure` that returned this report.
 pub run_done : {D : Type 0} (known : D → Option Known) (d : D) (before_puts mid fin : Held D) (window : ℕ) (source : List ℕ) (a : List (List ℕ)) (e : List (List ℕ × List ℕ)) (c : Option (List ℕ)) (t : List (List ℕ × List ℕ)) (before now : Account) (answer : Result Report Fault) (report : Report) (quiet : Bool) (status : ℕ)
-    → before_puts ≡ fresh d → ReadsSource (known d) a source → GivenIn (known d) source a e c t
+    → IsUnused before_puts → before_puts.disk ≡ d → ReadsSource (known d) a source → GivenIn (known d) source a e c t
     → IsAnswer (judged source a e c t) answer → (IsNotRun (judged source a e c t) → (now ≡ before) × (mid ≡ before_puts)) → IfStarts (judged source a e c t) (λ script start. IfReport answer (IsMeant window script start before now))
     → IfStarts (judged source a e c t) (λ script start. IfOk answer (λ report. receipt_of mid ≡ with_artifacts (receipt_of before_puts) (artifacts script start t report)))
     → quiet ≡ quiet_in source a e → answer ≡ Ok report → status ≡ status_of report.outcome → Logs known mid fin report
     → IsConfigured window a e before now (known d) (known fin.disk) (printed quiet report.messages mid.lines) (errors_of report.messages) status
-run_done known d before_puts mid fin window source a e c t before now answer report quiet status new read given accepted same meant handed loud is status_is logs =
-    let done = end_of known d before_puts mid fin (judged source a e c t) window source a e c t before now report new read given refl (subst (IsAnswer (judged source a e c t)) is accepted) same
+run_done known d before_puts mid fin window source a e c t before now answer report quiet status new on read given accepted same meant handed loud is status_is logs =
+    let done = end_of known d before_puts mid fin (judged source a e c t) window source a e c t before now report new on read given refl (subst (IsAnswer (judged source a e c t)) is accepted) same
     (subst (λ r. IfStarts (judged source a e c t) (λ script start. IfReport r (IsMeant window script start before now))) is meant)
     (subst (λ r. IfStarts (judged source a e c t) (λ script start. IfOk r (λ report. receipt_of mid ≡ with_artifacts (receipt_of before_puts) (artifacts script start t report)))) is handed) logs in
     subst (λ n. IsConfigured window a e before now (known d) (known fin.disk) (printed quiet report.messages mid.lines) (errors_of report.messages) n) (sym status_is)

@@ -34,6 +34,7 @@ fn cache_of(supplies: &Supplies) -> Option<&[u8]>
 }
 
 /// Runs a source that was read, and returns the exit status.
+#[tactic(auto, using(diskfiles::proofs::Unused::fresh_unused))]
 fn run_supplied<D: Disk, C: Crew + Causes, W: Write, E: Write>(
     alloc: Global,
     outputs: &mut FileOutputs<D>,

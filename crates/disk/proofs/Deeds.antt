@@ -3,11 +3,11 @@ use Rattle.std.proofs.Common.{◌≡◌, List, [], ◌++◌, Option, Some, None,
 use Rattle.disk.specs.Known.{Known, Deed, with_deeds, Adds, Does}
 
 pub with_none : (k : Known) → k ≡ with_deeds k []
-with_none k = ap (λ d. record { deeds = d; texts = k.texts; kinds = k.kinds }) (sym (append-nil k.deeds))
+with_none k = ap (λ d. record { deeds = d; files = k.files }) (sym (append-nil k.deeds))
 
 pub with_more : (k : Known) (d e : List Deed)
     → with_deeds (with_deeds k d) e ≡ with_deeds k (d ++ e)
-with_more k d e = ap (λ l. record { deeds = l; texts = k.texts; kinds = k.kinds }) (append_assoc k.deeds d e)
+with_more k d e = ap (λ l. record { deeds = l; files = k.files }) (append_assoc k.deeds d e)
 
 -- Nothing was done.
 pub adds_none : (a : Option Known) → Adds a a []

@@ -1,4 +1,4 @@
--- What is known of a disk: what was done to it, and what is under each name.
+-- What is known of a disk: what was done to it, and what is under its names.
 use Rattle.std.specs.Prelude.{◌≡◌, ℕ, ◌+◌, ◌^◌, List, ◌++◌, take, Option, Some, None, ⊤}
 use Rattle.disk.specs.declared.found.Found.{Found}
 
@@ -17,25 +17,40 @@ pub data Deed : Type 0 where
   -- A file was removed, if that was possible.
   Removed : (name : List ℕ) → Deed
 
--- What is known of a disk that nobody else changes: what was done to it, in order; the text of the
--- regular file that each name leads to, after these deeds, if it can be read; and what is under
--- each name, after these deeds. (own)
-pub record Known : Type 0 where
-  pub deeds : List Deed
+-- What is under the names of a disk that nobody else changes, after these deeds: the text of the
+-- regular file that each name leads to, if it can be read; what is under each name; the name that
+-- each link has, if it can be read; and for each directory its device and its number there, if the
+-- system says them. (own)
+pub record Files : Type 0 where
   pub texts : List Deed → List ℕ → Option (List ℕ)
   pub kinds : List Deed → List ℕ → Found
+  pub targets : List Deed → List ℕ → Option (List ℕ)
+  pub directories : List Deed → List ℕ → Option (ℕ × ℕ)
+
+-- What is known of a disk: what was done to it, in order, and what is under its names. (own)
+pub record Known : Type 0 where
+  pub deeds : List Deed
+  pub files : Files
 
 -- The text under a name now. (own)
 abbrev pub text_under : Known → List ℕ → Option (List ℕ)
-text_under k name = k.texts k.deeds name
+text_under k name = k.files.texts k.deeds name
 
 -- What is under a name now. (own)
 abbrev pub kind_under : Known → List ℕ → Found
-kind_under k name = k.kinds k.deeds name
+kind_under k name = k.files.kinds k.deeds name
+
+-- The name that the link under a name has now. (own)
+abbrev pub target_under : Known → List ℕ → Option (List ℕ)
+target_under k name = k.files.targets k.deeds name
+
+-- The device of the directory of a name and its number there, now. (own)
+abbrev pub directory_under : Known → List ℕ → Option (ℕ × ℕ)
+directory_under k name = k.files.directories k.deeds name
 
 -- What is known after more deeds. (own)
 abbrev pub with_deeds : Known → List Deed → Known
-with_deeds k deeds = record { deeds = k.deeds ++ deeds; texts = k.texts; kinds = k.kinds }
+with_deeds k deeds = record { deeds = k.deeds ++ deeds; files = k.files }
 
 -- If something is known, these deeds are added. If nothing is known, nothing is known afterwards.
 -- (own)

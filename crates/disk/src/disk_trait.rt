@@ -1,20 +1,22 @@
 //! The trait of what holds files.
 
-ghost use Rattle.std.specs.Prelude.{◌≡◌, [], ◌∷◌, None, Option, IfOk, IfSome, OnOk, OnErr, option_map};
-ghost use Rattle.disk.specs.Known.{Known, MadeDirectories, Made, Filled, Failed, Renamed, Removed, Adds, text_under, kind_under, limited};
+ghost use Rattle.std.specs.Prelude.{◌≡◌, ◌≢◌, [], ◌∷◌, None, Some, Option, IfOk, IfErr, IfSome, OnOk, OnErr, option_map, string_bytes};
+ghost use Rattle.std.specs.IoError.{error_kind};
+ghost use Rattle.disk.specs.Known.{Known, MadeDirectories, Made, Filled, Failed, Renamed, Removed, Adds, text_under, kind_under, target_under, directory_under, limited};
+ghost use Rattle.disk.specs.declared.found.Found.TheVariants as found;
 
 use crate::found::Found;
 use deftable::Bytes;
 use std::alloc::{AllocError, Global};
-use std::io;
+use std::io::{self, ErrorKind};
 
 /// Reads, makes, renames and removes files by their names. The meaning of a disk is what was done
-/// to it, and what is under each name (own).
+/// to it, and what is under its names (own).
 pub trait Disk: Drop {
     /// A new file, which is being written.
     type File: Drop;
 
-    // What was done so far, and what is under each name, if that is known.
+    // What was done so far, and what is under its names, if that is known.
     ghost known: { Self → Option Known } = { λ _. None };
 
     /// Returns the text of a regular file, or its first 64 MiB and one byte more, or `None` if it
@@ -47,15 +49,21 @@ pub trait Disk: Drop {
     /// # Errors
     ///
     /// Fails if memory runs out, or the link can't be read.
-    fn link_target(&self, alloc: Global, name: &str) -> io::Result<String>;
+    fn link_target(&self, alloc: Global, name: &str) -> io::Result<String>
+        ensures { IfOk result (λ target. IfSome (known self.now)
+            (λ k. target_under k name.now ≡ Some (string_bytes target))) };
 
     /// Returns the device of a directory and its number there. Two names of directories have the
     /// same exactly if they are names of one.
     ///
     /// # Errors
     ///
-    /// Fails if there is no such directory, or the system refuses to look.
-    fn directory(&self, name: &str) -> io::Result<(u64, u64)>;
+    /// Fails if there is no such directory, memory runs out, or the system refuses to look.
+    fn directory(&self, name: &str) -> io::Result<(u64, u64)>
+        ensures found { IfOk result
+            (λ d. IfSome (known self.now) (λ k. directory_under k name.now ≡ Some d)) }
+        ensures missing { IfErr result (λ e. error_kind e ≢ ErrorKind.OutOfMemory
+            → IfSome (known self.now) (λ k. directory_under k name.now ≡ None)) };
 
     /// Makes a directory, and those that it is in, unless they are there.
     ///
@@ -73,6 +81,8 @@ pub trait Disk: Drop {
     /// made.
     fn create(&mut self, name: &str) -> io::Result<Self::File>
         ensures made { OnOk result (Adds (known self.old) (known self.new) (Made name.now ∷ [])) }
+        ensures free { OnOk result
+            (IfSome (known self.old) (λ k. kind_under k name.now ≡ found.Nothing)) }
         ensures refused { OnErr result (Adds (known self.old) (known self.new) []) };
 
     /// Writes a text to the new file of this name, and closes it. If `mode` has permission bits,

@@ -1,12 +1,19 @@
 -- What is read from a disk in memory.
-use Rattle.std.specs.Prelude.{bytes_eq, option_map}
-use Rattle.std.proofs.Common.{◌≡◌, ℕ, List, true, Option, Some, Result, Ok, Err, IfOk, sym, ap, ◌∙◌}
+use Rattle.std.specs.Prelude.{option_map, map, Bool, ◌||◌}
+use Rattle.std.specs.List.{list_any}
+use Rattle.std.proofs.Common.{◌≡◌, ℕ, List, [], ◌∷◌, true, refl, Option, Some, Result, Ok, Err, IfOk, sym, ap, ◌∙◌}
 use Rattle.std.proofs.lemmas.Bool.{cond-true}
 use Rattle.disk.specs.Known.{limited}
-use Rattle.disk_tests.specs.Memory.{text_in}
+use Rattle.disk.specs.Known.{Deed}
+use Rattle.disk_tests.specs.Memory.{text_in, is_there}
 
-pub read_here : {E : Type 0} (r : Result (Option (List ℕ)) E) (file text all name : List ℕ) → bytes_eq name file ≡ true → all ≡ text
-    → IfOk r (λ o. o ≡ Some (limited all)) → IfOk r (λ o. o ≡ option_map limited (text_in file text name))
-read_here (Err e) file text all name is same read = tt
-read_here (Ok o) file text all name is same read =
+pub read_here : {E : Type 0} (r : Result (Option (List ℕ)) E) (file text all name : List ℕ) (deeds : List Deed) → is_there file deeds name ≡ true → all ≡ text
+    → IfOk r (λ o. o ≡ Some (limited all)) → IfOk r (λ o. o ≡ option_map limited (text_in file text deeds name))
+read_here (Err e) file text all name deeds is same read = tt
+read_here (Ok o) file text all name deeds is same read =
     read ∙ ap (λ t. Some (limited t)) same ∙ sym (ap (option_map limited) (cond-true _ _ _ is))
+
+pub any_of_mapped : {X Y : Type 0} (p : Y → Bool) (f : X → Y) (xs : List X)
+    → list_any (λ x. p (f x)) xs ≡ list_any p (map f xs)
+any_of_mapped p f [] = refl
+any_of_mapped p f (x ∷ xs) = ap (λ b. p (f x) || b) (any_of_mapped p f xs)

@@ -3,10 +3,12 @@
 use std::alloc::Allocator;
 use std::fs::{File, FileTimes, Files, Metadata, OpenFile, OpenOptions, Permissions};
 use std::io::{self, Error, ErrorKind, Read, Seek, SeekFrom, Write};
+use std::os::unix::fs::PermissionsExt;
 use std::path::PathBuf;
 
-/// The files of the system, of which one operation fails: `open`, `look`, `rename`, `read`, `write`, `permit`, or `memory`,
-/// which is an open that finds no memory. If it is empty, none fails.
+/// The files of the system, of which one operation fails: `open`, `look`, `stat`, `link`, `directory`, `rename`, `remove`,
+/// `read`, `write`, `permit`, `memory` or `place`. The last two are an open and a look at a directory that find no memory. With
+/// `early` a file can't be written before it has the permissions 600. If it is empty, none fails.
 #[derive(Clone, Copy)]
 pub struct Disk<'a> {
     pub rt: &'a HostRuntime,
@@ -20,6 +22,13 @@ impl Disk<'_> {
         }
         Err(Error::from(ErrorKind::PermissionDenied))
     }
+
+    fn check_memory(&self, operation: &[u8]) -> io::Result<()> {
+        if self.fails != operation {
+            return Ok(());
+        }
+        Err(Error::from(ErrorKind::OutOfMemory))
+    }
 }
 
 /// A file of which one operation fails. If that is to write, it writes each byte by itself, and fails at the last one.
@@ -29,6 +38,14 @@ pub struct Torn {
     fails_to_read: bool,
     fails_to_write: bool,
     fails_to_permit: bool,
+    fails_early: bool,
+}
+
+impl Torn {
+    /// Returns whether the file can't be written yet.
+    fn is_early(&self) -> io::Result<bool> {
+        Ok(self.fails_early && self.file.metadata()?.permissions().mode() & 0o777 != 0o600)
+    }
 }
 
 impl Read for Torn {
@@ -42,6 +59,9 @@ impl Read for Torn {
 
 impl Write for Torn {
     fn write(&mut self, buf: &[u8]) -> io::Result<usize> {
+        if self.is_early()? {
+            return Err(Error::from(ErrorKind::PermissionDenied));
+        }
         if !self.fails_to_write {
             return self.file.write(buf);
         }
@@ -98,14 +118,13 @@ impl Files for Disk<'_> {
 
     fn open_file(&self, how: &OpenOptions, path: &str) -> io::Result<Torn> {
         self.check(b"open")?;
-        if self.fails == b"memory".as_slice() {
-            return Err(Error::from(ErrorKind::OutOfMemory));
-        }
+        self.check_memory(b"memory")?;
         Ok(Torn {
             file: self.rt.open_file(how, path)?,
             fails_to_read: self.fails == b"read".as_slice(),
             fails_to_write: self.fails == b"write".as_slice(),
             fails_to_permit: self.fails == b"permit".as_slice(),
+            fails_early: self.fails == b"early".as_slice(),
         })
     }
 
@@ -114,6 +133,8 @@ impl Files for Disk<'_> {
     }
 
     fn metadata(&self, path: &str) -> io::Result<Metadata> {
+        self.check(b"stat")?;
+        self.check_memory(b"place")?;
         Files::metadata(self.rt, path)
     }
 
@@ -132,14 +153,17 @@ impl Files for Disk<'_> {
     }
 
     fn read_link<B: Allocator>(&self, alloc: B, path: &str) -> io::Result<PathBuf<B>> {
+        self.check(b"link")?;
         self.rt.read_link(alloc, path)
     }
 
     fn remove_file(&self, path: &str) -> io::Result<()> {
+        self.check(b"remove")?;
         self.rt.remove_file(path)
     }
 
     fn create_dir(&self, path: &str) -> io::Result<()> {
+        self.check(b"directory")?;
         self.rt.create_dir(path)
     }
 

@@ -100,10 +100,14 @@ fn add_artifact(page: &mut Page, artifacts: &mut Artifacts, words: &[u8]) {
     }
 }
 
-/// Puts whether the artifacts were taken, or which was refused, and the lines. A put to the file that is kept is refused.
+/// Puts whether the artifacts were taken, or which was refused, and the lines. A put to the file that is kept is refused. If it
+/// can't be kept, nothing is put.
 fn put_put(page: &mut Page, disk: &Disk<'_>, kept: &[u8], artifacts: &[Artifact]) {
     let mut outputs = FileOutputs::new(page.alloc(), Host::new(disk));
-    page.given(outputs.keep(kept));
+    if outputs.keep(kept).is_err() {
+        page.put(b"unkept");
+        return;
+    }
     match put_all(&mut outputs, artifacts) {
         Ok(()) => page.put(b"all"),
         Err(number) => {
@@ -325,6 +329,9 @@ write w old|fails write|write w new|fails |read w|look acrun-1.tmp => yesno[old]
 write x old|fails rename|write x new|read x|look acrun-1.tmp => yesno[old]none
 write y old|fails permit|write y new|read y|look acrun-1.tmp => yesno[old]none
 fails rename|write new x|look new|look acrun-1.tmp => nononenone
+// The permissions are given before the text is written.
+write z old|permit z private|fails early|write z new|fails |read z|mode z => yesyes[new]384
+write z old|permit z open|fails early|write z new|fails |read z|look acrun-1.tmp => yesno[old]none
 fails write|write new x|look new|look acrun-1.tmp => nononenone
 fails look|write a x|fails |read a|look acrun-1.tmp => no[two]none
 fails read|read a => none
@@ -372,10 +379,15 @@ directory one.d|link two.d one.d|hand file one.d/x 1;file two.d/x 2|read one.d/x
 hand file one.d/y 1;file one.d/z 2;file y 3 => all[config.status: creating one.d/y^Jconfig.status: creating one.d/z^Jconfig.status: creating y^J]
 hand cache cache.1 1;file real 2|read real => not 2[][1]
 hand cache cache.1 2;file cache.1 2|look cache.1|read real => not 2[]link[2]
-// So is a put to a file that is kept for the run itself. A name without a directory keeps nothing.
+// So is a put to a file that is kept for the run itself, under any of its names. If its directory isn't there, only this
+// name is kept.
 write in T|keep in|hand file in x|read in => yesnot 1[][T]
 keep ./in|hand file a.out 1;header in x|read in => not 2[config.status: creating a.out^J][T]
 keep none/in|hand file in x|read in => all[config.status: creating in^J][x]
+keep none/in|hand file none/in x|look none => not 1[]none
+keep two.d/in|hand file one.d/in x|look one.d/in => not 1[]none
+keep real|hand cache cache.1 x|read real => not 1[][2]
+write in T|fails place|keep in|hand file in x|fails |read in => yesunkept[T]
 keep config.log|hand cache config.log x|look config.log => not 1[]none
 // Directories are made for a file and a header, and for nothing else.
 hand file a/b/out x;header a/c/config.h y;file a/b/out2 z|read a/b/out|read a/c/config.h|read a/b/out2 => \
@@ -396,6 +408,19 @@ fails write|hand header config.h other|look acrun-1.tmp => not 1[]none
 // A header that is there and can't be read is written. If there is no memory to read it, the put is refused.
 fails read|hand header config.h new|fails |read config.h => all[config.status: creating config.h^J][new]
 fails memory|hand header config.h new => not 1[]
+// Any other failure of the system refuses the put too, and the file is as it was.
+fails look|hand file two new|fails |look two|look acrun-1.tmp => not 1[]nonenone
+fails stat|hand file two new|fails |look two|look acrun-1.tmp => not 1[]nonenone
+fails place|hand file two new|fails |look two|look acrun-1.tmp => unkeptnonenone
+fails directory|hand file dd/two new|fails |look dd => not 1[]none
+fails open|hand record two new|fails |look two => not 1[]none
+fails link|hand cache cache.1 new|fails |look cache.1|read real => not 1[]link[2]
+fails look|hand cache cache.1 new|fails |look cache.1|read real => not 1[]link[2]
+fails remove|hand file two new|read two|fails |look acrun-1.tmp => all[config.status: creating two^J][new]none
+// Links with absolute names, and links in directories. An absolute link to a device is not followed to a file.
+link cache.5 /nowhere/at/all|hand cache cache.5 x|look cache.5 => not 1[]link
+link cd/6 7|hand cache cd/6 f|look cd/6|read cd/7|look 7 => all[]link[f]none
+link links.d cd|hand cache links.d/6 g|look cd/6|read cd/7|look 7 => all[]link[g]none
 // no artifacts
 hand file five |read five => all[config.status: creating five^J][]
 ";

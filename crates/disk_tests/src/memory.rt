@@ -1,6 +1,7 @@
 //! A disk in memory.
 
-ghost use Rattle.std.specs.Prelude.{◌≡◌, ◌∷◌, ◌++◌, [], Some, IfOk, bytes_eq};
+ghost use Rattle.std.specs.Prelude.{◌≡◌, ◌∷◌, ◌++◌, [], Some, IfOk, bytes_eq, map};
+ghost use Rattle.std.specs.List.{list_any};
 ghost use Rattle.disk.specs.Known.{limited};
 ghost use Rattle.disk_tests.specs.Memory as meant;
 
@@ -12,8 +13,8 @@ use std::io::{self, ErrorKind};
 use std::process::Abort;
 use testrows::cut;
 
-/// A disk in memory on which one file is found, a program, whatever is done. It keeps what is done.
-/// If it is full, no file can be filled.
+/// A disk in memory on which one file is found, a program, until it is removed. It keeps what is
+/// done. If it is full, no file can be filled.
 #[derive(Drop)]
 pub struct MemoryDisk<'a, R: Abort> {
     rt: &'a R,
@@ -45,6 +46,35 @@ impl<'a, R: Abort> MemoryDisk<'a, R> {
     pub fn steps(&self) -> &[Step] {
         self.steps.as_slice()
     }
+
+    /// Returns whether this is the name of the file, and the file was not removed.
+    fn is_there(&self, name: &str) -> bool
+        ensures { result ≡ meant.is_there self.now.name (map meant.deed_of self.now.steps.items) name.now }
+    {
+        is_named(&self.name, name) && !is_removed(&self.name, self.steps.as_slice())
+    }
+}
+
+/// Returns whether a step removes a file.
+fn removes(file: &Bytes, step: &Step) -> bool
+    ensures { result ≡ meant.removes file.now (meant.deed_of step.now) }
+{
+    match step {
+        Step::MadeDirectories(_) => false,
+        Step::Made(_) => false,
+        Step::Filled(_, _, _) => false,
+        Step::Failed(_) => false,
+        Step::Renamed(_, _) => false,
+        Step::Removed(name) => name.as_slice() == file.as_slice(),
+    }
+}
+
+/// Returns whether a step of these removes a file.
+#[tactic(auto, using(crate::proofs::Found::any_of_mapped))]
+fn is_removed(file: &Bytes, steps: &[Step]) -> bool
+    ensures { result ≡ list_any (meant.removes file.now) (map meant.deed_of steps.now) }
+{
+    steps.iter().any(|step| removes(file, step))
 }
 
 /// Returns a text, or its first 64 MiB and one byte more.
@@ -94,7 +124,7 @@ impl<'a, R: Abort> Disk for MemoryDisk<'a, R> {
     ghost known = { λ m. Some (meant.known_of m.name m.text m.steps.items) };
 
     fn read(&self, alloc: Global, name: &str) -> Result<Option<Bytes>, AllocError> {
-        if is_named(&self.name, name) {
+        if self.is_there(name) {
             return front_of(alloc, self.text.as_slice());
         }
         Ok(None)
@@ -105,7 +135,7 @@ impl<'a, R: Abort> Disk for MemoryDisk<'a, R> {
     }
 
     fn look(&self, name: &str) -> io::Result<Found> {
-        if is_named(&self.name, name) {
+        if self.is_there(name) {
             return Ok(Found::File(0o100755));
         }
         Ok(Found::Nothing)
@@ -126,6 +156,9 @@ impl<'a, R: Abort> Disk for MemoryDisk<'a, R> {
     }
 
     fn create(&mut self, name: &str) -> io::Result<()> {
+        if self.is_there(name) {
+            return Err(io::Error::from(ErrorKind::AlreadyExists));
+        }
         let name = copied(self.rt, self.alloc, name.as_bytes());
         add(self.rt, &mut self.steps, Step::Made(name));
         Ok(())

@@ -1,6 +1,11 @@
+mod Coherence
+mod Guarded
 mod Kept
+mod Leading
 mod Placed
 mod Puts
 mod Readings
+mod Reread
 mod Slashes
+pub mod Unused
 mod Writings

@@ -1,12 +1,12 @@
 -- By which steps a text is written.
-use Rattle.std.proofs.Common.{◌≡◌, ◌⊎◌, ℕ, List, [], ◌∷◌, ◌++◌, Option, Some, None, IfSome, Result, Ok, Err, OnOk, OnErr, inl, inr, refl, sym, subst, append-nil}
+use Rattle.std.proofs.Common.{◌≡◌, ◌⊎◌, ℕ, List, [], ◌∷◌, ◌++◌, Option, Some, None, IfSome, Result, Ok, Err, OnOk, OnErr, inl, inr, refl, sym, subst, ◌∙◌, append-nil}
 use Rattle.disk.specs.Known.{Known, Made, Filled, Failed, Renamed, Removed, Adds, Does, kind_under}
-use Rattle.disk.specs.Clearing.{DoesAll, clearing, clearing_now, filling}
+use Rattle.disk.specs.Clearing.{DoesAll, clearing_now, filling}
 use Rattle.disk.specs.declared.found.Found.{Found}
 use Rattle.disk.specs.declared.found.Found.TheVariants as found
-use Rattle.disk.proofs.Deeds.{adds_then, does, does_none, does_then}
+use Rattle.disk.proofs.Deeds.{with_none, adds_then, does, does_none, does_then}
 use Rattle.diskfiles.specs.Names.{temporary}
-use Rattle.diskfiles.specs.Steps.{writing, IsMode, IsWritten, written, IsUndone, nothing, unfilled, unnamed, IsReplaced, replaced, IsBegun, cleared_only, torn, IsCleared, kept, file, link}
+use Rattle.diskfiles.specs.Steps.{writing, IsMode, IsWritten, written, IsUndone, nothing, unfilled, unnamed, IsReplaced, replaced, IsBegun, unseen, cleared_only, torn}
 use Rattle.diskfiles.specs.declared.writing.Keeps.{Keeps}
 
 -- What holds of an answer that is right.
@@ -42,68 +42,73 @@ undone a b c name n mode text other is made (inr f) =
 pub nothing_undone : (a : Option Known) (name : List ℕ) → Does a a (λ _ deeds. IsUndone name deeds)
 nothing_undone a name = does_none a (λ _ deeds. IsUndone name deeds) (λ k. nothing)
 
+-- What is free after nothing was done was free before.
+free_before : (a b : Option Known) (name other : List ℕ) → Adds a b [] → name ≡ other
+    → IfSome b (λ k. kind_under k name ≡ found.Nothing)
+    → IfSome a (λ k. kind_under k other ≡ found.Nothing)
+free_before None b name other none is free = tt
+free_before (Some a) None name other none is free = absurd none
+free_before (Some a) (Some b) name other none is free =
+    subst (λ o. kind_under a o ≡ found.Nothing) is (subst (λ k. kind_under k name ≡ found.Nothing) (none ∙ sym (with_none a)) free)
+
 -- A file that was made, filled and renamed.
 pub done : (a b c : Option Known) (name : List ℕ) (n : ℕ) (mode : Option ℕ) (text other : List ℕ)
     → other ≡ temporary name n
     → Adds a b (Made (temporary name n) ∷ [])
+    → IfSome a (λ k. kind_under k (temporary name n) ≡ found.Nothing)
     → Adds b c (Filled other mode text ∷ Renamed other name ∷ [])
-    → (m : ℕ) × Adds a c (writing name mode text m)
-done a b c name n mode text other is made filled =
+    → (m : ℕ) × IfSome a (λ k. kind_under k (temporary name m) ≡ found.Nothing) × Adds a c (writing name mode text m)
+done a b c name n mode text other is made free filled =
     let t = temporary name n in
     let filled' : Adds b c (Filled t mode text ∷ Renamed t name ∷ []) = subst (λ o. Adds b c (Filled o mode text ∷ Renamed o name ∷ [])) is filled in
-    (n, adds_then a b c (Made t ∷ []) (Filled t mode text ∷ Renamed t name ∷ []) made filled')
+    (n, free, adds_then a b c (Made t ∷ []) (Filled t mode text ∷ Renamed t name ∷ []) made filled')
+
+-- A new file was made where there was nothing, after other names were tried.
+pub made_beside : (a b c : Option Known) (n : ℕ) (name other : List ℕ) → other ≡ temporary name n
+    → Adds a b [] → IfSome b (λ k. kind_under k other ≡ found.Nothing) → Adds b c (Made other ∷ [])
+    → (m : ℕ) × (other ≡ temporary name m) × IfSome a (λ k. kind_under k (temporary name m) ≡ found.Nothing) × Adds a c (Made (temporary name m) ∷ [])
+made_beside a b c n name other is none free made = (
+  n,
+  is,
+  free_before a b other (temporary name n) none is free,
+  subst (λ o. Adds a c (Made o ∷ [])) is (adds_then a b c [] (Made other ∷ []) none made),
+)
 
 pub nothing_done : (a b : Option Known) (name : List ℕ) → Adds a b []
     → Does a b (λ _ deeds. IsUndone name deeds)
 nothing_done a b name none = does a b [] (λ _ deeds. IsUndone name deeds) none (λ k. nothing)
 
 -- A text was written, with permission bits for what was there.
-pub is_written : (a b : Option Known) (keeps : Keeps) (name text : List ℕ) (mode : Option ℕ) (found : Found) → IfSome a (λ k. found ≡ kind_under k name) → IsMode keeps found mode
-    → (n : ℕ) × Adds a b (writing name mode text n)
+pub is_written : (a b : Option Known) (keeps : Keeps) (name text : List ℕ) (mode : Option ℕ) (seen : Found) → IfSome a (λ k. seen ≡ kind_under k name) → IsMode keeps seen mode
+    → (n : ℕ) × IfSome a (λ k. kind_under k (temporary name n) ≡ found.Nothing) × Adds a b (writing name mode text n)
     → Does a b (λ k deeds. IsWritten k keeps name text deeds)
-is_written None None keeps name text mode found is is_mode w = tt
-is_written None (Some b) keeps name text mode found is is_mode w = absurd w.1
-is_written (Some a) None keeps name text mode found is is_mode w = absurd w.1
-is_written (Some a) (Some b) keeps name text mode found is is_mode w =
-    (writing name mode text w.0, w.1, written w.0 mode (subst (λ f. IsMode keeps f mode) is is_mode))
+is_written None None keeps name text mode seen is is_mode w = tt
+is_written None (Some b) keeps name text mode seen is is_mode w = absurd w.2
+is_written (Some a) None keeps name text mode seen is is_mode w = absurd w.2
+is_written (Some a) (Some b) keeps name text mode seen is is_mode w =
+    (writing name mode text w.0, w.2, written w.0 mode w.1 (subst (λ f. IsMode keeps f mode) is is_mode))
 
 -- A new file that is not in the place of another.
-pub made_anew : (a b c : Option Known) (name text : List ℕ)
-    → Does a b (λ k d. IsCleared name (kind_under k name) d)
+pub made_anew : (a b c : Option Known) (name text : List ℕ) → DoesAll a b (clearing_now name)
     → DoesAll b c (filling name text) → Does a c (λ k d. IsReplaced k name text d)
 made_anew a b c name text cleared made =
-    does_then a b c (λ k d. IsCleared name (kind_under k name) d) (λ k e. e ≡ filling name text k) (λ k d. IsReplaced k name text d) cleared made
-    (λ k d e is e_is. subst (λ l. IsReplaced k name text (d ++ l)) (sym e_is) (replaced d is))
+    does_then a b c (λ k d. d ≡ clearing_now name k) (λ k e. e ≡ filling name text k) (λ k d. IsReplaced k name text d) cleared made
+    (λ k d e d_is e_is. subst (λ l. IsReplaced k name text (l ++ e)) (sym d_is) (subst (λ l. IsReplaced k name text (clearing_now name k ++ l)) (sym e_is) replaced))
 
-pub begun_anew : (a b c : Option Known) (name : List ℕ)
-    → Does a b (λ k d. IsCleared name (kind_under k name) d)
+pub begun_anew : (a b c : Option Known) (name : List ℕ) → DoesAll a b (clearing_now name)
     → (Adds b c [] ⊎ Adds b c (Made name ∷ Failed name ∷ [])) → Does a c (λ k d. IsBegun k name d)
 begun_anew a b c name cleared (inl none) =
-    does_then a b c (λ k d. IsCleared name (kind_under k name) d) (λ _ e. e ≡ []) (λ k d. IsBegun k name d) cleared (does b c [] (λ _ e. e ≡ []) none (λ _. refl))
-    (λ k d e is e_is. subst (λ l. IsBegun k name (d ++ l)) (sym e_is) (subst (λ l. IsBegun k name l) (sym (append-nil d)) (cleared_only d is)))
+    does_then a b c (λ k d. d ≡ clearing_now name k) (λ _ e. e ≡ []) (λ k d. IsBegun k name d) cleared (does b c [] (λ _ e. e ≡ []) none (λ _. refl))
+    (λ k d e d_is e_is. subst (λ l. IsBegun k name (d ++ l)) (sym e_is) (subst (λ l. IsBegun k name l) (sym (append-nil d)) (subst (λ l. IsBegun k name l) (sym d_is) cleared_only)))
 begun_anew a b c name cleared (inr made) =
     let new = Made name ∷ Failed name ∷ [] in
-    does_then a b c (λ k d. IsCleared name (kind_under k name) d) (λ _ e. e ≡ new) (λ k d. IsBegun k name d) cleared (does b c new (λ _ e. e ≡ new) made (λ _. refl))
-    (λ k d e is e_is. subst (λ l. IsBegun k name (d ++ l)) (sym e_is) (torn d is))
+    does_then a b c (λ k d. d ≡ clearing_now name k) (λ _ e. e ≡ new) (λ k d. IsBegun k name d) cleared (does b c new (λ _ e. e ≡ new) made (λ _. refl))
+    (λ k d e d_is e_is. subst (λ l. IsBegun k name (d ++ l)) (sym e_is) (subst (λ l. IsBegun k name (l ++ new)) (sym d_is) torn))
+
+-- What is under the name was not said, so nothing was done.
+pub unseen_begun : (a b : Option Known) (name : List ℕ) → Adds a b []
+    → Does a b (λ k d. IsBegun k name d)
+unseen_begun a b name none = does a b [] (λ k d. IsBegun k name d) none (λ k. unseen)
 
 pub not_begun : (a : Option Known) (name : List ℕ) → Does a a (λ k d. IsBegun k name d)
-not_begun a name = does_none a (λ k d. IsBegun k name d) (λ k. cleared_only [] kept)
-
--- What was found was cleared.
-is_cleared : (name : List ℕ) (found : Found) → IsCleared name found (clearing name found)
-is_cleared name (found.File mode) = file mode
-is_cleared name found.Link = link
-is_cleared name found.Nothing = kept
-is_cleared name found.Directory = kept
-is_cleared name found.Special = kept
-
--- What is under the name was cleared, or it could not be looked at.
-pub clears : {X E : Type 0} (r : Result X E) (a b : Option Known) (name : List ℕ)
-    → OnOk r (DoesAll a b (clearing_now name)) → OnErr r (Adds a b [])
-    → Does a b (λ k d. IsCleared name (kind_under k name) d)
-clears (Ok x) None None name all none = tt
-clears (Ok x) None (Some b) name all none = absurd all
-clears (Ok x) (Some a) None name all none = absurd all
-clears (Ok x) (Some a) (Some b) name all none =
-    (all.0, all.1, subst (λ d. IsCleared name (kind_under a name) d) (sym all.2) (is_cleared name (kind_under a name)))
-clears (Err e) a b name all none = does a b [] (λ k d. IsCleared name (kind_under k name) d) none (λ k. kept)
+not_begun a name = does_none a (λ k d. IsBegun k name d) (λ k. unseen)

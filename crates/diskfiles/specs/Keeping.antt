@@ -4,11 +4,14 @@ use Rattle.disk.specs.Known.{Known, Deed, Does, with_deeds, text_under}
 use Rattle.outputs.specs.declared.artifact.Artifact.{Artifact}
 use Rattle.outputs.specs.declared.artifact.Kind.{Kind}
 use Rattle.outputs.specs.declared.artifact.Kind.TheVariants.{Cache, Record, File, Header}
-use Rattle.diskfiles.specs.Done.{IsOther, IsPut}
+use Rattle.diskfiles.specs.Done.{IsOther, IsTakenSo}
 use Rattle.diskfiles.specs.Lines.{IsSaid}
+use Rattle.diskfiles.specs.Places.{ArePlaced}
 use Rattle.diskfiles.specs.Steps.{IsWritten, IsUndone, directories_for}
 use Rattle.diskfiles.specs.declared.lines.Saying.{Saying}
 use Rattle.diskfiles.specs.declared.lines.Saying.TheVariants.{Nothing, Creating, Unchanged}
+use Rattle.diskfiles.specs.declared.places.Guard.{Guard}
+use Rattle.diskfiles.specs.declared.places.Place.{Place}
 use Rattle.diskfiles.specs.declared.writing.Keeps.{Keeps}
 use Rattle.diskfiles.specs.declared.writing.Keeps.TheVariants.{Permissions, NoExecution}
 
@@ -73,17 +76,18 @@ Fills false k keeps file text deeds = IsWritten k keeps file text deeds
 
 -- The artifact was appended to the artifacts, and a line to the lines, and if the deeds are known, they
 -- put it in this way. (own)
-pub record Takes (known new : Option Known) (artifacts : List Artifact) (lines : List ℕ) (new_artifacts : List Artifact) (new_lines : List ℕ) (artifact : Artifact) : Type 0 where
+pub record Takes (known new : Option Known) (guards : List Guard) (places new_places : List Place) (artifacts : List Artifact) (lines : List ℕ) (new_artifacts : List Artifact) (new_lines : List ℕ) (artifact : Artifact) : Type 0 where
   pub line : List ℕ
   pub kept : IsKept artifacts lines new_artifacts new_lines artifact line
   pub said : IsSaid artifact.kind artifact.name line
-  pub does : Does known new (λ k deeds. IsPut k artifact.name artifact.text artifact.kind line deeds)
+  pub does : Does known new (λ k deeds. IsTakenSo k guards places new_places artifact line deeds)
 
--- The directories were made, and then the text was written, unless the file was left as it was.
--- (own)
-pub record IsStepped (k : Known) (saying : Saying) (left : Bool) (keeps : Keeps) (name file text : List ℕ) (deeds : List Deed) : Type 0 where
+-- The directories were made, the places were added, and then the text was written, unless the file
+-- was left as it was. (own)
+pub record IsStepped (k : Known) (guards : List Guard) (places new_places : List Place) (saying : Saying) (left : Bool) (keeps : Keeps) (name file text : List ℕ) (deeds : List Deed) : Type 0 where
   pub rest : List Deed
   pub parts : deeds ≡ made_for saying name ++ rest
+  pub placed : ArePlaced (with_deeds k (made_for saying name)) guards places new_places name file
   pub fills : Fills left (with_deeds k (made_for saying name)) keeps file text rest
 
 -- Nothing was done, or the directories were made, and no file was renamed. (own)

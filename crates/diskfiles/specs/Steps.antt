@@ -1,5 +1,6 @@
 -- By which steps a text is written to a file.
-use Rattle.std.specs.Prelude.{ℕ, List, [], ◌∷◌, ◌++◌, Option, Some, None, bit_and}
+use Rattle.std.specs.Prelude.{◌≡◌, ℕ, List, [], ◌∷◌, ◌++◌, Option, Some, None, bit_and}
+use Rattle.disk.specs.Clearing.{clearing_now, filling}
 use Rattle.disk.specs.Known.{Known, Deed, MadeDirectories, Made, Filled, Failed, Renamed, Removed, kind_under}
 use Rattle.disk.specs.declared.found.Found.{Found}
 use Rattle.disk.specs.declared.found.Found.TheVariants as found
@@ -24,10 +25,11 @@ pub data IsMode (keeps : Keeps) : Found → Option ℕ → Type 0 where
 abbrev pub writing : List ℕ → Option ℕ → List ℕ → ℕ → List Deed
 writing name mode text n = Made (temporary name n) ∷ Filled (temporary name n) mode text ∷ Renamed (temporary name n) name ∷ []
 
--- A new file in the directory of the name was made, got its permission bits and the whole text, and
--- was renamed. Nothing else was done. (own)
+-- A new file in the directory of the name was made, where there was nothing, got its permission
+-- bits and the whole text, and was renamed. Nothing else was done. (own)
 pub data IsWritten (k : Known) (keeps : Keeps) (name text : List ℕ) : List Deed → Type 0 where
-  written : (n : ℕ) (mode : Option ℕ) → IsMode keeps (kind_under k name) mode
+  written : (n : ℕ) (mode : Option ℕ) → kind_under k (temporary name n) ≡ found.Nothing
+      → IsMode keeps (kind_under k name) mode
       → IsWritten k keeps name text (writing name mode text n)
 
 -- Nothing was done, or a new file in the directory of the name was made and was removed again.
@@ -48,22 +50,15 @@ making (Some directory) = MadeDirectories directory ∷ []
 abbrev pub directories_for : List ℕ → List Deed
 directories_for name = making (directory_of name)
 
--- A file or a link that was under the name is removed. Nothing else is. (own)
-pub data IsCleared (name : List ℕ) : Found → List Deed → Type 0 where
-  kept : {found : Found} → IsCleared name found []
-  file : (mode : ℕ) → IsCleared name (found.File mode) (Removed name ∷ [])
-  link : IsCleared name found.Link (Removed name ∷ [])
-
 -- A file or a link that was under the name was removed, a new file was made there, and got the
 -- whole text. Nothing else was done. (own)
 pub data IsReplaced (k : Known) (name text : List ℕ) : List Deed → Type 0 where
-  replaced : (cleared : List Deed) → IsCleared name (kind_under k name) cleared
-      → IsReplaced k name text (cleared ++ Made name ∷ Filled name None text ∷ [])
+  replaced : IsReplaced k name text (clearing_now name k ++ filling name text k)
 
--- A file or a link that was under the name may have been removed, and a new file may have been made
--- there, which has not all of its text. (own)
+-- Nothing was done, since the system did not say what is under the name; or a file or a link that
+-- was there was removed, and then nothing was made, or a new file that has not all of its text.
+-- (own)
 pub data IsBegun (k : Known) (name : List ℕ) : List Deed → Type 0 where
-  cleared_only : (cleared : List Deed) → IsCleared name (kind_under k name) cleared
-      → IsBegun k name cleared
-  torn : (cleared : List Deed) → IsCleared name (kind_under k name) cleared
-      → IsBegun k name (cleared ++ Made name ∷ Failed name ∷ [])
+  unseen : IsBegun k name []
+  cleared_only : IsBegun k name (clearing_now name k)
+  torn : IsBegun k name (clearing_now name k ++ Made name ∷ Failed name ∷ [])

@@ -24,6 +24,7 @@
 //! `writing`, `links`, `places`, `lines` and `receiver`.
 #![tactic(auto)]
 
+pub mod laws;
 mod lines;
 mod links;
 mod names;

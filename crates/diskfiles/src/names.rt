@@ -82,9 +82,28 @@ pub(crate) fn temporary(alloc: Global, name: &str, number: u32) -> Result<String
 }
 
 /// Returns what is after the last slash of a name, or the whole of it.
-pub(crate) fn last_of(name: &str) -> &str {
-    match name.rsplit_once('/') {
-        Some((_, last)) => last,
+pub(crate) fn last_of(name: &str) -> &str
+    ensures { result.now ≡ meant.last_of name.now }
+{
+    match name.rfind('/') {
+        Some(at) => &name[at + 1..],
         None => name,
     }
+}
+
+/// Returns the directory in which a name is looked up: its front, or `.` if it has no slash.
+pub(crate) fn home_of(name: &str) -> &str
+    ensures { result.now ≡ meant.home_of name.now }
+{
+    match name.rfind('/') {
+        Some(at) => &name[..at + 1],
+        None => ".",
+    }
+}
+
+/// Returns whether a name begins with a slash.
+pub(crate) fn is_absolute(name: &str) -> bool
+    ensures { result ≡ meant.is_absolute name.now }
+{
+    name.as_bytes().starts_with(b"/")
 }

@@ -1,21 +1,22 @@
 //! The receiver that writes to files.
 
-ghost use Rattle.std.specs.Prelude.{◌≡◌, ◌+◌, ◌^◌, ◌<◌, false, List, ℕ, [], OnOk, OnErr, IfOk, IfSome, option_map, string_bytes};
+ghost use Rattle.std.specs.Prelude.{◌≡◌, ◌+◌, ◌^◌, ◌<◌, true, false, List, ℕ, [], OnOk, OnErr, IfOk, IfSome, is_err, option_map, string_bytes};
 ghost use Rattle.disk.specs.Known.{Adds, Does};
 ghost use Rattle.outputs.specs.Receipt.{with_artifact, with_refusal};
-ghost use Rattle.diskfiles.specs.Done.{IsEnd, IsPut, IsRefused, IsAllDone};
-ghost use Rattle.diskfiles.specs.Held.{fresh, receipt_of, IsTaken, IsCounted, IsClosed};
+ghost use Rattle.diskfiles.specs.Done.{IsEnd, IsTakenSo, IsRefused, IsAllDone, IsDoneApart};
+ghost use Rattle.diskfiles.specs.Held.{fresh, receipt_of, lasting_of, IsTaken, IsCounted, IsClosed, IsGuarded, IsUnused, GuardsMore, AreUnguarded};
 ghost use Rattle.diskfiles.specs.Keeping as meant;
 ghost use Rattle.diskfiles.specs.Keeping.{IsKept, AreSame, IsLeft, IsStepped, IsUnstepped, Takes, keeps_of, made_for};
 ghost use Rattle.diskfiles.specs.Lines.{AreLines};
 ghost use Rattle.diskfiles.specs.Names.{IsFileName};
+ghost use Rattle.diskfiles.specs.Places.{AreMore, ArePlaced, is_held, is_name_guarded};
 ghost use Rattle.diskfiles.specs.Sayings.{said};
 ghost use Rattle.diskfiles.specs.Steps.{IsReplaced, IsBegun, directories_for};
 
 use crate::lines::{Saying, say, saying_of};
 use crate::links::end_of;
 use crate::names::{directory_of, file_name, no_name};
-use crate::places::{Place, is_among, place_of};
+use crate::places::{Guard, Place, add_place, guard_of, held_error, is_held};
 use crate::reading::read_text;
 use crate::writing::{Keeps, write_new, write_text};
 use causes::words_of;
@@ -40,6 +41,7 @@ use std::marker::Model;
 pub struct FileOutputs<D: Disk> {
     alloc: Global,
     disk: D,
+    guards: Vec<Guard>,
     places: Vec<Place>,
     artifacts: Vec<Artifact>,
     failures: u64,
@@ -53,6 +55,7 @@ impl<D: Disk> Drop for FileOutputs<D> {
         let FileOutputs {
             alloc: _alloc,
             disk: _disk,
+            guards: _guards,
             places: _places,
             artifacts: _artifacts,
             failures: _failures,
@@ -65,17 +68,18 @@ impl<D: Disk> Drop for FileOutputs<D> {
 
 impl<D: Disk> Model for FileOutputs<D> {
     ghost use Rattle.std.specs.Prelude.{◌≡◌, false, IfSome};
-    ghost use Rattle.diskfiles.specs.Done.{IsAllDone};
-    ghost use Rattle.diskfiles.specs.Held.{Held};
+    ghost use Rattle.diskfiles.specs.Done.{IsDoneApart};
+    ghost use Rattle.diskfiles.specs.Held.{Held, AreUnguarded};
     ghost use Rattle.diskfiles.specs.Lines.{AreLines};
 
     ghost Value = { Held D };
 
-    ghost view = { λ o. record { handed = o.artifacts.items; failures = o.failures; lines = o.lines.items; closed = o.is_closed; disk = o.disk } };
+    ghost view = { λ o. record { handed = o.artifacts.items; failures = o.failures; lines = o.lines.items; guards = o.guards.items; places = o.places.items; closed = o.is_closed; disk = o.disk } };
 
     ghost invariant = { λ o. AreLines o.artifacts.items o.lines.items
+        × AreUnguarded o.guards.items o.artifacts.items
         × (o.is_closed ≡ false → IfSome (D.known o.disk)
-        (λ k. IsAllDone k o.artifacts.items o.failures o.lines.items)) };
+        (λ k. IsDoneApart k o.guards.items o.artifacts.items o.failures o.lines.items o.places.items)) };
 }
 
 /// Returns the error of an allocation that failed.
@@ -103,39 +107,42 @@ fn make_for<D: Disk>(disk: &mut D, saying: Saying, name: &str) -> io::Result<()>
     }
 }
 
-/// Adds a place, unless it is added already.
-fn add(places: &mut Vec<Place>, place: Place) -> io::Result<()> {
-    if is_among(&place, places.as_slice()) {
-        return Err(io::Error::other("has the name of another file of this run"));
-    }
-    places.push(place)?;
-    Ok(())
-}
-
-/// Adds the place of a name, if it has one and it is not added yet.
-fn add_place<D: Disk>(
-    alloc: Global,
-    disk: &D,
-    places: &mut Vec<Place>,
-    name: &str,
-) -> io::Result<()> {
-    add(places, place_of(alloc, disk, name)?)
-}
-
-/// Adds the place of an artifact. If its name is that of a link which leads to the file, adds the place
-/// of the file before that.
+/// Adds the place of an artifact. If its name is that of a link which leads to the file, adds the
+/// place of the file before that.
 fn add_places<D: Disk>(
     alloc: Global,
     disk: &D,
+    guards: &[Guard],
+    places: &mut Vec<Place>,
+    name: &str,
+    end: &Option<String>,
+) -> io::Result<()>
+    ensures placed { OnOk result (IfSome (D.known disk.now)
+        (λ k. ArePlaced k guards.now places.old.items places.new.items name.now
+        (meant.file_of (option_map string_bytes end.now) name.now))) }
+    ensures more { AreMore places.old.items places.new.items }
+{
+    match end {
+        Some(file) => add_both(alloc, disk, guards, places, name, file.as_str()),
+        None => add_place(alloc, disk, guards, places, name),
+    }
+}
+
+/// Adds the place of a file, and that of a link that leads to it.
+fn add_both<D: Disk>(
+    alloc: Global,
+    disk: &D,
+    guards: &[Guard],
     places: &mut Vec<Place>,
     name: &str,
     file: &str,
-    is_linked: bool,
-) -> io::Result<()> {
-    if is_linked {
-        add_place(alloc, disk, places, file)?;
-    }
-    add_place(alloc, disk, places, name)
+) -> io::Result<()>
+    ensures placed { OnOk result (IfSome (D.known disk.now)
+        (λ k. ArePlaced k guards.now places.old.items places.new.items name.now file.now)) }
+    ensures more { AreMore places.old.items places.new.items }
+{
+    add_place(alloc, disk, guards, places, file)?;
+    add_place(alloc, disk, guards, places, name)
 }
 
 /// Returns what permissions the file of an artifact of this kind keeps. A record is no program, so
@@ -161,28 +168,33 @@ struct Put<'a> {
     text: &'a [u8],
 }
 
-/// Writes an artifact to a file, if it isn't unchanged, and adds its places. If that fails, some
+/// Writes an artifact to its file, if it isn't unchanged, and adds its places. If that fails, some
 /// place may have been added.
+#[tactic(auto, using(crate::proofs::Placed::stepped_if_left, crate::proofs::Placed::stepped_if_not))]
 fn write_placed<D: Disk>(
     alloc: Global,
     disk: &mut D,
+    guards: &[Guard],
     places: &mut Vec<Place>,
     put: &Put<'_>,
-    file: &str,
-    is_linked: bool,
+    end: &Option<String>,
 ) -> io::Result<()>
     ensures stepped { OnOk result (Does (D.known disk.old) (D.known disk.new)
-        (λ k deeds. IsStepped k put.now.saying put.now.unchanged
-        (keeps_of put.now.kind) put.now.name.now file.now put.now.text.now deeds)) }
+        (λ k deeds. IsStepped k guards.now places.old.items places.new.items put.now.saying put.now.unchanged
+        (keeps_of put.now.kind) put.now.name.now
+        (meant.file_of (option_map string_bytes end.now) put.now.name.now) put.now.text.now deeds)) }
     ensures undone { OnErr result
         (Does (D.known disk.old) (D.known disk.new)
-        (λ _ deeds. IsUnstepped put.now.saying put.now.name.now file.now deeds)) }
+        (λ _ deeds. IsUnstepped put.now.saying put.now.name.now
+        (meant.file_of (option_map string_bytes end.now) put.now.name.now) deeds)) }
+    ensures more { AreMore places.old.items places.new.items }
 {
     make_for(disk, put.saying, put.name)?;
-    add_places(alloc, disk, places, put.name, file, is_linked)?;
+    add_places(alloc, disk, guards, places, put.name, end)?;
     if put.unchanged {
         return Ok(());
     }
+    let file = file_of(end, put.name);
     write_text(alloc, disk, file.as_bytes(), kept_by(put.kind), put.text)
 }
 
@@ -237,7 +249,9 @@ fn end_for<D: Disk>(alloc: Global, disk: &D, kind: Kind, name: &str) -> io::Resu
 {
     match kind {
         Kind::Cache => end_of(alloc, disk, name),
-        Kind::Record | Kind::File | Kind::Header => Ok(None),
+        Kind::Record => Ok(None),
+        Kind::File => Ok(None),
+        Kind::Header => Ok(None),
     }
 }
 
@@ -257,24 +271,27 @@ fn file_of<'a>(end: &'a Option<String>, name: &'a str) -> &'a str
 fn keep_written<D: Disk>(
     alloc: Global,
     disk: &mut D,
+    guards: &[Guard],
     places: &mut Vec<Place>,
     artifacts: &mut Vec<Artifact>,
     lines: &mut Vec<u8>,
     artifact: Artifact,
     put: &Put<'_>,
-    file: &str,
-    is_linked: bool,
+    end: &Option<String>,
 ) -> io::Result<()>
     ensures ok { OnOk result
         (IsKept artifacts.old.items lines.old.items artifacts.new.items lines.new.items artifact (said put.now.saying put.now.name.now)) }
     ensures err { OnErr result
         (AreSame artifacts.old.items lines.old.items artifacts.new.items lines.new.items) }
+    ensures unplaced { OnErr result (places.new.items ≡ places.old.items) }
     ensures stepped { OnOk result (Does (D.known disk.old) (D.known disk.new)
-        (λ k deeds. IsStepped k put.now.saying put.now.unchanged
-        (keeps_of put.now.kind) put.now.name.now file.now put.now.text.now deeds)) }
+        (λ k deeds. IsStepped k guards.now places.old.items places.new.items put.now.saying put.now.unchanged
+        (keeps_of put.now.kind) put.now.name.now
+        (meant.file_of (option_map string_bytes end.now) put.now.name.now) put.now.text.now deeds)) }
     ensures undone { OnErr result
         (Does (D.known disk.old) (D.known disk.new)
-        (λ _ deeds. IsUnstepped put.now.saying put.now.name.now file.now deeds)) }
+        (λ _ deeds. IsUnstepped put.now.saying put.now.name.now
+        (meant.file_of (option_map string_bytes end.now) put.now.name.now) deeds)) }
 {
     let count = artifacts.len();
     let len = lines.len();
@@ -286,7 +303,7 @@ fn keep_written<D: Disk>(
         artifacts.truncate(count);
         return Err(no_memory());
     }
-    let done = write_placed(alloc, disk, places, put, file, is_linked);
+    let done = write_placed(alloc, disk, guards, places, put, end);
     if done.is_err() {
         artifacts.truncate(count);
         lines.truncate(len);
@@ -296,9 +313,11 @@ fn keep_written<D: Disk>(
 }
 
 /// Takes an artifact. If the put is refused, only its deeds are left of it.
+#[tactic(auto, using(crate::proofs::Puts::refused_before))]
 fn take<'a, D: Disk>(
     alloc: Global,
     disk: &mut D,
+    guards: &[Guard],
     places: &mut Vec<Place>,
     artifacts: &mut Vec<Artifact>,
     lines: &mut Vec<u8>,
@@ -309,11 +328,15 @@ fn take<'a, D: Disk>(
 ) -> io::Result<()>
     ensures unclosed { OnOk result (is_closed ≡ false) }
     ensures taken { OnOk result
-        (Takes (D.known disk.old) (D.known disk.new) artifacts.old.items lines.old.items artifacts.new.items lines.new.items
+        (Takes (D.known disk.old) (D.known disk.new) guards.now places.old.items places.new.items artifacts.old.items lines.old.items artifacts.new.items lines.new.items
         (record { kind = kind; name = name.now; text = text.now })) }
     ensures name { IfOk result (λ _. IsFileName name.now) }
+    ensures unguarded { OnOk result (is_name_guarded name.now guards.now ≡ false) }
+    ensures held { is_held (D.known disk.old) name.now guards.now places.old.items ≡ true
+        → (is_err result ≡ true) × (disk.new ≡ disk.old) }
     ensures unchanged { OnErr result
         (AreSame artifacts.old.items lines.old.items artifacts.new.items lines.new.items) }
+    ensures unplaced { OnErr result (places.new.items ≡ places.old.items) }
     ensures undone { OnErr result
         (Does (D.known disk.old) (D.known disk.new) (λ k deeds. IsRefused k name.now kind deeds)) }
 {
@@ -323,6 +346,42 @@ fn take<'a, D: Disk>(
     let Some(path) = file_name(name) else {
         return Err(no_name());
     };
+    let Ok(held) = is_held(alloc, disk, guards, places.as_slice(), path) else {
+        return Err(no_memory());
+    };
+    if held {
+        return Err(held_error());
+    }
+    take_free(
+        alloc, disk, guards, places, artifacts, lines, kind, name, path, text,
+    )
+}
+
+/// Takes an artifact whose name is not guarded, and whose place, if it is known already, is free.
+fn take_free<'a, D: Disk>(
+    alloc: Global,
+    disk: &mut D,
+    guards: &[Guard],
+    places: &mut Vec<Place>,
+    artifacts: &mut Vec<Artifact>,
+    lines: &mut Vec<u8>,
+    kind: Kind,
+    name: &'a [u8],
+    path: &'a str,
+    text: &'a [u8],
+) -> io::Result<()>
+    requires path { path.now ≡ name.now }
+    requires name { IsFileName name.now }
+    requires unguarded { is_name_guarded name.now guards.now ≡ false }
+    ensures taken { OnOk result
+        (Takes (D.known disk.old) (D.known disk.new) guards.now places.old.items places.new.items artifacts.old.items lines.old.items artifacts.new.items lines.new.items
+        (record { kind = kind; name = name.now; text = text.now })) }
+    ensures unchanged { OnErr result
+        (AreSame artifacts.old.items lines.old.items artifacts.new.items lines.new.items) }
+    ensures unplaced { OnErr result (places.new.items ≡ places.old.items) }
+    ensures undone { OnErr result
+        (Does (D.known disk.old) (D.known disk.new) (λ k deeds. IsRefused k name.now kind deeds)) }
+{
     let Ok(unchanged) = is_unchanged(alloc, disk, kind, path, text) else {
         return Err(no_memory());
     };
@@ -338,10 +397,8 @@ fn take<'a, D: Disk>(
         name: path,
         text,
     };
-    let file = file_of(&end, path);
-    let is_linked = end.is_some();
     keep_written(
-        alloc, disk, places, artifacts, lines, artifact, &put, file, is_linked,
+        alloc, disk, guards, places, artifacts, lines, artifact, &put, &end,
     )
 }
 
@@ -354,6 +411,7 @@ impl<D: Disk> FileOutputs<D> {
         FileOutputs {
             alloc,
             disk,
+            guards: Vec::new(alloc),
             places: Vec::new(alloc),
             artifacts: Vec::new(alloc),
             failures: 0,
@@ -379,36 +437,43 @@ impl<D: Disk> FileOutputs<D> {
     /// Returns a line for each file and header that was taken, in order: `config.status: creating
     /// NAME`, or for a header whose file had this text already `config.status: NAME is unchanged`.
     /// Each line ends in a newline.
+    #[tactic(auto, using(crate::proofs::Puts::all_of_apart))]
     pub fn lines(&self) -> &[u8]
         ensures value { result.now ≡ self.now.lines }
         ensures lines { AreLines self.now.handed result.now }
         // Unless it is closed, what was done to the disk is what was done for the puts.
         ensures done { self.now.closed ≡ false → IfSome (D.known self.now.disk)
             (λ k. IsAllDone k self.now.handed self.now.failures self.now.lines) }
+        // No artifact has a guarded name, whether anything is known of the files or not.
+        ensures unguarded { AreUnguarded self.now.guards self.now.handed }
+        // Each artifact has a file of its own, which is not that of a guarded name.
+        ensures apart { self.now.closed ≡ false → IfSome (D.known self.now.disk)
+            (λ k. IsDoneApart k self.now.guards self.now.handed self.now.failures self.now.lines self.now.places) }
     {
         self.lines.as_slice()
     }
 
-    /// Has each later put to this file refused, because the run reads it or writes it by itself. If
-    /// no file can have the name, or there is no such directory, does nothing.
+    /// Has each later put to this file refused, because the run reads it or writes it by itself. A
+    /// put to another name of the file is refused too, if the directory of this name is there.
     ///
     /// # Errors
     ///
-    /// Fails only if memory runs out.
+    /// Fails only if memory runs out, and then the file is not guarded.
+    #[tactic(auto, using(crate::proofs::Unused::guards_none))]
     pub fn keep(&mut self, name: &[u8]) -> Result<(), AllocError>
-        ensures { self.new ≡ self.old }
+        requires { IsUnused self.old }
+        ensures unnamed { (IsFileName name.now → ⊥) → self.new ≡ self.old }
+        ensures guarded { OnOk result (IsFileName name.now → IsGuarded D.known self.old self.new name.now) }
+        ensures named { OnOk result (IsFileName name.now → is_name_guarded name.now self.new.guards ≡ true) }
+        ensures err { OnErr result (self.new ≡ self.old) }
+        ensures more { GuardsMore self.old self.new }
     {
         let Some(name) = file_name(name) else {
             return Ok(());
         };
-        match place_of(self.alloc, &self.disk, name) {
-            Ok(place) => {
-                self.places.push(place)?;
-                Ok(())
-            }
-            Err(e) if e.kind() == ErrorKind::OutOfMemory => Err(AllocError),
-            Err(_) => Ok(()),
-        }
+        let guard = guard_of(self.alloc, &self.disk, name)?;
+        self.guards.push(guard)?;
+        Ok(())
     }
 
     /// Writes a last file, which is no artifact, such as a log. A regular file or a link of this name
@@ -419,6 +484,7 @@ impl<D: Disk> FileOutputs<D> {
     /// Fails if no file can have this name, or the system refuses a step. Then what was under the
     /// name may be gone, and the new file may have a part of the text. The receiver is closed also
     /// then.
+    #[tactic(auto, using(crate::proofs::Puts::all_of_apart))]
     pub fn close(&mut self, name: &[u8], text: &[u8]) -> io::Result<()>
         // Unless it was closed already, what was done to the disk before is what was done for the
         // puts.
@@ -439,7 +505,13 @@ impl<D: Disk> FileOutputs<D> {
 }
 
 impl<D: Disk> Outputs for FileOutputs<D> {
+    ghost use Rattle.diskfiles.specs.Held.{Lasting};
+
     ghost receipt = { receipt_of };
+
+    ghost Kept = { Lasting };
+
+    ghost kept = { lasting_of D.known };
 
     fn put(&mut self, kind: Kind, name: &[u8], text: &[u8]) -> Result<(), PutRefused>
         requires failures { (receipt_of self.old).failures < 2 ^ 62 }
@@ -448,18 +520,27 @@ impl<D: Disk> Outputs for FileOutputs<D> {
         ensures refused { OnErr result (receipt_of self.new ≡ with_refusal (receipt_of self.old)) }
         ensures name { IfOk result (λ _. IsFileName name.now) }
         ensures unclosed { OnOk result (self.old.closed ≡ false) }
+        // Nothing is put to a name that is guarded, whether anything is known of the files or not.
+        ensures unguarded { OnOk result (is_name_guarded name.now self.old.guards ≡ false) }
+        // A put to a guarded name, to its place, or to that of another artifact does nothing.
+        ensures held { is_held (D.known self.old.disk) name.now self.old.guards self.old.places ≡ true
+            → (is_err result ≡ true) × (self.new.disk ≡ self.old.disk) }
         // What was done to the disk, if that is known, and what is said of the artifact.
         ensures done { OnOk result
             ((line : List ℕ) × IsTaken self.old self.new (record { kind = kind; name = name.now; text = text.now }) line
-            × Does (D.known self.old.disk) (D.known self.new.disk) (λ k deeds. IsPut k name.now text.now kind line deeds)) }
+            × Does (D.known self.old.disk) (D.known self.new.disk)
+            (λ k deeds. IsTakenSo k self.old.guards self.old.places self.new.places
+            (record { kind = kind; name = name.now; text = text.now }) line deeds)) }
         ensures counted { OnErr result (IsCounted self.old self.new) }
         ensures undone { OnErr result
             (Does (D.known self.old.disk) (D.known self.new.disk)
             (λ k deeds. IsRefused k name.now kind deeds)) }
+        ensures kept { lasting_of D.known self.new ≡ lasting_of D.known self.old }
     {
         match take(
             self.alloc,
             &mut self.disk,
+            self.guards.as_slice(),
             &mut self.places,
             &mut self.artifacts,
             &mut self.lines,

@@ -1,7 +1,8 @@
 //! Writing whole texts.
 
-ghost use Rattle.std.specs.Prelude.{◌≡◌, ◌⊎◌, ℕ, [], ◌∷◌, IfOk, OnOk, OnErr, None, string_bytes};
-ghost use Rattle.disk.specs.Known.{Adds, Does, Made, Filled, Failed, Renamed, Removed};
+ghost use Rattle.std.specs.Prelude.{◌≡◌, ◌⊎◌, ℕ, [], ◌∷◌, IfOk, IfSome, OnOk, OnErr, None, string_bytes};
+ghost use Rattle.disk.specs.Known.{Adds, Does, Made, Filled, Failed, Renamed, Removed, kind_under};
+ghost use Rattle.disk.specs.declared.found.Found.TheVariants as found;
 ghost use Rattle.diskfiles.specs.Names.{IsFileName, temporary};
 ghost use Rattle.diskfiles.specs.Steps as meant;
 ghost use Rattle.diskfiles.specs.Steps.{writing, IsMode, IsWritten, IsUndone, IsReplaced, IsBegun};
@@ -25,6 +26,7 @@ struct NewFile<T: Drop> {
 /// there, N from 1 on.
 fn make_beside<D: Disk>(alloc: Global, disk: &mut D, name: &str) -> io::Result<NewFile<D::File>>
     ensures made { IfOk result (λ made. (n : ℕ) × (string_bytes made.name ≡ temporary name.now n)
+        × IfSome (D.known disk.old) (λ k. kind_under k (temporary name.now n) ≡ found.Nothing)
         × Adds (D.known disk.old) (D.known disk.new) (Made (temporary name.now n) ∷ [])) }
     ensures refused { OnErr result (Adds (D.known disk.old) (D.known disk.new) []) }
 {
@@ -82,7 +84,8 @@ fn replace<D: Disk>(
     text: &[u8],
 ) -> io::Result<()>
     ensures written { OnOk result
-        ((n : ℕ) × Adds (D.known disk.old) (D.known disk.new) (writing name.now mode text.now n)) }
+        ((n : ℕ) × IfSome (D.known disk.old) (λ k. kind_under k (temporary name.now n) ≡ found.Nothing)
+        × Adds (D.known disk.old) (D.known disk.new) (writing name.now mode text.now n)) }
     ensures undone { OnErr result
         (Does (D.known disk.old) (D.known disk.new) (λ _ deeds. IsUndone name.now deeds)) }
 {
@@ -181,7 +184,7 @@ pub(crate) fn write_new<D: Disk>(disk: &mut D, name: &[u8], text: &[u8]) -> io::
 {
     match file_name(name) {
         Some(path) => {
-            let _ = clear(disk, path);
+            clear(disk, path)?;
             create_filled(disk, path, text)
         }
         None => Err(no_name()),

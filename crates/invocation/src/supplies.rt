@@ -2,6 +2,7 @@
 
 ghost use Rattle.std.specs.Prelude.{◌≡◌, ℕ, List, [], ◌∷◌, ◌++◌, ◌||◌, false, None, Option, Ok, IfOk, OnOk, IfSome, IsTrue, option_copied, bytes_eq};
 ghost use Rattle.std.specs.List.{list_any};
+ghost use Rattle.diskfiles.specs.Held.{IsUnused, GuardsMore};
 ghost use Rattle.invocation.specs.Quiet as words;
 ghost use Rattle.invocation.specs.Supplies as given;
 ghost use Rattle.outputlist.specs.declared.output.Output as lists;
@@ -288,13 +289,15 @@ fn supplies_of<D: Disk>(
 }
 
 /// Has puts to a file of the source directory refused.
+#[tactic(auto, using(diskfiles::proofs::Unused::guards_none))]
 fn keep_in<D: Disk>(
     alloc: Global,
     outputs: &mut FileOutputs<D>,
     srcdir: &[u8],
     name: &[u8],
 ) -> Result<(), AllocError>
-    ensures { outputs.new ≡ outputs.old }
+    requires { IsUnused outputs.old }
+    ensures { GuardsMore outputs.old outputs.new }
 {
     let path = path_in(alloc, srcdir, name)?;
     outputs.keep(path.as_slice())
@@ -306,13 +309,15 @@ fn keep_in<D: Disk>(
 /// # Errors
 ///
 /// Fails only if memory runs out.
+#[tactic(auto, using(diskfiles::proofs::Unused::guards_then, diskfiles::proofs::Unused::more_unused))]
 pub fn keep_inputs<D: Disk>(
     alloc: Global,
     outputs: &mut FileOutputs<D>,
     srcdir: &[u8],
     templates: &[(Bytes, Bytes)],
 ) -> Result<(), AllocError>
-    ensures { outputs.new ≡ outputs.old }
+    requires { IsUnused outputs.old }
+    ensures { GuardsMore outputs.old outputs.new }
 {
     outputs.keep(LOG.as_bytes())?;
     keep_in(alloc, outputs, srcdir, b"configure.ac")?;

@@ -84,6 +84,8 @@ impl MemoryOutputs {
 impl Outputs for MemoryOutputs {
     ghost receipt = { λ m. m.receipt };
 
+    ghost kept = { λ _. tt };
+
     fn put(&mut self, kind: Kind, name: &[u8], text: &[u8]) -> Result<(), PutRefused>
         requires failures { self.old.receipt.failures < 2 ^ 62 }
         ensures taken { OnOk result (self.new.receipt

@@ -11,6 +11,7 @@ fn put_one<O: Outputs>(outputs: &mut O, artifact: &Artifact) -> Result<(), PutRe
     requires { (O.receipt outputs.old).failures < 2 ^ 62 }
     ensures taken { OnOk result (O.receipt outputs.new ≡ with_artifact (O.receipt outputs.old) artifact.now) }
     ensures refused { OnErr result (O.receipt outputs.new ≡ with_refusal (O.receipt outputs.old)) }
+    ensures kept { O.kept outputs.new ≡ O.kept outputs.old }
 {
     outputs.put(
         artifact.kind,
@@ -29,6 +30,7 @@ pub fn put_all<O: Outputs>(outputs: &mut O, artifacts: &[Artifact]) -> Result<()
     requires { (O.receipt outputs.old).failures < 2 ^ 62 }
     ensures handed_over { OnOk result (O.receipt outputs.new ≡ with_artifacts (O.receipt outputs.old) artifacts.now) }
     ensures cut { IfErr result (IsCutAt artifacts.now (O.receipt outputs.old) (O.receipt outputs.new)) }
+    ensures kept { O.kept outputs.new ≡ O.kept outputs.old }
 {
     let mut number = 0u64;
     'artifacts: for artifact in artifacts {

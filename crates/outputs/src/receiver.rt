@@ -19,9 +19,15 @@ impl fmt::Display for PutRefused {
 
 impl Error for PutRefused {}
 
-/// Receives artifacts, one after the other. The meaning of a receiver is its receipt: what it took, and how many puts it refused.
+/// Receives artifacts, one after the other. The meaning of a receiver is its receipt: what it took, and how many puts it refused;
+/// and what no put changes.
 pub trait Outputs {
     ghost receipt: { Self → Receipt };
+
+    // What no put changes.
+    ghost Kept: { Type 0 } = { Unit {0} };
+
+    ghost kept: { Self → Self.Kept };
 
     /// Hands over an artifact, with its whole text (own).
     ///
@@ -32,5 +38,6 @@ pub trait Outputs {
         requires failures { (receipt self.old).failures < 2 ^ 62 }
         ensures taken { OnOk result (receipt self.new
             ≡ with_artifact (receipt self.old) (record { kind = kind; name = name.now; text = text.now })) }
-        ensures refused { OnErr result (receipt self.new ≡ with_refusal (receipt self.old)) };
+        ensures refused { OnErr result (receipt self.new ≡ with_refusal (receipt self.old)) }
+        ensures kept { kept self.new ≡ kept self.old };
 }

@@ -1,20 +1,23 @@
-use Rattle.std.proofs.Common.{subst}
+use Rattle.std.proofs.Common.{subst, ◌∙◌, string_bytes}
+use Rattle.std.specs.Prelude.{option_map}
 use Rattle.disk.specs.Known.{Does}
+use Rattle.diskfiles.specs.Keeping.{file_of}
 use Rattle.diskfiles.specs.Steps.{IsUndone}
 use Rattle.diskfiles.proofs.Placed.{unstepped_over, unstepped_on}
 use Rattle.diskfiles.proofs.Writings.{on_err, err_then}
 use Rattle.diskfiles.proofs.receiver.write_placed.Goals as goal
 
 pub returns-in_err-make_for-clause-undone : goal.returns-in_err-make_for-clause-undone
-returns-in_err-make_for-clause-undone g c = on_err _ (unstepped_over _ _ c.args.put.now.saying c.args.put.now.name.now c.args.file.now c.make_for.ensures)
+returns-in_err-make_for-clause-undone g c = on_err _ (unstepped_over _ _ c.args.put.now.saying c.args.put.now.name.now _ c.make_for.ensures)
 
 pub returns-in_err-add_places-clause-undone : goal.returns-in_err-add_places-clause-undone
-returns-in_err-add_places-clause-undone g c = on_err _ (unstepped_over _ _ c.args.put.now.saying c.args.put.now.name.now c.args.file.now c.make_for.ensures)
+returns-in_err-add_places-clause-undone g c = on_err _ (unstepped_over _ _ c.args.put.now.saying c.args.put.now.name.now _ c.make_for.ensures)
 
 pub returns-clause-undone : goal.returns-clause-undone
 returns-clause-undone g c =
     let middle = g.D.Disk.known c.make_for.new.disk in
     let after = g.D.Disk.known c.write_text.new.disk in
+    let file = file_of (option_map string_bytes c.args.end.now) c.args.put.now.name.now in
     err_then c.write_text.result c.write_text.ensures.undone
-    (λ u. unstepped_on _ middle after c.args.put.now.saying c.args.put.now.name.now c.args.file.now c.make_for.ensures
-    (subst (λ f. Does middle after (λ _ d. IsUndone f d)) c.as_bytes.ensures.value u))
+    (λ u. unstepped_on _ middle after c.args.put.now.saying c.args.put.now.name.now file c.make_for.ensures
+    (subst (λ f. Does middle after (λ _ d. IsUndone f d)) (c.as_bytes.ensures.value ∙ c.file_of-file.ensures) u))

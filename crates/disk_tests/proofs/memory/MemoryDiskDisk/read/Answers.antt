@@ -2,7 +2,7 @@ use Rattle.std.proofs.Common.{sym, ◌∙◌}
 use Rattle.disk_tests.proofs.Found.{read_here}
 use Rattle.disk_tests.proofs.memory.MemoryDiskDisk.read.Goals as goal
 
-pub returns-then-is_named : goal.returns-then-is_named
-returns-then-is_named g c =
-    read_here c.front_of.result c.args.self.now.name c.args.self.now.text c.as_slice.result.now c.args.name.now
-    (sym c.is_named.ensures ∙ c.if-is_named.true) c.as_slice.ensures c.front_of.ensures
+pub returns-then-is_there : goal.returns-then-is_there
+returns-then-is_there g c =
+    read_here c.front_of.result c.args.self.now.name c.args.self.now.text c.as_slice.result.now c.args.name.now _
+    (sym c.is_there.ensures ∙ c.if-is_there.true) c.as_slice.ensures c.front_of.ensures
