@@ -13,7 +13,7 @@ use Rattle.syntax.specs.declared.statement.Effect.TheVariants as effects
 use Rattle.syntax.specs.Script.{Script, Done, Then, Check}
 use Rattle.laws.specs.Cached.{IsSet}
 use Rattle.laws.specs.Deeds.{Deed, Assigned, Tested, deeds_after, left_set, prefix_deeds, effect_deeds, check_deeds, deeds, Among}
-use Rattle.framing.specs.declared.inputs.Start.{Start}
+use Rattle.framing.specs.declared.starting.Start.{Start}
 use Rattle.engine.specs.Kept.{WasTested, IsThere, HoldsSet}
 
 -- The deed is a completed test of this name, or assigns a name that is no cache name.

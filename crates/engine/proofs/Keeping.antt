@@ -14,7 +14,7 @@ use Rattle.syntax.specs.Commands.{HasCommands}
 use Rattle.syntax.specs.Script.{Script}
 use Rattle.syntax.specs.TestNames.{HasTestNames}
 use Rattle.framing.specs.Handing.{IfNamed, IsCacheOf, is_one_line, saved_value}
-use Rattle.framing.specs.declared.inputs.Start.{Start}
+use Rattle.framing.specs.declared.starting.Start.{Start}
 use Rattle.framing.specs.declared.report.Report.{Report}
 use Rattle.engine.specs.Configured.{IsMeant}
 use Rattle.engine.specs.Kept.{replies_of, WasSet, IsThere, IsKept}

@@ -11,8 +11,8 @@ use Rattle.syntax.specs.Script.{Script}
 use Rattle.framing.specs.Faults.{of_record, named, ◌>>=◌}
 use Rattle.framing.specs.Handing.{ReadsBack, IfCompleted, record_artifact, wanted_outputs, artifacts_of}
 use Rattle.framing.specs.Remade as choice
-use Rattle.framing.specs.Remade.{none_unknown, present, remade, unknown, made, made_file, made_header}
-use Rattle.framing.specs.declared.inputs.Start.{Start}
+use Rattle.framing.specs.Remade.{none_unknown, present, made_again, remade, unknown, made, made_file, made_header}
+use Rattle.framing.specs.declared.starting.Start.{Start}
 use Rattle.framing.specs.declared.fault.RemakeFault.{RemakeFault}
 use Rattle.framing.specs.declared.report.Outcome.{Outcome}
 use Rattle.framing.specs.declared.report.Outcome.TheVariants.{Completed, Stopped, CutShort, Shown}
@@ -105,7 +105,7 @@ abbrev from_record : List (List ℕ × List ℕ) → List (List ℕ) → Record 
 from_record templates tags r = after_checks r templates tags (made r templates tags)
 
 remade_is : (text : List ℕ) (templates : List (List ℕ × List ℕ)) (tags : List (List ℕ)) → remade text templates tags ≡ (named of_record (record_in text) >>= from_record templates tags)
-unfolding remade
+unfolding remade made_again
 remade_is text templates tags = refl
 
 pub remakes_agree : RemakesAgree

@@ -1,20 +1,19 @@
 -- What follows from all of a call, clause by clause.
 use Rattle.std.proofs.Common.{◌≡◌, ℕ, Bool, true, false, List, Option, Some, None, length, Result, Ok, Err, refl, sym, subst, ap, ◌∙◌}
-use Rattle.std.specs.Prelude.{IfOk, IsErrAnd, nat_le, ◌||◌, if◌then◌else◌}
+use Rattle.std.specs.Prelude.{IfOk, IsErrAnd, if◌then◌else◌}
 use Rattle.outputs.specs.Receipt.{Receipt, with_artifacts}
 use Rattle.acparse.specs.Profile.{source_of}
 use Rattle.crew_trait.specs.Events.{Account}
-use Rattle.options.specs.Opening.{opening}
 use Rattle.options.specs.declared.settings.Settings.{Settings}
-use Rattle.plan.specs.Weight.{heaviest, weight}
-use Rattle.plan.specs.declared.fault.PlanFault.TheVariants.{TooLong}
 use Rattle.syntax.specs.Commands.{HasCommands}
-use Rattle.syntax.specs.Lists.{lists_of}
 use Rattle.syntax.specs.Script.{Script}
 use Rattle.syntax.specs.TestNames.{HasTestNames}
-use Rattle.framing.specs.Faults.{Fails, ◌>>=◌, named, wants, of_parse, of_option}
-use Rattle.engine.specs.Judged.{judged}
-use Rattle.framing.specs.Given.{Accepted, Shows, Starts, started, accepted, seen}
+use Rattle.framing.specs.Faults.{Fails, ◌>>=◌, named, of_parse}
+use Rattle.engine.specs.Judged.{going, judged}
+use Rattle.framing.specs.Given.{Accepted, Shows, Starts, answered, asked, shows, started}
+use Rattle.framing.specs.Needed.{Needed, script_in}
+use Rattle.framing.specs.Judging.{judged_with, judgement, seen}
+use Rattle.framing.proofs.Judgements.{runs_as, shows_as}
 use Rattle.engine.specs.Configured.{IsWhole, refused, memory, shown, ran, IsAnswer, IsNotRun, IfStarts, IfReport, IfPutRefused, IsMeant, IsDone, IsCut, HasRunPart, not_begun, artifacts, record_after}
 use Rattle.engine.specs.Kept.{IsKept}
 use Rattle.engine.specs.Remaking.{Remakes}
@@ -22,29 +21,25 @@ use Rattle.engine.proofs.Keeping.{kept_if_named}
 use Rattle.engine.proofs.Remakings.{remakes_completed}
 use Rattle.framing.specs.Handing.{IfCompleted, ReadsBack, IfNamed, CacheReadsBack}
 use Rattle.framing.specs.Shown.{shown_report}
-use Rattle.framing.specs.declared.inputs.Start.{Start}
-use Rattle.framing.specs.declared.inputs.Accepted.{Accepted as Taken}
-use Rattle.framing.specs.declared.inputs.Accepted.TheVariants as founds
+use Rattle.framing.specs.declared.starting.Start.{Start}
+use Rattle.framing.specs.declared.judging.Judged.{Judged as Found}
+use Rattle.framing.specs.declared.judging.Judged.TheVariants as founds
 use Rattle.framing.specs.declared.fault.Fault.{Fault}
-use Rattle.framing.specs.declared.fault.Fault.TheVariants.{Plan, OutOfMemory, PutRefused}
+use Rattle.framing.specs.declared.fault.Fault.TheVariants.{OutOfMemory, PutRefused}
 use Rattle.framing.specs.declared.report.Report.{Report}
 
 -- ---- what is judged, from its parts
 
 -- after the source
 abbrev pub after_source : List (List ℕ) → List (List ℕ × List ℕ) → Option (List ℕ) → List (List ℕ × List ℕ) → Script → Result Accepted Fault
-after_source a e c t script = wants (nat_le (weight script) heaviest) (Plan TooLong) >>= λ _. accepted a e c t script
+after_source a e c t script = asked a e script >>= answered a c t script
 
 pub judged_first : (s : List ℕ) (a : List (List ℕ)) (e : List (List ℕ × List ℕ)) (c : Option (List ℕ)) (t : List (List ℕ × List ℕ)) → judged s a e c t ≡ (named of_parse (source_of s) >>= after_source a e c t)
 unfolding judged
 judged_first s a e c t = refl
 
-pub judged_second : (s : List ℕ) (a : List (List ℕ)) (e : List (List ℕ × List ℕ)) (c : Option (List ℕ)) (t : List (List ℕ × List ℕ)) (script : Script) → named of_parse (source_of s) ≡ Ok script → judged s a e c t ≡ after_source a e c t script
+judged_second : (s : List ℕ) (a : List (List ℕ)) (e : List (List ℕ × List ℕ)) (c : Option (List ℕ)) (t : List (List ℕ × List ℕ)) (script : Script) → named of_parse (source_of s) ≡ Ok script → judged s a e c t ≡ after_source a e c t script
 judged_second s a e c t script is = judged_first s a e c t ∙ ap (λ r. r >>= after_source a e c t) is
-
-pub judged_third : (s : List ℕ) (a : List (List ℕ)) (e : List (List ℕ × List ℕ)) (c : Option (List ℕ)) (t : List (List ℕ × List ℕ)) (script : Script) → named of_parse (source_of s) ≡ Ok script
-    → wants (nat_le (weight script) heaviest) (Plan TooLong) ≡ Ok tt → judged s a e c t ≡ accepted a e c t script
-judged_third s a e c t script is fits = judged_second s a e c t script is ∙ ap (λ r. r >>= λ _. accepted a e c t script) fits
 
 bind_ok : {A B F : Type 0} (r : Result A F) (f : A → Result B F) (y : B) → (r >>= f) ≡ Ok y → (x : A) × ((r ≡ Ok x) × (f x ≡ Ok y))
 bind_ok (Ok x) f y e = (x, (refl, e))
@@ -57,29 +52,65 @@ named_ok fault (Err f) x e = absurd cc
 abbrev chosen : List (List ℕ) → Option (List ℕ) → List (List ℕ × List ℕ) → Script → Settings → Bool → Result Accepted Fault
 chosen a c t script settings b = if b then Ok (Shows script settings) else (started a c t script settings >>= λ start. Ok (Starts script start))
 
-same_chosen : (a : List (List ℕ)) (c : Option (List ℕ)) (t : List (List ℕ × List ℕ)) (read script : Script) (settings : Settings) (start : Start) (b : Bool) → chosen a c t read settings b ≡ Ok (Starts script start) → read ≡ script
-same_chosen a c t read script settings start true is = absurd cc
-same_chosen a c t read script settings start false is =
+is_answered : (a : List (List ℕ)) (c : Option (List ℕ)) (t : List (List ℕ × List ℕ)) (script : Script) (settings : Settings) → answered a c t script settings ≡ chosen a c t script settings (shows settings)
+unfolding answered
+is_answered a c t script settings = refl
+
+same_begun : (a : List (List ℕ)) (c : Option (List ℕ)) (t : List (List ℕ × List ℕ)) (read script : Script) (settings : Settings) (start : Start) → (started a c t read settings >>= λ at. Ok (Starts read at)) ≡ Ok (Starts script start) → read ≡ script
+same_begun a c t read script settings start is =
     let begins = bind_ok (started a c t read settings) (λ at. Ok (Starts read at)) (Starts script start) is in
     let same : Ok (Starts read begins.0) ≡ Ok (Starts script start) = begins.1.1 in cc
 
-is_accepted : (a : List (List ℕ)) (e : List (List ℕ × List ℕ)) (c : Option (List ℕ)) (t : List (List ℕ × List ℕ)) (script : Script)
-    → accepted a e c t script ≡ (named of_option (opening (lists_of script).features (lists_of script).packages (lists_of script).precious a e) >>= λ settings. chosen a c t script settings (settings.help || settings.version))
-unfolding accepted
-is_accepted a e c t script = refl
-
-same_script : (a : List (List ℕ)) (e : List (List ℕ × List ℕ)) (c : Option (List ℕ)) (t : List (List ℕ × List ℕ)) (read script : Script) (start : Start) → accepted a e c t read ≡ Ok (Starts script start) → read ≡ script
-same_script a e c t read script start is =
-    let settles = bind_ok (named of_option (opening (lists_of read).features (lists_of read).packages (lists_of read).precious a e)) (λ settings. chosen a c t read settings (settings.help || settings.version)) (Starts script start)
-    (sym (is_accepted a e c t read) ∙ is) in
-    same_chosen a c t read script settles.0 start (settles.0.help || settles.0.version) settles.1.1
+same_chosen : (a : List (List ℕ)) (c : Option (List ℕ)) (t : List (List ℕ × List ℕ)) (read script : Script) (settings : Settings) (start : Start) (b : Bool) → chosen a c t read settings b ≡ Ok (Starts script start) → read ≡ script
+same_chosen a c t read script settings start true is = absurd cc
+same_chosen a c t read script settings start false is = same_begun a c t read script settings start is
 
 -- The statements of a run are those of the source.
-pub source_is : (s : List ℕ) (a : List (List ℕ)) (e : List (List ℕ × List ℕ)) (c : Option (List ℕ)) (t : List (List ℕ × List ℕ)) (script : Script) (start : Start) → judged s a e c t ≡ Ok (Starts script start) → source_of s ≡ Ok script
+source_is : (s : List ℕ) (a : List (List ℕ)) (e : List (List ℕ × List ℕ)) (c : Option (List ℕ)) (t : List (List ℕ × List ℕ)) (script : Script) (start : Start) → judged s a e c t ≡ Ok (Starts script start) → source_of s ≡ Ok script
 source_is s a e c t script start is =
     let read = bind_ok (named of_parse (source_of s)) (after_source a e c t) (Starts script start) (sym (judged_first s a e c t) ∙ is) in
-    let light = bind_ok (wants (nat_le (weight read.0) heaviest) (Plan TooLong)) (λ _. accepted a e c t read.0) (Starts script start) read.1.1 in
-    named_ok of_parse (source_of s) read.0 read.1.0 ∙ ap Ok (same_script a e c t read.0 script start light.1.1)
+    let asks = bind_ok (asked a e read.0) (answered a c t read.0) (Starts script start) read.1.1 in
+    named_ok of_parse (source_of s) read.0 read.1.0
+    ∙ ap Ok (same_chosen a c t read.0 script asks.0 start (shows asks.0) (sym (is_answered a c t read.0 asks.0) ∙ asks.1.1))
+
+-- What every source keeps.
+pub record Forms (script : Script) : Type 0 where
+  pub commands : HasCommands script
+  pub names : HasTestNames script
+
+pub judged_forms : (s : List ℕ) (a : List (List ℕ)) (e : List (List ℕ × List ℕ)) (c : Option (List ℕ)) (t : List (List ℕ × List ℕ))
+    → ((script : Script) → source_of s ≡ Ok script → HasCommands script) → ((script : Script) → source_of s ≡ Ok script → HasTestNames script)
+    → (script : Script) (start : Start) → judged s a e c t ≡ Ok (Starts script start) → Forms script
+judged_forms s a e c t commands names script start is =
+    let source = source_is s a e c t script start is in
+    record { commands = commands script source; names = names script source }
+
+pub going_forms : (n : Needed) (c : Option (List ℕ)) (t : List (List ℕ × List ℕ)) → HasCommands (script_in n) → HasTestNames (script_in n) → (script : Script) (start : Start) → going n c t ≡ Ok (Starts script start) → Forms script
+going_forms n c t commands names script start is =
+    subst Forms (same_begun n.arguments c t (script_in n) script n.settings start is) (record { commands = commands; names = names })
+
+-- ---- what a function judged
+
+unasked : (a : List (List ℕ)) (e : List (List ℕ × List ℕ)) (script : Script) (f : Fault) → judgement a e script ≡ Err f → asked a e script ≡ Err f
+unfolding judgement
+unasked a e script f is = by_asked (asked a e script) is
+  where
+    by_asked : (r : Result Settings Fault) → (r >>= λ settings. Ok (judged_with a script settings)) ≡ Err f → r ≡ Err f
+    by_asked (Ok settings) is = absurd cc
+    by_asked (Err g) is = let same : g ≡ f = cc in ap Err same
+
+fails_asked : (a : List (List ℕ)) (e : List (List ℕ × List ℕ)) (script : Script) (f : Fault) → Fails f (judgement a e script) → Fails f (asked a e script)
+fails_asked a e script OutOfMemory h = tt
+fails_asked a e script f h = unasked a e script f h
+
+-- A source that is to be run.
+pub judged_runs : (s : List ℕ) (a : List (List ℕ)) (e : List (List ℕ × List ℕ)) (c : Option (List ℕ)) (t : List (List ℕ × List ℕ)) (script : Script) (found : Found) (n : Needed)
+    → named of_parse (source_of s) ≡ Ok script → judgement a e script ≡ Ok (seen found) → found ≡ founds.Runs n → judged s a e c t ≡ going n c t
+judged_runs s a e c t script found n read is kind =
+    let runs = runs_as a e script found n is kind in
+    judged_second s a e c t script read ∙ ap (λ r. r >>= answered a c t script) runs.asks ∙ is_answered a c t script n.settings ∙ ap (chosen a c t script n.settings) runs.runs
+    ∙ ap (λ x. started x c t script n.settings >>= λ start. Ok (Starts script start)) runs.arguments
+    ∙ ap (λ x. started n.arguments c t x n.settings >>= λ start. Ok (Starts x start)) runs.script_is
 
 -- ---- the exits
 
@@ -99,15 +130,31 @@ fails_last OutOfMemory part same window j templates before now old new (Err e) i
 fails_last f part same window j templates before now old new (Err e) is gives h s =
     subst (λ e. IsWhole same window j templates before now old new (Err e)) (sym h) (refused (is ∙ gives) s)
 
-pub shows : (same : Type 0) (window : ℕ) (j : Result Accepted Fault) (templates : List (List ℕ × List ℕ)) (before now : Account) (old new : Receipt) (script : Script) (found : Taken) (settings : Settings) (report : Report)
-    → j ≡ Ok (seen script found) → found ≡ founds.Shows settings → report ≡ shown_report script settings → same → IsWhole same window j templates before now old new (Ok report)
-shows same window j templates before now old new script found settings report is kind told s =
-    subst (λ r. IsWhole same window j templates before now old new (Ok r)) (sym told) (shown {script = script} {settings = settings} (is ∙ ap (λ f. Ok (seen script f)) kind) s)
+-- a fault of the plan or of the arguments
+pub fails_judged : (s : List ℕ) (a : List (List ℕ)) (e : List (List ℕ × List ℕ)) (c : Option (List ℕ)) (t : List (List ℕ × List ℕ)) (script : Script) (f : Fault) (same : Type 0) (window : ℕ) (templates : List (List ℕ × List ℕ)) (before now : Account) (old new : Receipt) (result : Result Report Fault)
+    → named of_parse (source_of s) ≡ Ok script → Fails f (judgement a e script) → IsErrAnd result (λ e. e ≡ f) → same → IsWhole same window (judged s a e c t) templates before now old new result
+fails_judged s a e c t script f same window templates before now old new result read gives h u =
+    fails_first f (asked a e script) same window (judged s a e c t) (answered a c t script) templates before now old new result (judged_second s a e c t script read) (fails_asked a e script f gives) h u
 
-pub starts : (same : Type 0) (window : ℕ) (j : Result Accepted Fault) (templates : List (List ℕ × List ℕ)) (before now : Account) (old new : Receipt) (script : Script) (found : Taken) (start : Start) (result : Result Report Fault)
-    → j ≡ Ok (seen script found) → found ≡ founds.Starts start → IsDone window script start templates before now old new result → IsWhole same window j templates before now old new result
-starts same window j templates before now old new script found start result is kind done =
-    ran {script = script} {start = start} (is ∙ ap (λ f. Ok (seen script f)) kind) done
+-- a text is shown
+pub shows_text : (s : List ℕ) (a : List (List ℕ)) (e : List (List ℕ × List ℕ)) (c : Option (List ℕ)) (t : List (List ℕ × List ℕ)) (script : Script) (found : Found) (report : Report) (same : Type 0) (window : ℕ) (templates : List (List ℕ × List ℕ)) (before now : Account) (old new : Receipt)
+    → named of_parse (source_of s) ≡ Ok script → judgement a e script ≡ Ok (seen found) → found ≡ founds.Shows report → same → IsWhole same window (judged s a e c t) templates before now old new (Ok report)
+shows_text s a e c t script found report same window templates before now old new read is kind u =
+    let told = shows_as a e script found report is kind in
+    subst (λ r. IsWhole same window (judged s a e c t) templates before now old new (Ok r)) (sym told.is)
+    (shown {script = script} {settings = told.settings}
+    (judged_second s a e c t script read ∙ ap (λ r. r >>= answered a c t script) told.asks ∙ is_answered a c t script told.settings ∙ ap (chosen a c t script told.settings) told.shows_it) u)
+
+-- a run that starts
+pub starts : (same : Type 0) (window : ℕ) (n : Needed) (c : Option (List ℕ)) (templates : List (List ℕ × List ℕ)) (before now : Account) (old new : Receipt) (start : Start) (result : Result Report Fault)
+    → started n.arguments c templates (script_in n) n.settings ≡ Ok start → IsDone window (script_in n) start templates before now old new result → IsWhole same window (going n c templates) templates before now old new result
+starts same window n c templates before now old new start result is done =
+    ran {script = (script_in n)} {start = start} (ap (λ r. r >>= λ begun. Ok (Starts (script_in n) begun)) is) done
+
+-- what was judged, written in another way
+pub same_whole : (same : Type 0) (window : ℕ) (j k : Result Accepted Fault) (templates : List (List ℕ × List ℕ)) (before now : Account) (old new : Receipt) (result : Result Report Fault)
+    → j ≡ k → IsWhole same window k templates before now old new result → IsWhole same window j templates before now old new result
+same_whole same window j k templates before now old new result is whole = subst (λ x. IsWhole same window x templates before now old new result) (sym is) whole
 
 -- memory ran out
 pub fails_memory : (same : Type 0) (window : ℕ) (j : Result Accepted Fault) (templates : List (List ℕ × List ℕ)) (before now : Account) (old new : Receipt) (result : Result Report Fault)
@@ -264,15 +311,14 @@ abbrev kept_by : ℕ → Account → Account → Result Report Fault → Script 
 kept_by window before now result script start = IfReport result (λ report. IfNamed start.cache_name (IsKept window script start before now report))
 
 -- It holds what was set, since each source that is read has its forms.
-pub holds_set : (same : Type 0) (window : ℕ) (s : List ℕ) (a : List (List ℕ)) (e : List (List ℕ × List ℕ)) (c : Option (List ℕ)) (t templates : List (List ℕ × List ℕ)) (before now : Account) (old new : Receipt) (result : Result Report Fault)
-    → ((script : Script) → source_of s ≡ Ok script → HasCommands script) → ((script : Script) → source_of s ≡ Ok script → HasTestNames script)
-    → IsWhole same window (judged s a e c t) templates before now old new result → IfStarts (judged s a e c t) (kept_by window before now result)
-holds_set same window s a e c t templates before now old new result commands names (refused is u) = subst (λ j. IfStarts j (kept_by window before now result)) (sym is) tt
-holds_set same window s a e c t templates before now old new result commands names (memory u) = all_starts (kept_by window before now result) (judged s a e c t) (λ script start. tt)
-holds_set same window s a e c t templates before now old new result commands names (shown is u) = subst (λ j. IfStarts j (kept_by window before now result)) (sym is) tt
-holds_set same window s a e c t templates before now old new result commands names (ran {script} {start} is done) =
-    let source = source_is s a e c t script start is in
-    subst (λ j. IfStarts j (kept_by window before now result)) (sym is) (kept_done window script start templates before now old new result (commands script source) (names script source) done)
+pub holds_set : (same : Type 0) (window : ℕ) (j : Result Accepted Fault) (templates : List (List ℕ × List ℕ)) (before now : Account) (old new : Receipt) (result : Result Report Fault)
+    → ((script : Script) (start : Start) → j ≡ Ok (Starts script start) → Forms script) → IsWhole same window j templates before now old new result → IfStarts j (kept_by window before now result)
+holds_set same window j templates before now old new result forms (refused is u) = subst (λ j. IfStarts j (kept_by window before now result)) (sym is) tt
+holds_set same window j templates before now old new result forms (memory u) = all_starts (kept_by window before now result) j (λ script start. tt)
+holds_set same window j templates before now old new result forms (shown is u) = subst (λ j. IfStarts j (kept_by window before now result)) (sym is) tt
+holds_set same window j templates before now old new result forms (ran {script} {start} is done) =
+    let has = forms script start is in
+    subst (λ j. IfStarts j (kept_by window before now result)) (sym is) (kept_done window script start templates before now old new result has.commands has.names done)
 
 pub reads_back : (same : Type 0) (window : ℕ) (j : Result Accepted Fault) (templates : List (List ℕ × List ℕ)) (before now : Account) (old new : Receipt) (result : Result Report Fault)
     → IsWhole same window j templates before now old new result → IfStarts j (λ script start. IfReport result (λ report. IfNamed start.cache_name (CacheReadsBack report.vars)))

@@ -8,7 +8,7 @@ use Rattle.meaning.specs.Play.{all_jobs}
 use Rattle.proberun.specs.Agreeing.{Agree}
 use Rattle.syntax.specs.Script.{Script}
 use Rattle.engine.specs.Configured.{IsMeant, artifacts}
-use Rattle.framing.specs.declared.inputs.Start.{Start}
+use Rattle.framing.specs.declared.starting.Start.{Start}
 use Rattle.framing.specs.declared.report.Report.{Report}
 
 -- Of the starts after the first `base`, the n-th one was taken, and has this job. (own)

@@ -16,7 +16,7 @@ use Rattle.framing.specs.Handing.{artifacts_of, run_record, IfCompleted, ReadsBa
 use Rattle.framing.specs.Shown.{shown_report}
 use Rattle.framing.specs.Told.{entries_of}
 use Rattle.engine.specs.Told.{outcome_of}
-use Rattle.framing.specs.declared.inputs.Start.{Start}
+use Rattle.framing.specs.declared.starting.Start.{Start}
 use Rattle.framing.specs.declared.fault.Fault.{Fault}
 use Rattle.framing.specs.declared.fault.Fault.TheVariants.{PutRefused, OutOfMemory}
 use Rattle.framing.specs.declared.report.Report.{Report}

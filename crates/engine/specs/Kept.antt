@@ -9,7 +9,7 @@ use Rattle.meaning.specs.Play.{all_jobs}
 use Rattle.meaning.specs.State.{opened}
 use Rattle.syntax.specs.Script.{Script}
 use Rattle.framing.specs.Handing.{AreInOrder, lines_for, is_one_line, cache_text_of}
-use Rattle.framing.specs.declared.inputs.Start.{Start}
+use Rattle.framing.specs.declared.starting.Start.{Start}
 use Rattle.framing.specs.declared.report.Report.{Report}
 use Rattle.engine.specs.Configured.{IsMeant}
 

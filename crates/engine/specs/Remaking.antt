@@ -9,7 +9,7 @@ use Rattle.syntax.specs.Script.{Script}
 use Rattle.framing.specs.Faults.{◌>>=◌}
 use Rattle.framing.specs.Handing.{ReadsBack}
 use Rattle.framing.specs.Remade.{none_unknown, present, remade, unknown}
-use Rattle.framing.specs.declared.inputs.Start.{Start}
+use Rattle.framing.specs.declared.starting.Start.{Start}
 use Rattle.framing.specs.declared.report.Outcome.TheVariants.{Completed}
 use Rattle.framing.specs.declared.report.Report.{Report}
 use Rattle.engine.specs.Configured.{artifacts, record_after}

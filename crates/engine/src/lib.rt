@@ -2,7 +2,9 @@
 //!
 //! [`configure`] runs the text of a configure.ac, and [`remake`] makes files and headers again from the record of such
 //! a run. [`recheck_args`] returns the arguments with which the run of a record is made again. A run's inputs are
-//! values, and its results go to [`Outputs`], so nothing here opens a file.
+//! values, and its results go to [`Outputs`], so nothing here opens a file. A caller that reads the cache and the
+//! templates by what a source and its arguments say has the parts of [`configure`]: `acparse::parse`, [`judge`] and
+//! [`go`].
 //!
 //! ```text
 //! let source = b"AC_INIT([demo], [1.0])\nAC_CHECK_HEADERS([sys/stat.h])\nAC_CONFIG_FILES([out])\nAC_OUTPUT\n";
@@ -24,7 +26,9 @@ mod reading;
 mod remaking;
 
 pub use agreeing::configures_agree;
-pub use configuring::configure;
-pub use framing::{Fault, Outcome, RemakeFault, Report, recheck_args, remake, status_of};
+pub use configuring::{configure, go};
+pub use framing::{
+    Fault, Judged, Needs, Outcome, RemakeFault, Report, judge, recheck_args, remake, status_of,
+};
 pub use outputs::{Artifact, Kind, MemoryOutputs, Outputs, PutRefused};
 pub use remaking::remakes_agree;

@@ -2,3 +2,4 @@ mod Versions
 pub mod Remakes
 mod Rechecks
 mod Caches
+pub mod Judgements

@@ -1,5 +1,5 @@
 -- What a run is given, and what follows from it before anything is run.
-use Rattle.std.specs.Prelude.{◌≡◌, ℕ, Bool, true, false, ◌||◌, List, [], ◌∷◌, ◌++◌, Option, Some, None, Result, Ok, Err, option_map, if◌then◌else◌}
+use Rattle.std.specs.Prelude.{ℕ, Bool, ◌||◌, nat_le, List, [], ◌∷◌, ◌++◌, Option, Some, None, Result, Ok, Err, option_map, if◌then◌else◌}
 use Rattle.cachefile.specs.Cache.{cache_of, vars_after}
 use Rattle.cachefile.specs.Line.{Setting}
 use Rattle.commandline.specs.Kept.{kept_args}
@@ -9,19 +9,26 @@ use Rattle.options.specs.Opening.{opening}
 use Rattle.options.specs.Precious.{checked}
 use Rattle.options.specs.declared.settings.Settings.{Settings}
 use Rattle.outputlist.specs.declared.output.Output.{Output}
+use Rattle.plan.specs.Weight.{heaviest, weight}
+use Rattle.plan.specs.declared.fault.PlanFault.TheVariants.{TooLong}
 use Rattle.syntax.specs.Lists.{lists_of}
 use Rattle.syntax.specs.Script.{Script}
-use Rattle.framing.specs.Faults.{of_option, of_cache, of_precious, named, ◌>>=◌}
-use Rattle.framing.specs.declared.inputs.Start.{Start}
-use Rattle.framing.specs.declared.inputs.Accepted as found
-use Rattle.framing.specs.declared.inputs.Accepted.TheVariants as founds
+use Rattle.framing.specs.Faults.{of_option, of_cache, of_precious, named, wants, ◌>>=◌}
+use Rattle.framing.specs.declared.starting.Start.{Start}
 use Rattle.framing.specs.declared.fault.Fault.{Fault}
-use Rattle.framing.specs.declared.fault.Fault.TheVariants.{NoTemplate}
+use Rattle.framing.specs.declared.fault.Fault.TheVariants.{NoTemplate, Plan}
 
 -- What is accepted: a text is to be shown, or the source is to be run from this start. (own)
 pub data Accepted : Type 0 where
   Shows : (script : Script) → (settings : Settings) → Accepted
   Starts : (script : Script) → (start : Start) → Accepted
+
+-- The settings that a source with these statements gets by arguments and an environment, or the
+-- first fault: of its plan, and then of the arguments. (own)
+unfoldable pub asked : List (List ℕ) → List (List ℕ × List ℕ) → Script → Result Settings Fault
+asked arguments environment script = do
+  _ ← wants (nat_le (weight script) heaviest) (Plan TooLong)
+  named of_option (opening (lists_of script).features (lists_of script).packages (lists_of script).precious arguments environment)
 
 -- The template of an output isn't there. (own)
 abbrev pub none_missing : Option Output → Result (Unit {0}) Fault
@@ -55,14 +62,13 @@ started arguments cache templates script settings = do
     notes = settings.notes ++ result.1;
   })
 
--- What follows from all but the source, given its statements. (own)
-unfoldable pub accepted : List (List ℕ) → List (List ℕ × List ℕ) → Option (List ℕ) → List (List ℕ × List ℕ) → Script → Result Accepted Fault
-accepted arguments environment cache templates script = do
-  settings ← named of_option (opening (lists_of script).features (lists_of script).packages (lists_of script).precious arguments environment)
-  if settings.help || settings.version then Ok (Shows script settings)
-      else (started arguments cache templates script settings >>= λ start. Ok (Starts script start))
+-- A text is to be shown, and nothing is run. (Autoconf's manual, "configure Invocation")
+abbrev pub shows : Settings → Bool
+shows settings = settings.help || settings.version
 
--- What a function found, given the statements. (own)
-abbrev pub seen : Script → found.Accepted → Accepted
-seen script (founds.Shows settings) = Shows script settings
-seen script (founds.Starts start) = Starts script start
+-- What follows from these settings, a cache and templates: a text is to be shown, or the source is
+-- to be run, or the first fault. (own)
+unfoldable pub answered : List (List ℕ) → Option (List ℕ) → List (List ℕ × List ℕ) → Script → Settings → Result Accepted Fault
+answered arguments cache templates script settings =
+    if shows settings then Ok (Shows script settings)
+    else (started arguments cache templates script settings >>= λ start. Ok (Starts script start))

@@ -2,6 +2,8 @@ pub mod Told
 pub mod Faults
 pub mod Shown
 pub mod Given
+pub mod Needed
+pub mod Judging
 pub mod Handing
 pub mod Rechecked
 pub mod Remade

@@ -26,14 +26,17 @@ none_missing (Some output) = Err (NoTemplate output.template)
 unfoldable pub present : Record → List (List ℕ × List ℕ) → List (List ℕ) → Result (Unit {0}) RemakeFault
 present r templates tags = none_missing (missing templates r.files tags) >>= λ _. none_missing (missing templates r.headers tags)
 
--- What the text of a record gives with these templates, if these tags are chosen, or its first fault. (Autoconf's manual,
+-- What a record gives with these templates, if these tags are chosen, or the first fault. (Autoconf's manual,
 -- "config.status Invocation")
-unfoldable pub remade : List ℕ → List (List ℕ × List ℕ) → List (List ℕ) → Result (List Artifact) RemakeFault
-remade text templates tags = do
-  r ← named of_record (record_in text)
+unfoldable pub made_again : Record → List (List ℕ × List ℕ) → List (List ℕ) → Result (List Artifact) RemakeFault
+made_again r templates tags = do
   _ ← none_unknown (unknown r tags)
   _ ← present r templates tags
   Ok (made r templates tags)
+
+-- The same of the text of a record. (Autoconf's manual, "config.status Invocation")
+unfoldable pub remade : List ℕ → List (List ℕ × List ℕ) → List (List ℕ) → Result (List Artifact) RemakeFault
+remade text templates tags = named of_record (record_in text) >>= λ r. made_again r templates tags
 
 -- What is returned: a fault, and nothing is handed over; or everything is handed over; or a put was refused. (own)
 pub data IsRemade (wanted : Result (List Artifact) RemakeFault) (same : Type 0) (old new : Receipt) : Result ℕ RemakeFault → Type 0 where

@@ -1,9 +1,10 @@
 //! What comes before and after a run: its inputs are accepted or refused, and its results become what it hands over.
 //! Nothing here reads a source or starts a child.
 //!
-//! [`accept`] goes over the arguments, the environment, the cache and the templates of a source, up to the first
-//! fault. It returns what a run begins with, or that a text is to be [`shown`]. [`artifacts_of`] makes the cache, the
-//! record, the files and the headers that a run hands over. [`remake`] makes files and headers again from a record, and
+//! [`judge`] goes over the plan, the arguments and the environment of a source, up to the first fault. It returns what
+//! a run needs, or the report of a text that is shown. [`begin`] goes over the cache and the templates, and returns
+//! what the run begins with. [`artifacts_of`] makes the cache, the record, the files and the headers that a run hands
+//! over. [`remake`] makes files and headers again from a record, and
 //! puts them, and [`recheck_args`] returns the arguments with which a run is made again. The crate `engine` puts the
 //! run in between.
 //!
@@ -14,25 +15,28 @@
 //!
 //! "own" marks a rule that no manual gives.
 //!
-//! In `specs`, read `Given` (what is accepted), `Handing` (what is handed over), `Remade` and `Rechecked`. `Shown`,
-//! `Told` and `Faults` are small. In `src`, read `inputs`, `artifacts`, `remaking` and `rechecking`; `showing`,
+//! In `specs`, read `Given` (what is accepted), `Judging` (what [`judge`] returns), `Handing` (what is handed over), `Remade` and `Rechecked`. `Shown`,
+//! `Told` and `Faults` are small. In `src`, read `needs`, `judging`, `starting`, `artifacts`, `remaking` and `rechecking`; `showing`,
 //! `notes`, `report` and `fault` are small.
 #![tactic(auto)]
 
 mod artifacts;
 mod fault;
-mod inputs;
+mod judging;
+mod needs;
 mod notes;
 mod rechecking;
 mod remaking;
 mod report;
 mod showing;
+mod starting;
 
 pub use artifacts::artifacts_of;
 pub use fault::{Fault, RemakeFault};
-pub use inputs::{Accepted, Start, accept, planned};
+pub use judging::{Judged, judge};
+pub use needs::Needs;
 pub use notes::{joined, with_notes};
 pub use rechecking::recheck_args;
-pub use remaking::remake;
+pub use remaking::{remake, remake_record};
 pub use report::{Outcome, Report, status_of};
-pub use showing::shown;
+pub use starting::{Start, begin};

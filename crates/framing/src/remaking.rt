@@ -78,20 +78,19 @@ fn outputs_of(
     Ok(make_outputs(alloc, recorded, templates, tags)?)
 }
 
-/// Returns what a record's text gives.
-#[tactic(auto, unfolding(crate::specs::Remade::remade))]
-fn artifacts_in(
+/// Returns what a record gives.
+#[tactic(auto, unfolding(crate::specs::Remade::made_again))]
+fn artifacts_of(
     alloc: Global,
-    text: &[u8],
+    recorded: &Record,
     templates: &[(Bytes, Bytes)],
     tags: &[Bytes],
 ) -> Result<Artifacts, RemakeFault>
-    ensures { GivesAgain (λ t. t) result (words.remade text.now templates.now tags.now) }
+    ensures { GivesAgain (λ t. t) result (words.made_again recorded.now templates.now tags.now) }
 {
-    let record = read(alloc, text)?;
-    check_tags(&record, tags)?;
-    check_templates(alloc, &record, templates, tags)?;
-    outputs_of(alloc, &record, templates, tags)
+    check_tags(recorded, tags)?;
+    check_templates(alloc, recorded, templates, tags)?;
+    outputs_of(alloc, recorded, templates, tags)
 }
 
 /// Hands over artifacts.
@@ -103,6 +102,25 @@ fn put_artifacts<O: Outputs>(outputs: &mut O, artifacts: &[Artifact]) -> Result<
         Ok(()) => Ok(artifacts.len()),
         Err(number) => Err(RemakeFault::PutRefused(number)),
     }
+}
+
+/// Makes the outputs of a record again that was read, as [`remake`] does.
+///
+/// # Errors
+///
+/// Those of [`remake`] but `Record`, in the same order.
+pub fn remake_record<O: Outputs>(
+    alloc: Global,
+    recorded: &Record,
+    templates: &[(Bytes, Bytes)],
+    tags: &[Bytes],
+    outputs: &mut O,
+) -> Result<usize, RemakeFault>
+    requires puts { (O.receipt outputs.old).failures + 256 ≤ 2 ^ 62 }
+    ensures remade { words.IsRemade (words.made_again recorded.now templates.now tags.now) (outputs.new ≡ outputs.old) (O.receipt outputs.old) (O.receipt outputs.new) result }
+{
+    let artifacts = artifacts_of(alloc, recorded, templates, tags)?;
+    put_artifacts(outputs, artifacts.as_slice())
 }
 
 /// Makes the outputs of a record again, from the templates as they are now, and hands them over. Returns their number.
@@ -124,6 +142,6 @@ pub fn remake<O: Outputs>(
     requires puts { (O.receipt outputs.old).failures + 256 ≤ 2 ^ 62 }
     ensures remade { words.IsRemade (words.remade text.now templates.now tags.now) (outputs.new ≡ outputs.old) (O.receipt outputs.old) (O.receipt outputs.new) result }
 {
-    let artifacts = artifacts_in(alloc, text, templates, tags)?;
-    put_artifacts(outputs, artifacts.as_slice())
+    let recorded = read(alloc, text)?;
+    remake_record(alloc, &recorded, templates, tags, outputs)
 }

@@ -27,7 +27,7 @@ use Rattle.framing.specs.Faults.{of_precious, named, wants}
 use Rattle.framing.specs.Given.{Accepted, Starts, old_of, present}
 use Rattle.framing.specs.declared.fault.Fault.{Fault}
 use Rattle.framing.specs.declared.fault.Fault.TheVariants.{Plan}
-use Rattle.framing.specs.declared.inputs.Start.{Start}
+use Rattle.framing.specs.declared.starting.Start.{Start}
 use Rattle.framing.specs.declared.report.Report.{Report}
 use Rattle.meaning.specs.Meaning.{effect, meaning}
 use Rattle.meaning.specs.Package.{escaped, initialised}

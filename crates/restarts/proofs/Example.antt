@@ -20,10 +20,9 @@ use Rattle.deftable.specs.CacheName.{has_cv, is_cache_name}
 use Rattle.deftable.specs.NameList.{with_name, has_name}
 use Rattle.deftable.specs.Table.{value_of, with_entry, without_entry}
 use Rattle.engine.specs.Judged.{judged}
-use Rattle.framing.specs.Faults.{of_parse, named, ◌>>=◌, wants}
-use Rattle.framing.specs.Given.{present, started, accepted as accept, Starts}
-use Rattle.framing.specs.declared.inputs.Start.{Start}
-use Rattle.framing.specs.declared.fault.Fault.TheVariants.{Plan}
+use Rattle.framing.specs.Faults.{of_parse, named, ◌>>=◌}
+use Rattle.framing.specs.Given.{answered, asked, present, started, Starts}
+use Rattle.framing.specs.declared.starting.Start.{Start}
 use Rattle.jobs.specs.Probe.{out_name, file_name, words_of, compile_words, link_words_with, conftest_text, run_of, job_of}
 use Rattle.meaning.specs.Directories.{directories_of}
 use Rattle.meaning.specs.Meaning.{effect, begun, is_taken, meaning, chosen}
@@ -33,8 +32,6 @@ use Rattle.meaning.specs.State.{State, How, opened, Goes_on, Completed, Cut, Run
 use Rattle.options.specs.Opening.{cache_named, source_directory, setters, set_by, with_unslashed, with_marks, finished, is_declared, run_settings, opened_by, opening}
 use Rattle.options.specs.Precious.{old_value, blanks_note, restored, restored_variable, restored_from, checked}
 use Rattle.options.specs.Unrecognized.{after_comma, listed, warning, notes_of}
-use Rattle.plan.specs.Weight.{heaviest, weight}
-use Rattle.plan.specs.declared.fault.PlanFault.TheVariants.{TooLong}
 use Rattle.cachefile.proofs.Texts.{setting_of}
 use Rattle.restarts.specs.Calls.{replies_to, Given, follows, CanResume, no_cache, Saved}
 use Rattle.restarts.specs.Law.{Again, joined, WasCut}
@@ -44,7 +41,7 @@ use Rattle.shellword.specs.Truth.{truth}
 use Rattle.shellword.specs.Value.{word_value}
 use Rattle.shellword.specs.declared.part.Part.{Part}
 use Rattle.std.proofs.Common.{false, ◌≡◌, ℕ, List, [], ◌∷◌, map, Some, None, Ok, inl, refl, ap, ◌<◌, length, arith, Bool, true}
-use Rattle.std.specs.Prelude.{codes, nat_le}
+use Rattle.std.specs.Prelude.{codes}
 use Rattle.syntax.specs.Lists.{after}
 use Rattle.syntax.specs.Script.{Script, Done, Then, Choice, No_case, Case}
 use Rattle.syntax.specs.declared.listed.Listed.TheVariants.{Header, Function}
@@ -180,8 +177,8 @@ abbrev start : Start
 start = record { cache_name = Some (codes "config.cache"); srcdir = codes "."; no_create = false; args = codes "-C" ∷ []; vars = begin_vars; notes = [] }
 
 first_accepted : (source : List ℕ) → source_of source ≡ Ok example → follows (call source) None ≡ Ok (Starts example start)
-unfolding judged present started accept cache_named source_directory setters set_by with_unslashed with_marks finished is_declared run_settings opened_by opening old_value blanks_note restored restored_variable restored_from checked after_comma listed warning notes_of value_in rest_of switch_of switches install_directory_of target_of package_of choice_of said_with_value dashed_of read_argument given key_of directories variable_of default_of directory_named kept_from unslashed without_slashes after value_of with_entry without_entry with_name has_name parts_by parts fields
-first_accepted source read = ap (λ r. named of_parse r >>= λ script. wants (nat_le (weight script) heaviest) (Plan TooLong) >>= λ _. accept (call source).arguments (call source).environment None [] script) read
+unfolding judged answered asked present started cache_named source_directory setters set_by with_unslashed with_marks finished is_declared run_settings opened_by opening old_value blanks_note restored restored_variable restored_from checked after_comma listed warning notes_of value_in rest_of switch_of switches install_directory_of target_of package_of choice_of said_with_value dashed_of read_argument given key_of directories variable_of default_of directory_named kept_from unslashed without_slashes after value_of with_entry without_entry with_name has_name parts_by parts fields
+first_accepted source read = ap (λ r. named of_parse r >>= λ script. asked (call source).arguments (call source).environment script >>= answered (call source).arguments None [] script) read
 
 -- What runs compute with.
 on_values : Unit {0}
@@ -236,8 +233,8 @@ abbrev second : Start
 second = record start { vars = vars_after (map setting_of (saved_entries first_run.state.vars)) begin_vars }
 
 second_accepted : (source : List ℕ) → source_of source ≡ Ok example → follows (call source) (Some (cache_text_of first_run.state.vars)) ≡ Ok (Starts example second)
-unfolding on_values judged present started accept old_value blanks_note restored restored_variable restored_from checked after_comma listed warning notes_of value_in rest_of switch_of switches install_directory_of target_of package_of choice_of said_with_value dashed_of read_argument given key_of kept_from unslashed without_slashes after with_name has_name entry_of lines_from cache_of rest_after before_brace sets_nothing front_word default_setting assigned_setting assignment guarded_setting setting_in line_of step value_from
-second_accepted source read = ap (λ r. named of_parse r >>= λ script. wants (nat_le (weight script) heaviest) (Plan TooLong) >>= λ _. accept (call source).arguments (call source).environment (Some (cache_text_of first_run.state.vars)) [] script) read
+unfolding on_values judged answered asked present started old_value blanks_note restored restored_variable restored_from checked after_comma listed warning notes_of value_in rest_of switch_of switches install_directory_of target_of package_of choice_of said_with_value dashed_of read_argument given key_of kept_from unslashed without_slashes after with_name has_name entry_of lines_from cache_of rest_after before_brace sets_nothing front_word default_setting assigned_setting assignment guarded_setting setting_in line_of step value_from
+second_accepted source read = ap (λ r. named of_parse r >>= λ script. asked (call source).arguments (call source).environment script >>= answered (call source).arguments (Some (cache_text_of first_run.state.vars)) [] script) read
 
 abbrev second_run : Played
 second_run = played example (opened second.vars) (good ∷ [])

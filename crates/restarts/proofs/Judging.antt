@@ -9,8 +9,8 @@ use Rattle.commandline.specs.Kept.{kept_args}
 use Rattle.deftable.specs.declared.note.Note.{Note}
 use Rattle.engine.specs.Judged.{judged}
 use Rattle.framing.specs.Faults.{of_parse, of_option, of_precious, named, ◌>>=◌, wants}
-use Rattle.framing.specs.Given.{Accepted, Shows, Starts, old_of, present, started, accepted}
-use Rattle.framing.specs.declared.inputs.Start.{Start}
+use Rattle.framing.specs.Given.{Accepted, Shows, Starts, answered, asked, old_of, present, shows, started}
+use Rattle.framing.specs.declared.starting.Start.{Start}
 use Rattle.framing.specs.declared.fault.Fault.{Fault}
 use Rattle.framing.specs.declared.fault.Fault.TheVariants.{Plan}
 use Rattle.options.specs.Opening.{opening}
@@ -91,21 +91,22 @@ abbrev chosen : Given → Option (List ℕ) → Script → Settings → Bool →
 chosen given cache script settings b = if b then Ok (Shows script settings) else (started given.arguments cache given.templates script settings >>= begun script)
 
 abbrev opened : Given → Option (List ℕ) → Script → Settings → Result Accepted Fault
-opened given cache script settings = chosen given cache script settings (settings.help || settings.version)
-
-abbrev weighed : Given → Option (List ℕ) → Script → Unit {0} → Result Accepted Fault
-weighed given cache script u = accepted given.arguments given.environment cache given.templates script
+opened given cache script settings = answered given.arguments cache given.templates script settings
 
 abbrev parsed : Given → Option (List ℕ) → Script → Result Accepted Fault
-parsed given cache script = wants (nat_le (weight script) heaviest) (Plan TooLong) >>= weighed given cache script
+parsed given cache script = asked given.arguments given.environment script >>= opened given cache script
 
 is_started : (given : Given) (cache : Option (List ℕ)) (script : Script) (settings : Settings) → started given.arguments cache given.templates script settings ≡ (old_of settings.cache_name cache >>= poured given script settings)
 unfolding started
 is_started given cache script settings = refl
 
-is_accepted : (given : Given) (cache : Option (List ℕ)) (script : Script) → accepted given.arguments given.environment cache given.templates script ≡ (settled script given >>= opened given cache script)
-unfolding accepted
-is_accepted given cache script = refl
+is_asked : (given : Given) (script : Script) → asked given.arguments given.environment script ≡ (wants (nat_le (weight script) heaviest) (Plan TooLong) >>= λ _. settled script given)
+unfolding asked
+is_asked given script = refl
+
+is_opened : (given : Given) (cache : Option (List ℕ)) (script : Script) (settings : Settings) → opened given cache script settings ≡ chosen given cache script settings (shows settings)
+unfolding answered
+is_opened given cache script settings = refl
 
 is_followed : (given : Given) (cache : Option (List ℕ)) → follows given cache ≡ (named of_parse (source_of given.source) >>= parsed given cache)
 unfolding judged
@@ -119,9 +120,9 @@ AreThere given script settings = present settings.no_create given.templates (lis
 
 -- A call that is accepted.
 pub follows_so : (given : Given) (cache : Option (List ℕ)) (script : Script) (settings : Settings) (old : List Setting) (left : Entries × List Note)
-    → source_of given.source ≡ Ok script → wants (nat_le (weight script) heaviest) (Plan TooLong) ≡ Ok tt → settled script given ≡ Ok settings → settings.help || settings.version ≡ false → AreThere given script settings
+    → source_of given.source ≡ Ok script → wants (nat_le (weight script) heaviest) (Plan TooLong) ≡ Ok tt → settled script given ≡ Ok settings → shows settings ≡ false → AreThere given script settings
     → old_of settings.cache_name cache ≡ Ok old → comparison script settings old ≡ Ok left → follows given cache ≡ Ok (Starts script (start_of given settings old left))
-follows_so given cache script settings old left read light settles shows there reads compares =
+follows_so given cache script settings old left read light settles runs there reads compares =
     let begins = start_of given settings old left in
     let answer : Accepted = Starts script begins in
     let starts : started given.arguments cache given.templates script settings ≡ Ok begins =
@@ -131,10 +132,10 @@ follows_so given cache script settings old left read light settles shows there r
     (ok_bind (present settings.no_create given.templates (lists_of script).files (lists_of script).headers) (ended given settings old left) tt begins there refl)) in
     is_followed given cache
     ∙ ok_bind (named of_parse (source_of given.source)) (parsed given cache) script answer (ap (named of_parse) read)
-    (ok_bind (wants (nat_le (weight script) heaviest) (Plan TooLong)) (weighed given cache script) tt answer light
-    (is_accepted given cache script
-    ∙ ok_bind (settled script given) (opened given cache script) settings answer settles
-    (ap (chosen given cache script settings) shows ∙ ok_bind (started given.arguments cache given.templates script settings) (begun script) begins answer starts refl)))
+    (ok_bind (asked given.arguments given.environment script) (opened given cache script) settings answer
+    (is_asked given script ∙ ok_bind (wants (nat_le (weight script) heaviest) (Plan TooLong)) (λ _. settled script given) tt settings light settles)
+    (is_opened given cache script settings ∙ ap (chosen given cache script settings) runs
+    ∙ ok_bind (started given.arguments cache given.templates script settings) (begun script) begins answer starts refl))
 
 record Started (given : Given) (cache : Option (List ℕ)) (script : Script) (settings : Settings) (start : Start) : Type 0 where
   pub old : List Setting
@@ -163,7 +164,7 @@ start_steps given cache script settings start e =
 record Chosen (given : Given) (cache : Option (List ℕ)) (script : Script) (settings : Settings) (b : Bool) (final : Script) (start : Start) : Type 0 where
   pub same : script ≡ final
   pub is : started given.arguments cache given.templates script settings ≡ Ok start
-  pub shows : b ≡ false
+  pub runs : b ≡ false
 
 choice_steps : (given : Given) (cache : Option (List ℕ)) (script : Script) (settings : Settings) (b : Bool) (final : Script) (start : Start) → chosen given cache script settings b ≡ Ok (Starts final start) → Chosen given cache script settings b final start
 choice_steps given cache script settings true final start e = absurd cc
@@ -171,11 +172,11 @@ choice_steps given cache script settings false final start e =
     let begins = bind_ok (started given.arguments cache given.templates script settings) (begun script) (Starts final start) e in
     let same : script ≡ final = let h = begins.1.1 in cc in
     let is : begins.0 ≡ start = let h = begins.1.1 in cc in
-    record { same = same; is = begins.1.0 ∙ ap Ok is; shows = refl }
+    record { same = same; is = begins.1.0 ∙ ap Ok is; runs = refl }
 
 way_by : (given : Given) (cache : Option (List ℕ)) (script final : Script) (start : Start) → script ≡ final → source_of given.source ≡ Ok script → wants (nat_le (weight script) heaviest) (Plan TooLong) ≡ Ok tt
-    → (settings : Settings) → settled script given ≡ Ok settings → settings.help || settings.version ≡ false → started given.arguments cache given.templates script settings ≡ Ok start → Way given cache script start
-way_by given cache script final start same read light settings settles shows starts =
+    → (settings : Settings) → settled script given ≡ Ok settings → shows settings ≡ false → started given.arguments cache given.templates script settings ≡ Ok start → Way given cache script start
+way_by given cache script final start same read light settings settles runs starts =
     let s = start_steps given cache script settings start starts in
     record {
       source = read;
@@ -186,13 +187,13 @@ way_by given cache script final start same read light settings settles shows sta
       read = s.read;
       check = s.check;
       is = s.is;
-      again = λ other more after reads compares. follows_so given other script settings more after read light settles shows s.there reads compares;
+      again = λ other more after reads compares. follows_so given other script settings more after read light settles runs s.there reads compares;
     }
 
 pub way : (given : Given) (cache : Option (List ℕ)) (script : Script) (start : Start) → follows given cache ≡ Ok (Starts script start) → Way given cache script start
 way given cache script start e =
     let read = bind_ok (named of_parse (source_of given.source)) (parsed given cache) (Starts script start) (sym (is_followed given cache) ∙ e) in
-    let light = bind_ok (wants (nat_le (weight read.0) heaviest) (Plan TooLong)) (weighed given cache read.0) (Starts script start) read.1.1 in
-    let settles = bind_ok (settled read.0 given) (opened given cache read.0) (Starts script start) (sym (is_accepted given cache read.0) ∙ light.1.1) in
-    let c = choice_steps given cache read.0 settles.0 (settles.0.help || settles.0.version) script start settles.1.1 in
-    subst (λ s. Way given cache s start) c.same (way_by given cache read.0 script start c.same (named_ok of_parse (source_of given.source) read.0 read.1.0) light.1.0 settles.0 settles.1.0 c.shows c.is)
+    let asks = bind_ok (asked given.arguments given.environment read.0) (opened given cache read.0) (Starts script start) read.1.1 in
+    let light = bind_ok (wants (nat_le (weight read.0) heaviest) (Plan TooLong)) (λ _. settled read.0 given) asks.0 (sym (is_asked given read.0) ∙ asks.1.0) in
+    let c = choice_steps given cache read.0 asks.0 (shows asks.0) script start (sym (is_opened given cache read.0 asks.0) ∙ asks.1.1) in
+    subst (λ s. Way given cache s start) c.same (way_by given cache read.0 script start c.same (named_ok of_parse (source_of given.source) read.0 read.1.0) light.1.0 asks.0 light.1.1 c.runs c.is)

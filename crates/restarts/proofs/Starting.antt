@@ -17,7 +17,7 @@ use Rattle.deftable.specs.Table.{value_of, HasDistinctNames}
 use Rattle.deftable.proofs.Tables.{HasDistinctNames-[]}
 use Rattle.framing.specs.Faults.{of_option, of_cache, of_precious, named}
 use Rattle.framing.specs.Given.{Starts, old_of}
-use Rattle.framing.specs.declared.inputs.Start.{Start}
+use Rattle.framing.specs.declared.starting.Start.{Start}
 use Rattle.framing.specs.declared.report.Report.{Report}
 use Rattle.meaning.specs.Meaning.{meaning}
 use Rattle.meaning.specs.State.{opened}

@@ -10,7 +10,7 @@ use Rattle.engine.specs.Configured.{IsMeant}
 use Rattle.engine.specs.Judged.{judged}
 use Rattle.engine.specs.Told.{outcome_of}
 use Rattle.framing.specs.Given.{Accepted, Starts}
-use Rattle.framing.specs.declared.inputs.Start.{Start}
+use Rattle.framing.specs.declared.starting.Start.{Start}
 use Rattle.framing.specs.declared.fault.Fault.{Fault}
 use Rattle.framing.specs.declared.report.Outcome.{Outcome}
 use Rattle.framing.specs.declared.report.Outcome.TheVariants.{Completed, Stopped, CutShort, Shown}

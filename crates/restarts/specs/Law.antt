@@ -6,7 +6,7 @@ use Rattle.crew_trait.specs.Events.{Account}
 use Rattle.deftable.specs.Table.{value_of}
 use Rattle.engine.specs.Configured.{IsMeant, artifacts}
 use Rattle.framing.specs.Given.{Starts}
-use Rattle.framing.specs.declared.inputs.Start.{Start}
+use Rattle.framing.specs.declared.starting.Start.{Start}
 use Rattle.framing.specs.declared.report.Report.{Report}
 use Rattle.meaning.specs.Play.{first_refused}
 use Rattle.meaning.specs.State.{opened}

@@ -3,7 +3,7 @@ use Rattle.std.specs.Prelude.{◌≡◌, ℕ, List, [], Option, Some, Ok}
 use Rattle.cachefile.specs.Text.{cache_text_of}
 use Rattle.crew_trait.specs.Events.{Account}
 use Rattle.framing.specs.Given.{Starts}
-use Rattle.framing.specs.declared.inputs.Start.{Start}
+use Rattle.framing.specs.declared.starting.Start.{Start}
 use Rattle.framing.specs.declared.report.Report.{Report}
 use Rattle.meaning.specs.State.{State, opened}
 use Rattle.resuming.specs.Poured.{Poured}

@@ -1,5 +1,5 @@
 use Rattle.std.proofs.Common.{ap}
-use Rattle.engine.proofs.Wholes.{is_answer, is_untouched, is_meant, is_handed, is_reported, is_remade, is_cut, holds_set, reads_back, is_remakable, has_run_part}
+use Rattle.engine.proofs.Wholes.{is_answer, is_untouched, is_meant, is_handed, is_reported, is_remade, is_cut, holds_set, judged_forms, reads_back, is_remakable, has_run_part}
 use Rattle.engine.proofs.configuring.configure.Goals as goal
 
 pub returns-clause-accepted : goal.returns-clause-accepted
@@ -25,7 +25,7 @@ returns-clause-cut g c = is_cut _ _ _ _ _ _ _ _ _ c.whole.ensures.whole
 
 pub returns-clause-kept : goal.returns-clause-kept
 returns-clause-kept g c =
-    holds_set _ _ _ _ _ _ _ _ _ _ _ _ _ (c.sources_have_forms.ensures.commands _) (c.sources_have_forms.ensures.names _) c.whole.ensures.whole
+    holds_set _ _ _ _ _ _ _ _ _ (judged_forms _ _ _ _ _ (c.sources_have_forms.ensures.commands _) (c.sources_have_forms.ensures.names _)) c.whole.ensures.whole
 
 pub returns-clause-reads_back : goal.returns-clause-reads_back
 returns-clause-reads_back g c = reads_back _ _ _ _ _ _ _ _ _ c.whole.ensures.whole

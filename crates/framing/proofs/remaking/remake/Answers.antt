@@ -1,9 +1,9 @@
-use Rattle.std.proofs.Common.{◌≡◌, refl}
-use Rattle.framing.proofs.Remakes.{fails, put_slice}
+use Rattle.std.proofs.Common.{refl}
+use Rattle.framing.proofs.Remakes.{unread, of_text}
 use Rattle.framing.proofs.remaking.remake.Goals as goal
 
-pub returns-in_err-artifacts : goal.returns-in_err-artifacts
-returns-in_err-artifacts g c = record { remade = fails _ _ _ _ _ _ c.in_err-artifacts.ensures c.from_residual.ensures.1 refl }
+pub returns-in_err-recorded : goal.returns-in_err-recorded
+returns-in_err-recorded g c = record { remade = unread _ _ _ _ _ _ _ _ c.in_err-recorded.ensures c.from_residual.ensures.1 refl }
 
 pub returns : goal.returns
-returns g c = record { remade = put_slice _ _ _ _ _ _ _ c.in_ok-artifacts.ensures c.as_slice.ensures c.put_artifacts.ensures }
+returns g c = record { remade = of_text _ _ _ _ _ _ _ _ c.in_ok-recorded.ensures c.remake_record.ensures.remade }

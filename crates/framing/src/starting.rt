@@ -1,50 +1,27 @@
-//! What is given, before anything is run.
+//! What a run begins with.
 
-ghost use Rattle.std.specs.Prelude.{◌≡◌, ◌≤◌, nat_le, IfOk, Ok, option_map, length};
+ghost use Rattle.std.specs.Prelude.{◌≡◌, ◌++◌, IfOk, Ok, option_map};
 ghost use Rattle.std.specs.Option.{option_copied};
-ghost use Rattle.options.specs.Opening.{opening};
+ghost use Rattle.commandline.specs.Kept.{kept_args as kept};
 ghost use Rattle.options.specs.Precious.{checked};
 ghost use Rattle.cachefile.specs.Cache.{cache_of};
-ghost use Rattle.plan.specs.Walk.{DoesWhat};
-ghost use Rattle.plan.specs.Weight.{heaviest, weight};
-ghost use Rattle.plan.specs.declared.fault.PlanFault.TheVariants.{TooLong};
 ghost use Rattle.syntax.specs.Lists.{lists_of};
 ghost use Rattle.syntax.specs.Script.{script_of};
-ghost use Rattle.framing.specs.Faults.{Gives, named, of_option, of_cache, of_precious, wants};
+ghost use Rattle.framing.specs.Faults.{Gives, named, of_cache, of_precious};
 ghost use Rattle.framing.specs.Given as given;
-ghost use Rattle.framing.specs.declared.fault.Fault.TheVariants.{Plan as Unplanned};
+ghost use Rattle.framing.specs.Needed.{script_in};
 
 use crate::fault::Fault;
+use crate::needs::Needs;
 use crate::notes::joined;
 use cachefile::{OldCache, read_cache};
 use commandline::kept_args;
 use deftable::{Bytes, Notes, Texts, Vars};
 use making::find_missing;
-use options::{Settings, check_precious, read_args};
+use options::{Settings, check_precious};
 use outputlist::Output;
-use plan::{Plan, compile};
-use std::alloc::Global;
+use std::alloc::{AllocError, Global};
 use syntax::Source;
-
-/// Compiles the source.
-pub fn planned<'a>(alloc: Global, source: &'a Source) -> Result<Plan<'a>, Fault>
-    ensures exact { Gives (λ _. tt) result (wants (nat_le (weight (script_of source.now)) heaviest) (Unplanned TooLong)) }
-    ensures meaning { IfOk result (λ plan. DoesWhat plan (script_of source.now)) }
-{
-    Ok(compile(alloc, source)?)
-}
-
-/// Reads the arguments and the environment.
-fn settled(
-    alloc: Global,
-    source: &Source,
-    args: &[Bytes],
-    env: &[(Bytes, Bytes)],
-) -> Result<Settings, Fault>
-    ensures { Gives (λ s. s) result (named of_option (opening (lists_of (script_of source.now)).features (lists_of (script_of source.now)).packages (lists_of (script_of source.now)).precious args.now env.now)) }
-{
-    Ok(read_args(alloc, source, args, env)?)
-}
 
 /// Checks that nothing is missing.
 fn check_found(alloc: Global, missing: Option<&Output>) -> Result<(), Fault>
@@ -125,67 +102,93 @@ pub struct Start {
     pub notes: Notes,
 }
 
-/// Returns what a run begins with.
-#[tactic(auto, unfolding(crate::specs::Given::started))]
-fn started(
-    alloc: Global,
-    source: &Source,
-    args: &[Bytes],
-    settings: Settings,
-    cache: Option<&[u8]>,
-    templates: &[(Bytes, Bytes)],
-) -> Result<Start, Fault>
-    ensures { Gives (λ s. s) result (given.started args.now (option_map (λ t. t.now) cache.entry) templates.now (script_of source.now) settings) }
+/// Copies a text, if there is one.
+fn copied(alloc: Global, text: Option<&Bytes>) -> Result<Option<Bytes>, AllocError>
+    ensures { IfOk result (λ t. t ≡ option_map (λ b. b.now) text.entry) }
 {
-    let Settings {
-        mut vars,
-        notes,
-        cache_name,
-        srcdir,
-        no_create,
-        ..
-    } = settings;
-    let old = old_cache(alloc, cache_name.as_ref(), cache)?;
-    let more = check_vars(alloc, source, &mut vars, &old)?;
-    check_templates(alloc, no_create, templates, source)?;
-    old.pour(&mut vars)?;
-    let notes = joined(alloc, &notes, more)?;
+    match text {
+        None => Ok(None),
+        Some(text) => {
+            let text = text.copy(alloc)?;
+            Ok(Some(text))
+        }
+    }
+}
+
+/// Returns what a run with these settings begins with, once its variables are checked.
+fn start_with(
+    alloc: Global,
+    args: &[Bytes],
+    settings: &Settings,
+    vars: Vars,
+    more: Notes,
+) -> Result<Start, AllocError>
+    ensures { IfOk result (λ s. s ≡ record { cache_name = settings.now.cache_name; srcdir = settings.now.srcdir; no_create = settings.now.no_create; args = kept args.now; vars = vars; notes = settings.now.notes ++ more }) }
+{
+    let cache_name = copied(alloc, settings.cache_name.as_ref())?;
+    let srcdir = settings.srcdir.copy(alloc)?;
+    let notes = joined(alloc, &settings.notes, more)?;
     let args = kept_args(alloc, args)?;
     Ok(Start {
         cache_name,
         srcdir,
-        no_create,
+        no_create: settings.no_create,
         args,
         vars,
         notes,
     })
 }
 
-/// What follows from what is given.
-#[derive(Drop)]
-pub enum Accepted {
-    /// A text is to be shown.
-    Shows(Settings),
-    /// The source is to be run.
-    Starts(Start),
+/// Checks the precious variables, on a copy of the variables, which it returns.
+fn checked_vars(
+    alloc: Global,
+    source: &Source,
+    vars: &Vars,
+    old: &OldCache,
+) -> Result<(Vars, Notes), Fault>
+    ensures { Gives (λ r. r) result (named of_precious (checked (lists_of (script_of source.now)).precious vars.now old.now)) }
+{
+    let mut vars = vars.copy(alloc)?;
+    let notes = check_vars(alloc, source, &mut vars, old)?;
+    Ok((vars, notes))
 }
 
-/// Returns what follows from all but the source.
-#[tactic(auto, unfolding(crate::specs::Given::accepted))]
-pub fn accept(
+/// Returns what a run with these settings begins with.
+#[tactic(auto, unfolding(crate::specs::Given::started))]
+fn started(
     alloc: Global,
     source: &Source,
     args: &[Bytes],
-    env: &[(Bytes, Bytes)],
+    settings: &Settings,
     cache: Option<&[u8]>,
     templates: &[(Bytes, Bytes)],
-) -> Result<Accepted, Fault>
-    ensures { Gives (given.seen (script_of source.now)) result (given.accepted args.now env.now (option_map (λ t. t.now) cache.entry) templates.now (script_of source.now)) }
+) -> Result<Start, Fault>
+    ensures { Gives (λ s. s) result (given.started args.now (option_map (λ t. t.now) cache.entry) templates.now (script_of source.now) settings.now) }
 {
-    let settings = settled(alloc, source, args, env)?;
-    if settings.help || settings.version {
-        return Ok(Accepted::Shows(settings));
-    }
-    let start = started(alloc, source, args, settings, cache, templates)?;
-    Ok(Accepted::Starts(start))
+    let old = old_cache(alloc, settings.cache_name.as_ref(), cache)?;
+    let (mut vars, more) = checked_vars(alloc, source, &settings.vars, &old)?;
+    check_templates(alloc, settings.no_create, templates, source)?;
+    old.pour(&mut vars)?;
+    let start = start_with(alloc, args, settings, vars, more)?;
+    Ok(start)
+}
+
+/// Returns what a run begins with, once its inputs are read: the cache over its variables, the precious variables and the
+/// templates.
+///
+/// # Errors
+///
+/// Returns the first fault: of the cache, of a precious variable, and then of a template.
+pub fn begin(
+    alloc: Global,
+    needs: &Needs<'_>,
+    cache: Option<&[u8]>,
+    templates: &[(Bytes, Bytes)],
+) -> Result<Start, Fault>
+    ensures { Gives (λ s. s) result (given.started needs.now.arguments (option_map (λ t. t.now) cache.entry) templates.now (script_in needs.now) needs.now.settings) }
+{
+    let source = needs.source();
+    let args = needs.args();
+    let start = started(alloc, source, args, needs.settings(), cache, templates)?;
+    Ok(start)
 }

@@ -1,0 +1,31 @@
+-- What follows from a source, its arguments and its environment.
+use Rattle.std.specs.Prelude.{ℕ, List, Result, Ok, if◌then◌else◌}
+use Rattle.options.specs.declared.settings.Settings.{Settings}
+use Rattle.syntax.specs.Script.{Script}
+use Rattle.framing.specs.Faults.{◌>>=◌}
+use Rattle.framing.specs.Given.{asked, shows}
+use Rattle.framing.specs.Needed.{script_in}
+use Rattle.framing.specs.Shown.{shown_report}
+use Rattle.framing.specs.declared.fault.Fault.{Fault}
+use Rattle.framing.specs.declared.judging.Judged as found
+use Rattle.framing.specs.declared.judging.Judged.TheVariants as founds
+use Rattle.framing.specs.declared.report.Report.{Report}
+
+-- What follows from a source, its arguments and its environment: a text is to be shown, which this
+-- is the report of, or the source is to be run. (own)
+pub data Judged : Type 0 where
+  Shows : (report : Report) → Judged
+  Runs : (script : Script) → (arguments : List (List ℕ)) → (settings : Settings) → Judged
+
+-- The same of settings. (own)
+abbrev pub judged_with : List (List ℕ) → Script → Settings → Judged
+judged_with arguments script settings = if shows settings then Shows (shown_report script settings) else Runs script arguments settings
+
+-- The same of arguments and an environment, or the first fault. (own)
+unfoldable pub judgement : List (List ℕ) → List (List ℕ × List ℕ) → Script → Result Judged Fault
+judgement arguments environment script = asked arguments environment script >>= λ settings. Ok (judged_with arguments script settings)
+
+-- What a function found. (own)
+abbrev pub seen : found.Judged → Judged
+seen (founds.Shows report) = Shows report
+seen (founds.Runs needs) = Runs (script_in needs) needs.arguments needs.settings
