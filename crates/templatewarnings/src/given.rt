@@ -2,10 +2,10 @@
 
 use commandline::{Directory, directories};
 use deftable::{Bytes, SubstList, is_shell_name};
-use m4quote::cpp_name;
 use outputlist::OutputList;
 use std::alloc::{AllocError, Global};
-use syntax::{Case, Effect, Listed, Question, Sought, Source, Stmt, Subject};
+use syntax::definitions::{library_definition, sought_definition};
+use syntax::{Case, Effect, Question, Sought, Source, Stmt, Subject};
 
 /// The names that a source gives its templates. Statements in cases that a run does not take count too.
 #[derive(Drop)]
@@ -73,27 +73,6 @@ fn variables_of(alloc: Global, source: &Source) -> Result<SubstList, AllocError>
     Ok(list)
 }
 
-/// Adds the definition that is made of this text after `HAVE_`, or another prefix.
-fn add_have(
-    alloc: Global,
-    list: &mut SubstList,
-    prefix: &[u8],
-    text: &[u8],
-) -> Result<(), AllocError> {
-    let mut name = Vec::from_slice(alloc, prefix)?;
-    let part = cpp_name(alloc, text)?;
-    name.extend_from_slice(part.as_slice())?;
-    add_name(list, name.as_slice())
-}
-
-/// Returns the front of what is defined of what is sought.
-fn prefix_of(sought: Sought) -> &'static [u8] {
-    match sought {
-        Sought::Entry(Listed::Declaration) => b"HAVE_DECL_",
-        _ => b"HAVE_",
-    }
-}
-
 /// Adds the definitions of entries.
 fn add_entries(
     alloc: Global,
@@ -102,7 +81,8 @@ fn add_entries(
     entries: &[Bytes],
 ) -> Result<(), AllocError> {
     for entry in entries {
-        add_have(alloc, list, prefix_of(sought), entry.as_slice())?;
+        let name = sought_definition(alloc, sought, entry.as_slice())?;
+        add_name(list, name.as_slice())?;
     }
     Ok(())
 }
@@ -122,6 +102,12 @@ fn add_effect(alloc: Global, list: &mut SubstList, effect: &Effect) -> Result<()
     }
 }
 
+/// Adds what a library defines that has a function.
+fn add_library(alloc: Global, list: &mut SubstList, library: &[u8]) -> Result<(), AllocError> {
+    let name = library_definition(alloc, library)?;
+    add_name(list, name.as_slice())
+}
+
 /// Adds what a question may define.
 fn add_question(
     alloc: Global,
@@ -138,7 +124,7 @@ fn add_question(
             library,
             adds: true,
             ..
-        } => add_have(alloc, list, b"HAVE_LIB", library.as_slice()),
+        } => add_library(alloc, list, library.as_slice()),
         _ => Ok(()),
     }
 }
