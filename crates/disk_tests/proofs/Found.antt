@@ -1,7 +1,6 @@
 -- What is read from a disk in memory.
-use Rattle.std.specs.Prelude.{option_map, map, Bool, ◌||◌}
-use Rattle.std.specs.List.{list_any}
-use Rattle.std.proofs.Common.{◌≡◌, ℕ, List, [], ◌∷◌, true, refl, Option, Some, Result, Ok, Err, IfOk, sym, ap, ◌∙◌}
+use Rattle.std.specs.Prelude.{option_map}
+use Rattle.std.proofs.Common.{◌≡◌, ℕ, List, true, Option, Some, Result, Ok, Err, IfOk, sym, ap, ◌∙◌}
 use Rattle.std.proofs.lemmas.Bool.{cond-true}
 use Rattle.disk.specs.Known.{limited}
 use Rattle.disk.specs.Known.{Deed}
@@ -12,8 +11,3 @@ pub read_here : {E : Type 0} (r : Result (Option (List ℕ)) E) (file text all n
 read_here (Err e) file text all name deeds is same read = tt
 read_here (Ok o) file text all name deeds is same read =
     read ∙ ap (λ t. Some (limited t)) same ∙ sym (ap (option_map limited) (cond-true _ _ _ is))
-
-pub any_of_mapped : {X Y : Type 0} (p : Y → Bool) (f : X → Y) (xs : List X)
-    → list_any (λ x. p (f x)) xs ≡ list_any p (map f xs)
-any_of_mapped p f [] = refl
-any_of_mapped p f (x ∷ xs) = ap (λ b. p (f x) || b) (any_of_mapped p f xs)

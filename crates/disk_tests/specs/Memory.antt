@@ -1,6 +1,5 @@
 -- What is known of the disk in memory.
-use Rattle.std.specs.Prelude.{ℕ, Bool, false, not, ◌&&◌, List, Option, Some, None, map, bytes_eq, if◌then◌else◌}
-use Rattle.std.specs.List.{list_any}
+use Rattle.std.specs.Prelude.{ℕ, Bool, true, false, not, ◌&&◌, List, [], ◌∷◌, Option, Some, None, map, bytes_eq, if◌then◌else◌}
 use Rattle.disk.specs.Known.{Known, Deed, MadeDirectories, Made, Filled, Failed, Renamed, Removed}
 use Rattle.disk.specs.declared.found.Found.{Found}
 use Rattle.disk.specs.declared.found.Found.TheVariants as found
@@ -25,9 +24,14 @@ removes file (Failed name) = false
 removes file (Renamed from to) = false
 removes file (Removed name) = bytes_eq name file
 
+-- One of the deeds removes this file. (own)
+abbrev pub is_removed : List ℕ → List Deed → Bool
+is_removed file [] = false
+is_removed file (deed ∷ deeds) = if removes file deed then true else is_removed file deeds
+
 -- The file is there until it is removed. (own)
 abbrev pub is_there : List ℕ → List Deed → List ℕ → Bool
-is_there file deeds name = bytes_eq name file && not (list_any (removes file) deeds)
+is_there file deeds name = bytes_eq name file && not (is_removed file deeds)
 
 -- The text under a name, if this file is the only one that can be read. (own)
 abbrev pub text_in : List ℕ → List ℕ → List Deed → List ℕ → Option (List ℕ)

@@ -1,7 +1,6 @@
 //! A disk in memory.
 
 ghost use Rattle.std.specs.Prelude.{◌≡◌, ◌∷◌, ◌++◌, [], Some, IfOk, bytes_eq, map};
-ghost use Rattle.std.specs.List.{list_any};
 ghost use Rattle.disk.specs.Known.{limited};
 ghost use Rattle.disk_tests.specs.Memory as meant;
 
@@ -70,11 +69,15 @@ fn removes(file: &Bytes, step: &Step) -> bool
 }
 
 /// Returns whether a step of these removes a file.
-#[tactic(auto, using(crate::proofs::Found::any_of_mapped))]
 fn is_removed(file: &Bytes, steps: &[Step]) -> bool
-    ensures { result ≡ list_any (meant.removes file.now) (map meant.deed_of steps.now) }
+    ensures { result ≡ meant.is_removed file.now (map meant.deed_of steps.now) }
 {
-    steps.iter().any(|step| removes(file, step))
+    for step in steps {
+        if removes(file, step) {
+            return true;
+        }
+    }
+    false
 }
 
 /// Returns a text, or its first 64 MiB and one byte more.
